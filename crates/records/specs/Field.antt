@@ -1,0 +1,41 @@
+-- A field that says a number, by its bytes. Assumes nothing.
+use Prim.Native.Nat.{ℕ, _+_, _-_, _*_}
+use mathlib.Core.List.{List, [], _∷_, foldl}
+use mathlib.Core.Bool.{Bool, true, false, cond, not, _&&_}
+use lib.ListN.{length, getD}
+use lib.Dec.{leb, ltb, eqb}
+use Rattle.records.specs.declared.Field.{Field}
+use Rattle.records.specs.declared.Field.the-variants.{Number, NoNumber}
+
+-- the bytes 0 to 9 in decimal
+unfoldable pub digit : ℕ → Bool
+digit b = leb 48 b && leb b 57
+
+-- every byte is a digit
+unfoldable pub digits : List ℕ → Bool
+digits [] = true
+digits (b ∷ bs) = digit b && digits bs
+
+-- one digit more at the right
+unfoldable pub shift : ℕ → ℕ → ℕ
+shift v b = v * 10 + (b - 48)
+
+-- the number that digits say in decimal
+unfoldable pub decimal : List ℕ → ℕ
+decimal bs = foldl shift 0 bs
+
+-- the largest number that a field may say
+abbrev pub largest : ℕ
+largest = 4_294_967_295
+
+-- a zero with more after it
+unfoldable pub leadingZero : List ℕ → Bool
+leadingZero bs = ltb 1 (length bs) && eqb (getD bs 0 0) 48
+
+-- the grammar of a number: one to ten digits with no leading zero, at most the largest
+unfoldable pub numeral : List ℕ → Bool
+numeral bs = leb 1 (length bs) && leb (length bs) 10 && not (leadingZero bs) && digits bs && leb (decimal bs) largest
+
+-- what a field says
+unfoldable pub fieldOf : List ℕ → Field
+fieldOf bs = cond (numeral bs) (Number (decimal bs)) NoNumber

@@ -1,0 +1,68 @@
+-- Checks in order, and the first of them that is broken. Assumes nothing.
+use mathlib.Core.Path.{_≡_}
+use mathlib.Core.Bool.{Bool, true, false, cond}
+use mathlib.Core.Logic.{_⊎_}
+use mathlib.Core.List.{List, [], _∷_}
+use Prim.Native.Nat.{ℕ, zero, suc, _+_, _<_}
+use lib.ListN.{length, getD}
+
+-- What checks say: all pass, or the refusal of the first that does not.
+pub data Verdict : Type 0 where
+  passes : Verdict
+  refused : ℕ → ℕ → ℕ → Verdict  -- the paper's number, line and item
+
+infixr 20 _then_
+-- Checks in the order in which they are taken.
+pub data Checks : Type 0 where
+  check : ℕ → ℕ → ℕ → Bool → Checks  -- the refusal's number, line and item, and whether the check holds
+  each : ℕ → (ℕ → Checks) → Checks  -- n of them by rising index: f 0, f 1, .., f (n - 1)
+  _then_ : Checks → Checks → Checks
+
+-- the verdict v, and where it passes, that of what comes after
+unfoldable pub orElse : Verdict → Verdict → Verdict
+orElse passes later = later
+orElse (refused number line item) later = refused number line item
+
+-- the first refusal of n verdicts from index i on
+unfoldable pub firstFrom : (ℕ → Verdict) → ℕ → ℕ → Verdict
+firstFrom f zero i = passes
+firstFrom f (suc n) i = orElse (f i) (firstFrom f n (i + 1))
+
+unfoldable pub checked : Bool → ℕ → ℕ → ℕ → Verdict
+checked true number line item = passes
+checked false number line item = refused number line item
+
+-- the first check that is broken
+unfoldable pub verdict : Checks → Verdict
+verdict (check number line item holds) = checked holds number line item
+verdict (each n f) = firstFrom (λ i. verdict (f i)) n 0
+verdict (a then b) = orElse (verdict a) (verdict b)
+
+-- every check holds
+unfoldable pub Hold : Checks → Type 0
+Hold (check number line item holds) = holds ≡ true
+Hold (each n f) = (i : ℕ) → i < n → Hold (f i)
+Hold (a then b) = Hold a × Hold b
+
+-- the refusal with this number, line and item is that of a check that does not hold, and every check before it holds
+unfoldable pub FirstBroken : Checks → ℕ → ℕ → ℕ → Type 0
+FirstBroken (check number line item holds) x y z = (holds ≡ false) × (x ≡ number) × (y ≡ line) × (z ≡ item)
+FirstBroken (each n f) x y z = (i : ℕ) × (i < n) × FirstBroken (f i) x y z × ((k : ℕ) → k < i → Hold (f k))
+FirstBroken (a then b) x y z = FirstBroken a x y z ⊎ (Hold a × FirstBroken b x y z)
+
+-- One rule of a table: its refusal number, to how many items it is put, and whether it holds of an item. Items are counted from 0 here, from 1 in a refusal.
+pub record Rule : Type 0 where
+  pub number : ℕ
+  pub items : ℕ
+  pub holds : ℕ → Bool
+
+abbrev pub noRule : Rule
+noRule = record { number = 0; items = 0; holds = λ i. true }
+
+abbrev pub ruleAt : List Rule → ℕ → Rule
+ruleAt rules k = getD rules k noRule
+
+-- the rules of a table in order, each over rising items, told at one line
+unfoldable pub table : ℕ → List Rule → Checks
+table line rules =
+    each (length rules) (λ k. each (ruleAt rules k .items) (λ i. check (ruleAt rules k .number) line (suc i) (ruleAt rules k .holds i)))
