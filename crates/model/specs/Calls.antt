@@ -1,0 +1,82 @@
+-- The calls: their answers, and the ledger after a plan's check. Assumes nothing.
+use Prim.Native.Nat.{ℕ, zero, suc, _+_, _*_, _-_}
+use mathlib.Core.Bool.{Bool, cond}
+use mathlib.Core.List.{List, [], _∷_, _++_}
+use lib.Dec.{leb, ltb}
+use lib.ListN.{length, getD, drop}
+use Rattle.search.specs.Checks.{Verdict, passes, refused, Checks, check, _then_, verdict}
+use Rattle.records.specs.Lines.{Line}
+use Rattle.model.specs.declared.NetworkAnswer.{NetworkAnswer}
+use Rattle.model.specs.declared.NetworkAnswer.the-variants as network-answer
+use Rattle.model.specs.declared.PlanAnswer.{PlanAnswer}
+use Rattle.model.specs.declared.PlanAnswer.the-variants as plan-answer
+use Rattle.model.specs.declared.LinkAnswer.{LinkAnswer}
+use Rattle.model.specs.declared.LinkAnswer.the-variants as link-answer
+use Rattle.model.specs.Test.{_and_, within}
+use Rattle.model.specs.Sum.{sum, joined}
+use Rattle.model.specs.Network.{linkCount, stepCount, travelTime, standing, time, arrivalBoundary}
+use Rattle.model.specs.Flows.{vehicles, allAdmitted, allLetOut, doubledTime, row}
+use Rattle.model.specs.Table.{networkChecks, ledgerChecks, planChecks}
+
+-- ---- check a network
+unfoldable pub networkAnswer : Verdict → NetworkAnswer
+networkAnswer passes = network-answer.Valid
+networkAnswer (refused number line item) = network-answer.Refused number line item
+
+unfoldable pub checkNetwork : List Line → NetworkAnswer
+checkNetwork network = networkAnswer (verdict (networkChecks network))
+
+-- ---- check a plan
+-- an accepted plan is told with the four totals: admitted, let out, vehicles in the network at the end, doubled travel time
+unfoldable pub planAnswer : List Line → List Line → Verdict → PlanAnswer
+planAnswer network plan passes =
+    plan-answer.Accepted (sum (stepCount network) (allAdmitted network plan)) (sum (stepCount network) (allLetOut network plan))
+    (vehicles network plan (stepCount network)) (doubledTime network plan (stepCount network))
+planAnswer network plan (refused number line item) = plan-answer.Refused number line item
+
+-- with a ledger of so many numbers
+unfoldable pub checkPlan : List Line → List Line → ℕ → PlanAnswer
+checkPlan network plan size = planAnswer network plan (verdict (planChecks network plan size))
+
+-- the rows that a plan's check writes: none for 1 to 8; rows 0 to n - 1 when line n is refused; all K + 1 when the plan is accepted
+unfoldable pub rowsWritten : List Line → Verdict → ℕ
+rowsWritten network passes = suc (stepCount network)
+rowsWritten network (refused number line item) = cond (ltb number 9) 0 line
+
+-- the ledger with its first m rows written; what follows keeps what it held
+unfoldable pub written : List Line → List Line → List ℕ → ℕ → List ℕ
+written network plan old m = joined m (row network plan) ++ drop (2 * m * linkCount network) old
+
+unfoldable pub ledgerAfter : List Line → List Line → List ℕ → List ℕ
+ledgerAfter network plan old = written network plan old (rowsWritten network (verdict (planChecks network plan (length old))))
+
+-- ---- state of one link, counted from 1, at a boundary
+module _ (network : List Line) (ledger : List ℕ) (boundary link : ℕ) where
+  -- entered at boundary n, and left, as the ledger has them
+  unfoldable pub ledgerEntered : ℕ → ℕ
+  ledgerEntered n = getD ledger (2 * n * linkCount network + 2 * (link - 1)) 0
+
+  unfoldable pub ledgerLeft : ℕ
+  ledgerLeft = getD ledger (2 * boundary * linkCount network + 2 * (link - 1) + 1) 0
+
+  -- arrived, read from the ledger and, before the travel time, from the `Q` line
+  unfoldable pub ledgerArrived : ℕ
+  ledgerArrived =
+      cond (ltb (time network boundary) (travelTime network (link - 1))) (standing network (link - 1))
+      (ledgerEntered (arrivalBoundary network boundary (link - 1)))
+
+  unfoldable pub stateChecks : Checks
+  stateChecks =
+      networkChecks network
+      then ledgerChecks network (length ledger)
+      then check 19 0 0 (leb boundary (stepCount network))
+      then check 20 0 0 (within 1 link (linkCount network))
+      then check 21 0 0 (leb ledgerLeft ledgerArrived and leb ledgerArrived (ledgerEntered boundary))
+
+  -- queued (the paper's standing) and in transit (its moving)
+  unfoldable pub linkAnswer : Verdict → LinkAnswer
+  linkAnswer passes = link-answer.State (ledgerArrived - ledgerLeft) (ledgerEntered boundary - ledgerArrived)
+  linkAnswer (refused number line item) = link-answer.Refused number line item
+
+  unfoldable pub linkState : LinkAnswer
+  linkState = linkAnswer (verdict stateChecks)

@@ -1,0 +1,90 @@
+-- What the lines of a plan text say on a network, and the traffic reckoned from them. Step n leads from boundary n to boundary n + 1. Assumes nothing.
+use Prim.Native.Nat.{ℕ, zero, suc, _+_, _*_, _-_}
+use mathlib.Core.List.{List, [], _∷_, _++_}
+use mathlib.Core.Bool.{Bool}
+use lib.Dec.{eqb}
+use Rattle.records.specs.Lines.{Line}
+use Rattle.model.specs.declared.Signal.{Signal}
+use Rattle.model.specs.Test.{_or_}
+use Rattle.model.specs.Sum.{sum, only}
+use Rattle.model.specs.Network.{entry, linkCount, signalCount, movementCount, stepCount, signal, signalOf, phaseMask, standing, fromLink, toLink, stepLength, arrivalBoundary}
+use Rattle.model.specs.Signals.{phaseOf, opens, after}
+
+module _ (network plan : List Line) where
+  -- the `P` line of step n: the mask that signal r shows, the volume admitted on link i, let out from link i, and of movement j
+  unfoldable pub shownMask : ℕ → ℕ → ℕ
+  shownMask n r = entry plan n r
+
+  unfoldable pub admitted : ℕ → ℕ → ℕ
+  admitted n i = entry plan n (signalCount network + i)
+
+  unfoldable pub letOut : ℕ → ℕ → ℕ
+  letOut n i = entry plan n (signalCount network + linkCount network + i)
+
+  unfoldable pub moved : ℕ → ℕ → ℕ
+  moved n j = entry plan n (signalCount network + 2 * linkCount network + j)
+
+  -- the phase that signal r shows in step n; 0 where its mask is not one phase
+  unfoldable pub shownIn : ℕ → ℕ → ℕ
+  shownIn n r = phaseOf (shownMask n r) (signal network r .phases)
+
+  -- signal r at boundary n
+  unfoldable pub signalAt : ℕ → ℕ → Signal
+  signalAt zero r = signal network r
+  signalAt (suc n) r = after (signalAt n r) (shownIn n r) (stepLength network n)
+
+  -- a link without a signal is always open; another is open in step n if its signal shows a phase of the link's mask
+  unfoldable pub isOpen : ℕ → ℕ → Bool
+  isOpen n i = eqb (signalOf network i) 0 or opens (phaseMask network i) (shownIn n (signalOf network i - 1))
+
+  -- the sum of all movements into, and from, link i in step n
+  unfoldable pub movedInto : ℕ → ℕ → ℕ
+  movedInto n i = sum (movementCount network) (λ j. only (eqb (toLink network j) (suc i)) (moved n j))
+
+  unfoldable pub movedFrom : ℕ → ℕ → ℕ
+  movedFrom n i = sum (movementCount network) (λ j. only (eqb (fromLink network j) (suc i)) (moved n j))
+
+  -- what enters, and leaves, link i in step n
+  unfoldable pub inflow : ℕ → ℕ → ℕ
+  inflow n i = admitted n i + movedInto n i
+
+  unfoldable pub outflow : ℕ → ℕ → ℕ
+  outflow n i = letOut n i + movedFrom n i
+
+  -- entered(n): the standing start plus all admitted and moved into the link in the first n steps
+  unfoldable pub entered : ℕ → ℕ → ℕ
+  entered n i = standing network i + sum n (λ m. inflow m i)
+
+  -- left(n): all let out or moved from the link in the first n steps
+  unfoldable pub left : ℕ → ℕ → ℕ
+  left n i = sum n (λ m. outflow m i)
+
+  -- arrived(n): entered(m), where t(m) is t(n) minus the travel time; the standing start before that time
+  unfoldable pub arrived : ℕ → ℕ → ℕ
+  arrived n i = entered (arrivalBoundary network n i) i
+
+  -- what link i holds at boundary n, and all links: the vehicles in the network
+  unfoldable pub held : ℕ → ℕ → ℕ
+  held n i = entered n i - left n i
+
+  unfoldable pub vehicles : ℕ → ℕ
+  vehicles n = sum (linkCount network) (held n)
+
+  -- admitted and let out in step n over all links
+  unfoldable pub allAdmitted : ℕ → ℕ
+  allAdmitted n = sum (linkCount network) (admitted n)
+
+  unfoldable pub allLetOut : ℕ → ℕ
+  allLetOut n = sum (linkCount network) (letOut n)
+
+  -- the doubled travel time of the first n steps: length × (vehicles at its start + vehicles at its end), over the steps
+  unfoldable pub doubledTime : ℕ → ℕ
+  doubledTime n = sum n (λ m. stepLength network m * (vehicles m + vehicles (suc m)))
+
+  -- row n of the ledger: entered and left of each link, in link order; k of them are the first k numbers
+  unfoldable pub rowOf : ℕ → ℕ → List ℕ
+  rowOf n zero = []
+  rowOf n (suc i) = rowOf n i ++ (entered n i ∷ left n i ∷ [])
+
+  unfoldable pub row : ℕ → List ℕ
+  row n = rowOf n (linkCount network)

@@ -1,0 +1,10 @@
+pub mod Test
+pub mod Sum
+pub mod Network
+pub mod Signals
+pub mod Flows
+pub mod Rules
+pub mod Table
+pub mod Calls
+pub mod Report
+pub mod Guarantees

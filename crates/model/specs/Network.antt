@@ -1,0 +1,108 @@
+-- What the lines of a network text say ("The two texts"). Lines, signals, links, movements and steps are counted from 0 here, phases from 1.
+-- Assumes nothing.
+use Prim.Native.Nat.{ℕ, zero, suc, _+_, _*_, _-_}
+use mathlib.Core.List.{List}
+use mathlib.Core.Bool.{cond}
+use lib.Dec.{leb, ltb}
+use lib.ListN.{getD}
+use Rattle.records.specs.Lines.{Line, noLine, number}
+use Rattle.model.specs.declared.Signal.{Signal}
+use Rattle.model.specs.Sum.{sum, list}
+
+-- number k of line i
+unfoldable pub entry : List Line → ℕ → ℕ → ℕ
+entry text i k = number (getD text i noLine) k
+
+module _ (network : List Line) where
+  -- the `N` line: L, R, M, K
+  unfoldable pub linkCount : ℕ
+  linkCount = entry network 0 0
+
+  unfoldable pub signalCount : ℕ
+  signalCount = entry network 0 1
+
+  unfoldable pub movementCount : ℕ
+  movementCount = entry network 0 2
+
+  unfoldable pub stepCount : ℕ
+  stepCount = entry network 0 3
+
+  -- the places of the `G`, `Q`, `M` and `S` lines
+  unfoldable pub signalLine : ℕ → ℕ
+  signalLine r = 1 + r
+
+  unfoldable pub linkLine : ℕ → ℕ
+  linkLine i = 1 + signalCount + i
+
+  unfoldable pub movementLine : ℕ → ℕ
+  movementLine j = 1 + signalCount + linkCount + j
+
+  unfoldable pub stepLine : ℕ → ℕ
+  stepLine n = 1 + signalCount + linkCount + movementCount + n
+
+  -- signal r before the plan, by its `G` line; the times of a phase past 8 are not kept
+  unfoldable pub signal : ℕ → Signal
+  signal r =
+      record {
+        «least_cycle» = entry network (signalLine r) 0;
+        «greatest_cycle» = entry network (signalLine r) 1;
+        phases = entry network (signalLine r) 2;
+        shown = entry network (signalLine r) 3;
+        «shown_for» = entry network (signalLine r) 4;
+        «cycle_clock» = entry network (signalLine r) 5;
+        least = list 8 (λ k. entry network (signalLine r) (6 + 2 * k));
+        greatest = list 8 (λ k. entry network (signalLine r) (7 + 2 * k));
+      }
+
+  -- link i, by its `Q` line
+  unfoldable pub capacity : ℕ → ℕ
+  capacity i = entry network (linkLine i) 0
+
+  unfoldable pub travelTime : ℕ → ℕ
+  travelTime i = entry network (linkLine i) 1
+
+  unfoldable pub exitRate : ℕ → ℕ
+  exitRate i = entry network (linkLine i) 2
+
+  -- the number of its signal, from 1; 0 for none
+  unfoldable pub signalOf : ℕ → ℕ
+  signalOf i = entry network (linkLine i) 3
+
+  unfoldable pub phaseMask : ℕ → ℕ
+  phaseMask i = entry network (linkLine i) 4
+
+  unfoldable pub standing : ℕ → ℕ
+  standing i = entry network (linkLine i) 5
+
+  -- movement j, by its `M` line; its links are numbered from 1
+  unfoldable pub fromLink : ℕ → ℕ
+  fromLink j = entry network (movementLine j) 0
+
+  unfoldable pub toLink : ℕ → ℕ
+  toLink j = entry network (movementLine j) 1
+
+  unfoldable pub rate : ℕ → ℕ
+  rate j = entry network (movementLine j) 2
+
+  unfoldable pub share : ℕ → ℕ
+  share j = entry network (movementLine j) 3
+
+  -- step n, by its `S` line
+  unfoldable pub stepLength : ℕ → ℕ
+  stepLength n = entry network (stepLine n) 0
+
+  unfoldable pub demand : ℕ → ℕ → ℕ
+  demand n i = entry network (stepLine n) (1 + i)
+
+  -- t(n), the time of boundary n: the sum of the first n lengths
+  unfoldable pub time : ℕ → ℕ
+  time n = sum n stepLength
+
+  -- the last of the boundaries 0 to n whose time is at most x
+  unfoldable pub lastBoundary : ℕ → ℕ → ℕ
+  lastBoundary zero x = zero
+  lastBoundary (suc n) x = cond (leb (time (suc n)) x) (suc n) (lastBoundary n x)
+
+  -- the boundary whose entries have travelled link i by boundary n: that at t(n) minus the travel time; 0 before the travel time
+  unfoldable pub arrivalBoundary : ℕ → ℕ → ℕ
+  arrivalBoundary n i = cond (ltb (time n) (travelTime i)) 0 (lastBoundary n (time n - travelTime i))

@@ -1,0 +1,126 @@
+-- The rules, each a test: refusals 2 to 7 of a network's values, and rules 10 to 18 of step n. Assumes nothing.
+use Prim.Native.Nat.{ℕ, zero, suc, _+_, _*_, _-_, _^_}
+use mathlib.Core.Bool.{Bool, true, not, cond}
+use mathlib.Core.List.{List}
+use lib.Dec.{leb, ltb, eqb}
+use lib.ListN.{getD}
+use Rattle.records.specs.Lines.{Line}
+use Rattle.model.specs.declared.Signal.{Signal}
+use Rattle.model.specs.Test.{_and_, _or_, within, every}
+use Rattle.model.specs.Sum.{sum, only}
+use Rattle.model.specs.Network.{linkCount, signalCount, movementCount, stepCount, signal, capacity, travelTime, exitRate, signalOf, phaseMask, standing, fromLink, toLink, rate, share, stepLength, demand, time, lastBoundary}
+use Rattle.model.specs.Signals.{leastTime, greatestTime, showsOnePhase, keepsOrder, keepsLeastTime, keepsGreatestTime, keepsCycle}
+use Rattle.model.specs.Flows.{admitted, letOut, moved, shownIn, signalAt, isOpen, movedFrom, entered, left, arrived}
+
+-- 3, P: 2 to 8 phases
+unfoldable pub validPhases : Signal → Bool
+validPhases s = within 2 (s .phases) 8
+
+-- 3, the rest of a `G` line
+unfoldable pub validSignal : Signal → Bool
+validSignal s =
+    within 1 (s .shown) (s .phases)
+    and every (s .phases) (λ k. leb 1 (getD (s .least) k 0) and within (getD (s .least) k 0) (getD (s .greatest) k 0) 3600)
+    and leb 1 (s .«least_cycle») and within (s .«least_cycle») (s .«greatest_cycle») 3600
+    and leb (s .«shown_for») (greatestTime s (s .shown))
+    and within (s .«shown_for») (s .«cycle_clock») (s .«greatest_cycle»)
+    and (not (eqb (s .shown) 1) or eqb (s .«cycle_clock») (s .«shown_for»))
+
+module _ (network : List Line) where
+  -- 2: L 1 to 24, R 0 to 8, M 0 to 64, K 1 to 120
+  unfoldable pub validCounts : Bool
+  validCounts =
+      within 1 (linkCount network) 24 and leb (signalCount network) 8 and leb (movementCount network) 64 and within 1 (stepCount network) 120
+
+  -- 4, the mask of link i: 0 without a signal; with one not 0, and no phase above its P
+  unfoldable pub validMask : ℕ → Bool
+  validMask i =
+      cond (eqb (signalOf network i) 0) (eqb (phaseMask network i) 0)
+      (leb 1 (phaseMask network i) and ltb (phaseMask network i) (2 ^ signal network (signalOf network i - 1) .phases))
+
+  -- 4, link i
+  unfoldable pub validLink : ℕ → Bool
+  validLink i =
+      leb (capacity network i) 2_000_000_000 and within 1 (travelTime network i) 3600 and leb (exitRate network i) 10_000
+      and leb (signalOf network i) (signalCount network) and validMask i
+      and leb (standing network i) (capacity network i)
+
+  -- 5: (from, to) of movement j is above that of the movement before
+  unfoldable pub pairRises : ℕ → Bool
+  pairRises zero = true
+  pairRises (suc j) =
+      ltb (fromLink network j) (fromLink network (suc j))
+      or eqb (fromLink network j) (fromLink network (suc j)) and ltb (toLink network j) (toLink network (suc j))
+
+  -- 5, movement j
+  unfoldable pub validMovement : ℕ → Bool
+  validMovement j =
+      within 1 (fromLink network j) (linkCount network) and within 1 (toLink network j) (linkCount network)
+      and not (eqb (fromLink network j) (toLink network j)) and within 1 (rate network j) 10_000 and within 1 (share network j) 1000 and pairRises j
+
+  -- the number, from 1, of the last of the first m movements that leaves link i; 0 where none does
+  unfoldable pub lastMovement : ℕ → ℕ → ℕ
+  lastMovement zero i = 0
+  lastMovement (suc m) i = cond (eqb (fromLink network m) (suc i)) (suc m) (lastMovement m i)
+
+  -- 5, after all `M` lines: link i has no movements, or their shares sum to 1000
+  unfoldable pub validShares : ℕ → Bool
+  validShares i =
+      eqb (lastMovement (movementCount network) i) 0
+      or eqb (sum (movementCount network) (λ j. only (eqb (fromLink network j) (suc i)) (share network j))) 1000
+
+  -- 6, step n: its length is 1 to 60 and at most every phase's greatest time, each demand is at most 600,000
+  unfoldable pub validStep : ℕ → Bool
+  validStep n =
+      within 1 (stepLength network n) 60
+      and every (signalCount network) (λ r. every (signal network r .phases) (λ k. leb (stepLength network n) (getD (signal network r .greatest) k 0)))
+      and every (linkCount network) (λ i. leb (demand network n i) 600_000)
+
+  -- 7, link i at boundary n: t(n) is below the travel time, or t(n) minus it is a boundary
+  unfoldable pub meetsBoundary : ℕ → ℕ → Bool
+  meetsBoundary n i =
+      ltb (time network n) (travelTime network i)
+      or eqb (time network (lastBoundary network n (time network n - travelTime network i)) + travelTime network i) (time network n)
+
+module _ (network plan : List Line) (n : ℕ) where
+  -- 10 to 14 of signal r: as `Signals` has them, for the signal at the step's start
+  unfoldable pub rule10 : ℕ → Bool
+  rule10 r = showsOnePhase (shownIn network plan n r)
+
+  unfoldable pub rule11 : ℕ → Bool
+  rule11 r = keepsOrder (signalAt network plan n r) (shownIn network plan n r)
+
+  unfoldable pub rule12 : ℕ → Bool
+  rule12 r = keepsLeastTime (signalAt network plan n r) (shownIn network plan n r)
+
+  unfoldable pub rule13 : ℕ → Bool
+  rule13 r = keepsGreatestTime (signalAt network plan n r) (shownIn network plan n r) (stepLength network n)
+
+  unfoldable pub rule14 : ℕ → Bool
+  rule14 r = keepsCycle (signalAt network plan n r) (shownIn network plan n r) (stepLength network n)
+
+  -- 15 (C2), link i: admitted is at most demand
+  unfoldable pub rule15Admitted : ℕ → Bool
+  rule15Admitted i = leb (admitted network plan n i) (demand network n i)
+
+  -- 15, link i: let out is at most exit rate × length
+  unfoldable pub rule15LetOut : ℕ → Bool
+  rule15LetOut i = leb (letOut network plan n i) (exitRate network i * stepLength network n)
+
+  -- 15, movement j: it is at most its rate × length, and 0 if its from link is shut
+  unfoldable pub rule15Moved : ℕ → Bool
+  rule15Moved j =
+      leb (moved network plan n j) (rate network j * stepLength network n)
+      and (isOpen network plan n (fromLink network j - 1) or eqb (moved network plan n j) 0)
+
+  -- 16 (C1), movement j: 1000 × the movement is at most its share × the sum of all movements from its link
+  unfoldable pub rule16 : ℕ → Bool
+  rule16 j = leb (1000 * moved network plan n j) (share network j * movedFrom network plan n (fromLink network j - 1))
+
+  -- 17 (C5), link i: left(n) ≤ arrived(n)
+  unfoldable pub rule17 : ℕ → Bool
+  rule17 i = leb (left network plan (suc n) i) (arrived network plan (suc n) i)
+
+  -- 18 (C6), link i: entered(n) − left(n−1) ≤ capacity. Space freed in a step counts from the next.
+  unfoldable pub rule18 : ℕ → Bool
+  rule18 i = leb (entered network plan (suc n) i - left network plan n i) (capacity network i)

@@ -1,0 +1,120 @@
+-- The checks of each call, in the paper's order ("The calls and how each declines"). A line is told by its number from 1, 0 where none is named.
+-- Assumes nothing.
+use Prim.Native.Nat.{ℕ, zero, suc, _+_, _*_}
+use mathlib.Core.Bool.{Bool}
+use mathlib.Core.List.{List, [], _∷_}
+use lib.Dec.{leb, eqb}
+use lib.ListN.{length, getD}
+use Rattle.search.specs.Checks.{Checks, check, each, _then_, Rule, table}
+use Rattle.records.specs.Lines.{Line, noLine, isRecord, startsAs}
+use Rattle.model.specs.Network.{linkCount, signalCount, movementCount, stepCount, signalLine, linkLine, movementLine, stepLine, signal}
+use Rattle.model.specs.Rules.{validPhases, validSignal, validCounts, validLink, validMovement, lastMovement, validShares, validStep, meetsBoundary, rule10, rule11, rule12, rule13, rule14, rule15Admitted, rule15LetOut, rule15Moved, rule16, rule17, rule18}
+
+-- line i is there, is ended, and has the letter and k numbers
+unfoldable pub isForm : List Line → ℕ → ℕ → ℕ → Bool
+isForm text i letter k = isRecord letter k (getD text i noLine)
+
+-- the letters of the records
+abbrev pub letterN : ℕ
+letterN = 78
+
+abbrev pub letterG : ℕ
+letterG = 71
+
+abbrev pub letterQ : ℕ
+letterQ = 81
+
+abbrev pub letterM : ℕ
+letterM = 77
+
+abbrev pub letterS : ℕ
+letterS = 83
+
+abbrev pub letterP : ℕ
+letterP = 80
+
+module _ (network : List Line) where
+  -- the `N` line
+  unfoldable pub countChecks : Checks
+  countChecks = check 1 1 0 (isForm network 0 letterN 4) then check 2 1 0 (validCounts network)
+
+  -- `G` line r: a line whose first seven fields are good gets 3 for a bad P before 1 for anything later in it
+  unfoldable pub signalChecks : ℕ → Checks
+  signalChecks r =
+      check 1 (suc (signalLine network r)) 0 (startsAs letterG 6 (getD network (signalLine network r) noLine))
+      then check 3 (suc (signalLine network r)) (suc r) (validPhases (signal network r))
+      then check 1 (suc (signalLine network r)) 0 (isForm network (signalLine network r) letterG (6 + 2 * signal network r .phases))
+      then check 3 (suc (signalLine network r)) (suc r) (validSignal (signal network r))
+
+  -- `Q` line i
+  unfoldable pub linkChecks : ℕ → Checks
+  linkChecks i =
+      check 1 (suc (linkLine network i)) 0 (isForm network (linkLine network i) letterQ 6)
+      then check 4 (suc (linkLine network i)) (suc i) (validLink network i)
+
+  -- `M` line j
+  unfoldable pub movementChecks : ℕ → Checks
+  movementChecks j =
+      check 1 (suc (movementLine network j)) 0 (isForm network (movementLine network j) letterM 4)
+      then check 5 (suc (movementLine network j)) (suc j) (validMovement network j)
+
+  -- the shares of link i, told at its last movement, whose line from 1 is `movementLine` of its number from 1
+  unfoldable pub shareChecks : ℕ → Checks
+  shareChecks i =
+      check 5 (movementLine network (lastMovement network (movementCount network) i)) (lastMovement network (movementCount network) i) (validShares network i)
+
+  -- `S` line n
+  unfoldable pub stepChecks : ℕ → Checks
+  stepChecks n =
+      check 1 (suc (stepLine network n)) 0 (isForm network (stepLine network n) letterS (1 + linkCount network))
+      then check 6 (suc (stepLine network n)) (suc n) (validStep network n)
+
+  -- 7, at the end of step n, by rising link
+  unfoldable pub boundaryChecks : ℕ → Checks
+  boundaryChecks n = each (linkCount network) (λ i. check 7 (suc (stepLine network n)) (suc i) (meetsBoundary network (suc n) i))
+
+  -- Check a network
+  unfoldable pub networkChecks : Checks
+  networkChecks =
+      countChecks
+      then each (signalCount network) signalChecks
+      then each (linkCount network) linkChecks
+      then each (movementCount network) movementChecks
+      then each (linkCount network) shareChecks
+      then each (stepCount network) stepChecks
+      then check 1 (suc (stepLine network (stepCount network))) 0 (eqb (length network) (stepLine network (stepCount network)))
+      then each (stepCount network) boundaryChecks
+
+  -- 8: the ledger has 2 × (K+1) × L numbers
+  unfoldable pub ledgerChecks : ℕ → Checks
+  ledgerChecks size = check 8 0 0 (leb (2 * suc (stepCount network) * linkCount network) size)
+
+module _ (network plan : List Line) where
+  -- rules 10 to 18 at step n, by number; rule 15 takes admitted, then let out, then movements
+  unfoldable pub rules : ℕ → List Rule
+  rules n =
+      record { number = 10; items = signalCount network; holds = rule10 network plan n }
+      ∷ record { number = 11; items = signalCount network; holds = rule11 network plan n }
+      ∷ record { number = 12; items = signalCount network; holds = rule12 network plan n }
+      ∷ record { number = 13; items = signalCount network; holds = rule13 network plan n }
+      ∷ record { number = 14; items = signalCount network; holds = rule14 network plan n }
+      ∷ record { number = 15; items = linkCount network; holds = rule15Admitted network plan n }
+      ∷ record { number = 15; items = linkCount network; holds = rule15LetOut network plan n }
+      ∷ record { number = 15; items = movementCount network; holds = rule15Moved network plan n }
+      ∷ record { number = 16; items = movementCount network; holds = rule16 network plan n }
+      ∷ record { number = 17; items = linkCount network; holds = rule17 network plan n }
+      ∷ record { number = 18; items = linkCount network; holds = rule18 network plan n }
+      ∷ []
+
+  -- line n of the plan: 9, its form of 1 + R + 2L + M fields; then its rules
+  unfoldable pub lineChecks : ℕ → Checks
+  lineChecks n =
+      check 9 (suc n) 0 (isForm plan n letterP (signalCount network + 2 * linkCount network + movementCount network)) then table (suc n) (rules n)
+
+  -- the plan's lines, and nothing after them
+  unfoldable pub planLineChecks : Checks
+  planLineChecks = each (stepCount network) lineChecks then check 9 (suc (stepCount network)) 0 (eqb (length plan) (stepCount network))
+
+  -- Check a plan, with a ledger of so many numbers
+  unfoldable pub planChecks : ℕ → Checks
+  planChecks size = networkChecks network then ledgerChecks network size then planLineChecks
