@@ -1,3 +1,4 @@
 pub mod Opened
 pub mod Texts
 pub mod Cases
+pub mod Tables

@@ -39,3 +39,9 @@ pub enum LinkAnswer {
     State { queued: u32, in_transit: u32 },
     Refused { number: u32, line: u32, item: u32 },
 }
+
+// What the reading of some lines of a text says: they pass, and the next line starts at a place; or one of them is refused.
+pub enum Stage {
+    Passed(usize),
+    Stopped { number: u32, line: u32, item: u32 },
+}
