@@ -8,15 +8,29 @@ use lib.ListN.{length, getD}
 use Rattle.search.specs.Checks.{Verdict, passes, refused}
 use Rattle.records.specs.Lines.{Line}
 use Rattle.model.specs.declared.Signal.{Signal}
+use Rattle.model.specs.declared.Counts.{Counts}
 use Rattle.model.specs.declared.Stage.{Stage}
 use Rattle.model.specs.declared.Stage.the-variants.{Passed, Stopped}
 use Rattle.model.specs.Test.{every}
-use Rattle.model.specs.Network.{entry, linkCount, signalCount, movementCount, stepCount, linkLine, movementLine, signal, time}
+use Rattle.model.specs.Network.{entry, linkCount, signalCount, movementCount, stepCount, linkLine, movementLine, stepLine, signal, time}
 
 -- the verdict on a stage: some lines pass, up to the place of the next, or one of them is refused
 unfoldable pub stageVerdict : Stage → Verdict
 stageVerdict (Passed next) = passes
 stageVerdict (Stopped number line item) = refused number line item
+
+-- the counts of a network whose `N` line has passed
+pub record CountsHold (network : List Line) (counts : Counts) : Type 0 where
+  pub links : counts .links ≡ linkCount network
+  pub signals : counts .signals ≡ signalCount network
+  pub movements : counts .movements ≡ movementCount network
+  pub steps : counts .steps ≡ stepCount network
+  pub some-links : 1 ≤ linkCount network
+  pub few-links : linkCount network ≤ 24
+  pub few-signals : signalCount network ≤ 8
+  pub few-movements : movementCount network ≤ 64
+  pub some-steps : 1 ≤ stepCount network
+  pub few-steps : stepCount network ≤ 120
 
 -- what stands past the signals of a list
 abbrev pub noSignal : Signal
@@ -61,3 +75,13 @@ pub record MovementTable (network : List Line) (movements : List ℕ) : Type 0 w
 pub record TimeTable (network : List Line) (times : List ℕ) : Type 0 where
   pub size : length times ≡ 121
   pub holds : (n : ℕ) → n ≤ stepCount network → getD times n 0 ≡ time network n
+
+-- the numbers of the `S` line of step n
+pub record StepNumbers (network : List Line) (n : ℕ) (step : List ℕ) : Type 0 where
+  pub size : length step ≡ 25
+  pub holds : (k : ℕ) → k < 1 + linkCount network → getD step k 0 ≡ entry network (stepLine network n) k
+
+-- the numbers of the `P` line of step n
+pub record PlanNumbers (network plan : List Line) (n : ℕ) (line : List ℕ) : Type 0 where
+  pub size : length line ≡ 120
+  pub holds : (k : ℕ) → k < signalCount network + 2 * linkCount network + movementCount network → getD line k 0 ≡ entry plan n k

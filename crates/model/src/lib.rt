@@ -45,3 +45,11 @@ pub enum Stage {
     Passed(usize),
     Stopped { number: u32, line: u32, item: u32 },
 }
+
+// The counts of an `N` line.
+pub struct Counts {
+    pub links: usize,
+    pub signals: usize,
+    pub movements: usize,
+    pub steps: usize,
+}
