@@ -2,13 +2,18 @@
 use Prim.Native.Nat.{ℕ, zero, suc, _+_}
 use mathlib.Core.Path.{_≡_}
 use mathlib.Core.List.{List, [], _∷_, _++_}
-use mathlib.Core.Bool.{Bool, true, false, cond}
+use mathlib.Core.Bool.{Bool, cond}
 use lib.ListN.{length, drop, getD}
 use lib.Dec.{eqb}
 use Rattle.records.specs.declared.Field.{Field}
 use Rattle.records.specs.declared.Field.the-variants.{Number, NoNumber}
 use Rattle.records.specs.declared.LineRead.{LineRead}
 use Rattle.records.specs.declared.LineRead.the-variants.{Next, Malformed}
+use Rattle.records.specs.declared.Tabbed.{Tabbed}
+use Rattle.records.specs.declared.Tabbed.the-variants.{Found, Absent}
+use Rattle.records.specs.declared.Numbers.{Numbers}
+use Rattle.records.specs.declared.Numbers.the-variants.{Last, More, Missing}
+use Rattle.records.specs.Field.{fieldOf}
 use Rattle.records.specs.Lines.{split, Line, lines, noLine, isRecord, startsAs}
 
 -- the line that starts at a place
@@ -45,3 +50,27 @@ atEnd text at = eqb (length (lines (drop at text))) 0
 -- A line starts at a place: the lines from there on are those of the text from line i on.
 unfoldable pub Starts : List ℕ → ℕ → ℕ → Type 0
 Starts text at i = lines (drop at text) ≡ drop i (lines text)
+
+-- What a function that reads numbers into a slice promises: its result is the answer, and the numbers stand over what the slice held before.
+pub record Got {R : Type 0} (answer : R) (numbers before : List ℕ) (result : R) (after : List ℕ) : Type 0 where
+  pub told : result ≡ answer
+  pub holds : after ≡ over numbers before
+
+-- ---- for the reader's own functions
+-- the bytes of the field that starts at a place: up to the next tab or line feed, or to the end of the text
+unfoldable pub fieldAt : List ℕ → ℕ → List ℕ
+fieldAt text at = getD (split 9 (getD (split 10 (drop at text)) 0 [])) 0 []
+
+unfoldable pub located : ℕ → Field → Tabbed
+located next (Number v) = Found v next
+located next NoNumber = Absent
+
+-- the number of the field after the tab at a place, and where that field ends
+unfoldable pub tabbedAt : List ℕ → ℕ → Tabbed
+tabbedAt text at =
+    cond (eqb (getD text at 0) 9) (located (at + 1 + length (fieldAt text (at + 1))) (fieldOf (fieldAt text (at + 1)))) Absent
+
+-- whether n numbers are the last of the line at a place, more follows them, or one is missing, whatever the line's letter
+unfoldable pub numbersAt : ℕ → List ℕ → ℕ → Numbers
+numbersAt n text at =
+    cond (isRecord (lineAt text at .letter) n (lineAt text at)) (Last (nextLine text at)) (cond (startsAs (lineAt text at .letter) n (lineAt text at)) More Missing)

@@ -1,0 +1,7 @@
+mod Bytes
+mod Places
+mod Numerals
+pub mod Fill
+pub mod Laws
+mod Tests
+mod Turns
