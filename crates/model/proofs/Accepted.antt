@@ -1,0 +1,77 @@
+-- What checks that hold say, by index: a valid network, and steps each of which keeps every rule. Assumes nothing.
+use mathlib.Core.Path.{_≡_}
+use mathlib.Core.Bool.{true}
+use mathlib.Core.List.{List}
+use Prim.Native.Nat.{ℕ, suc, _<_}
+use native.Mathlib.Omega.{arith}
+use Rattle.search.specs.Checks.{Hold, table}
+use Rattle.records.specs.Lines.{Line}
+use Rattle.model.specs.Network.{linkCount, signalCount, movementCount, stepCount, signal}
+use Rattle.model.specs.Rules.{validPhases, validSignal, validCounts, validLink, validMovement, validShares, validStep, meetsBoundary, rule10, rule11, rule12, rule13, rule14, rule15Admitted, rule15LetOut, rule15Moved, rule16, rule17, rule18}
+use Rattle.model.specs.Table.{countChecks, signalChecks, linkChecks, movementChecks, shareChecks, stepChecks, boundaryChecks, networkChecks, rules, lineChecks, planLineChecks, planChecks}
+
+-- refusals 2 to 7 do not arise
+pub record ValidNetwork (network : List Line) : Type 0 where
+  pub counts : validCounts network ≡ true
+  pub phases : (r : ℕ) → r < signalCount network → validPhases (signal network r) ≡ true
+  pub signals : (r : ℕ) → r < signalCount network → validSignal (signal network r) ≡ true
+  pub links : (i : ℕ) → i < linkCount network → validLink network i ≡ true
+  pub movements : (j : ℕ) → j < movementCount network → validMovement network j ≡ true
+  pub shares : (i : ℕ) → i < linkCount network → validShares network i ≡ true
+  pub steps : (n : ℕ) → n < stepCount network → validStep network n ≡ true
+  pub boundaries : (n : ℕ) → n < stepCount network → (i : ℕ) → i < linkCount network → meetsBoundary network (suc n) i ≡ true
+
+-- step n keeps rules 10 to 18
+pub record LawfulStep (network plan : List Line) (n : ℕ) : Type 0 where
+  pub keeps10 : (r : ℕ) → r < signalCount network → rule10 network plan n r ≡ true
+  pub keeps11 : (r : ℕ) → r < signalCount network → rule11 network plan n r ≡ true
+  pub keeps12 : (r : ℕ) → r < signalCount network → rule12 network plan n r ≡ true
+  pub keeps13 : (r : ℕ) → r < signalCount network → rule13 network plan n r ≡ true
+  pub keeps14 : (r : ℕ) → r < signalCount network → rule14 network plan n r ≡ true
+  pub keeps15Admitted : (i : ℕ) → i < linkCount network → rule15Admitted network plan n i ≡ true
+  pub keeps15LetOut : (i : ℕ) → i < linkCount network → rule15LetOut network plan n i ≡ true
+  pub keeps15Moved : (j : ℕ) → j < movementCount network → rule15Moved network plan n j ≡ true
+  pub keeps16 : (j : ℕ) → j < movementCount network → rule16 network plan n j ≡ true
+  pub keeps17 : (i : ℕ) → i < linkCount network → rule17 network plan n i ≡ true
+  pub keeps18 : (i : ℕ) → i < linkCount network → rule18 network plan n i ≡ true
+
+-- two texts that are accepted
+pub record AcceptedPlan (network plan : List Line) : Type 0 where
+  pub valid : ValidNetwork network
+  pub lawful : (n : ℕ) → n < stepCount network → LawfulStep network plan n
+
+pub valid-network : (network : List Line) → Hold (networkChecks network) → ValidNetwork network
+unfolding Hold networkChecks countChecks signalChecks linkChecks movementChecks shareChecks stepChecks boundaryChecks
+valid-network network (counts, (signals, (links, (movements, (shares, (steps, (ended, boundaries))))))) =
+    record {
+      counts = counts .1;
+      phases = λ r l. signals r l .1 .0;
+      signals = λ r l. signals r l .1 .1 .1;
+      links = λ i l. links i l .1;
+      movements = λ j l. movements j l .1;
+      shares = shares;
+      steps = λ n l. steps n l .1;
+      boundaries = boundaries;
+    }
+
+pub lawful-step : (network plan : List Line) (n : ℕ) → Hold (table (suc n) (rules network plan n)) → LawfulStep network plan n
+unfolding Hold table rules
+lawful-step network plan n h =
+    record {
+      keeps10 = h 0 (omega arith);
+      keeps11 = h 1 (omega arith);
+      keeps12 = h 2 (omega arith);
+      keeps13 = h 3 (omega arith);
+      keeps14 = h 4 (omega arith);
+      keeps15Admitted = h 5 (omega arith);
+      keeps15LetOut = h 6 (omega arith);
+      keeps15Moved = h 7 (omega arith);
+      keeps16 = h 8 (omega arith);
+      keeps17 = h 9 (omega arith);
+      keeps18 = h 10 (omega arith);
+    }
+
+pub accepted-plan : (network plan : List Line) (size : ℕ) → Hold (planChecks network plan size) → AcceptedPlan network plan
+unfolding Hold planChecks planLineChecks lineChecks
+accepted-plan network plan size (holds, (ledger, (lines, ended))) =
+    record { valid = valid-network network holds; lawful = λ n l. lawful-step network plan n (lines n l .1) }

@@ -1,0 +1,29 @@
+-- The parts of a test that holds. Assumes nothing.
+use mathlib.Core.Path.{_≡_, refl}
+use mathlib.Core.Bool.{Bool, true, false}
+use mathlib.Core.Logic.{_⊎_, inl, inr}
+use Prim.Native.Nat.{ℕ, zero, suc, _<_}
+use native.Mathlib.Omega.{arith}
+use borrow.Author.Count.{below-more}
+use Rattle.model.specs.Test.{_and_, _or_, every}
+
+pub and-left : (a b : Bool) → a and b ≡ true → a ≡ true
+unfolding _and_
+and-left true b h = refl
+and-left false b h = h
+
+pub and-right : (a b : Bool) → a and b ≡ true → b ≡ true
+unfolding _and_
+and-right true b h = h
+and-right false b h = cc
+
+pub or-cases : (a b : Bool) → a or b ≡ true → (a ≡ true) ⊎ (b ≡ true)
+unfolding _or_
+or-cases true b h = inl refl
+or-cases false b h = inr h
+
+-- a test of every index, at one of them
+pub every-at : (n : ℕ) (test : ℕ → Bool) → every n test ≡ true → (k : ℕ) → k < n → test k ≡ true
+unfolding every
+every-at zero test h k l = absurd (omega arith)
+every-at (suc n) test h k l = below-more (λ k. test k ≡ true) n (every-at n test (and-left _ _ h)) (and-right _ _ h) k (omega arith)
