@@ -4,3 +4,14 @@ pub mod Cases
 pub mod Tables
 pub mod Tests
 pub mod Accepted
+pub mod Sums
+pub mod Times
+pub mod Phases
+pub mod Flow
+pub mod TravelTime
+pub mod Integers
+pub mod Order
+pub mod Shown
+pub mod Red
+pub mod Once
+pub mod Promises

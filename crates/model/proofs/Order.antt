@@ -1,0 +1,68 @@
+-- The order of the phases of a signal: from a phase through all others back to it. Assumes nothing.
+use mathlib.Core.Path.{_≡_, refl, sym, ap, _∙_}
+use mathlib.Core.Bool.{cond}
+use mathlib.Core.Logic.{_⊎_, inl, inr, _≢_}
+use mathlib.Core.List.{List, [], _∷_, _++_, append-nil}
+use Prim.Native.Nat.{ℕ, zero, suc, _+_, _-_, _≤_, _<_}
+use native.Mathlib.Nat.{eq-or-lt-of-le}
+use native.Mathlib.Omega.{arith}
+use lib.Dec.{eqb}
+use borrow.Author.Tests.{eq-eqb, ne-eqb}
+use Rattle.model.specs.Guarantees.{rising, others}
+
+module _ (P : ℕ) where
+  -- the phase after x: after P comes 1
+  unfoldable pub next : ℕ → ℕ
+  next x = cond (eqb x P) 1 (x + 1)
+
+  next-last : (x : ℕ) → x ≡ P → next x ≡ 1
+  unfolding next
+  next-last x h = rw (eq-eqb x P h) refl
+
+  next-more : (x : ℕ) → x < P → next x ≡ suc x
+  unfolding next
+  next-more x h = rw (ne-eqb x P (λ e. omega arith)) (omega arith)
+
+  -- the m phases after x
+  unfoldable pub turns : ℕ → ℕ → List ℕ
+  turns zero x = []
+  turns (suc m) x = next x ∷ turns m (next x)
+
+  turns-rise : (m x : ℕ) → x + m ≤ P → turns m x ≡ rising (suc x) m
+  unfolding turns rising
+  turns-rise zero x h = refl
+  turns-rise (suc m) x h = rw (next-more x (omega arith)) (ap (λ l. suc x ∷ l) (turns-rise m (suc x) (omega arith)))
+
+  turns-wrap : (d m x : ℕ) → x + d ≡ P → suc m ≤ P → turns (d + suc m) x ≡ rising (suc x) d ++ rising 1 (suc m)
+  unfolding turns rising
+  turns-wrap zero m x h l =
+      let e : 0 + suc m ≡ suc m = omega arith in
+      rw (e, next-last x (omega arith)) (ap (λ l. 1 ∷ l) (turns-rise m 1 (omega arith)))
+  turns-wrap (suc d) m x h l =
+      let e : suc d + suc m ≡ suc (d + suc m) = omega arith in
+      rw (e, next-more x (omega arith)) (ap (λ l. suc x ∷ l) (turns-wrap d m (suc x) (omega arith) l))
+
+  pub turns-others : (q : ℕ) → 1 ≤ q → q ≤ P → turns (P - 1) q ≡ others P q
+  unfolding others
+  turns-others zero h l = absurd (omega arith)
+  turns-others (suc zero) h l = unfold rising in (turns-rise (P - 1) 1 (omega arith) ∙ sym (append-nil _))
+  turns-others (suc (suc m)) h l =
+      let e : P - 1 ≡ (P - suc (suc m)) + suc m = omega arith in
+      let f : suc (suc m) - 1 ≡ suc m = omega arith in
+      rw (e, f) (turns-wrap (P - suc (suc m)) m (suc (suc m)) (omega arith) (omega arith))
+
+  -- m + 1 turns lead from x to q
+  abbrev pub Turns : ℕ → ℕ → ℕ → Type 0
+  Turns q x m = ((x + suc m ≡ q) × (x < q)) ⊎ ((x + suc m ≡ q + P) × (q ≤ x))
+
+  pub last-turn : (q x : ℕ) → 1 ≤ q → q ≤ P → x ≤ P → Turns q x 0 → next x ≡ q
+  last-turn q x a b c (inl h) = next-more x (omega arith) ∙ omega arith
+  last-turn q x a b c (inr h) = next-last x (omega arith) ∙ omega arith
+
+  pub other-turn : (q x m : ℕ) → 1 ≤ q → q ≤ P → x ≤ P → Turns q x (suc m) → (next x ≢ q) × Turns q (next x) m
+  other-turn q x m a b c (inl h) = let e = next-more x (omega arith) in ((λ f. omega arith), inl (omega arith))
+  other-turn q x m a b c (inr h) = go (eq-or-lt-of-le c)
+    where
+      go : (x ≡ P) ⊎ (x < P) → (next x ≢ q) × Turns q (next x) m
+      go (inl i) = let e = next-last x i in ((λ f. omega arith), inl (omega arith))
+      go (inr i) = let e = next-more x i in ((λ f. omega arith), inr (omega arith))

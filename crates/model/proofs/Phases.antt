@@ -1,0 +1,37 @@
+-- The phase that a mask shows. Assumes nothing.
+use mathlib.Core.Path.{_≡_, sym, ap, _∙_}
+use mathlib.Core.Logic.{_⊎_, inl, inr}
+use Prim.Native.Nat.{ℕ, zero, suc, _-_, _^_, _≤_, _<_}
+use native.Mathlib.Nat.{eq-or-lt-of-le}
+use native.Mathlib.Decide.{ℕ-discrete}
+use native.Mathlib.Omega.{arith}
+use lib.Pow.{pow-lt}
+use borrow.Author.Tests.{eq-eqb, ne-eqb}
+use Rattle.model.specs.Signals.{phaseOf}
+
+pub phase-of-le : (mask phases : ℕ) → phaseOf mask phases ≤ phases
+unfolding phaseOf
+phase-of-le mask zero = omega arith
+phase-of-le mask (suc k) = elim (ℕ-discrete mask (2 ^ k)) [
+  | yes e ↦ rw (eq-eqb mask (2 ^ k) e) (omega arith)
+  | no d ↦ rw (ne-eqb mask (2 ^ k) d) (omega (arith, phase-of-le mask k))
+]
+
+-- the bit of a phase shows it ..
+pub phase-of-bit : (mask phases q : ℕ) → 1 ≤ q → q ≤ phases → mask ≡ 2 ^ (q - 1) → phaseOf mask phases ≡ q
+unfolding phaseOf
+phase-of-bit mask zero q h l m = absurd (omega arith)
+phase-of-bit mask (suc k) q h l m = go (eq-or-lt-of-le l) (λ u. phase-of-bit mask k q h u m)
+  where
+    go : (q ≡ suc k) ⊎ (q < suc k) → (q ≤ k → phaseOf mask k ≡ q) → phaseOf mask (suc k) ≡ q
+    go (inl e) ih = let f : q - 1 ≡ k = omega arith in rw (eq-eqb mask (2 ^ k) (m ∙ ap (λ x. 2 ^ x) f)) (sym e)
+    go (inr u) ih = let f : 2 ^ (q - 1) < 2 ^ k = pow-lt (omega arith) in rw (ne-eqb mask (2 ^ k) (λ e. omega arith)) (ih (omega arith))
+
+-- .. and the mask that shows a phase is its bit
+pub bit-of-phase : (mask phases q : ℕ) → 1 ≤ q → phaseOf mask phases ≡ q → mask ≡ 2 ^ (q - 1)
+unfolding phaseOf
+bit-of-phase mask zero q h = λ e. absurd (omega arith)
+bit-of-phase mask (suc k) q h = elim (ℕ-discrete mask (2 ^ k)) [
+  | yes e ↦ rw (eq-eqb mask (2 ^ k) e) (λ f. let g : k ≡ q - 1 = omega arith in e ∙ ap (λ x. 2 ^ x) g)
+  | no d ↦ rw (ne-eqb mask (2 ^ k) d) (bit-of-phase mask k q h)
+]

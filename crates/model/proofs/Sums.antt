@@ -1,0 +1,78 @@
+-- Laws of sums. Assumes nothing.
+use mathlib.Core.Path.{_≡_, refl, sym, ap, ap₂, _∙_}
+use mathlib.Core.Logic.{_⊎_, inl, inr}
+use Prim.Native.Nat.{ℕ, zero, suc, _+_, _*_, _-_, _≤_, _<_}
+use native.Mathlib.Nat.{eq-or-lt-of-le}
+use native.Mathlib.Omega.{arith}
+use lib.Dec.{eqb}
+use borrow.Author.Tests.{eq-eqb, ne-eqb}
+use Rattle.model.specs.Sum.{sum, only}
+
+pub sum-ext : (n : ℕ) (f g : ℕ → ℕ) → ((i : ℕ) → i < n → f i ≡ g i) → sum n f ≡ sum n g
+unfolding sum
+sum-ext zero f g h = refl
+sum-ext (suc n) f g h = ap₂ (λ a b. a + b) (sum-ext n f g (λ i l. h i (omega arith))) (h n (omega arith))
+
+pub sum-le : (n : ℕ) (f g : ℕ → ℕ) → ((i : ℕ) → i < n → f i ≤ g i) → sum n f ≤ sum n g
+unfolding sum
+sum-le zero f g h = omega arith
+sum-le (suc n) f g h = omega (arith, sum-le n f g (λ i l. h i (omega arith)), h n (omega arith))
+
+-- each part of a sum is at most c
+pub sum-bound : (n c : ℕ) (f : ℕ → ℕ) → ((i : ℕ) → i < n → f i ≤ c) → sum n f ≤ n * c
+unfolding sum
+sum-bound zero c f h = omega arith
+sum-bound (suc n) c f h = omega (arith, sum-bound n c f (λ i l. h i (omega arith)), h n (omega arith))
+
+pub sum-zero : (n : ℕ) → sum n (λ k. 0) ≡ 0
+unfolding sum
+sum-zero zero = refl
+sum-zero (suc n) = omega (arith, sum-zero n)
+
+pub sum-add : (n : ℕ) (f g : ℕ → ℕ) → sum n (λ k. f k + g k) ≡ sum n f + sum n g
+unfolding sum
+sum-add zero f g = refl
+sum-add (suc n) f g = omega (arith, sum-add n f g)
+
+-- a sum of differences
+pub sum-sub : (n : ℕ) (f g : ℕ → ℕ) → ((i : ℕ) → i < n → g i ≤ f i) → sum n (λ k. f k - g k) + sum n g ≡ sum n f
+unfolding sum
+sum-sub zero f g h = refl
+sum-sub (suc n) f g h = omega (arith, sum-sub n f g (λ i l. h i (omega arith)), h n (omega arith))
+
+pub sum-swap : (n m : ℕ) (f : ℕ → ℕ → ℕ) → sum n (λ i. sum m (λ j. f i j)) ≡ sum m (λ j. sum n (λ i. f i j))
+unfolding sum
+sum-swap zero m f = sym (sum-zero m)
+sum-swap (suc n) m f = ap (λ x. x + sum m (λ j. f n j)) (sum-swap n m f) ∙ sym (sum-add m (λ j. sum n (λ i. f i j)) (λ j. f n j))
+
+-- more of what is summed
+pub sum-more : (f : ℕ → ℕ) (m n : ℕ) → m ≤ n → sum m f ≤ sum n f
+unfolding sum
+sum-more f m zero h = let e : m ≡ 0 = omega arith in rw e (omega arith)
+sum-more f m (suc n) h = go (eq-or-lt-of-le h) (sum-more f m n)
+  where
+    go : (m ≡ suc n) ⊎ (m < suc n) → (m ≤ n → sum m f ≤ sum n f) → sum m f ≤ sum (suc n) f
+    go (inl e) ih = rw e (omega arith)
+    go (inr l) ih = omega (arith, ih (omega arith))
+
+-- past the place, nothing
+sum-past : (n t x : ℕ) → n < t → sum n (λ i. only (eqb t (suc i)) x) ≡ 0
+unfolding sum
+sum-past zero t x h = refl
+sum-past (suc n) t x h = omega (arith, sum-past n t x (omega arith), ap (λ b. only b x) (ne-eqb t (suc n) (λ e. omega arith)))
+
+-- the one place at which the test holds
+pub sum-place : (n t x : ℕ) → 1 ≤ t → t ≤ n → sum n (λ i. only (eqb t (suc i)) x) ≡ x
+unfolding sum
+sum-place zero t x h l = absurd (omega arith)
+sum-place (suc n) t x h l = go (eq-or-lt-of-le l) (sum-place n t x h)
+  where
+    go : (t ≡ suc n) ⊎ (t < suc n) → (t ≤ n → sum n (λ i. only (eqb t (suc i)) x) ≡ x) → sum n (λ i. only (eqb t (suc i)) x) + only (eqb t (suc n)) x ≡ x
+    go (inl e) ih = omega (arith, sum-past n t x (omega arith), ap (λ b. only b x) (eq-eqb t (suc n) e))
+    go (inr u) ih = omega (arith, ih (omega arith), ap (λ b. only b x) (ne-eqb t (suc n) (λ e. omega arith)))
+
+-- a constant added to each weight
+pub sum-weight : (n c : ℕ) (f w : ℕ → ℕ) → sum n (λ k. f k * (w k + c)) ≡ sum n (λ k. f k * w k) + c * sum n f
+unfolding sum
+sum-weight zero c f w = omega arith
+sum-weight (suc n) c f w = omega (arith, sum-weight n c f w)

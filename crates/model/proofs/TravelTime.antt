@@ -1,0 +1,63 @@
+-- The doubled travel time of an accepted plan. Assumes nothing.
+use mathlib.Core.Path.{_≡_, refl, ap}
+use mathlib.Core.List.{List}
+use Prim.Native.Nat.{ℕ, zero, suc, _+_, _*_, _-_, _≤_}
+use native.Mathlib.Nat.{le-refl}
+use native.Mathlib.Omega.{arith}
+use Rattle.records.specs.Lines.{Line}
+use Rattle.model.specs.Sum.{sum}
+use Rattle.model.specs.Network.{stepCount, stepLength, time}
+use Rattle.model.specs.Flows.{vehicles, allAdmitted, allLetOut, doubledTime}
+use Rattle.model.specs.Guarantees.{weight}
+use Rattle.model.proofs.Sums.{sum-ext, sum-weight}
+use Rattle.model.proofs.Times.{time-suc, time-mono}
+use Rattle.model.proofs.Accepted.{AcceptedPlan}
+use Rattle.model.proofs.Flow.{balance-step}
+
+module _ (network : List Line) where
+  -- the weight of step n in the first m steps
+  unfoldable weightBy : ℕ → ℕ → ℕ
+  weightBy m n = 2 * (time network m - time network (suc n)) + stepLength network n
+
+  -- another step makes each weight before it twice its length more
+  weigh-more : (f : ℕ → ℕ) (m : ℕ)
+      → sum (suc m) (λ n. f n * weightBy (suc m) n) ≡ sum m (λ n. f n * weightBy m n) + 2 * stepLength network m * sum m f + f m * stepLength network m
+  unfolding sum weightBy
+  weigh-more f m =
+      let own : weightBy (suc m) m ≡ stepLength network m = omega arith in
+      omega (
+        arith,
+        sum-ext m (λ n. f n * weightBy (suc m) n) (λ n. f n * (weightBy m n + 2 * stepLength network m))
+            (λ n l. ap (λ x. f n * x) (omega (arith, time-suc network m, time-mono network (suc n) m l))),
+        sum-weight m (2 * stepLength network m) f (weightBy m),
+        ap (λ x. f m * x) own,
+      )
+
+module _ (network plan : List Line) (accepted : AcceptedPlan network plan) where
+  balance-start : (m : ℕ) → m ≤ stepCount network
+      → vehicles network plan m + sum m (allLetOut network plan) ≡ vehicles network plan 0 + sum m (allAdmitted network plan)
+  unfolding sum
+  balance-start zero h = refl
+  balance-start (suc m) h = omega (arith, balance-start m (omega arith), balance-step network plan accepted m h)
+
+  -- of the first m steps
+  travel-time-by : (m : ℕ) → m ≤ stepCount network
+      → doubledTime network plan m + sum m (λ n. allLetOut network plan n * weightBy network m n)
+      ≡ 2 * time network m * vehicles network plan 0 + sum m (λ n. allAdmitted network plan n * weightBy network m n)
+  unfolding doubledTime sum
+  travel-time-by zero h = unfold time in omega arith
+  travel-time-by (suc m) h =
+      omega (
+        arith,
+        travel-time-by m (omega arith),
+        weigh-more network (allLetOut network plan) m,
+        weigh-more network (allAdmitted network plan) m,
+        ap (λ x. 2 * x * vehicles network plan 0) (time-suc network m),
+        ap (λ x. stepLength network m * x) (balance-start m (omega arith)),
+        ap (λ x. stepLength network m * x) (balance-step network plan accepted m h),
+      )
+
+  pub travel-time : doubledTime network plan (stepCount network) + sum (stepCount network) (λ n. allLetOut network plan n * weight network n)
+      ≡ 2 * time network (stepCount network) * vehicles network plan 0 + sum (stepCount network) (λ n. allAdmitted network plan n * weight network n)
+  unfolding weight weightBy
+  travel-time = travel-time-by (stepCount network) (le-refl _)
