@@ -15,3 +15,4 @@ pub mod Shown
 pub mod Red
 pub mod Once
 pub mod Promises
+pub mod Rows
