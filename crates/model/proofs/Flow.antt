@@ -1,5 +1,6 @@
 -- What an accepted plan keeps of the traffic. Assumes nothing.
 use mathlib.Core.Path.{_≡_, refl, _∙_}
+use mathlib.Core.Bool.{true}
 use mathlib.Core.List.{List}
 use Prim.Native.Nat.{ℕ, zero, suc, _+_, _-_, _≤_, _<_}
 use native.Mathlib.Nat.{le-refl, le-trans}
@@ -7,16 +8,15 @@ use native.Mathlib.Omega.{arith}
 use lib.Dec.{leb, eqb}
 use borrow.Author.Tests.{leb-true, le-leb}
 use Rattle.records.specs.Lines.{Line}
-use Rattle.model.specs.Test.{within}
 use Rattle.model.specs.Sum.{sum, only}
 use Rattle.model.specs.Network.{linkCount, movementCount, stepCount, capacity, travelTime, standing, fromLink, toLink, time, arrivalBoundary}
 use Rattle.model.specs.Flows.{admitted, letOut, moved, movedInto, movedFrom, inflow, outflow, entered, left, arrived, held, vehicles, allAdmitted, allLetOut}
-use Rattle.model.specs.Rules.{validLink, validMovement, rule17, rule18}
+use Rattle.model.specs.Rules.{rule17, rule18}
 use Rattle.model.specs.Guarantees.{between}
-use Rattle.model.proofs.Tests.{and-left, and-right}
 use Rattle.model.proofs.Sums.{sum-ext, sum-le, sum-add, sum-sub, sum-swap, sum-more, sum-place}
 use Rattle.model.proofs.Times.{time-mono, arrival-boundary-le, arrival-boundary-time}
 use Rattle.model.proofs.Accepted.{ValidNetwork, AcceptedPlan}
+use Rattle.model.proofs.Limits.{link-limits, movement-limits}
 
 module _ (network plan : List Line) where
   pub entered-suc : (n i : ℕ) → entered network plan (suc n) i ≡ entered network plan n i + inflow network plan n i
@@ -39,19 +39,24 @@ module _ (network plan : List Line) where
       sum-le A (λ m. inflow network plan m i) (early n i) (λ m l. rw (le-leb (time network (suc m) + travelTime network i) (time network n) (omega (arith, arrival-boundary-time network n i (omega arith), time-mono network (suc m) A l))) (le-refl _)) in
       omega (arith, sum-more (early n i) A n (arrival-boundary-le network n i))
 
+  -- rule 17 keeps what a link holds from being less than nothing
+  pub left-entered-next : (n i : ℕ) → rule17 network plan n i ≡ true → left network plan (suc n) i ≤ entered network plan (suc n) i
+  unfolding rule17
+  left-entered-next n i h = le-trans (leb-true _ _ h) (arrived-entered (suc n) i)
+
   module _ (valid : ValidNetwork network) where
     -- what the movements bring to all links, and take from them, is what moves
     into-all : (n : ℕ) → sum (linkCount network) (movedInto network plan n) ≡ sum (movementCount network) (moved network plan n)
-    unfolding movedInto validMovement within
+    unfolding movedInto
     into-all n =
         sum-swap (linkCount network) (movementCount network) (λ i j. only (eqb (toLink network j) (suc i)) (moved network plan n j))
-        ∙ sum-ext (movementCount network) _ _ (λ j l. let g = valid .movements j l in sum-place (linkCount network) (toLink network j) (moved network plan n j) (leb-true _ _ (search (and-left, and-right) depth 9)) (leb-true _ _ (search (and-left, and-right) depth 9)))
+        ∙ sum-ext (movementCount network) _ _ (λ j l. let g = movement-limits network valid j l in sum-place (linkCount network) (toLink network j) (moved network plan n j) (g .to-first) (g .to-last))
 
     from-all : (n : ℕ) → sum (linkCount network) (movedFrom network plan n) ≡ sum (movementCount network) (moved network plan n)
-    unfolding movedFrom validMovement within
+    unfolding movedFrom
     from-all n =
         sum-swap (linkCount network) (movementCount network) (λ i j. only (eqb (fromLink network j) (suc i)) (moved network plan n j))
-        ∙ sum-ext (movementCount network) _ _ (λ j l. let g = valid .movements j l in sum-place (linkCount network) (fromLink network j) (moved network plan n j) (leb-true _ _ (search (and-left, and-right) depth 9)) (leb-true _ _ (search (and-left, and-right) depth 9)))
+        ∙ sum-ext (movementCount network) _ _ (λ j l. let g = movement-limits network valid j l in sum-place (linkCount network) (fromLink network j) (moved network plan n j) (g .from-first) (g .from-last))
 
     entered-step : (n : ℕ) → sum (linkCount network) (entered network plan (suc n)) ≡ sum (linkCount network) (entered network plan n) + (allAdmitted network plan n + sum (movementCount network) (moved network plan n))
     unfolding inflow allAdmitted
@@ -74,6 +79,13 @@ module _ (network plan : List Line) where
           from-all n,
         )
 
+    -- a link holds at most its capacity by steps that keep rule 18
+    pub held-capacity : (n i : ℕ) → i < linkCount network → ((m : ℕ) → m < n → rule18 network plan m i ≡ true)
+        → entered network plan n i - left network plan n i ≤ capacity network i
+    unfolding entered left sum rule18
+    held-capacity zero i l k = omega (arith, link-limits network valid i l .standing-limit)
+    held-capacity (suc n) i l k = omega (arith, leb-true (entered network plan (suc n) i - left network plan n i) (capacity network i) (k n (omega arith)))
+
   module _ (accepted : AcceptedPlan network plan) where
     left-arrived : (n i : ℕ) → n ≤ stepCount network → i < linkCount network → left network plan n i ≤ arrived network plan n i
     left-arrived zero i h l = unfold left sum in omega arith
@@ -83,12 +95,11 @@ module _ (network plan : List Line) where
     left-early n i h l = le-trans (left-arrived n i h l) (arrived-early n i)
 
     pub left-entered : (n i : ℕ) → n ≤ stepCount network → i < linkCount network → left network plan n i ≤ entered network plan n i
-    left-entered n i h l = le-trans (left-arrived n i h l) (arrived-entered n i)
+    left-entered zero i h l = unfold left sum in omega arith
+    left-entered (suc n) i h l = left-entered-next n i (accepted .lawful n h .keeps17 i l)
 
     pub within-capacity : (n i : ℕ) → n ≤ stepCount network → i < linkCount network → entered network plan n i - left network plan n i ≤ capacity network i
-    unfolding entered left sum
-    within-capacity zero i h l = unfold validLink in omega (arith, leb-true (standing network i) (capacity network i) (and-right _ _ (accepted .valid .links i l)))
-    within-capacity (suc n) i h l = unfold rule18 in omega (arith, leb-true (entered network plan (suc n) i - left network plan n i) (capacity network i) (accepted .lawful n h .keeps18 i l))
+    within-capacity n i h l = held-capacity (accepted .valid) n i l (λ m k. accepted .lawful m (omega arith) .keeps18 i l)
 
     vehicles-are : (n : ℕ) → n ≤ stepCount network → vehicles network plan n + sum (linkCount network) (left network plan n) ≡ sum (linkCount network) (entered network plan n)
     unfolding vehicles held

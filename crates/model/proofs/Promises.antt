@@ -11,17 +11,17 @@ use Rattle.search.specs.Checks.{Verdict, passes, refused, Hold, verdict}
 use Rattle.search.proofs.Laws as laws
 use Rattle.records.specs.Lines.{Line}
 use Rattle.model.specs.declared.PlanAnswer.the-variants as plan-answer
-use Rattle.model.specs.Test.{within}
 use Rattle.model.specs.Network.{linkCount, signalCount, movementCount, stepCount, signal, signalOf, phaseMask, fromLink, time}
 use Rattle.model.specs.Signals.{opens}
 use Rattle.model.specs.Flows.{shownMask, shownIn, moved, isOpen, allAdmitted, allLetOut, doubledTime}
-use Rattle.model.specs.Rules.{validLink, validMovement, rule10, rule15Moved}
+use Rattle.model.specs.Rules.{rule10, rule15Moved}
 use Rattle.model.specs.Table.{planChecks}
 use Rattle.model.specs.Calls.{planAnswer, checkPlan}
 use Rattle.model.specs.Guarantees.{Shows, weight, Guarantees, Promises}
-use Rattle.model.proofs.Tests.{and-left, and-right, or-cases}
+use Rattle.model.proofs.Tests.{and-right, or-cases}
 use Rattle.model.proofs.Phases.{bit-of-phase}
 use Rattle.model.proofs.Accepted.{AcceptedPlan, accepted-plan}
+use Rattle.model.proofs.Limits.{link-limits, movement-limits}
 use Rattle.model.proofs.Integers.{signed-sum}
 use Rattle.model.proofs.Flow.{left-early, left-entered, within-capacity, balance}
 use Rattle.model.proofs.TravelTime.{travel-time}
@@ -29,18 +29,12 @@ use Rattle.model.proofs.Red.{red-greens, red-least, red-greatest}
 use Rattle.model.proofs.Once.{exactly-once}
 
 module _ (network plan : List Line) (accepted : AcceptedPlan network plan) where
-  -- the link that a movement leaves, and its signal, are among those of the network
-  from-in : (j : ℕ) → j < movementCount network → fromLink network j - 1 < linkCount network
-  unfolding validMovement within
-  from-in j l =
-      let g = accepted .valid .movements j l in
-      let a = leb-true 1 (fromLink network j) (search (and-left, and-right) depth 9) in
-      let b = leb-true (fromLink network j) (linkCount network) (search (and-left, and-right) depth 9) in
-      omega arith
-
-  signal-in : (i : ℕ) → i < linkCount network → 1 ≤ signalOf network i → signalOf network i - 1 < signalCount network
-  unfolding validLink
-  signal-in i l h = let g = accepted .valid .links i l in let a = leb-true (signalOf network i) (signalCount network) (search (and-left, and-right) depth 9) in omega arith
+  -- the signal of the link that a movement leaves is one of the network
+  signal-in : (j : ℕ) → j < movementCount network → 1 ≤ signalOf network (fromLink network j - 1) → signalOf network (fromLink network j - 1) - 1 < signalCount network
+  signal-in j l h =
+      let m = movement-limits network (accepted .valid) j l in
+      let i : fromLink network j - 1 < linkCount network = omega arith in
+      omega (arith, link-limits network (accepted .valid) (fromLink network j - 1) i .signal-last)
 
   -- the mask of a signal in a step has the phase's bit
   shown-bit : (n r : ℕ) → n < stepCount network → r < signalCount network → shownMask network plan n r ≡ 2 ^ (shownIn network plan n r - 1)
@@ -55,7 +49,7 @@ module _ (network plan : List Line) (accepted : AcceptedPlan network plan) where
   unfolding Shows rule15Moved isOpen opens
   shut n j q h l a b s m =
       let i = fromLink network j - 1 in
-      let bit : 2 ^ (shownIn network plan n (signalOf network i - 1) - 1) ≡ 2 ^ (q - 1) = sym (shown-bit n (signalOf network i - 1) h (signal-in i (from-in j l) a)) ∙ s in
+      let bit : 2 ^ (shownIn network plan n (signalOf network i - 1) - 1) ≡ 2 ^ (q - 1) = sym (shown-bit n (signalOf network i - 1) h (signal-in j l a)) ∙ s in
       let none : phaseMask network i / 2 ^ (shownIn network plan n (signalOf network i - 1) - 1) % 2 ≡ 0 = rw bit m in
       ⊎-elim (λ o. absurd (⊎-elim (λ (e : eqb (signalOf network i) 0 ≡ true). omega (arith, eqb-true)) (λ (e : eqb (phaseMask network i / 2 ^ (shownIn network plan n (signalOf network i - 1) - 1) % 2) 1 ≡ true). omega (arith, eqb-true)) (or-cases _ _ o))) (λ e. eqb-true _ _ e) (or-cases _ _ (and-right _ _ (accepted .lawful n h .keeps15Moved j l)))
 

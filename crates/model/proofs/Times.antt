@@ -1,8 +1,10 @@
 -- Laws of the boundaries' times and of the boundary from which entries have arrived. Assumes nothing.
 use mathlib.Core.Path.{_≡_, refl}
 use mathlib.Core.Bool.{Bool, true, false, cond}
+use mathlib.Core.Logic.{_⊎_, inl, inr}
 use mathlib.Core.List.{List}
-use Prim.Native.Nat.{ℕ, zero, suc, _+_, _-_, _≤_}
+use Prim.Native.Nat.{ℕ, zero, suc, _+_, _-_, _≤_, _<_}
+use native.Mathlib.Nat.{eq-or-lt-of-le}
 use native.Mathlib.Decide.{decLe}
 use native.Mathlib.Omega.{arith}
 use lib.Dec.{leb, ltb}
@@ -47,6 +49,38 @@ module _ (network : List Line) where
   last-boundary-time zero x = unfold time sum in omega arith
   last-boundary-time (suc n) x = elim (decLe (time network (suc n)) x) [ yes h ↦ rw (le-leb _ _ h) h | no h ↦ rw (lt-leb (time network (suc n)) x (omega arith)) (last-boundary-time n x) ]
 
+  -- every boundary by that time is at most it ..
+  pub last-boundary-above : (n x m : ℕ) → m ≤ n → time network m ≤ x → m ≤ lastBoundary network n x
+  unfolding lastBoundary
+  last-boundary-above zero x m h l = h
+  last-boundary-above (suc n) x m h l = elim (decLe (time network (suc n)) x) [
+    | yes u ↦ rw (le-leb _ _ u) h
+    | no u ↦ rw (lt-leb (time network (suc n)) x (omega arith)) (last-boundary-above n x m (before u (eq-or-lt-of-le h)) l)
+  ]
+    where
+      before : ¬ (time network (suc n) ≤ x) → (m ≡ suc n) ⊎ (m < suc n) → m ≤ n
+      before u (inl e) = absurd (u (rw e at l))
+      before u (inr v) = omega arith
+
+  -- .. so the next one is past it, and it moves on with the time and the boundaries
+  pub last-boundary-next : (n x : ℕ) → lastBoundary network n x < n → x < time network (suc (lastBoundary network n x))
+  last-boundary-next n x h = elim (decLe (time network (suc (lastBoundary network n x))) x) [
+    | yes u ↦ absurd (omega (arith, last-boundary-above n x (suc (lastBoundary network n x)) h u))
+    | no u ↦ omega arith
+  ]
+
+  pub last-boundary-mono : (n x n′ x′ : ℕ) → n ≤ n′ → x ≤ x′ → lastBoundary network n x ≤ lastBoundary network n′ x′
+  last-boundary-mono n x n′ x′ h l =
+      last-boundary-above n′ x′ (lastBoundary network n x) (omega (arith, last-boundary-le n x)) (omega (arith, last-boundary-time n x))
+
+  -- a boundary that is by that time, and whose next is not, is it
+  pub last-boundary-is : (n x m : ℕ) → m ≤ n → time network m ≤ x → (m ≡ n) ⊎ (x < time network (suc m)) → lastBoundary network n x ≡ m
+  last-boundary-is n x m h l (inl e) = omega (arith, last-boundary-above n x m h l, last-boundary-le n x)
+  last-boundary-is n x m h l (inr u) = elim (decLe (suc m) (lastBoundary network n x)) [
+    | yes v ↦ absurd (omega (arith, time-mono (suc m) (lastBoundary network n x) v, last-boundary-time n x))
+    | no v ↦ omega (arith, last-boundary-above n x m h l)
+  ]
+
   pub arrival-boundary-le : (n i : ℕ) → arrivalBoundary network n i ≤ n
   unfolding arrivalBoundary
   arrival-boundary-le n i = go (ltb (time network n) (travelTime network i)) (last-boundary-le n (time network n - travelTime network i))
@@ -62,3 +96,14 @@ module _ (network : List Line) where
     | yes h ↦ rw (le-ltb _ _ h) (λ p. omega (arith, last-boundary-time n (time network n - travelTime network i)))
     | no h ↦ rw (lt-ltb (time network n) (travelTime network i) (omega arith)) (λ p. absurd (omega arith))
   ]
+
+  -- the boundary that a cursor comes to
+  pub arrival-boundary-is : (n i m : ℕ) → m ≤ n → time network m + travelTime network i ≤ time network n
+      → (m ≡ n) ⊎ (time network n < time network (suc m) + travelTime network i) → arrivalBoundary network n i ≡ m
+  unfolding arrivalBoundary
+  arrival-boundary-is n i m h l next =
+      rw (le-ltb (time network n) (travelTime network i) (omega arith)) (last-boundary-is n (time network n - travelTime network i) m h (omega arith) (past next))
+    where
+      past : (m ≡ n) ⊎ (time network n < time network (suc m) + travelTime network i) → (m ≡ n) ⊎ (time network n - travelTime network i < time network (suc m))
+      past (inl e) = inl e
+      past (inr u) = inr (omega arith)

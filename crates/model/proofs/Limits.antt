@@ -1,0 +1,64 @@
+-- The limits of a valid network's numbers. Assumes nothing.
+use mathlib.Core.Path.{_≡_}
+use mathlib.Core.Bool.{true}
+use mathlib.Core.List.{List}
+use Prim.Native.Nat.{ℕ, _≤_, _<_}
+use lib.Dec.{leb}
+use borrow.Author.Tests.{leb-true}
+use Rattle.records.specs.Lines.{Line}
+use Rattle.model.specs.Test.{within, every}
+use Rattle.model.specs.Network.{linkCount, signalCount, movementCount, stepCount, capacity, exitRate, signalOf, standing, fromLink, toLink, rate, share, stepLength, demand}
+use Rattle.model.specs.Rules.{validCounts, validLink, validMovement, validStep}
+use Rattle.model.proofs.Tests.{and-left, and-right, every-at}
+use Rattle.model.proofs.Accepted.{ValidNetwork}
+
+pub record Counts (network : List Line) : Type 0 where
+  pub some-link : 1 ≤ linkCount network
+  pub links : linkCount network ≤ 24
+  pub signals : signalCount network ≤ 8
+  pub movements : movementCount network ≤ 64
+  pub some-step : 1 ≤ stepCount network
+  pub steps : stepCount network ≤ 120
+
+pub record LinkLimits (network : List Line) (i : ℕ) : Type 0 where
+  pub capacity-limit : capacity network i ≤ 2_000_000_000
+  pub exit-limit : exitRate network i ≤ 10_000
+  pub signal-last : signalOf network i ≤ signalCount network
+  pub standing-limit : standing network i ≤ capacity network i
+
+pub record MovementLimits (network : List Line) (j : ℕ) : Type 0 where
+  pub from-first : 1 ≤ fromLink network j
+  pub from-last : fromLink network j ≤ linkCount network
+  pub to-first : 1 ≤ toLink network j
+  pub to-last : toLink network j ≤ linkCount network
+  pub rate-limit : rate network j ≤ 10_000
+  pub share-limit : share network j ≤ 1000
+
+pub record StepLimits (network : List Line) (n : ℕ) : Type 0 where
+  pub some-time : 1 ≤ stepLength network n
+  pub length-limit : stepLength network n ≤ 60
+  pub demand-limit : (i : ℕ) → i < linkCount network → demand network n i ≤ 600_000
+
+module _ (network : List Line) (valid : ValidNetwork network) where
+  pub counts : Counts network
+  unfolding validCounts within
+  counts = let v = valid .counts in search (leb-true, and-left, and-right) depth 9
+
+  pub link-limits : (i : ℕ) → i < linkCount network → LinkLimits network i
+  unfolding validLink within
+  link-limits i l = let v = valid .links i l in search (leb-true, and-left, and-right) depth 9
+
+  pub movement-limits : (j : ℕ) → j < movementCount network → MovementLimits network j
+  unfolding validMovement within
+  movement-limits j l = let v = valid .movements j l in search (leb-true, and-left, and-right) depth 9
+
+  pub step-limits : (n : ℕ) → n < stepCount network → StepLimits network n
+  unfolding validStep within
+  step-limits n l =
+      let v = valid .steps n l in
+      let d : every (linkCount network) (λ i. leb (demand network n i) 600_000) ≡ true = and-right _ _ v in
+      record {
+        some-time = search (leb-true, and-left, and-right) depth 9;
+        length-limit = search (leb-true, and-left, and-right) depth 9;
+        demand-limit = λ i k. leb-true _ _ (every-at (linkCount network) (λ i. leb (demand network n i) 600_000) d i k);
+      }
