@@ -81,7 +81,7 @@ module _ (b : ℕ) (bs : List ℕ) (h : b ≢ 10) where
     unfolding first
     first-on = rw (piece-on, split-on 9 b (piece bs) g)
 
-    pub others-on : others (b ∷ bs) ≡ others bs
+    others-on : others (b ∷ bs) ≡ others bs
     unfolding others
     others-on = rw (piece-on, split-on 9 b (piece bs) g)
 

@@ -1,25 +1,18 @@
--- A loop that reads values one after another into a list that it was lent: what such a loop has done when k values are stored and the next is to be read from the state s.
--- `vals n s` are the values that at most n steps from s give, and `res n s` is the answer of at most n steps from s. Assumes nothing.
+-- A loop that reads values one after another into a list that it was lent: what it has done when k values are stored and the next is to be read from
+-- the state s. `vals n s` are the values that at most n steps from s give, and `res n s` is the answer of at most n steps from s. Assumes nothing.
 use Prim.Native.Nat.{ℕ, suc, _+_, _-_, _≤_, _<_}
 use mathlib.Core.Path.{_≡_, refl, sym, _∙_}
-use mathlib.Core.List.{List, [], _∷_, _++_, append-nil}
+use mathlib.Core.List.{List, [], _∷_, _++_}
 use native.Mathlib.Numerals.{add-one}
 use native.Mathlib.Nat.{sub-zero}
 use native.Mathlib.Omega.{arith}
-use lib.ListN.{length, take, drop, set, take-append-drop, length-set, drop-of-length-le}
+use lib.ListN.{length, take, drop, set, take-append-drop, length-set}
 use lib.Seq.{drop-cons, take-suc-set, drop-set-lt, append-snoc}
 use Rattle.records.specs.Reading.{over, Got}
 
 pub over-none : (old : List ℕ) → over [] old ≡ old
 unfolding over
 over-none old = refl
-
--- a list that is written over whole is what was written
-pub over-all : (vs old : List ℕ) → length vs ≡ length old → over vs old ≡ vs
-unfolding over
-over-all vs old e =
-    let h : length old ≤ length vs = omega arith in
-    rw (drop-of-length-le old h, append-nil)
 
 -- one value more is written over the rest at k
 over-more : (v : ℕ) (vs old : List ℕ) (k : ℕ) → k < length old
@@ -50,7 +43,8 @@ module _ {S R : Type 0} (vals : ℕ → S → List ℕ) (res : ℕ → S → R) 
       left h = omega arith
 
       -- a step gives a value, which is stored
-      pub filled-more : (v : ℕ) (t : S) → k < length out → ((n : ℕ) → (vals (suc n) s ≡ v ∷ vals n t) × (res (suc n) s ≡ res n t)) → Filled s₀ out₀ (set out k v) t (k + 1)
+      pub filled-more : (v : ℕ) (t : S) → k < length out
+          → ((n : ℕ) → (vals (suc n) s ≡ v ∷ vals n t) × (res (suc n) s ≡ res n t)) → Filled s₀ out₀ (set out k v) t (k + 1)
       filled-more v t h step =
           let n = length out₀ - (k + 1) in
           record {
@@ -61,7 +55,8 @@ module _ {S R : Type 0} (vals : ℕ → S → List ℕ) (res : ℕ → S → R) 
           }
 
       -- a step gives no value: the answer is r
-      pub filled-stop : (r : R) → k < length out → ((n : ℕ) → (vals (suc n) s ≡ []) × (res (suc n) s ≡ r)) → Got (res (length out₀) s₀) (vals (length out₀) s₀) out₀ r out
+      pub filled-stop : (r : R) → k < length out
+          → ((n : ℕ) → (vals (suc n) s ≡ []) × (res (suc n) s ≡ r)) → Got (res (length out₀) s₀) (vals (length out₀) s₀) out₀ r out
       filled-stop r h step =
           let n = length out₀ - (k + 1) in
           record {

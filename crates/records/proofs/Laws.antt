@@ -2,20 +2,21 @@
 use Prim.Native.Nat.{ℕ, zero, suc, _+_, _-_, _≤_, _<_}
 use mathlib.Core.Path.{_≡_, refl, sym, ap, _∙_}
 use mathlib.Core.Bool.{Bool, true, false, cond, _&&_, and-eq-true-iff}
-use mathlib.Core.List.{List, [], _∷_}
+use mathlib.Core.List.{List, [], _∷_, append-nil}
 use native.Mathlib.Numerals.{add-one}
 use native.Mathlib.Nat.{add-zero}
 use native.Mathlib.Decide.{decLe}
 use native.Mathlib.Omega.{arith}
 use borrow.Author.Tests.{eqb-true, eqb-false, eq-eqb, ne-eqb, leb-true, le-leb}
 use lib.Dec.{eqb, leb}
-use lib.ListN.{length, take, drop, getD, length-drop, List·getD-eq-default}
+use lib.ListN.{length, take, drop, getD, length-drop, drop-of-length-le, List·getD-eq-default}
 use lib.Seq.{drop-drop, getD-drop}
 use Rattle.records.specs.declared.Field.{Field}
 use Rattle.records.specs.declared.Field.the-variants.{Number, NoNumber}
+use Rattle.records.specs.declared.LineRead.{LineRead}
 use Rattle.records.specs.declared.LineRead.the-variants.{Next, Malformed}
 use Rattle.records.specs.Lines.{Line, lines, noLine, isNumber, allNumbers, isRecord, startsAs, numberOf, number}
-use Rattle.records.specs.Reading.{lineAt, nextLine, leading, leadingAs, recordAt, atEnd, Starts}
+use Rattle.records.specs.Reading.{lineAt, nextLine, leading, leadingAs, over, recordAt, atEnd, Starts, Got}
 use Rattle.records.proofs.Bytes.{piece, lines-next, piece-within}
 use Rattle.records.proofs.Places.{line-ended, next-piece}
 
@@ -113,6 +114,27 @@ module _ (letter n : ℕ) (text : List ℕ) (at : ℕ) where
       go : (t : Bool) → cond t (Next (nextLine text at)) Malformed ≡ Malformed → t ≡ false
       go true q = cc
       go false q = refl
+
+-- a list that is written over whole is what was written
+pub over-all : (vs old : List ℕ) → length vs ≡ length old → over vs old ≡ vs
+unfolding over
+over-all vs old e =
+    let h : length old ≤ length vs = omega arith in
+    rw (drop-of-length-le old h, append-nil)
+
+-- what a slice holds after a line, or the beginning of one, was read into it
+module _ (letter : ℕ) (text : List ℕ) (at : ℕ) (old out : List ℕ) where
+  pub got-record : (r : LineRead) (next : ℕ)
+      → Got (recordAt letter (length old) text at) (leadingAs letter (length old) (lineAt text at)) old r out → r ≡ Next next → Numbered (length old) (lineAt text at) out
+  got-record r next g e =
+      let n = record-numbers letter (length old) (lineAt text at) (record-read letter (length old) text at next (sym (g .told) ∙ e) .is-record) in
+      rw (g .holds, over-all _ old (n .count)) n
+
+  pub got-head : (r : Bool)
+      → Got (startsAs letter (length old) (lineAt text at)) (leadingAs letter (length old) (lineAt text at)) old r out → r ≡ true → Numbered (length old) (lineAt text at) out
+  got-head r g e =
+      let n = head-numbers letter (length old) (lineAt text at) (sym (g .told) ∙ e) in
+      rw (g .holds, over-all _ old (n .count)) n
 
 -- ---- from line to line
 pub starts-first : (text : List ℕ) → Starts text 0 0

@@ -5,3 +5,5 @@ pub mod Fill
 pub mod Laws
 mod Tests
 mod Turns
+mod Texts
+mod Examples

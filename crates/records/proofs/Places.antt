@@ -27,7 +27,7 @@ module _ (text : List ℕ) (at : ℕ) where
   unfolding lineAt lineOf fieldAt piece
   line-letter = ap (λ (l : Line). l .letter) (line-first (drop at text))
 
-  pub line-fields : lineAt text at .fields ≡ others (drop at text)
+  line-fields : lineAt text at .fields ≡ others (drop at text)
   unfolding lineAt lineOf others
   line-fields = ap (λ (l : Line). l .fields) (line-first (drop at text))
 
@@ -72,10 +72,10 @@ unfolding fieldAt first piece
 field-within text at h = omega (arith, first-within (drop at text), length-drop at text)
 
 -- ---- how the line goes on from a place to another: its fields from the first place on are fs
-pub record Onward (text : List ℕ) (at there : ℕ) (fs : List Field) : Type 0 where
-  pub fields : lineAt text at .fields ≡ fs
-  pub ended : lineAt text at .ended ≡ lineAt text there .ended
-  pub next : nextLine text at ≡ nextLine text there
+record Onward (text : List ℕ) (at there : ℕ) (fs : List Field) : Type 0 where
+  fields : lineAt text at .fields ≡ fs
+  ended : lineAt text at .ended ≡ lineAt text there .ended
+  next : nextLine text at ≡ nextLine text there
 
 -- past the field in which it starts
 module _ (text : List ℕ) (at : ℕ) where
@@ -83,7 +83,7 @@ module _ (text : List ℕ) (at : ℕ) where
   unfolding fieldAt first piece
   past = rw (drop-drop (length (fieldAt text at)) at text) at (past-first (drop at text))
 
-  pub past-field : Onward text at (endOf text at) (lineAt text (endOf text at) .fields)
+  past-field : Onward text at (endOf text at) (lineAt text (endOf text at) .fields)
   past-field =
       record {
         fields = line-fields text at ∙ past .same-others ∙ sym (line-fields text (endOf text at));
@@ -96,7 +96,7 @@ module _ (text : List ℕ) (at : ℕ) where
   end-stops = past .stops
 
 -- past a tab
-pub past-tab : (text : List ℕ) (at : ℕ) → at < length text → getD text at 0 ≡ 9
+past-tab : (text : List ℕ) (at : ℕ) → at < length text → getD text at 0 ≡ 9
     → Onward text at (at + 1) (fieldOf (fieldAt text (at + 1)) ∷ lineAt text (at + 1) .fields)
 unfolding fieldAt first
 past-tab text at h e =
@@ -139,7 +139,7 @@ module _ (text : List ℕ) (at : ℕ) where
   tab-within : getD text at 0 ≡ 9 → at < length text
   tab-within e = elim (decLe (length text) at) [ yes h ↦ omega (arith, List·getD-eq-default text 0 h) | no h ↦ omega arith ]
 
-  pub past-tabbed : getD text at 0 ≡ 9
+  past-tabbed : getD text at 0 ≡ 9
       → Onward text at (endOf text (at + 1)) (fieldOf (fieldAt text (at + 1)) ∷ lineAt text (endOf text (at + 1)) .fields)
   past-tabbed e =
       let tab = past-tab text at (tab-within e) e in
@@ -151,7 +151,7 @@ module _ (text : List ℕ) (at : ℕ) where
       }
 
   -- a field that is empty where no tab stands is the line's last
-  pub past-none : fieldAt text at ≡ [] → getD text at 0 ≢ 9 → lineAt text at .fields ≡ []
+  past-none : fieldAt text at ≡ [] → getD text at 0 ≢ 9 → lineAt text at .fields ≡ []
   past-none s g = line-fields text at ∙ elim (decLe (length text) at) [
     | yes h ↦ rw (drop-of-length-le text h) (unfold others split piece in refl)
     | no h ↦ elim (ℕ-discrete (getD text at 0) 10) [
@@ -167,8 +167,8 @@ module _ (text : List ℕ) (at v next : ℕ) (e : tabbedAt text at ≡ Found v n
   unfolding tabbedAt located
   found = go (eqb (getD text at 0) 9) refl (fieldOf (fieldAt text (at + 1))) refl e
     where
-      go : (t : Bool) → eqb (getD text at 0) 9 ≡ t → (f : Field) → fieldOf (fieldAt text (at + 1)) ≡ f → cond t (located (at + 1 + length (fieldAt text (at + 1))) f) Absent ≡ Found v next
-          → Onward text at next (Number v ∷ lineAt text next .fields) × (fieldAt text next ≡ [])
+      go : (t : Bool) → eqb (getD text at 0) 9 ≡ t → (f : Field) → fieldOf (fieldAt text (at + 1)) ≡ f
+          → cond t (located (endOf text (at + 1)) f) Absent ≡ Found v next → Onward text at next (Number v ∷ lineAt text next .fields) × (fieldAt text next ≡ [])
       go true et (Number w) ef q =
           let same : fieldOf (fieldAt text (at + 1)) ≡ Number v = cc in
           let end : endOf text (at + 1) ≡ next = cc in
@@ -176,7 +176,8 @@ module _ (text : List ℕ) (at v next : ℕ) (e : tabbedAt text at ≡ Found v n
       go true et NoNumber ef q = let z : _≡_ {A = ℕ} 0 1 = cc in absurd (omega arith)
       go false et f ef q = let z : _≡_ {A = ℕ} 0 1 = cc in absurd (omega arith)
 
-  pub found-reads : (n : ℕ) → (leading (suc n) (lineAt text at .fields) ≡ v ∷ leading n (lineAt text next .fields)) × (numbersAt (suc n) text at ≡ numbersAt n text next)
+  pub found-reads : (n : ℕ)
+      → (leading (suc n) (lineAt text at .fields) ≡ v ∷ leading n (lineAt text next .fields)) × (numbersAt (suc n) text at ≡ numbersAt n text next)
   unfolding leading
   found-reads n = (
     rw (found .0 .fields),
@@ -193,9 +194,12 @@ unfolding tabbedAt located leading
 absent-reads text at s e n = rw (numbers-of (suc n) text at) (go (eqb (getD text at 0) 9) refl (fieldOf (fieldAt text (at + 1))) refl e)
   where
     Reads : Type 0
-    Reads = (leading (suc n) (lineAt text at .fields) ≡ []) × (numbersOf (suc n) (lineAt text at .fields) (lineAt text at .ended) (nextLine text at) ≡ Missing)
+    Reads =
+        (leading (suc n) (lineAt text at .fields) ≡ [])
+        × (numbersOf (suc n) (lineAt text at .fields) (lineAt text at .ended) (nextLine text at) ≡ Missing)
 
-    go : (t : Bool) → eqb (getD text at 0) 9 ≡ t → (f : Field) → fieldOf (fieldAt text (at + 1)) ≡ f → cond t (located (at + 1 + length (fieldAt text (at + 1))) f) Absent ≡ Absent → Reads
+    go : (t : Bool) → eqb (getD text at 0) 9 ≡ t → (f : Field) → fieldOf (fieldAt text (at + 1)) ≡ f
+        → cond t (located (endOf text (at + 1)) f) Absent ≡ Absent → Reads
     go true et NoNumber ef q =
         let on = rw ef at (past-tabbed text at (eqb-true (getD text at 0) 9 et)) in
         rw (on .fields) (refl, numbers-not _ _ _ n)

@@ -1,4 +1,5 @@
--- The laws of the functions that go by places, each in the form of a need: what a loop's head, the tests and the calls say gives what is asked. Assumes nothing.
+-- The laws of the functions that go by places, each in the form of a need: what a loop's head, the tests and the calls say gives what is asked.
+-- Assumes nothing.
 use Prim.Native.Nat.{ℕ, suc, _+_, _-_, _≤_, _<_}
 use mathlib.Core.Path.{_≡_, refl, sym, ap, _∙_}
 use mathlib.Core.Logic.{_≢_}
@@ -132,7 +133,8 @@ module _ (text : List ℕ) (at : ℕ) (out₀ out : List ℕ) (i k : ℕ) (inv :
       }
 
   pub stored-stop : (r : Tabbed) → k < length out → r ≡ tabbedAt text i → r ≡ Absent → GotNumbers text at out₀ Missing out
-  stored-stop r h e g = filled-stop (numbersFrom text) (answerFrom text) at out₀ out i k (inv .filled) Missing h (absent-reads text i (inv .stops) (sym e ∙ g))
+  stored-stop r h e g =
+      filled-stop (numbersFrom text) (answerFrom text) at out₀ out i k (inv .filled) Missing h (absent-reads text i (inv .stops) (sym e ∙ g))
 
   module _ (h : length out ≤ k) where
     all : (r : Numbers) → numbersAt 0 text i ≡ r → GotNumbers text at out₀ r out
@@ -167,7 +169,8 @@ module _ (letter n : ℕ) (text : List ℕ) (at : ℕ) where
   other-letter e = (rw (e, and-false), rw e, rw e)
 
   own-letter : eqb (lineAt text at .letter) letter ≡ true
-      → (recordAt letter n text at ≡ toLine (numbersAt n text at)) × (startsAs letter n (lineAt text at) ≡ toHead (numbersAt n text at)) × (leadingAs letter n (lineAt text at) ≡ leading n (lineAt text at .fields))
+      → (recordAt letter n text at ≡ toLine (numbersAt n text at)) × (startsAs letter n (lineAt text at) ≡ toHead (numbersAt n text at))
+      × (leadingAs letter n (lineAt text at) ≡ leading n (lineAt text at .fields))
   unfolding recordAt numbersAt leadingAs
   own-letter e =
       let own = eqb-true (lineAt text at .letter) letter e in (

@@ -73,4 +73,5 @@ tabbedAt text at =
 -- whether n numbers are the last of the line at a place, more follows them, or one is missing, whatever the line's letter
 unfoldable pub numbersAt : ℕ → List ℕ → ℕ → Numbers
 numbersAt n text at =
-    cond (isRecord (lineAt text at .letter) n (lineAt text at)) (Last (nextLine text at)) (cond (startsAs (lineAt text at .letter) n (lineAt text at)) More Missing)
+    cond (isRecord (lineAt text at .letter) n (lineAt text at)) (Last (nextLine text at))
+    (cond (startsAs (lineAt text at .letter) n (lineAt text at)) More Missing)

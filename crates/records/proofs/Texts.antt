@@ -1,0 +1,9 @@
+-- A quoted text as its bytes, for worked examples in ASCII. Assumes nothing.
+use Prim.Native.Nat.{ℕ}
+use Prim.Native.Char.{code}
+use Prim.Native.String.{String, [] as nil, _∷_ as _then_}
+use mathlib.Core.List.{List, [], _∷_}
+
+abbrev pub bytes : String → List ℕ
+bytes nil = []
+bytes (_then_ c s) = code c ∷ bytes s
