@@ -2,6 +2,8 @@ pub mod Opened
 pub mod Texts
 pub mod Cases
 pub mod Tables
+pub mod MoreCases
+pub mod LedgerCases
 pub mod Tests
 pub mod Accepted
 pub mod Limits
