@@ -67,6 +67,7 @@ pub fn number_of(bytes: &[u8]) -> Field
             return Field::NoNumber;
         }
         value = value * 10 + (b - 48) as u64;
+        // More digits never bring a number down, so it is given up here and cannot wrap.
         if 4294967295 < value {
             return Field::NoNumber;
         }
@@ -109,7 +110,7 @@ fn tabbed_at(text: &[u8], at: usize) -> Tabbed
     }
 }
 
-// Reads the numbers after the field in which `at` stands.
+// Reads the numbers after the field that starts at a place.
 fn numbers_at(text: &[u8], at: usize, out: &mut [u32]) -> Numbers
     ensures { λ r. ⌜ Got (numbersAt (length (now (out .entry))) (now (text .entry)) at)
         (leading (length (now (out .entry))) (lineAt (now (text .entry)) at .fields))

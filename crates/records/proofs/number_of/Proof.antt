@@ -56,7 +56,7 @@ add-value : tie.Need-add-value Inv-loop μ-loop
 add-value c = omega (arith, digit-bounds _ _ (c .before .is-digit .ensures) (c .if4 .left))
 
 returns-5 : tie.Need-returns-5 Inv-loop μ-loop
-returns-5 c = search (said-big, needs)
+returns-5 c = search said-big
 
 add-i : tie.Need-add-i Inv-loop μ-loop
 add-i c = search needs
