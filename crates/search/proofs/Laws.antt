@@ -1,6 +1,6 @@
 -- The laws of checks in order: they pass exactly when all hold, and a refusal is that of the first broken check. A loop that takes them one by one meets
 -- one law for each way through a turn: it stops at a broken check, goes on past one that holds, or has come to the end. Assumes nothing.
-use mathlib.Core.Path.{_≡_, refl, sym, ap, _∙_}
+use mathlib.Core.Path.{_≡_, refl, sym, ap, ap₂, _∙_}
 use mathlib.Core.Bool.{Bool, true, false}
 use mathlib.Core.Logic.{_⊎_, inl, inr, _↔_}
 use Prim.Native.Nat.{ℕ, zero, suc, _+_, _-_, _≤_, _<_}
@@ -33,6 +33,11 @@ or-else-which : (v w : Verdict) (x y z : ℕ) → orElse v w ≡ refused x y z �
 unfolding orElse
 or-else-which passes w x y z h = inr (refl, h)
 or-else-which (refused u v t) w x y z h = inl h
+
+or-else-assoc : (u v w : Verdict) → orElse (orElse u v) w ≡ orElse u (orElse v w)
+unfolding orElse
+or-else-assoc passes v w = refl
+or-else-assoc (refused x y z) v w = refl
 
 -- ---- a turn of a loop over rising indices: e is where it ends, i where it is
 module _ (f : ℕ → Verdict) (e i : ℕ) where
@@ -88,16 +93,48 @@ from-which f (suc n) i x y z h = go (or-else-which (f i) (firstFrom f n (i + 1))
         before p q j l u (inl e) = ap f (sym e) ∙ p
         before p q j l u (inr s) = q j (omega arith) u
 
+-- a search in two parts: those that come first, and those after them
+pub first-split : (f : ℕ → Verdict) (a b i : ℕ) → firstFrom f (a + b) i ≡ orElse (firstFrom f a i) (firstFrom f b (i + a))
+unfolding firstFrom orElse
+first-split f zero b i = let e : 0 + b ≡ b = omega arith in let z : i + 0 ≡ i = omega arith in rw (e, z)
+first-split f (suc a) b i =
+    let e : suc a + b ≡ suc (a + b) = omega arith in
+    let z : i + suc a ≡ i + 1 + a = omega arith in
+    rw (e, z) (ap (orElse (f i)) (first-split f a b (i + 1)) ∙ sym (or-else-assoc (f i) (firstFrom f a (i + 1)) (firstFrom f b (i + 1 + a))))
+
+-- searches that agree at every index
+pub first-same : (f g : ℕ → Verdict) (n i : ℕ) → ((k : ℕ) → i ≤ k → k < i + n → f k ≡ g k) → firstFrom f n i ≡ firstFrom g n i
+unfolding firstFrom
+first-same f g zero i h = refl
+first-same f g (suc n) i h =
+    ap₂ orElse (h i (omega arith) (omega arith)) (first-same f g n (i + 1) (λ k l u. h k (omega arith) (omega arith)))
+
+-- all verdicts below n pass, and the next is a refusal
+pub first-stop : (f : ℕ → Verdict) (n m x y z : ℕ) → ((k : ℕ) → k < m → f k ≡ passes) → m < n → f m ≡ refused x y z → firstFrom f n 0 ≡ refused x y z
+first-stop f n m x y z h l r =
+    let e : n ≡ m + (n - m) = omega arith in
+    let o : 0 + m ≡ m = omega arith in
+    let p = all-from f m 0 (λ k _ u. h k (omega arith)) in
+    ap (λ k. firstFrom f k 0) e ∙ first-split f m (n - m) 0 ∙ or-else-passes (firstFrom f m 0) _ p ∙ ap (firstFrom f (n - m)) o ∙ first-hit f n m x y z l r
+
+pub first-passes : (f : ℕ → Verdict) (n : ℕ) → ((k : ℕ) → k < n → f k ≡ passes) → firstFrom f n 0 ≡ passes
+first-passes f n h = all-from f n 0 (λ k l u. h k (omega arith))
+
 -- ---- the two theorems of all checks
-checked-true : (b : Bool) (x y z : ℕ) → checked b x y z ≡ passes → b ≡ true
+pub checked-true : (b : Bool) (x y z : ℕ) → checked b x y z ≡ passes → b ≡ true
 unfolding checked
 checked-true true x y z h = refl
 checked-true false x y z h = cc
 
-checked-passes : (b : Bool) (x y z : ℕ) → b ≡ true → checked b x y z ≡ passes
+pub checked-passes : (b : Bool) (x y z : ℕ) → b ≡ true → checked b x y z ≡ passes
 unfolding checked
 checked-passes true x y z h = refl
 checked-passes false x y z h = cc
+
+pub checked-refused : (b : Bool) (x y z : ℕ) → b ≡ false → checked b x y z ≡ refused x y z
+unfolding checked
+checked-refused true x y z h = cc
+checked-refused false x y z h = refl
 
 checked-which : (b : Bool) (u v w x y z : ℕ) → checked b u v w ≡ refused x y z → (b ≡ false) × (x ≡ u) × (y ≡ v) × (z ≡ w)
 unfolding checked
