@@ -51,30 +51,29 @@ pub record Keeps15 (network plan : List Line) (n : ℕ) : Type 0 where
 pub lawful-keeps15 : {network plan : List Line} {n : ℕ} → LawfulStep network plan n → Keeps15 network plan n
 lawful-keeps15 l = record { admissions = l .keeps15Admitted; exits = l .keeps15LetOut; movements = l .keeps15Moved }
 
+-- the pair (from, to) of movement k is above that of movement j
+abbrev Above : List Line → ℕ → ℕ → Type 0
+Above network j k = (fromLink network j < fromLink network k) ⊎ ((fromLink network j ≡ fromLink network k) × (toLink network j < toLink network k))
+
 module _ (network plan : List Line) (holds : Hold (networkChecks network)) where
   valid : ValidNetwork network
   valid = valid-network network holds
 
-  -- the pair of a later movement is above that of an earlier
-  pair-rises : (j k : ℕ) → j < k → k < movementCount network
-      → (fromLink network j < fromLink network k) ⊎ ((fromLink network j ≡ fromLink network k) × (toLink network j < toLink network k))
+  pair-rises : (j k : ℕ) → j < k → k < movementCount network → Above network j k
   unfolding validMovement pairRises
   pair-rises j zero h l = absurd (omega arith)
   pair-rises j (suc k) h l = go (eq-or-lt-of-le h) (pair-rises j k)
     where
-      Above : ℕ → ℕ → Type 0
-      Above j k = (fromLink network j < fromLink network k) ⊎ ((fromLink network j ≡ fromLink network k) × (toLink network j < toLink network k))
-
-      last : Above k (suc k)
+      last : Above network k (suc k)
       last = ⊎-elim (λ e. inl (ltb-true _ _ e)) (λ e. inr (eqb-true _ _ (and-left _ _ e), ltb-true _ _ (and-right _ _ e))) (or-cases _ _ (and-right _ _ (valid .movements (suc k) l)))
 
-      both : Above j k → Above k (suc k) → Above j (suc k)
+      both : Above network j k → Above network k (suc k) → Above network j (suc k)
       both (inl a) (inl b) = inl (omega arith)
       both (inl a) (inr b) = inl (omega arith)
       both (inr a) (inl b) = inl (omega arith)
       both (inr a) (inr b) = inr (omega arith)
 
-      go : (suc j ≡ suc k) ⊎ (suc j < suc k) → (j < k → k < movementCount network → Above j k) → Above j (suc k)
+      go : (suc j ≡ suc k) ⊎ (suc j < suc k) → (j < k → k < movementCount network → Above network j k) → Above network j (suc k)
       go (inl e) ih = let i : j ≡ k = omega arith in rw i last
       go (inr u) ih = both (ih (omega arith) (omega arith)) last
 
@@ -94,8 +93,7 @@ module _ (network plan : List Line) (holds : Hold (networkChecks network)) where
         (λ j u e. omega (arith, movement-limits network valid j u, counts network valid .links))
         moved-small
       where
-        rise : (j k : ℕ) → toLink network j ≡ suc i → toLink network k ≡ suc i
-            → (fromLink network j < fromLink network k) ⊎ ((fromLink network j ≡ fromLink network k) × (toLink network j < toLink network k)) → fromLink network j < fromLink network k
+        rise : (j k : ℕ) → toLink network j ≡ suc i → toLink network k ≡ suc i → Above network j k → fromLink network j < fromLink network k
         rise j k e f (inl a) = a
         rise j k e f (inr a) = absurd (omega arith)
 
@@ -107,8 +105,7 @@ module _ (network plan : List Line) (holds : Hold (networkChecks network)) where
         (λ j u e. omega (arith, movement-limits network valid j u, counts network valid .links))
         moved-small
       where
-        rise : (j k : ℕ) → fromLink network j ≡ suc i → fromLink network k ≡ suc i
-            → (fromLink network j < fromLink network k) ⊎ ((fromLink network j ≡ fromLink network k) × (toLink network j < toLink network k)) → toLink network j < toLink network k
+        rise : (j k : ℕ) → fromLink network j ≡ suc i → fromLink network k ≡ suc i → Above network j k → toLink network j < toLink network k
         rise j k e f (inl a) = absurd (omega arith)
         rise j k e f (inr a) = a .1
 

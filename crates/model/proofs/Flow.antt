@@ -31,7 +31,7 @@ module _ (network plan : List Line) where
   abbrev early : ℕ → ℕ → ℕ → ℕ
   early n i m = only (leb (time network (suc m) + travelTime network i) (time network n)) (inflow network plan m i)
 
-  pub arrived-early : (n i : ℕ) → arrived network plan n i ≤ standing network i + sum n (early n i)
+  arrived-early : (n i : ℕ) → arrived network plan n i ≤ standing network i + sum n (early n i)
   unfolding arrived entered
   arrived-early n i =
       let A = arrivalBoundary network n i in

@@ -18,6 +18,7 @@ pub mod TravelTime
 pub mod Phases
 pub mod Order
 pub mod Shown
+pub mod Shut
 pub mod Red
 pub mod Once
 pub mod Promises

@@ -20,7 +20,7 @@ module _ (network plan : List Line) (r : ℕ) where
   pub green-phase : {q a b : ℕ} → Green network plan r q a b → (n : ℕ) → a ≤ n → n ≤ b → phase network plan r n ≡ q
   green-phase {q} g n h l = phase-of-shows network plan r q n (g .first-phase) (g .last-phase) (g .shows n h l)
 
-  -- and lasts its steps
+  -- greens follow one another
   pub greens-rise : {b c : ℕ} {qs : List ℕ} → Greens network plan r b c qs → b ≤ c
   greens-rise done = le-refl _
   greens-rise (more g gs) = omega (arith, g .some-step, greens-rise gs)
