@@ -1,2 +1,3 @@
-pub mod Links
+mod Links
 pub mod Movements
+mod Rows

@@ -1,2 +1,4 @@
 pub mod Links
 pub mod Movements
+pub mod Rows
+pub mod Stages

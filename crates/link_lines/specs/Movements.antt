@@ -1,11 +1,11 @@
 -- The tests of movements by a table of the four numbers of each `M` line: from link, to link, rate, share. Assumes nothing.
-use Prim.Native.Nat.{ℕ, zero, suc, _+_, _-_, _*_, _≤_, _<_}
+use Prim.Native.Nat.{ℕ, zero, suc, _+_, _-_, _*_, _≤_}
 use mathlib.Core.Path.{_≡_}
 use mathlib.Core.Bool.{Bool, not, cond}
 use mathlib.Core.List.{List}
-use lib.Dec.{leb, ltb, eqb}
+use lib.Dec.{ltb, eqb}
 use lib.ListN.{length, getD}
-use Rattle.search.specs.Checks.{Checks, check, each}
+use Rattle.search.specs.Checks.{Checks, check, each, verdict, firstFrom}
 use Rattle.model.specs.declared.Counts.{Counts}
 use Rattle.model.specs.Test.{_and_, _or_, within}
 use Rattle.model.specs.Sum.{sum, only}
@@ -37,13 +37,18 @@ sharesFrom movements m link = sum m (λ j. only (eqb (getD movements (4 * j) 0) 
 unfoldable pub sharesValid : List ℕ → ℕ → ℕ → Bool
 sharesValid movements m link = eqb (lastFrom movements m link) 0 or eqb (sharesFrom movements m link) 1000
 
--- by rising link, told at its last movement
-unfoldable pub sharesChecks : List ℕ → Counts → Checks
-sharesChecks movements counts =
-    each (counts .links)
-    (λ i. check 5 (1 + counts .signals + counts .links + lastFrom movements (counts .movements) (suc i)) (lastFrom movements (counts .movements) (suc i)) (sharesValid movements (counts .movements) (suc i)))
+-- told at the link's last movement, whose line from 1 stands past the `N`, `G` and `Q` lines
+unfoldable pub shareChecksOf : List ℕ → Counts → ℕ → Checks
+shareChecksOf movements counts i =
+    check 5 (1 + counts .signals + counts .links + lastFrom movements (counts .movements) (suc i)) (lastFrom movements (counts .movements) (suc i))
+    (sharesValid movements (counts .movements) (suc i))
 
 -- the first m movements stand in the table
 pub record MovementsKnown (movements : List ℕ) (m : ℕ) : Type 0 where
   pub room : length movements ≡ 256
   pub few : m ≤ 64
+
+-- the shares of the first i links are whole
+pub record SharesWhole (movements : List ℕ) (counts : Counts) (i : ℕ) : Type 0 where
+  pub within : i ≤ counts .links
+  pub left : verdict (each (counts .links) (shareChecksOf movements counts)) ≡ firstFrom (λ k. verdict (shareChecksOf movements counts k)) (counts .links - i) i

@@ -1,20 +1,43 @@
 // The `Q` and `M` lines of a network text and the sums of the shares: refusals 1, 4 and 5.
+use model::Counts;
+use model::Stage;
+use records::LineRead;
 ghost use mathlib.Core.Path.{_≡_};
-ghost use Prim.Native.Nat.{_+_, _*_, _≤_, _<_};
-ghost use lib.ListN.{length, getD};
+ghost use Prim.Native.Nat.{_+_, _≤_, _<_};
+ghost use lib.ListN.{length};
+ghost use Rattle.link_lines.specs.Rows.{RowRead};
 ghost use Rattle.link_lines.specs.Links.{maskValid, linkValid, PhasesKnown, LinkAsked};
-ghost use Rattle.link_lines.specs.Movements.{pairAbove, movementValid, lastFrom, sharesFrom, sharesValid, MovementsKnown};
+ghost use Rattle.link_lines.specs.Movements.{pairAbove, movementValid, lastFrom, sharesFrom, MovementsKnown};
+ghost use Rattle.link_lines.specs.Stages.{LinksAsked, LinksRead, MovementsAsked, MovementsRead, SharesAsked, SharesJudged};
 
+// A number as an index.
 fn index(x: u32) -> usize
     ensures { λ r. ⌜ r ≡ x ⌝ }
 {
     x as usize
 }
 
+// A number in 64 bits, in which sums of a few fit.
 fn wide(x: u32) -> u64
     ensures { λ r. ⌜ (r ≡ x) × (r < 4294967296) ⌝ }
 {
     x as u64
+}
+
+// Reads a line of `width` numbers into the table's row that starts at `start`.
+fn read_row(
+    text: &[u8],
+    at: usize,
+    letter: u8,
+    table: &mut [u32],
+    start: usize,
+    width: usize,
+) -> LineRead
+    requires { ⌜ start + width ≤ length (now table) ⌝ }
+    ensures { λ r. ⌜ RowRead letter width (now (text .entry)) at start (now (table .entry)) r (now (table .exit)) ⌝ }
+{
+    let end = start + width;
+    records::line_at(text, at, letter, &mut table[start..end])
 }
 
 // Refusal 4: a link without a signal has no phase; one with a signal has a phase, and none above the signal's number of phases.
@@ -43,6 +66,48 @@ fn valid_link(link: &[u32], signals: usize, phases: &[u32]) -> bool
         & (link[2] <= 10000)
         & valid_mask(link[4], signal, phases)
         & (link[5] <= link[0])
+}
+
+// The `Q` lines: each line's form (refusal 1), then its values (refusal 4). Its numbers go straight into the row of its link.
+pub fn read_links(
+    text: &[u8],
+    at: usize,
+    counts: Counts,
+    phases: &[u32],
+    links: &mut [u32],
+) -> Stage
+    requires { ⌜ LinksAsked (now text) at counts (now phases) (now links) ⌝ }
+    ensures { λ r. ⌜ LinksRead (now (text .entry)) r (now (links .exit)) ⌝ }
+{
+    let mut place = at;
+    let mut i = 0;
+    while i < counts.links {
+        let line = (2 + counts.signals + i) as u32;
+        let start = 6 * i;
+        match read_row(text, place, b'Q', links, start, 6) {
+            LineRead::Next(next) => {
+                place = next;
+            }
+            LineRead::Malformed => {
+                return Stage::Stopped {
+                    number: 1,
+                    line,
+                    item: 0,
+                };
+            }
+        }
+        let end = start + 6;
+        if !valid_link(&links[start..end], counts.signals, phases) {
+            let item = (i + 1) as u32;
+            return Stage::Stopped {
+                number: 4,
+                line,
+                item,
+            };
+        }
+        i += 1;
+    }
+    Stage::Passed(place)
 }
 
 // Refusal 5: the pair (from, to) of movement `j` is above that of the movement before.
@@ -77,6 +142,41 @@ fn valid_movement(movements: &[u32], links: u32, j: usize) -> bool
         & pair_above(movements, j)
 }
 
+// The `M` lines: each line's form (refusal 1), then its values (refusal 5). Its numbers go straight into the row of its movement.
+pub fn read_movements(text: &[u8], at: usize, counts: Counts, movements: &mut [u32]) -> Stage
+    requires { ⌜ MovementsAsked (now text) at counts (now movements) ⌝ }
+    ensures { λ r. ⌜ MovementsRead (now (text .entry)) r (now (movements .exit)) ⌝ }
+{
+    let links = counts.links as u32;
+    let mut place = at;
+    let mut j = 0;
+    while j < counts.movements {
+        let line = (2 + counts.signals + counts.links + j) as u32;
+        match read_row(text, place, b'M', movements, 4 * j, 4) {
+            LineRead::Next(next) => {
+                place = next;
+            }
+            LineRead::Malformed => {
+                return Stage::Stopped {
+                    number: 1,
+                    line,
+                    item: 0,
+                };
+            }
+        }
+        if !valid_movement(movements, links, j) {
+            let item = (j + 1) as u32;
+            return Stage::Stopped {
+                number: 5,
+                line,
+                item,
+            };
+        }
+        j += 1;
+    }
+    Stage::Passed(place)
+}
+
 // The number, from 1, of the last movement that leaves a link; 0 where none does.
 fn last_movement(movements: &[u32], count: usize, link: u32) -> usize
     requires { ⌜ MovementsKnown (now movements) count ⌝ }
@@ -107,4 +207,32 @@ fn share_sum(movements: &[u32], count: usize, link: u32) -> u64
         j += 1;
     }
     sum
+}
+
+// Refusal 5 after all `M` lines: by rising link that has movements, their shares sum to 1000; told at the link's last movement.
+// Where all do, the next line starts where it did.
+pub fn check_shares(movements: &[u32], counts: Counts, next: usize) -> Stage
+    requires { ⌜ SharesAsked (now movements) counts ⌝ }
+    ensures { λ r. ⌜ SharesJudged (now (movements .entry)) counts next r ⌝ }
+{
+    let count = counts.movements;
+    let before = 1 + counts.signals + counts.links;
+    let mut i = 0;
+    while i < counts.links {
+        let link = (i + 1) as u32;
+        let last = last_movement(movements, count, link);
+        let sum = share_sum(movements, count, link);
+        let valid = (last == 0) | (sum == 1000);
+        if !valid {
+            let line = (before + last) as u32;
+            let item = last as u32;
+            return Stage::Stopped {
+                number: 5,
+                line,
+                item,
+            };
+        }
+        i += 1;
+    }
+    Stage::Passed(next)
 }

@@ -1,11 +1,11 @@
 -- `link_lines::last_movement` meets its contract. Assumes nothing.
-use Rattle.link_lines.proofs.Movements.{last-here, last-other}
-use Rattle.link_lines.specs.Movements.{lastFrom}
-use native.Mathlib.Omega.{arith}
-use mathlib.Core.Logic.{⊎-elim}
-use mathlib.Core.Path.{_≡_, refl, sym, _∙_}
 use Prim.Native.Nat.{_-_, _≤_}
+use mathlib.Core.Logic.{⊎-elim}
+use mathlib.Core.Path.{_≡_, refl}
+use native.Mathlib.Omega.{arith}
 use borrow.Author.Needs.{needs}
+use Rattle.link_lines.specs.Movements.{lastFrom}
+use Rattle.link_lines.proofs.Movements.{last-here, last-other}
 use Rattle.link_lines.proofs.last_movement.Statement.{statement}
 use Rattle.link_lines.proofs.last_movement.Tie as tie
 

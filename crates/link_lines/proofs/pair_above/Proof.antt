@@ -1,6 +1,6 @@
 -- `link_lines::pair_above` meets its contract. Assumes nothing.
-use Rattle.link_lines.proofs.Movements.{pair-first, pair-later}
 use borrow.Author.Needs.{needs}
+use Rattle.link_lines.proofs.Movements.{pair-first, pair-later}
 use Rattle.link_lines.proofs.pair_above.Statement.{statement}
 use Rattle.link_lines.proofs.pair_above.Tie as tie
 

@@ -1,12 +1,12 @@
 -- `link_lines::share_sum` meets its contract. Assumes nothing.
-use Rattle.link_lines.proofs.Movements.{shares-here, shares-other}
-use Rattle.link_lines.specs.Movements.{sharesFrom}
-use Rattle.model.specs.Sum.{sum}
-use native.Mathlib.Omega.{arith}
-use mathlib.Core.Logic.{⊎-elim}
-use mathlib.Core.Path.{_≡_, refl, sym, _∙_}
 use Prim.Native.Nat.{_-_, _*_, _≤_}
+use mathlib.Core.Logic.{⊎-elim}
+use mathlib.Core.Path.{_≡_, refl}
+use native.Mathlib.Omega.{arith}
 use borrow.Author.Needs.{needs}
+use Rattle.model.specs.Sum.{sum}
+use Rattle.link_lines.specs.Movements.{sharesFrom}
+use Rattle.link_lines.proofs.Movements.{shares-here, shares-other}
 use Rattle.link_lines.proofs.share_sum.Statement.{statement}
 use Rattle.link_lines.proofs.share_sum.Tie as tie
 

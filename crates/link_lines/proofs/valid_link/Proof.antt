@@ -1,6 +1,6 @@
 -- `link_lines::valid_link` meets its contract. Assumes nothing.
-use Rattle.link_lines.proofs.Links.{fewer-known, link-above, link-within}
 use borrow.Author.Needs.{needs}
+use Rattle.link_lines.proofs.Links.{fewer-known, link-above, link-within}
 use Rattle.link_lines.proofs.valid_link.Statement.{statement}
 use Rattle.link_lines.proofs.valid_link.Tie as tie
 

@@ -1,11 +1,12 @@
 -- `link_lines::valid_mask` meets its contract. Assumes nothing.
 use Prim.Native.Nat.{_-_}
--- `link_lines::valid_mask` meets its contract. Assumes nothing.
-use Rattle.link_lines.proofs.Links.{mask-none, mask-some}
 use native.Mathlib.Omega.{arith}
 use borrow.Author.Needs.{needs}
+use Rattle.link_lines.proofs.Links.{mask-none, mask-some}
 use Rattle.link_lines.proofs.valid_mask.Statement.{statement}
 use Rattle.link_lines.proofs.valid_mask.Tie as tie
+
+-- `link_lines::valid_mask` meets its contract. Assumes nothing.
 
 returns : tie.Need-returns
 returns c = mask-none _ _ _ (c .if1 .taken)

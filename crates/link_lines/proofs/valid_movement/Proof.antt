@@ -1,7 +1,7 @@
 -- `link_lines::valid_movement` meets its contract. Assumes nothing.
-use Rattle.link_lines.specs.Movements.{movementValid}
-use Rattle.model.specs.Test.{_and_, within}
 use borrow.Author.Needs.{needs}
+use Rattle.model.specs.Test.{_and_, within}
+use Rattle.link_lines.specs.Movements.{movementValid}
 use Rattle.link_lines.proofs.valid_movement.Statement.{statement}
 use Rattle.link_lines.proofs.valid_movement.Tie as tie
 
