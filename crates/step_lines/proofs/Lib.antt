@@ -1,0 +1,4 @@
+mod Arrivals
+mod Values
+mod Unmet
+pub mod Boundaries
