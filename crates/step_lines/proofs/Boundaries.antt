@@ -1,34 +1,30 @@
 -- The boundaries of the program's tables are the paper's, where the tables hold a network's numbers. Assumes nothing.
 use Prim.Native.Nat.{ℕ, zero, suc, _+_, _*_, _-_, _≤_, _<_}
-use mathlib.Core.Path.{_≡_, refl, sym, ap, ap₂, _∙_}
-use mathlib.Core.Bool.{Bool}
+use mathlib.Core.Path.{_≡_, refl, ap}
 use mathlib.Core.List.{List}
 use native.Mathlib.Numerals.{add-one}
 use native.Mathlib.Omega.{arith}
-use lib.ListN.{length, getD}
-use Rattle.search.specs.Checks.{Verdict, each, orElse, firstFrom, checked, verdict}
+use lib.ListN.{getD}
+use Rattle.search.specs.Checks.{Verdict, each, firstFrom, checked, verdict}
+use Rattle.search.proofs.Laws.{first-same}
 use Rattle.records.specs.Lines.{Line}
 use Rattle.model.specs.declared.Counts.{Counts}
 use Rattle.model.specs.Test.{_or_}
-use Rattle.model.specs.Sum.{sum}
-use Rattle.model.specs.Network.{linkCount, stepCount, stepLine, stepLength, travelTime, time, lastBoundary, arrivalBoundary}
+use Rattle.model.specs.Network.{linkCount, stepCount, stepLine, travelTime, time, lastBoundary, arrivalBoundary}
 use Rattle.model.specs.Rules.{meetsBoundary}
 use Rattle.model.specs.Table.{boundaryChecks}
 use Rattle.model.specs.Tables.{CountsHold, LinkTable, TimeTable}
 use Rattle.model.proofs.Tables.{travel-time-at}
-use Rattle.step_lines.specs.Boundaries.{lastBoundaryIn, arrivalIn, meetsIn, firstLine, boundaryChecksIn, Rising, Cursor, Ready}
+use Rattle.model.proofs.Times.{time-suc}
+use Rattle.step_lines.specs.Boundaries.{lastBoundaryIn, arrivalIn, meetsIn, firstLine, boundaryChecksIn, Rising, Cursor, BoundariesAsked}
 use Rattle.step_lines.proofs.Arrivals.{last-le, arrival-rises}
-
-time-next : (network : List Line) (n : ℕ) → time network (n + 1) ≡ time network n + stepLength network n
-unfolding time sum
-time-next network n = rw add-one
 
 module _ {network : List Line} {times : List ℕ} (t : TimeTable network times) where
   pub times-rise : (n : ℕ) → n ≤ stepCount network → n ≤ 120 → Rising times n
   times-rise n h few =
       record {
         room = omega (arith, t .size);
-        rises = λ k l. omega (arith, t .holds k (omega arith), t .holds (k + 1) (omega arith), time-next network k);
+        rises = λ k l. omega (arith, t .holds k (omega arith), t .holds (k + 1) (omega arith), time-suc network k, ap (time network) (add-one k));
       }
 
   last-is : (n x : ℕ) → n ≤ stepCount network → lastBoundaryIn times n x ≡ lastBoundary network n x
@@ -67,16 +63,11 @@ unfolding stepLine
 first-line c n = omega (arith, c .links, c .signals, c .movements)
 
 -- ---- refusal 7 of all steps and links
-from-same : (f g : ℕ → Verdict) (n i : ℕ) → ((k : ℕ) → i ≤ k → k < i + n → f k ≡ g k) → firstFrom f n i ≡ firstFrom g n i
-unfolding firstFrom
-from-same f g zero i h = refl
-from-same f g (suc n) i h = ap₂ orElse (h i (omega arith) (omega arith)) (from-same f g n (i + 1) (λ k l u. h k (omega arith) (omega arith)))
-
-first-same : (f g : ℕ → Verdict) (m n : ℕ) → m ≡ n → ((k : ℕ) → k < n → f k ≡ g k) → firstFrom f m 0 ≡ firstFrom g n 0
-first-same f g m n e h = rw e (from-same f g n 0 (λ k l u. h k (omega arith)))
+counted-same : (f g : ℕ → Verdict) (m n : ℕ) → m ≡ n → ((k : ℕ) → k < n → f k ≡ g k) → firstFrom f m 0 ≡ firstFrom g n 0
+counted-same f g m n e h = rw e (first-same f g n 0 (λ k l u. h k (omega arith)))
 
 module _ {network : List Line} {counts : Counts} {times links : List ℕ} (c : CountsHold network counts) (t : TimeTable network times) (q : LinkTable network links) where
-  pub boundaries-ready : Ready times links counts
+  pub boundaries-ready : BoundariesAsked times links counts
   boundaries-ready =
       record {
         size = q .size;
@@ -90,8 +81,8 @@ module _ {network : List Line} {counts : Counts} {times links : List ℕ} (c : C
   pub boundaries-are : verdict (each (counts .steps) (boundaryChecksIn times links (firstLine counts) (counts .links))) ≡ verdict (each (stepCount network) (boundaryChecks network))
   unfolding verdict boundaryChecksIn boundaryChecks
   boundaries-are =
-      first-same _ _ (counts .steps) (stepCount network) (c .steps)
-      (λ n h. first-same (λ i. checked (meetsIn times (n + 1) (getD links (6 * i + 1) 0)) 7 (firstLine counts + n) (i + 1)) _ (counts .links) (linkCount network) (c .links) (λ i l. at n i h l))
+      counted-same _ _ (counts .steps) (stepCount network) (c .steps)
+      (λ n h. counted-same (λ i. checked (meetsIn times (n + 1) (getD links (6 * i + 1) 0)) 7 (firstLine counts + n) (i + 1)) _ (counts .links) (linkCount network) (c .links) (λ i l. at n i h l))
     where
       at : (n i : ℕ) → n < stepCount network → i < linkCount network
           → checked (meetsIn times (n + 1) (getD links (6 * i + 1) 0)) 7 (firstLine counts + n) (i + 1) ≡ checked (meetsBoundary network (suc n) i) 7 (suc (stepLine network n)) (suc i)

@@ -2,3 +2,4 @@ mod Arrivals
 mod Values
 mod Unmet
 pub mod Boundaries
+pub mod StepLines

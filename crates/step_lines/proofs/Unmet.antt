@@ -1,5 +1,5 @@
 -- The search for the first link that does not meet a boundary, by steps and links: one law for each way through a turn, and the cursors beside it. Assumes nothing.
-use Prim.Native.Nat.{ℕ, zero, suc, _+_, _*_, _-_, _≤_, _<_}
+use Prim.Native.Nat.{ℕ, suc, _+_, _*_, _-_, _≤_, _<_}
 use mathlib.Core.Path.{_≡_, refl, sym, ap, _∙_}
 use mathlib.Core.Bool.{Bool, true, false, not}
 use mathlib.Core.List.{List}
@@ -9,8 +9,8 @@ use native.Mathlib.Omega.{arith}
 use lib.ListN.{length, getD, set, replicate, length-set, getD-replicate}
 use borrow.Author.Tests.{not-true, not-false}
 use lib.Seq.{getD-set-same, getD-set-other}
-use Rattle.search.specs.Checks.{Verdict, passes, refused, each, orElse, firstFrom, checked, verdict}
-use Rattle.search.proofs.Laws.{or-else-passes, or-else-refused, first-hit, first-next, first-done}
+use Rattle.search.specs.Checks.{Verdict, each, orElse, firstFrom, checked, verdict}
+use Rattle.search.proofs.Laws.{or-else-passes, or-else-refused, first-hit, first-next, first-done, checked-passes, checked-refused}
 use Rattle.model.specs.declared.NetworkAnswer.{NetworkAnswer}
 use Rattle.model.specs.declared.NetworkAnswer.the-variants.{Valid, Refused}
 use Rattle.model.specs.Calls.{networkAnswer}
@@ -89,12 +89,11 @@ module _ (times links : List ℕ) (first count steps : ℕ) where
 
       module _ (l : i < count) (met : Bool) (e : met ≡ meetsIn times (n + 1) (getD links (6 * i + 1) 0)) where
         pub link-next : count ≤ 24 → not met ≡ false → (arrival : ℕ) → arrival ≡ arrivalIn times (n + 1) (getD links (6 * i + 1) 0) → AtLink (set cursors i arrival) answer n (i + 1)
-        unfolding checked
         link-next f m arrival a =
             record {
               within = omega arith;
               none = s .none;
-              same = s .same ∙ ap (λ v. orElse v (fromStep (n + 1))) (first-next (linkVerdict n) count i l (rw (← e, not-false met m)));
+              same = s .same ∙ ap (λ v. orElse v (fromStep (n + 1))) (first-next (linkVerdict n) count i l (checked-passes _ _ _ _ (sym e ∙ not-false met m)));
               stand = record { size = length-set cursors i arrival ∙ s .stand .size; behind = moved arrival a };
             }
           where
@@ -106,6 +105,6 @@ module _ (times links : List ℕ) (first count steps : ℕ) where
             ]
 
         pub link-unmet : not met ≡ true → Refused 7 (first + n) (i + 1) ≡ networkAnswer (verdict (each steps (boundaryChecksIn times links first count)))
-        unfolding checked networkAnswer
+        unfolding networkAnswer
         link-unmet m =
-            sym (ap networkAnswer (s .same ∙ or-else-refused _ _ 7 (first + n) (i + 1) (first-hit (linkVerdict n) count i 7 (first + n) (i + 1) l (rw (← e, not-true met m)))))
+            sym (ap networkAnswer (s .same ∙ or-else-refused _ _ 7 (first + n) (i + 1) (first-hit (linkVerdict n) count i 7 (first + n) (i + 1) l (checked-refused _ _ _ _ (sym e ∙ not-true met m)))))

@@ -1,6 +1,6 @@
 -- The values of an `S` line: the demands are taken one by one, and the test of the numbers is the paper's, where they are a network's. Assumes nothing.
 use Prim.Native.Nat.{ℕ, zero, suc, _+_, _≤_, _<_}
-use mathlib.Core.Path.{_≡_, refl, sym, ap, ap₂, _∙_}
+use mathlib.Core.Path.{_≡_, refl, sym, ap₂}
 use mathlib.Core.Bool.{Bool, true, false}
 use mathlib.Core.Logic.{_⊎_, inl, inr}
 use mathlib.Core.List.{List}
@@ -12,9 +12,10 @@ use lib.Dec.{leb}
 use lib.ListN.{getD}
 use Rattle.records.specs.Lines.{Line}
 use Rattle.model.specs.Test.{_and_, within, every}
-use Rattle.model.specs.Network.{linkCount, stepLength, demand}
+use Rattle.model.specs.Network.{linkCount, stepLength}
 use Rattle.model.specs.Rules.{validStep}
 use Rattle.model.specs.Tables.{Shortest, StepNumbers}
+use Rattle.model.proofs.Tests.{and-left, and-right}
 use Rattle.model.proofs.Tables.{step-length-at, demand-at}
 use Rattle.step_lines.specs.Steps.{validDemandsIn, validStepIn}
 
@@ -53,12 +54,12 @@ every-same zero f g h = refl
 every-same (suc n) f g h = ap₂ _and_ (every-same n f g (λ k l. h k (omega arith))) (h n (omega arith))
 
 within-high : (low x high : ℕ) → within low x high ≡ true → x ≤ high
-unfolding within _and_
-within-high low x high e = leb-true x high (go (leb low x) (leb x high) e)
-  where
-    go : (a b : Bool) → a and b ≡ true → b ≡ true
-    go true b e = e
-    go false b e = cc
+unfolding within
+within-high low x high e = leb-true x high (and-right _ _ e)
+
+pub step-short : (network : List Line) (n : ℕ) → validStep network n ≡ true → stepLength network n ≤ 60
+unfolding validStep
+step-short network n v = within-high 1 _ 60 (and-left _ _ (and-left _ _ v))
 
 and-same : (a : Bool) {b c : Bool} → (a ≡ true → b ≡ c) → a and b ≡ a and c
 unfolding _and_

@@ -42,8 +42,8 @@ pub record Cursor (times : List ℕ) (from boundary travel : ℕ) : Type 0 where
   pub rising : Rising times boundary
   pub behind : from ≤ arrivalIn times boundary travel
 
--- the tables of a network whose counts and lines have passed
-pub record Ready (times links : List ℕ) (counts : Counts) : Type 0 where
+-- what the check of all boundaries asks of the tables
+pub record BoundariesAsked (times links : List ℕ) (counts : Counts) : Type 0 where
   pub size : length links ≡ 144
   pub few-links : counts .links ≤ 24
   pub few-signals : counts .signals ≤ 8

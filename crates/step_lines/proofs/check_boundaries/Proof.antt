@@ -1,14 +1,10 @@
 -- `step_lines::check_boundaries` meets its contract. The whole search finds what the search from here finds, and no cursor is past its link's arrival boundary. Assumes
 -- nothing.
 use Prim.Native.Nat.{_-_}
-use Rattle.step_lines.proofs.Unmet.{AtStep, AtLink, step-first, link-first, none-unmet, cursor-stands, step-next, link-next, link-unmet}
 use borrow.Author.Needs.{needs}
+use Rattle.step_lines.proofs.Unmet.{AtStep, AtLink, step-first, link-first, none-unmet, cursor-stands, step-next, link-next, link-unmet}
 use Rattle.step_lines.proofs.check_boundaries.Statement.{statement}
 use Rattle.step_lines.proofs.check_boundaries.Tie as tie
-use Rattle.step_lines.proofs.check_boundaries.Reads as reads
-use Rattle.step_lines.proofs.check_boundaries.Lts as lts
-use Rattle.step_lines.proofs.arrival_boundary.Reads as arrival-boundary-reads
-use Rattle.step_lines.proofs.meets_boundary.Reads as meets-boundary-reads
 
 abbrev Inv-loop : tie.InvT-loop
 Inv-loop times links first steps count cursors₀ answer₀ n i₀ cursors answer i = AtLink times links first count steps cursors answer n i
@@ -22,120 +18,91 @@ Inv-search times links first steps count cursors₀ answer₀ n₀ cursors answe
 abbrev μ-search : tie.MeasureT-search
 μ-search times links first steps count cursors₀ answer₀ n₀ cursors answer n = steps - n
 
--- src/lib.rt:75:17
 add-first : tie.Need-add-first Inv-loop μ-loop Inv-search μ-search
 add-first c = search needs
 
--- src/lib.rt:75:17
 add-first-2 : tie.Need-add-first-2 Inv-loop μ-loop Inv-search μ-search
 add-first-2 c = search needs
 
--- src/lib.rt:75:17
 add-first-3 : tie.Need-add-first-3 Inv-loop μ-loop Inv-search μ-search
 add-first-3 c = search needs
 
--- src/lib.rt:80:5
 search-holds : tie.Need-search-holds Inv-loop μ-loop Inv-search μ-search
-search-holds c = search step-first
+search-holds c = search (needs, step-first)
 
--- src/lib.rt:81:9
 loop-holds : tie.Need-loop-holds Inv-loop μ-loop Inv-search μ-search
 loop-holds c = search link-first
 
--- src/lib.rt:82:32
 mul-travel : tie.Need-mul-travel Inv-loop μ-loop Inv-search μ-search
 mul-travel c = search needs
 
--- src/lib.rt:82:32
 add-travel : tie.Need-add-travel Inv-loop μ-loop Inv-search μ-search
 add-travel c = search needs
 
--- src/lib.rt:82:26
 mul-travel-2 : tie.Need-mul-travel-2 Inv-loop μ-loop Inv-search μ-search
 mul-travel-2 c = search needs
 
--- src/lib.rt:82:26
 shared-slice-read-travel : tie.Need-shared-slice-read-travel Inv-loop μ-loop Inv-search μ-search
 shared-slice-read-travel c = search needs
 
--- src/lib.rt:83:51
 mul-arrival-boundary : tie.Need-mul-arrival-boundary Inv-loop μ-loop Inv-search μ-search
 mul-arrival-boundary c = search needs
 
--- src/lib.rt:83:51
 array-read-arrival-boundary :
     tie.Need-array-read-arrival-boundary Inv-loop μ-loop Inv-search μ-search
 array-read-arrival-boundary c = search needs
 
--- src/lib.rt:83:63
 add-arrival-boundary : tie.Need-add-arrival-boundary Inv-loop μ-loop Inv-search μ-search
 add-arrival-boundary c = search needs
 
--- src/lib.rt:83:17
 arrival-boundary-requires : tie.Need-arrival-boundary-requires Inv-loop μ-loop Inv-search μ-search
 arrival-boundary-requires c κs = search cursor-stands
 
--- src/lib.rt:84:48
 add-meets-boundary : tie.Need-add-meets-boundary Inv-loop μ-loop Inv-search μ-search
 add-meets-boundary c = search needs
 
--- src/lib.rt:84:17
 meets-boundary-requires : tie.Need-meets-boundary-requires Inv-loop μ-loop Inv-search μ-search
 meets-boundary-requires c κs = search needs
 
--- src/lib.rt:87:28
 add-t25 : tie.Need-add-t25 Inv-loop μ-loop Inv-search μ-search
 add-t25 c = search needs
 
--- src/lib.rt:87:27
 cast-t26 : tie.Need-cast-t26 Inv-loop μ-loop Inv-search μ-search
 cast-t26 c = search needs
 
--- src/lib.rt:88:28
 add-t27 : tie.Need-add-t27 Inv-loop μ-loop Inv-search μ-search
 add-t27 c = search needs
 
--- src/lib.rt:88:27
 cast-t28 : tie.Need-cast-t28 Inv-loop μ-loop Inv-search μ-search
 cast-t28 c = search needs
 
--- src/lib.rt:92:13
 mul-cursors : tie.Need-mul-cursors Inv-loop μ-loop Inv-search μ-search
 mul-cursors c = search needs
 
--- src/lib.rt:92:13
 array-write-cursors : tie.Need-array-write-cursors Inv-loop μ-loop Inv-search μ-search
 array-write-cursors c = search needs
 
--- src/lib.rt:81:13
 add-i : tie.Need-add-i Inv-loop μ-loop Inv-search μ-search
 add-i c = search needs
 
--- src/lib.rt:81:9
 loop-less : tie.Need-loop-less Inv-loop μ-loop Inv-search μ-search
 loop-less c = search needs
 
--- src/lib.rt:81:9
 loop-again : tie.Need-loop-again Inv-loop μ-loop Inv-search μ-search
-loop-again c = search link-next
+loop-again c = search (needs, link-next)
 
--- src/lib.rt:80:18
 add-n : tie.Need-add-n Inv-loop μ-loop Inv-search μ-search
 add-n c = search needs
 
--- src/lib.rt:80:5
 search-less : tie.Need-search-less Inv-loop μ-loop Inv-search μ-search
 search-less c = search needs
 
--- src/lib.rt:80:5
 search-again : tie.Need-search-again Inv-loop μ-loop Inv-search μ-search
 search-again c = search step-next
 
--- src/lib.rt:71:1
 returns : tie.Need-returns Inv-loop μ-loop Inv-search μ-search
 returns c = search none-unmet
 
--- src/lib.rt:71:1
 returns-2 : tie.Need-returns-2 Inv-loop μ-loop Inv-search μ-search
 returns-2 c =
     let w = c .before .before .before .before in

@@ -1,32 +1,24 @@
 -- `step_lines::meets_boundary` meets its contract. Assumes nothing.
-use Rattle.step_lines.proofs.Arrivals.{arrival-room, meets-before, meets-at}
 use borrow.Author.Needs.{needs}
+use Rattle.step_lines.proofs.Arrivals.{arrival-room, meets-before, meets-at}
 use Rattle.step_lines.proofs.meets_boundary.Statement.{statement}
 use Rattle.step_lines.proofs.meets_boundary.Tie as tie
-use Rattle.step_lines.proofs.meets_boundary.Reads as reads
-use Rattle.step_lines.proofs.meets_boundary.Lts as lts
 
--- src/lib.rt:63:16
 mul-time : tie.Need-mul-time
 mul-time c = search needs
 
--- src/lib.rt:63:16
 shared-slice-read-time : tie.Need-shared-slice-read-time
 shared-slice-read-time c = search needs
 
--- src/lib.rt:65:9
 returns : tie.Need-returns
 returns c = search meets-before
 
--- src/lib.rt:67:5
 mul-result : tie.Need-mul-result
 mul-result c = search (needs, arrival-room)
 
--- src/lib.rt:67:5
 shared-slice-read-result : tie.Need-shared-slice-read-result
 shared-slice-read-result c = search (needs, arrival-room)
 
--- src/lib.rt:58:1
 returns-2 : tie.Need-returns-2
 returns-2 c = search meets-at
 

@@ -1,14 +1,12 @@
 -- `step_lines::valid_demands` meets its contract. The demands passed so far are valid. Assumes nothing.
-use Prim.Native.Nat.{_≤_, _-_}
 use mathlib.Core.Path.{_≡_}
 use mathlib.Core.Bool.{true}
+use Prim.Native.Nat.{_≤_, _-_}
+use borrow.Author.Needs.{needs}
 use Rattle.step_lines.specs.Steps.{validDemandsIn}
 use Rattle.step_lines.proofs.Values.{demands-none, demands-on, demands-broken, demands-all}
-use borrow.Author.Needs.{needs}
 use Rattle.step_lines.proofs.valid_demands.Statement.{statement}
 use Rattle.step_lines.proofs.valid_demands.Tie as tie
-use Rattle.step_lines.proofs.valid_demands.Reads as reads
-use Rattle.step_lines.proofs.valid_demands.Lts as lts
 
 abbrev Inv-loop : tie.InvT-loop
 Inv-loop step links i₀ i = (i ≤ links) × (validDemandsIn step i ≡ true)
@@ -16,39 +14,30 @@ Inv-loop step links i₀ i = (i ≤ links) × (validDemandsIn step i ≡ true)
 abbrev μ-loop : tie.MeasureT-loop
 μ-loop step links i₀ i = links - i
 
--- src/lib.rt:18:5
 loop-holds : tie.Need-loop-holds Inv-loop μ-loop
 loop-holds c = (search needs, demands-none _ 0 0)
 
--- src/lib.rt:19:27
 add-if1 : tie.Need-add-if1 Inv-loop μ-loop
 add-if1 c = search needs
 
--- src/lib.rt:19:22
 mul-if1 : tie.Need-mul-if1 Inv-loop μ-loop
 mul-if1 c = search needs
 
--- src/lib.rt:19:22
 shared-slice-read-if1 : tie.Need-shared-slice-read-if1 Inv-loop μ-loop
 shared-slice-read-if1 c = search needs
 
--- src/lib.rt:20:13
 returns : tie.Need-returns Inv-loop μ-loop
 returns c = search demands-broken
 
--- src/lib.rt:22:9
 add-i : tie.Need-add-i Inv-loop μ-loop
 add-i c = search needs
 
--- src/lib.rt:18:5
 loop-less : tie.Need-loop-less Inv-loop μ-loop
 loop-less c = search needs
 
--- src/lib.rt:18:5
 loop-again : tie.Need-loop-again Inv-loop μ-loop
 loop-again c = (search needs, search demands-on)
 
--- src/lib.rt:13:1
 returns-2 : tie.Need-returns-2 Inv-loop μ-loop
 returns-2 c = search demands-all
 
