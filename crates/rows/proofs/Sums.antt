@@ -1,0 +1,14 @@
+-- A sum from its start, by one term more. Assumes nothing.
+use mathlib.Core.Path.{_≡_, refl}
+use Prim.Native.Nat.{ℕ, _+_}
+use native.Mathlib.Numerals.{add-one}
+use Rattle.model.specs.Sum.{sum}
+
+pub sum-none : (f : ℕ → ℕ) → sum 0 f ≡ 0
+unfolding sum
+sum-none f = refl
+
+-- one term more
+pub sum-next : (n : ℕ) (f : ℕ → ℕ) → sum (n + 1) f ≡ sum n f + f n
+unfolding sum
+sum-next n f = rw add-one refl
