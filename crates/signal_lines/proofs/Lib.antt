@@ -1,0 +1,6 @@
+mod Values
+mod Counts
+mod Numbers
+mod Turns
+mod Loops
+pub mod Laws
