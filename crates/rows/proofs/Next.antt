@@ -3,10 +3,10 @@ use mathlib.Core.Path.{_≡_, ap, sym, _∙_}
 use mathlib.Core.List.{List, _++_}
 use Prim.Native.Nat.{ℕ, _+_, _*_, _<_}
 use native.Mathlib.Omega.{arith}
-use lib.ListN.{length, getD, drop}
+use lib.ListN.{length, getD, drop, List·getD-append}
 use Rattle.model.specs.declared.Counts.{Counts}
 use Rattle.rows.specs.Rows.{baseEntered, baseLeft, nextEntered, nextLeft, nextRow, startRow, pairs, Base, Fits, Room, Added}
-use Rattle.rows.proofs.Lists.{length-pairs, begun-entered, begun-left, begun-rest, begun-length, begun-is}
+use Rattle.rows.proofs.Lists.{length-pairs, pairs-left, begun-entered, begun-left, begun-rest, begun-length, begun-is}
 
 module _ (counts : Counts) (line movements previous d : List ℕ) (fits : Fits counts line movements previous d) where
   pub next-base : Base counts line previous d
@@ -56,3 +56,10 @@ length-start counts links = length-pairs _ _ (counts .links)
 pub length-next : (counts : Counts) (line movements previous : List ℕ) → length (nextRow counts line movements previous) ≡ 2 * counts .links
 unfolding nextRow
 length-next counts line movements previous = length-pairs _ _ (counts .links)
+
+-- left of link i in what `next_row` leaves
+pub next-left-at : (counts : Counts) (line movements previous rest : List ℕ) {cells : List ℕ} → cells ≡ nextRow counts line movements previous ++ rest
+    → (i : ℕ) → i < counts .links → getD cells (2 * i + 1) 0 ≡ nextLeft counts line movements previous i
+next-left-at counts line movements previous rest e i l =
+    ap (λ r. getD r (2 * i + 1) 0) e ∙ List·getD-append (nextRow counts line movements previous) rest 0 (2 * i + 1) (omega (arith, length-next counts line movements previous))
+    ∙ unfold nextRow in pairs-left _ _ (counts .links) i l

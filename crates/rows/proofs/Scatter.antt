@@ -68,7 +68,7 @@ module _ (counts : Counts) (line movements row₀ : List ℕ) (j t f : ℕ) (row
     omega (arith, was .entered t to-link, room .entered-fits t to-link, moved-up counts line movements 1 t j less (omega arith)),
   )
 
-  pub room-from : (2 * f + 1 < length row) × (getD row (2 * f + 1) 0 + movedAt counts line j < 4294967296)
+  room-from : (2 * f + 1 < length row) × (getD row (2 * f + 1) 0 + movedAt counts line j < 4294967296)
   room-from = (
     omega (arith, from-link, was .size, room .few .links),
     omega (arith, was .left f from-link, room .left-fits f from-link, moved-up counts line movements 0 f j less (omega arith)),

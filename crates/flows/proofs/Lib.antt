@@ -1,0 +1,3 @@
+pub mod Product
+pub mod Turns
+pub mod Texts
