@@ -1,0 +1,4 @@
+mod Stages
+mod End
+mod Blocks
+mod Whole
