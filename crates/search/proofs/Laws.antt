@@ -60,10 +60,10 @@ module _ (f : ℕ → Verdict) (e i : ℕ) where
   first-done h = let z : e - i ≡ 0 = omega arith in rw z
 
 -- ---- what a search that has passed, or has found something, says of every index
-from-all : (f : ℕ → Verdict) (n i : ℕ) → firstFrom f n i ≡ passes → (k : ℕ) → i ≤ k → k < i + n → f k ≡ passes
+pub first-every : (f : ℕ → Verdict) (n i : ℕ) → firstFrom f n i ≡ passes → (k : ℕ) → i ≤ k → k < i + n → f k ≡ passes
 unfolding firstFrom
-from-all f zero i h k l u = absurd (omega arith)
-from-all f (suc n) i h k l u = go (eq-or-lt-of-le l) (from-all f n (i + 1) (or-else-second (f i) _ h) k)
+first-every f zero i h k l u = absurd (omega arith)
+first-every f (suc n) i h k l u = go (eq-or-lt-of-le l) (first-every f n (i + 1) (or-else-second (f i) _ h) k)
   where
     go : (i ≡ k) ⊎ (i < k) → (i + 1 ≤ k → k < i + 1 + n → f k ≡ passes) → f k ≡ passes
     go (inl e) ih = ap f (sym e) ∙ or-else-first (f i) (firstFrom f n (i + 1)) h
@@ -75,7 +75,7 @@ all-from f zero i h = refl
 all-from f (suc n) i h = or-else-passes (f i) _ (h i (omega arith) (omega arith)) ∙ all-from f n (i + 1) (λ k l u. h k (omega arith) (omega arith))
 
 pub first-all : (f : ℕ → Verdict) (n : ℕ) → firstFrom f n 0 ≡ passes → (k : ℕ) → k < n → f k ≡ passes
-first-all f n h k l = from-all f n 0 h k (omega arith) (omega arith)
+first-all f n h k l = first-every f n 0 h k (omega arith) (omega arith)
 
 from-which : (f : ℕ → Verdict) (n i x y z : ℕ) → firstFrom f n i ≡ refused x y z
     → (k : ℕ) × (i ≤ k) × (k < i + n) × (f k ≡ refused x y z) × ((j : ℕ) → i ≤ j → j < k → f j ≡ passes)

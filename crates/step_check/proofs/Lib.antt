@@ -1,0 +1,4 @@
+pub mod Table
+pub mod Items
+pub mod Turns
+pub mod Judge
