@@ -2,3 +2,4 @@ pub mod Table
 pub mod Items
 pub mod Turns
 pub mod Judge
+pub mod Texts

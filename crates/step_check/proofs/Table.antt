@@ -44,6 +44,10 @@ module _ (network plan : List Line) (n : ℕ) where
     rule-is (suc (suc (suc (suc (suc (suc (suc (suc (suc (suc zero)))))))))) l = (refl, sym (h .links))
     rule-is (suc (suc (suc (suc (suc (suc (suc (suc (suc (suc (suc k))))))))))) l = absurd (omega arith)
 
+    pub rule-items-is : (place : ℕ) → place < 11 → ruleAt (rules network plan n) place .items ≡ ruleItems counts place
+    unfolding RuleIs
+    rule-items-is place l = let r : RuleIs place = rule-is place l in r .1
+
     rule-same : (place : ℕ) → 0 ≤ place → place < 0 + 11 → textRule place ≡ ruleVerdict counts (suc n) textHolds place
     unfolding ruleVerdict RuleIs
     rule-same place _ l =

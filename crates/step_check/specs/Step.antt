@@ -1,5 +1,5 @@
 -- The rules of one step by the program's tables. Assumes nothing.
-use Prim.Native.Nat.{ℕ, _*_, _-_, _≤_}
+use Prim.Native.Nat.{ℕ, _*_, _-_, _≤_, _<_}
 use mathlib.Core.Path.{_≡_}
 use mathlib.Core.Bool.{Bool, cond}
 use mathlib.Core.List.{List, _++_}
@@ -8,6 +8,9 @@ use lib.ListN.{length, getD, take, drop}
 use Rattle.search.specs.Checks.{Verdict, passes, orElse}
 use Rattle.model.specs.declared.Counts.{Counts}
 use Rattle.model.specs.declared.Signal.{Signal}
+use Rattle.records.specs.Lines.{Line}
+use Rattle.model.specs.Network.{signalCount}
+use Rattle.model.specs.Flows.{signalAt}
 use Rattle.model.specs.Tables.{noSignal}
 use Rattle.signals.specs.Ready.{AllReady}
 use Rattle.signals.specs.Step.{signalRule}
@@ -59,3 +62,9 @@ pub record Judged (counts : Counts) (signals : List Signal) (line step links mov
   pub told : judgementVerdict result
       ≡ orElse (lineVerdict counts signals line step links movements phases number) (flowVerdict counts line links movements ledger arrivals row n number)
   pub made : result ≡ Kept → after ≡ madeRow counts line movements ledger row n
+
+-- the signals at boundary n
+pub record SignalsAt (network plan : List Line) (n : ℕ) (signals : List Signal) : Type 0 where
+  pub size : length signals ≡ 8
+  pub holds : (r : ℕ) → r < signalCount network → getD signals r noSignal ≡ signalAt network plan n r
+  pub ready : AllReady signals (signalCount network)
