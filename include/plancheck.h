@@ -1,0 +1,233 @@
+/*
+ * plancheck.h: the plan check library (libplan_check_c.a).
+ *
+ * Decides whether a traffic-signal plan may run on a network under the Queue Transmission Model, and what travel time
+ * it gives. Three calls: check a network, check a plan, and the state of one link.
+ *
+ *     static uint32_t ledger[PLANCHECK_LEDGER_MAX];
+ *
+ *     plancheck_plan_result result =
+ *         plancheck_check_plan(network, network_len, plan, plan_len, ledger, PLANCHECK_LEDGER_MAX);
+ *     if (result.number != PLANCHECK_OK) {
+ *         report(result.number, result.line, result.item);
+ *     }
+ *
+ * Link with libplan_check_c.a. The calls follow the System V calling convention of x86-64; structs go by value.
+ *
+ * UNITS
+ *     volume   thousandths of a vehicle
+ *     time     seconds; boundary n is the end of step n, boundary 0 is time 0
+ *     rate     thousandths of a vehicle per second
+ *     share    thousandths
+ * Signals, links, movements, steps and lines are counted from 1, in the order of their lines.
+ *
+ * TEXTS
+ * Both texts are records: one a line, each line ended by a line feed (byte 10), fields parted by one tab (byte 9). The
+ * first field is a letter, the others are decimal numbers of 1 to 10 digits, at most 4294967295, without sign and
+ * without leading zeros. There is no byte after the last line feed, and no terminating zero.
+ *
+ * The network text, for L links, R signals, M movements and K steps, in this order:
+ *     N  L, R, M, K                                                                                       one line
+ *     G  least cycle, greatest cycle, phases P, phase shown before the plan, seconds it has shown,
+ *        seconds since phase 1 last began, then least and greatest time of each phase                     R lines
+ *     Q  capacity, travel time, exit rate, signal (0: none), phase mask (bit k-1: phase k opens the link),
+ *        volume standing at the start                                                                     L lines
+ *     M  from link, to link, rate, share                                                                  M lines
+ *     S  length, demand volume of each link                                                               K lines
+ * The plan text, one line a step:
+ *     P  mask shown by each signal, volume admitted on each link, volume let out of the network from each link,
+ *        volume of each movement                                                                          K lines
+ *
+ * LEDGER
+ * The caller lends it to plancheck_check_plan, which writes into it, and to plancheck_link_state, which reads it. Row n
+ * belongs to boundary n and starts at index 2 * n * L. For link i it holds two cumulative volumes:
+ *     ledger[2 * n * L + 2 * (i - 1)]        entered: the standing start and all that came onto the link by boundary n
+ *     ledger[2 * n * L + 2 * (i - 1) + 1]    left: all that went from it by boundary n
+ * A network needs PLANCHECK_LEDGER_LEN(L, K) numbers; PLANCHECK_LEDGER_MAX are enough for every network.
+ *
+ * DUTIES OF THE CALLER
+ *   - No pointer is NULL, not even for length 0: then any aligned address will do.
+ *   - A text pointer is readable for its length in bytes; a ledger pointer is aligned for uint32_t and is readable
+ *     (and, for plancheck_check_plan, writable) for its length in numbers.
+ *   - The ledger lent to plancheck_check_plan overlaps neither text. The texts may overlap each other.
+ *   - No other thread writes to the texts or the ledger, or reads the ledger of plancheck_check_plan, during the call.
+ * There are no others. Every content of the texts and of the ledger is judged, and every length is taken.
+ *
+ * WHAT A CALL DOES NOT DO
+ * It keeps nothing between calls and uses no heap, no global or static data, no file and no errno. The answer depends on
+ * the arguments alone. The calls are re-entrant and may run in several threads at once, each plan check with a ledger of
+ * its own. A call always returns, after work that grows linearly with the lengths of the texts and with K * (R + L + M).
+ * The library needs memcpy and memset from the C library, at most.
+ *
+ * STACK
+ * Stack needed by each call: see docs/MEASUREMENTS.md.
+ *
+ * ERRORS
+ * A result has number 0 (PLANCHECK_OK), or the number of the first refusal in the order of judging, with the line and
+ * the item that it names, 0 where it names none. Nothing else is reported: when number is not 0, every other member but
+ * line and item is 0. Numbers 1 to 7 name a line of the network text, 9 to 18 a line of the plan text.
+ * docs/REFUSALS.md says what to do about each.
+ */
+#ifndef PLANCHECK_H
+#define PLANCHECK_H
+
+#include <stddef.h>
+#include <stdint.h>
+
+#ifdef __cplusplus
+extern "C" {
+#endif
+
+/* Limits of a network. Links and steps are at least 1; there may be no signals and no movements. */
+#define PLANCHECK_MAX_LINKS 24
+#define PLANCHECK_MAX_SIGNALS 8
+#define PLANCHECK_MAX_MOVEMENTS 64
+#define PLANCHECK_MAX_STEPS 120
+
+/* Numbers (of 32 bits) that a ledger needs for so many links and steps. */
+#define PLANCHECK_LEDGER_LEN(links, steps) ((size_t)2 * ((size_t)(steps) + 1) * (size_t)(links))
+
+/* Numbers that are enough for every network: 5808, which is 23232 bytes. */
+#define PLANCHECK_LEDGER_MAX (2 * (PLANCHECK_MAX_STEPS + 1) * PLANCHECK_MAX_LINKS)
+
+/*
+ * The library takes texts of any length. No valid network text and no accepted plan text is longer than this, in bytes:
+ * a longer one may be turned down unread.
+ */
+#define PLANCHECK_NETWORK_TEXT_MAX 23822
+#define PLANCHECK_PLAN_TEXT_MAX 98160
+
+/* The longest files, in bytes, that the program plancheck reads. */
+#define PLANCHECK_NETWORK_FILE_MAX 16384
+#define PLANCHECK_PLAN_FILE_MAX 24576
+
+/* The numbers of the results. A comment ends with what the item is. */
+enum plancheck_number {
+    /* Valid, accepted or answered. */
+    PLANCHECK_OK = 0,
+
+    /* Network text. */
+
+    /* A line is missing, unfinished, surplus, has a wrong letter, a bad number or a wrong number of fields. No item. */
+    PLANCHECK_NETWORK_FORM = 1,
+    /* A count of the N line is outside its limits. No item. */
+    PLANCHECK_NETWORK_COUNTS = 2,
+    /* Phases not 2 to 8; shown phase not 1 to P; a phase or the cycle without 1 <= least <= greatest <= 3600; shown
+       seconds above that phase's greatest time; cycle clock above the greatest cycle, below the shown seconds, or
+       unequal to them when phase 1 is shown. Item: signal. */
+    PLANCHECK_SIGNAL_VALUES = 3,
+    /* Capacity above 2000000000; travel time not 1 to 3600; exit rate above 10000; signal above R; a mask that is not 0
+       without a signal, or is 0 or names a phase above P with one; standing volume above capacity. Item: link. */
+    PLANCHECK_LINK_VALUES = 4,
+    /* A link not 1 to L; from equal to to; rate not 1 to 10000; share not 1 to 1000; (from, to) not above the pair
+       before; or the shares of a link do not sum to 1000, told at its last movement. Item: movement. */
+    PLANCHECK_MOVEMENT_VALUES = 5,
+    /* Length not 1 to 60, or above the greatest time of some phase; a demand above 600000. Item: step. */
+    PLANCHECK_STEP_VALUES = 6,
+    /* Volume that has travelled through the link arrives between two boundaries: the time of the named step's end is at
+       least the travel time, but that time minus the travel time is no boundary. Item: link. */
+    PLANCHECK_TRAVEL_TIME = 7,
+
+    /* Ledger. */
+
+    /* Fewer than PLANCHECK_LEDGER_LEN(L, K) numbers. No line, no item. */
+    PLANCHECK_LEDGER_TOO_SHORT = 8,
+
+    /* Plan text. */
+
+    /* As number 1, with 1 + R + 2L + M fields. No item. */
+    PLANCHECK_PLAN_FORM = 9,
+    /* A mask does not have exactly one bit set, or names none of the signal's phases. Item: signal. */
+    PLANCHECK_SIGNAL_MASK = 10,
+    /* The phase is neither that of the step before nor the next. Item: signal. */
+    PLANCHECK_PHASE_ORDER = 11,
+    /* A phase is left before its least time. Item: signal. */
+    PLANCHECK_PHASE_TOO_SHORT = 12,
+    /* A phase shows longer than its greatest time. Item: signal. */
+    PLANCHECK_PHASE_TOO_LONG = 13,
+    /* Phase 1 begins again before the least cycle, or the cycle is longer than the greatest. Item: signal. */
+    PLANCHECK_CYCLE_TIME = 14,
+    /* Admitted above demand (item: link); let out above exit rate * length (item: link); or a movement above its rate *
+       length, or not 0 from a link that its signal shuts (item: movement). In this order. */
+    PLANCHECK_FLOW_LIMIT = 15,
+    /* A movement is above its share of all movements from its link. Item: movement. */
+    PLANCHECK_TURNING_SHARE = 16,
+    /* More has left the link than has arrived at its end. Item: link. */
+    PLANCHECK_EARLY_DEPARTURE = 17,
+    /* The link would hold more than its capacity; space freed in a step counts from the next. Item: link. */
+    PLANCHECK_OVER_CAPACITY = 18,
+
+    /* State of one link. No line, no item. */
+
+    /* The boundary is above K. */
+    PLANCHECK_NO_SUCH_BOUNDARY = 19,
+    /* The link is not 1 to L. */
+    PLANCHECK_NO_SUCH_LINK = 20,
+    /* The ledger has left above arrived, or arrived above entered: it is not one of this network. */
+    PLANCHECK_LEDGER_CONTRADICTION = 21
+};
+
+/* Answer of plancheck_check_network. 12 bytes. */
+typedef struct {
+    uint32_t number; /* PLANCHECK_OK: the network is valid */
+    uint32_t line;
+    uint32_t item;
+} plancheck_network_result;
+
+/* Answer of plancheck_check_plan. 48 bytes, of which the 4 after item are padding. */
+typedef struct {
+    uint32_t number; /* PLANCHECK_OK: the plan is accepted */
+    uint32_t line;
+    uint32_t item;
+    uint64_t admitted;     /* volume admitted on all links in all steps */
+    uint64_t let_out;      /* volume let out of the network from all links in all steps */
+    uint64_t inside;       /* volume in the network at the end */
+    uint64_t doubled_time; /* twice the travel time, in thousandths of a vehicle times seconds: the sum over the steps of
+                              length * (volume in the network at the step's start + at its end) */
+} plancheck_plan_result;
+
+/* Answer of plancheck_link_state. 20 bytes. */
+typedef struct {
+    uint32_t number; /* PLANCHECK_OK: the state is known */
+    uint32_t line;
+    uint32_t item;
+    uint32_t queued;     /* volume that has arrived at the link's end and has not left */
+    uint32_t in_transit; /* volume that has entered and has not arrived */
+} plancheck_link_result;
+
+/*
+ * Checks a network text. Refusals 1 to 7.
+ *
+ * Reads network[0 .. network_len - 1]. Writes nothing.
+ */
+plancheck_network_result plancheck_check_network(const uint8_t *network, size_t network_len);
+
+/*
+ * Checks a plan on a network, and fills the ledger. Refusals 1 to 18: first those of the network (1 to 7), then the
+ * ledger's length (8), then the plan line by line: the form of the line (9), then rules 10 to 18 by number, each over
+ * rising items.
+ *
+ * Reads both texts. Writes rows of the ledger, as far as the plan passes:
+ *     accepted, or refused with 9 for text after the last line     rows 0 to K
+ *     refused at line n of the plan, n from 1 to K                 rows 0 to n - 1
+ *     refused with 1 to 8                                          none
+ * All other numbers of the ledger keep what they held. What the ledger held before has no influence on the answer.
+ */
+plancheck_plan_result plancheck_check_plan(const uint8_t *network, size_t network_len, const uint8_t *plan,
+                                           size_t plan_len, uint32_t *ledger, size_t ledger_len);
+
+/*
+ * Tells what stands on one link at one boundary, from the ledger of an accepted plan. Refusals 1 to 7 of the network,
+ * then 8, 19, 20 and 21.
+ *
+ * Reads the network text and the ledger: of the rows, at most those of the boundary and of the boundary one travel time
+ * before. Writes nothing. A ledger of a refused plan is answered for the rows that were written.
+ */
+plancheck_link_result plancheck_link_state(const uint8_t *network, size_t network_len, const uint32_t *ledger,
+                                           size_t ledger_len, uint32_t boundary, uint32_t link);
+
+#ifdef __cplusplus
+}
+#endif
+
+#endif
