@@ -1,0 +1,294 @@
+#!/usr/bin/env python3
+"""Networks and accepted plans of given sizes, made by simulating traffic.
+
+generate.py random LINKS SIGNALS MOVEMENTS STEPS SEED FOLDER
+    writes network.tsv and plan.tsv of a random network with a plan that the plan check accepts
+generate.py widest FOLDER
+    the same at the greatest sizes, with numbers as long as the limits allow
+generate.py plan NETWORK SEED
+    prints a plan for a network text that is valid
+
+Volumes are in thousandths of a vehicle, times in seconds. Signals, links and phases are counted from 0 here.
+"""
+
+import math
+import os
+import random
+import sys
+from dataclasses import dataclass, field
+
+
+@dataclass
+class Signal:
+    least_cycle: int
+    greatest_cycle: int
+    phase: int
+    shown_for: int
+    cycle_clock: int
+    least: list
+    greatest: list
+
+
+@dataclass
+class Link:
+    capacity: int
+    travel_time: int
+    exit_rate: int
+    signal: int  # counted from 1; 0 for none
+    mask: int
+    standing: int
+
+
+@dataclass
+class Movement:
+    origin: int
+    destination: int
+    rate: int
+    share: int
+
+
+@dataclass
+class Step:
+    length: int
+    demand: list
+
+
+@dataclass
+class Network:
+    signals: list
+    links: list
+    movements: list
+    steps: list
+
+    def times(self):
+        times = [0]
+        for step in self.steps:
+            times.append(times[-1] + step.length)
+        return times
+
+
+@dataclass
+class PlanStep:
+    masks: list
+    admitted: list
+    let_out: list
+    moved: list
+
+
+@dataclass
+class Plan:
+    steps: list
+    entered: list = field(default_factory=list)  # a row for each boundary
+    left: list = field(default_factory=list)
+
+
+def record(letter, numbers):
+    return "\t".join([letter, *map(str, numbers)]) + "\n"
+
+
+def network_text(network):
+    text = record("N", [len(network.links), len(network.signals), len(network.movements), len(network.steps)])
+    for signal in network.signals:
+        spans = [time for pair in zip(signal.least, signal.greatest) for time in pair]
+        head = [signal.least_cycle, signal.greatest_cycle, len(signal.least)]
+        text += record("G", head + [signal.phase + 1, signal.shown_for, signal.cycle_clock] + spans)
+    for link in network.links:
+        text += record("Q", [link.capacity, link.travel_time, link.exit_rate, link.signal, link.mask, link.standing])
+    for movement in network.movements:
+        text += record("M", [movement.origin + 1, movement.destination + 1, movement.rate, movement.share])
+    for step in network.steps:
+        text += record("S", [step.length] + step.demand)
+    return text
+
+
+def plan_text(plan):
+    return "".join(record("P", step.masks + step.admitted + step.let_out + step.moved) for step in plan.steps)
+
+
+def read_network(text):
+    """A network text that is known to be valid."""
+    network = Network([], [], [], [])
+    for line in text.splitlines():
+        letter, *fields = line.split("\t")
+        numbers = [int(number) for number in fields]
+        if letter == "G":
+            least_cycle, greatest_cycle, _, phase, shown_for, cycle_clock = numbers[:6]
+            spans = numbers[6:]
+            network.signals.append(
+                Signal(least_cycle, greatest_cycle, phase - 1, shown_for, cycle_clock, spans[0::2], spans[1::2])
+            )
+        elif letter == "Q":
+            network.links.append(Link(*numbers))
+        elif letter == "M":
+            network.movements.append(Movement(numbers[0] - 1, numbers[1] - 1, numbers[2], numbers[3]))
+        elif letter == "S":
+            network.steps.append(Step(numbers[0], numbers[1:]))
+    return network
+
+
+def signal_phases(chance, signal, lengths):
+    """The phase that a signal shows in each step: greens of a length drawn anew each time, within all its limits."""
+    dead_ends = set()
+    phases = []
+
+    def draw_green(phase):
+        return chance.randint(signal.least[phase], signal.greatest[phase])
+
+    def go_on(step, phase, shown_for, clock, green):
+        if step == len(lengths):
+            return True
+        if (step, phase, shown_for, clock) in dead_ends:
+            return False
+        length = lengths[step]
+        choices = []
+        if shown_for + length <= signal.greatest[phase] and clock + length <= signal.greatest_cycle:
+            choices.append((phase, shown_for + length, clock + length, green))
+        if shown_for >= signal.least[phase]:
+            following = (phase + 1) % len(signal.least)
+            begins_cycle = following == 0
+            clock_before = 0 if begins_cycle else clock
+            in_time = not begins_cycle or clock >= signal.least_cycle
+            if in_time and clock_before + length <= signal.greatest_cycle:
+                choices.append((following, length, clock_before + length, draw_green(following)))
+        if shown_for >= green:
+            choices.reverse()
+        for choice in choices:
+            phases.append(choice[0])
+            if go_on(step + 1, *choice):
+                return True
+            phases.pop()
+        dead_ends.add((step, phase, shown_for, clock))
+        return False
+
+    if not go_on(0, signal.phase, signal.shown_for, signal.cycle_clock, draw_green(signal.phase)):
+        raise ValueError("no sequence of phases keeps the limits of a signal")
+    return phases
+
+
+def make_plan(chance, network):
+    """Simulates traffic: queues move when their signal opens, as far as rates, shares and free space allow."""
+    links, movements = network.links, network.movements
+    lengths = [step.length for step in network.steps]
+    times = network.times()
+    phases = [signal_phases(chance, signal, lengths) for signal in network.signals]
+    from_link = [[j for j, m in enumerate(movements) if m.origin == i] for i in range(len(links))]
+    plan = Plan([], [[link.standing for link in links]], [[0] * len(links)])
+    for n in range(1, len(lengths) + 1):
+        length = lengths[n - 1]
+        masks = [1 << shown[n - 1] for shown in phases]
+        entered, left = plan.entered[n - 1][:], plan.left[n - 1][:]
+        space = [link.capacity + left[i] - entered[i] for i, link in enumerate(links)]
+        let_out, moved = [0] * len(links), [0] * len(movements)
+        for i in chance.sample(range(len(links)), len(links)):
+            link = links[i]
+            entry_time = times[n] - link.travel_time
+            arrived = plan.entered[times.index(entry_time)][i] if entry_time >= 0 else link.standing
+            queue = arrived - left[i]
+            keep = chance.randint(0, queue // 2) if from_link[i] else 0
+            let_out[i] = min(queue - keep, link.exit_rate * length)
+            queue -= let_out[i]
+            is_open = link.signal == 0 or link.mask & masks[link.signal - 1] != 0
+            total = 0
+            if from_link[i] and is_open:
+                # The shares sum to 1000, so every movement has exactly its share of the link's total.
+                total = queue
+                for j in from_link[i]:
+                    most = min(movements[j].rate * length, space[movements[j].destination])
+                    total = min(total, most * 1000 // movements[j].share)
+                grain = 1000 // math.gcd(1000, *[movements[j].share for j in from_link[i]])
+                total -= total % grain
+            for j in from_link[i]:
+                moved[j] = total * movements[j].share // 1000
+                space[movements[j].destination] -= moved[j]
+                entered[movements[j].destination] += moved[j]
+            left[i] += let_out[i] + total
+        admitted = [min(demand, free) for demand, free in zip(network.steps[n - 1].demand, space)]
+        plan.entered.append([volume + new for volume, new in zip(entered, admitted)])
+        plan.left.append(left)
+        plan.steps.append(PlanStep(masks, admitted, let_out, moved))
+    return plan
+
+
+def draw_shares(chance, count):
+    """Shares that sum to 1000, each a multiple of 20."""
+    unit = 20
+    cuts = sorted(chance.sample(range(1, 1000 // unit), count - 1))
+    return [unit * (high - low) for low, high in zip([0] + cuts, cuts + [1000 // unit])]
+
+
+def random_signal(chance):
+    phases = chance.randint(2, 8)
+    least = [chance.choice([5, 10, 15]) for _ in range(phases)]
+    greatest = [time + chance.choice([15, 20, 30, 40]) for time in least]
+    phase = chance.randrange(phases)
+    shown_for = chance.randrange(0, least[phase], 5)
+    clock = shown_for + sum(least[:phase])
+    return Signal(sum(least), sum(greatest), phase, shown_for, clock, least, greatest)
+
+
+def random_network(chance, link_count, signal_count, movement_count, step_count):
+    """Steps of 5 s and, from the middle on, of 10 s; travel times that are multiples of 10 s, so that they end at
+    boundaries. The last link is full all the time."""
+    signals = [random_signal(chance) for _ in range(signal_count)]
+    links = []
+    for i in range(link_count):
+        capacity = chance.randint(30, 150) * 1000
+        signal = chance.randint(0, signal_count)
+        mask = chance.randint(1, 2 ** len(signals[signal - 1].least) - 1) if signal else 0
+        travel_time = 10 * chance.randint(1, 6)
+        exit_rate = chance.choice([200, 400, 600])
+        links.append(Link(capacity, travel_time, exit_rate, signal, mask, chance.randint(0, capacity // 2)))
+    links[-1].standing = links[-1].capacity
+    pairs = [(a, b) for a in range(link_count) for b in range(link_count) if a != b]
+    chosen = sorted(chance.sample(pairs, movement_count))
+    movements = []
+    for i in range(link_count):
+        own = [pair for pair in chosen if pair[0] == i]
+        shares = draw_shares(chance, len(own)) if own else []
+        movements += [Movement(*pair, chance.randint(200, 1500), share) for pair, share in zip(own, shares)]
+    steps = []
+    for n in range(step_count):
+        length = 5 if n < step_count // 2 else 10
+        demand = [chance.randint(0, 800) * length for _ in links]
+        demand[-1] = 600000
+        steps.append(Step(length, demand))
+    return Network(signals, links, movements, steps)
+
+
+def widest_network():
+    """The greatest sizes with numbers as long as the limits allow: links that are always open, and every volume at its
+    highest rate."""
+    least, greatest = [60] * 7 + [1000], [3600] * 8
+    signals = [Signal(1000, 3600, 7, 1000, 1420, least, greatest) for _ in range(8)]
+    links = [Link(2000000000, 3600, 10000, 1 + i % 8, 255, 1500000000) for i in range(24)]
+    movements = [Movement(i, (i + k) % 24, 10000, 250) for i in range(16) for k in (1, 2, 3, 4)]
+    movements.sort(key=lambda movement: (movement.origin, movement.destination))
+    return Network(signals, links, movements, [Step(60, [600000] * 24) for _ in range(120)])
+
+
+def write_folder(folder, network, plan):
+    os.makedirs(folder, exist_ok=True)
+    for name, text in [("network.tsv", network_text(network)), ("plan.tsv", plan_text(plan))]:
+        with open(os.path.join(folder, name), "w", newline="\n") as file:
+            file.write(text)
+
+
+def main():
+    mode, *arguments = sys.argv[1:] or [""]
+    if mode == "random" and len(arguments) == 6:
+        chance = random.Random(int(arguments[4]))
+        network = random_network(chance, *map(int, arguments[:4]))
+        write_folder(arguments[5], network, make_plan(chance, network))
+    elif mode == "widest" and len(arguments) == 1:
+        network = widest_network()
+        write_folder(arguments[0], network, make_plan(random.Random(1), network))
+    elif mode == "plan" and len(arguments) == 2:
+        with open(arguments[0]) as file:
+            network = read_network(file.read())
+        sys.stdout.write(plan_text(make_plan(random.Random(int(arguments[1])), network)))
+    else:
+        sys.exit(__doc__)
+
+
+if __name__ == "__main__":
+    main()

@@ -1,0 +1,520 @@
+/*
+ * The plan check as a C programmer would write it: lines read one by one into local tables, work of R + L + M a step,
+ * the demands read a second time beside the plan rather than stored. It exits as early as the library does.
+ * Signals, links and movements are counted from 0 here, and from 1 in a refusal.
+ */
+#include "twin.h"
+
+#include <stdbool.h>
+
+enum { MAX_PHASES = 8, MAX_PLAN_NUMBERS = PLANCHECK_MAX_SIGNALS + 2 * PLANCHECK_MAX_LINKS + PLANCHECK_MAX_MOVEMENTS };
+
+/* number 0: passed */
+struct refusal {
+    uint32_t number, line, item;
+};
+
+static const struct refusal passed = {0, 0, 0};
+
+struct signal {
+    uint32_t least_cycle, greatest_cycle;
+    uint32_t phases;
+    uint32_t phase; /* shown now, counted from 0 */
+    uint32_t shown_for, cycle_clock;
+    uint32_t least[MAX_PHASES], greatest[MAX_PHASES];
+};
+
+struct link {
+    uint32_t capacity, travel_time, exit_rate;
+    uint32_t signal; /* 0: none, else counted from 1 */
+    uint32_t mask;
+    uint32_t standing;
+};
+
+struct movement {
+    uint32_t from, to, rate, share;
+};
+
+struct network {
+    uint32_t links, signals, movements, steps;
+    uint32_t shortest_greatest_time; /* of all phases of all signals */
+    struct signal signal[PLANCHECK_MAX_SIGNALS];
+    struct link link[PLANCHECK_MAX_LINKS];
+    struct movement movement[PLANCHECK_MAX_MOVEMENTS];
+    uint32_t time[PLANCHECK_MAX_STEPS + 1]; /* of each boundary */
+    size_t first_step; /* where the S lines begin */
+};
+
+/* A text with a cursor. */
+struct text {
+    const uint8_t *bytes;
+    size_t length, at;
+};
+
+static struct refusal refuse(uint32_t number, uint32_t line, uint32_t item)
+{
+    return (struct refusal){number, line, item};
+}
+
+/* Reads a tab and a number of 1 to 10 digits without leading zeros. */
+static bool read_number(struct text *text, uint32_t *number)
+{
+    size_t at = text->at;
+    if (at >= text->length || text->bytes[at] != '\t')
+        return false;
+    at++;
+    size_t start = at;
+    uint64_t value = 0;
+    while (at < text->length) {
+        uint8_t digit = (uint8_t)(text->bytes[at] - '0');
+        if (digit > 9)
+            break;
+        value = 10 * value + digit;
+        if (value > UINT32_MAX)
+            return false;
+        at++;
+    }
+    size_t digits = at - start;
+    if (digits == 0 || (digits > 1 && text->bytes[start] == '0'))
+        return false;
+    *number = (uint32_t)value;
+    text->at = at;
+    return true;
+}
+
+static bool read_letter(struct text *text, uint8_t letter)
+{
+    if (text->at >= text->length || text->bytes[text->at] != letter)
+        return false;
+    text->at++;
+    return true;
+}
+
+static bool read_numbers(struct text *text, uint32_t *numbers, size_t count)
+{
+    for (size_t i = 0; i < count; i++)
+        if (!read_number(text, &numbers[i]))
+            return false;
+    return true;
+}
+
+static bool read_line_feed(struct text *text)
+{
+    return read_letter(text, '\n');
+}
+
+/* Reads a whole line: a letter and so many numbers. */
+static bool read_line(struct text *text, uint8_t letter, uint32_t *numbers, size_t count)
+{
+    return read_letter(text, letter) && read_numbers(text, numbers, count) && read_line_feed(text);
+}
+
+/* Whether the field that was read ends here. */
+static bool at_field_end(const struct text *text)
+{
+    return text->at >= text->length || text->bytes[text->at] == '\t' || text->bytes[text->at] == '\n';
+}
+
+static bool is_span(uint32_t least, uint32_t greatest)
+{
+    return 1 <= least && least <= greatest && greatest <= 3600;
+}
+
+static bool is_valid_signal(const struct signal *signal)
+{
+    if (signal->phase >= signal->phases)
+        return false;
+    for (uint32_t k = 0; k < signal->phases; k++)
+        if (!is_span(signal->least[k], signal->greatest[k]))
+            return false;
+    return is_span(signal->least_cycle, signal->greatest_cycle) &&
+           signal->shown_for <= signal->greatest[signal->phase] && signal->cycle_clock <= signal->greatest_cycle &&
+           signal->cycle_clock >= signal->shown_for &&
+           (signal->phase != 0 || signal->cycle_clock == signal->shown_for);
+}
+
+/* A G line. Its number of phases is judged as soon as the first seven fields are read. */
+static struct refusal read_signal(struct text *text, struct network *network, uint32_t line, uint32_t index)
+{
+    struct signal *signal = &network->signal[index];
+    uint32_t head[6], times[2 * MAX_PHASES];
+    if (!read_letter(text, 'G') || !read_numbers(text, head, 6) || !at_field_end(text))
+        return refuse(1, line, 0);
+    if (head[2] < 2 || head[2] > MAX_PHASES)
+        return refuse(3, line, index + 1);
+    if (!read_numbers(text, times, 2 * head[2]) || !read_line_feed(text))
+        return refuse(1, line, 0);
+    signal->least_cycle = head[0];
+    signal->greatest_cycle = head[1];
+    signal->phases = head[2];
+    signal->phase = head[3] - 1; /* a shown phase 0 becomes the greatest number, which is no phase */
+    signal->shown_for = head[4];
+    signal->cycle_clock = head[5];
+    for (uint32_t k = 0; k < signal->phases; k++) {
+        signal->least[k] = times[2 * k];
+        signal->greatest[k] = times[2 * k + 1];
+        if (signal->greatest[k] < network->shortest_greatest_time)
+            network->shortest_greatest_time = signal->greatest[k];
+    }
+    return is_valid_signal(signal) ? passed : refuse(3, line, index + 1);
+}
+
+static bool is_valid_link(const struct network *network, const struct link *link)
+{
+    if (link->capacity > 2000000000 || link->travel_time < 1 || link->travel_time > 3600 || link->exit_rate > 10000 ||
+        link->signal > network->signals || link->standing > link->capacity)
+        return false;
+    if (link->signal == 0)
+        return link->mask == 0;
+    return link->mask != 0 && link->mask >> network->signal[link->signal - 1].phases == 0;
+}
+
+/* A Q line. */
+static struct refusal read_link(struct text *text, struct network *network, uint32_t line, uint32_t index)
+{
+    struct link *link = &network->link[index];
+    uint32_t numbers[6];
+    if (!read_line(text, 'Q', numbers, 6))
+        return refuse(1, line, 0);
+    *link = (struct link){numbers[0], numbers[1], numbers[2], numbers[3], numbers[4], numbers[5]};
+    return is_valid_link(network, link) ? passed : refuse(4, line, index + 1);
+}
+
+/* An M line. */
+static struct refusal read_movement(struct text *text, struct network *network, uint32_t line, uint32_t index)
+{
+    uint32_t numbers[4];
+    if (!read_line(text, 'M', numbers, 4))
+        return refuse(1, line, 0);
+    uint32_t from = numbers[0], to = numbers[1], rate = numbers[2], share = numbers[3];
+    bool valid = 1 <= from && from <= network->links && 1 <= to && to <= network->links && from != to && 1 <= rate &&
+                 rate <= 10000 && 1 <= share && share <= 1000;
+    if (valid && index > 0) {
+        const struct movement *before = &network->movement[index - 1];
+        valid = from - 1 > before->from || (from - 1 == before->from && to - 1 > before->to);
+    }
+    if (!valid)
+        return refuse(5, line, index + 1);
+    network->movement[index] = (struct movement){from - 1, to - 1, rate, share};
+    return passed;
+}
+
+/* The shares of a link's movements, which stand together, sum to 1000. */
+static struct refusal judge_shares(const struct network *network, uint32_t first_line)
+{
+    uint32_t sum = 0;
+    for (uint32_t j = 0; j < network->movements; j++) {
+        sum += network->movement[j].share;
+        if (j + 1 == network->movements || network->movement[j + 1].from != network->movement[j].from) {
+            if (sum != 1000)
+                return refuse(5, first_line + j, j + 1);
+            sum = 0;
+        }
+    }
+    return passed;
+}
+
+/* An S line. */
+static struct refusal read_step(struct text *text, struct network *network, uint32_t line, uint32_t index)
+{
+    uint32_t numbers[1 + PLANCHECK_MAX_LINKS];
+    if (!read_line(text, 'S', numbers, 1 + network->links))
+        return refuse(1, line, 0);
+    uint32_t length = numbers[0];
+    bool valid = 1 <= length && length <= 60 && length <= network->shortest_greatest_time;
+    for (uint32_t i = 0; i < network->links; i++)
+        valid = valid && numbers[1 + i] <= 600000;
+    if (!valid)
+        return refuse(6, line, index + 1);
+    network->time[index + 1] = network->time[index] + length;
+    return passed;
+}
+
+/* Every arrival falls on a boundary. As steps rise, so does the boundary at which what arrives has entered. */
+static struct refusal judge_travel_times(const struct network *network, uint32_t first_line)
+{
+    uint8_t entry[PLANCHECK_MAX_LINKS] = {0};
+    for (uint32_t n = 1; n <= network->steps; n++) {
+        for (uint32_t i = 0; i < network->links; i++) {
+            if (network->time[n] < network->link[i].travel_time)
+                continue;
+            uint32_t entry_time = network->time[n] - network->link[i].travel_time;
+            while (network->time[entry[i]] < entry_time)
+                entry[i]++;
+            if (network->time[entry[i]] != entry_time)
+                return refuse(7, first_line + n - 1, i + 1);
+        }
+    }
+    return passed;
+}
+
+/* Reads and judges a network text. */
+static struct refusal read_network(struct network *network, const uint8_t *bytes, size_t length)
+{
+    struct text text = {bytes, length, 0};
+    struct refusal refusal;
+    uint32_t counts[4];
+    if (!read_line(&text, 'N', counts, 4))
+        return refuse(1, 1, 0);
+    if (counts[0] < 1 || counts[0] > PLANCHECK_MAX_LINKS || counts[1] > PLANCHECK_MAX_SIGNALS ||
+        counts[2] > PLANCHECK_MAX_MOVEMENTS || counts[3] < 1 || counts[3] > PLANCHECK_MAX_STEPS)
+        return refuse(2, 1, 0);
+    network->links = counts[0];
+    network->signals = counts[1];
+    network->movements = counts[2];
+    network->steps = counts[3];
+    network->shortest_greatest_time = UINT32_MAX;
+    network->time[0] = 0;
+
+    uint32_t line = 2;
+    for (uint32_t i = 0; i < network->signals; i++, line++) {
+        refusal = read_signal(&text, network, line, i);
+        if (refusal.number != 0)
+            return refusal;
+    }
+    for (uint32_t i = 0; i < network->links; i++, line++) {
+        refusal = read_link(&text, network, line, i);
+        if (refusal.number != 0)
+            return refusal;
+    }
+    for (uint32_t i = 0; i < network->movements; i++, line++) {
+        refusal = read_movement(&text, network, line, i);
+        if (refusal.number != 0)
+            return refusal;
+    }
+    refusal = judge_shares(network, line - network->movements);
+    if (refusal.number != 0)
+        return refusal;
+    network->first_step = text.at;
+    for (uint32_t i = 0; i < network->steps; i++, line++) {
+        refusal = read_step(&text, network, line, i);
+        if (refusal.number != 0)
+            return refusal;
+    }
+    if (text.at != text.length)
+        return refuse(1, line, 0);
+    return judge_travel_times(network, line - network->steps);
+}
+
+/* One step of a plan, and what it does to the links. */
+struct step {
+    uint32_t length;
+    uint32_t demand[PLANCHECK_MAX_LINKS];
+    const uint32_t *mask, *admitted, *let_out, *moved;
+    uint32_t moved_from[PLANCHECK_MAX_LINKS], moved_to[PLANCHECK_MAX_LINKS];
+    uint32_t entered[PLANCHECK_MAX_LINKS], left[PLANCHECK_MAX_LINKS];
+};
+
+/* The phase whose bit is all of the mask, counted from 0; the number of phases where there is none. */
+static uint32_t phase_of(uint32_t mask, uint32_t phases)
+{
+    for (uint32_t k = 0; k < phases; k++)
+        if (mask == 1u << k)
+            return k;
+    return phases;
+}
+
+/* Rules 10 to 14, then the signals move on. */
+static struct refusal judge_signals(struct network *network, const struct step *step, uint32_t line)
+{
+    uint32_t phase[PLANCHECK_MAX_SIGNALS], shown_for[PLANCHECK_MAX_SIGNALS], cycle_clock[PLANCHECK_MAX_SIGNALS];
+    for (uint32_t i = 0; i < network->signals; i++) {
+        const struct signal *signal = &network->signal[i];
+        phase[i] = phase_of(step->mask[i], signal->phases);
+        if (phase[i] == signal->phases)
+            return refuse(10, line, i + 1);
+    }
+    for (uint32_t i = 0; i < network->signals; i++) {
+        const struct signal *signal = &network->signal[i];
+        uint32_t next = signal->phase + 1 == signal->phases ? 0 : signal->phase + 1;
+        if (phase[i] != signal->phase && phase[i] != next)
+            return refuse(11, line, i + 1);
+    }
+    for (uint32_t i = 0; i < network->signals; i++) {
+        const struct signal *signal = &network->signal[i];
+        if (phase[i] != signal->phase && signal->shown_for < signal->least[signal->phase])
+            return refuse(12, line, i + 1);
+    }
+    for (uint32_t i = 0; i < network->signals; i++) {
+        const struct signal *signal = &network->signal[i];
+        shown_for[i] = (phase[i] == signal->phase ? signal->shown_for : 0) + step->length;
+        if (shown_for[i] > signal->greatest[phase[i]])
+            return refuse(13, line, i + 1);
+    }
+    for (uint32_t i = 0; i < network->signals; i++) {
+        const struct signal *signal = &network->signal[i];
+        bool begins_cycle = phase[i] == 0 && signal->phase != 0;
+        if (begins_cycle && signal->cycle_clock < signal->least_cycle)
+            return refuse(14, line, i + 1);
+        cycle_clock[i] = (begins_cycle ? 0 : signal->cycle_clock) + step->length;
+        if (cycle_clock[i] > signal->greatest_cycle)
+            return refuse(14, line, i + 1);
+    }
+    for (uint32_t i = 0; i < network->signals; i++) {
+        network->signal[i].phase = phase[i];
+        network->signal[i].shown_for = shown_for[i];
+        network->signal[i].cycle_clock = cycle_clock[i];
+    }
+    return passed;
+}
+
+/* Rules 15 and 16. */
+static struct refusal judge_flows(const struct network *network, struct step *step, uint32_t line)
+{
+    bool is_open[PLANCHECK_MAX_LINKS];
+    for (uint32_t i = 0; i < network->links; i++)
+        if (step->admitted[i] > step->demand[i])
+            return refuse(15, line, i + 1);
+    for (uint32_t i = 0; i < network->links; i++)
+        if (step->let_out[i] > network->link[i].exit_rate * step->length)
+            return refuse(15, line, i + 1);
+    for (uint32_t i = 0; i < network->links; i++) {
+        const struct link *link = &network->link[i];
+        is_open[i] = link->signal == 0 || (link->mask & step->mask[link->signal - 1]) != 0;
+        step->moved_from[i] = 0;
+        step->moved_to[i] = 0;
+    }
+    for (uint32_t j = 0; j < network->movements; j++) {
+        const struct movement *movement = &network->movement[j];
+        if (step->moved[j] > movement->rate * step->length || (step->moved[j] != 0 && !is_open[movement->from]))
+            return refuse(15, line, j + 1);
+        step->moved_from[movement->from] += step->moved[j];
+        step->moved_to[movement->to] += step->moved[j];
+    }
+    for (uint32_t j = 0; j < network->movements; j++) {
+        const struct movement *movement = &network->movement[j];
+        if ((uint64_t)1000 * step->moved[j] > (uint64_t)movement->share * step->moved_from[movement->from])
+            return refuse(16, line, j + 1);
+    }
+    return passed;
+}
+
+/* Rules 17 and 18. entry: the boundary at which what arrives at a link by now has entered it. */
+static struct refusal judge_links(const struct network *network, struct step *step, const uint32_t *ledger, uint32_t n,
+                                  uint8_t *entry)
+{
+    const uint32_t *row_before = ledger + 2 * (size_t)(n - 1) * network->links;
+    for (uint32_t i = 0; i < network->links; i++) {
+        const struct link *link = &network->link[i];
+        uint32_t arrived = link->standing;
+        if (network->time[n] >= link->travel_time) {
+            while (network->time[entry[i]] < network->time[n] - link->travel_time)
+                entry[i]++;
+            arrived = ledger[2 * ((size_t)entry[i] * network->links + i)];
+        }
+        step->left[i] = row_before[2 * i + 1] + step->let_out[i] + step->moved_from[i];
+        if (step->left[i] > arrived)
+            return refuse(17, n, i + 1);
+    }
+    for (uint32_t i = 0; i < network->links; i++) {
+        step->entered[i] = row_before[2 * i] + step->admitted[i] + step->moved_to[i];
+        if (step->entered[i] - row_before[2 * i + 1] > network->link[i].capacity)
+            return refuse(18, n, i + 1);
+    }
+    return passed;
+}
+
+plancheck_network_result twin_check_network(const uint8_t *network_text, size_t network_len)
+{
+    struct network network;
+    struct refusal refusal = read_network(&network, network_text, network_len);
+    return (plancheck_network_result){refusal.number, refusal.line, refusal.item};
+}
+
+static plancheck_plan_result plan_refused(struct refusal refusal)
+{
+    return (plancheck_plan_result){refusal.number, refusal.line, refusal.item, 0, 0, 0, 0};
+}
+
+plancheck_plan_result twin_check_plan(const uint8_t *network_text, size_t network_len, const uint8_t *plan_text,
+                                      size_t plan_len, uint32_t *ledger, size_t ledger_len)
+{
+    struct network network;
+    struct refusal refusal = read_network(&network, network_text, network_len);
+    if (refusal.number != 0)
+        return plan_refused(refusal);
+    if (ledger_len < PLANCHECK_LEDGER_LEN(network.links, network.steps))
+        return plan_refused(refuse(8, 0, 0));
+
+    plancheck_plan_result result = {0, 0, 0, 0, 0, 0, 0};
+    for (uint32_t i = 0; i < network.links; i++) {
+        ledger[2 * i] = network.link[i].standing;
+        ledger[2 * i + 1] = 0;
+        result.inside += network.link[i].standing;
+    }
+    struct text demands = {network_text, network_len, network.first_step};
+    struct text plan = {plan_text, plan_len, 0};
+    uint8_t entry[PLANCHECK_MAX_LINKS] = {0};
+    uint32_t numbers[MAX_PLAN_NUMBERS], step_numbers[1 + PLANCHECK_MAX_LINKS];
+    struct step step;
+    step.mask = numbers;
+    step.admitted = step.mask + network.signals;
+    step.let_out = step.admitted + network.links;
+    step.moved = step.let_out + network.links;
+    for (uint32_t n = 1; n <= network.steps; n++) {
+        if (!read_line(&plan, 'P', numbers, network.signals + 2 * network.links + network.movements))
+            return plan_refused(refuse(9, n, 0));
+        read_line(&demands, 'S', step_numbers, 1 + network.links);
+        step.length = step_numbers[0];
+        for (uint32_t i = 0; i < network.links; i++)
+            step.demand[i] = step_numbers[1 + i];
+
+        refusal = judge_signals(&network, &step, n);
+        if (refusal.number == 0)
+            refusal = judge_flows(&network, &step, n);
+        if (refusal.number == 0)
+            refusal = judge_links(&network, &step, ledger, n, entry);
+        if (refusal.number != 0)
+            return plan_refused(refusal);
+
+        uint64_t inside_before = result.inside;
+        uint32_t *row = ledger + 2 * (size_t)n * network.links;
+        for (uint32_t i = 0; i < network.links; i++) {
+            row[2 * i] = step.entered[i];
+            row[2 * i + 1] = step.left[i];
+            result.admitted += step.admitted[i];
+            result.let_out += step.let_out[i];
+            result.inside += step.admitted[i];
+            result.inside -= step.let_out[i];
+        }
+        result.doubled_time += step.length * (inside_before + result.inside);
+    }
+    if (plan.at != plan.length)
+        return plan_refused(refuse(9, network.steps + 1, 0));
+    return result;
+}
+
+static plancheck_link_result link_refused(struct refusal refusal)
+{
+    return (plancheck_link_result){refusal.number, refusal.line, refusal.item, 0, 0};
+}
+
+plancheck_link_result twin_link_state(const uint8_t *network_text, size_t network_len, const uint32_t *ledger,
+                                      size_t ledger_len, uint32_t boundary, uint32_t link)
+{
+    struct network network;
+    struct refusal refusal = read_network(&network, network_text, network_len);
+    if (refusal.number != 0)
+        return link_refused(refusal);
+    if (ledger_len < PLANCHECK_LEDGER_LEN(network.links, network.steps))
+        return link_refused(refuse(8, 0, 0));
+    if (boundary > network.steps)
+        return link_refused(refuse(19, 0, 0));
+    if (link < 1 || link > network.links)
+        return link_refused(refuse(20, 0, 0));
+
+    size_t row_length = 2 * (size_t)network.links, place = 2 * (size_t)(link - 1);
+    uint32_t entered = ledger[boundary * row_length + place];
+    uint32_t left = ledger[boundary * row_length + place + 1];
+    uint32_t travel_time = network.link[link - 1].travel_time;
+    uint32_t arrived = network.link[link - 1].standing;
+    if (network.time[boundary] >= travel_time) {
+        uint32_t entry = 0;
+        while (network.time[entry] < network.time[boundary] - travel_time)
+            entry++;
+        arrived = ledger[entry * row_length + place];
+    }
+    if (left > arrived || arrived > entered)
+        return link_refused(refuse(21, 0, 0));
+    return (plancheck_link_result){0, 0, 0, arrived - left, entered - arrived};
+}
