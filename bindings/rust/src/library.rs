@@ -1,0 +1,50 @@
+//! The calls of the C library, as `include/plancheck.h` declares them.
+
+#[repr(C)]
+pub struct NetworkResult {
+    pub number: u32,
+    pub line: u32,
+    pub item: u32,
+}
+
+#[repr(C)]
+pub struct PlanResult {
+    pub number: u32,
+    pub line: u32,
+    pub item: u32,
+    pub admitted: u64,
+    pub let_out: u64,
+    pub inside: u64,
+    pub doubled_time: u64,
+}
+
+#[repr(C)]
+pub struct LinkResult {
+    pub number: u32,
+    pub line: u32,
+    pub item: u32,
+    pub queued: u32,
+    pub in_transit: u32,
+}
+
+extern "C" {
+    pub fn plancheck_check_network(network: *const u8, network_len: usize) -> NetworkResult;
+
+    pub fn plancheck_check_plan(
+        network: *const u8,
+        network_len: usize,
+        plan: *const u8,
+        plan_len: usize,
+        ledger: *mut u32,
+        ledger_len: usize,
+    ) -> PlanResult;
+
+    pub fn plancheck_link_state(
+        network: *const u8,
+        network_len: usize,
+        ledger: *const u32,
+        ledger_len: usize,
+        boundary: u32,
+        link: u32,
+    ) -> LinkResult;
+}

@@ -1,0 +1,148 @@
+//! Why a call declines, in numbers and in words.
+
+use core::fmt;
+
+/// Why a call declined: the number of the refusal, and the line and the item that it names.
+///
+/// Lines and items are counted from 1; 0 where none is named. Numbers 1 to 7 name a line of the network text, 9 to 18
+/// a line of the plan text, the others none. What the item is depends on the number: see [`Refusal::item_kind`].
+///
+/// `Display` says it in words:
+///
+/// ```
+/// use plancheck::Refusal;
+///
+/// let refusal = Refusal { number: 17, line: 1, item: 2 };
+/// assert_eq!(
+///     refusal.to_string(),
+///     "refusal 17, plan line 1, link 2: more has left than has arrived"
+/// );
+/// ```
+#[derive(Clone, Copy, Debug, PartialEq, Eq, Hash)]
+pub struct Refusal {
+    /// 1 to 21, as in the table of refusals.
+    pub number: u32,
+    /// The line of the network or plan text; 0 where none is named.
+    pub line: u32,
+    /// The signal, link, movement or step; 0 where none is named.
+    pub item: u32,
+}
+
+/// The text that a refusal's line belongs to.
+#[derive(Clone, Copy, Debug, PartialEq, Eq, Hash)]
+pub enum Text {
+    /// The network text.
+    Network,
+    /// The plan text.
+    Plan,
+}
+
+/// What a refusal's item counts.
+#[derive(Clone, Copy, Debug, PartialEq, Eq, Hash)]
+pub enum ItemKind {
+    /// A signal: a `G` line of the network.
+    Signal,
+    /// A link: a `Q` line.
+    Link,
+    /// A movement: an `M` line.
+    Movement,
+    /// A step: an `S` line.
+    Step,
+    /// A link for admitted and let-out volume, a movement for a moved one.
+    LinkOrMovement,
+}
+
+impl Refusal {
+    /// The text that the line belongs to; none where no line is named.
+    #[must_use]
+    pub const fn text(&self) -> Option<Text> {
+        match self.number {
+            1..=7 => Some(Text::Network),
+            9..=18 => Some(Text::Plan),
+            _ => None,
+        }
+    }
+
+    /// What the item counts; none where no item is named.
+    #[must_use]
+    pub const fn item_kind(&self) -> Option<ItemKind> {
+        match self.number {
+            3 | 10..=14 => Some(ItemKind::Signal),
+            4 | 7 | 17 | 18 => Some(ItemKind::Link),
+            5 | 16 => Some(ItemKind::Movement),
+            6 => Some(ItemKind::Step),
+            15 => Some(ItemKind::LinkOrMovement),
+            _ => None,
+        }
+    }
+
+    /// What the number means, in words.
+    #[must_use]
+    pub const fn meaning(&self) -> &'static str {
+        match self.number {
+            1 | 9 => {
+                "a line is missing, unfinished or surplus, \
+                 or has a wrong letter, a bad number or a wrong number of fields"
+            }
+            2 => "a count is outside its limits",
+            3 => "a value of the signal is outside its limits",
+            4 => "a value of the link is outside its limits",
+            5 => {
+                "a value of the movement is outside its limits, the pairs of links do not rise, \
+                 or the link's shares do not sum to 1000"
+            }
+            6 => "the step's length or a demand is outside its limits",
+            7 => "the link's travel time does not end at a boundary",
+            8 => "the ledger is too short",
+            10 => "the mask shows none of the signal's phases, or several",
+            11 => "the phase is neither that of the step before nor the next",
+            12 => "a phase is left before its least time",
+            13 => "a phase shows longer than its greatest time",
+            14 => "the cycle is shorter than its least or longer than its greatest time",
+            15 => "more is admitted, let out or moved than may be, or a movement leaves a shut link",
+            16 => "the movement is above its share of the movements from its link",
+            17 => "more has left than has arrived",
+            18 => "the link would hold more than its capacity",
+            19 => "there is no such boundary",
+            20 => "there is no such link",
+            21 => "the ledger contradicts itself or the network",
+            _ => "the number is unknown",
+        }
+    }
+}
+
+impl fmt::Display for Text {
+    fn fmt(&self, formatter: &mut fmt::Formatter<'_>) -> fmt::Result {
+        formatter.write_str(match self {
+            Text::Network => "network",
+            Text::Plan => "plan",
+        })
+    }
+}
+
+impl fmt::Display for ItemKind {
+    fn fmt(&self, formatter: &mut fmt::Formatter<'_>) -> fmt::Result {
+        formatter.write_str(match self {
+            ItemKind::Signal => "signal",
+            ItemKind::Link => "link",
+            ItemKind::Movement => "movement",
+            ItemKind::Step => "step",
+            ItemKind::LinkOrMovement => "link or movement",
+        })
+    }
+}
+
+impl fmt::Display for Refusal {
+    fn fmt(&self, formatter: &mut fmt::Formatter<'_>) -> fmt::Result {
+        write!(formatter, "refusal {}", self.number)?;
+        if let Some(text) = self.text() {
+            write!(formatter, ", {text} line {}", self.line)?;
+        }
+        if let Some(kind) = self.item_kind() {
+            write!(formatter, ", {kind} {}", self.item)?;
+        }
+        write!(formatter, ": {}", self.meaning())
+    }
+}
+
+impl core::error::Error for Refusal {}
