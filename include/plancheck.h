@@ -51,12 +51,14 @@
  *     (and, for plancheck_check_plan, writable) for its length in numbers.
  *   - The ledger lent to plancheck_check_plan overlaps neither text. The texts may overlap each other.
  *   - No other thread writes to the texts or the ledger, or reads the ledger of plancheck_check_plan, during the call.
- * There are no others. Every content of the texts and of the ledger is judged, and every length is taken.
+ * There are no others: any bytes in the texts, any numbers in the ledger and any lengths are allowed, and lead to a
+ * refusal at worst.
  *
  * WHAT A CALL DOES NOT DO
- * It keeps nothing between calls and uses no heap, no global or static data, no file and no errno. The answer depends on
- * the arguments alone. The calls are re-entrant and may run in several threads at once, each plan check with a ledger of
- * its own. A call always returns, after work that grows linearly with the lengths of the texts and with K * (R + L + M).
+ * It keeps nothing between calls and uses no heap, no global or static data, no file and no errno. The answer depends
+ * on the arguments alone. The calls are re-entrant and may run in several threads at once, each plan check with a
+ * ledger of its own. A call always returns, after work that grows linearly with the lengths of the texts and with
+ * K * (R + L + M).
  * The library needs memcpy and memset from the C library, at most.
  *
  * STACK
@@ -182,8 +184,8 @@ typedef struct {
     uint64_t admitted;     /* volume admitted on all links in all steps */
     uint64_t let_out;      /* volume let out of the network from all links in all steps */
     uint64_t inside;       /* volume in the network at the end */
-    uint64_t doubled_time; /* twice the travel time, in thousandths of a vehicle times seconds: the sum over the steps of
-                              length * (volume in the network at the step's start + at its end) */
+    uint64_t doubled_time; /* twice the travel time, in thousandths of a vehicle times seconds: the sum over the steps
+                              of length * (volume in the network at the step's start + at its end) */
 } plancheck_plan_result;
 
 /* Answer of plancheck_link_state. 20 bytes. */

@@ -14,8 +14,8 @@ static uint8_t network[PLANCHECK_NETWORK_FILE_MAX + 1];
 static uint8_t plan[PLANCHECK_PLAN_FILE_MAX + 1];
 static uint32_t ledger[PLANCHECK_LEDGER_MAX];
 
-static const char bad_form[] = "a line is missing, unfinished or surplus, or has a wrong letter, a bad number or a wrong "
-                               "number of fields";
+static const char bad_form[] = "a line is missing, unfinished or surplus, or has a wrong letter, a bad number or a "
+                               "wrong number of fields";
 
 /* What each refusal names, and what it means. */
 static const struct {
