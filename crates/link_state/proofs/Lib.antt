@@ -1,0 +1,3 @@
+mod Ledger
+mod State
+pub mod Accepted

@@ -1,0 +1,165 @@
+-- The state of a link by the tables of a network is the paper's. Assumes nothing.
+use Prim.Native.Nat.{ℕ, suc, _+_, _*_, _-_, _≤_, _<_}
+use mathlib.Core.Path.{_≡_, refl, sym, ap, _∙_}
+use mathlib.Core.Bool.{Bool, true, false, cond}
+use mathlib.Core.List.{List}
+use native.Mathlib.Numerals.{add-one}
+use native.Mathlib.Omega.{arith}
+use borrow.Author.Tests.{le-leb, lt-leb}
+use lib.Dec.{leb}
+use lib.ListN.{length}
+use Rattle.search.specs.Checks.{Verdict, passes, refused, orElse, checked, verdict}
+use Rattle.search.proofs.Laws.{or-else-passes, or-else-refused, checked-passes, checked-refused, passes-of-hold}
+use Rattle.records.specs.Lines.{Line, lines}
+use Rattle.model.specs.declared.Counts.{Counts}
+use Rattle.model.specs.declared.LinkAnswer.{LinkAnswer}
+use Rattle.model.specs.declared.LinkAnswer.the-variants.{State, Refused}
+use Rattle.model.specs.Test.{_and_, within}
+use Rattle.model.specs.Network.{linkCount, stepCount}
+use Rattle.model.specs.Table.{networkChecks, ledgerChecks}
+use Rattle.model.specs.Calls.{ledgerEntered, ledgerLeft, ledgerArrived, stateChecks, linkAnswer, linkState}
+use Rattle.model.proofs.Tables.{travel-time-at, standing-at}
+use Rattle.step_lines.proofs.Boundaries.{times-rise, arrival-is}
+use Rattle.network.specs.declared.NetworkRead.{NetworkRead}
+use Rattle.network.specs.declared.NetworkRead.the-variants as network-read
+use Rattle.network.specs.Loading.{networkVerdict, NetworkGot}
+use Rattle.link_state.specs.State.{enteredIn, leftIn, arrivedIn, stateFrom, StateAsked, Tabled}
+
+-- ---- 20: whether a link is one of the network's
+within-true : (low x high : ℕ) → low ≤ x → x ≤ high → within low x high ≡ true
+unfolding within _and_
+within-true low x high h l = rw (le-leb low x h, le-leb x high l)
+
+within-below : (low x high : ℕ) → x < low → within low x high ≡ false
+unfolding within _and_
+within-below low x high h = rw (lt-leb low x h)
+
+within-above : (low x high : ℕ) → low ≤ x → high < x → within low x high ≡ false
+unfolding within _and_
+within-above low x high h l = rw (le-leb low x h, lt-leb x high l)
+
+-- ---- by the checks: 8, 19, 20, 21
+module _ (network : List Line) (ledger : List ℕ) (boundary link : ℕ) where
+  abbrev long-enough : Bool
+  long-enough = leb (2 * suc (stepCount network) * linkCount network) (length ledger)
+
+  abbrev agrees : Bool
+  agrees = leb (ledgerLeft network ledger boundary link) (ledgerArrived network ledger boundary link) and leb (ledgerArrived network ledger boundary link) (ledgerEntered network ledger boundary link boundary)
+
+  abbrev from21 : Verdict
+  from21 = checked agrees 21 0 0
+
+  abbrev from20 : Verdict
+  from20 = orElse (checked (within 1 link (linkCount network)) 20 0 0) from21
+
+  abbrev from19 : Verdict
+  from19 = orElse (checked (leb boundary (stepCount network)) 19 0 0) from20
+
+  whole : verdict (stateChecks network ledger boundary link) ≡ orElse (verdict (networkChecks network)) (orElse (checked long-enough 8 0 0) from19)
+  unfolding verdict stateChecks ledgerChecks
+  whole = refl
+
+  refusal : (x y z : ℕ) → verdict (stateChecks network ledger boundary link) ≡ refused x y z → Refused x y z ≡ linkState network ledger boundary link
+  unfolding linkState linkAnswer
+  refusal x y z e = rw e
+
+  pub network-refused : (x y z : ℕ) → verdict (networkChecks network) ≡ refused x y z → Refused x y z ≡ linkState network ledger boundary link
+  network-refused x y z e = refusal x y z (whole ∙ or-else-refused _ _ x y z e)
+
+  module _ (passed : verdict (networkChecks network) ≡ passes) where
+    pub ledger-short : length ledger < 2 * suc (stepCount network) * linkCount network → Refused 8 0 0 ≡ linkState network ledger boundary link
+    ledger-short h =
+        refusal 8 0 0 (whole ∙ or-else-passes _ _ passed ∙ or-else-refused _ _ 8 0 0 (checked-refused long-enough 8 0 0 (lt-leb _ _ h)))
+
+    module _ (long : 2 * suc (stepCount network) * linkCount network ≤ length ledger) where
+      to19 : verdict (stateChecks network ledger boundary link) ≡ from19
+      to19 = whole ∙ or-else-passes _ _ passed ∙ or-else-passes _ _ (checked-passes long-enough 8 0 0 (le-leb _ _ long))
+
+      pub boundary-past : stepCount network < boundary → Refused 19 0 0 ≡ linkState network ledger boundary link
+      boundary-past h = refusal 19 0 0 (to19 ∙ or-else-refused _ _ 19 0 0 (checked-refused _ 19 0 0 (lt-leb boundary (stepCount network) h)))
+
+      module _ (early : boundary ≤ stepCount network) where
+        to20 : verdict (stateChecks network ledger boundary link) ≡ from20
+        to20 = to19 ∙ or-else-passes _ _ (checked-passes _ 19 0 0 (le-leb boundary (stepCount network) early))
+
+        pub no-link : within 1 link (linkCount network) ≡ false → Refused 20 0 0 ≡ linkState network ledger boundary link
+        no-link outside = refusal 20 0 0 (to20 ∙ or-else-refused _ _ 20 0 0 (checked-refused _ 20 0 0 outside))
+
+        by-agreement : (b : Bool) → linkAnswer network ledger boundary link (checked b 21 0 0)
+            ≡ cond b (State (ledgerArrived network ledger boundary link - ledgerLeft network ledger boundary link) (ledgerEntered network ledger boundary link boundary - ledgerArrived network ledger boundary link))
+            (Refused 21 0 0)
+        unfolding linkAnswer checked
+        by-agreement true = refl
+        by-agreement false = refl
+
+        pub state-is : 1 ≤ link → link ≤ linkCount network
+            → stateFrom (ledgerEntered network ledger boundary link boundary) (ledgerLeft network ledger boundary link) (ledgerArrived network ledger boundary link)
+            ≡ linkState network ledger boundary link
+        unfolding stateFrom linkState
+        state-is first last =
+            let inside = within-true 1 link (linkCount network) first last in
+            sym (ap (linkAnswer network ledger boundary link) (to20 ∙ or-else-passes _ _ (checked-passes _ 20 0 0 inside)) ∙ by-agreement agrees)
+
+-- ---- by the tables
+module _ {network : List Line} {counts : Counts} {links times : List ℕ} (t : Tabled network counts links times) (ledger : List ℕ) (boundary link : ℕ)
+    {size : ℕ} (sized : size ≡ 2 * (counts .steps + 1) * counts .links) where
+  passed : verdict (networkChecks network) ≡ passes
+  passed = passes-of-hold (networkChecks network) (t .holds)
+
+  rows-are : size ≡ 2 * suc (stepCount network) * linkCount network
+  rows-are = sized ∙ rw (add-one, t .counted .steps, t .counted .links)
+
+  pub short-told : length ledger < size → {r : LinkAnswer} → r ≡ Refused 8 0 0 → r ≡ linkState network ledger boundary link
+  short-told h e = e ∙ ledger-short network ledger boundary link passed (omega (arith, rows-are))
+
+  module _ (long : size ≤ length ledger) where
+    room : 2 * suc (stepCount network) * linkCount network ≤ length ledger
+    room = omega (arith, rows-are)
+
+    pub past-told : counts .steps < boundary → {r : LinkAnswer} → r ≡ Refused 19 0 0 → r ≡ linkState network ledger boundary link
+    past-told h e = e ∙ boundary-past network ledger boundary link passed room (omega (arith, t .counted .steps))
+
+    module _ (early : boundary ≤ counts .steps) where
+      reached : boundary ≤ stepCount network
+      reached = omega (arith, t .counted .steps)
+
+      pub below-told : link < 1 → {r : LinkAnswer} → r ≡ Refused 20 0 0 → r ≡ linkState network ledger boundary link
+      below-told h e = e ∙ no-link network ledger boundary link passed room reached (within-below 1 link (linkCount network) h)
+
+      pub above-told : 1 ≤ link → counts .links < link → {r : LinkAnswer} → r ≡ Refused 20 0 0 → r ≡ linkState network ledger boundary link
+      above-told h l e = e ∙ no-link network ledger boundary link passed room reached (within-above 1 link (linkCount network) h (omega (arith, t .counted .links)))
+
+      arrived-is : link - 1 < linkCount network
+          → arrivedIn links times ledger (linkCount network) boundary (link - 1) ≡ ledgerArrived network ledger boundary link
+      unfolding arrivedIn ledgerArrived ledgerEntered
+      arrived-is h =
+          rw (t .time-table .holds boundary reached, travel-time-at (t .link-table) (link - 1) h, standing-at (t .link-table) (link - 1) h, arrival-is (t .time-table) boundary (link - 1) reached)
+
+      pub found-told : 1 ≤ link → link ≤ counts .links → {entered left arrived : ℕ} {r : LinkAnswer}
+          → entered ≡ enteredIn ledger (counts .links) boundary (link - 1) → left ≡ leftIn ledger (counts .links) boundary (link - 1)
+          → arrived ≡ arrivedIn links times ledger (counts .links) boundary (link - 1)
+          → r ≡ stateFrom entered left arrived → r ≡ linkState network ledger boundary link
+      unfolding ledgerEntered ledgerLeft
+      found-told h l e f a q =
+          let last : link ≤ linkCount network = omega (arith, t .counted .links) in
+          q ∙ rw (e, f, a, t .counted .links, arrived-is (omega arith)) (state-is network ledger boundary link passed room reached h last)
+
+-- ---- what a loaded network gives
+pub state-asked : {network : List Line} {counts : Counts} {links times : List ℕ} → Tabled network counts links times → StateAsked counts links times
+state-asked {network} {counts} t =
+    record {
+      few-links = omega (arith, t .counted .links, t .counted .few-links);
+      few-steps = omega (arith, t .counted .steps, t .counted .few-steps);
+      size = t .link-table .size;
+      rising = times-rise (t .time-table) (counts .steps) (omega (arith, t .counted .steps)) (omega (arith, t .counted .steps, t .counted .few-steps));
+    }
+
+module _ {text : List ℕ} {r : NetworkRead} {links movements times : List ℕ} (got : NetworkGot text r links movements times) where
+  pub tabled : {counts : Counts} {signalsAt stepsAt : ℕ} → r ≡ network-read.Loaded counts signalsAt stepsAt → Tabled (lines text) counts links times
+  tabled {counts} {signalsAt} {stepsAt} e =
+      let l = got .loaded counts signalsAt stepsAt e in
+      record { counted = l .counted; link-table = l .link-table; time-table = l .time-table; holds = l .holds }
+
+  pub refused-told : (ledger : List ℕ) (boundary link : ℕ) {x y z : ℕ} → r ≡ network-read.Refused x y z → Refused x y z ≡ linkState (lines text) ledger boundary link
+  unfolding networkVerdict
+  refused-told ledger boundary link {x} {y} {z} e = network-refused (lines text) ledger boundary link x y z (rw e at (sym (got .told)))

@@ -1,0 +1,38 @@
+-- `link_state::left_in` meets its contract. Assumes nothing.
+use borrow.Author.Needs.{needs}
+use Rattle.link_state.proofs.left_in.Statement.{statement}
+use Rattle.link_state.proofs.left_in.Tie as tie
+
+row-start-requires : tie.Need-row-start-requires
+row-start-requires c κs = search needs
+
+mul-result : tie.Need-mul-result
+mul-result c = search needs
+
+add-result : tie.Need-add-result
+add-result c = search needs
+
+add-result-2 : tie.Need-add-result-2
+add-result-2 c = search needs
+
+mul-result-2 : tie.Need-mul-result-2
+mul-result-2 c = search needs
+
+shared-slice-read-result : tie.Need-shared-slice-read-result
+shared-slice-read-result c = search needs
+
+returns : tie.Need-returns
+returns c =
+    cc
+
+pub left-in-spec : {M : Type 1} → statement M
+left-in-spec =
+    tie.close
+    (tie.spec
+    row-start-requires
+    mul-result
+    add-result
+    add-result-2
+    mul-result-2
+    shared-slice-read-result
+    returns)

@@ -1,0 +1,57 @@
+-- `link_state::link_state` meets its contract: the tables are those of the network that was loaded. Assumes nothing.
+use borrow.Author.Needs.{needs}
+use Rattle.link_state.proofs.State.{state-asked, tabled, refused-told}
+use Rattle.link_state.proofs.link_state.Statement.{statement}
+use Rattle.link_state.proofs.link_state.Tie as tie
+
+slice-aggregate-load-network : tie.Need-slice-aggregate-load-network
+slice-aggregate-load-network c = search needs
+
+slice-aggregate-load-network-2 : tie.Need-slice-aggregate-load-network-2
+slice-aggregate-load-network-2 c = search needs
+
+slice-aggregate-load-network-3 : tie.Need-slice-aggregate-load-network-3
+slice-aggregate-load-network-3 c = search needs
+
+load-network-requires : tie.Need-load-network-requires
+load-network-requires c κs = search needs
+
+enum-known-counts : tie.Need-enum-known-counts
+enum-known-counts c = search needs
+
+slice-aggregate-state-by : tie.Need-slice-aggregate-state-by
+slice-aggregate-state-by c = search needs
+
+slice-aggregate-state-by-2 : tie.Need-slice-aggregate-state-by-2
+slice-aggregate-state-by-2 c = search needs
+
+state-by-requires : tie.Need-state-by-requires
+state-by-requires c κs =
+    state-asked (tabled (c .before .before .before .before .before .before .before .before .load-network .ensures) (c .before .before .before .counts .given .1))
+
+enum-known-number : tie.Need-enum-known-number
+enum-known-number c = search needs
+
+returns : tie.Need-returns
+returns c =
+    c .state-by .ensures .told _ (tabled (c .before .before .before .before .before .before .before .before .before .load-network .ensures) (c .before .before .before .before .counts .given .1))
+
+returns-2 : tie.Need-returns-2
+returns-2 c =
+    refused-told (c .before .before .before .before .before .before .load-network .ensures) _ _ _ (c .before .number .given .1)
+
+pub link-state-spec : {M : Type 1} → statement M
+link-state-spec =
+    tie.close
+    (tie.spec
+    slice-aggregate-load-network
+    slice-aggregate-load-network-2
+    slice-aggregate-load-network-3
+    load-network-requires
+    enum-known-counts
+    slice-aggregate-state-by
+    slice-aggregate-state-by-2
+    state-by-requires
+    enum-known-number
+    returns
+    returns-2)
