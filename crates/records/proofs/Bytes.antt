@@ -1,5 +1,5 @@
 -- The first line of some bytes, read byte by byte: what `split` says of it by whether a tab, a line feed or another byte comes first. Assumes nothing.
-use Prim.Native.Nat.{ℕ, suc, _+_, _≤_, _<_}
+use Prim.Native.Nat.{ℕ, suc, _+_, _<_}
 use mathlib.Core.Path.{_≡_, refl, sym, ap, _∙_}
 use mathlib.Core.Logic.{_≢_}
 use mathlib.Core.Bool.{Bool, true, false}
@@ -8,7 +8,7 @@ use native.Mathlib.Omega.{arith}
 use borrow.Author.Tests.{eq-eqb, ne-eqb, lt-ltb, ltb-true}
 use native.Mathlib.Decide.{ℕ-discrete}
 use lib.Dec.{eqb, ltb, eqb·suc-zero}
-use lib.ListN.{length, take, drop, getD}
+use lib.ListN.{length, drop, getD}
 use Rattle.records.specs.declared.Field.{Field}
 use Rattle.records.specs.Field.{fieldOf}
 use Rattle.records.specs.Lines.{inFront, split, lineOf, linesOf, lines, noLine, letterOf}
@@ -104,24 +104,6 @@ by-byte P none tab feed on (b ∷ bs) = elim (ℕ-discrete b 9) [
   | yes e ↦ rw e (tab bs)
   | no g ↦ elim (ℕ-discrete b 10) [ yes e ↦ rw e (feed bs) | no h ↦ on b bs h g (by-byte P none tab feed on bs) ]
 ]
-
-pub first-taken : (bs : List ℕ) → take (length (first bs)) bs ≡ first bs
-first-taken =
-    by-byte
-    (λ bs. take (length (first bs)) bs ≡ first bs)
-    (unfold first piece split in refl)
-    (λ bs. rw (first-tab bs))
-    (λ bs. rw (first-feed bs))
-    (λ b bs h g ih. rw (first-on b bs h g) (ap (λ (l : List ℕ). b ∷ l) ih))
-
-pub first-within : (bs : List ℕ) → length (first bs) ≤ length bs
-first-within =
-    by-byte
-    (λ bs. length (first bs) ≤ length bs)
-    (unfold first piece split in omega arith)
-    (λ bs. rw (first-tab bs) (omega arith))
-    (λ bs. rw (first-feed bs) (omega arith))
-    (λ b bs h g ih. rw (first-on b bs h g) (omega arith))
 
 -- Past the first field the line goes on as it was: k bytes on the bytes left are `rest`.
 pub record Past (bs rest : List ℕ) (k : ℕ) : Type 0 where

@@ -1,23 +1,27 @@
 -- What a field says, digit by digit. Assumes nothing.
-use Prim.Native.Nat.{ℕ, _+_, _-_, _*_, _≤_, _<_}
-use mathlib.Core.Path.{_≡_, sym, _∙_}
-use mathlib.Core.Bool.{Bool, true, false, cond, not, _&&_, and-eq-true-iff, and-false}
+use Prim.Native.Nat.{ℕ, zero, suc, _+_, _-_, _*_, _≤_, _<_}
+use mathlib.Core.Path.{_≡_, refl, sym, _∙_}
+use mathlib.Core.Logic.{_≢_}
+use mathlib.Core.Bool.{true, false, and-eq-true-iff, and-false}
 use mathlib.Core.List.{List, [], _∷_, foldl}
-use native.Mathlib.Numerals.{add-one}
+use native.Mathlib.Decide.{decLe}
 use native.Mathlib.Nat.{le-trans}
 use native.Mathlib.Omega.{arith}
-use borrow.Author.Tests.{le-leb, lt-leb, leb-true, not-true, not-false}
+use borrow.Author.Tests.{lt-ltb, le-leb, lt-leb, leb-true, ne-eqb}
 use lib.Dec.{leb}
-use lib.ListN.{length, drop, getD, drop-of-length-le}
-use lib.Seq.{drop-cons}
-use Rattle.records.specs.declared.Field.{Field}
+use lib.ListN.{length}
 use Rattle.records.specs.declared.Field.the-variants.{Number, NoNumber}
 use Rattle.records.specs.Field.{digit, digits, shift, decimal, largest, leadingZero, numeral, fieldOf}
+use Rattle.records.specs.Reading.{worth}
 
--- what the digits bs say after digits that say v
-unfoldable pub worth : ℕ → List ℕ → Field
-worth v bs = cond (digits bs && leb (foldl shift v bs) largest) (Number (foldl shift v bs)) NoNumber
+-- a byte that is a digit
+pub digit-bounds : (b : ℕ) → digit b ≡ true → (48 ≤ b) × (b ≤ 57)
+unfolding digit
+digit-bounds b e =
+    let both = and-eq-true-iff (leb 48 b) (leb b 57) .0 e in
+    (leb-true 48 b (both .0), leb-true b 57 (both .1))
 
+-- ---- the bytes after digits that say v
 -- the digits to come make a number no smaller
 shift-grows : (v : ℕ) (bs : List ℕ) → v ≤ foldl shift v bs
 unfolding shift
@@ -30,47 +34,67 @@ worth-big v bs h =
     let g = shift-grows v bs in
     rw (lt-leb (foldl shift v bs) largest (omega arith), and-false)
 
-module _ (bs : List ℕ) (i v : ℕ) where
-  worth-end : length bs ≤ i → v ≤ largest → worth v (drop i bs) ≡ Number v
+pub worth-end : (v : ℕ) → v ≤ largest → worth v [] ≡ Number v
+unfolding worth digits
+worth-end v h = rw (le-leb v largest)
+
+module _ (v b : ℕ) (bs : List ℕ) where
+  pub worth-not : digit b ≡ false → worth v (b ∷ bs) ≡ NoNumber
   unfolding worth digits
-  worth-end h le = rw (drop-of-length-le bs h, le-leb v largest)
+  worth-not e = rw e
 
-  worth-not : i < length bs → digit (getD bs i 0) ≡ false → worth v (drop i bs) ≡ NoNumber
-  unfolding worth digits
-  worth-not h e = rw (drop-cons bs i 0, e)
+  module _ (e : digit b ≡ true) where
+    pub worth-more : worth v (b ∷ bs) ≡ worth (v * 10 + (b - 48)) bs
+    unfolding worth digits shift
+    worth-more = rw e
 
-  worth-more : i < length bs → digit (getD bs i 0) ≡ true → worth v (drop i bs) ≡ worth (shift v (getD bs i 0)) (drop (i + 1) bs)
-  unfolding worth digits
-  worth-more h e = rw (add-one, drop-cons bs i 0, e)
+    pub worth-over : largest < v * 10 + (b - 48) → worth v (b ∷ bs) ≡ NoNumber
+    worth-over h = worth-more ∙ worth-big (v * 10 + (b - 48)) bs h
 
--- ---- the turns of the loop over the digits: the digits before i say `value`
-abbrev pub SaidTo : List ℕ → ℕ → ℕ → Type 0
-SaidTo bytes value i = (value ≤ largest) × (fieldOf bytes ≡ worth value (drop i bytes))
+-- ---- a field by its first byte
+-- v with n zeros after it
+abbrev zeros : ℕ → ℕ → ℕ
+zeros zero v = v
+zeros (suc n) v = zeros n (v * 10)
 
-pub said-none : (bytes : List ℕ) (r : Bool) → 1 ≤ length bytes → length bytes ≤ 10 → r ≡ leadingZero bytes → r ≡ false → SaidTo bytes 0 0
-unfolding fieldOf numeral decimal worth
-said-none bytes r some few e t = (omega arith, rw (le-leb 1 (length bytes), le-leb (length bytes) 10, ← e, t))
+zeros-more : (n v w : ℕ) → v ≤ w → zeros n v ≤ zeros n w
+zeros-more zero v w h = h
+zeros-more (suc n) v w h = zeros-more n (v * 10) (w * 10) (omega arith)
 
-module _ (bytes : List ℕ) (value i : ℕ) (inv : SaidTo bytes value i) where
-  pub said-all : length bytes ≤ i → Number value ≡ fieldOf bytes
-  said-all h = sym (inv .1 ∙ worth-end bytes i value h (inv .0))
+-- n digits to come multiply a number by ten as often
+zeros-least : (n v : ℕ) (bs : List ℕ) → n ≤ length bs → zeros n v ≤ foldl shift v bs
+unfolding shift
+zeros-least zero v bs h = shift-grows v bs
+zeros-least (suc n) v [] h = absurd (omega arith)
+zeros-least (suc n) v (b ∷ bs) h = le-trans (zeros-more n (v * 10) (shift v b) (omega arith)) (zeros-least n (shift v b) bs (omega arith))
 
-  pub said-not : (r : Bool) → i < length bytes → r ≡ digit (getD bytes i 0) → not r ≡ true → NoNumber ≡ fieldOf bytes
-  said-not r h e t = sym (inv .1 ∙ worth-not bytes i value h (sym e ∙ not-true r t))
+-- a number of more than ten digits is too large
+worth-long : (v : ℕ) (bs : List ℕ) → 1 ≤ v → 10 ≤ length bs → worth v bs ≡ NoNumber
+unfolding worth
+worth-long v bs h l =
+    let least = le-trans (zeros-more 10 1 v h) (zeros-least 10 v bs l) in
+    rw (lt-leb (foldl shift v bs) largest (omega arith), and-false)
 
-  module _ (r : Bool) (h : i < length bytes) (e : r ≡ digit (getD bytes i 0)) (t : not r ≡ false) where
-    pub said-big : largest < value * 10 + (getD bytes i 0 - 48) → NoNumber ≡ fieldOf bytes
-    unfolding shift
-    said-big b =
-        sym (inv .1 ∙ worth-more bytes i value h (sym e ∙ not-false r t) ∙ worth-big (shift value (getD bytes i 0)) (drop (i + 1) bytes) b)
+pub field-none : fieldOf [] ≡ NoNumber
+unfolding fieldOf numeral
+field-none = refl
 
-    pub said-more : value * 10 + (getD bytes i 0 - 48) ≤ largest → SaidTo bytes (value * 10 + (getD bytes i 0 - 48)) (i + 1)
-    unfolding shift
-    said-more b = (b, inv .1 ∙ worth-more bytes i value h (sym e ∙ not-false r t))
+pub field-zero : fieldOf (48 ∷ []) ≡ Number 0
+unfolding fieldOf numeral leadingZero digits digit decimal shift
+field-zero = refl
 
--- a byte that is a digit
-pub digit-bounds : (b : ℕ) (r : Bool) → r ≡ digit b → not r ≡ false → (48 ≤ b) × (b ≤ 57)
-unfolding digit
-digit-bounds b r e t =
-    let both = and-eq-true-iff (leb 48 b) (leb b 57) .0 (sym e ∙ not-false r t) in
-    (leb-true 48 b (both .0), leb-true b 57 (both .1))
+pub field-leading : (c : ℕ) (bs : List ℕ) → fieldOf (48 ∷ c ∷ bs) ≡ NoNumber
+unfolding fieldOf numeral leadingZero
+field-leading c bs = rw (lt-ltb 1 (length (48 ∷ c ∷ bs)) (omega arith), and-false)
+
+module _ (b : ℕ) (bs : List ℕ) where
+  pub field-not : digit b ≡ false → fieldOf (b ∷ bs) ≡ NoNumber
+  unfolding fieldOf numeral digits
+  field-not e = rw (e, and-false)
+
+  pub field-rest : digit b ≡ true → b ≢ 48 → fieldOf (b ∷ bs) ≡ worth (0 * 10 + (b - 48)) bs
+  unfolding fieldOf numeral leadingZero digits decimal shift
+  field-rest e h = elim (decLe (length bs) 9) [
+    | yes s ↦ rw (le-leb 1 (length (b ∷ bs)) (omega arith), le-leb (length (b ∷ bs)) 10 (omega arith), ne-eqb b 48 h, e, and-false) (unfold worth in refl)
+    | no s ↦ rw (lt-leb (length (b ∷ bs)) 10 (omega arith), and-false) (sym (worth-long _ bs (omega (arith, digit-bounds b e)) (omega arith)))
+  ]

@@ -7,9 +7,9 @@ use mathlib.Core.List.{List, [], _∷_}
 use native.Mathlib.Numerals.{add-one}
 use native.Mathlib.Decide.{decLe, ℕ-discrete}
 use native.Mathlib.Omega.{arith}
-use borrow.Author.Tests.{eq-eqb, eqb-true, eqb-false}
+use borrow.Author.Tests.{eq-eqb, ne-eqb, eqb-true, eqb-false}
 use lib.Dec.{eqb, leb, leb·zero, leb·suc-zero, leb·suc-suc, eqb·zero-suc, eqb·suc-zero, eqb·suc-suc}
-use lib.ListN.{length, take, drop, getD, length-drop, drop-of-length-le, List·getD-eq-default}
+use lib.ListN.{length, take, drop, getD, drop-of-length-le, List·getD-eq-default}
 use lib.Seq.{drop-cons, drop-drop}
 use Rattle.records.specs.declared.Field.{Field}
 use Rattle.records.specs.declared.Field.the-variants.{Number, NoNumber}
@@ -18,8 +18,8 @@ use Rattle.records.specs.declared.Numbers.{Numbers}
 use Rattle.records.specs.declared.Numbers.the-variants.{Last, More, Missing}
 use Rattle.records.specs.Field.{fieldOf}
 use Rattle.records.specs.Lines.{split, Line, lineOf, letterOf, isNumber, allNumbers, isRecord, startsAs}
-use Rattle.records.specs.Reading.{lineAt, nextLine, leading, fieldAt, located, tabbedAt, numbersAt}
-use Rattle.records.proofs.Bytes.{piece, fed, first, others, piece-feed, piece-on, fed-feed, fed-on, first-feed, first-on, first-tab, others-feed, others-tab, first-taken, first-within, Past, past-first, line-first}
+use Rattle.records.specs.Reading.{lineAt, nextLine, leading, fieldAt, located, separator, tabbedAt, numbersAt}
+use Rattle.records.proofs.Bytes.{piece, fed, first, others, piece-feed, piece-on, fed-feed, fed-on, first-feed, first-on, first-tab, others-feed, others-tab, Past, past-first, line-first}
 
 -- ---- the line at a place
 module _ (text : List ℕ) (at : ℕ) where
@@ -46,11 +46,11 @@ module _ (text : List ℕ) (i : ℕ) where
   field-past h = rw (drop-of-length-le text h)
 
   module _ (h : i < length text) where
-    pub field-tab : getD text i 0 ≡ 9 → fieldAt text i ≡ []
+    field-tab : getD text i 0 ≡ 9 → fieldAt text i ≡ []
     unfolding fieldAt first piece
     field-tab e = rw (drop-cons text i 0, e) (first-tab (drop (suc i) text))
 
-    pub field-feed : getD text i 0 ≡ 10 → fieldAt text i ≡ []
+    field-feed : getD text i 0 ≡ 10 → fieldAt text i ≡ []
     unfolding fieldAt first piece
     field-feed e = rw (drop-cons text i 0, e) (first-feed (drop (suc i) text))
 
@@ -58,18 +58,36 @@ module _ (text : List ℕ) (i : ℕ) where
     unfolding fieldAt first piece
     field-more g f = rw (add-one, drop-cons text i 0) (first-on (getD text i 0) (drop (suc i) text) f g)
 
+  -- the same by the test that the code makes
+  module _ (h : i < length text) where
+    pub field-stop : separator (getD text i 0) ≡ true → fieldAt text i ≡ []
+    unfolding separator
+    field-stop e = elim (ℕ-discrete (getD text i 0) 9) [
+      | yes t ↦ field-tab h t
+      | no t ↦ field-feed h (eqb-true (getD text i 0) 10 (rw (ne-eqb (getD text i 0) 9 t) at e))
+    ]
+
+    pub field-goes : separator (getD text i 0) ≡ false → fieldAt text i ≡ getD text i 0 ∷ fieldAt text (i + 1)
+    unfolding separator
+    field-goes e = elim (ℕ-discrete (getD text i 0) 9) [
+      | yes t ↦ let z : _≡_ {A = Bool} true false = rw (eq-eqb (getD text i 0) 9 t) at e in cc
+      | no t ↦ field-more h t (eqb-false (getD text i 0) 10 (rw (ne-eqb (getD text i 0) 9 t) at e))
+    ]
+
+  -- a field that is not empty
+  pub field-some : length (fieldAt text i) ≢ 0 → (i < length text) × (fieldAt text i ≡ getD text i 0 ∷ fieldAt text (i + 1))
+  field-some n = elim (decLe (length text) i) [
+    | yes h ↦ absurd (n (ap length (field-past h)))
+    | no h ↦ let l : i < length text = omega arith in (l, by l (separator (getD text i 0)) refl)
+  ]
+    where
+      by : i < length text → (t : Bool) → separator (getD text i 0) ≡ t → fieldAt text i ≡ getD text i 0 ∷ fieldAt text (i + 1)
+      by l true e = absurd (n (ap length (field-stop l e)))
+      by l false e = field-goes l e
+
 -- the place where the field that starts at a place ends
 abbrev pub endOf : List ℕ → ℕ → ℕ
 endOf text at = at + length (fieldAt text at)
-
--- the field is the bytes from its start to its end
-pub field-part : (text : List ℕ) (at end : ℕ) → end ≡ endOf text at → take (end - at) (drop at text) ≡ fieldAt text at
-unfolding fieldAt first piece
-field-part text at end e = let n : end - at ≡ length (first (drop at text)) = omega arith in rw n (first-taken (drop at text))
-
-pub field-within : (text : List ℕ) (at : ℕ) → at ≤ length text → endOf text at ≤ length text
-unfolding fieldAt first piece
-field-within text at h = omega (arith, first-within (drop at text), length-drop at text)
 
 -- ---- how the line goes on from a place to another: its fields from the first place on are fs
 record Onward (text : List ℕ) (at there : ℕ) (fs : List Field) : Type 0 where

@@ -1,10 +1,10 @@
 -- What the reader's functions promise, by places in a text. Assumes nothing.
 use Prim.Native.Nat.{ℕ, zero, suc, _+_}
 use mathlib.Core.Path.{_≡_}
-use mathlib.Core.List.{List, [], _∷_, _++_}
-use mathlib.Core.Bool.{Bool, cond}
+use mathlib.Core.List.{List, [], _∷_, _++_, foldl}
+use mathlib.Core.Bool.{Bool, cond, _&&_, _||_}
 use lib.ListN.{length, drop, getD}
-use lib.Dec.{eqb}
+use lib.Dec.{eqb, leb}
 use Rattle.records.specs.declared.Field.{Field}
 use Rattle.records.specs.declared.Field.the-variants.{Number, NoNumber}
 use Rattle.records.specs.declared.LineRead.{LineRead}
@@ -13,7 +13,7 @@ use Rattle.records.specs.declared.Tabbed.{Tabbed}
 use Rattle.records.specs.declared.Tabbed.the-variants.{Found, Absent}
 use Rattle.records.specs.declared.Numbers.{Numbers}
 use Rattle.records.specs.declared.Numbers.the-variants.{Last, More, Missing}
-use Rattle.records.specs.Field.{fieldOf}
+use Rattle.records.specs.Field.{digits, shift, largest, fieldOf}
 use Rattle.records.specs.Lines.{split, Line, lines, noLine, isRecord, startsAs}
 
 -- the line that starts at a place
@@ -64,6 +64,18 @@ fieldAt text at = getD (split 9 (getD (split 10 (drop at text)) 0 [])) 0 []
 unfoldable pub located : ℕ → Field → Tabbed
 located next (Number v) = Found v next
 located next NoNumber = Absent
+
+-- a byte that ends a field
+unfoldable pub separator : ℕ → Bool
+separator b = eqb b 9 || eqb b 10
+
+-- what the bytes bs say after digits that say v
+unfoldable pub worth : ℕ → List ℕ → Field
+worth v bs = cond (digits bs && leb (foldl shift v bs) largest) (Number (foldl shift v bs)) NoNumber
+
+-- what the bytes of a field from a place on say after digits that say v, and where the field ends
+unfoldable pub restAt : ℕ → List ℕ → ℕ → Tabbed
+restAt v text at = located (at + length (fieldAt text at)) (worth v (fieldAt text at))
 
 -- the number of the field after the tab at a place, and where that field ends
 unfoldable pub tabbedAt : List ℕ → ℕ → Tabbed

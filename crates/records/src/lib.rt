@@ -1,13 +1,14 @@
 // A reader of tab-separated records: numbers, lines and the end of a text, by places.
 ghost use mathlib.Core.Path.{_≡_};
-ghost use Prim.Native.Nat.{_+_};
+ghost use Prim.Native.Nat.{_+_, _-_, _*_, _≤_};
 ghost use lib.ListN.{length};
-ghost use lib.Dec.{eqb};
-ghost use Rattle.records.specs.Field.{digit, leadingZero, fieldOf};
+ghost use mathlib.Core.List.{[]};
+ghost use lib.Dec.{eqb, leb};
+ghost use Rattle.records.specs.Field.{digit, largest};
 ghost use Rattle.records.specs.Lines.{startsAs};
-ghost use Rattle.records.specs.Reading.{lineAt, leading, leadingAs, fieldAt, tabbedAt, numbersAt, recordAt, atEnd, Got};
+ghost use Rattle.records.specs.Reading.{lineAt, leading, leadingAs, fieldAt, separator, restAt, tabbedAt, numbersAt, recordAt, atEnd, Got};
 
-// What a field says.
+// What a field says: the contracts alone speak of it.
 pub enum Field {
     Number(u32),
     NoNumber,
@@ -38,59 +39,67 @@ fn is_digit(b: u8) -> bool
     48 <= b && b <= 57
 }
 
-fn leading_zero(bytes: &[u8]) -> bool
-    ensures { λ r. ⌜ r ≡ leadingZero (now (bytes .entry)) ⌝ }
+fn is_separator(b: u8) -> bool
+    ensures { λ r. ⌜ r ≡ separator b ⌝ }
 {
-    if 1 < bytes.len() {
-        return bytes[0] == 48;
-    }
-    false
+    b == 9 || b == 10
 }
 
-pub fn number_of(bytes: &[u8]) -> Field
-    ensures { λ r. ⌜ r ≡ fieldOf (now (bytes .entry)) ⌝ }
+// Whether a field ends at a place, or none starts there.
+fn ends_at(text: &[u8], at: usize) -> bool
+    ensures { λ r. ⌜ r ≡ eqb (length (fieldAt (now (text .entry)) at)) 0 ⌝ }
 {
-    if bytes.len() < 1 {
-        return Field::NoNumber;
+    if text.len() <= at {
+        return true;
     }
-    if 10 < bytes.len() {
-        return Field::NoNumber;
-    }
-    if leading_zero(bytes) {
-        return Field::NoNumber;
-    }
-    let mut value: u64 = 0;
-    let mut i = 0;
-    while i < bytes.len() {
-        let b = bytes[i];
-        if !is_digit(b) {
-            return Field::NoNumber;
-        }
-        value = value * 10 + (b - 48) as u64;
-        // More digits never bring a number down, so it is given up here and cannot wrap.
-        if 4294967295 < value {
-            return Field::NoNumber;
-        }
-        i += 1;
-    }
-    Field::Number(value as u32)
+    is_separator(text[at])
 }
 
-fn field_end(text: &[u8], at: usize) -> usize
-    ensures { λ r. ⌜ r ≡ at + length (fieldAt (now (text .entry)) at) ⌝ }
+// Whether a number has room for one digit more: the largest, 4294967295, is 429496729 and the digit 5 (byte 53).
+fn has_room(value: u32, b: u8) -> bool
+    requires { ⌜ b ≤ 57 ⌝ }
+    ensures { λ r. ⌜ r ≡ leb (value * 10 + (b - 48)) largest ⌝ }
 {
-    let mut i = at;
+    if value < 429496729 {
+        return true;
+    }
+    if 429496729 < value {
+        return false;
+    }
+    b <= 53
+}
+
+// A number with one digit more at its right.
+fn shifted(value: u32, b: u8) -> u32
+    requires { ⌜ 48 ≤ b ⌝ }
+    requires { ⌜ value * 10 + (b - 48) ≤ largest ⌝ }
+    ensures { λ r. ⌜ r ≡ value * 10 + (b - 48) ⌝ }
+{
+    value * 10 + (b - 48) as u32
+}
+
+// The rest of a number, whose digits before `from` say `first`: each byte is looked at once.
+fn digits_from(text: &[u8], from: usize, first: u32) -> Tabbed
+    ensures { λ r. ⌜ r ≡ restAt first (now (text .entry)) from ⌝ }
+{
+    let mut value = first;
+    let mut i = from;
     while i < text.len() {
         let b = text[i];
-        if b == 9 {
-            return i;
+        if !is_digit(b) {
+            if is_separator(b) {
+                return Tabbed::Found { value, next: i };
+            }
+            return Tabbed::Absent;
         }
-        if b == 10 {
-            return i;
+        // More digits never bring a number down, so it is given up here and cannot wrap.
+        if !has_room(value, b) {
+            return Tabbed::Absent;
         }
+        value = shifted(value, b);
         i += 1;
     }
-    i
+    Tabbed::Found { value, next: i }
 }
 
 fn tabbed_at(text: &[u8], at: usize) -> Tabbed
@@ -103,20 +112,32 @@ fn tabbed_at(text: &[u8], at: usize) -> Tabbed
         return Tabbed::Absent;
     }
     let start = at + 1;
-    let end = field_end(text, start);
-    match number_of(&text[start..end]) {
-        Field::Number(value) => Tabbed::Found { value, next: end },
-        Field::NoNumber => Tabbed::Absent,
+    if text.len() <= start {
+        return Tabbed::Absent;
     }
+    let b = text[start];
+    if !is_digit(b) {
+        return Tabbed::Absent;
+    }
+    let next = start + 1;
+    if b == 48 {
+        // No digit follows a leading zero.
+        if ends_at(text, next) {
+            return Tabbed::Found { value: 0, next };
+        }
+        return Tabbed::Absent;
+    }
+    digits_from(text, next, shifted(0, b))
 }
 
-// Reads the numbers after the field that starts at a place.
+// Reads the numbers after a place where a field ends.
 fn numbers_at(text: &[u8], at: usize, out: &mut [u32]) -> Numbers
+    requires { ⌜ fieldAt (now text) at ≡ [] ⌝ }
     ensures { λ r. ⌜ Got (numbersAt (length (now (out .entry))) (now (text .entry)) at)
         (leading (length (now (out .entry))) (lineAt (now (text .entry)) at .fields))
         (now (out .entry)) r (now (out .exit)) ⌝ }
 {
-    let mut i = field_end(text, at);
+    let mut i = at;
     let mut k = 0;
     while k < out.len() {
         match tabbed_at(text, i) {
@@ -142,10 +163,11 @@ fn numbers_at(text: &[u8], at: usize, out: &mut [u32]) -> Numbers
 fn letter_at(text: &[u8], at: usize, letter: u8) -> bool
     ensures { λ r. ⌜ r ≡ eqb (lineAt (now (text .entry)) at .letter) letter ⌝ }
 {
-    if text.len() <= at {
+    if ends_at(text, at) {
         return false;
     }
-    if field_end(text, at) == at + 1 {
+    let next = at + 1;
+    if ends_at(text, next) {
         text[at] == letter
     } else {
         false
@@ -161,7 +183,8 @@ pub fn line_at(text: &[u8], at: usize, letter: u8, out: &mut [u32]) -> LineRead
     if !letter_at(text, at, letter) {
         return LineRead::Malformed;
     }
-    match numbers_at(text, at, out) {
+    let end = at + 1;
+    match numbers_at(text, end, out) {
         Numbers::Last(next) => LineRead::Next(next),
         Numbers::More => LineRead::Malformed,
         Numbers::Missing => LineRead::Malformed,
@@ -177,7 +200,8 @@ pub fn head_at(text: &[u8], at: usize, letter: u8, out: &mut [u32]) -> bool
     if !letter_at(text, at, letter) {
         return false;
     }
-    match numbers_at(text, at, out) {
+    let end = at + 1;
+    match numbers_at(text, end, out) {
         Numbers::Last(next) => true,
         Numbers::More => true,
         Numbers::Missing => false,

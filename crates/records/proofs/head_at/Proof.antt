@@ -1,5 +1,6 @@
 -- `records::head_at` meets its contract. Assumes nothing.
-use Rattle.records.proofs.Turns.{other-head, last-head, more-head, missing-head}
+use native.Mathlib.Omega.{arith}
+use Rattle.records.proofs.Turns.{line-within, line-stops, other-head, last-head, more-head, missing-head}
 use borrow.Author.Needs.{needs}
 use Rattle.records.proofs.head_at.Statement.{statement}
 use Rattle.records.proofs.head_at.Tie as tie
@@ -10,8 +11,11 @@ letter-at-requires c κs = search needs
 returns : tie.Need-returns
 returns c = search other-head
 
+add-end : tie.Need-add-end
+add-end c = omega (arith, line-within _ _ _ _ (c .before .letter-at .ensures) (c .if1 .left) (omega arith))
+
 numbers-at-requires : tie.Need-numbers-at-requires
-numbers-at-requires c κs = search needs
+numbers-at-requires c κs = search (line-stops, needs)
 
 enum-known-next : tie.Need-enum-known-next
 enum-known-next c = search needs
@@ -26,19 +30,19 @@ same-length : tie.Need-same-length
 same-length c = search needs
 
 returns-2 : tie.Need-returns-2
-returns-2 c = search last-head
+returns-2 c = search (last-head, needs)
 
 same-length-2 : tie.Need-same-length-2
 same-length-2 c = search needs
 
 returns-3 : tie.Need-returns-3
-returns-3 c = search more-head
+returns-3 c = search (more-head, needs)
 
 same-length-3 : tie.Need-same-length-3
 same-length-3 c = search needs
 
 returns-4 : tie.Need-returns-4
-returns-4 c = search missing-head
+returns-4 c = search (missing-head, needs)
 
 pub head-at-spec : {M : Type 1} → statement M
 head-at-spec =
@@ -46,6 +50,7 @@ head-at-spec =
     (tie.spec
     letter-at-requires
     returns
+    add-end
     numbers-at-requires
     enum-known-next
     enum-told

@@ -13,9 +13,6 @@ Inv-loop text at out₀ i₀ k₀ out i k = Stored text at out₀ out i k
 abbrev μ-loop : tie.MeasureT-loop
 μ-loop text at out₀ i₀ k₀ out i k = length out - k
 
-field-end-requires : tie.Need-field-end-requires Inv-loop μ-loop
-field-end-requires c κs = search needs
-
 loop-holds : tie.Need-loop-holds Inv-loop μ-loop
 loop-holds c = search stored-none
 
@@ -79,7 +76,6 @@ numbers-at-spec =
     (tie.spec
     Inv-loop
     μ-loop
-    field-end-requires
     loop-holds
     tabbed-at-requires
     enum-known-value
