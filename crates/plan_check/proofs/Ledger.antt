@@ -1,0 +1,37 @@
+-- The ledger while its rows are written one after another. Assumes nothing.
+use Prim.Native.Nat.{ℕ, zero, suc, _+_, _*_, _-_, _≤_, _<_}
+use mathlib.Core.Path.{_≡_, refl, sym, ap, _∙_}
+use mathlib.Core.Bool.{cond}
+use mathlib.Core.List.{List, _++_}
+use native.Mathlib.Nat.{mul-le-mul-right}
+use native.Mathlib.Omega.{arith}
+use borrow.Author.Tests.{le-ltb}
+use lib.Dec.{ltb}
+use lib.ListN.{length, take, drop}
+use lib.Seq.{drop-drop, drop-at}
+use Rattle.search.specs.Checks.{Verdict, passes, refused}
+use Rattle.records.specs.Lines.{Line}
+use Rattle.model.specs.Sum.{joined}
+use Rattle.model.specs.Network.{linkCount, stepCount}
+use Rattle.model.specs.Flows.{row}
+use Rattle.model.specs.Calls.{rowsWritten, written}
+use Rattle.model.proofs.Rows.{length-rows, written-next}
+
+module _ (network plan : List Line) where
+  -- rows written over rows that were written before
+  pub written-again : (old : List ℕ) (k m : ℕ) → k ≤ m → written network plan (written network plan old k) m ≡ written network plan old m
+  unfolding written
+  written-again old k m h =
+      let l = linkCount network in
+      let w = joined k (row network plan) ++ drop (2 * k * l) old in
+      let le = mul-le-mul-right (2 * l) h in
+      let d : 2 * k * l + (2 * m * l - 2 * k * l) ≡ 2 * m * l = omega arith in
+      let e : drop (2 * k * l) w ≡ drop (2 * k * l) old = drop-at (joined k (row network plan)) _ (2 * k * l) (length-rows network plan k) in
+      ap (λ x. joined m (row network plan) ++ x)
+      (ap (λ x. drop x w) (sym d) ∙ sym (drop-drop (2 * m * l - 2 * k * l) (2 * k * l) w) ∙ ap (drop (2 * m * l - 2 * k * l)) e
+      ∙ drop-drop (2 * m * l - 2 * k * l) (2 * k * l) old ∙ ap (λ x. drop x old) d)
+
+  -- the rows of a plan that is refused at line n
+  pub rows-refused : (n x y z : ℕ) → 9 ≤ x → y ≡ suc n → rowsWritten network (refused x y z) ≡ suc n
+  unfolding rowsWritten
+  rows-refused n x y z h e = rw (le-ltb x 9 h) e
