@@ -1,0 +1,116 @@
+// The C library: the three calls over slices, each a pointer and a length, with answers by value. include/plancheck.h declares them.
+ghost use mathlib.Core.Path.{_≡_};
+ghost use lib.ListN.{length};
+ghost use Rattle.records.specs.Lines.{lines};
+ghost use Rattle.model.specs.Calls.{checkNetwork, checkPlan, ledgerAfter, linkState};
+ghost use Rattle.plan_check_c.specs.Results.{networkResult, planResult, linkResult};
+use model::LinkAnswer;
+use model::NetworkAnswer;
+use model::PlanAnswer;
+
+// The answer of a network's check; number 0: the network is valid.
+#[repr(C)]
+pub struct NetworkResult {
+    pub number: u32,
+    pub line: u32,
+    pub item: u32,
+}
+
+// The answer of a plan's check; number 0: the plan is accepted, with these totals.
+#[repr(C)]
+pub struct PlanResult {
+    pub number: u32,
+    pub line: u32,
+    pub item: u32,
+    pub admitted: u64,
+    pub let_out: u64,
+    pub inside: u64,
+    pub doubled_time: u64,
+}
+
+// The state of a link; number 0: the link holds these volumes.
+#[repr(C)]
+pub struct LinkResult {
+    pub number: u32,
+    pub line: u32,
+    pub item: u32,
+    pub queued: u32,
+    pub in_transit: u32,
+}
+
+#[no_mangle]
+pub extern "C" fn plancheck_check_network(network: &[u8]) -> NetworkResult
+    ensures { λ r. ⌜ r ≡ networkResult (checkNetwork (lines (now (network .entry)))) ⌝ }
+{
+    match network::check_network(network) {
+        NetworkAnswer::Valid => NetworkResult {
+            number: 0,
+            line: 0,
+            item: 0,
+        },
+        NetworkAnswer::Refused { number, line, item } => NetworkResult { number, line, item },
+    }
+}
+
+#[no_mangle]
+pub extern "C" fn plancheck_check_plan(
+    network: &[u8],
+    plan: &[u8],
+    ledger: &mut [u32],
+) -> PlanResult
+    ensures { λ r. ⌜ r ≡ planResult (checkPlan (lines (now (network .entry))) (lines (now (plan .entry))) (length (now (ledger .entry)))) ⌝ }
+    ensures { λ r. ⌜ now (ledger .exit) ≡ ledgerAfter (lines (now (network .entry))) (lines (now (plan .entry))) (now (ledger .entry)) ⌝ }
+{
+    match plan_check::check_plan(network, plan, ledger) {
+        PlanAnswer::Accepted {
+            admitted,
+            let_out,
+            inside,
+            doubled_time,
+        } => PlanResult {
+            number: 0,
+            line: 0,
+            item: 0,
+            admitted,
+            let_out,
+            inside,
+            doubled_time,
+        },
+        PlanAnswer::Refused { number, line, item } => PlanResult {
+            number,
+            line,
+            item,
+            admitted: 0,
+            let_out: 0,
+            inside: 0,
+            doubled_time: 0,
+        },
+    }
+}
+
+#[no_mangle]
+pub extern "C" fn plancheck_link_state(
+    network: &[u8],
+    ledger: &[u32],
+    boundary: u32,
+    link: u32,
+) -> LinkResult
+    ensures { λ r. ⌜ r ≡ linkResult (linkState (lines (now (network .entry))) (now (ledger .entry)) boundary link) ⌝ }
+{
+    match link_state::link_state(network, ledger, boundary, link) {
+        LinkAnswer::State { queued, in_transit } => LinkResult {
+            number: 0,
+            line: 0,
+            item: 0,
+            queued,
+            in_transit,
+        },
+        LinkAnswer::Refused { number, line, item } => LinkResult {
+            number,
+            line,
+            item,
+            queued: 0,
+            in_transit: 0,
+        },
+    }
+}
