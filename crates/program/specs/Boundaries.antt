@@ -1,0 +1,29 @@
+-- The `B` records of an accepted plan, as its rows stand in a ledger, and what their writing asks. Assumes nothing.
+use Prim.Native.Nat.{ℕ, suc, _+_, _*_, _≤_}
+use mathlib.Core.Path.{_≡_}
+use mathlib.Core.List.{List, _∷_}
+use lib.ListN.{length, take, drop}
+use Rattle.search.specs.Checks.{Hold}
+use Rattle.records.specs.Lines.{Line}
+use Rattle.model.specs.declared.Counts.{Counts}
+use Rattle.model.specs.Network.{linkCount, stepCount}
+use Rattle.model.specs.Table.{networkChecks}
+use Rattle.model.specs.Report.{recordText}
+
+-- `B`, boundary n, its time, and row n of a ledger with rows of so many links
+unfoldable pub ledgerText : ℕ → (ℕ → ℕ) → List ℕ → ℕ → List ℕ
+ledgerText links time ledger n = recordText 66 (n ∷ time n ∷ take (2 * links) (drop (2 * n * links) ledger))
+
+-- a `B` record has at most 1,052 bytes: the letter, the line feed, and 50 numbers of at most 20 digits, a tab before each
+pub record RowsAsked (out : List ℕ) (at : ℕ) (counts : Counts) (times ledger : List ℕ) : Type 0 where
+  pub few-links : counts .links ≤ 24
+  pub few-steps : counts .steps ≤ 120
+  pub all-times : length times ≡ 121
+  pub rows : 2 * suc (counts .steps) * counts .links ≤ length ledger
+  pub room : at + 127_292 ≤ length out
+
+-- of a network whose checks hold
+pub record BoundariesAsked (out : List ℕ) (at : ℕ) (network : List Line) (ledger : List ℕ) : Type 0 where
+  pub holds : Hold (networkChecks network)
+  pub rows : 2 * suc (stepCount network) * linkCount network ≤ length ledger
+  pub room : at + 127_292 ≤ length out

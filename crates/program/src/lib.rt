@@ -1,0 +1,83 @@
+// Writes what the program `plancheck` prints into a lent buffer: the whole text is proved, and the bytes behind it are kept.
+ghost use mathlib.Core.Path.{_≡_};
+ghost use mathlib.Core.List.{_∷_};
+ghost use Prim.Native.Nat.{suc, _+_, _*_, _≤_};
+ghost use lib.ListN.{length, getD};
+ghost use Rattle.records.specs.Lines.{lines};
+ghost use Rattle.model.specs.Sum.{joined};
+ghost use Rattle.model.specs.Network.{linkCount, stepCount, time};
+ghost use Rattle.model.specs.Report.{recordText};
+ghost use Rattle.report.specs.Writing.{putAt, Wrote};
+ghost use Rattle.program.specs.Boundaries.{ledgerText, RowsAsked, BoundariesAsked};
+use model::Counts;
+use network::NetworkRead;
+
+// A number of 32 bits as one of 64.
+fn wide(x: u32) -> u64
+    ensures { λ r. ⌜ r ≡ x ⌝ }
+{
+    x as u64
+}
+
+// The numbers of a row go behind the first two of a record.
+fn put_row(fields: &mut [u64], row: &[u32])
+    requires { ⌜ 2 + length (now row) ≤ length (now fields) ⌝ }
+    ensures { λ _. ⌜ now (fields .exit) ≡ putAt 2 (now (row .entry)) (now (fields .entry)) ⌝ }
+{
+    let mut k: usize = 0;
+    while k < row.len() {
+        fields[2 + k] = wide(row[k]);
+        k += 1;
+    }
+}
+
+// Writes the `B` record of a boundary: its number, its time, and its row of the ledger.
+fn write_boundary(out: &mut [u8], at: usize, n: usize, time: u32, row: &[u32]) -> usize
+    requires { ⌜ (length (now row) ≤ 48) × (at + 1052 ≤ length (now out)) ⌝ }
+    ensures { λ r. ⌜ Wrote (recordText 66 (n ∷ time ∷ now (row .entry))) at (now (out .entry)) (now (out .exit)) r ⌝ }
+{
+    let mut fields = [0u64; 50];
+    fields[0] = n as u64;
+    fields[1] = wide(time);
+    put_row(&mut fields, row);
+    let end = 2 + row.len();
+    report::write_record(out, at, b'B', &fields[..end])
+}
+
+// Writes the `B` records of boundaries 0 to K, by the counts and times of a network that has passed.
+fn write_rows(out: &mut [u8], at: usize, counts: Counts, times: &[u32], ledger: &[u32]) -> usize
+    requires { ⌜ RowsAsked (now out) at counts (now times) (now ledger) ⌝ }
+    ensures { λ r. ⌜ Wrote (joined (suc (counts .steps)) (ledgerText (counts .links) (λ n. getD (now (times .entry)) n 0) (now (ledger .entry)))) at (now (out .entry)) (now (out .exit)) r ⌝ }
+{
+    let mut next = at;
+    let mut n: usize = 0;
+    while n <= counts.steps {
+        let start = 2 * n * counts.links;
+        let end = start + 2 * counts.links;
+        next = write_boundary(out, next, n, times[n], &ledger[start..end]);
+        n += 1;
+    }
+    next
+}
+
+// Writes the `B` records of an accepted plan, whose rows stand in the ledger: the network's text tells the counts and the time of each boundary.
+fn write_boundaries(out: &mut [u8], at: usize, network: &[u8], ledger: &[u32]) -> usize
+    requires { ⌜ BoundariesAsked (now out) at (lines (now network)) (now ledger) ⌝ }
+    ensures { λ r. ⌜ Wrote (joined (suc (stepCount (lines (now (network .entry))))) (ledgerText (linkCount (lines (now (network .entry)))) (time (lines (now (network .entry)))) (now (ledger .entry)))) at (now (out .entry)) (now (out .exit)) r ⌝ }
+{
+    let mut links = [0u32; 144];
+    let mut movements = [0u32; 256];
+    let mut times = [0u32; 121];
+    match network::load_network(network, &mut links, &mut movements, &mut times) {
+        NetworkRead::Loaded {
+            counts,
+            signals_at: _,
+            steps_at: _,
+        } => write_rows(out, at, counts, &times, ledger),
+        NetworkRead::Refused {
+            number: _,
+            line: _,
+            item: _,
+        } => at,
+    }
+}
