@@ -61,6 +61,22 @@ pub record-length : (letter : ℕ) (ns : List ℕ) → length (recordText letter
 unfolding recordText
 record-length letter ns = omega (arith, numbers-length ns)
 
+take-short : (k : ℕ) (xs : List ℕ) → length (take k xs) ≤ k
+take-short zero xs = omega arith
+take-short (suc k) [] = omega arith
+take-short (suc k) (x ∷ xs) = omega (arith, take-short k xs)
+
+pub ledger-text-length : (links : ℕ) (time : ℕ → ℕ) (ledger : List ℕ) (n : ℕ) → links ≤ 24 → length (ledgerText links time ledger n) ≤ 1052
+unfolding ledgerText
+ledger-text-length links time ledger n h =
+    omega
+    (arith, record-length 66 (n ∷ time n ∷ take (2 * links) (drop (2 * n * links) ledger)), take-short (2 * links) (drop (2 * n * links) ledger))
+
+pub joined-length : (f : ℕ → List ℕ) (b m : ℕ) → ((n : ℕ) → length (f n) ≤ b) → length (joined m f) ≤ b * m
+unfolding joined
+joined-length f b zero h = omega arith
+joined-length f b (suc m) h = omega (arith, length-append (joined m f) (f m), joined-length f b m h, h m)
+
 -- ---- the records of the first n boundaries are written
 pub record Written (counts : Counts) (times ledger : List ℕ) (at : ℕ) (old out : List ℕ) (next n : ℕ) : Type 0 where
   pub few : n ≤ suc (counts .steps)
@@ -90,14 +106,13 @@ module _ {counts : Counts} {times ledger : List ℕ} {at : ℕ} {old : List ℕ}
       unfolding joined ledgerText
       rows-again {out′} {next′} v =
           let d : 2 * n * counts .links + 2 * counts .links - 2 * n * counts .links ≡ 2 * counts .links = omega arith in
-          let ns = n ∷ getD times n 0 ∷ take (2 * counts .links) (drop (2 * n * counts .links) ledger) in
-          let u : Wrote (recordText 66 ns) next out out′ next′ = rw d at v in
-          let t = length-take-le (2 * counts .links) (drop (2 * n * counts .links) ledger) (omega (arith, length-drop (2 * n * counts .links) ledger, row-within)) in
-          let b : length (recordText 66 ns) ≤ 1052 = omega (arith, record-length 66 ns, asked .few-links) in
-          let m = wrote-more (joined n (ledgerText (counts .links) (λ m. getD times m 0) ledger)) (recordText 66 ns) at old _ _ _ _ (omega (arith, w .wrote .ends, w .end, asked .room, asked .few-steps)) (w .wrote) u in
+          let text = ledgerText (counts .links) (λ m. getD times m 0) ledger in
+          let u : Wrote (text n) next out out′ next′ = rw d at v in
+          let b = ledger-text-length (counts .links) (λ m. getD times m 0) ledger n (asked .few-links) in
+          let m = wrote-more (joined n text) (text n) at old out out′ next next′ (omega (arith, w .wrote .ends, w .end, asked .room, asked .few-steps)) (w .wrote) u in
           record {
             few = omega arith;
-            long = wrote-length (recordText 66 ns) _ _ _ _ (omega (arith, rows-room)) u ∙ w .long;
+            long = wrote-length (text n) next out out′ next′ (omega (arith, rows-room)) u ∙ w .long;
             end = omega (arith, u .ends, w .end);
             wrote = rw add-one m;
           }

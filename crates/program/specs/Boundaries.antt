@@ -5,14 +5,19 @@ use mathlib.Core.List.{List, _∷_}
 use lib.ListN.{length, take, drop}
 use Rattle.search.specs.Checks.{Hold}
 use Rattle.records.specs.Lines.{Line}
+use Rattle.model.specs.Sum.{joined}
 use Rattle.model.specs.declared.Counts.{Counts}
-use Rattle.model.specs.Network.{linkCount, stepCount}
+use Rattle.model.specs.Network.{linkCount, stepCount, time}
 use Rattle.model.specs.Table.{networkChecks}
 use Rattle.model.specs.Report.{recordText}
 
 -- `B`, boundary n, its time, and row n of a ledger with rows of so many links
 unfoldable pub ledgerText : ℕ → (ℕ → ℕ) → List ℕ → ℕ → List ℕ
 ledgerText links time ledger n = recordText 66 (n ∷ time n ∷ take (2 * links) (drop (2 * n * links) ledger))
+
+-- the records of boundaries 0 to K
+abbrev pub boundaryTexts : List Line → List ℕ → List ℕ
+boundaryTexts network ledger = joined (suc (stepCount network)) (ledgerText (linkCount network) (time network) ledger)
 
 -- a `B` record has at most 1,052 bytes: the letter, the line feed, and 50 numbers of at most 20 digits, a tab before each
 pub record RowsAsked (out : List ℕ) (at : ℕ) (counts : Counts) (times ledger : List ℕ) : Type 0 where

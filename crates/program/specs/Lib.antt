@@ -1,1 +1,2 @@
 pub mod Boundaries
+pub mod Answer

@@ -1,15 +1,16 @@
 // Writes what the program `plancheck` prints into a lent buffer: the whole text is proved, and the bytes behind it are kept.
 ghost use mathlib.Core.Path.{_≡_};
-ghost use mathlib.Core.List.{_∷_};
+ghost use mathlib.Core.List.{[], _∷_, _++_};
 ghost use Prim.Native.Nat.{suc, _+_, _*_, _≤_};
 ghost use lib.ListN.{length, getD};
 ghost use Rattle.records.specs.Lines.{lines};
 ghost use Rattle.model.specs.Sum.{joined};
-ghost use Rattle.model.specs.Network.{linkCount, stepCount, time};
-ghost use Rattle.model.specs.Report.{recordText};
+ghost use Rattle.model.specs.Report.{recordText, notRead};
 ghost use Rattle.report.specs.Writing.{putAt, Wrote};
-ghost use Rattle.program.specs.Boundaries.{ledgerText, RowsAsked, BoundariesAsked};
+ghost use Rattle.program.specs.Boundaries.{ledgerText, boundaryTexts, RowsAsked, BoundariesAsked};
+ghost use Rattle.program.specs.Answer.{answerText, AnswerAsked};
 use model::Counts;
+use model::PlanAnswer;
 use network::NetworkRead;
 
 // A number of 32 bits as one of 64.
@@ -63,7 +64,7 @@ fn write_rows(out: &mut [u8], at: usize, counts: Counts, times: &[u32], ledger: 
 // Writes the `B` records of an accepted plan, whose rows stand in the ledger: the network's text tells the counts and the time of each boundary.
 fn write_boundaries(out: &mut [u8], at: usize, network: &[u8], ledger: &[u32]) -> usize
     requires { ⌜ BoundariesAsked (now out) at (lines (now network)) (now ledger) ⌝ }
-    ensures { λ r. ⌜ Wrote (joined (suc (stepCount (lines (now (network .entry))))) (ledgerText (linkCount (lines (now (network .entry)))) (time (lines (now (network .entry)))) (now (ledger .entry)))) at (now (out .entry)) (now (out .exit)) r ⌝ }
+    ensures { λ r. ⌜ Wrote (boundaryTexts (lines (now (network .entry))) (now (ledger .entry))) at (now (out .entry)) (now (out .exit)) r ⌝ }
 {
     let mut links = [0u32; 144];
     let mut movements = [0u32; 256];
@@ -80,4 +81,64 @@ fn write_boundaries(out: &mut [u8], at: usize, network: &[u8], ledger: &[u32]) -
             item: _,
         } => at,
     }
+}
+
+// Writes `A` with the four totals, and the `B` records behind it.
+fn write_accepted(
+    out: &mut [u8],
+    network: &[u8],
+    ledger: &[u32],
+    admitted: u64,
+    let_out: u64,
+    inside: u64,
+    doubled_time: u64,
+) -> usize
+    requires { ⌜ BoundariesAsked (now out) 86 (lines (now network)) (now ledger) ⌝ }
+    ensures { λ r. ⌜ Wrote (recordText 65 (admitted ∷ «let_out» ∷ inside ∷ «doubled_time» ∷ []) ++ boundaryTexts (lines (now (network .entry))) (now (ledger .entry))) 0 (now (out .entry)) (now (out .exit)) r ⌝ }
+{
+    let totals = [admitted, let_out, inside, doubled_time];
+    let next = report::write_record(out, 0, b'A', &totals);
+    write_boundaries(out, next, network, ledger)
+}
+
+// Writes `R`, number, line, item.
+fn write_refusal(out: &mut [u8], number: u32, line: u32, item: u32) -> usize
+    requires { ⌜ 65 ≤ length (now out) ⌝ }
+    ensures { λ r. ⌜ Wrote (recordText 82 (number ∷ line ∷ item ∷ [])) 0 (now (out .entry)) (now (out .exit)) r ⌝ }
+{
+    let fields = [wide(number), wide(line), wide(item)];
+    report::write_record(out, 0, b'R', &fields)
+}
+
+// Writes the answer of a plan's check; the rows of an accepted plan stand in the ledger.
+fn write_answer(out: &mut [u8], network: &[u8], answer: PlanAnswer, ledger: &[u32]) -> usize
+    requires { ⌜ AnswerAsked (now out) (lines (now network)) answer (now ledger) ⌝ }
+    ensures { λ r. ⌜ Wrote (answerText (lines (now (network .entry))) answer (now (ledger .entry))) 0 (now (out .entry)) (now (out .exit)) r ⌝ }
+{
+    match answer {
+        PlanAnswer::Accepted {
+            admitted,
+            let_out,
+            inside,
+            doubled_time,
+        } => write_accepted(
+            out,
+            network,
+            ledger,
+            admitted,
+            let_out,
+            inside,
+            doubled_time,
+        ),
+        PlanAnswer::Refused { number, line, item } => write_refusal(out, number, line, item),
+    }
+}
+
+// Writes `L`: the network (1) or the plan (2) is longer than the program takes, or not to be opened or read.
+pub fn write_not_read(out: &mut [u8], file: u64) -> usize
+    requires { ⌜ 23 ≤ length (now out) ⌝ }
+    ensures { λ r. ⌜ Wrote (notRead file) 0 (now (out .entry)) (now (out .exit)) r ⌝ }
+{
+    let fields = [file];
+    report::write_record(out, 0, b'L', &fields)
 }
