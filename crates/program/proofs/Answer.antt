@@ -1,6 +1,6 @@
 -- The laws of writing an answer: `A` and the `B` records behind it, or `R`. Assumes nothing.
-use Prim.Native.Nat.{ℕ, suc, _+_, _*_, _≤_}
-use mathlib.Core.Path.{_≡_, sym, ap, _∙_}
+use Prim.Native.Nat.{ℕ, suc, _≤_}
+use mathlib.Core.Path.{_≡_}
 use mathlib.Core.List.{List, [], _∷_, _++_}
 use native.Mathlib.Omega.{arith}
 use lib.ListN.{length}
@@ -16,7 +16,7 @@ use Rattle.model.proofs.Limits.{counts}
 use Rattle.report.specs.Writing.{Wrote}
 use Rattle.report.proofs.Laws.{wrote-more, wrote-length}
 use Rattle.program.specs.Boundaries.{ledgerText, boundaryTexts, BoundariesAsked}
-use Rattle.program.specs.Answer.{answerText, AnswerAsked}
+use Rattle.program.specs.Answer.{answerText}
 use Rattle.program.proofs.Boundaries.{record-length, ledger-text-length, joined-length}
 
 -- the `B` records of a network whose checks hold

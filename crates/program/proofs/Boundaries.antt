@@ -5,13 +5,13 @@ use mathlib.Core.List.{List, [], _∷_, _++_}
 use native.Mathlib.Numerals.{add-one}
 use native.Mathlib.Nat.{mul-le-mul, mul-le-mul-right}
 use native.Mathlib.Omega.{arith}
-use lib.ListN.{length, getD, take, drop, set, length-append, length-drop, length-set, take-append-drop}
+use lib.ListN.{length, getD, take, drop, set, length-append, length-set, take-append-drop}
 use lib.Seq.{length-take-le, take-suc, take-length}
 use Rattle.model.specs.Sum.{joined}
 use Rattle.model.specs.Report.{numeral, numbers, recordText}
 use Rattle.model.specs.declared.Counts.{Counts}
 use Rattle.report.specs.Writing.{putAt, Wrote}
-use Rattle.report.proofs.Laws.{numeral-length, put-take, put-length, wrote-byte, wrote-more, wrote-length}
+use Rattle.report.proofs.Laws.{numeral-length, put-take, wrote-byte, wrote-more, wrote-length}
 use Rattle.program.specs.Boundaries.{ledgerText, RowsAsked}
 
 -- ---- a row behind the first two numbers of a record: the first k of its numbers are there
@@ -97,7 +97,7 @@ module _ {counts : Counts} {times ledger : List ℕ} {at : ℕ} {old : List ℕ}
     row-within = let s : suc n ≤ suc (counts .steps) = omega arith in omega (arith, mul-le-mul-right (2 * counts .links) s, asked .rows)
 
     module _ {out : List ℕ} {next : ℕ} (w : Written counts times ledger at old out next n) where
-      pub rows-room : next + 1052 ≤ length out
+      rows-room : next + 1052 ≤ length out
       rows-room = omega (arith, w .long, w .end, asked .room, asked .few-steps)
 
       pub rows-again : {out′ : List ℕ} {next′ : ℕ}

@@ -1,9 +1,9 @@
 -- The counts and times that a network's reading tells are those of its text. Assumes nothing.
-use Prim.Native.Nat.{ℕ, suc, _*_, _≤_, _<_}
-use mathlib.Core.Path.{_≡_, sym, ap, ap₂, _∙_}
+use Prim.Native.Nat.{ℕ, suc, _*_}
+use mathlib.Core.Path.{_≡_, sym, ap, _∙_}
 use mathlib.Core.List.{List, _∷_}
 use native.Mathlib.Omega.{arith}
-use lib.ListN.{length, getD, take, drop}
+use lib.ListN.{getD, take, drop}
 use Rattle.search.specs.Checks.{passes, refused}
 use Rattle.search.proofs.Laws.{passes-of-hold}
 use Rattle.records.specs.Lines.{lines}

@@ -1,6 +1,6 @@
 -- A plan's answer and its ledger tell the whole report: a ledger of 5,808 numbers is long enough for every network, so that refusal 8 can't come.
 -- Assumes nothing.
-use Prim.Native.Nat.{ℕ, suc, _+_, _*_, _≤_}
+use Prim.Native.Nat.{ℕ, suc, _*_, _≤_}
 use mathlib.Core.Path.{_≡_, refl, sym, ap, ap₂, _∙_}
 use mathlib.Core.List.{List, [], _∷_, _++_}
 use native.Mathlib.Nat.{mul-le-mul}
@@ -11,7 +11,7 @@ use Rattle.search.specs.Checks.{Verdict, passes, refused, _then_, orElse, verdi
 use Rattle.search.proofs.Laws.{or-else-passes, or-else-first, checked-passes, hold-of-passes}
 use Rattle.records.specs.Lines.{Line, lines}
 use Rattle.model.specs.declared.PlanAnswer.{PlanAnswer}
-use Rattle.model.specs.declared.PlanAnswer.the-variants.{Accepted, Refused}
+use Rattle.model.specs.declared.PlanAnswer.the-variants.{Accepted}
 use Rattle.model.specs.Sum.{sum}
 use Rattle.model.specs.Network.{linkCount, stepCount}
 use Rattle.model.specs.Flows.{vehicles, allAdmitted, allLetOut, doubledTime}

@@ -1,14 +1,14 @@
 -- The rows that a plan's check has written are those that its report prints. Assumes nothing.
-use Prim.Native.Nat.{ℕ, zero, suc, _+_, _*_, _≤_, _<_}
+use Prim.Native.Nat.{ℕ, zero, suc, _*_, _≤_, _<_}
 use mathlib.Core.Path.{_≡_, refl, sym, ap, ap₂, _∙_}
-use mathlib.Core.List.{List, [], _∷_, _++_}
+use mathlib.Core.List.{List, _∷_, _++_}
 use native.Mathlib.Nat.{mul-le-mul-right}
 use native.Mathlib.Omega.{arith}
-use lib.ListN.{length, getD, take, drop, length-drop}
+use lib.ListN.{length, take, drop, length-drop}
 use lib.Seq.{ext-getD, getD-take, getD-drop, length-take-le}
 use Rattle.records.specs.Lines.{Line}
 use Rattle.model.specs.Sum.{joined}
-use Rattle.model.specs.Network.{linkCount, stepCount, time}
+use Rattle.model.specs.Network.{linkCount, time}
 use Rattle.model.specs.Flows.{row}
 use Rattle.model.specs.Calls.{written}
 use Rattle.model.specs.Report.{recordText, boundaryText}

@@ -16,5 +16,5 @@ answerText network (Refused number line item) ledger = recordText 82 (number ∷
 
 -- an `A` record has at most 86 bytes, an `R` record fewer
 pub record AnswerAsked (out : List ℕ) (network : List Line) (answer : PlanAnswer) (ledger : List ℕ) : Type 0 where
-  pub room : 65 ≤ length out
+  pub room : 86 ≤ length out
   pub accepted : (admitted letOut inside doubledTime : ℕ) → answer ≡ Accepted admitted letOut inside doubledTime → BoundariesAsked out 86 network ledger

@@ -5,7 +5,7 @@ ghost use Prim.Native.Nat.{suc, _+_, _*_, _≤_};
 ghost use lib.ListN.{length, getD};
 ghost use Rattle.records.specs.Lines.{lines};
 ghost use Rattle.model.specs.Sum.{joined};
-ghost use Rattle.model.specs.Report.{recordText, notRead};
+ghost use Rattle.model.specs.Report.{recordText, report, notRead};
 ghost use Rattle.report.specs.Writing.{putAt, Wrote};
 ghost use Rattle.program.specs.Boundaries.{ledgerText, boundaryTexts, RowsAsked, BoundariesAsked};
 ghost use Rattle.program.specs.Answer.{answerText, AnswerAsked};
@@ -103,7 +103,7 @@ fn write_accepted(
 
 // Writes `R`, number, line, item.
 fn write_refusal(out: &mut [u8], number: u32, line: u32, item: u32) -> usize
-    requires { ⌜ 65 ≤ length (now out) ⌝ }
+    requires { ⌜ 86 ≤ length (now out) ⌝ }
     ensures { λ r. ⌜ Wrote (recordText 82 (number ∷ line ∷ item ∷ [])) 0 (now (out .entry)) (now (out .exit)) r ⌝ }
 {
     let fields = [wide(number), wide(line), wide(item)];
@@ -132,6 +132,16 @@ fn write_answer(out: &mut [u8], network: &[u8], answer: PlanAnswer, ledger: &[u3
         ),
         PlanAnswer::Refused { number, line, item } => write_refusal(out, number, line, item),
     }
+}
+
+// Writes the report of two texts that were read: the ledger is long enough for every network.
+pub fn write_report(network: &[u8], plan: &[u8], out: &mut [u8]) -> usize
+    requires { ⌜ 131072 ≤ length (now out) ⌝ }
+    ensures { λ r. ⌜ Wrote (report (now (network .entry)) (now (plan .entry))) 0 (now (out .entry)) (now (out .exit)) r ⌝ }
+{
+    let mut ledger = [0u32; 5808];
+    let answer = plan_check::check_plan(network, plan, &mut ledger);
+    write_answer(out, network, answer, &ledger)
 }
 
 // Writes `L`: the network (1) or the plan (2) is longer than the program takes, or not to be opened or read.

@@ -1,7 +1,7 @@
 -- `program::write_rows` meets its contract. The invariant: the records of the first n boundaries are written. Assumes nothing.
 use Prim.Native.Nat.{suc, _-_}
 use native.Mathlib.Omega.{arith}
-use Rattle.program.proofs.Boundaries.{Written, start-small, row-within, rows-first, rows-room, rows-again, rows-all}
+use Rattle.program.proofs.Boundaries.{Written, start-small, row-within, rows-first, rows-again, rows-all}
 use borrow.Author.Needs.{needs}
 use Rattle.program.proofs.write_rows.Statement.{statement}
 use Rattle.program.proofs.write_rows.Tie as tie
