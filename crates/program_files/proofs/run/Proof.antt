@@ -1,0 +1,36 @@
+-- `program_files::run` is safe and ends: what was written fits the buffer. Assumes nothing.
+use mathlib.Core.Path.{sym}
+use lib.Seq.{length-take-le}
+use Rattle.program_files.proofs.Laws.{output-within}
+use borrow.Author.Needs.{needs}
+use Rattle.program_files.proofs.run.Statement.{statement}
+use Rattle.program_files.proofs.run.Tie as tie
+
+slice-aggregate-write-output : tie.Need-slice-aggregate-write-output
+slice-aggregate-write-output c = search needs
+
+write-output-requires : tie.Need-write-output-requires
+write-output-requires c κs = search needs
+
+array-share-prefix-out : tie.Need-array-share-prefix-out
+array-share-prefix-out c = output-within (c .before .write-output .ensures)
+
+slice-aggregate-write-all : tie.Need-slice-aggregate-write-all
+slice-aggregate-write-all c = sym (length-take-le _ _ (output-within (c .before .before .write-output .ensures)))
+
+write-all-requires : tie.Need-write-all-requires
+write-all-requires c κs = search needs
+
+returns : tie.Need-returns
+returns c = search needs
+
+pub run-spec : {M : Type 1} → statement M
+run-spec =
+    tie.close
+    (tie.spec
+    slice-aggregate-write-output
+    write-output-requires
+    array-share-prefix-out
+    slice-aggregate-write-all
+    write-all-requires
+    returns)
