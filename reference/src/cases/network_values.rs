@@ -1,0 +1,873 @@
+//! Refusals 2 to 7: every condition broken by itself, and the near misses that
+//! pass.
+
+use super::scenario::fitting_travel_times;
+use super::{refused, Answer, Maker, Scenario, Sheet, Texts};
+use crate::{Network, Phase, Refusal};
+
+/// One kind of item in a network text.
+struct Place {
+    /// The refusal number of its values.
+    number: u64,
+    /// Counted from 1.
+    line: usize,
+    item: usize,
+}
+
+impl Maker {
+    /// A change that breaks one condition of the item.
+    fn breach(
+        &mut self,
+        scenario: &Scenario,
+        name: &str,
+        place: &Place,
+        change: impl FnOnce(&mut Network),
+    ) {
+        let refusal = refused(place.number, place.line, place.item);
+        self.refused_change(scenario, name, refusal, change);
+    }
+
+    fn refused_change(
+        &mut self,
+        scenario: &Scenario,
+        name: &str,
+        refusal: Refusal,
+        change: impl FnOnce(&mut Network),
+    ) {
+        let mut network = scenario.network.clone();
+        change(&mut network);
+        let texts = Texts::new(&network, &scenario.plan);
+        self.ask_refused_network(name, texts, scenario.ledger_need(), refusal);
+    }
+
+    /// A change after which the network still passes; the plan may not.
+    fn near_miss(&mut self, scenario: &Scenario, name: &str, change: impl FnOnce(&mut Network)) {
+        let mut network = scenario.network.clone();
+        change(&mut network);
+        let texts = Texts::new(&network, &scenario.plan);
+        if self.random.chance(60) {
+            self.ask_network(name, texts, Some(Answer::NetworkAccepted));
+        } else {
+            self.ask_plan(name, texts, scenario.ledger_need(), None);
+        }
+    }
+}
+
+/// Refusal 2.
+pub fn counts(maker: &mut Maker, scenario: &Scenario) {
+    let texts = Texts::of(scenario);
+    for (field, count) in [
+        (1, "0"),
+        (1, "25"),
+        (1, "4294967295"),
+        (2, "9"),
+        (2, "4294967295"),
+        (3, "65"),
+        (3, "4294967295"),
+        (4, "0"),
+        (4, "121"),
+        (4, "4294967295"),
+    ] {
+        let mut sheet = Sheet::of_network(&scenario.network);
+        sheet.set(0, field, count.as_bytes());
+        maker.ask_refused_network(
+            "2: count outside its limits",
+            texts.with_network(sheet.text()),
+            scenario.ledger_need(),
+            refused(2, 1, 0),
+        );
+    }
+    // Counts at their limits, to which the other lines do not belong.
+    for (field, count) in [
+        (1, "1"),
+        (1, "24"),
+        (2, "0"),
+        (2, "8"),
+        (3, "0"),
+        (3, "64"),
+        (4, "1"),
+        (4, "120"),
+    ] {
+        let mut sheet = Sheet::of_network(&scenario.network);
+        sheet.set(0, field, count.as_bytes());
+        maker.ask_network(
+            "count at its limit, other lines as they were",
+            texts.with_network(sheet.text()),
+            None,
+        );
+    }
+    // Two counts, and a line of good counts that the rest does not follow.
+    let mut sheet = Sheet::of_network(&scenario.network);
+    sheet.set(0, 1, b"25");
+    sheet.set(0, 4, b"0");
+    sheet.lines.truncate(1);
+    maker.ask_network(
+        "2: two counts outside their limits",
+        texts.with_network(sheet.text()),
+        Some(Answer::Refused(refused(2, 1, 0))),
+    );
+    maker.ask_network(
+        "1: largest counts and no other line",
+        texts.with_network(b"N\t24\t8\t64\t120\n".to_vec()),
+        Some(Answer::Refused(refused(1, 2, 0))),
+    );
+}
+
+/// Refusal 3, except for the number of phases.
+pub fn signals(maker: &mut Maker, scenario: &Scenario) {
+    let signal_count = scenario.network.signals.len();
+    if signal_count == 0 {
+        return;
+    }
+    let signal = maker.random.index(signal_count);
+    let limits = &scenario.network.signals[signal];
+    let phase_count = limits.phases.len();
+    let phase = maker.random.index(phase_count);
+    let other_phase = (phase + 1) % phase_count;
+    let longest_step = scenario.longest_step();
+    let place = Place {
+        number: 3,
+        line: 2 + signal,
+        item: 1 + signal,
+    };
+
+    for shown in [0, phase_count as u64 + 1, u64::from(u32::MAX)] {
+        maker.breach(scenario, "3: shown phase is none", &place, |network| {
+            network.signals[signal].shown_phase = shown;
+        });
+    }
+    for shown in [1, phase_count as u64] {
+        maker.near_miss(scenario, "shown phase first or last", |network| {
+            let signal = &mut network.signals[signal];
+            signal.shown_phase = shown;
+            signal.shown_seconds = 1;
+            signal.clock = 1;
+        });
+    }
+
+    // The times of a phase. Where seconds have shown, they stay in reach.
+    let set_phase = |maker: &mut Maker, name: &str, least: u64, greatest: u64, passes: bool| {
+        let change = |network: &mut Network| {
+            let signal = &mut network.signals[signal];
+            signal.phases[phase] = Phase { least, greatest };
+            if signal.shown_phase == phase as u64 + 1 {
+                signal.shown_seconds = signal.shown_seconds.min(greatest);
+                if signal.shown_phase == 1 {
+                    signal.clock = signal.shown_seconds;
+                }
+            }
+        };
+        if passes {
+            maker.near_miss(scenario, name, change);
+        } else {
+            maker.breach(scenario, name, &place, change);
+        }
+    };
+    let most = u64::from(u32::MAX);
+    set_phase(maker, "3: least time 0", 0, 3600, false);
+    set_phase(maker, "least time 1", 1, 3600, true);
+    set_phase(maker, "3: least above greatest time", 101, 100, false);
+    set_phase(maker, "least equal to greatest time", 100, 100, true);
+    set_phase(maker, "3: greatest time 3601", 1, 3601, false);
+    set_phase(maker, "3: least and greatest time 3601", 3601, 3601, false);
+    set_phase(maker, "least and greatest time 3600", 3600, 3600, true);
+    set_phase(maker, "3: greatest time at most of 32 bits", 1, most, false);
+    set_phase(maker, "3: least time at most of 32 bits", most, 3600, false);
+    set_phase(maker, "3: both times 0", 0, 0, false);
+    set_phase(
+        maker,
+        "greatest time equal to the longest step",
+        1,
+        longest_step,
+        true,
+    );
+
+    // The times of the cycle, the clock at 1 second.
+    let set_cycle = |maker: &mut Maker, name: &str, least: u64, greatest: u64, passes: bool| {
+        let change = |network: &mut Network| {
+            let signal = &mut network.signals[signal];
+            signal.least_cycle = least;
+            signal.greatest_cycle = greatest;
+            signal.shown_seconds = 1;
+            signal.clock = 1;
+        };
+        if passes {
+            maker.near_miss(scenario, name, change);
+        } else {
+            maker.breach(scenario, name, &place, change);
+        }
+    };
+    set_cycle(maker, "3: least cycle 0", 0, 3600, false);
+    set_cycle(maker, "least cycle 1", 1, 3600, true);
+    set_cycle(maker, "3: least above greatest cycle", 101, 100, false);
+    set_cycle(maker, "least equal to greatest cycle", 100, 100, true);
+    set_cycle(maker, "3: greatest cycle 3601", 1, 3601, false);
+    set_cycle(maker, "3: both cycles 3601", 3601, 3601, false);
+    set_cycle(maker, "both cycles 3600", 3600, 3600, true);
+    set_cycle(maker, "cycle of 1 second", 1, 1, true);
+    set_cycle(
+        maker,
+        "3: greatest cycle at most of 32 bits",
+        1,
+        most,
+        false,
+    );
+
+    // Shown seconds and clock. A phase other than the first is shown where
+    // the clock may differ from the seconds.
+    let set_shown = |maker: &mut Maker,
+                     name: &str,
+                     shown_phase: usize,
+                     seconds: u64,
+                     clock: u64,
+                     greatest_cycle: u64,
+                     passes: bool| {
+        let change = |network: &mut Network| {
+            let signal = &mut network.signals[signal];
+            signal.shown_phase = shown_phase as u64 + 1;
+            signal.shown_seconds = seconds;
+            signal.clock = clock;
+            signal.greatest_cycle = greatest_cycle;
+            signal.least_cycle = 1;
+        };
+        if passes {
+            maker.near_miss(scenario, name, change);
+        } else {
+            maker.breach(scenario, name, &place, change);
+        }
+    };
+    let greatest = limits.phases[phase].greatest;
+    let greatest_other = limits.phases[other_phase].greatest;
+    let name = "shown seconds equal to the greatest time";
+    set_shown(maker, name, phase, greatest, greatest, 3600, true);
+    if greatest < 3600 {
+        let name = "3: shown seconds above the greatest time";
+        set_shown(maker, name, phase, greatest + 1, greatest + 1, 3600, false);
+    }
+    if greatest > greatest_other {
+        let name = "3: shown seconds above that phase's greatest time only";
+        set_shown(maker, name, other_phase, greatest, greatest, 3600, false);
+    }
+    set_shown(
+        maker,
+        "3: shown seconds at most of 32 bits",
+        phase,
+        most,
+        most,
+        3600,
+        false,
+    );
+    let later = phase.max(1);
+    set_shown(
+        maker,
+        "clock equal to the greatest cycle",
+        later,
+        1,
+        77,
+        77,
+        true,
+    );
+    set_shown(
+        maker,
+        "3: clock above the greatest cycle",
+        later,
+        1,
+        78,
+        77,
+        false,
+    );
+    set_shown(
+        maker,
+        "3: clock at most of 32 bits",
+        later,
+        1,
+        most,
+        77,
+        false,
+    );
+    let seconds = limits.phases[later].greatest.min(5);
+    set_shown(
+        maker,
+        "clock equal to shown seconds",
+        later,
+        seconds,
+        seconds,
+        77,
+        true,
+    );
+    set_shown(
+        maker,
+        "3: clock below shown seconds",
+        later,
+        seconds,
+        seconds - 1,
+        77,
+        false,
+    );
+    set_shown(maker, "nothing shown yet", later, 0, 0, 77, true);
+    let seconds = limits.phases[0].greatest.min(5);
+    set_shown(
+        maker,
+        "phase 1 and clock agree",
+        0,
+        seconds,
+        seconds,
+        77,
+        true,
+    );
+    set_shown(
+        maker,
+        "3: clock above phase 1",
+        0,
+        seconds,
+        seconds + 1,
+        77,
+        false,
+    );
+    set_shown(
+        maker,
+        "3: clock below phase 1",
+        0,
+        seconds,
+        seconds - 1,
+        77,
+        false,
+    );
+    set_shown(maker, "clock above a later phase", later, 1, 2, 77, true);
+}
+
+/// Refusal 4.
+pub fn links(maker: &mut Maker, scenario: &Scenario) {
+    let network = &scenario.network;
+    let signal_count = network.signals.len() as u64;
+    let link = maker.random.index(network.links.len());
+    let place = Place {
+        number: 4,
+        line: 2 + network.signals.len() + link,
+        item: 1 + link,
+    };
+    let most = u64::from(u32::MAX);
+
+    for capacity in [2_000_000_001, most] {
+        maker.breach(scenario, "4: capacity", &place, |network| {
+            network.links[link].capacity = capacity;
+        });
+    }
+    maker.near_miss(scenario, "greatest capacity", |network| {
+        network.links[link].capacity = 2_000_000_000;
+    });
+    maker.near_miss(scenario, "capacity 0", |network| {
+        network.links[link].capacity = 0;
+        network.links[link].standing = 0;
+    });
+
+    for travel_time in [0, 3601, most] {
+        maker.breach(scenario, "4: travel time", &place, |network| {
+            network.links[link].travel_time = travel_time;
+        });
+    }
+    let fitting = fitting_travel_times(&scenario.times());
+    for travel_time in [1, 3600] {
+        if fitting.contains(&travel_time) {
+            maker.near_miss(scenario, "travel time at its limit", |network| {
+                network.links[link].travel_time = travel_time;
+            });
+        }
+    }
+
+    for exit_rate in [10_001, most] {
+        maker.breach(scenario, "4: exit rate", &place, |network| {
+            network.links[link].exit_rate = exit_rate;
+        });
+    }
+    maker.near_miss(scenario, "greatest exit rate", |network| {
+        network.links[link].exit_rate = 10_000;
+    });
+
+    for signal in [signal_count + 1, most] {
+        maker.breach(scenario, "4: light above R", &place, |network| {
+            network.links[link].signal = signal;
+            network.links[link].phase_mask = 1;
+        });
+    }
+    for mask in [1, 128, most] {
+        maker.breach(scenario, "4: mask without a light", &place, |network| {
+            network.links[link].signal = 0;
+            network.links[link].phase_mask = mask;
+        });
+    }
+    maker.near_miss(scenario, "no light and no mask", |network| {
+        network.links[link].signal = 0;
+        network.links[link].phase_mask = 0;
+    });
+    if signal_count > 0 {
+        let signal = maker.random.index(network.signals.len());
+        let phase_count = network.signals[signal].phases.len();
+        let above = 1 << phase_count;
+        for mask in [0, above, above + 1, 1 << 31, most] {
+            maker.breach(scenario, "4: mask of a light", &place, |network| {
+                network.links[link].signal = signal as u64 + 1;
+                network.links[link].phase_mask = mask;
+            });
+        }
+        for mask in [1, above >> 1, above - 1] {
+            maker.near_miss(scenario, "mask of a light", |network| {
+                network.links[link].signal = signal as u64 + 1;
+                network.links[link].phase_mask = mask;
+            });
+        }
+    }
+
+    maker.breach(scenario, "4: standing above capacity", &place, |network| {
+        network.links[link].standing = network.links[link].capacity + 1;
+    });
+    maker.near_miss(scenario, "standing equal to capacity", |network| {
+        network.links[link].standing = network.links[link].capacity;
+    });
+    maker.breach(
+        scenario,
+        "4: standing at most of 32 bits",
+        &place,
+        |network| {
+            network.links[link].standing = most;
+        },
+    );
+}
+
+/// Refusal 5.
+pub fn movements(maker: &mut Maker, scenario: &Scenario) {
+    let network = &scenario.network;
+    let movement_count = network.movements.len();
+    if movement_count == 0 {
+        return;
+    }
+    let link_count = network.links.len() as u64;
+    let lines_before = 1 + network.signals.len() + network.links.len();
+    let movement = maker.random.index(movement_count);
+    let place = |movement: usize| Place {
+        number: 5,
+        line: lines_before + movement + 1,
+        item: movement + 1,
+    };
+    let most = u64::from(u32::MAX);
+
+    for link in [0, link_count + 1, most] {
+        maker.breach(scenario, "5: from link", &place(movement), |network| {
+            network.movements[movement].from = link;
+        });
+        maker.breach(scenario, "5: to link", &place(movement), |network| {
+            network.movements[movement].to = link;
+        });
+    }
+    maker.breach(
+        scenario,
+        "5: from equal to to",
+        &place(movement),
+        |network| {
+            network.movements[movement].to = network.movements[movement].from;
+        },
+    );
+    for rate in [0, 10_001, most] {
+        maker.breach(scenario, "5: rate", &place(movement), |network| {
+            network.movements[movement].rate = rate;
+        });
+    }
+    for rate in [1, 10_000] {
+        maker.near_miss(scenario, "rate at its limit", |network| {
+            network.movements[movement].rate = rate;
+        });
+    }
+    for share in [0, 1001, most] {
+        maker.breach(scenario, "5: share", &place(movement), |network| {
+            network.movements[movement].share = share;
+        });
+    }
+
+    if movement > 0 {
+        let before = network.movements[movement - 1].clone();
+        maker.breach(
+            scenario,
+            "5: pair equal to the one before",
+            &place(movement),
+            |network| {
+                network.movements[movement].from = before.from;
+                network.movements[movement].to = before.to;
+            },
+        );
+        // The two lines change places.
+        maker.breach(
+            scenario,
+            "5: pair below the one before",
+            &place(movement),
+            |network| {
+                network.movements.swap(movement - 1, movement);
+            },
+        );
+    }
+    for index in 1..movement_count {
+        let (before, this) = (&network.movements[index - 1], &network.movements[index]);
+        if this.from > before.from && this.to < before.to {
+            // A smaller from link with a larger to link.
+            maker.breach(
+                scenario,
+                "5: from link falls, to link rises",
+                &place(index),
+                |network| {
+                    network.movements.swap(index - 1, index);
+                },
+            );
+            break;
+        }
+    }
+
+    // Share sums, told at the link's last movement.
+    let last_of = |from: u64| {
+        network
+            .movements
+            .iter()
+            .rposition(|movement| movement.from == from)
+            .expect("the link has movements")
+    };
+    let sharing = |movement: usize| {
+        let from = network.movements[movement].from;
+        let same_link = network.movements.iter().filter(|other| other.from == from);
+        same_link.count() > 1
+    };
+    let last = last_of(network.movements[movement].from);
+    if network.movements[movement].share < 1000 {
+        maker.breach(scenario, "5: shares sum to 1001", &place(last), |network| {
+            network.movements[movement].share += 1;
+        });
+    }
+    if network.movements[movement].share > 1 {
+        maker.breach(scenario, "5: shares sum to 999", &place(last), |network| {
+            network.movements[movement].share -= 1;
+        });
+    }
+    if sharing(movement) {
+        let from = network.movements[movement].from;
+        // One gives 1 to another: the sum stays.
+        let others: Vec<usize> = scenario
+            .movements_from(from as usize - 1)
+            .into_iter()
+            .filter(|&other| other != movement && network.movements[other].share > 1)
+            .collect();
+        if let Some(&other) = others.first() {
+            maker.near_miss(scenario, "shares changed, same sum", |network| {
+                network.movements[movement].share += 1;
+                network.movements[other].share -= 1;
+            });
+        }
+    }
+    maker.breach(
+        scenario,
+        "5: all shares 1000 or 1",
+        &place(last_of_wrong_sum(network)),
+        |network| {
+            for movement in &mut network.movements {
+                movement.share = if movement.share == 1000 { 999 } else { 1000 };
+            }
+        },
+    );
+
+    // After all `M` lines and before the first `S` line.
+    let step_line = lines_before + movement_count;
+    let mut sheet = Sheet::of_network(&with_wrong_share(network, movement));
+    sheet.set(step_line, 0, b"X");
+    let texts = Texts::of(scenario);
+    let need = scenario.ledger_need();
+    let at_last = refused(5, lines_before + last + 1, last + 1);
+    let name = "5: share sum before the form of the first step";
+    maker.ask_refused_network(name, texts.with_network(sheet.text()), need, at_last);
+    sheet.lines.truncate(step_line);
+    let name = "5: share sum before a missing first step";
+    maker.ask_refused_network(name, texts.with_network(sheet.text()), need, at_last);
+    let name = "1: unfinished last movement before the share sum";
+    let refusal = refused(1, step_line, 0);
+    maker.ask_refused_network(
+        name,
+        texts.with_network(sheet.unfinished_text()),
+        need,
+        refusal,
+    );
+    let mut broken = with_wrong_share(network, movement);
+    broken.movements[movement_count - 1].rate = 0;
+    maker.ask_refused_network(
+        "5: value of the last movement before the share sum",
+        Texts::new(&broken, &scenario.plan),
+        need,
+        refused(5, step_line, movement_count),
+    );
+}
+
+/// A network in which one movement's share is off by one.
+fn with_wrong_share(network: &Network, movement: usize) -> Network {
+    let mut network = network.clone();
+    let share = &mut network.movements[movement].share;
+    *share = if *share > 1 { *share - 1 } else { *share + 1 };
+    network
+}
+
+/// The last movement of the first link that has movements: with all shares
+/// changed every link's sum is wrong, and the first link is told.
+fn last_of_wrong_sum(network: &Network) -> usize {
+    let first = network.movements[0].from;
+    let same_link = network.movements.iter().filter(|other| other.from == first);
+    same_link.count() - 1
+}
+
+/// Refusals 6 and 7.
+pub fn steps(maker: &mut Maker, scenario: &Scenario) {
+    let network = &scenario.network;
+    let lines_before = 1 + network.signals.len() + network.links.len() + network.movements.len();
+    let step = maker.random.index(network.steps.len());
+    let link = maker.random.index(network.links.len());
+    let place = Place {
+        number: 6,
+        line: lines_before + step + 1,
+        item: step + 1,
+    };
+    let most = u64::from(u32::MAX);
+
+    for length in [0, 61, most] {
+        maker.breach(scenario, "6: length", &place, |network| {
+            // All phases may last for a minute and more.
+            for phase in network
+                .signals
+                .iter_mut()
+                .flat_map(|signal| &mut signal.phases)
+            {
+                phase.greatest = 3600;
+            }
+            network.steps[step].length = length;
+        });
+    }
+    for length in [1, 60] {
+        maker.near_miss(scenario, "length at its limit", |network| {
+            for phase in network
+                .signals
+                .iter_mut()
+                .flat_map(|signal| &mut signal.phases)
+            {
+                phase.greatest = 3600;
+            }
+            for step in &mut network.steps {
+                step.length = length;
+            }
+            for link in &mut network.links {
+                link.travel_time = 3600;
+            }
+        });
+    }
+    for demand in [600_001, most] {
+        maker.breach(scenario, "6: demand", &place, |network| {
+            network.steps[step].demand[link] = demand;
+        });
+    }
+    maker.near_miss(scenario, "greatest demand", |network| {
+        network.steps[step].demand[link] = 600_000;
+    });
+
+    if !network.signals.is_empty() {
+        // One phase of one light is shorter than the first step that is as
+        // long as the longest. What has shown of it stays in reach.
+        let longest = scenario.longest_step();
+        let first_longest = network
+            .steps
+            .iter()
+            .position(|step| step.length == longest)
+            .expect("one is the longest");
+        let signal = maker.random.index(network.signals.len());
+        let phase = maker.random.index(network.signals[signal].phases.len());
+        let shorten = |greatest: u64| {
+            move |network: &mut Network| {
+                let signal = &mut network.signals[signal];
+                signal.phases[phase] = Phase { least: 1, greatest };
+                if signal.shown_phase == phase as u64 + 1 {
+                    signal.shown_seconds = signal.shown_seconds.min(greatest);
+                    if phase == 0 {
+                        signal.clock = signal.shown_seconds;
+                    }
+                }
+            }
+        };
+        if longest > 1 {
+            let place = Place {
+                number: 6,
+                line: lines_before + first_longest + 1,
+                item: first_longest + 1,
+            };
+            let name = "6: length above a phase's greatest time";
+            maker.breach(scenario, name, &place, shorten(longest - 1));
+        }
+        let name = "length equal to a phase's greatest time";
+        maker.near_miss(scenario, name, shorten(longest));
+    }
+
+    travel_times(maker, scenario, lines_before);
+}
+
+/// Refusal 7.
+fn travel_times(maker: &mut Maker, scenario: &Scenario, lines_before: usize) {
+    let times = scenario.times();
+    let fitting = fitting_travel_times(&times);
+    let link_count = scenario.network.links.len();
+    let horizon = times[times.len() - 1];
+
+    // One link, then two links with travel times of their own.
+    for count in [1, 1, 1, 2, 2] {
+        let mut travel_times: Vec<u64> = scenario
+            .network
+            .links
+            .iter()
+            .map(|link| link.travel_time)
+            .collect();
+        for _ in 0..count {
+            let link = maker.random.index(link_count);
+            travel_times[link] = maker.random.between(1, horizon.min(3600));
+        }
+        // By rising step, then link.
+        let first_breach = (1..times.len())
+            .flat_map(|step| (0..link_count).map(move |link| (step, link)))
+            .find(|&(step, link)| {
+                let entry_time = times[step].checked_sub(travel_times[link]);
+                entry_time.is_some_and(|time| !times.contains(&time))
+            });
+        let change = |network: &mut Network| {
+            for (link, travel_time) in network.links.iter_mut().zip(travel_times) {
+                link.travel_time = travel_time;
+            }
+        };
+        match first_breach {
+            Some((step, link)) => {
+                let refusal = refused(7, lines_before + step, link + 1);
+                maker.refused_change(scenario, "7: travel time", refusal, change);
+            }
+            None => maker.near_miss(scenario, "travel times fit", change),
+        }
+    }
+
+    // A travel time that reaches to a boundary, or one second beyond it.
+    let boundary = maker.random.index(times.len() - 1) + 1;
+    for travel_time in [times[boundary], times[boundary] + 1] {
+        if (1..=3600).contains(&travel_time) && fitting.contains(&travel_time) {
+            let name = "travel time at or above a boundary";
+            maker.near_miss(scenario, name, |network| {
+                network.links[0].travel_time = travel_time;
+            });
+        }
+    }
+
+    // Surplus text comes before refusal 7.
+    let misfit = (1..=3600).find(|time| !fitting.contains(time));
+    if let Some(travel_time) = misfit {
+        let mut network = scenario.network.clone();
+        network.links[link_count - 1].travel_time = travel_time;
+        let mut texts = Texts::new(&network, &scenario.plan);
+        texts.network.push(b'\n');
+        maker.ask_refused_network(
+            "1: surplus before a travel time",
+            texts,
+            scenario.ledger_need(),
+            refused(1, lines_before + scenario.network.steps.len() + 1, 0),
+        );
+    }
+}
+
+/// Two fields of the network text that are bad each by itself: the earlier
+/// line is told, and in one line the form before the values.
+pub fn two_breaches(maker: &mut Maker, scenario: &Scenario) {
+    let sheet = Sheet::of_network(&scenario.network);
+    for _ in 0..12 {
+        let first_line = maker.random.index(sheet.lines.len());
+        let second_line = if maker.random.chance(60) {
+            first_line
+        } else {
+            maker.random.index(sheet.lines.len())
+        };
+        let first = draw_bad_field(maker, scenario, &sheet, first_line);
+        let second = draw_bad_field(maker, scenario, &sheet, second_line);
+        if (first.line, first.field) == (second.line, second.field) {
+            continue;
+        }
+        let mut changed = sheet.clone();
+        for bad in [&first, &second] {
+            changed.set(bad.line, bad.field, bad.value);
+        }
+        let told = if first.order() < second.order() {
+            &first
+        } else {
+            &second
+        };
+        let mut texts = Texts::of(scenario).with_network(changed.text());
+        if maker.random.chance(30) {
+            // A bad plan has no say.
+            texts.plan.truncate(5);
+        }
+        let need = scenario.ledger_need();
+        maker.ask_refused_network("two bad fields in the network", texts, need, told.refusal);
+    }
+}
+
+/// A bad field of a network text; line and field from index 0.
+struct BadField {
+    line: usize,
+    field: usize,
+    value: &'static [u8],
+    refusal: Refusal,
+}
+
+impl BadField {
+    fn order(&self) -> (usize, bool) {
+        let is_value = self.refusal.number != 1;
+        (self.line, is_value)
+    }
+}
+
+fn draw_bad_field(maker: &mut Maker, scenario: &Scenario, sheet: &Sheet, line: usize) -> BadField {
+    if maker.random.chance(40) {
+        return BadField {
+            line,
+            field: maker.random.index(sheet.lines[line].len()),
+            value: b"x",
+            refusal: refused(1, line + 1, 0),
+        };
+    }
+    let network = &scenario.network;
+    let last_demand = network.links.len() + 1;
+    let values: &[(usize, &'static [u8])] = match sheet.lines[line][0][0] {
+        b'N' => &[(1, b"25"), (2, b"9"), (3, b"65"), (4, b"0"), (4, b"121")],
+        b'G' => &[(1, b"0"), (2, b"3601"), (4, b"0"), (5, b"4294967295")],
+        b'Q' => &[
+            (1, b"2000000001"),
+            (2, b"0"),
+            (3, b"10001"),
+            (6, b"4294967295"),
+        ],
+        b'M' => &[(1, b"0"), (2, b"25"), (3, b"0"), (4, b"1001")],
+        _ => &[
+            (1, b"0"),
+            (1, b"61"),
+            (2, b"600001"),
+            (last_demand, b"600001"),
+        ],
+    };
+    let (field, value) = maker.random.pick(values);
+    let signals = network.signals.len();
+    let links = network.links.len();
+    let movements = network.movements.len();
+    // Items are counted from 1 after the lines of the other kinds.
+    let (number, item) = match sheet.lines[line][0][0] {
+        b'N' => (2, 0),
+        b'G' => (3, line),
+        b'Q' => (4, line - signals),
+        b'M' => (5, line - signals - links),
+        _ => (6, line - signals - links - movements),
+    };
+    BadField {
+        line,
+        field,
+        value,
+        refusal: refused(number, line + 1, item),
+    }
+}

@@ -1,0 +1,752 @@
+//! Random networks with plans that pass by construction: phases are chosen
+//! within the signals' limits, volumes are admitted, moved and let out within
+//! what demand, rates, shares, arrivals and capacity allow. Nothing of the
+//! judging code is used here.
+
+use super::random::Random;
+use crate::{Link, Movement, Network, Phase, PlanStep, Signal, State, Step, Totals};
+use std::collections::HashSet;
+
+#[derive(Clone, Copy, Debug)]
+pub struct Size {
+    pub links: usize,
+    pub signals: usize,
+    pub movements: usize,
+    pub steps: usize,
+}
+
+#[derive(Clone, Copy, Debug, PartialEq, Eq)]
+pub enum Traffic {
+    /// Nothing moves.
+    Idle,
+    /// Roomy links.
+    Free,
+    /// More demand than room: links fill up to their capacity.
+    Full,
+    /// Every limit of the paper at its greatest value.
+    Extreme,
+}
+
+/// What a signal shows at a boundary.
+#[derive(Clone, Copy)]
+pub struct Shown {
+    pub phase: u64,
+    /// Seconds of the run of this phase.
+    pub run: u64,
+    /// Seconds since phase 1 last began.
+    pub clock: u64,
+}
+
+/// A network, a plan that it accepts, and what the simulation has noted at
+/// each boundary: all lists are by boundary, then by signal or link.
+#[derive(Clone)]
+pub struct Scenario {
+    pub network: Network,
+    pub plan: Vec<PlanStep>,
+    pub shown: Vec<Vec<Shown>>,
+    pub entered: Vec<Vec<u64>>,
+    pub left: Vec<Vec<u64>>,
+    pub arrived: Vec<Vec<u64>>,
+}
+
+impl Scenario {
+    pub fn make(random: &mut Random, size: Size, traffic: Traffic) -> Scenario {
+        let (lengths, travel_times) = draw_lengths(random, size.steps, traffic);
+        let mut signals = Vec::new();
+        let mut schedules = Vec::new();
+        for _ in 0..size.signals {
+            let (signal, schedule) = draw_signal(random, &lengths);
+            signals.push(signal);
+            schedules.push(schedule);
+        }
+        let horizon = lengths.iter().sum();
+        let mut links: Vec<Link> = (0..size.links)
+            .map(|_| draw_link(random, traffic, &signals, &travel_times, horizon))
+            .collect();
+        if traffic == Traffic::Extreme {
+            // The first link is full and always open.
+            links[0].signal = 0;
+            links[0].phase_mask = 0;
+            links[0].standing = links[0].capacity;
+        }
+        let movements = draw_movements(random, traffic, size);
+        let steps = lengths
+            .iter()
+            .map(|&length| Step {
+                length,
+                demand: (0..size.links)
+                    .map(|_| draw_demand(random, traffic))
+                    .collect(),
+            })
+            .collect();
+        let network = Network {
+            signals,
+            links,
+            movements,
+            steps,
+        };
+        simulate(random, network, traffic, &schedules)
+    }
+
+    pub fn step_count(&self) -> usize {
+        self.plan.len()
+    }
+
+    /// Times of all boundaries.
+    pub fn times(&self) -> Vec<u64> {
+        boundary_times(self.network.steps.iter().map(|step| step.length))
+    }
+
+    pub fn longest_step(&self) -> u64 {
+        self.network
+            .steps
+            .iter()
+            .map(|step| step.length)
+            .fold(0, u64::max)
+    }
+
+    /// Numbers that the ledger needs.
+    pub fn ledger_need(&self) -> usize {
+        2 * self.entered.len() * self.network.links.len()
+    }
+
+    /// The ledger after the plan has passed.
+    pub fn ledger(&self) -> Vec<u32> {
+        let mut ledger = Vec::new();
+        for (entered, left) in self.entered.iter().zip(&self.left) {
+            for (&entered, &left) in entered.iter().zip(left) {
+                ledger.push(entered as u32);
+                ledger.push(left as u32);
+            }
+        }
+        ledger
+    }
+
+    /// The totals of the plan, from its volumes and the vehicles on all links.
+    pub fn totals(&self) -> Totals {
+        let volume =
+            |part: fn(&PlanStep) -> &Vec<u64>| -> u64 { self.plan.iter().flat_map(part).sum() };
+        let inside: Vec<u64> = (0..self.entered.len())
+            .map(|boundary| {
+                let links = self.entered[boundary].iter().zip(&self.left[boundary]);
+                links.map(|(entered, left)| entered - left).sum()
+            })
+            .collect();
+        let doubled_time = (0..self.step_count())
+            .map(|index| self.network.steps[index].length * (inside[index] + inside[index + 1]))
+            .sum();
+        Totals {
+            admitted: volume(|step| &step.admitted),
+            let_out: volume(|step| &step.let_out),
+            inside: inside[self.step_count()],
+            doubled_time,
+        }
+    }
+
+    /// The state of a link (from index 0) at a boundary.
+    pub fn state(&self, boundary: usize, link: usize) -> State {
+        State {
+            queued: self.arrived[boundary][link] - self.left[boundary][link],
+            in_transit: self.entered[boundary][link] - self.arrived[boundary][link],
+        }
+    }
+
+    /// The boundary at which what has arrived at a boundary had entered.
+    pub fn entry_boundary(&self, boundary: usize, link: usize) -> Option<usize> {
+        let times = self.times();
+        let entry_time = times[boundary].checked_sub(self.network.links[link].travel_time)?;
+        times.iter().position(|&time| time == entry_time)
+    }
+
+    /// Whether a link's movements may go in a step (both from index 0).
+    pub fn is_open(&self, step: usize, link: usize) -> bool {
+        is_open(&self.network.links[link], &self.shown[step + 1])
+    }
+
+    /// The movements from a link, all from index 0.
+    pub fn movements_from(&self, link: usize) -> Vec<usize> {
+        movements_from(&self.network, link)
+    }
+}
+
+fn boundary_times(lengths: impl Iterator<Item = u64>) -> Vec<u64> {
+    let mut times = vec![0];
+    for length in lengths {
+        times.push(times[times.len() - 1] + length);
+    }
+    times
+}
+
+/// The travel times that fit these steps: whenever a boundary is late enough,
+/// the time before it by the travel time is a boundary too.
+pub fn fitting_travel_times(times: &[u64]) -> Vec<u64> {
+    let boundaries: HashSet<u64> = times.iter().copied().collect();
+    (1..=3600)
+        .filter(|travel_time| {
+            times
+                .iter()
+                .filter(|&time| time >= travel_time)
+                .all(|time| boundaries.contains(&(time - travel_time)))
+        })
+        .collect()
+}
+
+/// Step lengths and the travel times that fit them.
+fn draw_lengths(random: &mut Random, steps: usize, traffic: Traffic) -> (Vec<u64>, Vec<u64>) {
+    if traffic == Traffic::Extreme {
+        let lengths = vec![60; steps];
+        return (lengths, vec![60, 120, 3600]);
+    }
+    loop {
+        let lengths: Vec<u64> = match random.between(0, 9) {
+            0..=5 => {
+                let lengths = [1, 2, 5, 10, 15, 30, 59, 60];
+                vec![random.pick(&lengths); steps]
+            }
+            6 | 7 => {
+                // A pattern that repeats.
+                let pattern = [random.between(1, 20), random.between(1, 20)];
+                pattern.iter().copied().cycle().take(steps).collect()
+            }
+            8 => (0..steps).map(|_| 5 * random.between(1, 3)).collect(),
+            _ => (0..steps).map(|_| random.between(1, 60)).collect(),
+        };
+        let travel_times = fitting_travel_times(&boundary_times(lengths.iter().copied()));
+        if !travel_times.is_empty() {
+            return (lengths, travel_times);
+        }
+    }
+}
+
+fn draw_travel_time(random: &mut Random, fitting: &[u64], horizon: u64) -> u64 {
+    // A short one mostly, so that there is traffic within the horizon.
+    let short = fitting.iter().filter(|&&time| time < horizon).count();
+    if short > 0 && random.chance(90) {
+        fitting[random.index(short.min(3))]
+    } else {
+        random.pick(fitting)
+    }
+}
+
+fn draw_link(
+    random: &mut Random,
+    traffic: Traffic,
+    signals: &[Signal],
+    travel_times: &[u64],
+    horizon: u64,
+) -> Link {
+    let (signal, phase_mask) = if signals.is_empty() || random.chance(35) {
+        (0, 0)
+    } else {
+        let index = random.index(signals.len());
+        let all_phases = (1 << signals[index].phases.len()) - 1;
+        (index as u64 + 1, random.between(1, all_phases))
+    };
+    let capacity = match traffic {
+        Traffic::Idle => random.pick(&[0, 1, 1000, 60_000]),
+        Traffic::Free => random.between(20_000, 200_000),
+        Traffic::Full => random.between(100, 9_000),
+        Traffic::Extreme => 2_000_000_000,
+    };
+    let exit_rate = match traffic {
+        Traffic::Idle => random.pick(&[0, 10_000]),
+        Traffic::Free => random.pick(&[0, 100, 500, 900, 2_000]),
+        Traffic::Full => random.pick(&[0, 1, 20, 100, 700]),
+        Traffic::Extreme => 10_000,
+    };
+    let standing = match random.between(0, 3) {
+        _ if traffic == Traffic::Extreme => capacity / 2,
+        0 => 0,
+        1 if traffic != Traffic::Free => capacity,
+        _ => random.between(0, capacity / 2),
+    };
+    Link {
+        capacity,
+        travel_time: draw_travel_time(random, travel_times, horizon),
+        exit_rate,
+        signal,
+        phase_mask,
+        standing,
+    }
+}
+
+/// Movements between different pairs of links in rising order; as many as
+/// asked for, or as there are pairs.
+fn draw_movements(random: &mut Random, traffic: Traffic, size: Size) -> Vec<Movement> {
+    let links = 1..=size.links as u64;
+    let mut pairs: Vec<(u64, u64)> = links
+        .clone()
+        .flat_map(|from| links.clone().map(move |to| (from, to)))
+        .filter(|(from, to)| from != to)
+        .collect();
+    if traffic == Traffic::Extreme {
+        // One link gets as much and gives as much as can be.
+        pairs.sort_by_key(|&(from, to)| from != 1 && to != 1);
+    } else {
+        random.shuffle(&mut pairs);
+    }
+    pairs.truncate(size.movements);
+    pairs.sort();
+
+    let mut movements = Vec::new();
+    for from in links {
+        let targets: Vec<u64> = pairs
+            .iter()
+            .filter(|pair| pair.0 == from)
+            .map(|pair| pair.1)
+            .collect();
+        let shares = draw_shares(random, targets.len());
+        for (to, share) in targets.into_iter().zip(shares) {
+            let rate = match traffic {
+                Traffic::Idle => random.pick(&[1, 10_000]),
+                Traffic::Free => random.pick(&[100, 300, 500, 1_000, 2_000]),
+                Traffic::Full => random.pick(&[7, 50, 300, 1_000]),
+                Traffic::Extreme => 10_000,
+            };
+            movements.push(Movement {
+                from,
+                to,
+                rate,
+                share,
+            });
+        }
+    }
+    movements
+}
+
+/// Shares that sum to 1000. Shares of a coarse unit let small volumes be
+/// parted exactly.
+fn draw_shares(random: &mut Random, count: usize) -> Vec<u64> {
+    if count == 0 {
+        return Vec::new();
+    }
+    let units: Vec<u64> = [1, 2, 5, 8, 10, 20, 25, 40, 50, 100, 125, 200, 250, 500]
+        .into_iter()
+        .filter(|unit| unit * count as u64 <= 1000)
+        .collect();
+    let unit = if random.chance(80) {
+        units[units.len() - 1 - random.index(units.len().min(3))]
+    } else {
+        random.pick(&units)
+    };
+    let mut shares = vec![unit; count];
+    for _ in 0..1000 / unit - count as u64 {
+        let index = random.index(count);
+        shares[index] += unit;
+    }
+    shares
+}
+
+fn draw_demand(random: &mut Random, traffic: Traffic) -> u64 {
+    if traffic == Traffic::Extreme {
+        return 600_000;
+    }
+    match random.between(0, 4) {
+        0 | 1 => 0,
+        2 => 1000 * random.between(0, 9),
+        3 => random.between(0, 20_000),
+        _ => random.pick(&[1, 100, 5_000, 600_000]),
+    }
+}
+
+/// A signal and the phases that it shows in the plan. Either the limits come
+/// first and the phases are chosen within them, or the other way round, which
+/// gives limits that are just met.
+fn draw_signal(random: &mut Random, lengths: &[u64]) -> (Signal, Vec<u64>) {
+    if random.chance(50) {
+        let signal = draw_limits(random, lengths);
+        if let Some(schedule) = choose_phases(random, &signal, lengths) {
+            return (signal, schedule);
+        }
+    }
+    draw_schedule_with_limits(random, lengths)
+}
+
+/// A signal with limits of the size of its steps.
+fn draw_limits(random: &mut Random, lengths: &[u64]) -> Signal {
+    let longest = lengths.iter().copied().fold(0, u64::max);
+    let phases: Vec<Phase> = (0..random.between(2, 8))
+        .map(|_| {
+            let least = random.between(1, 2 * longest);
+            let greatest = least.max(longest) + random.between(0, 2 * longest);
+            Phase { least, greatest }
+        })
+        .collect();
+    let shortest: u64 = phases.iter().map(|phase| phase.least).sum();
+    let least_cycle = random.between(1, shortest);
+    let greatest_cycle = shortest + longest * random.between(1, 2 * phases.len() as u64);
+    let shown_phase = random.between(1, phases.len() as u64);
+    let shown_seconds = random.between(0, phases[shown_phase as usize - 1].greatest);
+    let clock = if shown_phase == 1 {
+        shown_seconds
+    } else {
+        let before: u64 = phases[..shown_phase as usize - 1]
+            .iter()
+            .map(|phase| phase.least)
+            .sum();
+        shown_seconds + before
+    };
+    Signal {
+        least_cycle,
+        greatest_cycle: greatest_cycle.max(clock).min(3600),
+        shown_phase,
+        shown_seconds,
+        clock,
+        phases,
+    }
+}
+
+/// What the signal shows after a step of this length with this phase.
+fn advance(before: Shown, phase: u64, length: u64) -> Shown {
+    let changed = phase != before.phase;
+    Shown {
+        phase,
+        run: if changed { length } else { before.run + length },
+        clock: if changed && phase == 1 {
+            length
+        } else {
+            before.clock + length
+        },
+    }
+}
+
+fn shown_before_plan(signal: &Signal) -> Shown {
+    Shown {
+        phase: signal.shown_phase,
+        run: signal.shown_seconds,
+        clock: signal.clock,
+    }
+}
+
+/// Phases for all steps within the signal's limits, by trying and going back
+/// where no phase is left to try; none if there are no such phases or the
+/// search takes too long.
+fn choose_phases(random: &mut Random, signal: &Signal, lengths: &[u64]) -> Option<Vec<u64>> {
+    let mut search = PhaseSearch {
+        random,
+        signal,
+        lengths,
+        dead_ends: HashSet::new(),
+        tries_left: 20_000,
+    };
+    let mut schedule = Vec::new();
+    search
+        .extend(shown_before_plan(signal), &mut schedule)
+        .then_some(schedule)
+}
+
+struct PhaseSearch<'a> {
+    random: &'a mut Random,
+    signal: &'a Signal,
+    lengths: &'a [u64],
+    /// Step, phase, run and clock from which no schedule goes on to the end.
+    dead_ends: HashSet<(usize, u64, u64, u64)>,
+    tries_left: u64,
+}
+
+impl PhaseSearch<'_> {
+    fn extend(&mut self, shown: Shown, schedule: &mut Vec<u64>) -> bool {
+        let step = schedule.len();
+        if step == self.lengths.len() {
+            return true;
+        }
+        let state = (step, shown.phase, shown.run, shown.clock);
+        if self.tries_left == 0 || self.dead_ends.contains(&state) {
+            return false;
+        }
+        self.tries_left -= 1;
+        let next = shown.phase % self.signal.phases.len() as u64 + 1;
+        let mut phases = [shown.phase, next];
+        self.random.shuffle(&mut phases);
+        for phase in phases {
+            let after = advance(shown, phase, self.lengths[step]);
+            if self.may_show(shown, after) {
+                schedule.push(phase);
+                if self.extend(after, schedule) {
+                    return true;
+                }
+                schedule.pop();
+            }
+        }
+        self.dead_ends.insert(state);
+        false
+    }
+
+    fn may_show(&self, before: Shown, after: Shown) -> bool {
+        let limits = |phase: u64| &self.signal.phases[phase as usize - 1];
+        let changed = before.phase != after.phase;
+        let least_kept = !changed || before.run >= limits(before.phase).least;
+        let cycle_begins = changed && after.phase == 1;
+        let least_cycle_kept = !cycle_begins || before.clock >= self.signal.least_cycle;
+        least_kept
+            && least_cycle_kept
+            && after.run <= limits(after.phase).greatest
+            && after.clock <= self.signal.greatest_cycle
+    }
+}
+
+/// Random phases first, then limits that they keep, often just so.
+fn draw_schedule_with_limits(random: &mut Random, lengths: &[u64]) -> (Signal, Vec<u64>) {
+    let phase_count = random.between(2, 8);
+    let mut advance_percent = random.pick(&[20, 40, 60, 90]);
+    loop {
+        let shown_phase = random.between(1, phase_count);
+        let shown_seconds = random.between(1, 60);
+        let clock = if shown_phase == 1 {
+            shown_seconds
+        } else {
+            shown_seconds + random.between(0, 120)
+        };
+        let mut shown = vec![Shown {
+            phase: shown_phase,
+            run: shown_seconds,
+            clock,
+        }];
+        for &length in lengths {
+            let before = shown[shown.len() - 1];
+            let phase = if random.chance(advance_percent) {
+                before.phase % phase_count + 1
+            } else {
+                before.phase
+            };
+            shown.push(advance(before, phase, length));
+        }
+        let kept = shown
+            .iter()
+            .all(|shown| shown.run <= 3600 && shown.clock <= 3600);
+        if kept {
+            let schedule = shown[1..].iter().map(|shown| shown.phase).collect();
+            return (fit_limits(random, phase_count, &shown, lengths), schedule);
+        }
+        // Change more often, so that runs and cycles get shorter.
+        advance_percent = 100;
+    }
+}
+
+/// Limits that a schedule keeps.
+fn fit_limits(random: &mut Random, phase_count: u64, shown: &[Shown], lengths: &[u64]) -> Signal {
+    let longest = lengths.iter().copied().fold(0, u64::max);
+    let changes = || {
+        shown
+            .windows(2)
+            .filter(|pair| pair[0].phase != pair[1].phase)
+    };
+    let mut phases = Vec::new();
+    for phase in 1..=phase_count {
+        let shortest_left = changes()
+            .filter(|pair| pair[0].phase == phase)
+            .map(|pair| pair[0].run)
+            .min();
+        let longest_run = shown
+            .iter()
+            .filter(|shown| shown.phase == phase)
+            .map(|shown| shown.run)
+            .fold(longest, u64::max);
+        let greatest = slack_above(random, longest_run);
+        let least = slack_below(random, shortest_left.unwrap_or(greatest).min(greatest));
+        phases.push(Phase { least, greatest });
+    }
+    let shortest_cycle = changes()
+        .filter(|pair| pair[1].phase == 1)
+        .map(|pair| pair[0].clock)
+        .min();
+    let longest_clock = shown.iter().map(|shown| shown.clock).fold(1, u64::max);
+    let greatest_cycle = slack_above(random, longest_clock);
+    let least_cycle = slack_below(
+        random,
+        shortest_cycle.unwrap_or(greatest_cycle).min(greatest_cycle),
+    );
+    Signal {
+        least_cycle,
+        greatest_cycle,
+        shown_phase: shown[0].phase,
+        shown_seconds: shown[0].run,
+        clock: shown[0].clock,
+        phases,
+    }
+}
+
+/// A greatest time that allows this many seconds.
+fn slack_above(random: &mut Random, seconds: u64) -> u64 {
+    let slack = random.pick(&[0, 0, 0, 1, 20, 3600]);
+    (seconds + slack).min(3600)
+}
+
+/// A least time that allows this many seconds.
+fn slack_below(random: &mut Random, seconds: u64) -> u64 {
+    let slack = random.pick(&[0, 0, 0, 1, 20, 3600]);
+    seconds.saturating_sub(slack).max(1)
+}
+
+fn is_open(link: &Link, shown: &[Shown]) -> bool {
+    if link.signal == 0 {
+        return true;
+    }
+    let phase = shown[link.signal as usize - 1].phase;
+    link.phase_mask & (1 << (phase - 1)) != 0
+}
+
+fn movements_from(network: &Network, link: usize) -> Vec<usize> {
+    let movements = network.movements.iter().enumerate();
+    movements
+        .filter(|(_, movement)| movement.from == link as u64 + 1)
+        .map(|(index, _)| index)
+        .collect()
+}
+
+fn greatest_common_divisor(a: u64, b: u64) -> u64 {
+    if b == 0 {
+        a
+    } else {
+        greatest_common_divisor(b, a % b)
+    }
+}
+
+/// How much of what is possible is done.
+fn draw_volume(random: &mut Random, limit: u64, traffic: Traffic) -> u64 {
+    let eager = match traffic {
+        Traffic::Idle => return 0,
+        Traffic::Free => 40,
+        Traffic::Full => 75,
+        Traffic::Extreme => 95,
+    };
+    match random.between(0, 99) {
+        percent if percent < eager => limit,
+        percent if percent % 4 == 0 => 0,
+        percent if percent % 4 == 1 => limit.saturating_sub(1),
+        _ => random.between(0, limit),
+    }
+}
+
+/// What may happen to a link in a step.
+#[derive(Clone, Copy)]
+enum Flow {
+    Admit(usize),
+    LetOut(usize),
+    Move(usize),
+}
+
+/// Fills the plan step by step, each volume within what is left of all its
+/// limits. The shares of a link's movements sum to 1000, so its movements keep
+/// all shares only if each has exactly its part of their sum.
+fn simulate(
+    random: &mut Random,
+    network: Network,
+    traffic: Traffic,
+    schedules: &[Vec<u64>],
+) -> Scenario {
+    let link_count = network.links.len();
+    let times = boundary_times(network.steps.iter().map(|step| step.length));
+    let standing: Vec<u64> = network.links.iter().map(|link| link.standing).collect();
+    let mut plan = Vec::new();
+    let mut shown = vec![network.signals.iter().map(shown_before_plan).collect()];
+    let mut entered = vec![standing.clone()];
+    let mut left = vec![vec![0; link_count]];
+    let mut arrived = vec![standing.clone()];
+
+    for (index, step) in network.steps.iter().enumerate() {
+        let boundary = index + 1;
+        let shown_now: Vec<Shown> = schedules
+            .iter()
+            .enumerate()
+            .map(|(signal, schedule)| {
+                let before: &Vec<Shown> = &shown[index];
+                advance(before[signal], schedule[index], step.length)
+            })
+            .collect();
+        let arrived_now: Vec<u64> = (0..link_count)
+            .map(|link| {
+                let travel_time = network.links[link].travel_time;
+                if times[boundary] < travel_time {
+                    return standing[link];
+                }
+                let entry_time = times[boundary] - travel_time;
+                let entry = times.iter().position(|&time| time == entry_time);
+                entered[entry.expect("travel times fit")][link]
+            })
+            .collect();
+
+        // What is left to go from each link and the room left on it.
+        let mut waiting: Vec<u64> = (0..link_count)
+            .map(|link| arrived_now[link] - left[index][link])
+            .collect();
+        let mut room: Vec<u64> = (0..link_count)
+            .map(|link| network.links[link].capacity + left[index][link] - entered[index][link])
+            .collect();
+
+        let mut now = PlanStep {
+            masks: shown_now
+                .iter()
+                .map(|shown| 1 << (shown.phase - 1))
+                .collect(),
+            admitted: vec![0; link_count],
+            let_out: vec![0; link_count],
+            moved: vec![0; network.movements.len()],
+        };
+        let mut entered_now = entered[index].clone();
+        let mut left_now = left[index].clone();
+        let mut flows: Vec<Flow> = (0..link_count)
+            .flat_map(|link| [Flow::Admit(link), Flow::LetOut(link), Flow::Move(link)])
+            .collect();
+        random.shuffle(&mut flows);
+        for flow in flows {
+            match flow {
+                Flow::Admit(link) => {
+                    let limit = step.demand[link].min(room[link]);
+                    let volume = draw_volume(random, limit, traffic);
+                    now.admitted[link] = volume;
+                    entered_now[link] += volume;
+                    room[link] -= volume;
+                }
+                Flow::LetOut(link) => {
+                    let limit = waiting[link].min(network.links[link].exit_rate * step.length);
+                    let volume = draw_volume(random, limit, traffic);
+                    now.let_out[link] = volume;
+                    left_now[link] += volume;
+                    waiting[link] -= volume;
+                }
+                Flow::Move(link) => {
+                    if !is_open(&network.links[link], &shown_now) {
+                        continue;
+                    }
+                    let from = movements_from(&network, link);
+                    let mut limit = waiting[link];
+                    let mut divisor = 1000;
+                    for &movement in &from {
+                        let Movement {
+                            to, rate, share, ..
+                        } = network.movements[movement];
+                        let most = (rate * step.length).min(room[to as usize - 1]);
+                        limit = limit.min(1000 * most / share);
+                        divisor = greatest_common_divisor(divisor, share);
+                    }
+                    // The least sum that all shares part exactly.
+                    let grain = 1000 / divisor;
+                    let sum = grain * draw_volume(random, limit / grain, traffic);
+                    for &movement in &from {
+                        let Movement { to, share, .. } = network.movements[movement];
+                        let volume = sum * share / 1000;
+                        now.moved[movement] = volume;
+                        entered_now[to as usize - 1] += volume;
+                        left_now[link] += volume;
+                        room[to as usize - 1] -= volume;
+                        waiting[link] -= volume;
+                    }
+                }
+            }
+        }
+        plan.push(now);
+        shown.push(shown_now);
+        entered.push(entered_now);
+        left.push(left_now);
+        arrived.push(arrived_now);
+    }
+    Scenario {
+        network,
+        plan,
+        shown,
+        entered,
+        left,
+        arrived,
+    }
+}

@@ -1,0 +1,141 @@
+//! Cases at the greatest values, worked out by hand: one link that gets volume
+//! from all others and gives volume to all others.
+
+use super::{refused, Answer, Maker, Texts};
+use crate::{Link, Movement, Network, PlanStep, Step, Totals};
+
+const LINKS: usize = 24;
+const CAPACITY: u64 = 2_000_000_000;
+
+/// The first link is full, the others are half full; movements go from the
+/// first link to the others with these shares, and from each of the others
+/// back to the first link if asked for.
+fn hub(shares: [u64; LINKS - 1], back: bool, steps: usize) -> Network {
+    let link = |standing: u64| Link {
+        capacity: CAPACITY,
+        travel_time: 60,
+        exit_rate: 10_000,
+        signal: 0,
+        phase_mask: 0,
+        standing,
+    };
+    let mut links = vec![link(CAPACITY / 2); LINKS];
+    links[0] = link(CAPACITY);
+    let mut movements = Vec::new();
+    for (index, share) in shares.into_iter().enumerate() {
+        movements.push(Movement {
+            from: 1,
+            to: index as u64 + 2,
+            rate: 10_000,
+            share,
+        });
+    }
+    if back {
+        for from in 2..=LINKS as u64 {
+            movements.push(Movement {
+                from,
+                to: 1,
+                rate: 10_000,
+                share: 1000,
+            });
+        }
+    }
+    Network {
+        signals: Vec::new(),
+        links,
+        movements,
+        steps: vec![
+            Step {
+                length: 60,
+                demand: vec![600_000; LINKS],
+            };
+            steps
+        ],
+    }
+}
+
+/// A share times a sum above 32 bits: 340 x 23 x 600,000 is more than 2^32, so
+/// the first movement keeps its share and the second breaks its own.
+pub fn share_times_sum(maker: &mut Maker) {
+    let mut shares = [30; LINKS - 1];
+    shares[0] = 1000 - 22 * 30;
+    let network = hub(shares, false, 1);
+    let mut step = PlanStep {
+        masks: Vec::new(),
+        admitted: vec![0; LINKS],
+        let_out: vec![0; LINKS],
+        moved: vec![600_000; LINKS - 1],
+    };
+    let need = 2 * 2 * LINKS;
+    let texts = Texts::new(&network, std::slice::from_ref(&step));
+    let intended = Some(Answer::Refused(refused(16, 1, 2)));
+    maker.ask_plan("16: share times sum above 32 bits", texts, need, intended);
+    // All at their shares, the first just below its rate.
+    let sum = 1_764_700;
+    step.moved = shares.iter().map(|share| share * sum / 1000).collect();
+    let texts = Texts::new(&network, &[step]);
+    let inside = CAPACITY + 23 * CAPACITY / 2;
+    let intended = Some(Answer::PlanAccepted(Totals {
+        admitted: 0,
+        let_out: 0,
+        inside,
+        doubled_time: 60 * 2 * inside,
+    }));
+    maker.ask_plan(
+        "movements at their shares and a rate",
+        texts,
+        need,
+        intended,
+    );
+}
+
+/// As much as can be through one link for as long as can be: its cumulative
+/// entries come to 3.69 thousand million.
+pub fn highest_curves(maker: &mut Maker) {
+    const STEPS: u64 = 120;
+    let mut shares = [43; LINKS - 1];
+    for share in &mut shares[..11] {
+        *share = 44;
+    }
+    let network = hub(shares, true, STEPS as usize);
+    // 44 thousandths of it are just below what the rate allows.
+    let from_hub = 13_636_000;
+    let into_hub = 593_000;
+    let admitted = from_hub + 600_000 - 23 * into_hub;
+    let mut moved: Vec<u64> = shares.iter().map(|share| share * from_hub / 1000).collect();
+    moved.extend([0; LINKS - 1]);
+    let mut first = PlanStep {
+        masks: Vec::new(),
+        admitted: vec![0; LINKS],
+        let_out: vec![0; LINKS],
+        moved,
+    };
+    first.let_out[0] = 600_000;
+    let mut later = first.clone();
+    later.admitted[0] = admitted;
+    later.moved[LINKS - 1..].fill(into_hub);
+    let mut plan = vec![first];
+    plan.extend(vec![later; STEPS as usize - 1]);
+
+    let inside = |boundary: u64| {
+        let start = CAPACITY + 23 * CAPACITY / 2;
+        start + admitted * boundary.saturating_sub(1) - 600_000 * boundary
+    };
+    let totals = Totals {
+        admitted: admitted * (STEPS - 1),
+        let_out: 600_000 * STEPS,
+        inside: inside(STEPS),
+        doubled_time: (1..=STEPS)
+            .map(|boundary| 60 * (inside(boundary - 1) + inside(boundary)))
+            .sum(),
+    };
+    let need = 2 * (STEPS as usize + 1) * LINKS;
+    let intended = Some(Answer::PlanAccepted(totals));
+    let texts = Texts::new(&network, &plan);
+    maker.ask_plan("highest curves", texts, need, intended);
+    // The link is full all the time: one more does not fit in the last step.
+    plan[STEPS as usize - 1].admitted[0] += 1;
+    let intended = Some(Answer::Refused(refused(18, STEPS as usize, 1)));
+    let texts = Texts::new(&network, &plan);
+    maker.ask_plan("18: one more at the highest curves", texts, need, intended);
+}

@@ -1,0 +1,65 @@
+//! Reference implementation of the Queue Transmission Model plan check.
+//!
+//! Written from the scope paper alone and kept plain on purpose: no speed, no
+//! cleverness, one small function per sentence of the paper. All arithmetic is
+//! on `u64`; every number of a text is below 2^32 and every sum is bounded by
+//! limits that have been judged before, so nothing can overflow.
+
+pub mod cases;
+mod network;
+mod plan;
+mod report;
+mod state;
+mod text;
+
+pub use network::{Link, Movement, Network, Phase, Signal, Step};
+pub use plan::PlanStep;
+pub use report::{file_refusal, report, NETWORK_FILE_LIMIT, PLAN_FILE_LIMIT};
+
+/// Why a call declined: the refusal number, the line and the item (0 where
+/// none is named).
+#[derive(Clone, Copy, Debug, PartialEq, Eq)]
+pub struct Refusal {
+    pub number: u64,
+    pub line: u64,
+    pub item: u64,
+}
+
+/// What an accepted plan adds up to.
+#[derive(Clone, Copy, Debug, PartialEq, Eq)]
+pub struct Totals {
+    pub admitted: u64,
+    pub let_out: u64,
+    pub inside: u64,
+    pub doubled_time: u64,
+}
+
+/// The two parts of what a link holds at a boundary.
+#[derive(Clone, Copy, Debug, PartialEq, Eq)]
+pub struct State {
+    /// Standing: arrived at the end of the link and not yet left.
+    pub queued: u64,
+    /// Moving: entered and not yet arrived.
+    pub in_transit: u64,
+}
+
+/// Refusals 1 to 7.
+pub fn check_network(network: &[u8]) -> Result<(), Refusal> {
+    Network::read(network).map(|_| ())
+}
+
+/// Refusals 1 to 18; row 0 is written once the ledger's length has passed, row
+/// n once step n has.
+pub fn check_plan(network: &[u8], plan: &[u8], ledger: &mut [u32]) -> Result<Totals, Refusal> {
+    plan::check(network, plan, ledger)
+}
+
+/// Refusals 1 to 8 and 19 to 21; nothing is written.
+pub fn link_state(
+    network: &[u8],
+    ledger: &[u32],
+    boundary: u64,
+    link: u64,
+) -> Result<State, Refusal> {
+    state::link_state(network, ledger, boundary, link)
+}

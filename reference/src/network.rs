@@ -1,0 +1,440 @@
+//! The network text: what it holds and refusals 1 to 7.
+
+use crate::text::{Line, Lines};
+use crate::Refusal;
+
+/// Least and greatest time of one phase, in seconds.
+#[derive(Clone, Debug, PartialEq, Eq)]
+pub struct Phase {
+    pub least: u64,
+    pub greatest: u64,
+}
+
+/// A `G` line: one traffic signal (the paper's light).
+#[derive(Clone, Debug, PartialEq, Eq)]
+pub struct Signal {
+    pub least_cycle: u64,
+    pub greatest_cycle: u64,
+    /// The phase shown before the plan, counted from 1.
+    pub shown_phase: u64,
+    /// Seconds that phase has shown.
+    pub shown_seconds: u64,
+    /// Seconds since phase 1 last began.
+    pub clock: u64,
+    pub phases: Vec<Phase>,
+}
+
+/// A `Q` line: one link.
+#[derive(Clone, Debug, PartialEq, Eq)]
+pub struct Link {
+    pub capacity: u64,
+    pub travel_time: u64,
+    pub exit_rate: u64,
+    /// The signal at its end, counted from 1; 0 for none.
+    pub signal: u64,
+    /// Bit k-1 is set when phase k opens the link.
+    pub phase_mask: u64,
+    /// Volume standing at the start.
+    pub standing: u64,
+}
+
+/// An `M` line: one movement between two links, both counted from 1.
+#[derive(Clone, Debug, PartialEq, Eq)]
+pub struct Movement {
+    pub from: u64,
+    pub to: u64,
+    pub rate: u64,
+    pub share: u64,
+}
+
+/// An `S` line: one step.
+#[derive(Clone, Debug, PartialEq, Eq)]
+pub struct Step {
+    pub length: u64,
+    /// Demand volume for each link.
+    pub demand: Vec<u64>,
+}
+
+/// A whole network text.
+#[derive(Clone, Debug, PartialEq, Eq)]
+pub struct Network {
+    pub signals: Vec<Signal>,
+    pub links: Vec<Link>,
+    pub movements: Vec<Movement>,
+    pub steps: Vec<Step>,
+}
+
+impl Network {
+    /// Reads and judges a network text: line by line, form before values, the
+    /// share sums after the last `M` line, surplus text after the last line,
+    /// and refusal 7 at the very end.
+    pub fn read(text: &[u8]) -> Result<Network, Refusal> {
+        let mut lines = Lines::new(text);
+        let counts = Counts::read(&lines.take())?;
+        let mut network = Network {
+            signals: Vec::new(),
+            links: Vec::new(),
+            movements: Vec::new(),
+            steps: Vec::new(),
+        };
+        for item in 1..=counts.signals {
+            let signal = read_signal(&lines.take(), item)?;
+            network.signals.push(signal);
+        }
+        for item in 1..=counts.links {
+            let link = read_link(&lines.take(), item, &network.signals)?;
+            network.links.push(link);
+        }
+        for item in 1..=counts.movements {
+            let before = network.movements.last();
+            let movement = read_movement(&lines.take(), item, counts.links, before)?;
+            network.movements.push(movement);
+        }
+        network.judge_share_sums()?;
+        for item in 1..=counts.steps {
+            let step = read_step(&lines.take(), item, counts.links, &network.signals)?;
+            network.steps.push(step);
+        }
+        if let Some(line) = lines.surplus() {
+            return Err(malformed(line));
+        }
+        network.judge_travel_times()?;
+        Ok(network)
+    }
+
+    /// Refusal 5 after all `M` lines: by rising link that has movements, the
+    /// shares of the movements from it sum to 1000; told at its last movement.
+    fn judge_share_sums(&self) -> Result<(), Refusal> {
+        for link in 1..=self.links.len() as u64 {
+            let mut sum = 0;
+            let mut last_movement = None;
+            for (index, movement) in self.movements.iter().enumerate() {
+                if movement.from == link {
+                    sum += movement.share;
+                    last_movement = Some(index as u64 + 1);
+                }
+            }
+            if let Some(item) = last_movement {
+                if sum != 1000 {
+                    return Err(Refusal {
+                        number: 5,
+                        line: self.lines_before_movements() + item,
+                        item,
+                    });
+                }
+            }
+        }
+        Ok(())
+    }
+
+    /// Refusal 7, by rising step, then link: time t(n) is at least the travel
+    /// time, but t(n) minus it is no boundary.
+    fn judge_travel_times(&self) -> Result<(), Refusal> {
+        let times = self.times();
+        for step in 1..=self.steps.len() {
+            for (index, link) in self.links.iter().enumerate() {
+                if times[step] < link.travel_time {
+                    continue;
+                }
+                if !times.contains(&(times[step] - link.travel_time)) {
+                    return Err(Refusal {
+                        number: 7,
+                        line: self.lines_before_steps() + step as u64,
+                        item: index as u64 + 1,
+                    });
+                }
+            }
+        }
+        Ok(())
+    }
+
+    fn lines_before_movements(&self) -> u64 {
+        1 + self.signals.len() as u64 + self.links.len() as u64
+    }
+
+    fn lines_before_steps(&self) -> u64 {
+        self.lines_before_movements() + self.movements.len() as u64
+    }
+
+    /// The times t(0) to t(K) of all boundaries; they rise, since every length
+    /// is at least 1.
+    pub fn times(&self) -> Vec<u64> {
+        let mut times = vec![0];
+        let mut time = 0;
+        for step in &self.steps {
+            time += step.length;
+            times.push(time);
+        }
+        times
+    }
+
+    /// The boundary m with t(m) = t(n) - travel time, and none if t(n) is
+    /// smaller than the travel time. Refusal 7 sees to it that m exists.
+    pub fn arrival_boundary(&self, boundary: usize, link: &Link) -> Option<usize> {
+        let times = self.times();
+        if times[boundary] < link.travel_time {
+            return None;
+        }
+        let entry_time = times[boundary] - link.travel_time;
+        times.iter().position(|&time| time == entry_time)
+    }
+
+    /// Numbers that a ledger needs: 2 x (K+1) x L.
+    pub fn ledger_need(&self) -> usize {
+        2 * (self.steps.len() + 1) * self.links.len()
+    }
+
+    /// Refusal 8: a ledger that is too short.
+    pub fn judge_ledger_length(&self, length: usize) -> Result<(), Refusal> {
+        if length < self.ledger_need() {
+            return Err(Refusal {
+                number: 8,
+                line: 0,
+                item: 0,
+            });
+        }
+        Ok(())
+    }
+}
+
+/// Refusal 1 at a line.
+fn malformed(line: u64) -> Refusal {
+    Refusal {
+        number: 1,
+        line,
+        item: 0,
+    }
+}
+
+/// The counts of the `N` line.
+struct Counts {
+    links: u64,
+    signals: u64,
+    movements: u64,
+    steps: u64,
+}
+
+impl Counts {
+    fn read(line: &Line) -> Result<Counts, Refusal> {
+        let numbers = line.numbers(b'N', 4).ok_or(malformed(line.number))?;
+        let counts = Counts {
+            links: numbers[0],
+            signals: numbers[1],
+            movements: numbers[2],
+            steps: numbers[3],
+        };
+        let within_limits = (1..=24).contains(&counts.links)
+            && counts.signals <= 8
+            && counts.movements <= 64
+            && (1..=120).contains(&counts.steps);
+        if within_limits {
+            Ok(counts)
+        } else {
+            Err(Refusal {
+                number: 2,
+                line: line.number,
+                item: 0,
+            })
+        }
+    }
+}
+
+/// A `G` line. With seven good fields a bad number of phases is told before
+/// anything later in the line, as it decides how many fields there are.
+fn read_signal(line: &Line, item: u64) -> Result<Signal, Refusal> {
+    let unacceptable = Refusal {
+        number: 3,
+        line: line.number,
+        item,
+    };
+    let head = line
+        .leading_numbers(b'G', 6)
+        .ok_or(malformed(line.number))?;
+    let phase_count = head[2];
+    if !(2..=8).contains(&phase_count) {
+        return Err(unacceptable);
+    }
+    let numbers = line
+        .numbers(b'G', 6 + 2 * phase_count as usize)
+        .ok_or(malformed(line.number))?;
+    let signal = Signal {
+        least_cycle: numbers[0],
+        greatest_cycle: numbers[1],
+        shown_phase: numbers[3],
+        shown_seconds: numbers[4],
+        clock: numbers[5],
+        phases: numbers[6..]
+            .chunks(2)
+            .map(|pair| Phase {
+                least: pair[0],
+                greatest: pair[1],
+            })
+            .collect(),
+    };
+    if is_acceptable_signal(&signal) {
+        Ok(signal)
+    } else {
+        Err(unacceptable)
+    }
+}
+
+/// 1 <= least <= greatest <= 3600, for a phase and for the cycle.
+fn is_acceptable_span(least: u64, greatest: u64) -> bool {
+    1 <= least && least <= greatest && greatest <= 3600
+}
+
+fn is_acceptable_signal(signal: &Signal) -> bool {
+    let phase_count = signal.phases.len() as u64;
+    if !(1..=phase_count).contains(&signal.shown_phase) {
+        return false;
+    }
+    for phase in &signal.phases {
+        if !is_acceptable_span(phase.least, phase.greatest) {
+            return false;
+        }
+    }
+    if !is_acceptable_span(signal.least_cycle, signal.greatest_cycle) {
+        return false;
+    }
+    let shown = &signal.phases[signal.shown_phase as usize - 1];
+    if signal.shown_seconds > shown.greatest {
+        return false;
+    }
+    if signal.clock > signal.greatest_cycle || signal.clock < signal.shown_seconds {
+        return false;
+    }
+    // Phase 1 has shown exactly since it began.
+    if signal.shown_phase == 1 && signal.clock != signal.shown_seconds {
+        return false;
+    }
+    true
+}
+
+/// A `Q` line.
+fn read_link(line: &Line, item: u64, signals: &[Signal]) -> Result<Link, Refusal> {
+    let numbers = line.numbers(b'Q', 6).ok_or(malformed(line.number))?;
+    let link = Link {
+        capacity: numbers[0],
+        travel_time: numbers[1],
+        exit_rate: numbers[2],
+        signal: numbers[3],
+        phase_mask: numbers[4],
+        standing: numbers[5],
+    };
+    if is_acceptable_link(&link, signals) {
+        Ok(link)
+    } else {
+        Err(Refusal {
+            number: 4,
+            line: line.number,
+            item,
+        })
+    }
+}
+
+fn is_acceptable_link(link: &Link, signals: &[Signal]) -> bool {
+    if link.capacity > 2_000_000_000 {
+        return false;
+    }
+    if !(1..=3600).contains(&link.travel_time) {
+        return false;
+    }
+    if link.exit_rate > 10_000 {
+        return false;
+    }
+    if link.signal > signals.len() as u64 {
+        return false;
+    }
+    if link.signal == 0 {
+        if link.phase_mask != 0 {
+            return false;
+        }
+    } else {
+        let phase_count = signals[link.signal as usize - 1].phases.len();
+        let names_phase_above = link.phase_mask >> phase_count != 0;
+        if link.phase_mask == 0 || names_phase_above {
+            return false;
+        }
+    }
+    link.standing <= link.capacity
+}
+
+/// An `M` line.
+fn read_movement(
+    line: &Line,
+    item: u64,
+    link_count: u64,
+    before: Option<&Movement>,
+) -> Result<Movement, Refusal> {
+    let numbers = line.numbers(b'M', 4).ok_or(malformed(line.number))?;
+    let movement = Movement {
+        from: numbers[0],
+        to: numbers[1],
+        rate: numbers[2],
+        share: numbers[3],
+    };
+    if is_acceptable_movement(&movement, link_count, before) {
+        Ok(movement)
+    } else {
+        Err(Refusal {
+            number: 5,
+            line: line.number,
+            item,
+        })
+    }
+}
+
+fn is_acceptable_movement(movement: &Movement, link_count: u64, before: Option<&Movement>) -> bool {
+    let links = 1..=link_count;
+    if !links.contains(&movement.from) || !links.contains(&movement.to) {
+        return false;
+    }
+    if movement.from == movement.to {
+        return false;
+    }
+    if !(1..=10_000).contains(&movement.rate) {
+        return false;
+    }
+    if !(1..=1000).contains(&movement.share) {
+        return false;
+    }
+    match before {
+        None => true,
+        // Pairs compare by from link first, then by to link.
+        Some(before) => (movement.from, movement.to) > (before.from, before.to),
+    }
+}
+
+/// An `S` line.
+fn read_step(line: &Line, item: u64, link_count: u64, signals: &[Signal]) -> Result<Step, Refusal> {
+    let numbers = line
+        .numbers(b'S', 1 + link_count as usize)
+        .ok_or(malformed(line.number))?;
+    let step = Step {
+        length: numbers[0],
+        demand: numbers[1..].to_vec(),
+    };
+    if is_acceptable_step(&step, signals) {
+        Ok(step)
+    } else {
+        Err(Refusal {
+            number: 6,
+            line: line.number,
+            item,
+        })
+    }
+}
+
+fn is_acceptable_step(step: &Step, signals: &[Signal]) -> bool {
+    if !(1..=60).contains(&step.length) {
+        return false;
+    }
+    for signal in signals {
+        for phase in &signal.phases {
+            if step.length > phase.greatest {
+                return false;
+            }
+        }
+    }
+    step.demand.iter().all(|&volume| volume <= 600_000)
+}

@@ -1,0 +1,245 @@
+//! The cases themselves: that they are what they were made for, that the
+//! stored form can be read back, and that nothing is left out.
+
+use plancheck_reference::cases::{
+    accepted_cases, checksum, decode, draw_full_size, draw_small_size, encode, random_cases,
+    stored_cases, Answer, Call, Case, Maker, Random, Scenario, Traffic, LARGEST,
+};
+use plancheck_reference::Refusal;
+use std::sync::OnceLock;
+
+/// The stored cases, made once for all tests.
+fn stored() -> &'static [Case] {
+    static STORED: OnceLock<Vec<Case>> = OnceLock::new();
+    STORED.get_or_init(|| stored_cases(1))
+}
+
+fn assert_as_intended(case: &Case) {
+    if let Some(intended) = case.intended {
+        assert_eq!(
+            intended,
+            case.answer,
+            "{}\n{}\n{}",
+            case.name,
+            String::from_utf8_lossy(&case.question.network),
+            String::from_utf8_lossy(&case.question.plan)
+        );
+    }
+}
+
+#[test]
+fn random_cases_are_what_they_were_made_for() {
+    for seed in 0..40 {
+        for case in random_cases(seed) {
+            assert_as_intended(&case);
+        }
+    }
+}
+
+#[test]
+fn simulated_plans_pass_with_the_simulated_ledger() {
+    let mut random = Random::new(77);
+    let mut scenarios = Vec::new();
+    for round in 0..200 {
+        let size = if round % 2 == 0 {
+            draw_small_size(&mut random)
+        } else {
+            draw_full_size(&mut random)
+        };
+        let traffic = [
+            Traffic::Free,
+            Traffic::Full,
+            Traffic::Extreme,
+            Traffic::Idle,
+        ][round % 4];
+        scenarios.push(Scenario::make(&mut random, size, traffic));
+    }
+    for traffic in [Traffic::Free, Traffic::Full, Traffic::Extreme] {
+        scenarios.push(Scenario::make(&mut random, LARGEST, traffic));
+    }
+    let mut traffic = Traffics::default();
+    for scenario in &scenarios {
+        let mut maker = Maker::new(1);
+        accepted_cases(&mut maker, scenario);
+        for case in maker.judged() {
+            assert_as_intended(&case);
+            if case.question.call == Call::CheckPlan {
+                let (_, ledger) = case.question.judge();
+                assert_eq!(ledger[..scenario.ledger_need()], scenario.ledger());
+            }
+        }
+        traffic.add(scenario);
+    }
+    traffic.assert_lively();
+}
+
+/// How often volumes reach each of their limits.
+#[derive(Default, Debug)]
+struct Traffics {
+    moved: u64,
+    admitted_all_demand: u64,
+    let_out_at_exit_rate: u64,
+    moved_at_rate: u64,
+    left_all_arrived: u64,
+    links_filled: u64,
+    shared: u64,
+    above_half_of_32_bits: u64,
+}
+
+impl Traffics {
+    fn add(&mut self, scenario: &Scenario) {
+        for (index, planned) in scenario.plan.iter().enumerate() {
+            let step = &scenario.network.steps[index];
+            for (movement, &volume) in planned.moved.iter().enumerate() {
+                let limits = &scenario.network.movements[movement];
+                self.moved += u64::from(volume > 0);
+                self.moved_at_rate += u64::from(volume == limits.rate * step.length);
+                self.shared += u64::from(volume > 0 && limits.share < 1000);
+            }
+            for (link, limits) in scenario.network.links.iter().enumerate() {
+                let admitted = planned.admitted[link];
+                let let_out = planned.let_out[link];
+                let entered = scenario.entered[index + 1][link];
+                let left = scenario.left[index + 1][link];
+                let arrived = scenario.arrived[index + 1][link];
+                let at_rate = let_out == limits.exit_rate * step.length;
+                let full = entered - scenario.left[index][link] == limits.capacity;
+                let gone = left > scenario.left[index][link] && left == arrived;
+                self.admitted_all_demand +=
+                    u64::from(admitted > 0 && admitted == step.demand[link]);
+                self.let_out_at_exit_rate += u64::from(let_out > 0 && at_rate);
+                self.links_filled += u64::from(full && entered > scenario.entered[index][link]);
+                self.left_all_arrived += u64::from(gone);
+                self.above_half_of_32_bits += u64::from(entered > 1 << 31);
+            }
+        }
+    }
+
+    fn assert_lively(&self) {
+        for count in [
+            self.moved,
+            self.admitted_all_demand,
+            self.let_out_at_exit_rate,
+            self.moved_at_rate,
+            self.left_all_arrived,
+            self.links_filled,
+            self.shared,
+            self.above_half_of_32_bits,
+        ] {
+            assert!(count > 50, "{self:?}");
+        }
+    }
+}
+
+#[test]
+fn the_stored_cases_leave_nothing_out() {
+    let cases = stored();
+    assert!(cases.len() >= 2_000);
+    for case in cases {
+        assert_as_intended(case);
+    }
+    let count = |matches: &dyn Fn(&Case) -> bool| cases.iter().filter(|case| matches(case)).count();
+    for wanted in 1..=21 {
+        let refused = count(
+            &|case| matches!(case.answer, Answer::Refused(Refusal { number, .. }) if number == wanted),
+        );
+        assert!(refused >= 40, "refusal {wanted}: {refused} cases");
+    }
+    for name in [
+        "10: no bit",
+        "10: two bits",
+        "10: all phases",
+        "10: one bit above P",
+        "10: a phase and one above P",
+        "10: highest bit",
+        "10: a phase and the highest bit",
+        "10: all bits",
+        "11: phase skipped",
+        "11: back to an earlier phase",
+        "12: phase left too early",
+        "12: least time one above",
+        "least time just kept",
+        "13: phase goes on too long",
+        "13: greatest time one below",
+        "greatest time just kept",
+        "14: phase 1 begins too early",
+        "14: cycle goes on too long",
+        "14: least cycle one above",
+        "least cycle just kept",
+        "14: greatest cycle one below",
+        "greatest cycle just kept",
+        "15: admitted above demand",
+        "15: let out above the exit rate",
+        "15: movement above its rate",
+        "15: movement at red",
+        "15: demand one below",
+        "15: exit rate one below",
+        "15: rate one below",
+        "16: movement one above its share",
+        "16: others above their share",
+        "17: one let out that has not arrived",
+        "17: one moved that has not arrived",
+        "17: one that left was not admitted before",
+        "18: one admitted to a full link",
+        "18: capacity one below",
+        "capacity just kept",
+        "all limits just kept",
+        "21: left above arrived",
+        "21: entered below arrived",
+        "21: arrived below left",
+        "21: arrived above entered",
+        "row 0 has no say before the travel time",
+    ] {
+        let named = count(&|case| case.name == name);
+        assert!(named >= 3, "{name}: {named} cases");
+    }
+    let largest = count(&|case| case.question.network.starts_with(b"N\t24\t8\t64\t120\n"));
+    assert!(largest > 10);
+}
+
+#[test]
+fn the_stored_form_can_be_read_back() {
+    let cases = stored();
+    let bytes = encode(cases);
+    assert!(bytes.len() < 6_000_000);
+    let stored = decode(&bytes).expect("the form is right");
+    assert_eq!(stored.len(), cases.len());
+    for (case, (question, answer, sum)) in cases.iter().zip(&stored) {
+        assert_eq!(&case.question, question);
+        assert_eq!(&case.answer, answer);
+        assert_eq!(&case.checksum, sum);
+        let (judged, ledger) = question.judge();
+        assert_eq!(&judged, answer);
+        assert_eq!(&checksum(&ledger), sum);
+    }
+    assert!(decode(&bytes[..bytes.len() - 1]).is_none());
+}
+
+#[test]
+fn the_stored_file_is_made_from_seed_1() {
+    let file = concat!(
+        env!("CARGO_MANIFEST_DIR"),
+        "/../crates/conformance/data/cases.bin"
+    );
+    let bytes = std::fs::read(file).expect("the file is there");
+    assert!(
+        bytes == encode(stored()),
+        "make it again with reference/make-cases"
+    );
+}
+
+#[test]
+fn checksums() {
+    // Known values of FNV-1a: no bytes, and the bytes of "abcd".
+    assert_eq!(checksum(&[]), 0xCBF2_9CE4_8422_2325);
+    assert_eq!(
+        checksum(&[u32::from_le_bytes(*b"abcd")]),
+        0xFC17_9F83_EE07_24DD
+    );
+}
+
+#[test]
+fn the_same_seed_gives_the_same_cases() {
+    assert_eq!(random_cases(5), random_cases(5));
+    assert_ne!(random_cases(5), random_cases(6));
+}

@@ -1,0 +1,7 @@
+//! Every refusal number with each of its conditions and the near misses on
+//! both sides, and what stands in the ledger afterwards.
+
+mod fixture;
+mod network;
+mod plan;
+mod state;
