@@ -1,0 +1,4 @@
+pub mod Checksum
+pub mod Stored
+pub mod Outcome
+pub mod Compare

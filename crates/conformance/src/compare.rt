@@ -1,0 +1,191 @@
+// Reads the cases, judges each by the proved calls and compares.
+ghost use mathlib.Core.Path.{_≡_};
+ghost use Prim.Native.Nat.{_<_};
+ghost use Rattle.conformance.specs.Compare.{heldAt, Filled};
+use crate::checksum;
+use crate::outcome;
+use crate::stored;
+use crate::stored::CaseCount;
+use crate::stored::LedgerForm;
+use crate::stored::Question;
+use crate::tally;
+
+// How much of each buffer is in use; a case may go on with what the case before gave.
+pub struct Sizes {
+    pub network: usize,
+    pub plan: usize,
+    pub start: usize,
+}
+
+// What the ledger holds at a place before the call: a given number, or the fill.
+fn held_at(start: &[u32], fill: u32, i: usize) -> u32
+    ensures { λ r. ⌜ r ≡ heldAt (now (start .entry)) fill i ⌝ }
+{
+    if i < start.len() { start[i] } else { fill }
+}
+
+// Makes the ledger what it is before the call.
+fn fill_ledger(ledger: &mut [u32], start: &[u32], fill: u32)
+    ensures { λ _. ⌜ Filled (now (start .entry)) fill (now (ledger .exit)) ⌝ }
+{
+    let mut i = 0;
+    while i < ledger.len() {
+        ledger[i] = held_at(start, fill, i);
+        i += 1;
+    }
+}
+
+// Judges a case by the library, on the ledger as it is before the call, and counts it.
+fn judge(number: u32, network: &[u8], ledger: &[u32], question: Question, counts: &mut [u64]) {
+    if question.call != 1 {
+        tally::add_one(counts, tally::PASSED_OVER);
+        return;
+    }
+    let given = outcome::of_network(network::check_network(network));
+    let sum = checksum::checksum(ledger);
+    let answer = question.answer;
+    if outcome::is_same(given, answer) & (sum == question.checksum) {
+        tally::add_one(counts, tally::place_of(question.call, given));
+    } else {
+        tally::add_one(counts, tally::DIFFERENT);
+        tally::print_difference(number, given, sum, answer, question.checksum);
+    }
+}
+
+// Takes what a case uses of each buffer, and judges it; false where a length is not one of its buffer.
+fn run_read(
+    number: u32,
+    network: &[u8],
+    start: &[u32],
+    ledger: &mut [u32],
+    sizes: Sizes,
+    form: LedgerForm,
+    question: Question,
+    counts: &mut [u64],
+) -> bool {
+    let network_size = sizes.network;
+    let start_size = sizes.start;
+    let ledger_size = form.size;
+    if network.len() < network_size {
+        return false;
+    }
+    if start.len() < start_size {
+        return false;
+    }
+    if ledger.len() < ledger_size {
+        return false;
+    }
+    if ledger_size < start_size {
+        return false;
+    }
+    fill_ledger(&mut ledger[..ledger_size], &start[..start_size], form.fill);
+    judge(
+        number,
+        &network[..network_size],
+        &ledger[..ledger_size],
+        question,
+        counts,
+    );
+    true
+}
+
+// Reads one case into the buffers and judges it: how much of each buffer is then in use.
+fn run_case(
+    file: i32,
+    number: u32,
+    before: Sizes,
+    network: &mut [u8],
+    plan: &mut [u8],
+    start: &mut [u32],
+    ledger: &mut [u32],
+    counts: &mut [u64],
+) -> Sizes {
+    let network_size = stored::read_text(file, network, before.network);
+    let plan_size = stored::read_text(file, plan, before.plan);
+    let form = stored::read_ledger(file);
+    let start_size = stored::read_start(file, start, form.given, before.start);
+    let question = stored::read_question(file);
+    let sizes = Sizes {
+        network: network_size,
+        plan: plan_size,
+        start: start_size,
+    };
+    if run_read(
+        number,
+        network,
+        start,
+        ledger,
+        sizes,
+        form,
+        question,
+        counts,
+    ) {
+        return sizes;
+    }
+    Sizes {
+        network: stored::NOTHING,
+        plan: stored::NOTHING,
+        start: stored::NOTHING,
+    }
+}
+
+// How many cases are left after one: none where that case could not be read.
+fn left_after(left: u32, sizes: Sizes) -> u32
+    requires { ⌜ 0 < left ⌝ }
+    ensures { λ r. ⌜ r < left ⌝ }
+{
+    if sizes.network == stored::NOTHING {
+        return 0;
+    }
+    left - 1
+}
+
+// Reads and judges the cases of an open file behind its header; false where the file is malformed.
+fn run_cases(
+    file: i32,
+    count: u32,
+    network: &mut [u8],
+    plan: &mut [u8],
+    start: &mut [u32],
+    ledger: &mut [u32],
+    counts: &mut [u64],
+) -> bool {
+    let mut sizes = Sizes {
+        network: stored::NOTHING,
+        plan: stored::NOTHING,
+        start: stored::NOTHING,
+    };
+    let mut left = count;
+    while 0 < left {
+        sizes = run_case(
+            file,
+            count - left,
+            sizes,
+            network,
+            plan,
+            start,
+            ledger,
+            counts,
+        );
+        left = left_after(left, sizes);
+    }
+    sizes.network != stored::NOTHING
+}
+
+// Reads and judges all cases of an open file; false where the file is malformed.
+pub fn run_file(
+    file: i32,
+    network: &mut [u8],
+    plan: &mut [u8],
+    start: &mut [u32],
+    ledger: &mut [u32],
+    counts: &mut [u64],
+) -> bool {
+    match stored::read_header(file) {
+        CaseCount::Cases(count) => {
+            let is_read = run_cases(file, count, network, plan, start, ledger, counts);
+            is_read & stored::is_at_end(file)
+        }
+        CaseCount::Malformed => false,
+    }
+}
