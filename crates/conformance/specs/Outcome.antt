@@ -4,6 +4,8 @@ use mathlib.Core.Bool.{Bool, _&&_}
 use lib.Dec.{eqb}
 use Rattle.model.specs.declared.NetworkAnswer.{NetworkAnswer}
 use Rattle.model.specs.declared.NetworkAnswer.the-variants as network-answer
+use Rattle.model.specs.declared.LinkAnswer.{LinkAnswer}
+use Rattle.model.specs.declared.LinkAnswer.the-variants as link-answer
 use Rattle.conformance.specs.declared.outcome.Outcome.{Outcome}
 
 abbrev pub refusedOutcome : ℕ → ℕ → ℕ → Outcome
@@ -13,6 +15,10 @@ refusedOutcome number line item =
 abbrev pub networkOutcome : NetworkAnswer → Outcome
 networkOutcome network-answer.Valid = record { kind = 0; first = 0; second = 0; third = 0; fourth = 0 }
 networkOutcome (network-answer.Refused number line item) = refusedOutcome number line item
+
+abbrev pub linkOutcome : LinkAnswer → Outcome
+linkOutcome (link-answer.State queued transit) = record { kind = 2; first = queued; second = transit; third = 0; fourth = 0 }
+linkOutcome (link-answer.Refused number line item) = refusedOutcome number line item
 
 abbrev pub sameOutcome : Outcome → Outcome → Bool
 sameOutcome one other =

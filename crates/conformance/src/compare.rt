@@ -4,6 +4,7 @@ ghost use Prim.Native.Nat.{_<_};
 ghost use Rattle.conformance.specs.Compare.{heldAt, Filled};
 use crate::checksum;
 use crate::outcome;
+use crate::outcome::Outcome;
 use crate::stored;
 use crate::stored::CaseCount;
 use crate::stored::LedgerForm;
@@ -35,13 +36,43 @@ fn fill_ledger(ledger: &mut [u32], start: &[u32], fill: u32)
     }
 }
 
+// What the library answers to a question.
+fn answer_to(network: &[u8], plan: &[u8], ledger: &mut [u32], question: Question) -> Outcome {
+    if question.call == 1 {
+        return outcome::of_network(network::check_network(network));
+    }
+    outcome::of_link(link_state::link_state(
+        network,
+        ledger,
+        low_half(question.boundary),
+        low_half(question.link),
+    ))
+}
+
+// A number that fits 32 bits, as it is.
+fn low_half(number: u64) -> u32 {
+    (number % 4294967296) as u32
+}
+
+// Whether the library takes the question: its boundaries and links are of 32 bits.
+fn is_taken(question: Question) -> bool {
+    (question.call != 2) & (question.boundary <= 4294967295) & (question.link <= 4294967295)
+}
+
 // Judges a case by the library, on the ledger as it is before the call, and counts it.
-fn judge(number: u32, network: &[u8], ledger: &[u32], question: Question, counts: &mut [u64]) {
-    if question.call != 1 {
+fn judge(
+    number: u32,
+    network: &[u8],
+    plan: &[u8],
+    ledger: &mut [u32],
+    question: Question,
+    counts: &mut [u64],
+) {
+    if !is_taken(question) {
         tally::add_one(counts, tally::PASSED_OVER);
         return;
     }
-    let given = outcome::of_network(network::check_network(network));
+    let given = answer_to(network, plan, ledger, question);
     let sum = checksum::checksum(ledger);
     let answer = question.answer;
     if outcome::is_same(given, answer) & (sum == question.checksum) {
@@ -52,10 +83,15 @@ fn judge(number: u32, network: &[u8], ledger: &[u32], question: Question, counts
     }
 }
 
-// Takes what a case uses of each buffer, and judges it; false where a length is not one of its buffer.
+fn is_call(number: u32) -> bool {
+    (1 <= number) & (number <= 3)
+}
+
+// Takes what a case uses of each buffer, and judges it; false where there is no such call, or a length is not one of its buffer.
 fn run_read(
     number: u32,
     network: &[u8],
+    plan: &[u8],
     start: &[u32],
     ledger: &mut [u32],
     sizes: Sizes,
@@ -64,9 +100,16 @@ fn run_read(
     counts: &mut [u64],
 ) -> bool {
     let network_size = sizes.network;
+    let plan_size = sizes.plan;
     let start_size = sizes.start;
     let ledger_size = form.size;
+    if !is_call(question.call) {
+        return false;
+    }
     if network.len() < network_size {
+        return false;
+    }
+    if plan.len() < plan_size {
         return false;
     }
     if start.len() < start_size {
@@ -82,7 +125,8 @@ fn run_read(
     judge(
         number,
         &network[..network_size],
-        &ledger[..ledger_size],
+        &plan[..plan_size],
+        &mut ledger[..ledger_size],
         question,
         counts,
     );
@@ -113,6 +157,7 @@ fn run_case(
     if run_read(
         number,
         network,
+        plan,
         start,
         ledger,
         sizes,

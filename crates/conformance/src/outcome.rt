@@ -1,6 +1,7 @@
 // What a call gives, in the stored form.
 ghost use mathlib.Core.Path.{_≡_};
-ghost use Rattle.conformance.specs.Outcome.{refusedOutcome, networkOutcome, sameOutcome};
+ghost use Rattle.conformance.specs.Outcome.{refusedOutcome, networkOutcome, linkOutcome, sameOutcome};
+use model::LinkAnswer;
 use model::NetworkAnswer;
 
 // The kind is 0 for a network accepted, 1 for a plan accepted, 2 for a state, 3 for a refusal; the numbers are the totals, queued and in
@@ -37,6 +38,21 @@ pub fn of_network(answer: NetworkAnswer) -> Outcome
             fourth: 0,
         },
         NetworkAnswer::Refused { number, line, item } => refused(number, line, item),
+    }
+}
+
+pub fn of_link(answer: LinkAnswer) -> Outcome
+    ensures { λ r. ⌜ r ≡ linkOutcome answer ⌝ }
+{
+    match answer {
+        LinkAnswer::State { queued, in_transit } => Outcome {
+            kind: 2,
+            first: queued as u64,
+            second: in_transit as u64,
+            third: 0,
+            fourth: 0,
+        },
+        LinkAnswer::Refused { number, line, item } => refused(number, line, item),
     }
 }
 
