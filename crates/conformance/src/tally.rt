@@ -1,4 +1,5 @@
 // How many cases agreed, and what is printed.
+ghost use Prim.Native.Nat.{_<_};
 use crate::outcome::Outcome;
 use libc::STDOUT_FILENO;
 
@@ -49,17 +50,31 @@ fn count_at(counts: &[u64], place: usize) -> u64 {
     }
 }
 
-// A line of the table: how many cases of each call were accepted (0) or refused with a number.
-fn print_line(counts: &[u64], number: usize) {
-    if 21 < number {
-        return;
+// A number behind a tab.
+fn print_field(number: u64) {
+    print(b"\t");
+    print_number(number);
+}
+
+// Numbers, each behind a tab.
+fn print_numbers(numbers: &[u64]) {
+    let mut i = 0;
+    while i < numbers.len() {
+        print_field(numbers[i]);
+        i += 1;
     }
-    print(b"\t");
-    print_number(count_at(counts, number));
-    print(b"\t");
-    print_number(count_at(counts, 22 + number));
-    print(b"\t");
-    print_number(count_at(counts, 44 + number));
+}
+
+// The rest of a line of the table: how many cases of each call were accepted (0) or refused with a number.
+fn print_line(counts: &[u64], number: usize)
+    requires { ⌜ number < 22 ⌝ }
+{
+    let numbers = [
+        count_at(counts, number),
+        count_at(counts, 22 + number),
+        count_at(counts, 44 + number),
+    ];
+    print_numbers(&numbers);
     print(b"\n");
 }
 
@@ -73,26 +88,22 @@ pub fn print_table(counts: &[u64]) {
         print_line(counts, number);
         number += 1;
     }
-    print(b"passed over\t");
-    print_number(count_at(counts, PASSED_OVER));
-    print(b"\ndifferent\t");
-    print_number(count_at(counts, DIFFERENT));
+    let others = [count_at(counts, PASSED_OVER), count_at(counts, DIFFERENT)];
+    print(b"passed over, different");
+    print_numbers(&others);
     print(b"\n");
 }
 
 fn print_outcome(outcome: Outcome, checksum: u64) {
-    print(b"\t");
-    print_number(outcome.kind as u64);
-    print(b"\t");
-    print_number(outcome.first);
-    print(b"\t");
-    print_number(outcome.second);
-    print(b"\t");
-    print_number(outcome.third);
-    print(b"\t");
-    print_number(outcome.fourth);
-    print(b"\t");
-    print_number(checksum);
+    let numbers = [
+        outcome.kind as u64,
+        outcome.first,
+        outcome.second,
+        outcome.third,
+        outcome.fourth,
+        checksum,
+    ];
+    print_numbers(&numbers);
 }
 
 // A case that differs, by its number from 0: what the library gave, and what the other implementation gave.
