@@ -66,6 +66,7 @@ mod sheet;
 mod special;
 mod state_calls;
 
+pub use damage::damage;
 pub use random::Random;
 pub use scenario::{Scenario, Size, Traffic};
 
@@ -182,6 +183,14 @@ impl Maker {
     /// The cases in the order of their making.
     pub fn judged(self) -> Vec<Case> {
         self.drafts.into_iter().map(Draft::judge).collect()
+    }
+
+    /// Only what is asked, in the same order.
+    fn asked(self) -> Vec<Question> {
+        self.drafts
+            .into_iter()
+            .map(|draft| draft.question)
+            .collect()
     }
 
     pub fn ask(&mut self, name: &str, question: Question, intended: Option<Answer>) {
@@ -389,9 +398,25 @@ pub fn all_families(maker: &mut Maker, scenario: &Scenario) {
     damage::damaged_plans(maker, scenario, 12);
 }
 
-/// Some cases of all families for one small random scenario: the unit of a
-/// comparison with random seeds.
+/// Some cases of all families for one small random scenario.
 pub fn random_cases(seed: u64) -> Vec<Case> {
+    draw_cases(seed).judged()
+}
+
+/// What `random_cases` asks, not judged: the unit of a comparison with random
+/// seeds.
+pub fn random_questions(seed: u64) -> Vec<Question> {
+    draw_cases(seed).asked()
+}
+
+/// Questions on networks of the largest size, or large in one way.
+pub fn largest_questions(seed: u64) -> Vec<Question> {
+    let mut maker = Maker::new(seed);
+    largest_cases(&mut maker);
+    maker.asked()
+}
+
+fn draw_cases(seed: u64) -> Maker {
     let mut maker = Maker::new(seed);
     let size = match maker.random.between(0, 9) {
         0 => draw_middle_size(&mut maker.random),
@@ -402,7 +427,7 @@ pub fn random_cases(seed: u64) -> Vec<Case> {
     let scenario = Scenario::make(&mut maker.random, size, traffic);
     all_families(&mut maker, &scenario);
     damage::random_texts(&mut maker, 4);
-    maker.judged()
+    maker
 }
 
 fn draw_traffic(random: &mut Random) -> Traffic {

@@ -1,0 +1,122 @@
+//! Compares the C library with the other implementation: each answer, and every number of the ledger after the call.
+//!
+//! `differential COUNT SEED`: at least COUNT inputs, made from SEED. The inputs of round n are those of the seed SEED + n, so that a
+//! difference can be found again by itself: `differential 1 SEED` with the seed that is told.
+
+mod compare;
+mod inputs;
+mod library;
+
+use compare::{compare, Compared};
+use plancheck_reference::cases::{Answer, Call, Question};
+use std::collections::BTreeMap;
+use std::process::ExitCode;
+
+/// After so many differences nothing more is learnt.
+const MOST_DIFFERENCES: u64 = 20;
+
+#[derive(Default)]
+struct Counts {
+    inputs: u64,
+    passed_over: u64,
+    differences: u64,
+    answers: BTreeMap<(&'static str, u64), u64>,
+}
+
+fn main() -> ExitCode {
+    let arguments: Option<Vec<u64>> = std::env::args()
+        .skip(1)
+        .map(|argument| argument.parse().ok())
+        .collect();
+    let Some([count, seed]) = arguments.as_deref() else {
+        eprintln!("differential COUNT SEED");
+        return ExitCode::FAILURE;
+    };
+    let counts = run(*count, *seed);
+    report(&counts);
+    if counts.differences == 0 {
+        ExitCode::SUCCESS
+    } else {
+        ExitCode::FAILURE
+    }
+}
+
+fn run(count: u64, first_seed: u64) -> Counts {
+    let mut counts = Counts::default();
+    let mut seed = first_seed;
+    let mut shown = 0;
+    while counts.inputs < count && counts.differences < MOST_DIFFERENCES {
+        for (index, question) in inputs::round(seed).iter().enumerate() {
+            judge(&mut counts, seed, index, question);
+        }
+        seed = seed.wrapping_add(1);
+        if counts.inputs >= shown + count / 10 {
+            shown = counts.inputs;
+            let differences = counts.differences;
+            eprintln!("{shown} of {count} inputs, {differences} differences");
+        }
+    }
+    counts
+}
+
+fn judge(counts: &mut Counts, seed: u64, index: usize, question: &Question) {
+    let Some(compared) = compare(question) else {
+        counts.passed_over += 1;
+        return;
+    };
+    counts.inputs += 1;
+    let number = match compared.answer {
+        Answer::Refused(refusal) => refusal.number,
+        _ => 0,
+    };
+    let key = (name_of(question.call), number);
+    *counts.answers.entry(key).or_default() += 1;
+    if !compared.agree() {
+        counts.differences += 1;
+        tell_difference(seed, index, question, &compared);
+    }
+}
+
+fn name_of(call: Call) -> &'static str {
+    match call {
+        Call::CheckNetwork => "check_network",
+        Call::CheckPlan => "check_plan",
+        Call::LinkState { .. } => "link_state",
+    }
+}
+
+fn tell_difference(seed: u64, index: usize, question: &Question, compared: &Compared) {
+    println!(
+        "difference: seed {seed}, input {index}, {:?}",
+        question.call
+    );
+    println!("reference {:?}", compared.expected);
+    println!("library   {:?}", compared.given);
+    if !compared.is_guard_kept {
+        println!("the library wrote outside the ledger");
+    }
+    let pairs = compared.expected_ledger.iter().zip(&compared.given_ledger);
+    if let Some((place, (expected, given))) = pairs.enumerate().find(|(_, (a, b))| a != b) {
+        println!("ledger[{place}]: reference {expected}, library {given}");
+    }
+    println!("ledger of {} numbers", question.ledger.length);
+    println!("network: {}", question.network.escape_ascii());
+    println!("plan: {}", question.plan.escape_ascii());
+}
+
+fn report(counts: &Counts) {
+    println!("answer\tcheck_network\tcheck_plan\tlink_state");
+    for number in 0..=21 {
+        let columns = ["check_network", "check_plan", "link_state"]
+            .map(|call| counts.answers.get(&(call, number)).copied().unwrap_or(0));
+        let name = if number == 0 {
+            "accepted".to_string()
+        } else {
+            number.to_string()
+        };
+        println!("{name}\t{}\t{}\t{}", columns[0], columns[1], columns[2]);
+    }
+    println!("passed over\t{}", counts.passed_over);
+    println!("inputs\t{}", counts.inputs);
+    println!("differences\t{}", counts.differences);
+}
