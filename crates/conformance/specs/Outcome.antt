@@ -4,6 +4,8 @@ use mathlib.Core.Bool.{Bool, _&&_}
 use lib.Dec.{eqb}
 use Rattle.model.specs.declared.NetworkAnswer.{NetworkAnswer}
 use Rattle.model.specs.declared.NetworkAnswer.the-variants as network-answer
+use Rattle.model.specs.declared.PlanAnswer.{PlanAnswer}
+use Rattle.model.specs.declared.PlanAnswer.the-variants as plan-answer
 use Rattle.model.specs.declared.LinkAnswer.{LinkAnswer}
 use Rattle.model.specs.declared.LinkAnswer.the-variants as link-answer
 use Rattle.conformance.specs.declared.outcome.Outcome.{Outcome}
@@ -15,6 +17,11 @@ refusedOutcome number line item =
 abbrev pub networkOutcome : NetworkAnswer → Outcome
 networkOutcome network-answer.Valid = record { kind = 0; first = 0; second = 0; third = 0; fourth = 0 }
 networkOutcome (network-answer.Refused number line item) = refusedOutcome number line item
+
+abbrev pub planOutcome : PlanAnswer → Outcome
+planOutcome (plan-answer.Accepted admitted letOut inside doubledTime) =
+    record { kind = 1; first = admitted; second = letOut; third = inside; fourth = doubledTime }
+planOutcome (plan-answer.Refused number line item) = refusedOutcome number line item
 
 abbrev pub linkOutcome : LinkAnswer → Outcome
 linkOutcome (link-answer.State queued transit) = record { kind = 2; first = queued; second = transit; third = 0; fourth = 0 }

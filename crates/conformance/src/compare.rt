@@ -41,6 +41,9 @@ fn answer_to(network: &[u8], plan: &[u8], ledger: &mut [u32], question: Question
     if question.call == 1 {
         return outcome::of_network(network::check_network(network));
     }
+    if question.call == 2 {
+        return outcome::of_plan(plan_check::check_plan(network, plan, ledger));
+    }
     outcome::of_link(link_state::link_state(
         network,
         ledger,
@@ -56,7 +59,7 @@ fn low_half(number: u64) -> u32 {
 
 // Whether the library takes the question: its boundaries and links are of 32 bits.
 fn is_taken(question: Question) -> bool {
-    (question.call != 2) & (question.boundary <= 4294967295) & (question.link <= 4294967295)
+    (question.boundary <= 4294967295) & (question.link <= 4294967295)
 }
 
 // Judges a case by the library, on the ledger as it is before the call, and counts it.

@@ -1,8 +1,9 @@
 // What a call gives, in the stored form.
 ghost use mathlib.Core.Path.{_≡_};
-ghost use Rattle.conformance.specs.Outcome.{refusedOutcome, networkOutcome, linkOutcome, sameOutcome};
+ghost use Rattle.conformance.specs.Outcome.{refusedOutcome, networkOutcome, planOutcome, linkOutcome, sameOutcome};
 use model::LinkAnswer;
 use model::NetworkAnswer;
+use model::PlanAnswer;
 
 // The kind is 0 for a network accepted, 1 for a plan accepted, 2 for a state, 3 for a refusal; the numbers are the totals, queued and in
 // transit, or the refusal's number, line and item; 0 where there is none.
@@ -38,6 +39,26 @@ pub fn of_network(answer: NetworkAnswer) -> Outcome
             fourth: 0,
         },
         NetworkAnswer::Refused { number, line, item } => refused(number, line, item),
+    }
+}
+
+pub fn of_plan(answer: PlanAnswer) -> Outcome
+    ensures { λ r. ⌜ r ≡ planOutcome answer ⌝ }
+{
+    match answer {
+        PlanAnswer::Accepted {
+            admitted,
+            let_out,
+            inside,
+            doubled_time,
+        } => Outcome {
+            kind: 1,
+            first: admitted,
+            second: let_out,
+            third: inside,
+            fourth: doubled_time,
+        },
+        PlanAnswer::Refused { number, line, item } => refused(number, line, item),
     }
 }
 
