@@ -76,3 +76,9 @@ unfolding rulesVerdict ruleVerdict
 rules-same counts line f g k from h =
     first-same _ _ k from (λ place a b. first-same _ _ (ruleItems counts place) 0
     (λ item c d. ap (λ x. checked x (ruleNumber place) line (suc item)) (h place a b item (omega arith))))
+
+-- a search of rules in two parts
+pub rules-split : (counts : Counts) (line : ℕ) (holds : ℕ → ℕ → Bool) (a b from : ℕ)
+    → rulesVerdict counts line holds (a + b) from ≡ orElse (rulesVerdict counts line holds a from) (rulesVerdict counts line holds b (from + a))
+unfolding rulesVerdict
+rules-split counts line holds a b from = first-split (ruleVerdict counts line holds) a b from

@@ -14,7 +14,7 @@ use Rattle.model.specs.Flows.{signalAt}
 use Rattle.model.specs.Tables.{noSignal}
 use Rattle.signals.specs.Ready.{AllReady}
 use Rattle.signals.specs.Step.{signalRule}
-use Rattle.rows.specs.Rows.{nextRow, Fits}
+use Rattle.rows.specs.Rows.{nextRow, Fits, Few}
 use Rattle.flows.specs.Tests.{lineRule, flowRule, LineTables, FlowTables}
 use Rattle.step_check.specs.declared.Judgement.{Judgement}
 use Rattle.step_check.specs.declared.Judgement.the-variants.{Kept}
@@ -26,7 +26,19 @@ lineHolds counts signals line step links movements phases place item =
     cond (ltb place 5) (signalRule place (getD signals item noSignal) (getD phases item 0) (getD step 0 0))
     (lineRule counts line step links movements phases place item)
 
--- the tables that they read
+-- the rule at a place from 0 to 4, of rules 10 to 14, holds of a signal in a step of so many seconds
+abbrev pub signalHolds : List Signal → List ℕ → ℕ → ℕ → ℕ → Bool
+signalHolds signals phases seconds place item = signalRule place (getD signals item noSignal) (getD phases item 0) seconds
+
+-- the tables that rules 10 to 14 read
+pub record SignalTables (counts : Counts) (signals : List Signal) (phases : List ℕ) (seconds : ℕ) : Type 0 where
+  pub few : Few counts
+  pub ready : AllReady signals (counts .signals)
+  pub short : seconds ≤ 60
+  pub phases-size : length phases ≡ 8
+  pub phase-last : (r : ℕ) → r < counts .signals → getD phases r 0 ≤ 8
+
+-- the tables that rules 10 to 15 read
 pub record StepTables (counts : Counts) (signals : List Signal) (line step links movements phases : List ℕ) : Type 0 where
   pub ready : AllReady signals (counts .signals)
   pub short : getD step 0 0 ≤ 60

@@ -1,10 +1,10 @@
-// The judgement of one step of a plan: rules 10 to 18 by number, each over rising items, left by a label at the first break. It goes in two searches, since
-// the sums that rules 16 to 18 judge are formed only once rule 15 has passed.
+// The judgement of one step of a plan: rules 10 to 18 by number, each over rising items, left by a label at the first break. It goes in three searches: of the
+// signals, of the step's line, and of the sums of rules 16 to 18, which are formed only once rule 15 has passed.
 ghost use mathlib.Core.Path.{_≡_};
 ghost use Prim.Native.Nat.{_<_, _≤_};
 ghost use Rattle.step_check.specs.Search.{ruleNumber, ruleItems, rulesVerdict, judgementVerdict};
-ghost use Rattle.step_check.specs.Step.{lineHolds, StepTables, JudgeAsked, Judged};
-ghost use Rattle.flows.specs.Tests.{flowRule, FlowTables};
+ghost use Rattle.step_check.specs.Step.{signalHolds, lineHolds, SignalTables, StepTables, JudgeAsked, Judged};
+ghost use Rattle.flows.specs.Tests.{lineRule, flowRule, LineTables, FlowTables};
 use model::Counts;
 use model::Signal;
 
@@ -47,27 +47,64 @@ fn rule_items(place: usize, counts: Counts) -> usize
     items[place]
 }
 
-// Whether the rule at a place from 0 to 7, of rules 10 to 15, holds of an item.
-fn line_holds(
-    place: usize,
-    item: usize,
+// The first of rules 10 to 14 that a step of so many seconds breaks, with the first signal that breaks it. `number` is the line's. The signals are
+// searched here, one taken at a time, since a call for each item would copy all eight.
+fn first_signal_break(
     signals: [Signal; 8],
+    phases: &[u32],
+    seconds: u32,
+    counts: Counts,
+    number: u32,
+) -> Judgement
+    requires { ⌜ SignalTables counts signals (now phases) seconds ⌝ }
+    ensures { λ r. ⌜ judgementVerdict r ≡ rulesVerdict counts number (signalHolds signals (now (phases .entry)) seconds) 5 0 ⌝ }
+{
+    let mut found = Judgement::Kept;
+    'judge: for place in 0..5 {
+        let items = rule_items(place, counts);
+        for item in 0..items {
+            let signal = signals[item];
+            if !signals::signal_rule(place, signal, phases[item], seconds) {
+                found = Judgement::Broken {
+                    number: rule_number(place),
+                    line: number,
+                    item: (item + 1) as u32,
+                };
+                break 'judge;
+            }
+        }
+    }
+    found
+}
+
+// The first of admitted, let out and movements that breaks rule 15 in a step, with the first item that breaks it.
+fn first_limit_break(
     line: &[u32],
     step: &[u32],
     links: &[u32],
     movements: &[u32],
     phases: &[u32],
     counts: Counts,
-) -> bool
-    requires { ⌜ StepTables counts signals (now line) (now step) (now links) (now movements) (now phases) ⌝ }
-    requires { ⌜ (place < 8) × (item < ruleItems counts place) ⌝ }
-    ensures { λ r. ⌜ r ≡ lineHolds counts signals (now (line .entry)) (now (step .entry)) (now (links .entry)) (now (movements .entry)) (now (phases .entry)) place item ⌝ }
+    number: u32,
+) -> Judgement
+    requires { ⌜ LineTables counts (now line) (now step) (now links) (now movements) (now phases) ⌝ }
+    ensures { λ r. ⌜ judgementVerdict r ≡ rulesVerdict counts number (lineRule counts (now (line .entry)) (now (step .entry)) (now (links .entry)) (now (movements .entry)) (now (phases .entry))) 3 5 ⌝ }
 {
-    if place < 5 {
-        let signal = signals[item];
-        return signals::signal_rule(place, signal, phases[item], step[0]);
+    let mut found = Judgement::Kept;
+    'judge: for place in 5..8 {
+        let items = rule_items(place, counts);
+        for item in 0..items {
+            if !flows::line_rule(place, item, line, step, links, movements, phases, counts) {
+                found = Judgement::Broken {
+                    number: rule_number(place),
+                    line: number,
+                    item: (item + 1) as u32,
+                };
+                break 'judge;
+            }
+        }
     }
-    flows::line_rule(place, item, line, step, links, movements, phases, counts)
+    found
 }
 
 // The first of rules 10 to 15 that a step breaks, with the first item that breaks it. `number` is the line's.
@@ -84,31 +121,11 @@ pub fn first_line_break(
     requires { ⌜ StepTables counts signals (now line) (now step) (now links) (now movements) (now phases) ⌝ }
     ensures { λ r. ⌜ judgementVerdict r ≡ rulesVerdict counts number (lineHolds counts signals (now (line .entry)) (now (step .entry)) (now (links .entry)) (now (movements .entry)) (now (phases .entry))) 8 0 ⌝ }
 {
-    let mut found = Judgement::Kept;
-    'judge: for place in 0..8 {
-        let items = rule_items(place, counts);
-        for item in 0..items {
-            if !line_holds(
-                place,
-                item,
-                signals,
-                line,
-                step,
-                links,
-                movements,
-                phases,
-                counts,
-            ) {
-                found = Judgement::Broken {
-                    number: rule_number(place),
-                    line: number,
-                    item: (item + 1) as u32,
-                };
-                break 'judge;
-            }
-        }
-    }
-    found
+    let broken = first_signal_break(signals, phases, step[0], counts, number);
+    let Judgement::Kept = broken else {
+        return broken;
+    };
+    first_limit_break(line, step, links, movements, phases, counts, number)
 }
 
 // The first of rules 16 to 18 that a step breaks, once its row is formed.

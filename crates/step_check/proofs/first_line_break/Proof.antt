@@ -1,120 +1,37 @@
-use Prim.Native.Nat.{_-_, _≤_}
-use mathlib.Core.Path.{_≡_, refl}
-use native.Mathlib.Omega.{arith}
-use Rattle.step_check.specs.declared.Judgement.the-variants.{Kept}
-use Rattle.step_check.specs.Search.{rulesVerdict}
-use Rattle.step_check.specs.Step.{lineHolds}
-use Rattle.step_check.proofs.Items.{few-items}
-use Rattle.step_check.proofs.Turns.{RulesLeft, ItemsLeft, items-first, items-next, items-done, items-hit, rules-done, kept-passes}
+use Rattle.step_check.proofs.Judge.{line-broken, line-kept, signal-tables}
 use borrow.Author.Needs.{needs}
 use Rattle.step_check.proofs.first_line_break.Statement.{statement}
 use Rattle.step_check.proofs.first_line_break.Tie as tie
 
-abbrev Inv-loop : tie.InvT-loop
-Inv-loop signals line step links movements phases counts number found₀ place items item₀ found item =
-    (item ≤ items) × (found ≡ Kept)
-    × ItemsLeft counts number (lineHolds counts signals line step links movements phases) (rulesVerdict counts number (lineHolds counts signals line step links movements phases) 8 0) 8 place items item
+shared-slice-read-first-signal-break : tie.Need-shared-slice-read-first-signal-break
+shared-slice-read-first-signal-break c = search needs
 
-abbrev μ-loop : tie.MeasureT-loop
-μ-loop signals line step links movements phases counts number found₀ place items item₀ found item = items - item
+first-signal-break-requires : tie.Need-first-signal-break-requires
+first-signal-break-requires c κs = signal-tables _ _ _ _ _ _ _ (c .before .before .before .before .before .before .pre)
 
-abbrev Inv-judge : tie.InvT-judge
-Inv-judge signals line step links movements phases counts number found₀ place₀ found place =
-    (0 ≤ place) × (place ≤ 8) × (found ≡ Kept)
-    × RulesLeft counts number (lineHolds counts signals line step links movements phases) (rulesVerdict counts number (lineHolds counts signals line step links movements phases) 8 0) 8 place
+enum-told : tie.Need-enum-told
+enum-told c = search needs
 
-abbrev μ-judge : tie.MeasureT-judge
-μ-judge signals line step links movements phases counts number found₀ place₀ found place = 8 - place
+enum-told-2 : tie.Need-enum-told-2
+enum-told-2 c = search needs
 
-judge-holds : tie.Need-judge-holds Inv-loop μ-loop Inv-judge μ-judge
-unfolding rulesVerdict
-judge-holds c = (omega arith, omega arith, refl, record { left = refl })
+returns : tie.Need-returns
+returns c = line-broken _ _ _ _ _ _ _ _ _ (c .before .before .first-signal-break .ensures) _ _ _ (c .enum-told2 .given .1)
 
-rule-items-requires : tie.Need-rule-items-requires Inv-loop μ-loop Inv-judge μ-judge
-rule-items-requires c κs = search needs
+first-limit-break-requires : tie.Need-first-limit-break-requires
+first-limit-break-requires c κs = c .before .before .before .before .before .before .before .before .before .pre .tables
 
-loop-holds : tie.Need-loop-holds Inv-loop μ-loop Inv-judge μ-judge
-loop-holds c =
-    let o = c .before .before .judge in
-    (search needs, o .inv .2, items-first _ (o .inv .3) (omega arith) (c .rule-items .ensures))
-
-line-holds-requires : tie.Need-line-holds-requires Inv-loop μ-loop Inv-judge μ-judge
-line-holds-requires c κs =
-    let o = c .before .before .before .before .judge in
-    let e = c .before .before .rule-items .ensures in
-    (c .before .before .before .before .before .before .before .before .before .before .pre, (omega arith, omega arith))
-
-rule-number-requires : tie.Need-rule-number-requires Inv-loop μ-loop Inv-judge μ-judge
-rule-number-requires c κs = search needs
-
-add-t17 : tie.Need-add-t17 Inv-loop μ-loop Inv-judge μ-judge
-add-t17 c =
-    let o = c .before .before .before .before .before .before .before .judge in
-    let s = c .before .before .before .before .before .before .before .before .before .before .before .before .before in
-    let e = c .before .before .before .before .before .rule-items .ensures in
-    let h = few-items (s .args .counts) (o .place) (s .pre .tables .few) in
-    omega arith
-
-cast-t18 : tie.Need-cast-t18 Inv-loop μ-loop Inv-judge μ-judge
-cast-t18 c =
-    let o = c .before .before .before .before .before .before .before .judge in
-    let s = c .before .before .before .before .before .before .before .before .before .before .before .before .before in
-    let e = c .before .before .before .before .before .rule-items .ensures in
-    let h = few-items (s .args .counts) (o .place) (s .pre .tables .few) in
-    omega arith
-
-add-item : tie.Need-add-item Inv-loop μ-loop Inv-judge μ-judge
-add-item c = search needs
-
-loop-less : tie.Need-loop-less Inv-loop μ-loop Inv-judge μ-judge
-loop-less c = search needs
-
-loop-again : tie.Need-loop-again Inv-loop μ-loop Inv-judge μ-judge
-loop-again c =
-    let w = c .before .before .before .loop in
-    (search needs, w .inv .1, items-next (w .inv .2) _ (omega arith) (c .before .line-holds .ensures) (c .if1 .left))
-
-add-place : tie.Need-add-place Inv-loop μ-loop Inv-judge μ-judge
-add-place c = search needs
-
-judge-less : tie.Need-judge-less Inv-loop μ-loop Inv-judge μ-judge
-judge-less c = search needs
-
-judge-again : tie.Need-judge-again Inv-loop μ-loop Inv-judge μ-judge
-judge-again c =
-    let w = c .before .loop in
-    (omega arith, omega arith, w .inv .1, items-done (w .inv .2) (omega arith))
-
-returns : tie.Need-returns Inv-loop μ-loop Inv-judge μ-judge
-returns c =
-    let w = c .before .judge in
-    kept-passes _ _ (w .inv .2) (rules-done (w .inv .3) (omega arith))
-
-returns-2 : tie.Need-returns-2 Inv-loop μ-loop Inv-judge μ-judge
-returns-2 c =
-    let w = c .before .before .before .before .loop in
-    items-hit (w .inv .2) _ _ (omega arith) (c .before .before .line-holds .ensures) (c .before .if1 .taken) (c .rule-number .ensures)
+returns-2 : tie.Need-returns-2
+returns-2 c = line-kept _ _ _ _ _ _ _ _ _ (c .before .before .before .first-signal-break .ensures) (c .before .enum-told .given .1) _ (c .first-limit-break .ensures)
 
 pub first-line-break-spec : {M : Type 1} → statement M
 first-line-break-spec =
     tie.close
     (tie.spec
-    Inv-loop
-    μ-loop
-    Inv-judge
-    μ-judge
-    judge-holds
-    rule-items-requires
-    loop-holds
-    line-holds-requires
-    rule-number-requires
-    add-t17
-    cast-t18
-    add-item
-    loop-less
-    loop-again
-    add-place
-    judge-less
-    judge-again
+    shared-slice-read-first-signal-break
+    first-signal-break-requires
+    enum-told
+    enum-told-2
     returns
+    first-limit-break-requires
     returns-2)
