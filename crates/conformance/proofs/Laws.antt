@@ -1,12 +1,12 @@
 -- The checksum and the ledger before a call, a number at a time. Assumes nothing.
 use Prim.Native.Nat.{ℕ, _+_, _*_, _/_, _%_, _^_, _<_, _≤_}
 use mathlib.Core.Path.{_≡_, refl, sym, ap, _∙_}
-use mathlib.Core.List.{List, [], _∷_}
+use mathlib.Core.List.{List, []}
 use native.Mathlib.Nat.{mod-add-mod, add-mul-mod-self-right}
 use native.Mathlib.Numerals.{add-one}
 use native.Mathlib.Omega.{arith}
 use borrow.Author.Count.{below-more}
-use lib.ListN.{length, getD, set, drop, drop-of-length-le, length-set}
+use lib.ListN.{length, getD, set, drop, drop-of-length-le}
 use lib.Seq.{drop-cons, getD-set-same, getD-set-other}
 use Rattle.conformance.specs.Checksum.{withNumber, checksumFrom, checksumOf}
 use Rattle.conformance.specs.Compare.{heldAt, Filled}

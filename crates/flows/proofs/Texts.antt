@@ -28,7 +28,7 @@ use Rattle.model.proofs.Limits.{link-limits, movement-limits}
 use Rattle.rows.specs.Rows.{nextRow, RowHolds}
 use Rattle.rows.proofs.Next.{next-left-at}
 use Rattle.rows.proofs.Texts.{counts-few, movements-named, admitted-is, let-out-is, moved-is, moved-from-is}
-use Rattle.flows.specs.Tests.{admitsDemand, letsOutRate, openIn, movesOpen, keepsShare, leavesArrived, fitsCapacity, lineItems, lineRule, flowItems, flowRule, LineTables, FlowTables, ShownTable, ArrivalTable}
+use Rattle.flows.specs.Tests.{admitsDemand, letsOutRate, openIn, movesOpen, keepsShare, leavesArrived, fitsCapacity, lineRule, flowRule, LineTables, FlowTables, ShownTable, ArrivalTable}
 
 -- what holds at three places holds at each from the first to the last
 at-three : (P : ℕ → Type 0) (a b c k : ℕ) → a ≤ k → k ≤ c → b ≡ suc a → c ≡ suc b → P a → P b → P c → P k
@@ -51,18 +51,6 @@ arrival-before network valid n i l = elim (decLe (travelTime network i) (time ne
   where
     some : 1 ≤ travelTime network i
     some = unfold validLink within in let v = valid .links i l in search (leb-true, and-left, and-right) depth 9
-
--- to how many items the rules at places 5 to 7, and 8 to 10, of the table are put
-module _ {network : List Line} {counts : Counts} (counted : CountsHold network counts) (plan : List Line) (n k : ℕ) where
-  pub line-items-is : 5 ≤ k → k < 8 → lineItems counts k ≡ ruleAt (rules network plan n) k .items
-  unfolding lineItems rules
-  line-items-is h l =
-      at-three (λ k. lineItems counts k ≡ ruleAt (rules network plan n) k .items) 5 6 7 k h (omega arith) refl refl (counted .links) (counted .links) (counted .movements)
-
-  pub flow-items-is : 8 ≤ k → k < 11 → flowItems counts k ≡ ruleAt (rules network plan n) k .items
-  unfolding flowItems rules
-  flow-items-is h l =
-      at-three (λ k. flowItems counts k ≡ ruleAt (rules network plan n) k .items) 8 9 10 k h (omega arith) refl refl (counted .movements) (counted .links) (counted .links)
 
 module _ {network plan : List Line} {n : ℕ} {counts : Counts} {line links movements : List ℕ} (valid : ValidNetwork network) (counted : CountsHold network counts)
     (numbers : PlanNumbers network plan n line) (link-table : LinkTable network links) (movement-table : MovementTable network movements) where

@@ -1,6 +1,6 @@
 -- The test of a link by its six numbers is the paper's test of the link. Assumes nothing.
 use Prim.Native.Nat.{ℕ, suc, _+_, _-_, _*_, _%_, _^_, _≤_, _<_}
-use mathlib.Core.Path.{_≡_, refl, ap, _∙_}
+use mathlib.Core.Path.{_≡_, refl, _∙_}
 use mathlib.Core.Bool.{Bool, true, false, cond, not, _&&_, and-true, and-false}
 use mathlib.Core.List.{List}
 use native.Mathlib.Nat.{mod-eq-of-lt, pow-le-pow-right}
@@ -9,7 +9,6 @@ use borrow.Author.Tests.{le-leb, lt-leb, eqb-false, leb-true, ne-eqb}
 use lib.Dec.{leb, ltb, eqb}
 use lib.ListN.{length, take, drop, getD, length-take, length-drop}
 use lib.Seq.{getD-take, getD-drop}
-use Rattle.search.specs.Checks.{Checks}
 use Rattle.records.specs.declared.LineRead.{LineRead}
 use Rattle.records.specs.declared.LineRead.the-variants.{Next, Malformed}
 use Rattle.records.specs.Lines.{Line, lines}

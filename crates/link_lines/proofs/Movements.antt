@@ -9,7 +9,7 @@ use native.Mathlib.Omega.{arith}
 use borrow.Author.Tests.{eq-eqb, ne-eqb, not-true, not-false}
 use lib.Dec.{ltb, eqb, eqb·suc-zero}
 use lib.ListN.{length, getD}
-use Rattle.search.specs.Checks.{check, each, checked, verdict}
+use Rattle.search.specs.Checks.{each, checked, verdict}
 use Rattle.search.proofs.Laws.{first-hit, first-next, first-done}
 use Rattle.records.specs.declared.LineRead.{LineRead}
 use Rattle.records.specs.declared.LineRead.the-variants.{Next, Malformed}

@@ -1,5 +1,5 @@
 -- Lines that are read into the rows of a table, one after another, for any width. Assumes nothing.
-use Prim.Native.Nat.{ℕ, zero, suc, _+_, _-_, _*_, _≤_, _<_}
+use Prim.Native.Nat.{ℕ, suc, _+_, _-_, _*_, _≤_, _<_}
 use mathlib.Core.Path.{_≡_, sym, ap, _∙_}
 use mathlib.Core.Logic.{_⊎_, inl, inr}
 use mathlib.Core.Bool.{Bool, true, false, not}
@@ -10,11 +10,11 @@ use native.Mathlib.Omega.{arith}
 use borrow.Author.Tests.{not-true, not-false}
 use lib.ListN.{length, take, drop, getD, length-take, length-drop, List·getD-append}
 use lib.Seq.{length-take-le, getD-take, getD-append-add}
-use Rattle.search.specs.Checks.{Verdict, refused, check, each, orElse, checked, verdict}
+use Rattle.search.specs.Checks.{refused, each, orElse, checked, verdict}
 use Rattle.search.proofs.Laws.{first-hit, first-next, first-done}
 use Rattle.records.specs.declared.LineRead.{LineRead}
 use Rattle.records.specs.declared.LineRead.the-variants.{Next, Malformed}
-use Rattle.records.specs.Lines.{Line, lines, noLine, isRecord, number}
+use Rattle.records.specs.Lines.{lines, noLine, isRecord, number}
 use Rattle.records.specs.Reading.{lineAt, leadingAs, recordAt, Starts, Got}
 use Rattle.records.proofs.Laws.{got-record, record-read, record-malformed, starts-line, starts-plus}
 use Rattle.model.specs.declared.Stage.the-variants.{Passed, Stopped}

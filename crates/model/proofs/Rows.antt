@@ -6,7 +6,7 @@ use Prim.Native.Nat.{ℕ, zero, suc, _+_, _*_, _-_, _≤_, _<_}
 use native.Mathlib.Nat.{eq-or-lt-of-le, mul-le-mul-right}
 use native.Mathlib.Omega.{arith}
 use lib.ListN.{length, getD, take, drop, length-append, length-drop, List·getD-append}
-use lib.Seq.{getD-append-add, getD-drop, take-at, drop-append-add, drop-drop}
+use lib.Seq.{getD-append-add, take-at, drop-append-add, drop-drop}
 use Rattle.records.specs.Lines.{Line}
 use Rattle.model.specs.Sum.{joined}
 use Rattle.model.specs.Network.{linkCount}
@@ -90,13 +90,6 @@ module _ (network plan : List Line) where
     written-at m n i h l =
         let e : 2 * n * linkCount network + 2 * i + 1 ≡ 2 * n * linkCount network + (2 * i + 1) = omega arith in
         rw e (written-row m n (2 * i) h (omega arith) ∙ row-at n i l .0, written-row m n (2 * i + 1) h (omega arith) ∙ row-at n i l .1)
-
-    -- past them: what it held
-    pub written-past : (m x : ℕ) → 2 * m * linkCount network ≤ x → getD (written network plan old m) x 0 ≡ getD old x 0
-    unfolding written
-    written-past m x h =
-        let e : 2 * m * linkCount network + (x - 2 * m * linkCount network) ≡ x = omega arith in
-        rw e at (past (joined m (row network plan)) (drop (2 * m * linkCount network) old) (2 * m * linkCount network) (x - 2 * m * linkCount network) (length-rows m) ∙ getD-drop (2 * m * linkCount network) old (x - 2 * m * linkCount network) 0)
 
     pub length-written : (m : ℕ) → 2 * m * linkCount network ≤ length old → length (written network plan old m) ≡ length old
     unfolding written

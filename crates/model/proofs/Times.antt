@@ -62,17 +62,6 @@ module _ (network : List Line) where
       before u (inl e) = absurd (u (rw e at l))
       before u (inr v) = omega arith
 
-  -- .. so the next one is past it, and it moves on with the time and the boundaries
-  pub last-boundary-next : (n x : ℕ) → lastBoundary network n x < n → x < time network (suc (lastBoundary network n x))
-  last-boundary-next n x h = elim (decLe (time network (suc (lastBoundary network n x))) x) [
-    | yes u ↦ absurd (omega (arith, last-boundary-above n x (suc (lastBoundary network n x)) h u))
-    | no u ↦ omega arith
-  ]
-
-  pub last-boundary-mono : (n x n′ x′ : ℕ) → n ≤ n′ → x ≤ x′ → lastBoundary network n x ≤ lastBoundary network n′ x′
-  last-boundary-mono n x n′ x′ h l =
-      last-boundary-above n′ x′ (lastBoundary network n x) (omega (arith, last-boundary-le n x)) (omega (arith, last-boundary-time n x))
-
   -- a boundary that is by that time, and whose next is not, is it
   pub last-boundary-is : (n x m : ℕ) → m ≤ n → time network m ≤ x → (m ≡ n) ⊎ (x < time network (suc m)) → lastBoundary network n x ≡ m
   last-boundary-is n x m h l (inl e) = omega (arith, last-boundary-above n x m h l, last-boundary-le n x)

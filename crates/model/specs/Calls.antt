@@ -1,7 +1,7 @@
 -- The calls: their answers, and the ledger after a plan's check. Assumes nothing.
-use Prim.Native.Nat.{ℕ, zero, suc, _+_, _*_, _-_}
-use mathlib.Core.Bool.{Bool, cond}
-use mathlib.Core.List.{List, [], _∷_, _++_}
+use Prim.Native.Nat.{ℕ, suc, _+_, _*_, _-_}
+use mathlib.Core.Bool.{cond}
+use mathlib.Core.List.{List, [], _++_}
 use lib.Dec.{leb, ltb}
 use lib.ListN.{length, getD, drop}
 use Rattle.search.specs.Checks.{Verdict, passes, refused, Checks, check, _then_, verdict}

@@ -7,7 +7,7 @@ use Rattle.records.specs.Lines.{Line}
 use Rattle.model.specs.declared.Signal.{Signal}
 use Rattle.model.specs.Test.{_or_}
 use Rattle.model.specs.Sum.{sum, only}
-use Rattle.model.specs.Network.{entry, linkCount, signalCount, movementCount, stepCount, signal, signalOf, phaseMask, standing, fromLink, toLink, stepLength, arrivalBoundary}
+use Rattle.model.specs.Network.{entry, linkCount, signalCount, movementCount, signal, signalOf, phaseMask, standing, fromLink, toLink, stepLength, arrivalBoundary}
 use Rattle.model.specs.Signals.{phaseOf, opens, after}
 
 module _ (network plan : List Line) where

@@ -2,11 +2,11 @@
 -- A step is named by the boundary at which it ends, so that "ends at boundary 0" stands for what is shown before the plan. Assumes nothing.
 use Prim.Native.Nat.{ℕ, zero, suc, _+_, _*_, _-_, _/_, _%_, _^_, _≤_, _<_}
 use mathlib.Core.Path.{_≡_}
-use mathlib.Core.Logic.{_≢_, _↔_}
+use mathlib.Core.Logic.{_≢_}
 use mathlib.Core.List.{List, [], _∷_, _++_}
 use lib.Dec.{leb}
 use lib.IntN.{ℤ, pos, _+ℤ_, _*ℤ_, subℕ}
-use Rattle.search.specs.Checks.{Checks, Hold, FirstBroken}
+use Rattle.search.specs.Checks.{Hold, FirstBroken}
 use Rattle.records.specs.Lines.{Line}
 use Rattle.model.specs.declared.PlanAnswer.{PlanAnswer}
 use Rattle.model.specs.declared.PlanAnswer.the-variants as plan-answer

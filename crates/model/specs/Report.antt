@@ -3,7 +3,7 @@ use Prim.Native.Nat.{ℕ, zero, suc, _+_, _/_, _%_}
 use mathlib.Core.Bool.{cond}
 use mathlib.Core.List.{List, [], _∷_, _++_}
 use lib.Dec.{ltb}
-use Rattle.search.specs.Checks.{Verdict, passes, refused, Checks, _then_, verdict}
+use Rattle.search.specs.Checks.{Verdict, passes, refused, _then_, verdict}
 use Rattle.records.specs.Lines.{Line, lines}
 use Rattle.model.specs.Sum.{sum, joined}
 use Rattle.model.specs.Network.{stepCount, time}

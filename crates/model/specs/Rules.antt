@@ -9,7 +9,7 @@ use Rattle.model.specs.declared.Signal.{Signal}
 use Rattle.model.specs.Test.{_and_, _or_, within, every}
 use Rattle.model.specs.Sum.{sum, only}
 use Rattle.model.specs.Network.{linkCount, signalCount, movementCount, stepCount, signal, capacity, travelTime, exitRate, signalOf, phaseMask, standing, fromLink, toLink, rate, share, stepLength, demand, time, lastBoundary}
-use Rattle.model.specs.Signals.{leastTime, greatestTime, showsOnePhase, keepsOrder, keepsLeastTime, keepsGreatestTime, keepsCycle}
+use Rattle.model.specs.Signals.{greatestTime, showsOnePhase, keepsOrder, keepsLeastTime, keepsGreatestTime, keepsCycle}
 use Rattle.model.specs.Flows.{admitted, letOut, moved, shownIn, signalAt, isOpen, movedFrom, entered, left, arrived}
 
 -- 3, P: 2 to 8 phases

@@ -1,6 +1,6 @@
 -- The checks of each call, in the paper's order ("The calls and how each declines"). A line is told by its number from 1, 0 where none is named.
 -- Assumes nothing.
-use Prim.Native.Nat.{ℕ, zero, suc, _+_, _*_}
+use Prim.Native.Nat.{ℕ, suc, _+_, _*_}
 use mathlib.Core.Bool.{Bool}
 use mathlib.Core.List.{List, [], _∷_}
 use lib.Dec.{leb, eqb}

@@ -1,6 +1,6 @@
 -- The totals, one step after another. Assumes nothing.
-use Prim.Native.Nat.{ℕ, zero, suc, _+_, _*_, _-_, _≤_, _<_}
-use mathlib.Core.Path.{_≡_, refl, sym, ap, ap₂, _∙_}
+use Prim.Native.Nat.{ℕ, suc, _+_, _*_, _-_, _≤_, _<_}
+use mathlib.Core.Path.{_≡_, ap₂, _∙_}
 use mathlib.Core.Bool.{true}
 use mathlib.Core.List.{List}
 use native.Mathlib.Nat.{mul-le-mul-right}
@@ -11,12 +11,12 @@ use Rattle.search.proofs.Laws.{hold-of-passes}
 use Rattle.records.specs.Lines.{Line}
 use Rattle.model.specs.declared.Counts.{Counts}
 use Rattle.model.specs.Sum.{sum}
-use Rattle.model.specs.Network.{linkCount, stepCount, stepLength}
-use Rattle.model.specs.Flows.{vehicles, allAdmitted, allLetOut, doubledTime}
+use Rattle.model.specs.Network.{linkCount, stepCount}
+use Rattle.model.specs.Flows.{doubledTime}
 use Rattle.model.specs.Rules.{rule18}
 use Rattle.model.specs.Table.{networkChecks, rules, lineChecks}
 use Rattle.model.specs.Tables.{CountsHold, StepNumbers, PlanNumbers}
-use Rattle.model.proofs.Accepted.{ValidNetwork, valid-network, lawful-step, LawfulStep}
+use Rattle.model.proofs.Accepted.{valid-network, lawful-step, LawfulStep}
 use Rattle.model.proofs.Limits.{step-limits}
 use Rattle.model.proofs.Bounds.{Keeps15, lawful-keeps15, admitted-total-small, let-out-total-small, vehicles-small, doubled-small}
 use Rattle.model.proofs.Tables.{step-length-at}

@@ -1,21 +1,19 @@
 -- The ledger while its rows are written one after another. Assumes nothing.
-use Prim.Native.Nat.{ℕ, zero, suc, _+_, _*_, _-_, _≤_, _<_}
-use mathlib.Core.Path.{_≡_, refl, sym, ap, _∙_}
-use mathlib.Core.Bool.{cond}
+use Prim.Native.Nat.{ℕ, suc, _+_, _*_, _-_, _≤_}
+use mathlib.Core.Path.{_≡_, sym, ap, _∙_}
 use mathlib.Core.List.{List, _++_}
 use native.Mathlib.Nat.{mul-le-mul-right}
 use native.Mathlib.Omega.{arith}
 use borrow.Author.Tests.{le-ltb}
-use lib.Dec.{ltb}
-use lib.ListN.{length, take, drop}
+use lib.ListN.{drop}
 use lib.Seq.{drop-drop, drop-at}
-use Rattle.search.specs.Checks.{Verdict, passes, refused}
+use Rattle.search.specs.Checks.{refused}
 use Rattle.records.specs.Lines.{Line}
 use Rattle.model.specs.Sum.{joined}
-use Rattle.model.specs.Network.{linkCount, stepCount}
+use Rattle.model.specs.Network.{linkCount}
 use Rattle.model.specs.Flows.{row}
 use Rattle.model.specs.Calls.{rowsWritten, written}
-use Rattle.model.proofs.Rows.{length-rows, written-next}
+use Rattle.model.proofs.Rows.{length-rows}
 
 module _ (network plan : List Line) where
   -- rows written over rows that were written before

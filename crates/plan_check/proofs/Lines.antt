@@ -1,9 +1,9 @@
 -- What is read into the first numbers of a step's line, said of the whole. Assumes nothing.
-use Prim.Native.Nat.{ℕ, _+_, _-_, _≤_, _<_}
+use Prim.Native.Nat.{ℕ, _+_, _-_, _≤_}
 use mathlib.Core.Path.{_≡_, sym, _∙_}
 use mathlib.Core.List.{List, _++_}
 use native.Mathlib.Omega.{arith}
-use lib.ListN.{length, getD, take, drop, length-append, length-drop, List·getD-append}
+use lib.ListN.{length, take, drop, length-append, length-drop, List·getD-append}
 use lib.Seq.{length-take-le}
 use Rattle.records.specs.declared.LineRead.{LineRead}
 use Rattle.records.specs.Reading.{lineAt, recordAt, leadingAs, Got}

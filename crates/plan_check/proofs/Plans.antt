@@ -1,23 +1,21 @@
 -- The whole check of a plan. Assumes nothing.
 use Prim.Native.Nat.{ℕ, suc, _+_, _*_, _≤_, _<_}
 use mathlib.Core.Path.{_≡_, refl, sym, ap, ap₂, _∙_}
-use mathlib.Core.Bool.{Bool, true, false}
 use mathlib.Core.List.{List, _++_}
 use native.Mathlib.Numerals.{add-one}
 use native.Mathlib.Nat.{mul-le-mul-right}
 use native.Mathlib.Omega.{arith}
 use borrow.Author.Tests.{le-leb, lt-leb, lt-ltb}
-use lib.Dec.{leb}
 use lib.ListN.{length, drop}
-use mathlib.Core.Logic.{_⊎_, inl, inr}
-use Rattle.search.specs.Checks.{Verdict, passes, refused, Checks, check, each, _then_, verdict, Hold, FirstBroken}
+use mathlib.Core.Logic.{inl, inr}
+use Rattle.search.specs.Checks.{passes, refused, Checks, check, each, _then_, verdict, Hold, FirstBroken}
 use Rattle.search.proofs.Laws.{passes-of-hold, or-else-refused, refused-first}
 use Rattle.records.specs.Lines.{Line, lines}
 use Rattle.model.specs.declared.Counts.{Counts}
 use Rattle.model.specs.declared.Signal.{Signal}
 use Rattle.model.specs.declared.PlanAnswer.{PlanAnswer}
 use Rattle.model.specs.declared.PlanAnswer.the-variants as plan-answer
-use Rattle.model.specs.Network.{linkCount, signalCount, stepCount}
+use Rattle.model.specs.Network.{linkCount, stepCount}
 use Rattle.model.specs.Table.{countChecks, signalChecks, linkChecks, movementChecks, shareChecks, stepChecks, boundaryChecks, networkChecks, planLineChecks, planChecks}
 use Rattle.model.specs.Tables.{SignalTable}
 use Rattle.model.specs.Calls.{planAnswer, checkPlan, rowsWritten, written, ledgerAfter}

@@ -1,8 +1,8 @@
 -- The steps of a plan, taken one after another. Assumes nothing.
 use Prim.Native.Nat.{ℕ, zero, suc, _+_, _*_, _-_, _≤_, _<_}
-use mathlib.Core.Path.{_≡_, refl, sym, ap, ap₂, _∙_}
+use mathlib.Core.Path.{_≡_, refl, sym, ap, _∙_}
 use mathlib.Core.Bool.{Bool, true, false, cond}
-use mathlib.Core.List.{List, [], _++_}
+use mathlib.Core.List.{List, []}
 use native.Mathlib.Decide.{decLe}
 use native.Mathlib.Numerals.{add-one}
 use native.Mathlib.Nat.{mul-le-mul-right}
@@ -10,22 +10,22 @@ use native.Mathlib.Omega.{arith}
 use borrow.Author.Tests.{leb-true}
 use lib.Dec.{eqb}
 use lib.ListN.{length, getD, drop, List·getD-eq-default}
-use Rattle.search.specs.Checks.{Verdict, passes, refused, verdict, table, Hold}
+use Rattle.search.specs.Checks.{passes, refused, verdict, Hold}
 use Rattle.search.proofs.Laws.{hold-of-passes}
 use Rattle.records.specs.Lines.{Line, noLine, lines, isRecord}
-use Rattle.records.specs.Reading.{Starts, atEnd}
+use Rattle.records.specs.Reading.{atEnd}
 use Rattle.records.proofs.Laws.{starts-first, starts-end}
 use Rattle.model.specs.declared.Counts.{Counts}
 use Rattle.model.specs.declared.Signal.{Signal}
 use Rattle.model.specs.declared.PlanAnswer.{PlanAnswer}
 use Rattle.model.specs.declared.PlanAnswer.the-variants as plan-answer
 use Rattle.model.specs.Sum.{joined}
-use Rattle.model.specs.Network.{linkCount, signalCount, stepCount, stepLine, stepLength, signal, arrivalBoundary}
-use Rattle.model.specs.Signals.{phaseOf, after}
+use Rattle.model.specs.Network.{linkCount, signalCount, stepCount, stepLength, signal}
+use Rattle.model.specs.Signals.{after}
 use Rattle.model.specs.Flows.{shownMask, shownIn, signalAt, row}
 use Rattle.model.specs.Rules.{rule10, rule13, rule14}
-use Rattle.model.specs.Table.{isForm, letterP, lineChecks, planLineChecks}
-use Rattle.model.specs.Tables.{noSignal, CountsHold, SignalTable, StepNumbers, PlanNumbers}
+use Rattle.model.specs.Table.{isForm, letterP, lineChecks}
+use Rattle.model.specs.Tables.{noSignal, SignalTable}
 use Rattle.model.specs.Calls.{planAnswer, rowsWritten, written}
 use Rattle.model.proofs.Accepted.{ValidNetwork, valid-network, LawfulStep}
 use Rattle.model.proofs.Limits.{step-limits}
@@ -38,15 +38,15 @@ use Rattle.signals.specs.Step.{Advanced}
 use Rattle.signals.proofs.Rules.{ready-first, ready-after}
 use Rattle.rows.specs.Rows.{RowHolds}
 use Rattle.rows.proofs.Ledger.{row-holds}
-use Rattle.flows.specs.Tests.{ShownTable, ArrivalTable}
+use Rattle.flows.specs.Tests.{ShownTable}
 use Rattle.step_check.specs.Step.{SignalsAt}
 use Rattle.plan_check.specs.declared.StepTaken.{StepTaken}
 use Rattle.plan_check.specs.declared.StepTaken.the-variants as step-taken
 use Rattle.plan_check.specs.declared.Totals.{Totals}
-use Rattle.plan_check.specs.Step.{Tables, Rooms, AtBoundary, StepAsked, StepKept, StepGot}
+use Rattle.plan_check.specs.Step.{Tables, Rooms, StepAsked, StepKept, StepGot}
 use Rattle.plan_check.specs.Totals.{heldIn, totalsAfter, TotalsAsked, TotalsAt}
 use Rattle.plan_check.specs.Run.{finished, RunAsked, RunGot, Running}
-use Rattle.plan_check.proofs.Verdicts.{formed, line-malformed, line-refused, plan-stops, plan-surplus, plan-passes}
+use Rattle.plan_check.proofs.Verdicts.{formed, line-refused, plan-stops, plan-surplus, plan-passes}
 use Rattle.plan_check.proofs.Ledger.{written-again, rows-refused}
 use Rattle.plan_check.proofs.Adding.{passed-lawful, totals-first, totals-asked, totals-next}
 use Rattle.plan_check.proofs.Steps.{signal-phases}

@@ -7,9 +7,9 @@ use mathlib.Core.List.{List, _++_}
 use native.Mathlib.Numerals.{add-one}
 use native.Mathlib.Nat.{eq-or-lt-of-le, mul-le-mul-right}
 use native.Mathlib.Omega.{arith}
-use lib.ListN.{length, getD, take, drop, length-append, length-drop}
+use lib.ListN.{length, take, drop, length-append, length-drop}
 use lib.Seq.{length-take-le}
-use Rattle.search.specs.Checks.{Verdict, passes, refused, verdict, orElse, table, Hold}
+use Rattle.search.specs.Checks.{passes, refused, verdict, orElse, table, Hold}
 use Rattle.search.proofs.Laws.{hold-of-passes}
 use Rattle.records.specs.declared.LineRead.{LineRead}
 use Rattle.records.specs.declared.LineRead.the-variants.{Next, Malformed}
@@ -19,36 +19,35 @@ use Rattle.records.proofs.Laws.{record-malformed, record-read, starts-line, sta
 use Rattle.model.specs.declared.Counts.{Counts}
 use Rattle.model.specs.declared.Signal.{Signal}
 use Rattle.model.specs.Signals.{phaseOf}
-use Rattle.model.specs.Network.{arrivalBoundary, entry, linkCount, signalCount, movementCount, stepCount, stepLine, signal, travelTime}
-use Rattle.model.specs.Flows.{shownMask, shownIn, signalAt}
-use Rattle.model.specs.Table.{isForm, letterS, letterP, networkChecks, countChecks, signalChecks, linkChecks, movementChecks, shareChecks, stepChecks, boundaryChecks, rules, lineChecks}
-use Rattle.model.specs.Tables.{noSignal, CountsHold, LinkTable, MovementTable, TimeTable, StepNumbers, PlanNumbers}
-use Rattle.model.specs.Calls.{written}
-use Rattle.model.proofs.Accepted.{ValidNetwork, valid-network, LawfulStep, lawful-step}
+use Rattle.model.specs.Network.{arrivalBoundary, entry, linkCount, signalCount, movementCount, stepCount, stepLine, signal}
+use Rattle.model.specs.Flows.{shownIn, signalAt}
+use Rattle.model.specs.Table.{isForm, letterS, letterP, networkChecks, stepChecks, rules, lineChecks}
+use Rattle.model.specs.Tables.{CountsHold, StepNumbers, PlanNumbers}
+use Rattle.model.proofs.Accepted.{ValidNetwork, valid-network, lawful-step}
 use Rattle.model.proofs.Limits.{step-limits}
 use Rattle.model.proofs.Bounds.{Keeps15, lawful-keeps15, entered-word, left-word}
 use Rattle.model.proofs.Tables.{travel-time-at, step-length-at, shown-mask-at}
 use Rattle.signals.specs.Step.{ShownPhases}
-use Rattle.step_lines.specs.Boundaries.{Cursor, arrivalIn}
+use Rattle.step_lines.specs.Boundaries.{arrivalIn}
 use Rattle.step_lines.specs.Steps.{LoadAsked, Loaded}
 use Rattle.step_lines.proofs.Boundaries.{arrival-is, cursor-ready}
 use Rattle.step_lines.proofs.StepLines.{load-ready, loaded-numbers, loaded-next}
-use Rattle.rows.specs.Rows.{nextRow, RowHolds, Fits, Named}
+use Rattle.rows.specs.Rows.{nextRow, RowHolds, Fits}
 use Rattle.rows.proofs.Texts.{movements-named, next-row-fits, next-row-holds, next-row-front}
 use Rattle.rows.proofs.Ledger.{part-holds, next-written}
 use Rattle.rows.proofs.Next.{length-next}
-use Rattle.flows.specs.Tests.{FlowTables, ShownTable, ArrivalTable}
+use Rattle.flows.specs.Tests.{ShownTable, ArrivalTable}
 use Rattle.flows.proofs.Texts.{line-tables, flow-tables}
 use Rattle.step_check.specs.declared.Judgement.{Judgement}
 use Rattle.step_check.specs.declared.Judgement.the-variants as judgement
 use Rattle.step_check.specs.Search.{rulesVerdict, judgementVerdict}
-use Rattle.step_check.specs.Step.{rowFrom, madeRow, lineVerdict, flowVerdict, StepTables, SignalsAt, JudgeAsked, Judged}
+use Rattle.step_check.specs.Step.{rowFrom, madeRow, lineVerdict, flowVerdict, JudgeAsked, Judged}
 use Rattle.step_check.proofs.Table.{textHolds, rules-hold}
 use Rattle.step_check.proofs.Texts.{line-verdict-is, flow-verdict-is, table-judged}
 use Rattle.step_check.proofs.Judge.{kept-is, broken-is}
 use Rattle.plan_check.specs.declared.StepTaken.{StepTaken}
 use Rattle.plan_check.specs.declared.StepTaken.the-variants as step-taken
-use Rattle.plan_check.specs.Step.{ArrivalsAsked, Arrived, PlanRead, Tables, Rooms, AtBoundary, StepAsked, StepKept, StepGot}
+use Rattle.plan_check.specs.Step.{ArrivalsAsked, Arrived, PlanRead, Tables, Rooms, StepAsked, StepKept, StepGot}
 use Rattle.plan_check.proofs.Verdicts.{formed, line-malformed, line-formed}
 
 -- a network that has passed has the form of an `S` line at each step
@@ -98,9 +97,6 @@ module _ (networkText planText : List ℕ) (n stepAt planAt : ℕ) (counts : Cou
   load-asked =
       load-ready networkText stepAt n (counts .links) (asked .boundary .step-starts) (counted .links) (step-form net (asked .tables .holds) n (asked .more))
       (omega (arith, counted .links, counted .few-links)) (asked .rooms .step-size)
-
-  pub line-width : (counts .signals + 2 * counts .links + counts .movements ≤ 120) × (length line ≡ 120)
-  line-width = (omega (arith, counted .links, counted .signals, counted .movements, counted .few-links, counted .few-signals, counted .few-movements), asked .rooms .line-size)
 
   width-is : counts .signals + 2 * counts .links + counts .movements ≡ signalCount net + 2 * linkCount net + movementCount net
   width-is = omega (arith, counted .links, counted .signals, counted .movements)

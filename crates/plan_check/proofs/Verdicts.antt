@@ -1,13 +1,13 @@
 -- The verdict on a plan, by how far its lines have been judged. Assumes nothing.
 use Prim.Native.Nat.{ℕ, zero, suc, _+_, _*_, _≤_, _<_}
-use mathlib.Core.Path.{_≡_, refl, sym, ap, _∙_}
+use mathlib.Core.Path.{_≡_, _∙_}
 use mathlib.Core.Bool.{Bool, true, false}
-use mathlib.Core.Logic.{_⊎_, inl, inr}
+use mathlib.Core.Logic.{inl, inr}
 use mathlib.Core.List.{List}
 use native.Mathlib.Omega.{arith}
 use lib.Dec.{leb, eqb}
 use lib.ListN.{length}
-use Rattle.search.specs.Checks.{Verdict, passes, refused, firstFrom, verdict, orElse, table, ruleAt, Hold, FirstBroken}
+use Rattle.search.specs.Checks.{passes, refused, verdict, table, ruleAt, FirstBroken}
 use Rattle.search.proofs.Laws.{or-else-passes, or-else-refused, first-stop, first-passes, checked-passes, checked-refused, refused-first}
 use Rattle.records.specs.Lines.{Line}
 use Rattle.model.specs.Network.{linkCount, signalCount, movementCount, stepCount}

@@ -1,5 +1,5 @@
 -- What taking all steps of a plan asks and promises. Assumes nothing.
-use Prim.Native.Nat.{ℕ, suc, _+_, _*_, _≤_, _<_}
+use Prim.Native.Nat.{ℕ, suc, _+_, _*_, _≤_}
 use mathlib.Core.Path.{_≡_}
 use mathlib.Core.Bool.{cond}
 use mathlib.Core.List.{List}

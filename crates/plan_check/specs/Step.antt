@@ -6,7 +6,7 @@ use lib.ListN.{length, getD}
 use Rattle.search.specs.Checks.{passes, refused, verdict, Hold}
 use Rattle.records.specs.declared.LineRead.{LineRead}
 use Rattle.records.specs.declared.LineRead.the-variants.{Next}
-use Rattle.records.specs.Lines.{Line, lines, number}
+use Rattle.records.specs.Lines.{lines, number}
 use Rattle.records.specs.Reading.{lineAt, recordAt, Starts}
 use Rattle.model.specs.declared.Counts.{Counts}
 use Rattle.model.specs.declared.Signal.{Signal}

@@ -5,11 +5,10 @@ use mathlib.Core.Bool.{Bool, true, false, cond, _&&_, and-eq-true-iff}
 use mathlib.Core.List.{List, [], _∷_, append-nil}
 use native.Mathlib.Numerals.{add-one}
 use native.Mathlib.Nat.{add-zero}
-use native.Mathlib.Decide.{decLe}
 use native.Mathlib.Omega.{arith}
 use borrow.Author.Tests.{eqb-true, eqb-false, eq-eqb, ne-eqb, leb-true, le-leb}
 use lib.Dec.{eqb, leb}
-use lib.ListN.{length, take, drop, getD, length-drop, drop-of-length-le, List·getD-eq-default}
+use lib.ListN.{length, take, drop, getD, length-drop, drop-of-length-le}
 use lib.Seq.{drop-drop, getD-drop}
 use Rattle.records.specs.declared.Field.{Field}
 use Rattle.records.specs.declared.Field.the-variants.{Number, NoNumber}
@@ -157,15 +156,6 @@ module _ (text : List ℕ) (at i : ℕ) (s : Starts text at i) where
   module _ (letter n next : ℕ) (r : recordAt letter n text at ≡ Next next) where
     ended : lineAt text at .ended ≡ true
     ended = parts letter n (lineAt text at) (record-read letter n text at next r .is-record) .ended
-
-    pub starts-within : i < length (lines text)
-    starts-within = elim (decLe (length (lines text)) i) [
-      | yes h ↦
-          let none = ap (λ (l : Line). l .ended) (starts-line ∙ List·getD-eq-default (lines text) noLine h) in
-          let z : _≡_ {A = ℕ} 0 1 = cc ended in
-          absurd (omega arith)
-      | no h ↦ omega arith
-    ]
 
     -- the next line starts at the next place
     pub starts-plus : Starts text next (i + 1)

@@ -1,6 +1,6 @@
 -- The lines of a text of tab-separated records (the paper's house format). All that is above the reader is stated over these lines alone, never over bytes
 -- or places, so that texts with equal lines get equal answers. Assumes nothing.
-use Prim.Native.Nat.{ℕ, suc}
+use Prim.Native.Nat.{ℕ}
 use mathlib.Core.List.{List, [], _∷_, map}
 use mathlib.Core.Bool.{Bool, true, false, cond, _&&_}
 use lib.ListN.{length, take, drop, getD}

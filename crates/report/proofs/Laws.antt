@@ -1,17 +1,14 @@
 -- The laws of writing: what is written one behind the other is one text. Assumes nothing.
 use Prim.Native.Nat.{ℕ, zero, suc, _+_, _-_, _*_, _/_, _%_, _^_, _≤_, _<_}
 use mathlib.Core.Path.{_≡_, refl, sym, ap, ap₂, _∙_}
-use mathlib.Core.Bool.{Bool, true, false, cond}
-use mathlib.Core.Logic.{_⊎_, inl, inr}
 use mathlib.Core.List.{List, [], _∷_, _++_, append-assoc, append-nil}
 use native.Mathlib.Numerals.{add-one}
 use native.Mathlib.Decide.{decLe}
 use native.Mathlib.Nat.{pow-suc}
 use native.Mathlib.Omega.{arith}
 use borrow.Author.Tests.{lt-ltb, le-ltb}
-use lib.Dec.{ltb}
 use lib.ListN.{length, getD, take, drop, set, length-append, length-set, length-drop, take-append-drop}
-use lib.Seq.{take-append-le, take-at, drop-at, drop-append-le, drop-drop, length-take-le, set-at, drop-cons, take-suc, append-snoc, set-split, take-length}
+use lib.Seq.{take-at, drop-at, drop-drop, length-take-le, set-at, take-suc, append-snoc, set-split, take-length}
 use Rattle.model.specs.Report.{numeral, numbers, recordText}
 use Rattle.report.specs.Writing.{putAt, digits, fieldText, fieldTexts, Wrote}
 

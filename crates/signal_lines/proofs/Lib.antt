@@ -3,4 +3,3 @@ mod Counts
 mod Numbers
 mod Turns
 mod Loops
-pub mod Laws

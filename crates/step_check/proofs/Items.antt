@@ -1,11 +1,10 @@
 -- To how many items the rule at a place is put, and whether it holds, by the crates that have the rules. Assumes nothing.
 use Prim.Native.Nat.{ℕ, zero, suc, _≤_, _<_}
-use mathlib.Core.Path.{_≡_, refl, sym, _∙_}
+use mathlib.Core.Path.{_≡_, refl}
 use mathlib.Core.Bool.{Bool}
 use mathlib.Core.List.{List}
 use native.Mathlib.Omega.{arith}
 use borrow.Author.Tests.{lt-ltb, le-ltb}
-use lib.Dec.{ltb}
 use lib.ListN.{getD}
 use Rattle.model.specs.declared.Counts.{Counts}
 use Rattle.model.specs.declared.Signal.{Signal}

@@ -2,11 +2,11 @@
 -- Assumes nothing.
 use Prim.Native.Nat.{ℕ, zero, suc, _+_, _≤_, _<_}
 use mathlib.Core.Path.{_≡_, refl, sym, ap, ap₂, _∙_}
-use mathlib.Core.Bool.{Bool, true, false}
+use mathlib.Core.Bool.{Bool, true}
 use mathlib.Core.List.{List}
 use native.Mathlib.Omega.{arith}
 use lib.ListN.{length}
-use Rattle.search.specs.Checks.{Verdict, passes, refused, firstFrom, checked, verdict, orElse, table, ruleAt}
+use Rattle.search.specs.Checks.{Verdict, passes, firstFrom, checked, verdict, orElse, table, ruleAt}
 use Rattle.search.proofs.Laws.{first-split, first-same, first-all, first-every, checked-true}
 use Rattle.records.specs.Lines.{Line}
 use Rattle.model.specs.declared.Counts.{Counts}

@@ -1,34 +1,28 @@
 -- The judgement of a step by the program's tables is that of the paper, where the tables hold the numbers of the texts. Assumes nothing.
-use Prim.Native.Nat.{ℕ, zero, suc, _+_, _*_, _-_, _≤_, _<_}
-use mathlib.Core.Path.{_≡_, refl, sym, ap, ap₂, _∙_}
-use mathlib.Core.Bool.{Bool, true, false, cond}
-use mathlib.Core.Logic.{_⊎_, inl, inr, ⊎-elim}
-use mathlib.Core.List.{List, _++_}
+use Prim.Native.Nat.{ℕ, suc, _+_, _-_, _≤_, _<_}
+use mathlib.Core.Path.{_≡_, refl, sym, _∙_}
+use mathlib.Core.Logic.{⊎-elim}
+use mathlib.Core.List.{List}
 use native.Mathlib.Decide.{decLe}
 use native.Mathlib.Omega.{arith}
 use borrow.Author.Tests.{lt-ltb, le-ltb}
-use lib.Dec.{ltb}
-use lib.ListN.{length, getD, take, drop}
-use Rattle.search.specs.Checks.{Verdict, passes, refused, verdict, orElse, table, ruleAt}
+use Rattle.search.specs.Checks.{Verdict, passes, refused, verdict, orElse, table}
 use Rattle.search.proofs.Laws.{or-else-passes, or-else-refused}
 use Rattle.records.specs.Lines.{Line}
 use Rattle.model.specs.declared.Counts.{Counts}
 use Rattle.model.specs.declared.Signal.{Signal}
-use Rattle.model.specs.Network.{linkCount, signalCount, stepCount, stepLength}
-use Rattle.model.specs.Flows.{shownIn, signalAt}
+use Rattle.model.specs.Network.{signalCount}
 use Rattle.model.specs.Calls.{written}
 use Rattle.model.specs.Table.{rules}
-use Rattle.model.specs.Tables.{noSignal, CountsHold, LinkTable, MovementTable, StepNumbers, PlanNumbers}
+use Rattle.model.specs.Tables.{CountsHold, LinkTable, MovementTable, StepNumbers, PlanNumbers}
 use Rattle.model.proofs.Accepted.{ValidNetwork}
 use Rattle.model.proofs.Tables.{step-length-at}
-use Rattle.signals.specs.Step.{signalRule}
 use Rattle.signals.proofs.Rules.{signal-rule-is}
-use Rattle.rows.specs.Rows.{nextRow, RowHolds}
-use Rattle.flows.specs.Tests.{lineRule, flowRule, FlowTables, ShownTable, ArrivalTable}
+use Rattle.rows.specs.Rows.{RowHolds}
+use Rattle.flows.specs.Tests.{flowRule, ShownTable, ArrivalTable}
 use Rattle.flows.proofs.Texts.{line-rule-is, flow-rule-is}
-use Rattle.step_check.specs.declared.Judgement.{Judgement}
-use Rattle.step_check.specs.Search.{ruleItems, rulesVerdict, judgementVerdict}
-use Rattle.step_check.specs.Step.{lineHolds, rowFrom, madeRow, lineVerdict, flowVerdict, Judged, SignalsAt}
+use Rattle.step_check.specs.Search.{ruleItems, rulesVerdict}
+use Rattle.step_check.specs.Step.{lineHolds, lineVerdict, SignalsAt}
 use Rattle.step_check.proofs.Items.{signal-items}
 use Rattle.step_check.proofs.Table.{textHolds, table-is, rule-items-is, rules-same}
 

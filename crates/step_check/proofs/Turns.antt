@@ -1,12 +1,12 @@
 -- The search for the first broken rule, a turn at a time: the whole search finds what the search from here finds. Assumes nothing.
 use Prim.Native.Nat.{ℕ, suc, _+_, _-_, _≤_, _<_}
-use mathlib.Core.Path.{_≡_, refl, sym, ap, _∙_}
+use mathlib.Core.Path.{_≡_, sym, ap, _∙_}
 use mathlib.Core.Bool.{Bool, true, false, not}
 use native.Mathlib.Numerals.{add-one}
 use native.Mathlib.Nat.{sub-zero}
 use native.Mathlib.Omega.{arith}
 use borrow.Author.Tests.{not-true, not-false}
-use Rattle.search.specs.Checks.{Verdict, passes, refused, firstFrom, checked, orElse}
+use Rattle.search.specs.Checks.{Verdict, passes, firstFrom, checked, orElse}
 use Rattle.search.proofs.Laws.{first-hit, first-next, first-done, or-else-passes, or-else-refused, checked-passes, checked-refused}
 use Rattle.model.specs.declared.Counts.{Counts}
 use Rattle.step_check.specs.declared.Judgement.{Judgement}

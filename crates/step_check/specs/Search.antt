@@ -1,7 +1,7 @@
 -- The search for the first broken rule of a step, by places in the table of rules. Assumes nothing.
 use Prim.Native.Nat.{ℕ, suc}
 use mathlib.Core.Bool.{Bool}
-use mathlib.Core.List.{List, [], _∷_}
+use mathlib.Core.List.{[], _∷_}
 use lib.ListN.{getD}
 use Rattle.search.specs.Checks.{Verdict, passes, refused, firstFrom, checked}
 use Rattle.model.specs.declared.Counts.{Counts}
