@@ -1,41 +1,21 @@
--- The checksum and the ledger before a call, a number at a time. Assumes nothing.
-use Prim.Native.Nat.{ℕ, _+_, _*_, _/_, _%_, _^_, _<_, _≤_}
-use mathlib.Core.Path.{_≡_, refl, sym, ap, _∙_}
-use mathlib.Core.List.{List, []}
-use native.Mathlib.Nat.{mod-add-mod, add-mul-mod-self-right}
-use native.Mathlib.Numerals.{add-one}
+-- The ledger before a call, a number at a time, and the answers, a call at a time. Assumes nothing.
+use Prim.Native.Nat.{ℕ, _+_, _<_, _≤_}
+use mathlib.Core.Path.{_≡_, ap, _∙_}
+use mathlib.Core.List.{List}
 use native.Mathlib.Omega.{arith}
 use borrow.Author.Count.{below-more}
-use lib.ListN.{length, getD, set, drop, drop-of-length-le}
-use lib.Seq.{drop-cons, getD-set-same, getD-set-other}
-use Rattle.conformance.specs.Checksum.{withNumber, checksumFrom, checksumOf}
-use Rattle.conformance.specs.Compare.{heldAt, Filled}
-
--- a product by the prime, 2^40 + 435, in parts that fit 64 bits
-pub times-prime-parts :
-    (x : ℕ) → ((x % 16777216 * 1099511627776 + x / 4294967296 * 435 % 4294967296 * 4294967296) % 2 ^ 64 + x % 4294967296 * 435) % 2 ^ 64 ≡ x * 1099511628211 % 2 ^ 64
-times-prime-parts x =
-    let parts = x % 16777216 * 1099511627776 + x / 4294967296 * 435 % 4294967296 * 4294967296 + x % 4294967296 * 435 in
-    let over = x / 16777216 + x / 4294967296 * 435 / 4294967296 in
-    let whole : x * 1099511628211 ≡ parts + over * 2 ^ 64 = omega arith in
-    mod-add-mod _ _ _ ∙ sym (ap (λ (n : ℕ). n % 2 ^ 64) whole ∙ add-mul-mod-self-right parts over (2 ^ 64))
-
--- the checksum is what the sum so far gives over the numbers from here on
-abbrev pub Summed : List ℕ → ℕ → ℕ → Type 0
-Summed ledger sum i = checksumFrom sum (drop i ledger) ≡ checksumOf ledger
-
-pub summed-first : (ledger : List ℕ) → Summed ledger 14695981039346656037 0
-unfolding checksumOf
-summed-first ledger = refl
-
-pub summed-next :
-    (ledger : List ℕ) (sum i next : ℕ) → i < length ledger → Summed ledger sum i → next ≡ withNumber sum (getD ledger i 0) → Summed ledger next (i + 1)
-unfolding checksumFrom
-summed-next ledger sum i next h s e = rw (e, add-one) (rw (drop-cons ledger i 0) at s)
-
-pub summed-all : (ledger : List ℕ) (sum i : ℕ) → length ledger ≤ i → Summed ledger sum i → sum ≡ checksumOf ledger
-unfolding checksumFrom
-summed-all ledger sum i h s = rw (drop-of-length-le ledger h) at s
+use borrow.Author.Tests.{eq-eqb, ne-eqb}
+use lib.ListN.{length, getD, set}
+use lib.Seq.{getD-set-same, getD-set-other}
+use Rattle.records.specs.Lines.{lines}
+use Rattle.model.specs.Calls.{checkNetwork, checkPlan, ledgerAfter, linkState}
+use Rattle.model.specs.declared.NetworkAnswer.{NetworkAnswer}
+use Rattle.model.specs.declared.PlanAnswer.{PlanAnswer}
+use Rattle.model.specs.declared.LinkAnswer.{LinkAnswer}
+use Rattle.stored_cases.specs.Outcome.{networkOutcome, planOutcome, linkOutcome}
+use Rattle.stored_cases.specs.declared.outcome.Outcome.{Outcome}
+use Rattle.stored_cases.specs.declared.stored.Question.{Question}
+use Rattle.conformance.specs.Compare.{heldAt, Filled, answerTo, ledgerTo}
 
 -- the ledger is filled below a place
 abbrev pub FilledTo : List ℕ → ℕ → List ℕ → ℕ → Type 0
@@ -51,3 +31,24 @@ filled-next start fill ledger n value h below e =
 pub filled-all : (start : List ℕ) (fill : ℕ) (ledger : List ℕ) (n : ℕ) → length ledger ≤ n → FilledTo start fill ledger n → Filled start fill ledger
 unfolding Filled
 filled-all start fill ledger n h below i l = below i (omega arith)
+
+module _ (network plan ledger : List ℕ) (question : Question) where
+  pub answered-network :
+      (r : Outcome) {answer : NetworkAnswer} → question .call ≡ 1 → answer ≡ checkNetwork (lines network) → r ≡ networkOutcome answer
+      → (r ≡ answerTo network plan ledger question) × (ledger ≡ ledgerTo network plan ledger question)
+  unfolding answerTo ledgerTo
+  answered-network r h a e = (rw (eq-eqb _ _ h) (e ∙ ap networkOutcome a), rw h)
+
+  pub answered-plan :
+      (r : Outcome) {answer : PlanAnswer} (after : List ℕ) → (question .call ≡ 1 → ⊥) → question .call ≡ 2
+      → answer ≡ checkPlan (lines network) (lines plan) (length ledger) → after ≡ ledgerAfter (lines network) (lines plan) ledger
+      → r ≡ planOutcome answer → (r ≡ answerTo network plan ledger question) × (after ≡ ledgerTo network plan ledger question)
+  unfolding answerTo ledgerTo
+  answered-plan r after n h a l e = (rw (ne-eqb _ _ n, eq-eqb _ _ h) (e ∙ ap planOutcome a), rw (eq-eqb _ _ h) l)
+
+  pub answered-link :
+      (r : Outcome) {answer : LinkAnswer} → (question .call ≡ 1 → ⊥) → (question .call ≡ 2 → ⊥)
+      → answer ≡ linkState (lines network) ledger (question .boundary) (question .link) → r ≡ linkOutcome answer
+      → (r ≡ answerTo network plan ledger question) × (ledger ≡ ledgerTo network plan ledger question)
+  unfolding answerTo ledgerTo
+  answered-link r n m a e = (rw (ne-eqb _ _ n, ne-eqb _ _ m) (e ∙ ap linkOutcome a), rw (ne-eqb _ _ m))

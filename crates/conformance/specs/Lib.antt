@@ -1,4 +1,1 @@
-pub mod Checksum
-pub mod Stored
-pub mod Outcome
 pub mod Compare

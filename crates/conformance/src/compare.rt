@@ -1,15 +1,15 @@
 // Reads the cases, judges each by the proved calls and compares.
 ghost use mathlib.Core.Path.{_≡_};
-ghost use Prim.Native.Nat.{_<_};
-ghost use Rattle.conformance.specs.Compare.{heldAt, Filled};
-use crate::checksum;
-use crate::outcome;
-use crate::outcome::Outcome;
-use crate::stored;
-use crate::stored::CaseCount;
-use crate::stored::LedgerForm;
-use crate::stored::Question;
+ghost use Prim.Native.Nat.{_<_, _^_};
+ghost use Rattle.conformance.specs.Compare.{heldAt, Filled, answerTo, ledgerTo};
 use crate::tally;
+use stored_cases::checksum;
+use stored_cases::outcome;
+use stored_cases::outcome::Outcome;
+use stored_cases::stored;
+use stored_cases::stored::CaseCount;
+use stored_cases::stored::LedgerForm;
+use stored_cases::stored::Question;
 
 // How much of each buffer is in use; a case may go on with what the case before gave.
 pub struct Sizes {
@@ -36,33 +36,25 @@ fn fill_ledger(ledger: &mut [u32], start: &[u32], fill: u32)
     }
 }
 
-// What the library answers to a question.
-fn answer_to(network: &[u8], plan: &[u8], ledger: &mut [u32], question: Question) -> Outcome {
+// What the library answers to a question, and the ledger that it leaves.
+fn answer_to(network: &[u8], plan: &[u8], ledger: &mut [u32], question: Question) -> Outcome
+    requires { ⌜ (question .boundary < 2 ^ 32) × (question .link < 2 ^ 32) ⌝ }
+    ensures { λ r. ⌜ r ≡ answerTo (now (network .entry)) (now (plan .entry)) (now (ledger .entry)) question ⌝ }
+    ensures { λ r. ⌜ now (ledger .exit) ≡ ledgerTo (now (network .entry)) (now (plan .entry)) (now (ledger .entry)) question ⌝ }
+{
     if question.call == 1 {
         return outcome::of_network(network::check_network(network));
     }
     if question.call == 2 {
         return outcome::of_plan(plan_check::check_plan(network, plan, ledger));
     }
-    outcome::of_link(link_state::link_state(
-        network,
-        ledger,
-        low_half(question.boundary),
-        low_half(question.link),
-    ))
+    let boundary = question.boundary as u32;
+    let link = question.link as u32;
+    outcome::of_link(link_state::link_state(network, ledger, boundary, link))
 }
 
-// A number that fits 32 bits, as it is.
-fn low_half(number: u64) -> u32 {
-    (number % 4294967296) as u32
-}
-
-// Whether the library takes the question: its boundaries and links are of 32 bits.
-fn is_taken(question: Question) -> bool {
-    (question.boundary <= 4294967295) & (question.link <= 4294967295)
-}
-
-// Judges a case by the library, on the ledger as it is before the call, and counts it.
+// Judges a case by the library, on the ledger as it is before the call, and counts it. Boundaries and links above 32 bits are passed over,
+// as the library has no call that takes them.
 fn judge(
     number: u32,
     network: &[u8],
@@ -71,7 +63,11 @@ fn judge(
     question: Question,
     counts: &mut [u64],
 ) {
-    if !is_taken(question) {
+    if 4294967295 < question.boundary {
+        tally::add_one(counts, tally::PASSED_OVER);
+        return;
+    }
+    if 4294967295 < question.link {
         tally::add_one(counts, tally::PASSED_OVER);
         return;
     }

@@ -1,9 +1,6 @@
 // Runs the stored cases through the proved calls, and compares each answer and a checksum of the whole ledger after the call with those of
 // another implementation. Prints how many cases agreed, for each call and refusal number, and how many differ.
-mod checksum;
 mod compare;
-mod outcome;
-mod stored;
 mod tally;
 
 fn main() {

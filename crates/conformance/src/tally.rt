@@ -1,7 +1,7 @@
 // How many cases agreed, and what is printed.
 ghost use Prim.Native.Nat.{_<_};
-use crate::outcome::Outcome;
 use libc::STDOUT_FILENO;
+use stored_cases::outcome::Outcome;
 
 // The counts: for each call, 22 of the cases that agreed, accepted and by refusal number; then these two.
 pub const DIFFERENT: usize = 66;
@@ -88,9 +88,10 @@ pub fn print_table(counts: &[u64]) {
         print_line(counts, number);
         number += 1;
     }
-    let others = [count_at(counts, PASSED_OVER), count_at(counts, DIFFERENT)];
-    print(b"passed over, different");
-    print_numbers(&others);
+    print(b"passed over");
+    print_field(count_at(counts, PASSED_OVER));
+    print(b"\ndifferent");
+    print_field(count_at(counts, DIFFERENT));
     print(b"\n");
 }
 

@@ -5,10 +5,10 @@ use Rattle.conformance.proofs.tally.print_table.Statement.{statement}
 use Rattle.conformance.proofs.tally.print_table.Tie as tie
 
 abbrev Inv-loop : tie.InvT-loop
-Inv-loop counts number₀ t5 t6 number = number ≤ 22
+Inv-loop counts number₀ t4 t5 t6 number = number ≤ 22
 
 abbrev μ-loop : tie.MeasureT-loop
-μ-loop counts number₀ t5 t6 number = 22 - number
+μ-loop counts number₀ t4 t5 t6 number = 22 - number
 
 slice-aggregate-print : tie.Need-slice-aggregate-print Inv-loop μ-loop
 slice-aggregate-print c = search needs
@@ -37,29 +37,35 @@ loop-less c = search needs
 loop-again : tie.Need-loop-again Inv-loop μ-loop
 loop-again c = search needs
 
-count-at-requires : tie.Need-count-at-requires Inv-loop μ-loop
-count-at-requires c κs = search needs
-
-count-at-requires-2 : tie.Need-count-at-requires-2 Inv-loop μ-loop
-count-at-requires-2 c κs = search needs
-
 slice-aggregate-print-2 : tie.Need-slice-aggregate-print-2 Inv-loop μ-loop
 slice-aggregate-print-2 c = search needs
 
 print-requires-2 : tie.Need-print-requires-2 Inv-loop μ-loop
 print-requires-2 c κs = search needs
 
-slice-aggregate-print-numbers : tie.Need-slice-aggregate-print-numbers Inv-loop μ-loop
-slice-aggregate-print-numbers c = search needs
+count-at-requires : tie.Need-count-at-requires Inv-loop μ-loop
+count-at-requires c κs = search needs
 
-print-numbers-requires : tie.Need-print-numbers-requires Inv-loop μ-loop
-print-numbers-requires c κs = search needs
+print-field-requires : tie.Need-print-field-requires Inv-loop μ-loop
+print-field-requires c κs = search needs
 
 slice-aggregate-print-3 : tie.Need-slice-aggregate-print-3 Inv-loop μ-loop
 slice-aggregate-print-3 c = search needs
 
 print-requires-3 : tie.Need-print-requires-3 Inv-loop μ-loop
 print-requires-3 c κs = search needs
+
+count-at-requires-2 : tie.Need-count-at-requires-2 Inv-loop μ-loop
+count-at-requires-2 c κs = search needs
+
+print-field-requires-2 : tie.Need-print-field-requires-2 Inv-loop μ-loop
+print-field-requires-2 c κs = search needs
+
+slice-aggregate-print-4 : tie.Need-slice-aggregate-print-4 Inv-loop μ-loop
+slice-aggregate-print-4 c = search needs
+
+print-requires-4 : tie.Need-print-requires-4 Inv-loop μ-loop
+print-requires-4 c κs = search needs
 
 returns : tie.Need-returns Inv-loop μ-loop
 returns c = search needs
@@ -79,12 +85,14 @@ print-table-spec =
     add-number
     loop-less
     loop-again
-    count-at-requires
-    count-at-requires-2
     slice-aggregate-print-2
     print-requires-2
-    slice-aggregate-print-numbers
-    print-numbers-requires
+    count-at-requires
+    print-field-requires
     slice-aggregate-print-3
     print-requires-3
+    count-at-requires-2
+    print-field-requires-2
+    slice-aggregate-print-4
+    print-requires-4
     returns)

@@ -1,0 +1,64 @@
+-- `conformance::compare::answer_to` meets its contract. Assumes nothing.
+use Rattle.conformance.proofs.Laws.{answered-network, answered-plan, answered-link}
+use borrow.Author.Needs.{needs}
+use Rattle.conformance.proofs.compare.answer_to.Statement.{statement}
+use Rattle.conformance.proofs.compare.answer_to.Tie as tie
+
+check-network-requires : tie.Need-check-network-requires
+check-network-requires c κs = search needs
+
+of-network-requires : tie.Need-of-network-requires
+of-network-requires c κs = search needs
+
+returns : tie.Need-returns
+returns c = answered-network _ _ _ _ _ (c .before .before .if1 .taken) (c .before .check-network .ensures) (c .of-network .ensures)
+
+check-plan-requires : tie.Need-check-plan-requires
+check-plan-requires c κs = search needs
+
+of-plan-requires : tie.Need-of-plan-requires
+of-plan-requires c κs = search needs
+
+same-length : tie.Need-same-length
+same-length c = search needs
+
+returns-2 : tie.Need-returns-2
+returns-2 c =
+    let e = c .before .before .before .check-plan .ensures in
+    answered-plan _ _ _ _ _ _ (c .before .before .before .before .before .before .before .if1 .left) (c .before .before .before .before .before .if2 .taken) (e .0) (e .1 .0) (c .of-plan .ensures)
+
+cast-boundary : tie.Need-cast-boundary
+cast-boundary c = search needs
+
+cast-link : tie.Need-cast-link
+cast-link c = search needs
+
+link-state-requires : tie.Need-link-state-requires
+link-state-requires c κs = search needs
+
+of-link-requires : tie.Need-of-link-requires
+of-link-requires c κs = search needs
+
+same-length-2 : tie.Need-same-length-2
+same-length-2 c = search needs
+
+returns-3 : tie.Need-returns-3
+returns-3 c = answered-link _ _ _ _ _ (c .before .before .before .before .before .before .before .if1 .left) (c .before .before .before .before .before .if2 .left) (c .before .link-state .ensures) (c .of-link .ensures)
+
+pub answer-to-spec : {M : Type 1} → statement M
+answer-to-spec =
+    tie.close
+    (tie.spec
+    check-network-requires
+    of-network-requires
+    returns
+    check-plan-requires
+    of-plan-requires
+    same-length
+    returns-2
+    cast-boundary
+    cast-link
+    link-state-requires
+    of-link-requires
+    same-length-2
+    returns-3)

@@ -1,0 +1,3 @@
+pub mod Checksum
+pub mod Stored
+pub mod Outcome

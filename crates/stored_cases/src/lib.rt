@@ -1,0 +1,4 @@
+// The stored cases: their form, the answers in that form, and the checksum of a ledger.
+pub mod checksum;
+pub mod outcome;
+pub mod stored;

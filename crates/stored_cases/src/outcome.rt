@@ -1,0 +1,89 @@
+// What a call gives, in the stored form.
+ghost use mathlib.Core.Path.{_≡_};
+ghost use Rattle.stored_cases.specs.Outcome.{refusedOutcome, networkOutcome, planOutcome, linkOutcome, sameOutcome};
+use model::LinkAnswer;
+use model::NetworkAnswer;
+use model::PlanAnswer;
+
+// The kind is 0 for a network accepted, 1 for a plan accepted, 2 for a state, 3 for a refusal; the numbers are the totals, queued and in
+// transit, or the refusal's number, line and item; 0 where there is none.
+pub struct Outcome {
+    pub kind: u32,
+    pub first: u64,
+    pub second: u64,
+    pub third: u64,
+    pub fourth: u64,
+}
+
+fn refused(number: u32, line: u32, item: u32) -> Outcome
+    ensures { λ r. ⌜ r ≡ refusedOutcome number line item ⌝ }
+{
+    Outcome {
+        kind: 3,
+        first: number as u64,
+        second: line as u64,
+        third: item as u64,
+        fourth: 0,
+    }
+}
+
+pub fn of_network(answer: NetworkAnswer) -> Outcome
+    ensures { λ r. ⌜ r ≡ networkOutcome answer ⌝ }
+{
+    match answer {
+        NetworkAnswer::Valid => Outcome {
+            kind: 0,
+            first: 0,
+            second: 0,
+            third: 0,
+            fourth: 0,
+        },
+        NetworkAnswer::Refused { number, line, item } => refused(number, line, item),
+    }
+}
+
+pub fn of_plan(answer: PlanAnswer) -> Outcome
+    ensures { λ r. ⌜ r ≡ planOutcome answer ⌝ }
+{
+    match answer {
+        PlanAnswer::Accepted {
+            admitted,
+            let_out,
+            inside,
+            doubled_time,
+        } => Outcome {
+            kind: 1,
+            first: admitted,
+            second: let_out,
+            third: inside,
+            fourth: doubled_time,
+        },
+        PlanAnswer::Refused { number, line, item } => refused(number, line, item),
+    }
+}
+
+pub fn of_link(answer: LinkAnswer) -> Outcome
+    ensures { λ r. ⌜ r ≡ linkOutcome answer ⌝ }
+{
+    match answer {
+        LinkAnswer::State { queued, in_transit } => Outcome {
+            kind: 2,
+            first: queued as u64,
+            second: in_transit as u64,
+            third: 0,
+            fourth: 0,
+        },
+        LinkAnswer::Refused { number, line, item } => refused(number, line, item),
+    }
+}
+
+// Whether two outcomes are the same in every part.
+pub fn is_same(one: Outcome, other: Outcome) -> bool
+    ensures { λ r. ⌜ r ≡ sameOutcome one other ⌝ }
+{
+    (one.kind == other.kind)
+        & (one.first == other.first)
+        & (one.second == other.second)
+        & (one.third == other.third)
+        & (one.fourth == other.fourth)
+}
