@@ -2,20 +2,34 @@
 use mathlib.Core.Path.{_≡_, sym, ap, _∙_}
 use mathlib.Core.Logic.{_⊎_, inl, inr, ⊎-elim, _≢_}
 use mathlib.Core.List.{List, [], _∷_}
-use Prim.Native.Nat.{ℕ, zero, suc, _+_, _-_, _≤_, _<_}
+use Prim.Native.Nat.{ℕ, zero, suc, _+_, _*_, _-_, _≤_, _<_}
+use borrow.Author.Tests.{leb-true}
 use native.Mathlib.Nat.{eq-or-lt-of-le, le-refl}
 use native.Mathlib.Decide.{ℕ-discrete}
 use native.Mathlib.Omega.{arith}
 use Rattle.records.specs.Lines.{Line}
-use Rattle.model.specs.Network.{signalCount, stepCount, signal, stepLength, time}
+use Rattle.model.specs.Test.{within}
+use Rattle.model.specs.Rules.{validPhases}
+use Rattle.model.specs.Network.{entry, signalLine, signalCount, stepCount, signal, stepLength, time}
 use Rattle.model.specs.Signals.{leastTime, greatestTime}
-use Rattle.model.specs.Guarantees.{Green, Greens, done, more, Red, others, sumOver, between}
+use Rattle.model.specs.Guarantees.{Green, Greens, done, more, Red, others, sumOver, between, leastOf, greatestOf}
+use Rattle.model.proofs.Sums.{list-at}
 use Rattle.model.proofs.Times.{time-suc, time-between}
+use Rattle.model.proofs.Tests.{and-right}
 use Rattle.model.proofs.Accepted.{AcceptedPlan}
 use Rattle.model.proofs.Order.{next, turns, turns-others, Turns, last-turn, other-turn}
 use Rattle.model.proofs.Shown.{P, phase, run, phase-of-shows, shows-of-phase, run-new, run-on, phase-first, phase-last, next-phase, least-time, greatest-time}
 
 module _ (network plan : List Line) (r : ℕ) where
+  -- the times of a phase as the `G` line has them
+  least-of : (q : ℕ) → 1 ≤ q → q ≤ 8 → leastTime (signal network r) q ≡ leastOf network r q
+  unfolding signal leastOf
+  least-of q h l = list-at 8 (λ k. entry network (signalLine network r) (6 + 2 * k)) (q - 1) (omega arith)
+
+  greatest-of : (q : ℕ) → 1 ≤ q → q ≤ 8 → greatestTime (signal network r) q ≡ greatestOf network r q
+  unfolding signal greatestOf
+  greatest-of q h l = list-at 8 (λ k. entry network (signalLine network r) (7 + 2 * k)) (q - 1) (omega arith)
+
   -- a green by the phases that it shows
   pub green-phase : {q a b : ℕ} → Green network plan r q a b → (n : ℕ) → a ≤ n → n ≤ b → phase network plan r n ≡ q
   green-phase {q} g n h l = phase-of-shows network plan r q n (g .first-phase) (g .last-phase) (g .shows n h l)
@@ -63,22 +77,26 @@ module _ (network plan : List Line) (r : ℕ) where
           (R .0, omega arith, R .2, (λ n v w. ⊎-elim (λ i. ap (phase network plan r) (sym i) ∙ f) (λ i. R .3 n i w) (eq-or-lt-of-le v)), R .4)
 
   module _ (accepted : AcceptedPlan network plan) (lr : r < signalCount network) where
+    few-phases : P network r ≤ 8
+    few-phases = unfold validPhases within in leb-true (P network r) 8 (and-right _ _ (accepted .valid .phases r lr))
+
     -- a green that starts in the plan and is left lasts at least its least and at most its greatest time
     green-time : {q b e : ℕ} → Green network plan r q (suc b) e → e < stepCount network
-        → (leastTime (signal network r) q + time network b ≤ time network e) × (time network e ≤ greatestTime (signal network r) q + time network b)
+        → (leastOf network r q + time network b ≤ time network e) × (time network e ≤ greatestOf network r q + time network b)
     green-time {e = zero} g h = absurd (omega (arith, g .some-step))
     green-time {q = q} {e = suc e} g h =
         let s = green-phase g (suc e) (g .some-step) (le-refl _) in
         let t = green-run g (suc e) (g .some-step) (le-refl _) in
+        let q8 : q ≤ 8 = omega (arith, g .last-phase, few-phases) in
         let left : phase network plan r (suc (suc e)) ≢ phase network plan r (suc e) =
         λ f. g .ends h (shows-of-phase network plan r q (suc (suc e)) (g .first-phase) (f ∙ s)) in (
-          omega (arith, t, rw s at (least-time network plan r accepted lr (suc e) h left)),
-          omega (arith, t, rw s at (greatest-time network plan r accepted lr e (g .in-plan))),
+          omega (arith, t, rw (s, least-of q (g .first-phase) q8) at (least-time network plan r accepted lr (suc e) h left)),
+          omega (arith, t, rw (s, greatest-of q (g .first-phase) q8) at (greatest-time network plan r accepted lr e (g .in-plan))),
         )
 
     greens-time : {b c : ℕ} {qs : List ℕ} → Greens network plan r b c qs → c < stepCount network
-        → (sumOver (leastTime (signal network r)) qs + time network b ≤ time network c)
-        × (time network c ≤ sumOver (greatestTime (signal network r)) qs + time network b)
+        → (sumOver (leastOf network r) qs + time network b ≤ time network c)
+        × (time network c ≤ sumOver (greatestOf network r) qs + time network b)
     unfolding sumOver
     greens-time done h = omega arith
     greens-time (more g gs) h =
@@ -154,8 +172,8 @@ module _ (network plan : List Line) (r : ℕ) where
           (λ f. g .ends (omega (arith, red .in-order, ends-in-plan)) (shows-of-phase network plan r q (suc b) q1 (f ∙ sb))) t in
           rw (sb, turns-others (P network r) q q1 qP) at all
 
-      pub red-least : sumOver (leastTime (signal network r)) (others (P network r) q) ≤ between b c (stepLength network)
+      pub red-least : sumOver (leastOf network r) (others (P network r) q) ≤ between b c (stepLength network)
       red-least = omega (arith, greens-time red-greens ends-in-plan, time-between network b c (red .in-order))
 
-      pub red-greatest : between b c (stepLength network) ≤ sumOver (greatestTime (signal network r)) (others (P network r) q)
+      pub red-greatest : between b c (stepLength network) ≤ sumOver (greatestOf network r) (others (P network r) q)
       red-greatest = omega (arith, greens-time red-greens ends-in-plan, time-between network b c (red .in-order))

@@ -1,12 +1,15 @@
--- Laws of sums. Assumes nothing.
+-- Laws of sums, and of lists by index. Assumes nothing.
 use mathlib.Core.Path.{_≡_, refl, sym, ap, ap₂, _∙_}
 use mathlib.Core.Logic.{_⊎_, inl, inr}
+use mathlib.Core.List.{[], _∷_, _++_}
 use Prim.Native.Nat.{ℕ, zero, suc, _+_, _*_, _-_, _≤_, _<_}
 use native.Mathlib.Nat.{eq-or-lt-of-le}
 use native.Mathlib.Omega.{arith}
 use lib.Dec.{eqb}
+use lib.ListN.{length, getD, length-append, List·getD-append}
+use lib.Seq.{getD-append-add}
 use borrow.Author.Tests.{eq-eqb, ne-eqb}
-use Rattle.model.specs.Sum.{sum, only}
+use Rattle.model.specs.Sum.{sum, only, list}
 
 pub sum-ext : (n : ℕ) (f g : ℕ → ℕ) → ((i : ℕ) → i < n → f i ≡ g i) → sum n f ≡ sum n g
 unfolding sum
@@ -76,3 +79,21 @@ pub sum-weight : (n c : ℕ) (f w : ℕ → ℕ) → sum n (λ k. f k * (w k + c
 unfolding sum
 sum-weight zero c f w = omega arith
 sum-weight (suc n) c f w = omega (arith, sum-weight n c f w)
+
+list-length : (n : ℕ) (f : ℕ → ℕ) → length (list n f) ≡ n
+unfolding list
+list-length zero f = refl
+list-length (suc n) f = length-append (list n f) (f n ∷ []) ∙ omega (arith, list-length n f)
+
+-- what stands at index k
+pub list-at : (n : ℕ) (f : ℕ → ℕ) (k : ℕ) → k < n → getD (list n f) k 0 ≡ f k
+unfolding list
+list-at zero f k l = absurd (omega arith)
+list-at (suc n) f k l = go (eq-or-lt-of-le l) (list-at n f k)
+  where
+    go : (suc k ≡ suc n) ⊎ (suc k < suc n) → (k < n → getD (list n f) k 0 ≡ f k) → getD (list n f ++ (f n ∷ [])) k 0 ≡ f k
+    go (inl e) ih =
+        let j : k ≡ length (list n f) + 0 = omega (arith, list-length n f) in
+        let i : n ≡ k = omega arith in
+        ap (λ x. getD (list n f ++ (f n ∷ [])) x 0) j ∙ getD-append-add (list n f) (f n ∷ []) 0 0 ∙ ap f i
+    go (inr h) ih = List·getD-append (list n f) (f n ∷ []) 0 k (omega (arith, list-length n f)) ∙ ih (omega arith)
