@@ -16,12 +16,13 @@ use Rattle.model.specs.Network.{linkCount, stepCount, travelTime, time, arrival
 use Rattle.model.specs.Flows.{entered, left, arrived, held}
 use Rattle.model.specs.Rules.{rule17}
 use Rattle.model.specs.Table.{networkChecks, ledgerChecks, planChecks}
-use Rattle.model.specs.Calls.{checkPlan, rowsWritten, written, ledgerAfter, ledgerEntered, ledgerLeft, ledgerArrived, linkState}
+use Rattle.model.specs.Calls.{checkPlan, written, ledgerAfter, ledgerEntered, ledgerLeft, ledgerArrived, linkState}
 use Rattle.model.proofs.Accepted.{AcceptedPlan, accepted-plan}
 use Rattle.model.proofs.Times.{arrival-boundary-le}
 use Rattle.model.proofs.Arrived.{arrived-start}
 use Rattle.model.proofs.Flow.{arrived-entered}
 use Rattle.model.proofs.Rows.{written-at, length-written}
+use Rattle.model.proofs.Written.{rows-all}
 use Rattle.model.proofs.Promises.{promises}
 use Rattle.link_state.specs.State.{PlanState}
 use Rattle.link_state.proofs.Ledger.{state-told}
@@ -37,8 +38,8 @@ left-arrived network plan accepted (suc n) i h l = leb-true _ _ (accepted .lawfu
 module _ (network plan : List Line) (old : List ℕ) (holds : Hold (planChecks network plan (length old))) where
   -- every row is written
   after-is : ledgerAfter network plan old ≡ written network plan old (suc (stepCount network))
-  unfolding ledgerAfter rowsWritten
-  after-is = rw (passes-of-hold (planChecks network plan (length old)) holds)
+  unfolding ledgerAfter
+  after-is = rw (rows-all network plan (length old) holds)
 
   network-holds : Hold (networkChecks network)
   unfolding Hold planChecks
@@ -85,4 +86,4 @@ pub accepted-state : (network plan : List Line) (old : List ℕ) (admitted letOu
     → (boundary link : ℕ) → boundary ≤ stepCount network → 1 ≤ link → link ≤ linkCount network
     → PlanState network plan boundary (link - 1) (linkState network (ledgerAfter network plan old) boundary link)
 accepted-state network plan old admitted letOut inside time e =
-    plan-state network plan old (promises network plan (length old) .accepted-holds admitted letOut inside time e)
+    plan-state network plan old (promises network plan old .accepted-holds admitted letOut inside time e)

@@ -13,6 +13,7 @@ pub mod Arrived
 pub mod Flow
 pub mod Bounds
 pub mod Rows
+pub mod Written
 pub mod Integers
 pub mod TravelTime
 pub mod Phases

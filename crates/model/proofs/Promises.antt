@@ -1,7 +1,8 @@
--- What a plan's check promises of its answer, for any two lists of lines and any ledger. Assumes nothing.
+-- What a plan's check promises, for any two lists of lines and any ledger. Assumes nothing.
 use mathlib.Core.Path.{_≡_, refl}
 use mathlib.Core.List.{List}
 use Prim.Native.Nat.{ℕ}
+use lib.ListN.{length}
 use Rattle.search.specs.Checks.{Verdict, passes, refused, Hold, verdict}
 use Rattle.search.proofs.Laws as laws
 use Rattle.records.specs.Lines.{Line}
@@ -9,8 +10,9 @@ use Rattle.model.specs.declared.PlanAnswer.the-variants as plan-answer
 use Rattle.model.specs.Network.{stepCount}
 use Rattle.model.specs.Flows.{allAdmitted, allLetOut, doubledTime}
 use Rattle.model.specs.Table.{planChecks}
-use Rattle.model.specs.Calls.{planAnswer, checkPlan}
+use Rattle.model.specs.Calls.{planAnswer, checkPlan, ledgerAfter}
 use Rattle.model.specs.Guarantees.{weight, Guarantees, Promises}
+use Rattle.model.proofs.Written.{ledger-promises}
 use Rattle.model.proofs.Accepted.{AcceptedPlan, accepted-plan}
 use Rattle.model.proofs.Integers.{signed-sum}
 use Rattle.model.proofs.Flow.{left-early, left-entered, within-capacity, balance}
@@ -55,10 +57,10 @@ module _ (network plan : List Line) where
   refused-of-refused passes number line item h = cc
   refused-of-refused (refused x y z) number line item h = cc
 
-  pub promises : (size : ℕ) → Promises network plan size (checkPlan network plan size)
+  pub promises : (old : List ℕ) → Promises network plan old (ledgerAfter network plan old) (checkPlan network plan (length old))
   unfolding checkPlan
-  promises size =
-      let c = planChecks network plan size in
+  promises old =
+      let c = planChecks network plan (length old) in
       let holds : (admitted letOut inside time : ℕ) → planAnswer network plan (verdict c) ≡ plan-answer.Accepted admitted letOut inside time → Hold c =
       λ admitted letOut inside time h. laws.hold-of-passes c (passes-of-accepted (verdict c) admitted letOut inside time h .0) in
       record {
@@ -66,5 +68,6 @@ module _ (network plan : List Line) where
         holds-accepted = λ h. accepted-of-passes (verdict c) (laws.passes-of-hold c h);
         refused-first = λ number line item h. laws.refused-first c number line item (refused-of-refused (verdict c) number line item h);
         guaranteed = λ admitted letOut inside time h.
-            rw (passes-of-accepted (verdict c) admitted letOut inside time h .1) (guarantees network plan (accepted-plan network plan size (holds admitted letOut inside time h)));
+            rw (passes-of-accepted (verdict c) admitted letOut inside time h .1) (guarantees network plan (accepted-plan network plan (length old) (holds admitted letOut inside time h)));
+        ledger = ledger-promises network plan old;
       }

@@ -1,5 +1,6 @@
 -- Laws of sums, and of lists by index. Assumes nothing.
 use mathlib.Core.Path.{_≡_, refl, sym, ap, ap₂, _∙_}
+use mathlib.Core.Bool.{Bool, true, false}
 use mathlib.Core.Logic.{_⊎_, inl, inr}
 use mathlib.Core.List.{[], _∷_, _++_}
 use Prim.Native.Nat.{ℕ, zero, suc, _+_, _*_, _-_, _≤_, _<_}
@@ -97,3 +98,31 @@ list-at (suc n) f k l = go (eq-or-lt-of-le l) (list-at n f k)
         let i : n ≡ k = omega arith in
         ap (λ x. getD (list n f ++ (f n ∷ [])) x 0) j ∙ getD-append-add (list n f) (f n ∷ []) 0 0 ∙ ap f i
     go (inr h) ih = List·getD-append (list n f) (f n ∷ []) 0 k (omega (arith, list-length n f)) ∙ ih (omega arith)
+
+-- ---- how many of the tests 0 to k - 1 hold, where each that holds has all before it hold
+module _ (test : ℕ → Bool) (earlier : (m k : ℕ) → m ≤ k → test k ≡ true → test m ≡ true) where
+  count-all : (k : ℕ) → ((m : ℕ) → m < k → test m ≡ true) → sum k (λ m. only (test m) 1) ≡ k
+  unfolding sum
+  count-all zero h = refl
+  count-all (suc k) h = omega (arith, count-all k (λ m l. h m (omega arith)), ap (λ b. only b 1) (h k (omega arith)))
+
+  -- test m is one of them
+  pub count-holds : (k m : ℕ) → m < k → test m ≡ true → m < sum k (λ m. only (test m) 1)
+  unfolding sum
+  count-holds zero m l h = absurd (omega arith)
+  count-holds (suc k) m l h = go (eq-or-lt-of-le l) (count-holds k m)
+    where
+      go : (suc m ≡ suc k) ⊎ (suc m < suc k) → (m < k → test m ≡ true → m < sum k (λ m. only (test m) 1)) → m < sum k (λ m. only (test m) 1) + only (test k) 1
+      go (inl e) ih =
+          let i : m ≡ k = omega arith in
+          omega (arith, count-all k (λ j u. earlier j m (omega arith) h), ap (λ b. only b 1) (rw i at h))
+      go (inr u) ih = omega (arith, ih (omega arith) h)
+
+  pub holds-count : (k m : ℕ) → m < sum k (λ m. only (test m) 1) → (m < k) × (test m ≡ true)
+  unfolding sum
+  holds-count zero m l = absurd (omega arith)
+  holds-count (suc k) m l = go (test k) refl (holds-count k m)
+    where
+      go : (b : Bool) → test k ≡ b → (m < sum k (λ m. only (test m) 1) → (m < k) × (test m ≡ true)) → (m < suc k) × (test m ≡ true)
+      go true e ih = let u : m < suc k = omega (arith, count-all k (λ j u. earlier j k (omega arith) e), ap (λ b. only b 1) e) in (u, earlier m k (omega arith) e)
+      go false e ih = let r = ih (omega (arith, ap (λ b. only b 1) e)) in (omega (arith, r .0), r .1)

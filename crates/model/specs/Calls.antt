@@ -1,10 +1,10 @@
 -- The calls: their answers, and the ledger after a plan's check. Assumes nothing.
 use Prim.Native.Nat.{ℕ, suc, _+_, _*_, _-_}
-use mathlib.Core.Bool.{cond}
-use mathlib.Core.List.{List, [], _++_}
+use mathlib.Core.Bool.{Bool, true, false, cond}
+use mathlib.Core.List.{List, _++_}
 use lib.Dec.{leb, ltb}
 use lib.ListN.{length, getD, drop}
-use Rattle.search.specs.Checks.{Verdict, passes, refused, Checks, check, _then_, verdict}
+use Rattle.search.specs.Checks.{Verdict, passes, refused, Checks, check, each, _then_, verdict}
 use Rattle.records.specs.Lines.{Line}
 use Rattle.model.specs.declared.NetworkAnswer.{NetworkAnswer}
 use Rattle.model.specs.declared.NetworkAnswer.the-variants as network-answer
@@ -13,10 +13,10 @@ use Rattle.model.specs.declared.PlanAnswer.the-variants as plan-answer
 use Rattle.model.specs.declared.LinkAnswer.{LinkAnswer}
 use Rattle.model.specs.declared.LinkAnswer.the-variants as link-answer
 use Rattle.model.specs.Test.{_and_, within}
-use Rattle.model.specs.Sum.{sum, joined}
+use Rattle.model.specs.Sum.{sum, only, joined}
 use Rattle.model.specs.Network.{linkCount, stepCount, travelTime, standing, time, arrivalBoundary}
 use Rattle.model.specs.Flows.{vehicles, allAdmitted, allLetOut, doubledTime, row}
-use Rattle.model.specs.Table.{networkChecks, ledgerChecks, planChecks}
+use Rattle.model.specs.Table.{networkChecks, ledgerChecks, lineChecks, planChecks}
 
 -- ---- check a network
 unfoldable pub networkAnswer : Verdict → NetworkAnswer
@@ -38,17 +38,25 @@ planAnswer network plan (refused number line item) = plan-answer.Refused number 
 unfoldable pub checkPlan : List Line → List Line → ℕ → PlanAnswer
 checkPlan network plan size = planAnswer network plan (verdict (planChecks network plan size))
 
--- the rows that a plan's check writes: none for 1 to 8; rows 0 to n - 1 when line n is refused; all K + 1 when the plan is accepted
-unfoldable pub rowsWritten : List Line → Verdict → ℕ
-rowsWritten network passes = suc (stepCount network)
-rowsWritten network (refused number line item) = cond (ltb number 9) 0 line
+-- whether a verdict passes
+abbrev pub isPassed : Verdict → Bool
+isPassed passes = true
+isPassed (refused number line item) = false
+
+-- what comes before row n: the network's checks, the ledger's length, and steps 1 to n
+unfoldable pub rowChecks : List Line → List Line → ℕ → ℕ → Checks
+rowChecks network plan size n = networkChecks network then ledgerChecks network size then each n (lineChecks network plan)
+
+-- how many of rows 0 to K a plan's check writes: those before which everything passes
+unfoldable pub rowsWritten : List Line → List Line → ℕ → ℕ
+rowsWritten network plan size = sum (suc (stepCount network)) (λ n. only (isPassed (verdict (rowChecks network plan size n))) 1)
 
 -- the ledger with its first m rows written; what follows keeps what it held
 unfoldable pub written : List Line → List Line → List ℕ → ℕ → List ℕ
 written network plan old m = joined m (row network plan) ++ drop (2 * m * linkCount network) old
 
 unfoldable pub ledgerAfter : List Line → List Line → List ℕ → List ℕ
-ledgerAfter network plan old = written network plan old (rowsWritten network (verdict (planChecks network plan (length old))))
+ledgerAfter network plan old = written network plan old (rowsWritten network plan (length old))
 
 -- ---- state of one link, counted from 1, at a boundary
 module _ (network : List Line) (ledger : List ℕ) (boundary link : ℕ) where

@@ -1,18 +1,16 @@
 -- The ledger while its rows are written one after another. Assumes nothing.
-use Prim.Native.Nat.{ℕ, suc, _+_, _*_, _-_, _≤_}
+use Prim.Native.Nat.{ℕ, _+_, _*_, _-_, _≤_}
 use mathlib.Core.Path.{_≡_, sym, ap, _∙_}
 use mathlib.Core.List.{List, _++_}
 use native.Mathlib.Nat.{mul-le-mul-right}
 use native.Mathlib.Omega.{arith}
-use borrow.Author.Tests.{le-ltb}
 use lib.ListN.{drop}
 use lib.Seq.{drop-drop, drop-at}
-use Rattle.search.specs.Checks.{refused}
 use Rattle.records.specs.Lines.{Line}
 use Rattle.model.specs.Sum.{joined}
 use Rattle.model.specs.Network.{linkCount}
 use Rattle.model.specs.Flows.{row}
-use Rattle.model.specs.Calls.{rowsWritten, written}
+use Rattle.model.specs.Calls.{written}
 use Rattle.model.proofs.Rows.{length-rows}
 
 module _ (network plan : List Line) where
@@ -28,8 +26,3 @@ module _ (network plan : List Line) where
       ap (λ x. joined m (row network plan) ++ x)
       (ap (λ x. drop x w) (sym d) ∙ sym (drop-drop (2 * m * l - 2 * k * l) (2 * k * l) w) ∙ ap (drop (2 * m * l - 2 * k * l)) e
       ∙ drop-drop (2 * m * l - 2 * k * l) (2 * k * l) old ∙ ap (λ x. drop x old) d)
-
-  -- the rows of a plan that is refused at line n
-  pub rows-refused : (n x y z : ℕ) → 9 ≤ x → y ≡ suc n → rowsWritten network (refused x y z) ≡ suc n
-  unfolding rowsWritten
-  rows-refused n x y z h e = rw (le-ltb x 9 h) e

@@ -5,22 +5,22 @@ use mathlib.Core.List.{List, _++_}
 use native.Mathlib.Numerals.{add-one}
 use native.Mathlib.Nat.{mul-le-mul-right}
 use native.Mathlib.Omega.{arith}
-use borrow.Author.Tests.{le-leb, lt-leb, lt-ltb}
+use borrow.Author.Tests.{le-leb, lt-leb}
 use lib.ListN.{length, drop}
-use mathlib.Core.Logic.{inl, inr}
-use Rattle.search.specs.Checks.{passes, refused, Checks, check, each, _then_, verdict, Hold, FirstBroken}
-use Rattle.search.proofs.Laws.{passes-of-hold, or-else-refused, refused-first}
+use Rattle.search.specs.Checks.{passes, refused, verdict, Hold}
+use Rattle.search.proofs.Laws.{passes-of-hold, or-else-refused}
 use Rattle.records.specs.Lines.{Line, lines}
 use Rattle.model.specs.declared.Counts.{Counts}
 use Rattle.model.specs.declared.Signal.{Signal}
 use Rattle.model.specs.declared.PlanAnswer.{PlanAnswer}
 use Rattle.model.specs.declared.PlanAnswer.the-variants as plan-answer
 use Rattle.model.specs.Network.{linkCount, stepCount}
-use Rattle.model.specs.Table.{countChecks, signalChecks, linkChecks, movementChecks, shareChecks, stepChecks, boundaryChecks, networkChecks, planLineChecks, planChecks}
+use Rattle.model.specs.Table.{networkChecks, ledgerChecks, planChecks}
 use Rattle.model.specs.Tables.{SignalTable}
 use Rattle.model.specs.Calls.{planAnswer, checkPlan, rowsWritten, written, ledgerAfter}
-use Rattle.model.specs.Guarantees.{Promises}
+use Rattle.model.specs.Guarantees.{RowDue, Promises}
 use Rattle.model.proofs.Rows.{written-none, length-written}
+use Rattle.model.proofs.Written.{refused-fails, rows-none}
 use Rattle.model.proofs.Promises.{promises}
 use Rattle.signal_lines.specs.Reading.{SignalLines, allSignalChecks}
 use Rattle.network.specs.declared.NetworkRead.{NetworkRead}
@@ -31,7 +31,7 @@ use Rattle.rows.proofs.Texts.{start-row-is}
 use Rattle.rows.proofs.Ledger.{first-written}
 use Rattle.plan_check.specs.Step.{Tables}
 use Rattle.plan_check.specs.Run.{RunAsked, RunGot, PlanGot}
-use Rattle.plan_check.proofs.Verdicts.{ledger-short, plan-lines}
+use Rattle.plan_check.proofs.Verdicts.{ledger-refused, ledger-short, plan-lines}
 use Rattle.plan_check.proofs.Ledger.{written-again}
 use Rattle.plan_check.proofs.Runs.{refused-is}
 
@@ -41,11 +41,11 @@ unfolding Hold networkChecks
 signals-pass network (counts, (signals, rest)) = passes-of-hold (allSignalChecks network) (unfold Hold in signals)
 
 -- a refusal of the network, or of the ledger's length, writes nothing
-early : (network plan : List Line) (old : List ℕ) (x y z : ℕ) → x < 9 → verdict (planChecks network plan (length old)) ≡ refused x y z
+early : (network plan : List Line) (old : List ℕ) (x y z : ℕ) → (RowDue network plan (length old) 0 → ⊥) → verdict (planChecks network plan (length old)) ≡ refused x y z
     → (plan-answer.Refused x y z ≡ checkPlan network plan (length old)) × (old ≡ ledgerAfter network plan old)
-unfolding checkPlan ledgerAfter rowsWritten
+unfolding checkPlan ledgerAfter
 early network plan old x y z h v =
-    (refused-is network plan x y z ∙ ap (planAnswer network plan) (sym v), rw (v, lt-ltb x 9 h) (sym (written-none network plan old)))
+    (refused-is network plan x y z ∙ ap (planAnswer network plan) (sym v), rw (rows-none network plan (length old) h) (sym (written-none network plan old)))
 
 module _ (networkText planText : List ℕ) (counts : Counts) (signalsAt stepsAt : ℕ) (links movements times old : List ℕ)
     (loaded : Loaded networkText counts signalsAt stepsAt links movements times) where
@@ -64,8 +64,8 @@ module _ (networkText planText : List ℕ) (counts : Counts) (signalsAt stepsAt 
   -- the ledger is too short
   pub plan-short : length old < 2 * (counts .steps + 1) * counts .links → PlanGot networkText planText old (plan-answer.Refused 8 0 0) old
   plan-short h =
-      let v = ledger-short net pln (length old) valid (lt-leb _ _ (rw needed at h)) in
-      let e = early net pln old 8 0 0 (omega arith) v in
+      let short = lt-leb _ _ (rw needed at h) in
+      let e = early net pln old 8 0 0 (λ d. refused-fails (ledgerChecks net (length old)) 8 0 0 (ledger-refused net pln (length old) short) (d .ledger-holds)) (ledger-short net pln (length old) valid short) in
       record { answered = e .0; written-rows = e .1 }
 
   module _ (h : 2 * (counts .steps + 1) * counts .links ≤ length old) where
@@ -88,6 +88,9 @@ module _ (networkText planText : List ℕ) (counts : Counts) (signalsAt stepsAt 
       first : ledger ≡ written net pln old 1
       first = first-written net pln old (start ∙ ap₂ (λ x y. x ++ drop (2 * y) old) (start-row-is (loaded .counted) (loaded .link-table) pln) (loaded .counted .links))
 
+      same-length : length ledger ≡ length old
+      same-length = ap length first ∙ length-written net pln old 1 (omega (arith, start-room))
+
       pub run-asked : (signals : List Signal) → SignalTable net signals → RunAsked networkText planText stepsAt counts signals links movements times ledger
       run-asked signals t =
           record {
@@ -95,7 +98,7 @@ module _ (networkText planText : List ℕ) (counts : Counts) (signalsAt stepsAt 
             steps-start = loaded .steps-start;
             signal-table = t;
             rows = first ∙ sym (written-again net pln old 1 1 (omega arith)) ∙ ap (λ x. written net pln x 1) (sym first);
-            room = rw (ap length first ∙ length-written net pln old 1 (omega (arith, start-room))) room;
+            room = rw same-length room;
           }
 
       pub plan-run : (answer : PlanAnswer) (after : List ℕ) → RunGot networkText planText ledger answer after → PlanGot networkText planText old answer after
@@ -103,55 +106,18 @@ module _ (networkText planText : List ℕ) (counts : Counts) (signalsAt stepsAt 
           let v = plan-lines net pln (length old) valid (le-leb _ _ room) in
           record {
             answered = got .answered ∙ ap (planAnswer net pln) (sym v) ∙ checked;
-            written-rows = got .rows ∙ ap (λ x. written net pln x (rowsWritten net (verdict (planLineChecks net pln)))) first
-                ∙ written-again net pln old 1 (rowsWritten net (verdict (planLineChecks net pln))) (got .some-row) ∙ ap (λ x. written net pln old (rowsWritten net x)) (sym v) ∙ rows-are;
+            written-rows = got .rows ∙ rows-are;
           }
         where
           checked : planAnswer net pln (verdict (planChecks net pln (length old))) ≡ checkPlan net pln (length old)
           checked = unfold checkPlan in refl
 
-          rows-are : written net pln old (rowsWritten net (verdict (planChecks net pln (length old)))) ≡ ledgerAfter net pln old
-          rows-are = unfold ledgerAfter in refl
+          rows-are : ledgerAfter net pln ledger ≡ ledgerAfter net pln old
+          rows-are =
+              unfold ledgerAfter in
+              ap₂ (λ x m. written net pln x (rowsWritten net pln m)) first same-length ∙ written-again net pln old 1 _ (rw same-length at (got .some-row))
 
 -- ---- a network's refusal
--- every refusal number of the checks is below a bound
-Below : ℕ → Checks → Type 0
-Below bound (check number line item holds) = number < bound
-Below bound (each n f) = (i : ℕ) → Below bound (f i)
-Below bound (a then b) = Below bound a × Below bound b
-
-broken-below : (bound : ℕ) (c : Checks) (x y z : ℕ) → Below bound c → FirstBroken c x y z → x < bound
-unfolding Below FirstBroken
-broken-below bound (check number line item holds) x y z h b = omega (arith, b .1)
-broken-below bound (each n f) x y z h b = broken-below bound (f (b .0)) x y z (h (b .0)) (b .2)
-broken-below bound (a then b) x y z h (inl c) = broken-below bound a x y z (h .0) c
-broken-below bound (a then b) x y z h (inr c) = broken-below bound b x y z (h .1) (c .1)
-
-network-below : (network : List Line) → Below 9 (networkChecks network)
-unfolding Below networkChecks countChecks signalChecks linkChecks movementChecks shareChecks stepChecks boundaryChecks
-network-below network = (
-  (omega arith, omega arith),
-  (
-    (λ r. (omega arith, (omega arith, (omega arith, omega arith)))),
-    (
-      (λ i. (omega arith, omega arith)),
-      (
-        (λ j. (omega arith, omega arith)),
-        (
-          (λ i. omega arith),
-          (
-            (λ n. (omega arith, omega arith)),
-            (
-              omega arith,
-              (λ n i. omega arith),
-            ),
-          ),
-        ),
-      ),
-    ),
-  ),
-)
-
 planned : (network plan : List Line) (size x y z : ℕ) → verdict (networkChecks network) ≡ refused x y z → verdict (planChecks network plan size) ≡ refused x y z
 unfolding verdict planChecks
 planned network plan size x y z v = or-else-refused _ _ x y z v
@@ -165,11 +131,10 @@ pub plan-refused : (networkText planText : List ℕ) (r : NetworkRead) (links mo
 plan-refused networkText planText r links movements times old x y z got e =
     let net = lines networkText in
     let v : verdict (networkChecks net) ≡ refused x y z = sym (got .told) ∙ told r x y z e in
-    let b = broken-below 9 (networkChecks net) x y z (network-below net) (refused-first (networkChecks net) x y z v) in
-    let p = early net (lines planText) old x y z b (planned net (lines planText) (length old) x y z v) in
+    let p = early net (lines planText) old x y z (λ d. refused-fails (networkChecks net) x y z v (d .network-holds)) (planned net (lines planText) (length old) x y z v) in
     record { answered = p .0; written-rows = p .1 }
 
 pub plan-promised : (networkText planText old : List ℕ) (answer : PlanAnswer) (ledger : List ℕ) → PlanGot networkText planText old answer ledger
-    → (answer ≡ checkPlan (lines networkText) (lines planText) (length old)) × ((ledger ≡ ledgerAfter (lines networkText) (lines planText) old) × Promises (lines networkText) (lines planText) (length old) answer)
+    → (answer ≡ checkPlan (lines networkText) (lines planText) (length old)) × ((ledger ≡ ledgerAfter (lines networkText) (lines planText) old) × Promises (lines networkText) (lines planText) old ledger answer)
 plan-promised networkText planText old answer ledger got =
-    (got .answered, (got .written-rows, rw (got .answered) (promises (lines networkText) (lines planText) (length old))))
+    (got .answered, (got .written-rows, rw (got .answered, got .written-rows) (promises (lines networkText) (lines planText) old)))

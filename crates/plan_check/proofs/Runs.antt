@@ -7,7 +7,7 @@ use native.Mathlib.Decide.{decLe}
 use native.Mathlib.Numerals.{add-one}
 use native.Mathlib.Nat.{mul-le-mul-right}
 use native.Mathlib.Omega.{arith}
-use borrow.Author.Tests.{leb-true}
+use borrow.Author.Tests.{leb-true, le-leb}
 use lib.Dec.{eqb}
 use lib.ListN.{length, getD, drop, List·getD-eq-default}
 use Rattle.search.specs.Checks.{passes, refused, verdict, Hold}
@@ -24,9 +24,11 @@ use Rattle.model.specs.Network.{linkCount, signalCount, stepCount, stepLength, 
 use Rattle.model.specs.Signals.{after}
 use Rattle.model.specs.Flows.{shownMask, shownIn, signalAt, row}
 use Rattle.model.specs.Rules.{rule10, rule13, rule14}
-use Rattle.model.specs.Table.{isForm, letterP, lineChecks}
+use Rattle.model.specs.Table.{isForm, letterP, ledgerChecks, lineChecks}
 use Rattle.model.specs.Tables.{noSignal, SignalTable}
-use Rattle.model.specs.Calls.{planAnswer, rowsWritten, written}
+use Rattle.model.specs.Calls.{planAnswer, written, ledgerAfter}
+use Rattle.model.specs.Guarantees.{RowDue}
+use Rattle.model.proofs.Written.{refused-fails, due-written, rows-until}
 use Rattle.model.proofs.Accepted.{ValidNetwork, valid-network, LawfulStep}
 use Rattle.model.proofs.Limits.{step-limits}
 use Rattle.model.proofs.Phases.{phase-of-le}
@@ -46,8 +48,8 @@ use Rattle.plan_check.specs.declared.Totals.{Totals}
 use Rattle.plan_check.specs.Step.{Tables, Rooms, StepAsked, StepKept, StepGot}
 use Rattle.plan_check.specs.Totals.{heldIn, totalsAfter, TotalsAsked, TotalsAt}
 use Rattle.plan_check.specs.Run.{finished, RunAsked, RunGot, Running}
-use Rattle.plan_check.proofs.Verdicts.{formed, line-refused, plan-stops, plan-surplus, plan-passes}
-use Rattle.plan_check.proofs.Ledger.{written-again, rows-refused}
+use Rattle.plan_check.proofs.Verdicts.{formed, plan-stops, plan-surplus, plan-passes}
+use Rattle.plan_check.proofs.Ledger.{written-again}
 use Rattle.plan_check.proofs.Adding.{passed-lawful, totals-first, totals-asked, totals-next}
 use Rattle.plan_check.proofs.Steps.{signal-phases}
 
@@ -112,10 +114,6 @@ pub refused-is : (network plan : List Line) (x y z : ℕ) → plan-answer.Refuse
 unfolding planAnswer
 refused-is network plan x y z = refl
 
-rows-all : (network : List Line) → suc (stepCount network) ≡ rowsWritten network passes
-unfolding rowsWritten
-rows-all network = refl
-
 -- what `finish` returns
 module _ (plan : List ℕ) (at steps : ℕ) (t : Totals) (b : Bool) (e : b ≡ atEnd plan at) where
   pub finish-end : b ≡ true → plan-answer.Accepted (t .admitted) (t .«let_out») (t .inside) (t .«doubled_time») ≡ finished plan at steps t
@@ -167,6 +165,20 @@ module _ (networkText planText : List ℕ) (counts : Counts) (links movements ti
     pub running-asked : n < counts .steps → StepAsked networkText planText n stepAt planAt counts signals links movements times arrivals ledger step line phases row
     running-asked h = record { tables = r .tables; boundary = r .boundary; more = more h; rooms = r .rooms }
 
+    -- row n is due, and all that are due are written where the next is not
+    due : RowDue net pln (length old) n
+    due =
+        record {
+          in-plan = r .boundary .within;
+          network-holds = r .tables .holds;
+          ledger-holds = unfold Hold ledgerChecks in le-leb _ _ (rw (r .long) at (r .boundary .room));
+          steps-hold = λ m l. hold-of-passes (lineChecks net pln m) (r .boundary .passed m l);
+        }
+
+    rows-are : (RowDue net pln (length old) (suc n) → ⊥) → ledger ≡ ledgerAfter net pln old
+    unfolding ledgerAfter
+    rows-are h = r .since ∙ ap (written net pln old) (sym (rows-until net pln (length old) n due h))
+
     -- a step is refused
     pub run-broken : (taken : StepTaken) (arrivals′ ledger′ step′ line′ phases′ row′ : List ℕ) (x y z : ℕ) → n < counts .steps
         → StepGot networkText planText n ledger taken arrivals′ ledger′ step′ line′ phases′ row′ → taken ≡ step-taken.Broken x y z
@@ -174,11 +186,10 @@ module _ (networkText planText : List ℕ) (counts : Counts) (links movements ti
     run-broken taken arrivals′ ledger′ step′ line′ phases′ row′ x y z h got e =
         let b = got .broken x y z e in
         let v = plan-stops net pln n x y z (r .boundary .passed) (more h) (b .0) in
-        let l = line-refused net pln n x y z (b .0) in
         record {
           answered = rw v (unfold planAnswer in refl);
-          rows = b .1 ∙ r .since ∙ ap (written net pln old) (sym (rows-refused net pln n x y z (l .0) (l .1)) ∙ ap (rowsWritten net) (sym v));
-          some-row = rw v (omega (arith, rows-refused net pln n x y z (l .0) (l .1)));
+          rows = b .1 ∙ rows-are (λ d. refused-fails (lineChecks net pln n) x y z (b .0) (d .steps-hold n (omega arith)));
+          some-row = omega (arith, due-written net pln (length old) n due);
         }
 
     module _ (taken : StepTaken) (arrivals′ ledger′ step′ line′ phases′ row′ : List ℕ) (planEnd stepEnd : ℕ) (h : n < counts .steps)
@@ -265,14 +276,14 @@ module _ (networkText planText : List ℕ) (counts : Counts) (links movements ti
             let v = plan-passes net pln (passed-all h) e in
             record {
               answered = made true e ∙ accepted-is net pln n (is-all h) t (r .totals-at) ∙ ap (planAnswer net pln) (sym v);
-              rows = r .since ∙ ap (written net pln old) (ap suc (is-all h) ∙ rows-all net ∙ ap (rowsWritten net) (sym v));
-              some-row = rw v (omega (arith, rows-all net));
+              rows = rows-are (λ d. omega (arith, is-all h, d .in-plan));
+              some-row = omega (arith, due-written net pln (length old) n due);
             }
         go false e =
             let v = plan-surplus net pln (passed-all h) e in
             let k : counts .steps + 1 ≡ suc (stepCount net) = omega (arith, r .tables .counted .steps) in
             record {
               answered = made false e ∙ ap (λ x. plan-answer.Refused 9 x 0) k ∙ refused-is net pln 9 (suc (stepCount net)) 0 ∙ ap (planAnswer net pln) (sym v);
-              rows = r .since ∙ ap (written net pln old) (ap suc (is-all h) ∙ sym (rows-refused net pln (stepCount net) 9 (suc (stepCount net)) 0 (omega arith) refl) ∙ ap (rowsWritten net) (sym v));
-              some-row = rw v (omega (arith, rows-refused net pln (stepCount net) 9 (suc (stepCount net)) 0 (omega arith) refl));
+              rows = rows-are (λ d. omega (arith, is-all h, d .in-plan));
+              some-row = omega (arith, due-written net pln (length old) n due);
             }

@@ -1,14 +1,12 @@
 -- The verdict on a plan, by how far its lines have been judged. Assumes nothing.
-use Prim.Native.Nat.{ℕ, zero, suc, _+_, _*_, _≤_, _<_}
+use Prim.Native.Nat.{ℕ, suc, _+_, _*_, _<_}
 use mathlib.Core.Path.{_≡_, _∙_}
 use mathlib.Core.Bool.{Bool, true, false}
-use mathlib.Core.Logic.{inl, inr}
 use mathlib.Core.List.{List}
-use native.Mathlib.Omega.{arith}
 use lib.Dec.{leb, eqb}
 use lib.ListN.{length}
-use Rattle.search.specs.Checks.{passes, refused, verdict, table, ruleAt, FirstBroken}
-use Rattle.search.proofs.Laws.{or-else-passes, or-else-refused, first-stop, first-passes, checked-passes, checked-refused, refused-first}
+use Rattle.search.specs.Checks.{passes, refused, verdict, table}
+use Rattle.search.proofs.Laws.{or-else-passes, or-else-refused, first-stop, first-passes, checked-passes, checked-refused}
 use Rattle.records.specs.Lines.{Line}
 use Rattle.model.specs.Network.{linkCount, signalCount, movementCount, stepCount}
 use Rattle.model.specs.Table.{letterP, isForm, networkChecks, ledgerChecks, rules, lineChecks, planLineChecks, planChecks}
@@ -26,39 +24,15 @@ module _ (network plan : List Line) where
   unfolding verdict lineChecks
   line-formed n h = or-else-passes _ _ (checked-passes (formed n) 9 (suc n) 0 h)
 
-  -- a rule's number
-  number-from : (n place : ℕ) → place < length (rules network plan n) → 9 ≤ ruleAt (rules network plan n) place .number
-  unfolding rules
-  number-from n zero l = omega arith
-  number-from n (suc zero) l = omega arith
-  number-from n (suc (suc zero)) l = omega arith
-  number-from n (suc (suc (suc zero))) l = omega arith
-  number-from n (suc (suc (suc (suc zero)))) l = omega arith
-  number-from n (suc (suc (suc (suc (suc zero))))) l = omega arith
-  number-from n (suc (suc (suc (suc (suc (suc zero)))))) l = omega arith
-  number-from n (suc (suc (suc (suc (suc (suc (suc zero))))))) l = omega arith
-  number-from n (suc (suc (suc (suc (suc (suc (suc (suc zero)))))))) l = omega arith
-  number-from n (suc (suc (suc (suc (suc (suc (suc (suc (suc zero))))))))) l = omega arith
-  number-from n (suc (suc (suc (suc (suc (suc (suc (suc (suc (suc zero)))))))))) l = omega arith
-  number-from n (suc (suc (suc (suc (suc (suc (suc (suc (suc (suc (suc k))))))))))) l = absurd (omega arith)
-
-  broken-line : (n x y z : ℕ) → FirstBroken (lineChecks network plan n) x y z → (9 ≤ x) × (y ≡ suc n)
-  unfolding FirstBroken lineChecks table
-  broken-line n x y z (inl b) = (omega (arith, b .1), b .2)
-  broken-line n x y z (inr b) =
-      let r = b .1 in
-      let e = r .2 .2 in
-      (omega (arith, number-from n (r .0) (r .1), e .1), e .2)
-
-  -- a line's refusal is told at it, with a number of 9 or more
-  pub line-refused : (n x y z : ℕ) → verdict (lineChecks network plan n) ≡ refused x y z → (9 ≤ x) × (y ≡ suc n)
-  line-refused n x y z h = broken-line n x y z (refused-first (lineChecks network plan n) x y z h)
+  pub ledger-refused : (size : ℕ) → leb (2 * suc (stepCount network) * linkCount network) size ≡ false → verdict (ledgerChecks network size) ≡ refused 8 0 0
+  unfolding verdict ledgerChecks
+  ledger-refused size h = checked-refused _ 8 0 0 h
 
   module _ (size : ℕ) (valid : verdict (networkChecks network) ≡ passes) where
     -- the ledger is too short
     pub ledger-short : leb (2 * suc (stepCount network) * linkCount network) size ≡ false → verdict (planChecks network plan size) ≡ refused 8 0 0
-    unfolding verdict planChecks ledgerChecks
-    ledger-short h = or-else-passes _ _ valid ∙ or-else-refused _ _ 8 0 0 (checked-refused _ 8 0 0 h)
+    unfolding verdict planChecks
+    ledger-short h = or-else-passes _ _ valid ∙ or-else-refused _ _ 8 0 0 (ledger-refused size h)
 
     module _ (room : leb (2 * suc (stepCount network) * linkCount network) size ≡ true) where
       -- all that is left are the plan's lines

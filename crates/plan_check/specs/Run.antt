@@ -34,8 +34,8 @@ pub record RunAsked (networkText planText : List ℕ) (stepsAt : ℕ) (counts : 
 -- the answer, and the ledger with the rows of the steps that have passed
 pub record RunGot (networkText planText old : List ℕ) (answer : PlanAnswer) (ledger : List ℕ) : Type 0 where
   pub answered : answer ≡ planAnswer (lines networkText) (lines planText) (verdict (planLineChecks (lines networkText) (lines planText)))
-  pub rows : ledger ≡ written (lines networkText) (lines planText) old (rowsWritten (lines networkText) (verdict (planLineChecks (lines networkText) (lines planText))))
-  pub some-row : 1 ≤ rowsWritten (lines networkText) (verdict (planLineChecks (lines networkText) (lines planText)))
+  pub rows : ledger ≡ ledgerAfter (lines networkText) (lines planText) old
+  pub some-row : 1 ≤ rowsWritten (lines networkText) (lines planText) (length old)
 
 -- what the check of a plan promises: the answer and the whole ledger are those of the definitions, whatever was handed in; and what an answer says
 pub record PlanGot (networkText planText old : List ℕ) (answer : PlanAnswer) (ledger : List ℕ) : Type 0 where

@@ -277,7 +277,7 @@ fn judge_plan(
 pub fn check_plan(network: &[u8], plan: &[u8], ledger: &mut [u32]) -> PlanAnswer
     ensures { λ r. ⌜ r ≡ checkPlan (lines (now (network .entry))) (lines (now (plan .entry))) (length (now (ledger .entry))) ⌝ }
     ensures { λ r. ⌜ now (ledger .exit) ≡ ledgerAfter (lines (now (network .entry))) (lines (now (plan .entry))) (now (ledger .entry)) ⌝ }
-    ensures { λ r. ⌜ Promises (lines (now (network .entry))) (lines (now (plan .entry))) (length (now (ledger .entry))) r ⌝ }
+    ensures { λ r. ⌜ Promises (lines (now (network .entry))) (lines (now (plan .entry))) (now (ledger .entry)) (now (ledger .exit)) r ⌝ }
 {
     let mut links = [0u32; 144];
     let mut movements = [0u32; 256];

@@ -21,6 +21,7 @@ use Rattle.model.specs.Report.{recordText, reportText, report}
 use Rattle.model.proofs.Accepted.{valid-network}
 use Rattle.model.proofs.Limits.{counts}
 use Rattle.model.proofs.Rows.{length-written}
+use Rattle.model.proofs.Written.{rows-all}
 use Rattle.report.specs.Writing.{Wrote}
 use Rattle.program.specs.Answer.{answerText, AnswerAsked}
 use Rattle.program.proofs.Rows.{rows-printed}
@@ -48,16 +49,17 @@ module _ (network plan : List Line) where
 
   -- the text of what a verdict comes to
   verdict-told : (old : List ℕ) → length old ≡ 5808 → (v : Verdict) → verdict (planChecks network plan 5808) ≡ v
-      → answerText network (planAnswer network plan v) (written network plan old (rowsWritten network v)) ≡ reportText network plan v
-  unfolding answerText planAnswer rowsWritten reportText
+      → answerText network (planAnswer network plan v) (written network plan old (rowsWritten network plan 5808)) ≡ reportText network plan v
+  unfolding answerText planAnswer reportText
   verdict-told old s passes e =
-      ap
+      rw (rows-all network plan 5808 (hold-of-passes (planChecks network plan 5808) e))
+      (ap
       (λ x.
       recordText 65
       (sum (stepCount network) (allAdmitted network plan) ∷ sum (stepCount network) (allLetOut network plan)
       ∷ vehicles network plan (stepCount network) ∷ doubledTime network plan (stepCount network) ∷ [])
       ++ x)
-      (rows-printed network plan old (suc (stepCount network)) (omega (arith, ledger-fits network (network-holds e))))
+      (rows-printed network plan old (suc (stepCount network)) (omega (arith, ledger-fits network (network-holds e)))))
   verdict-told old s (refused x y z) e = refl
 
 accepted-passes : (network plan : List Line) (v : Verdict) (a b c d : ℕ) → planAnswer network plan v ≡ Accepted a b c d → v ≡ passes
@@ -72,14 +74,11 @@ module _ (networkText planText old : List ℕ) {ledger : List ℕ} {answer : Pla
   unfolding checkPlan
   of-verdict = rw size at told
 
-  after-verdict : ledger
-      ≡ written (lines networkText) (lines planText) old
-      (rowsWritten (lines networkText) (verdict (planChecks (lines networkText) (lines planText) 5808)))
+  after-verdict : ledger ≡ written (lines networkText) (lines planText) old (rowsWritten (lines networkText) (lines planText) 5808)
   unfolding ledgerAfter
   after-verdict = rw size at rows
 
   pub answer-asked : {out : List ℕ} → 131_072 ≤ length out → AnswerAsked out (lines networkText) answer ledger
-  unfolding rowsWritten
   answer-asked h =
       record {
         room = omega arith;
@@ -88,7 +87,7 @@ module _ (networkText planText old : List ℕ) {ledger : List ℕ} {answer : Pla
             let plan = lines planText in
             let p = accepted-passes network plan (verdict (planChecks network plan 5808)) a b c d (sym of-verdict ∙ e) in
             let f = ledger-fits network (network-holds network plan p) in
-            let l : ledger ≡ written network plan old (suc (stepCount network)) = rw p at after-verdict in
+            let l : ledger ≡ written network plan old (suc (stepCount network)) = rw (rows-all network plan 5808 (hold-of-passes (planChecks network plan 5808) p)) at after-verdict in
             let s : length ledger ≡ length old = ap length l ∙ length-written network plan old (suc (stepCount network)) (omega arith) in
             record { holds = network-holds network plan p; rows = omega arith; room = omega arith };
       }
