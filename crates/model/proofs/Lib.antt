@@ -4,6 +4,7 @@ pub mod Cases
 pub mod Tables
 pub mod MoreCases
 pub mod LedgerCases
+pub mod Witness
 pub mod Tests
 pub mod Accepted
 pub mod Limits
@@ -14,6 +15,7 @@ pub mod Flow
 pub mod Bounds
 pub mod Rows
 pub mod Written
+pub mod Numbers
 pub mod Integers
 pub mod TravelTime
 pub mod Phases

@@ -13,6 +13,7 @@ use Rattle.model.specs.Table.{planChecks}
 use Rattle.model.specs.Calls.{planAnswer, checkPlan, ledgerAfter}
 use Rattle.model.specs.Guarantees.{weight, Guarantees, Promises}
 use Rattle.model.proofs.Written.{ledger-promises}
+use Rattle.model.proofs.Numbers.{refused-number, plan-numbered}
 use Rattle.model.proofs.Accepted.{AcceptedPlan, accepted-plan}
 use Rattle.model.proofs.Integers.{signed-sum}
 use Rattle.model.proofs.Flow.{left-early, left-entered, within-capacity, balance}
@@ -67,6 +68,8 @@ module _ (network plan : List Line) where
         accepted-holds = holds;
         holds-accepted = λ h. accepted-of-passes (verdict c) (laws.passes-of-hold c h);
         refused-first = λ number line item h. laws.refused-first c number line item (refused-of-refused (verdict c) number line item h);
+        refused-number = λ number line item h.
+            refused-number c number line item (plan-numbered network plan (length old)) (refused-of-refused (verdict c) number line item h);
         guaranteed = λ admitted letOut inside time h.
             rw (passes-of-accepted (verdict c) admitted letOut inside time h .1) (guarantees network plan (accepted-plan network plan (length old) (holds admitted letOut inside time h)));
         ledger = ledger-promises network plan old;

@@ -1,4 +1,6 @@
 -- The numbers that the C library gives for each answer: a refusal's number, line and item, or number 0 and the values. Assumes nothing.
+use mathlib.Core.Bool.{cond}
+use lib.Dec.{eqb}
 use Rattle.model.specs.declared.NetworkAnswer.{NetworkAnswer}
 use Rattle.model.specs.declared.NetworkAnswer.the-variants as network-answer
 use Rattle.model.specs.declared.PlanAnswer.{PlanAnswer}
@@ -18,6 +20,11 @@ planResult (plan-answer.Accepted admitted letOut inside time) =
     record { number = 0; line = 0; item = 0; admitted = admitted; «let_out» = letOut; inside = inside; «doubled_time» = time }
 planResult (plan-answer.Refused number line item) =
     record { number = number; line = line; item = item; admitted = 0; «let_out» = 0; inside = 0; «doubled_time» = 0 }
+
+-- the answer that a C caller reads off: number 0 is an accepted plan, any other a refusal
+abbrev pub planAnswerOf : PlanResult → PlanAnswer
+planAnswerOf r =
+    cond (eqb (r .number) 0) (plan-answer.Accepted (r .admitted) (r .«let_out») (r .inside) (r .«doubled_time»)) (plan-answer.Refused (r .number) (r .line) (r .item))
 
 abbrev pub linkResult : LinkAnswer → LinkResult
 linkResult (link-answer.State queued inTransit) = record { number = 0; line = 0; item = 0; queued = queued; «in_transit» = inTransit }

@@ -3,7 +3,8 @@ ghost use mathlib.Core.Path.{_≡_};
 ghost use lib.ListN.{length};
 ghost use Rattle.records.specs.Lines.{lines};
 ghost use Rattle.model.specs.Calls.{checkNetwork, checkPlan, ledgerAfter, linkState};
-ghost use Rattle.plan_check_c.specs.Results.{networkResult, planResult, linkResult};
+ghost use Rattle.model.specs.Guarantees.{Promises};
+ghost use Rattle.plan_check_c.specs.Results.{networkResult, planResult, planAnswerOf, linkResult};
 use model::LinkAnswer;
 use model::NetworkAnswer;
 use model::PlanAnswer;
@@ -60,6 +61,7 @@ pub extern "C" fn plancheck_check_plan(
 ) -> PlanResult
     ensures { λ r. ⌜ r ≡ planResult (checkPlan (lines (now (network .entry))) (lines (now (plan .entry))) (length (now (ledger .entry)))) ⌝ }
     ensures { λ r. ⌜ now (ledger .exit) ≡ ledgerAfter (lines (now (network .entry))) (lines (now (plan .entry))) (now (ledger .entry)) ⌝ }
+    ensures { λ r. ⌜ Promises (lines (now (network .entry))) (lines (now (plan .entry))) (now (ledger .entry)) (now (ledger .exit)) (planAnswerOf r) ⌝ }
 {
     match plan_check::check_plan(network, plan, ledger) {
         PlanAnswer::Accepted {

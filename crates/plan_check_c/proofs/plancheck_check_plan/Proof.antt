@@ -1,8 +1,22 @@
-use mathlib.Core.Path.{sym, ap, _∙_}
-use Rattle.plan_check_c.specs.Results.{planResult}
+use Prim.Native.Nat.{ℕ}
+use mathlib.Core.Path.{refl, sym, ap, _∙_}
+use mathlib.Core.List.{List}
+use Rattle.records.specs.Lines.{Line}
+use Rattle.model.specs.declared.PlanAnswer.{PlanAnswer}
+use Rattle.model.specs.declared.PlanAnswer.the-variants as plan-answer
+use Rattle.model.specs.Guarantees.{Promises}
+use Rattle.plan_check_c.specs.Results.{planResult, planAnswerOf}
+use native.Mathlib.Omega.{arith}
+use borrow.Author.Tests.{ne-eqb}
 use borrow.Author.Needs.{needs}
 use Rattle.plan_check_c.proofs.plancheck_check_plan.Statement.{statement}
 use Rattle.plan_check_c.proofs.plancheck_check_plan.Tie as tie
+
+-- what is promised of an answer is promised of the answer that its result is read as, since no refusal has the number 0
+promised : (network plan : List Line) (before after : List ℕ) (a : PlanAnswer) → Promises network plan before after a
+    → Promises network plan before after (planAnswerOf (planResult a))
+promised network plan before after (plan-answer.Accepted admitted letOut inside time) p = p
+promised network plan before after (plan-answer.Refused number line item) p = rw (ne-eqb number 0 (λ e. omega (arith, p .refused-number number line item refl))) p
 
 check-plan-requires : tie.Need-check-plan-requires
 check-plan-requires c κs = search needs
@@ -19,7 +33,8 @@ same-length c = search needs
 returns : tie.Need-returns
 returns c =
     let e = c .before .before .before .before .before .check-plan .ensures in
-    (sym (ap planResult (sym (e .0) ∙ c .before .admitted .given .1)), e .1 .0)
+    let told = c .before .admitted .given .1 in
+    (sym (ap planResult (sym (e .0) ∙ told)), (e .1 .0, rw told at (promised _ _ _ _ _ (e .1 .1))))
 
 same-length-2 : tie.Need-same-length-2
 same-length-2 c = search needs
@@ -27,7 +42,8 @@ same-length-2 c = search needs
 returns-2 : tie.Need-returns-2
 returns-2 c =
     let e = c .before .before .before .before .before .check-plan .ensures in
-    (sym (ap planResult (sym (e .0) ∙ c .before .number .given .1)), e .1 .0)
+    let told = c .before .number .given .1 in
+    (sym (ap planResult (sym (e .0) ∙ told)), (e .1 .0, rw told at (promised _ _ _ _ _ (e .1 .1))))
 
 pub plancheck-check-plan-spec : {M : Type 1} → statement M
 plancheck-check-plan-spec =
