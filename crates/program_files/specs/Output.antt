@@ -1,17 +1,20 @@
--- What the program prints. Nothing can say what a file holds: the texts are those that were read. Assumes nothing.
-use Prim.Native.Nat.{ℕ, _≤_}
+-- What the program prints. Nothing can say what a file holds: a text is what was read of it. Assumes nothing.
+use Prim.Native.Nat.{ℕ}
+use mathlib.Core.Path.{_≡_}
 use mathlib.Core.List.{List}
-use lib.ListN.{length}
+use lib.ListN.{length, take}
+use Rattle.files.specs.Read.{Within}
+use Rattle.files.specs.declared.FileRead.{FileRead}
+use Rattle.files.specs.declared.FileRead.the-variants.{Read, NotRead}
 use Rattle.model.specs.Report.{report, notRead}
-use Rattle.report.specs.Writing.{Wrote}
 
--- the report of two texts that the program takes, or which of the files was not read
-pub data Printed : List ℕ → Type 0 where
-  both-read : (network plan : List ℕ) → length network ≤ 16_384 → length plan ≤ 24_576 → Printed (report network plan)
-  network-not-read : Printed (notRead 1)
-  plan-not-read : Printed (notRead 2)
+-- `L 1` where the network was not read; else `L 2` where the plan was not; else the report of the two texts, each at the start of its buffer
+unfoldable pub output : FileRead → List ℕ → FileRead → List ℕ → List ℕ
+output NotRead network planRead plan = notRead 1
+output (Read m) network NotRead plan = notRead 2
+output (Read m) network (Read n) plan = report (take m network) (take n plan)
 
-pub record Output (old new : List ℕ) (end : ℕ) : Type 0 where
-  pub text : List ℕ
-  pub printed : Printed text
-  pub wrote : Wrote text 0 old new end
+-- a file was read into a buffer of so many bytes, and is shorter, or was not read
+pub record ReadInto (size : ℕ) (buffer : List ℕ) (read : FileRead) : Type 0 where
+  pub whole : length buffer ≡ size
+  pub within : Within size read
