@@ -1,15 +1,21 @@
--- What a ledger holds before a call, and what the definitions say of the call. Assumes nothing.
-use Prim.Native.Nat.{ℕ, _<_}
+-- What a ledger holds before a call, what the definitions say of the call, and that each case is compared with what was stored and counted.
+-- Assumes nothing.
+use Prim.Native.Nat.{ℕ, suc, zero, _<_}
 use mathlib.Core.Path.{_≡_}
-use mathlib.Core.Bool.{cond}
+use mathlib.Core.Bool.{Bool, cond, _&&_}
 use mathlib.Core.List.{List}
 use lib.Dec.{ltb, eqb}
 use lib.ListN.{length, getD}
 use Rattle.records.specs.Lines.{lines}
 use Rattle.model.specs.Calls.{checkNetwork, checkPlan, ledgerAfter, linkState}
-use Rattle.stored_cases.specs.Outcome.{networkOutcome, planOutcome, linkOutcome}
+use Rattle.stored_cases.specs.Checksum.{checksumOf}
+use Rattle.stored_cases.specs.Outcome.{networkOutcome, planOutcome, linkOutcome, sameOutcome}
 use Rattle.stored_cases.specs.declared.outcome.Outcome.{Outcome}
+use Rattle.stored_cases.specs.declared.stored.CaseCount.{CaseCount}
+use Rattle.stored_cases.specs.declared.stored.CaseCount.the-variants.{Cases, Malformed}
+use Rattle.stored_cases.specs.declared.stored.LedgerForm.{LedgerForm}
 use Rattle.stored_cases.specs.declared.stored.Question.{Question}
+use Rattle.conformance.specs.Tally.{different, passedOver, placeOf, counted}
 
 -- the given numbers at its start, and the fill behind them
 unfoldable pub heldAt : List ℕ → ℕ → ℕ → ℕ
@@ -29,3 +35,48 @@ answerTo network plan ledger question =
 unfoldable pub ledgerTo : List ℕ → List ℕ → List ℕ → Question → List ℕ
 ledgerTo network plan ledger question =
     cond (eqb (question .call) 2) (ledgerAfter (lines network) (lines plan) ledger) ledger
+
+-- an answer and a ledger are those that were stored: the answer in every part, the ledger by its checksum
+unfoldable pub asStored : Outcome → ℕ → Question → Bool
+asStored answer checksum question = sameOutcome answer (question .answer) && eqb checksum (question .checksum)
+
+-- the place of a question on texts and a ledger: passed over where its numbers are not of 32 bits; else that of the library's answer where
+-- answer and ledger are as stored; else different
+unfoldable pub placeIn : List ℕ → List ℕ → List ℕ → Question → ℕ
+placeIn network plan ledger question =
+    let answer : Outcome = answerTo network plan ledger question in
+    cond (ltb (question .boundary) 4_294_967_296 && ltb (question .link) 4_294_967_296)
+    (cond (asStored answer (checksumOf (ledgerTo network plan ledger question)) question) (placeOf (question .call) answer) different)
+    passedOver
+
+-- the place of a question on two texts and a ledger of so many numbers that holds a start and a fill
+pub record Judged (network plan start : List ℕ) (size fill : ℕ) (question : Question) (place : ℕ) : Type 0 where
+  pub ledger : List ℕ
+  pub sized : length ledger ≡ size
+  pub filled : Filled start fill ledger
+  pub is : place ≡ placeIn network plan ledger question
+
+-- a case that was read is judged, and counted at its place
+pub record CaseCounted (network plan start : List ℕ) (form : LedgerForm) (question : Question) (before after : List ℕ) : Type 0 where
+  pub place : ℕ
+  pub judged : Judged network plan start (form .size) (form .fill) question place
+  pub is : after ≡ counted before place
+
+-- one case more; nothing can say what a file holds: the case is what was read
+pub record OneMore (before after : List ℕ) : Type 0 where
+  pub network : List ℕ
+  pub plan : List ℕ
+  pub start : List ℕ
+  pub form : LedgerForm
+  pub question : Question
+  pub case-counted : CaseCounted network plan start form question before after
+
+-- n cases more
+pub data Counted : ℕ → List ℕ → List ℕ → Type 0 where
+  none : {counts : List ℕ} → Counted zero counts counts
+  more : {n : ℕ} {before between after : List ℕ} → Counted n before between → OneMore between after → Counted (suc n) before after
+
+-- as many cases as the file says that it has
+unfoldable pub Compared : List ℕ → List ℕ → CaseCount → Type 0
+Compared before after (Cases n) = Counted n before after
+Compared before after Malformed = Unit {0}

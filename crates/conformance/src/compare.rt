@@ -1,7 +1,9 @@
 // Reads the cases, judges each by the proved calls and compares.
 ghost use mathlib.Core.Path.{_≡_};
-ghost use Prim.Native.Nat.{_<_, _^_};
-ghost use Rattle.conformance.specs.Compare.{heldAt, Filled, answerTo, ledgerTo};
+ghost use mathlib.Core.Bool.{true};
+ghost use Prim.Native.Nat.{_+_, _<_, _≤_, _^_};
+ghost use lib.ListN.{length, take};
+ghost use Rattle.conformance.specs.Compare.{heldAt, Filled, answerTo, ledgerTo, asStored, placeIn, Judged, CaseCounted, OneMore, Counted, Compared};
 use crate::tally;
 use stored_cases::checksum;
 use stored_cases::outcome;
@@ -53,37 +55,52 @@ fn answer_to(network: &[u8], plan: &[u8], ledger: &mut [u32], question: Question
     outcome::of_link(link_state::link_state(network, ledger, boundary, link))
 }
 
-// Judges a case by the library, on the ledger as it is before the call, and counts it. Boundaries and links above 32 bits are passed over,
-// as the library has no call that takes them.
-fn judge(
-    number: u32,
-    network: &[u8],
-    plan: &[u8],
-    ledger: &mut [u32],
-    question: Question,
-    counts: &mut [u64],
-) {
+// Whether the library's answer, and the checksum of the ledger that it leaves, are those of the other implementation.
+fn is_as_stored(given: Outcome, sum: u64, question: Question) -> bool
+    ensures { λ r. ⌜ r ≡ asStored given sum question ⌝ }
+{
+    let answer = question.answer;
+    outcome::is_same(given, answer) & (sum == question.checksum)
+}
+
+// Judges a case by the library, on the ledger as it is before the call: the place at which it is counted. Boundaries and links above 32 bits are
+// passed over, as the library has no call that takes them.
+fn judge(number: u32, network: &[u8], plan: &[u8], ledger: &mut [u32], question: Question) -> usize
+    requires { ⌜ (1 ≤ question .call) × (question .call ≤ 3) ⌝ }
+    ensures { λ r. ⌜ r ≡ placeIn (now (network .entry)) (now (plan .entry)) (now (ledger .entry)) question ⌝ }
+    ensures { λ r. ⌜ r < 68 ⌝ }
+{
     if 4294967295 < question.boundary {
-        tally::add_one(counts, tally::PASSED_OVER);
-        return;
+        return tally::PASSED_OVER;
     }
     if 4294967295 < question.link {
-        tally::add_one(counts, tally::PASSED_OVER);
-        return;
+        return tally::PASSED_OVER;
     }
     let given = answer_to(network, plan, ledger, question);
     let sum = checksum::checksum(ledger);
-    let answer = question.answer;
-    if outcome::is_same(given, answer) & (sum == question.checksum) {
-        tally::add_one(counts, tally::place_of(question.call, given));
-    } else {
-        tally::add_one(counts, tally::DIFFERENT);
-        tally::print_difference(number, given, sum, answer, question.checksum);
+    if is_as_stored(given, sum, question) {
+        return tally::place_of(question.call, given);
     }
+    tally::print_difference(number, given, sum, question);
+    tally::DIFFERENT
 }
 
-fn is_call(number: u32) -> bool {
-    (1 <= number) & (number <= 3)
+// Judges a case on a ledger that is first made what it is before the call.
+fn judge_filled(
+    number: u32,
+    network: &[u8],
+    plan: &[u8],
+    start: &[u32],
+    fill: u32,
+    ledger: &mut [u32],
+    question: Question,
+) -> usize
+    requires { ⌜ (1 ≤ question .call) × (question .call ≤ 3) ⌝ }
+    ensures { λ r. ⌜ Judged (now (network .entry)) (now (plan .entry)) (now (start .entry)) (length (now (ledger .entry))) fill question r ⌝ }
+    ensures { λ r. ⌜ r < 68 ⌝ }
+{
+    fill_ledger(ledger, start, fill);
+    judge(number, network, plan, ledger, question)
 }
 
 // Takes what a case uses of each buffer, and judges it; false where there is no such call, or a length is not one of its buffer.
@@ -96,13 +113,18 @@ fn run_read(
     sizes: Sizes,
     form: LedgerForm,
     question: Question,
-    counts: &mut [u64],
-) -> bool {
+    counts: &mut [u64; 68],
+) -> bool
+    ensures { λ r. ⌜ (r ≡ true → CaseCounted (take (sizes .network) (now (network .entry))) (take (sizes .plan) (now (plan .entry))) (take (sizes .start) (now (start .entry))) form question (now (counts .entry)) (now (counts .exit))) ⌝ }
+{
     let network_size = sizes.network;
     let plan_size = sizes.plan;
     let start_size = sizes.start;
     let ledger_size = form.size;
-    if !is_call(question.call) {
+    if question.call < 1 {
+        return false;
+    }
+    if 3 < question.call {
         return false;
     }
     if network.len() < network_size {
@@ -120,15 +142,16 @@ fn run_read(
     if ledger_size < start_size {
         return false;
     }
-    fill_ledger(&mut ledger[..ledger_size], &start[..start_size], form.fill);
-    judge(
+    let place = judge_filled(
         number,
         &network[..network_size],
         &plan[..plan_size],
+        &start[..start_size],
+        form.fill,
         &mut ledger[..ledger_size],
         question,
-        counts,
     );
+    tally::add_one(counts, place);
     true
 }
 
@@ -141,8 +164,10 @@ fn run_case(
     plan: &mut [u8],
     start: &mut [u32],
     ledger: &mut [u32],
-    counts: &mut [u64],
-) -> Sizes {
+    counts: &mut [u64; 68],
+) -> Sizes
+    ensures { λ r. ⌜ ((r .network ≡ 4294967295 → ⊥) → OneMore (now (counts .entry)) (now (counts .exit))) ⌝ }
+{
     let network_size = stored::read_text(file, network, before.network);
     let plan_size = stored::read_text(file, plan, before.plan);
     let form = stored::read_ledger(file);
@@ -173,17 +198,6 @@ fn run_case(
     }
 }
 
-// How many cases are left after one: none where that case could not be read.
-fn left_after(left: u32, sizes: Sizes) -> u32
-    requires { ⌜ 0 < left ⌝ }
-    ensures { λ r. ⌜ r < left ⌝ }
-{
-    if sizes.network == stored::NOTHING {
-        return 0;
-    }
-    left - 1
-}
-
 // Reads and judges the cases of an open file behind its header; false where the file is malformed.
 fn run_cases(
     file: i32,
@@ -192,44 +206,44 @@ fn run_cases(
     plan: &mut [u8],
     start: &mut [u32],
     ledger: &mut [u32],
-    counts: &mut [u64],
-) -> bool {
+    counts: &mut [u64; 68],
+) -> bool
+    ensures { λ r. ⌜ (r ≡ true → Counted count (now (counts .entry)) (now (counts .exit))) ⌝ }
+{
     let mut sizes = Sizes {
         network: stored::NOTHING,
         plan: stored::NOTHING,
         start: stored::NOTHING,
     };
-    let mut left = count;
-    while 0 < left {
-        sizes = run_case(
-            file,
-            count - left,
-            sizes,
-            network,
-            plan,
-            start,
-            ledger,
-            counts,
-        );
-        left = left_after(left, sizes);
+    let mut done = 0;
+    while done < count {
+        sizes = run_case(file, done, sizes, network, plan, start, ledger, counts);
+        if sizes.network == stored::NOTHING {
+            return false;
+        }
+        done += 1;
     }
-    sizes.network != stored::NOTHING
+    true
 }
 
-// Reads and judges all cases of an open file; false where the file is malformed.
+// Reads and judges all cases of an open file: how many.
 pub fn run_file(
     file: i32,
     network: &mut [u8],
     plan: &mut [u8],
     start: &mut [u32],
     ledger: &mut [u32],
-    counts: &mut [u64],
-) -> bool {
-    match stored::read_header(file) {
-        CaseCount::Cases(count) => {
-            let is_read = run_cases(file, count, network, plan, start, ledger, counts);
-            is_read & stored::is_at_end(file)
+    counts: &mut [u64; 68],
+) -> CaseCount
+    ensures { λ r. ⌜ Compared (now (counts .entry)) (now (counts .exit)) r ⌝ }
+{
+    let CaseCount::Cases(count) = stored::read_header(file) else {
+        return CaseCount::Malformed;
+    };
+    if run_cases(file, count, network, plan, start, ledger, counts) {
+        if stored::is_at_end(file) {
+            return CaseCount::Cases(count);
         }
-        CaseCount::Malformed => false,
     }
+    CaseCount::Malformed
 }

@@ -1,30 +1,38 @@
-// Runs the stored cases through the proved calls, and compares each answer and a checksum of the whole ledger after the call with those of
-// another implementation. Prints how many cases agreed, for each call and refusal number, and how many differ.
+// Runs stored cases through the proved calls, and compares each answer and a checksum of the whole ledger after the call with those of another
+// implementation. Prints each case that differs, how many cases each file has, how many agreed, for each call and refusal number, and how many
+// differ. The one case of wrong_answer.bin has a wrong answer on purpose: it must be told as different.
 mod compare;
 mod tally;
 
-fn main() {
-    let file = os::open_read(b"cases.bin");
-    if file < 0 {
-        tally::print(b"cases.bin can't be opened\n");
-        return;
-    }
+use stored_cases::stored::CaseCount;
+
+// Compares the cases of a file, and prints how many it has.
+fn compare_file(path: &[u8], counts: &mut [u64; 68]) {
     let mut network = [0u8; 24576];
     let mut plan = [0u8; 98304];
     let mut start = [0u32; 5888];
     let mut ledger = [0u32; 5888];
-    let mut counts = [0u64; 68];
-    let is_whole = compare::run_file(
+    let file = os::open_read(path);
+    let answer = compare::run_file(
         file,
         &mut network,
         &mut plan,
         &mut start,
         &mut ledger,
-        &mut counts,
+        counts,
     );
     libc::close(file);
-    if !is_whole {
-        tally::print(b"cases.bin is malformed\n");
+    tally::print(path);
+    match answer {
+        CaseCount::Cases(count) => tally::print_field(count as u64),
+        CaseCount::Malformed => tally::print(b" can't be read, or is malformed"),
     }
+    tally::print(b"\n");
+}
+
+fn main() {
+    let mut counts = [0u64; 68];
+    compare_file(b"cases.bin", &mut counts);
+    compare_file(b"wrong_answer.bin", &mut counts);
     tally::print_table(&counts);
 }

@@ -1,7 +1,10 @@
 // How many cases agreed, and what is printed.
-ghost use Prim.Native.Nat.{_<_};
+ghost use mathlib.Core.Path.{_≡_};
+ghost use Prim.Native.Nat.{_<_, _≤_};
+ghost use Rattle.conformance.specs.Tally.{refusalOf, placeOf, counted};
 use libc::STDOUT_FILENO;
 use stored_cases::outcome::Outcome;
+use stored_cases::stored::Question;
 
 // The counts: for each call, 22 of the cases that agreed, accepted and by refusal number; then these two.
 pub const DIFFERENT: usize = 66;
@@ -18,40 +21,34 @@ fn print_number(number: u64) {
 }
 
 // Counts one more at a place. There are fewer than 2^32 cases, so that no count wraps.
-pub fn add_one(counts: &mut [u64], place: usize) {
-    if place < counts.len() {
-        counts[place] = std::num::wrapping_add_u64(counts[place], 1);
-    }
+pub fn add_one(counts: &mut [u64; 68], place: usize)
+    requires { ⌜ place < 68 ⌝ }
+    ensures { λ _. ⌜ now (counts .exit) ≡ counted (now (counts .entry)) place ⌝ }
+{
+    counts[place] = std::num::wrapping_add_u64(counts[place], 1);
 }
 
-// The place of the cases of a call (1, 2 or 3) that gave an outcome. A refusal number above 21 has none.
-pub fn place_of(call: u32, outcome: Outcome) -> usize {
-    if 3 < call {
-        return DIFFERENT;
-    }
-    if call < 1 {
-        return DIFFERENT;
-    }
-    let row = (call as usize - 1) * 22;
-    if outcome.kind != 3 {
-        return row;
-    }
-    if 21 < outcome.first {
-        return DIFFERENT;
-    }
-    row + outcome.first as usize
+// The number of a refusal; 0 where nothing is refused.
+fn refusal_of(outcome: Outcome) -> u64
+    ensures { λ r. ⌜ r ≡ refusalOf outcome ⌝ }
+{
+    if outcome.kind == 3 { outcome.first } else { 0 }
 }
 
-fn count_at(counts: &[u64], place: usize) -> u64 {
-    if place < counts.len() {
-        counts[place]
-    } else {
-        0
+// The place of the cases of a call that gave an outcome. A refusal number above 21 has none.
+pub fn place_of(call: u32, outcome: Outcome) -> usize
+    requires { ⌜ (1 ≤ call) × (call ≤ 3) ⌝ }
+    ensures { λ r. ⌜ (r ≡ placeOf call outcome) × (r < 68) ⌝ }
+{
+    let number = refusal_of(outcome);
+    if 21 < number {
+        return DIFFERENT;
     }
+    (call as usize - 1) * 22 + number as usize
 }
 
 // A number behind a tab.
-fn print_field(number: u64) {
+pub fn print_field(number: u64) {
     print(b"\t");
     print_number(number);
 }
@@ -66,20 +63,16 @@ fn print_numbers(numbers: &[u64]) {
 }
 
 // The rest of a line of the table: how many cases of each call were accepted (0) or refused with a number.
-fn print_line(counts: &[u64], number: usize)
+fn print_line(counts: &[u64; 68], number: usize)
     requires { ⌜ number < 22 ⌝ }
 {
-    let numbers = [
-        count_at(counts, number),
-        count_at(counts, 22 + number),
-        count_at(counts, 44 + number),
-    ];
+    let numbers = [counts[number], counts[22 + number], counts[44 + number]];
     print_numbers(&numbers);
     print(b"\n");
 }
 
 // The table of the cases that agreed, and how many were passed over and differ.
-pub fn print_table(counts: &[u64]) {
+pub fn print_table(counts: &[u64; 68]) {
     print(b"answer\tcheck_network\tcheck_plan\tlink_state\naccepted");
     print_line(counts, 0);
     let mut number = 1;
@@ -89,9 +82,9 @@ pub fn print_table(counts: &[u64]) {
         number += 1;
     }
     print(b"passed over");
-    print_field(count_at(counts, PASSED_OVER));
+    print_field(counts[PASSED_OVER]);
     print(b"\ndifferent");
-    print_field(count_at(counts, DIFFERENT));
+    print_field(counts[DIFFERENT]);
     print(b"\n");
 }
 
@@ -108,18 +101,13 @@ fn print_outcome(outcome: Outcome, checksum: u64) {
 }
 
 // A case that differs, by its number from 0: what the library gave, and what the other implementation gave.
-pub fn print_difference(
-    number: u32,
-    given: Outcome,
-    given_sum: u64,
-    stored: Outcome,
-    stored_sum: u64,
-) {
+pub fn print_difference(number: u32, given: Outcome, sum: u64, question: Question) {
+    let answer = question.answer;
     print(b"case ");
     print_number(number as u64);
     print(b" differs: library");
-    print_outcome(given, given_sum);
+    print_outcome(given, sum);
     print(b"\treference");
-    print_outcome(stored, stored_sum);
+    print_outcome(answer, question.checksum);
     print(b"\n");
 }

@@ -1,40 +1,31 @@
--- `conformance::compare::run_cases` is safe and ends. Assumes nothing.
-use Prim.Native.Nat.{_≤_}
-use mathlib.Core.Path.{_≡_}
+-- `conformance::compare::run_cases` meets its contract: a case more is counted in each turn. Assumes nothing.
+use Prim.Native.Nat.{_-_, _≤_}
+use mathlib.Core.Path.{_≡_, refl}
+use native.Mathlib.Omega.{arith}
 use lib.ListN.{length}
+use Rattle.conformance.specs.Compare.{Counted, none}
+use Rattle.conformance.proofs.Laws.{never, counted-more, counted-all}
 use borrow.Author.Needs.{needs}
 use Rattle.conformance.proofs.compare.run_cases.Statement.{statement}
 use Rattle.conformance.proofs.compare.run_cases.Tie as tie
 
 abbrev Inv-loop : tie.InvT-loop
-Inv-loop file count network₀ plan₀ start₀ ledger₀ counts₀ sizes₀ left₀ network plan start ledger counts sizes left =
-    (left ≤ count)
+Inv-loop file count network₀ plan₀ start₀ ledger₀ counts₀ sizes₀ done₀ network plan start ledger counts sizes done =
+    (done ≤ count)
     × (length network ≡ length network₀)
     × (length plan ≡ length plan₀)
     × (length start ≡ length start₀)
     × (length ledger ≡ length ledger₀)
-    × (length counts ≡ length counts₀)
+    × Counted done counts₀ counts
 
 abbrev μ-loop : tie.MeasureT-loop
-μ-loop file count network₀ plan₀ start₀ ledger₀ counts₀ sizes₀ left₀ network plan start ledger counts sizes left = left
+μ-loop file count network₀ plan₀ start₀ ledger₀ counts₀ sizes₀ done₀ network plan start ledger counts sizes done = count - done
 
 loop-holds : tie.Need-loop-holds Inv-loop μ-loop
-loop-holds c = search needs
-
-sub-run-case : tie.Need-sub-run-case Inv-loop μ-loop
-sub-run-case c = search needs
+loop-holds c = (search needs, refl, refl, refl, refl, none)
 
 run-case-requires : tie.Need-run-case-requires Inv-loop μ-loop
 run-case-requires c κs = search needs
-
-left-after-requires : tie.Need-left-after-requires Inv-loop μ-loop
-left-after-requires c κs = search needs
-
-loop-less : tie.Need-loop-less Inv-loop μ-loop
-loop-less c = search needs
-
-loop-again : tie.Need-loop-again Inv-loop μ-loop
-loop-again c = search needs
 
 same-length : tie.Need-same-length Inv-loop μ-loop
 same-length c = search needs
@@ -48,11 +39,32 @@ same-length-3 c = search needs
 same-length-4 : tie.Need-same-length-4 Inv-loop μ-loop
 same-length-4 c = search needs
 
+returns : tie.Need-returns Inv-loop μ-loop
+returns c = never
+
+add-done : tie.Need-add-done Inv-loop μ-loop
+add-done c = search needs
+
+loop-less : tie.Need-loop-less Inv-loop μ-loop
+loop-less c = search needs
+
+loop-again : tie.Need-loop-again Inv-loop μ-loop
+loop-again c = (search needs, search needs, search needs, search needs, search needs, counted-more (c .before .before .before .before .before .before .before .before .before .before .before .before .before .before .before .before .before .loop .inv .5) (c .before .before .before .before .before .before .before .before .before .before .run-case .ensures (c .if1 .left)))
+
 same-length-5 : tie.Need-same-length-5 Inv-loop μ-loop
 same-length-5 c = search needs
 
-returns : tie.Need-returns Inv-loop μ-loop
-returns c = search needs
+same-length-6 : tie.Need-same-length-6 Inv-loop μ-loop
+same-length-6 c = search needs
+
+same-length-7 : tie.Need-same-length-7 Inv-loop μ-loop
+same-length-7 c = search needs
+
+same-length-8 : tie.Need-same-length-8 Inv-loop μ-loop
+same-length-8 c = search needs
+
+returns-2 : tie.Need-returns-2 Inv-loop μ-loop
+returns-2 c = λ h. counted-all (c .before .loop .inv .0) (omega arith) (c .before .loop .inv .5)
 
 pub run-cases-spec : {M : Type 1} → statement M
 run-cases-spec =
@@ -61,14 +73,17 @@ run-cases-spec =
     Inv-loop
     μ-loop
     loop-holds
-    sub-run-case
     run-case-requires
-    left-after-requires
-    loop-less
-    loop-again
     same-length
     same-length-2
     same-length-3
     same-length-4
+    returns
+    add-done
+    loop-less
+    loop-again
     same-length-5
-    returns)
+    same-length-6
+    same-length-7
+    same-length-8
+    returns-2)

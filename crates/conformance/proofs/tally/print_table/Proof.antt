@@ -43,8 +43,8 @@ slice-aggregate-print-2 c = search needs
 print-requires-2 : tie.Need-print-requires-2 Inv-loop μ-loop
 print-requires-2 c κs = search needs
 
-count-at-requires : tie.Need-count-at-requires Inv-loop μ-loop
-count-at-requires c κs = search needs
+element-copy-out-print-field : tie.Need-element-copy-out-print-field Inv-loop μ-loop
+element-copy-out-print-field c = search needs
 
 print-field-requires : tie.Need-print-field-requires Inv-loop μ-loop
 print-field-requires c κs = search needs
@@ -55,8 +55,8 @@ slice-aggregate-print-3 c = search needs
 print-requires-3 : tie.Need-print-requires-3 Inv-loop μ-loop
 print-requires-3 c κs = search needs
 
-count-at-requires-2 : tie.Need-count-at-requires-2 Inv-loop μ-loop
-count-at-requires-2 c κs = search needs
+element-copy-out-print-field-2 : tie.Need-element-copy-out-print-field-2 Inv-loop μ-loop
+element-copy-out-print-field-2 c = search needs
 
 print-field-requires-2 : tie.Need-print-field-requires-2 Inv-loop μ-loop
 print-field-requires-2 c κs = search needs
@@ -87,11 +87,11 @@ print-table-spec =
     loop-again
     slice-aggregate-print-2
     print-requires-2
-    count-at-requires
+    element-copy-out-print-field
     print-field-requires
     slice-aggregate-print-3
     print-requires-3
-    count-at-requires-2
+    element-copy-out-print-field-2
     print-field-requires-2
     slice-aggregate-print-4
     print-requires-4

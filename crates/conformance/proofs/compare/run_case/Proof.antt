@@ -1,0 +1,75 @@
+-- `conformance::compare::run_case` meets its contract. Assumes nothing.
+use mathlib.Core.Path.{refl}
+use Rattle.conformance.proofs.Laws.{one-more}
+use borrow.Author.Needs.{needs}
+use Rattle.conformance.proofs.compare.run_case.Statement.{statement}
+use Rattle.conformance.proofs.compare.run_case.Tie as tie
+
+read-text-requires : tie.Need-read-text-requires
+read-text-requires c κs = search needs
+
+read-text-requires-2 : tie.Need-read-text-requires-2
+read-text-requires-2 c κs = search needs
+
+read-ledger-requires : tie.Need-read-ledger-requires
+read-ledger-requires c κs = search needs
+
+read-start-requires : tie.Need-read-start-requires
+read-start-requires c κs = search needs
+
+read-question-requires : tie.Need-read-question-requires
+read-question-requires c κs = search needs
+
+run-read-requires : tie.Need-run-read-requires
+run-read-requires c κs = search needs
+
+same-length : tie.Need-same-length
+same-length c = search needs
+
+same-length-2 : tie.Need-same-length-2
+same-length-2 c = search needs
+
+same-length-3 : tie.Need-same-length-3
+same-length-3 c = search needs
+
+same-length-4 : tie.Need-same-length-4
+same-length-4 c = search needs
+
+returns : tie.Need-returns
+returns c = λ h. one-more (c .before .before .before .run-read .ensures (c .if1 .taken))
+
+same-length-5 : tie.Need-same-length-5
+same-length-5 c = search needs
+
+same-length-6 : tie.Need-same-length-6
+same-length-6 c = search needs
+
+same-length-7 : tie.Need-same-length-7
+same-length-7 c = search needs
+
+same-length-8 : tie.Need-same-length-8
+same-length-8 c = search needs
+
+returns-2 : tie.Need-returns-2
+returns-2 c = λ h. absurd (h refl)
+
+pub run-case-spec : {M : Type 1} → statement M
+run-case-spec =
+    tie.close
+    (tie.spec
+    read-text-requires
+    read-text-requires-2
+    read-ledger-requires
+    read-start-requires
+    read-question-requires
+    run-read-requires
+    same-length
+    same-length-2
+    same-length-3
+    same-length-4
+    returns
+    same-length-5
+    same-length-6
+    same-length-7
+    same-length-8
+    returns-2)

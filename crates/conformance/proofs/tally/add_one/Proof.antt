@@ -1,0 +1,36 @@
+-- `conformance::tally::add_one` meets its contract. Assumes nothing.
+use Rattle.conformance.specs.Tally.{counted}
+use borrow.Author.Needs.{needs}
+use Rattle.conformance.proofs.tally.add_one.Statement.{statement}
+use Rattle.conformance.proofs.tally.add_one.Tie as tie
+use Rattle.std.proofs.num.wrapping_add_u64.Reads as wrapping-add-u64-reads
+
+mul-wrapping-add-u64 : tie.Need-mul-wrapping-add-u64
+mul-wrapping-add-u64 c = search needs
+
+element-copy-out-wrapping-add-u64 : tie.Need-element-copy-out-wrapping-add-u64
+element-copy-out-wrapping-add-u64 c = search needs
+
+wrapping-add-u64-requires : tie.Need-wrapping-add-u64-requires
+wrapping-add-u64-requires c κs = search needs
+
+mul-counts : tie.Need-mul-counts
+mul-counts c = search needs
+
+element-write-counts : tie.Need-element-write-counts
+element-write-counts c = search needs
+
+returns : tie.Need-returns
+unfolding counted
+returns c = rw (c .wrapping-add-u64 .ensures)
+
+pub add-one-spec : {M : Type 1} → statement M
+add-one-spec =
+    tie.close
+    (tie.spec
+    mul-wrapping-add-u64
+    element-copy-out-wrapping-add-u64
+    wrapping-add-u64-requires
+    mul-counts
+    element-write-counts
+    returns)
