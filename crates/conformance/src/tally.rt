@@ -100,14 +100,14 @@ fn print_outcome(outcome: Outcome, checksum: u64) {
     print_numbers(&numbers);
 }
 
-// A case that differs, by its number from 0: what the library gave, and what the other implementation gave.
+// A case that differs, by its number from 0: what the library gave, and what was stored.
 pub fn print_difference(number: u32, given: Outcome, sum: u64, question: Question) {
     let answer = question.answer;
     print(b"case ");
     print_number(number as u64);
     print(b" differs: library");
     print_outcome(given, sum);
-    print(b"\treference");
+    print(b"\tstored");
     print_outcome(answer, question.checksum);
     print(b"\n");
 }
