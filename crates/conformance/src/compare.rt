@@ -1,7 +1,7 @@
 // Reads the cases, judges each by the proved calls and compares.
 ghost use mathlib.Core.Path.{_≡_};
 ghost use mathlib.Core.Bool.{true};
-ghost use Prim.Native.Nat.{_+_, _<_, _≤_, _^_};
+ghost use Prim.Native.Nat.{_<_, _≤_, _^_};
 ghost use lib.ListN.{length, take};
 ghost use Rattle.conformance.specs.Compare.{heldAt, Filled, answerTo, ledgerTo, asStored, placeIn, Judged, CaseCounted, OneMore, Counted, Compared};
 use crate::tally;
