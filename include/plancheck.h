@@ -62,7 +62,7 @@
  * The library needs memcpy and memset from the C library, at most.
  *
  * STACK
- * On x86-64, plancheck_check_plan takes at most 5,832 bytes and each of the other two at most 3,112
+ * On x86-64, plancheck_check_plan takes at most 7,816 bytes and each of the other two at most 3,656
  * (docs/MEASUREMENTS.md; bench/run measures it).
  *
  * ERRORS

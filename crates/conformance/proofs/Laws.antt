@@ -12,16 +12,16 @@ use lib.ListN.{length, getD, set}
 use lib.Seq.{getD-set-same, getD-set-other}
 use Rattle.records.specs.Lines.{lines}
 use Rattle.model.specs.Calls.{checkNetwork, checkPlan, ledgerAfter, linkState}
-use Rattle.model.specs.declared.NetworkAnswer.{NetworkAnswer}
+use Rattle.search.specs.declared.Verdict.{Verdict}
 use Rattle.model.specs.declared.PlanAnswer.{PlanAnswer}
 use Rattle.model.specs.declared.LinkAnswer.{LinkAnswer}
-use Rattle.stored_cases.specs.Outcome.{networkOutcome, planOutcome, linkOutcome}
-use Rattle.stored_cases.specs.declared.outcome.Outcome.{Outcome}
-use Rattle.stored_cases.specs.declared.stored.LedgerForm.{LedgerForm}
-use Rattle.stored_cases.specs.declared.stored.Question.{Question}
+use Rattle.conformance_cases.specs.Outcome.{networkOutcome, planOutcome, linkOutcome}
+use Rattle.conformance_cases.specs.declared.outcome.Outcome.{Outcome}
+use Rattle.conformance_cases.specs.declared.stored.LedgerForm.{LedgerForm}
+use Rattle.conformance_cases.specs.declared.stored.Question.{Question}
 use Rattle.conformance.specs.Compare.{heldAt, Filled, answerTo, ledgerTo, asStored, placeIn, Judged, CaseCounted, OneMore, Counted, more}
 use Rattle.conformance.specs.Tally.{different, passedOver, refusalOf, placeOf, counted}
-use Rattle.stored_cases.specs.Checksum.{checksumOf}
+use Rattle.conformance_cases.specs.Checksum.{checksumOf}
 
 -- the ledger is filled below a place
 abbrev pub FilledTo : List ℕ → ℕ → List ℕ → ℕ → Type 0
@@ -40,7 +40,7 @@ filled-all start fill ledger n h below i l = below i (omega arith)
 
 module _ (network plan ledger : List ℕ) (question : Question) where
   pub answered-network :
-      (r : Outcome) {answer : NetworkAnswer} → question .call ≡ 1 → answer ≡ checkNetwork (lines network) → r ≡ networkOutcome answer
+      (r : Outcome) {verdict : Verdict} → question .call ≡ 1 → verdict ≡ checkNetwork (lines network) → r ≡ networkOutcome verdict
       → (r ≡ answerTo network plan ledger question) × (ledger ≡ ledgerTo network plan ledger question)
   unfolding answerTo ledgerTo
   answered-network r h a e = (rw (eq-eqb _ _ h) (e ∙ ap networkOutcome a), rw h)

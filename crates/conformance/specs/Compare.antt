@@ -8,13 +8,13 @@ use lib.Dec.{ltb, eqb}
 use lib.ListN.{length, getD}
 use Rattle.records.specs.Lines.{lines}
 use Rattle.model.specs.Calls.{checkNetwork, checkPlan, ledgerAfter, linkState}
-use Rattle.stored_cases.specs.Checksum.{checksumOf}
-use Rattle.stored_cases.specs.Outcome.{networkOutcome, planOutcome, linkOutcome, sameOutcome}
-use Rattle.stored_cases.specs.declared.outcome.Outcome.{Outcome}
-use Rattle.stored_cases.specs.declared.stored.CaseCount.{CaseCount}
-use Rattle.stored_cases.specs.declared.stored.CaseCount.the-variants.{Cases, Malformed}
-use Rattle.stored_cases.specs.declared.stored.LedgerForm.{LedgerForm}
-use Rattle.stored_cases.specs.declared.stored.Question.{Question}
+use Rattle.conformance_cases.specs.Checksum.{checksumOf}
+use Rattle.conformance_cases.specs.Outcome.{networkOutcome, planOutcome, linkOutcome, sameOutcome}
+use Rattle.conformance_cases.specs.declared.outcome.Outcome.{Outcome}
+use Rattle.conformance_cases.specs.declared.stored.CaseCount.{CaseCount}
+use Rattle.conformance_cases.specs.declared.stored.CaseCount.the-variants.{Cases, Malformed}
+use Rattle.conformance_cases.specs.declared.stored.LedgerForm.{LedgerForm}
+use Rattle.conformance_cases.specs.declared.stored.Question.{Question}
 use Rattle.conformance.specs.Tally.{different, passedOver, placeOf, counted}
 
 -- the given numbers at its start, and the fill behind them

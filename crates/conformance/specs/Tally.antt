@@ -4,7 +4,7 @@ use mathlib.Core.Bool.{cond}
 use mathlib.Core.List.{List}
 use lib.Dec.{ltb, eqb}
 use lib.ListN.{getD, set}
-use Rattle.stored_cases.specs.declared.outcome.Outcome.{Outcome}
+use Rattle.conformance_cases.specs.declared.outcome.Outcome.{Outcome}
 
 abbrev pub different : ℕ
 different = 66

@@ -5,13 +5,13 @@ ghost use Prim.Native.Nat.{_<_, _≤_, _^_};
 ghost use lib.ListN.{length, take};
 ghost use Rattle.conformance.specs.Compare.{heldAt, Filled, answerTo, ledgerTo, asStored, placeIn, Judged, CaseCounted, OneMore, Counted, Compared};
 use crate::tally;
-use stored_cases::checksum;
-use stored_cases::outcome;
-use stored_cases::outcome::Outcome;
-use stored_cases::stored;
-use stored_cases::stored::CaseCount;
-use stored_cases::stored::LedgerForm;
-use stored_cases::stored::Question;
+use conformance_cases::checksum;
+use conformance_cases::outcome;
+use conformance_cases::outcome::Outcome;
+use conformance_cases::stored;
+use conformance_cases::stored::CaseCount;
+use conformance_cases::stored::LedgerForm;
+use conformance_cases::stored::Question;
 
 // How much of each buffer is in use; a case may go on with what the case before gave.
 pub struct Sizes {

@@ -4,7 +4,7 @@
 mod compare;
 mod tally;
 
-use stored_cases::stored::CaseCount;
+use conformance_cases::stored::CaseCount;
 
 // Compares the cases of a file, and prints how many it has.
 fn compare_file(path: &[u8], counts: &mut [u64; 68]) {

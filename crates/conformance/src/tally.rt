@@ -2,9 +2,9 @@
 ghost use mathlib.Core.Path.{_≡_};
 ghost use Prim.Native.Nat.{_<_, _≤_};
 ghost use Rattle.conformance.specs.Tally.{refusalOf, placeOf, counted};
+use conformance_cases::outcome::Outcome;
+use conformance_cases::stored::Question;
 use libc::STDOUT_FILENO;
-use stored_cases::outcome::Outcome;
-use stored_cases::stored::Question;
 
 // The counts: for each call, 22 of the cases that agreed, accepted and by refusal number; then these two.
 pub const DIFFERENT: usize = 66;

@@ -9,7 +9,7 @@ use lib.ListN.{length}
 use Rattle.search.specs.Checks.{Hold}
 use Rattle.search.proofs.Laws.{passes-of-hold}
 use Rattle.records.specs.Lines.{Line}
-use Rattle.model.specs.declared.LinkAnswer.the-variants.{State}
+use Rattle.model.specs.declared.Totals.{Totals}
 use Rattle.model.specs.declared.PlanAnswer.the-variants.{Accepted}
 use Rattle.model.specs.Sum.{sum}
 use Rattle.model.specs.Network.{linkCount, stepCount, travelTime, time, arrivalBoundary}
@@ -82,8 +82,7 @@ module _ (network plan : List Line) (old : List ℕ) (holds : Hold (planChecks n
         record { told = sym same ∙ rw (entered-is boundary early, left-is, arrived-is) (sym (state-told _ _ _ l a)); whole = omega (arith, l, a) }
 
 -- after the check of a plan that is accepted, whatever the ledger held before
-pub accepted-state : (network plan : List Line) (old : List ℕ) (admitted letOut inside time : ℕ) → checkPlan network plan (length old) ≡ Accepted admitted letOut inside time
+pub accepted-state : (network plan : List Line) (old : List ℕ) (t : Totals) → checkPlan network plan (length old) ≡ Accepted t
     → (boundary link : ℕ) → boundary ≤ stepCount network → 1 ≤ link → link ≤ linkCount network
     → PlanState network plan boundary (link - 1) (linkState network (ledgerAfter network plan old) boundary link)
-accepted-state network plan old admitted letOut inside time e =
-    plan-state network plan old (promises network plan old .accepted-holds admitted letOut inside time e)
+accepted-state network plan old t e = plan-state network plan old (promises network plan old .accepted-holds t e)

@@ -8,11 +8,13 @@ use native.Mathlib.Omega.{arith}
 use borrow.Author.Tests.{le-leb, lt-leb, lt-ltb, le-ltb}
 use lib.Dec.{leb, ltb}
 use lib.ListN.{length, getD}
-use Rattle.model.specs.declared.Counts.{Counts}
+use Rattle.search.specs.Checks.{refusal}
+use Rattle.tables.specs.declared.Counts.{Counts}
 use Rattle.model.specs.declared.LinkAnswer.{LinkAnswer}
 use Rattle.model.specs.declared.LinkAnswer.the-variants.{State, Refused}
 use Rattle.model.specs.Test.{_and_}
-use Rattle.step_lines.specs.Boundaries.{lastBoundaryIn, arrivalIn}
+use Rattle.arrivals.specs.Arrivals.{lastBoundaryIn, arrivalIn}
+use Rattle.tables.specs.Fields.{travelTimeIn, standingIn}
 use Rattle.link_state.specs.State.{RowHeld, enteredIn, arrivedIn, ArrivedAsked, stateFrom, StateAsked}
 
 -- ---- the arrival boundary is none of the later ones
@@ -66,22 +68,22 @@ module _ {counts : Counts} {links times : List ℕ} (asked : StateAsked counts l
 
 -- ---- arrived
 module _ (links times ledger : List ℕ) (count n i : ℕ) where
-  pub arrived-before : getD times n 0 < getD links (6 * i + 1) 0 → getD links (6 * i + 5) 0 ≡ arrivedIn links times ledger count n i
+  pub arrived-before : {travel stands : ℕ} → travel ≡ travelTimeIn links i → stands ≡ standingIn links i → getD times n 0 < travel → stands ≡ arrivedIn links times ledger count n i
   unfolding arrivedIn
-  arrived-before h = rw (lt-ltb (getD times n 0) (getD links (6 * i + 1) 0) h)
+  arrived-before t s h = rw (s, lt-ltb (getD times n 0) (travelTimeIn links i) (omega arith))
 
-  pub arrived-later : getD links (6 * i + 1) 0 ≤ getD times n 0 → {arrival r : ℕ} → arrival ≡ arrivalIn times n (getD links (6 * i + 1) 0)
+  pub arrived-later : {travel : ℕ} → travel ≡ travelTimeIn links i → travel ≤ getD times n 0 → {arrival r : ℕ} → arrival ≡ arrivalIn times n travel
       → r ≡ enteredIn ledger count arrival i → r ≡ arrivedIn links times ledger count n i
   unfolding arrivedIn
-  arrived-later h e q = rw (le-ltb (getD times n 0) (getD links (6 * i + 1) 0) h, ← e) q
+  arrived-later t h e q = rw (le-ltb (getD times n 0) (travelTimeIn links i) (omega arith), ← t, ← e) q
 
 -- ---- 21
 module _ (entered left arrived : ℕ) where
-  pub left-above : arrived < left → {r : LinkAnswer} → r ≡ Refused 21 0 0 → r ≡ stateFrom entered left arrived
+  pub left-above : arrived < left → {r : LinkAnswer} → r ≡ Refused (refusal 21 0 0) → r ≡ stateFrom entered left arrived
   unfolding stateFrom _and_
   left-above h e = rw (lt-leb left arrived h) e
 
-  pub arrived-above : left ≤ arrived → entered < arrived → {r : LinkAnswer} → r ≡ Refused 21 0 0 → r ≡ stateFrom entered left arrived
+  pub arrived-above : left ≤ arrived → entered < arrived → {r : LinkAnswer} → r ≡ Refused (refusal 21 0 0) → r ≡ stateFrom entered left arrived
   unfolding stateFrom _and_
   arrived-above h l e = rw (le-leb left arrived h, lt-leb arrived entered l) e
 

@@ -8,22 +8,28 @@ use native.Mathlib.Omega.{arith}
 use borrow.Author.Tests.{le-leb, lt-leb}
 use lib.Dec.{leb}
 use lib.ListN.{length}
-use Rattle.search.specs.Checks.{Verdict, passes, refused, orElse, checked, verdict}
+use Rattle.search.specs.declared.Refusal.{Refusal}
+use Rattle.search.specs.declared.Verdict.{Verdict}
+use Rattle.search.specs.declared.Verdict.the-variants as verdicts
+use Rattle.search.specs.Checks.{refusal, orElse, checked, verdict}
 use Rattle.search.proofs.Laws.{or-else-passes, or-else-refused, checked-passes, checked-refused, passes-of-hold}
 use Rattle.records.specs.Lines.{Line, lines}
-use Rattle.model.specs.declared.Counts.{Counts}
+use Rattle.tables.specs.declared.Counts.{Counts}
 use Rattle.model.specs.declared.LinkAnswer.{LinkAnswer}
 use Rattle.model.specs.declared.LinkAnswer.the-variants.{State, Refused}
 use Rattle.model.specs.Test.{_and_, within}
 use Rattle.model.specs.Network.{linkCount, stepCount}
 use Rattle.model.specs.Table.{networkChecks, ledgerChecks}
 use Rattle.model.specs.Calls.{ledgerEntered, ledgerLeft, ledgerArrived, stateChecks, linkAnswer, linkState}
-use Rattle.model.proofs.Tables.{travel-time-at, standing-at}
-use Rattle.step_lines.proofs.Boundaries.{times-rise, arrival-is}
-use Rattle.network.specs.declared.NetworkRead.{NetworkRead}
-use Rattle.network.specs.declared.NetworkRead.the-variants as network-read
-use Rattle.network.specs.Loading.{networkVerdict, NetworkGot}
-use Rattle.link_state.specs.State.{enteredIn, leftIn, arrivedIn, stateFrom, StateAsked, Tabled}
+use Rattle.tables.proofs.Tables.{travel-time-at, standing-at}
+use Rattle.arrivals.proofs.Boundaries.{times-rise, arrival-is}
+use Rattle.tables.specs.declared.Reading.{Reading}
+use Rattle.tables.specs.declared.Stage.{Stage}
+use Rattle.tables.specs.declared.Stage.the-variants as stages
+use Rattle.tables.proofs.Stages.{verdict-refused}
+use Rattle.tables.specs.Tables.{Judged}
+use Rattle.network.specs.Loading.{Loaded}
+use Rattle.link_state.specs.State.{enteredIn, leftIn, arrivedIn, stateFrom, StateAsked, StateTold, Tabled}
 
 -- ---- 20: whether a link is one of the network's
 within-true : (low x high : ℕ) → low ≤ x → x ≤ high → within low x high ≡ true
@@ -59,35 +65,35 @@ module _ (network : List Line) (ledger : List ℕ) (boundary link : ℕ) where
   unfolding verdict stateChecks ledgerChecks
   whole = refl
 
-  refusal : (x y z : ℕ) → verdict (stateChecks network ledger boundary link) ≡ refused x y z → Refused x y z ≡ linkState network ledger boundary link
+  refusal-told : (r : Refusal) → verdict (stateChecks network ledger boundary link) ≡ verdicts.Refused r → Refused r ≡ linkState network ledger boundary link
   unfolding linkState linkAnswer
-  refusal x y z e = rw e
+  refusal-told r e = rw e
 
-  pub network-refused : (x y z : ℕ) → verdict (networkChecks network) ≡ refused x y z → Refused x y z ≡ linkState network ledger boundary link
-  network-refused x y z e = refusal x y z (whole ∙ or-else-refused _ _ x y z e)
+  pub network-refused : (r : Refusal) → verdict (networkChecks network) ≡ verdicts.Refused r → Refused r ≡ linkState network ledger boundary link
+  network-refused r e = refusal-told r (whole ∙ or-else-refused _ _ r e)
 
-  module _ (passed : verdict (networkChecks network) ≡ passes) where
-    pub ledger-short : length ledger < 2 * suc (stepCount network) * linkCount network → Refused 8 0 0 ≡ linkState network ledger boundary link
+  module _ (passed : verdict (networkChecks network) ≡ verdicts.Passes) where
+    pub ledger-short : length ledger < 2 * suc (stepCount network) * linkCount network → Refused (refusal 8 0 0) ≡ linkState network ledger boundary link
     ledger-short h =
-        refusal 8 0 0 (whole ∙ or-else-passes _ _ passed ∙ or-else-refused _ _ 8 0 0 (checked-refused long-enough 8 0 0 (lt-leb _ _ h)))
+        refusal-told (refusal 8 0 0) (whole ∙ or-else-passes _ _ passed ∙ or-else-refused _ _ (refusal 8 0 0) (checked-refused long-enough 8 0 0 (lt-leb _ _ h)))
 
     module _ (long : 2 * suc (stepCount network) * linkCount network ≤ length ledger) where
       to19 : verdict (stateChecks network ledger boundary link) ≡ from19
       to19 = whole ∙ or-else-passes _ _ passed ∙ or-else-passes _ _ (checked-passes long-enough 8 0 0 (le-leb _ _ long))
 
-      pub boundary-past : stepCount network < boundary → Refused 19 0 0 ≡ linkState network ledger boundary link
-      boundary-past h = refusal 19 0 0 (to19 ∙ or-else-refused _ _ 19 0 0 (checked-refused _ 19 0 0 (lt-leb boundary (stepCount network) h)))
+      pub boundary-past : stepCount network < boundary → Refused (refusal 19 0 0) ≡ linkState network ledger boundary link
+      boundary-past h = refusal-told (refusal 19 0 0) (to19 ∙ or-else-refused _ _ (refusal 19 0 0) (checked-refused _ 19 0 0 (lt-leb boundary (stepCount network) h)))
 
       module _ (early : boundary ≤ stepCount network) where
         to20 : verdict (stateChecks network ledger boundary link) ≡ from20
         to20 = to19 ∙ or-else-passes _ _ (checked-passes _ 19 0 0 (le-leb boundary (stepCount network) early))
 
-        pub no-link : within 1 link (linkCount network) ≡ false → Refused 20 0 0 ≡ linkState network ledger boundary link
-        no-link outside = refusal 20 0 0 (to20 ∙ or-else-refused _ _ 20 0 0 (checked-refused _ 20 0 0 outside))
+        pub no-link : within 1 link (linkCount network) ≡ false → Refused (refusal 20 0 0) ≡ linkState network ledger boundary link
+        no-link outside = refusal-told (refusal 20 0 0) (to20 ∙ or-else-refused _ _ (refusal 20 0 0) (checked-refused _ 20 0 0 outside))
 
         by-agreement : (b : Bool) → linkAnswer network ledger boundary link (checked b 21 0 0)
             ≡ cond b (State (ledgerArrived network ledger boundary link - ledgerLeft network ledger boundary link) (ledgerEntered network ledger boundary link boundary - ledgerArrived network ledger boundary link))
-            (Refused 21 0 0)
+            (Refused (refusal 21 0 0))
         unfolding linkAnswer checked
         by-agreement true = refl
         by-agreement false = refl
@@ -103,30 +109,30 @@ module _ (network : List Line) (ledger : List ℕ) (boundary link : ℕ) where
 -- ---- by the tables
 module _ {network : List Line} {counts : Counts} {links times : List ℕ} (t : Tabled network counts links times) (ledger : List ℕ) (boundary link : ℕ)
     {size : ℕ} (sized : size ≡ 2 * (counts .steps + 1) * counts .links) where
-  passed : verdict (networkChecks network) ≡ passes
+  passed : verdict (networkChecks network) ≡ verdicts.Passes
   passed = passes-of-hold (networkChecks network) (t .holds)
 
   rows-are : size ≡ 2 * suc (stepCount network) * linkCount network
   rows-are = sized ∙ rw (add-one, t .counted .steps, t .counted .links)
 
-  pub short-told : length ledger < size → {r : LinkAnswer} → r ≡ Refused 8 0 0 → r ≡ linkState network ledger boundary link
+  pub short-told : length ledger < size → {r : LinkAnswer} → r ≡ Refused (refusal 8 0 0) → r ≡ linkState network ledger boundary link
   short-told h e = e ∙ ledger-short network ledger boundary link passed (omega (arith, rows-are))
 
   module _ (long : size ≤ length ledger) where
     room : 2 * suc (stepCount network) * linkCount network ≤ length ledger
     room = omega (arith, rows-are)
 
-    pub past-told : counts .steps < boundary → {r : LinkAnswer} → r ≡ Refused 19 0 0 → r ≡ linkState network ledger boundary link
+    pub past-told : counts .steps < boundary → {r : LinkAnswer} → r ≡ Refused (refusal 19 0 0) → r ≡ linkState network ledger boundary link
     past-told h e = e ∙ boundary-past network ledger boundary link passed room (omega (arith, t .counted .steps))
 
     module _ (early : boundary ≤ counts .steps) where
       reached : boundary ≤ stepCount network
       reached = omega (arith, t .counted .steps)
 
-      pub below-told : link < 1 → {r : LinkAnswer} → r ≡ Refused 20 0 0 → r ≡ linkState network ledger boundary link
+      pub below-told : link < 1 → {r : LinkAnswer} → r ≡ Refused (refusal 20 0 0) → r ≡ linkState network ledger boundary link
       below-told h e = e ∙ no-link network ledger boundary link passed room reached (within-below 1 link (linkCount network) h)
 
-      pub above-told : 1 ≤ link → counts .links < link → {r : LinkAnswer} → r ≡ Refused 20 0 0 → r ≡ linkState network ledger boundary link
+      pub above-told : 1 ≤ link → counts .links < link → {r : LinkAnswer} → r ≡ Refused (refusal 20 0 0) → r ≡ linkState network ledger boundary link
       above-told h l e = e ∙ no-link network ledger boundary link passed room reached (within-above 1 link (linkCount network) h (omega (arith, t .counted .links)))
 
       arrived-is : link - 1 < linkCount network
@@ -145,21 +151,27 @@ module _ {network : List Line} {counts : Counts} {links times : List ℕ} (t : T
           q ∙ rw (e, f, a, t .counted .links, arrived-is (omega arith)) (state-is network ledger boundary link passed room reached h last)
 
 -- ---- what a loaded network gives
-pub state-asked : {network : List Line} {counts : Counts} {links times : List ℕ} → Tabled network counts links times → StateAsked counts links times
+state-asked : {network : List Line} {counts : Counts} {links times : List ℕ} → Tabled network counts links times → StateAsked counts links times
 state-asked {network} {counts} t =
     record {
-      few-links = omega (arith, t .counted .links, t .counted .few-links);
-      few-steps = omega (arith, t .counted .steps, t .counted .few-steps);
+      few-links = t .counted .few .links;
+      few-steps = t .counted .few .steps;
       size = t .link-table .size;
-      rising = times-rise (t .time-table) (counts .steps) (omega (arith, t .counted .steps)) (omega (arith, t .counted .steps, t .counted .few-steps));
+      rising = times-rise (t .time-table) (counts .steps) (omega (arith, t .counted .steps)) (omega (arith, t .counted .few .steps));
     }
 
-module _ {text : List ℕ} {r : NetworkRead} {links movements times : List ℕ} (got : NetworkGot text r links movements times) where
-  pub tabled : {counts : Counts} {signalsAt stepsAt : ℕ} → r ≡ network-read.Loaded counts signalsAt stepsAt → Tabled (lines text) counts links times
-  tabled {counts} {signalsAt} {stepsAt} e =
-      let l = got .loaded counts signalsAt stepsAt e in
+module _ {text : List ℕ} {stage : Stage} {links movements times : List ℕ} (got : Judged (networkChecks (lines text)) (Loaded text links movements times) stage) where
+  tabled : {reading : Reading} → stage ≡ stages.Passed reading → Tabled (lines text) (reading .counts) links times
+  tabled {reading} e =
+      let l = got .held reading e in
       record { counted = l .counted; link-table = l .link-table; time-table = l .time-table; holds = l .holds }
 
-  pub refused-told : (ledger : List ℕ) (boundary link : ℕ) {x y z : ℕ} → r ≡ network-read.Refused x y z → Refused x y z ≡ linkState (lines text) ledger boundary link
-  unfolding networkVerdict
-  refused-told ledger boundary link {x} {y} {z} e = network-refused (lines text) ledger boundary link x y z (rw e at (sym (got .told)))
+  pub refused-told : (ledger : List ℕ) (boundary link : ℕ) {r : Refusal} → stage ≡ stages.Refused r → Refused r ≡ linkState (lines text) ledger boundary link
+  refused-told ledger boundary link {r} e = network-refused (lines text) ledger boundary link r (verdict-refused got e)
+
+  pub told-by : {ledger : List ℕ} {boundary link : ℕ} {answer : LinkAnswer} {reading : Reading} → stage ≡ stages.Passed reading
+      → StateTold (reading .counts) links times ledger boundary link answer → answer ≡ linkState (lines text) ledger boundary link
+  told-by e t = t .told (lines text) (tabled e)
+
+  pub asked-by : {reading : Reading} → stage ≡ stages.Passed reading → StateAsked (reading .counts) links times
+  asked-by e = state-asked (tabled e)

@@ -6,22 +6,24 @@ use mathlib.Core.Bool.{cond}
 use mathlib.Core.List.{List}
 use lib.Dec.{leb, ltb}
 use lib.ListN.{length, getD}
-use Rattle.search.specs.Checks.{Hold}
+use Rattle.search.specs.Checks.{refusal, Hold}
 use Rattle.records.specs.Lines.{Line}
-use Rattle.model.specs.declared.Counts.{Counts}
 use Rattle.model.specs.declared.LinkAnswer.{LinkAnswer}
 use Rattle.model.specs.declared.LinkAnswer.the-variants.{State, Refused}
 use Rattle.model.specs.Test.{_and_}
+use Rattle.model.specs.Network.{maxLinks, maxSteps}
 use Rattle.model.specs.Flows.{entered, left, arrived, held}
 use Rattle.model.specs.Table.{networkChecks}
-use Rattle.model.specs.Tables.{CountsHold, LinkTable, TimeTable}
 use Rattle.model.specs.Calls.{linkState}
-use Rattle.step_lines.specs.Boundaries.{arrivalIn, Rising}
+use Rattle.tables.specs.declared.Counts.{Counts}
+use Rattle.tables.specs.Fields.{linkTableSize, travelTimeIn, standingIn}
+use Rattle.tables.specs.Tables.{CountsHold, LinkTable, TimeTable}
+use Rattle.arrivals.specs.Arrivals.{arrivalIn, Rising}
 
 -- a ledger has the rows up to boundary n, of so many links, and i is one of these
 pub record RowHeld (ledger : List ℕ) (count n i : ℕ) : Type 0 where
-  pub few-boundaries : n ≤ 120
-  pub few-links : count ≤ 24
+  pub few-boundaries : n ≤ maxSteps
+  pub few-links : count ≤ maxLinks
   pub within : i < count
   pub rows : 2 * suc n * count ≤ length ledger
 
@@ -35,24 +37,24 @@ leftIn ledger count n i = getD ledger (2 * n * count + 2 * i + 1) 0
 -- arrived of link i at boundary n: before the travel time what stood on it at the start
 unfoldable pub arrivedIn : List ℕ → List ℕ → List ℕ → ℕ → ℕ → ℕ → ℕ
 arrivedIn links times ledger count n i =
-    cond (ltb (getD times n 0) (getD links (6 * i + 1) 0)) (getD links (6 * i + 5) 0)
-    (enteredIn ledger count (arrivalIn times n (getD links (6 * i + 1) 0)) i)
+    cond (ltb (getD times n 0) (travelTimeIn links i)) (standingIn links i)
+    (enteredIn ledger count (arrivalIn times n (travelTimeIn links i)) i)
 
 -- what the reading of arrived asks
 pub record ArrivedAsked (links times ledger : List ℕ) (count n i : ℕ) : Type 0 where
   pub held : RowHeld ledger count n i
-  pub size : length links ≡ 144
+  pub size : length links ≡ linkTableSize
   pub rising : Rising times n
 
 -- 21, or queued and in transit
 unfoldable pub stateFrom : ℕ → ℕ → ℕ → LinkAnswer
-stateFrom entered left arrived = cond (leb left arrived and leb arrived entered) (State (arrived - left) (entered - arrived)) (Refused 21 0 0)
+stateFrom entered left arrived = cond (leb left arrived and leb arrived entered) (State (arrived - left) (entered - arrived)) (Refused (refusal 21 0 0))
 
 -- what the reading of a state asks of the tables
 pub record StateAsked (counts : Counts) (links times : List ℕ) : Type 0 where
-  pub few-links : counts .links ≤ 24
-  pub few-steps : counts .steps ≤ 120
-  pub size : length links ≡ 144
+  pub few-links : counts .links ≤ maxLinks
+  pub few-steps : counts .steps ≤ maxSteps
+  pub size : length links ≡ linkTableSize
   pub rising : Rising times (counts .steps)
 
 -- the tables are those of a network that has passed

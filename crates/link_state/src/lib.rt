@@ -1,17 +1,23 @@
 // The call that tells the state of one link by a network text and a ledger.
 ghost use mathlib.Core.Path.{_≡_};
-ghost use Prim.Native.Nat.{_*_, _≤_};
+ghost use Prim.Native.Nat.{_+_, _*_, _≤_};
 ghost use Rattle.records.specs.Lines.{lines};
+ghost use Rattle.search.specs.Checks.{refusal};
 ghost use Rattle.model.specs.declared.LinkAnswer.the-variants.{Refused};
+ghost use Rattle.model.specs.Network.{maxLinks, maxSteps};
 ghost use Rattle.model.specs.Calls.{linkState};
 ghost use Rattle.link_state.specs.State.{RowHeld, enteredIn, leftIn, arrivedIn, ArrivedAsked, stateFrom, StateAsked, StateTold};
-use model::Counts;
 use model::LinkAnswer;
-use network::NetworkRead;
+use search::Refusal;
+use tables::Counts;
+use tables::LINK_TABLE_SIZE;
+use tables::MOVEMENT_TABLE_SIZE;
+use tables::Stage;
+use tables::TIME_TABLE_SIZE;
 
 // Where row `n` of a ledger starts.
 fn row_start(n: usize, count: usize) -> usize
-    requires { ⌜ (n ≤ 121) × (count ≤ 24) ⌝ }
+    requires { ⌜ (n ≤ maxSteps + 1) × (count ≤ maxLinks) ⌝ }
     ensures { λ r. ⌜ r ≡ 2 * n * count ⌝ }
 {
     2 * n * count
@@ -40,11 +46,11 @@ fn arrived_in(links: &[u32], times: &[u32], ledger: &[u32], count: usize, n: usi
     requires { ⌜ ArrivedAsked (now links) (now times) (now ledger) count n i ⌝ }
     ensures { λ r. ⌜ r ≡ arrivedIn (now (links .entry)) (now (times .entry)) (now (ledger .entry)) count n i ⌝ }
 {
-    let travel = links[6 * i + 1];
+    let travel = tables::travel_time(links, i);
     if times[n] < travel {
-        return links[6 * i + 5];
+        return tables::standing(links, i);
     }
-    let arrival = step_lines::arrival_boundary(times, 0, n, travel);
+    let arrival = arrivals::arrival_boundary(times, 0, n, travel);
     entered_in(ledger, count, arrival, i)
 }
 
@@ -66,13 +72,9 @@ fn state_from(entered: u32, left: u32, arrived: u32) -> LinkAnswer
 
 // A refusal that names no line and no item.
 fn refused(number: u32) -> LinkAnswer
-    ensures { λ r. ⌜ r ≡ Refused number 0 0 ⌝ }
+    ensures { λ r. ⌜ r ≡ Refused (refusal number 0 0) ⌝ }
 {
-    LinkAnswer::Refused {
-        number,
-        line: 0,
-        item: 0,
-    }
+    LinkAnswer::Refused(Refusal::new(number, 0, 0))
 }
 
 // The state by the tables of a network that has passed: refusals 8, 19, 20 and 21.
@@ -113,15 +115,13 @@ fn state_by(
 pub fn link_state(network: &[u8], ledger: &[u32], boundary: u32, link: u32) -> LinkAnswer
     ensures { λ r. ⌜ r ≡ linkState (lines (now (network .entry))) (now (ledger .entry)) boundary link ⌝ }
 {
-    let mut links = [0u32; 144];
-    let mut movements = [0u32; 256];
-    let mut times = [0u32; 121];
+    let mut links = [0u32; LINK_TABLE_SIZE];
+    let mut movements = [0u32; MOVEMENT_TABLE_SIZE];
+    let mut times = [0u32; TIME_TABLE_SIZE];
     match network::load_network(network, &mut links, &mut movements, &mut times) {
-        NetworkRead::Loaded {
-            counts,
-            signals_at: _,
-            steps_at: _,
-        } => state_by(counts, &links, &times, ledger, boundary, link),
-        NetworkRead::Refused { number, line, item } => LinkAnswer::Refused { number, line, item },
+        Stage::Passed(reading) => {
+            state_by(reading.counts, &links, &times, ledger, boundary, link)
+        }
+        Stage::Refused(refusal) => LinkAnswer::Refused(refusal),
     }
 }

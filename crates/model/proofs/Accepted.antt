@@ -8,7 +8,7 @@ use Rattle.search.specs.Checks.{Hold, table}
 use Rattle.records.specs.Lines.{Line}
 use Rattle.model.specs.Network.{linkCount, signalCount, movementCount, stepCount, signal}
 use Rattle.model.specs.Rules.{validPhases, validSignal, validCounts, validLink, validMovement, validShares, validStep, meetsBoundary, rule10, rule11, rule12, rule13, rule14, rule15Admitted, rule15LetOut, rule15Moved, rule16, rule17, rule18}
-use Rattle.model.specs.Table.{countChecks, signalChecks, linkChecks, movementChecks, shareChecks, stepChecks, boundaryChecks, networkChecks, rules, lineChecks, planLineChecks, planChecks}
+use Rattle.model.specs.Table.{countChecks, signalChecks, linkChecks, movementChecks, shareChecks, stepChecks, boundaryChecks, networkChecks, signalRules, limitRules, sumRules, lineChecks, planLineChecks, planChecks}
 
 -- refusals 2 to 7 do not arise
 pub record ValidNetwork (network : List Line) : Type 0 where
@@ -54,24 +54,24 @@ valid-network network (counts, (signals, (links, (movements, (shares, (steps, (e
       boundaries = boundaries;
     }
 
-pub lawful-step : (network plan : List Line) (n : ℕ) → Hold (table (suc n) (rules network plan n)) → LawfulStep network plan n
-unfolding Hold table rules
-lawful-step network plan n h =
+pub lawful-step : (network plan : List Line) (n : ℕ) → Hold (lineChecks network plan n) → LawfulStep network plan n
+unfolding Hold lineChecks table signalRules limitRules sumRules
+lawful-step network plan n (form, (signals, (limits, sums))) =
     record {
-      keeps10 = h 0 (omega arith);
-      keeps11 = h 1 (omega arith);
-      keeps12 = h 2 (omega arith);
-      keeps13 = h 3 (omega arith);
-      keeps14 = h 4 (omega arith);
-      keeps15Admitted = h 5 (omega arith);
-      keeps15LetOut = h 6 (omega arith);
-      keeps15Moved = h 7 (omega arith);
-      keeps16 = h 8 (omega arith);
-      keeps17 = h 9 (omega arith);
-      keeps18 = h 10 (omega arith);
+      keeps10 = signals 0 (omega arith);
+      keeps11 = signals 1 (omega arith);
+      keeps12 = signals 2 (omega arith);
+      keeps13 = signals 3 (omega arith);
+      keeps14 = signals 4 (omega arith);
+      keeps15Admitted = limits 0 (omega arith);
+      keeps15LetOut = limits 1 (omega arith);
+      keeps15Moved = limits 2 (omega arith);
+      keeps16 = sums 0 (omega arith);
+      keeps17 = sums 1 (omega arith);
+      keeps18 = sums 2 (omega arith);
     }
 
 pub accepted-plan : (network plan : List Line) (size : ℕ) → Hold (planChecks network plan size) → AcceptedPlan network plan
-unfolding Hold planChecks planLineChecks lineChecks
+unfolding Hold planChecks planLineChecks
 accepted-plan network plan size (holds, (ledger, (lines, ended))) =
-    record { valid = valid-network network holds; lawful = λ n l. lawful-step network plan n (lines n l .1) }
+    record { valid = valid-network network holds; lawful = λ n l. lawful-step network plan n (lines n l) }

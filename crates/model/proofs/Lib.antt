@@ -1,7 +1,6 @@
 pub mod Opened
 pub mod Texts
 pub mod Cases
-pub mod Tables
 pub mod MoreCases
 pub mod LedgerCases
 pub mod Witness

@@ -1,17 +1,18 @@
 -- To unfold `opened` is to unfold every definition of the paper, for a proof by computation. Assumes nothing.
 use Rattle.search.specs.Checks.{orElse, firstFrom, checked, verdict, table}
-use Rattle.records.specs.Field.{digit, digits, shift, decimal, leadingZero, numeral, fieldOf}
+use Rattle.records.specs.Field.{digit, digits, shift, decimal, leadingZero, isNumeral, fieldOf}
 use Rattle.records.specs.Lines.{inFront, split, letterOf, lineOf, linesOf, lines, isNumber, allNumbers, isRecord, startsAs, numberOf, number}
+use Rattle.record_writer.specs.Records.{numeral, fieldText, fieldTexts, recordText, recordTexts}
 use Rattle.model.specs.Test.{_and_, _or_, within, every}
 use Rattle.model.specs.Sum.{sum, list, joined}
 use Rattle.model.specs.Network.{entry, linkCount, signalCount, movementCount, stepCount, signalLine, linkLine, movementLine, stepLine, signal, capacity, travelTime, exitRate, signalOf, phaseMask, standing, fromLink, toLink, rate, share, stepLength, demand, time, lastBoundary, arrivalBoundary}
 use Rattle.model.specs.Signals.{phaseOf, opens}
-use Rattle.model.specs.Flows.{shownMask, admitted, letOut, moved, shownIn, signalAt, isOpen, movedInto, movedFrom, inflow, outflow, entered, left, arrived, held, vehicles, allAdmitted, allLetOut, doubledTime, rowOf, row}
+use Rattle.model.specs.Flows.{shownMask, admitted, letOut, moved, shownIn, signalAt, isOpen, movedInto, movedFrom, inflow, outflow, entered, left, arrived, held, vehicles, allAdmitted, allLetOut, doubledTime, totals, rowOf, row}
 use Rattle.model.specs.Rules.{validPhases, validSignal, validCounts, validMask, validLink, pairRises, validMovement, lastMovement, validShares, validStep, meetsBoundary, rule10, rule11, rule12, rule13, rule14, rule15Admitted, rule15LetOut, rule15Moved, rule16, rule17, rule18}
-use Rattle.model.specs.Table.{isForm, countChecks, signalChecks, linkChecks, movementChecks, shareChecks, stepChecks, boundaryChecks, networkChecks, ledgerChecks, rules, lineChecks, planLineChecks, planChecks}
-use Rattle.model.specs.Calls.{networkAnswer, checkNetwork, planAnswer, checkPlan, rowChecks, rowsWritten, written, ledgerAfter, ledgerEntered, ledgerLeft, ledgerArrived, stateChecks, linkAnswer, linkState}
-use Rattle.model.specs.Report.{numeral as printed, numbers, recordText, boundaryText, reportText, report, notRead}
+use Rattle.model.specs.Table.{isForm, countChecks, signalChecks, linkChecks, movementChecks, shareChecks, stepChecks, boundaryChecks, networkChecks, ledgerChecks, signalRules, limitRules, sumRules, lineChecks, planLineChecks, planChecks}
+use Rattle.model.specs.Calls.{checkNetwork, planAnswer, checkPlan, rowChecks, rowsWritten, written, ledgerAfter, ledgerEntered, ledgerLeft, ledgerArrived, stateChecks, linkAnswer, linkState}
+use Rattle.model.specs.Report.{boundaryNumbers, reportText, report, notRead}
 
 unfoldable pub opened : Unit {0}
-unfolding orElse firstFrom checked verdict table digit digits shift decimal leadingZero numeral fieldOf inFront split letterOf lineOf linesOf lines isNumber allNumbers isRecord startsAs numberOf number _and_ _or_ within every sum list joined entry linkCount signalCount movementCount stepCount signalLine linkLine movementLine stepLine signal capacity travelTime exitRate signalOf phaseMask standing fromLink toLink rate share stepLength demand time lastBoundary arrivalBoundary phaseOf opens shownMask admitted letOut moved shownIn signalAt isOpen movedInto movedFrom inflow outflow entered left arrived held vehicles allAdmitted allLetOut doubledTime rowOf row validPhases validSignal validCounts validMask validLink pairRises validMovement lastMovement validShares validStep meetsBoundary rule10 rule11 rule12 rule13 rule14 rule15Admitted rule15LetOut rule15Moved rule16 rule17 rule18 isForm countChecks signalChecks linkChecks movementChecks shareChecks stepChecks boundaryChecks networkChecks ledgerChecks rules lineChecks planLineChecks planChecks networkAnswer checkNetwork planAnswer checkPlan rowChecks rowsWritten written ledgerAfter ledgerEntered ledgerLeft ledgerArrived stateChecks linkAnswer linkState printed numbers recordText boundaryText reportText report notRead
+unfolding orElse firstFrom checked verdict table digit digits shift decimal leadingZero isNumeral fieldOf inFront split letterOf lineOf linesOf lines isNumber allNumbers isRecord startsAs numberOf number _and_ _or_ within every sum list joined entry linkCount signalCount movementCount stepCount signalLine linkLine movementLine stepLine signal capacity travelTime exitRate signalOf phaseMask standing fromLink toLink rate share stepLength demand time lastBoundary arrivalBoundary phaseOf opens shownMask admitted letOut moved shownIn signalAt isOpen movedInto movedFrom inflow outflow entered left arrived held vehicles allAdmitted allLetOut doubledTime totals rowOf row validPhases validSignal validCounts validMask validLink pairRises validMovement lastMovement validShares validStep meetsBoundary rule10 rule11 rule12 rule13 rule14 rule15Admitted rule15LetOut rule15Moved rule16 rule17 rule18 isForm countChecks signalChecks linkChecks movementChecks shareChecks stepChecks boundaryChecks networkChecks ledgerChecks signalRules limitRules sumRules lineChecks planLineChecks planChecks checkNetwork planAnswer checkPlan rowChecks rowsWritten written ledgerAfter ledgerEntered ledgerLeft ledgerArrived stateChecks linkAnswer linkState numeral fieldText fieldTexts recordText recordTexts boundaryNumbers reportText report notRead
 opened = tt

@@ -3,12 +3,16 @@ use mathlib.Core.Path.{_≡_, refl}
 use mathlib.Core.List.{List}
 use Prim.Native.Nat.{ℕ}
 use lib.ListN.{length}
-use Rattle.search.specs.Checks.{Verdict, passes, refused, Hold, verdict}
+use Rattle.search.specs.declared.Refusal.{Refusal}
+use Rattle.search.specs.declared.Verdict.{Verdict}
+use Rattle.search.specs.declared.Verdict.the-variants.{Passes, Refused}
+use Rattle.search.specs.Checks.{Hold, verdict}
 use Rattle.search.proofs.Laws as laws
 use Rattle.records.specs.Lines.{Line}
+use Rattle.model.specs.declared.Totals.{Totals}
 use Rattle.model.specs.declared.PlanAnswer.the-variants as plan-answer
 use Rattle.model.specs.Network.{stepCount}
-use Rattle.model.specs.Flows.{allAdmitted, allLetOut, doubledTime}
+use Rattle.model.specs.Flows.{allAdmitted, allLetOut, doubledTime, totals}
 use Rattle.model.specs.Table.{planChecks}
 use Rattle.model.specs.Calls.{planAnswer, checkPlan, ledgerAfter}
 use Rattle.model.specs.Guarantees.{weight, Guarantees, Promises}
@@ -41,36 +45,31 @@ module _ (network plan : List Line) (accepted : AcceptedPlan network plan) where
 
 module _ (network plan : List Line) where
   -- the verdict by the answer
-  passes-of-accepted : (v : Verdict) (admitted letOut inside time : ℕ) → planAnswer network plan v ≡ plan-answer.Accepted admitted letOut inside time
-      → (v ≡ passes) × (time ≡ doubledTime network plan (stepCount network))
-  unfolding planAnswer
-  passes-of-accepted passes admitted letOut inside time h = (refl, cc)
-  passes-of-accepted (refused x y z) admitted letOut inside time h = (cc, cc)
+  passes-of-accepted : (v : Verdict) (t : Totals) → planAnswer network plan v ≡ plan-answer.Accepted t → (v ≡ Passes) × (t .«doubled_time» ≡ doubledTime network plan (stepCount network))
+  unfolding planAnswer totals
+  passes-of-accepted Passes t h = (refl, cc)
+  passes-of-accepted (Refused r) t h = (cc, cc)
 
-  accepted-of-passes : (v : Verdict) → v ≡ passes
-      → (admitted : ℕ) × (letOut : ℕ) × (inside : ℕ) × (time : ℕ) × (planAnswer network plan v ≡ plan-answer.Accepted admitted letOut inside time)
+  accepted-of-passes : (v : Verdict) → v ≡ Passes → (t : Totals) × (planAnswer network plan v ≡ plan-answer.Accepted t)
   unfolding planAnswer
-  accepted-of-passes passes h = (_, _, _, _, refl)
-  accepted-of-passes (refused x y z) h = (0, 0, 0, 0, cc)
+  accepted-of-passes Passes h = (_, refl)
+  accepted-of-passes (Refused r) h = (totals network plan 0, cc)
 
-  refused-of-refused : (v : Verdict) (number line item : ℕ) → planAnswer network plan v ≡ plan-answer.Refused number line item → v ≡ refused number line item
+  refused-of-refused : (v : Verdict) (r : Refusal) → planAnswer network plan v ≡ plan-answer.Refused r → v ≡ Refused r
   unfolding planAnswer
-  refused-of-refused passes number line item h = cc
-  refused-of-refused (refused x y z) number line item h = cc
+  refused-of-refused Passes r h = cc
+  refused-of-refused (Refused q) r h = cc
 
   pub promises : (old : List ℕ) → Promises network plan old (ledgerAfter network plan old) (checkPlan network plan (length old))
   unfolding checkPlan
   promises old =
       let c = planChecks network plan (length old) in
-      let holds : (admitted letOut inside time : ℕ) → planAnswer network plan (verdict c) ≡ plan-answer.Accepted admitted letOut inside time → Hold c =
-      λ admitted letOut inside time h. laws.hold-of-passes c (passes-of-accepted (verdict c) admitted letOut inside time h .0) in
+      let holds : (t : Totals) → planAnswer network plan (verdict c) ≡ plan-answer.Accepted t → Hold c = λ t h. laws.hold-of-passes c (passes-of-accepted (verdict c) t h .0) in
       record {
         accepted-holds = holds;
         holds-accepted = λ h. accepted-of-passes (verdict c) (laws.passes-of-hold c h);
-        refused-first = λ number line item h. laws.refused-first c number line item (refused-of-refused (verdict c) number line item h);
-        refused-number = λ number line item h.
-            refused-number c number line item (plan-numbered network plan (length old)) (refused-of-refused (verdict c) number line item h);
-        guaranteed = λ admitted letOut inside time h.
-            rw (passes-of-accepted (verdict c) admitted letOut inside time h .1) (guarantees network plan (accepted-plan network plan (length old) (holds admitted letOut inside time h)));
+        refused-first = λ r h. laws.refused-first c r (refused-of-refused (verdict c) r h);
+        refused-number = λ r h. refused-number c r (plan-numbered network plan (length old)) (refused-of-refused (verdict c) r h);
+        guaranteed = λ t h. rw (passes-of-accepted (verdict c) t h .1) (guarantees network plan (accepted-plan network plan (length old) (holds t h)));
         ledger = ledger-promises network plan old;
       }

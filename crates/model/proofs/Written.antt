@@ -10,7 +10,10 @@ use native.Mathlib.Omega.{arith}
 use borrow.Author.Tests.{leb-true}
 use lib.ListN.{length, getD, drop}
 use lib.Seq.{getD-append-add, getD-drop}
-use Rattle.search.specs.Checks.{Verdict, passes, refused, Checks, Hold, verdict}
+use Rattle.search.specs.declared.Refusal.{Refusal}
+use Rattle.search.specs.declared.Verdict.{Verdict}
+use Rattle.search.specs.declared.Verdict.the-variants.{Passes, Refused}
+use Rattle.search.specs.Checks.{Checks, Hold, verdict}
 use Rattle.search.proofs.Laws.{hold-of-passes, passes-of-hold}
 use Rattle.records.specs.Lines.{Line}
 use Rattle.model.specs.Sum.{joined}
@@ -22,9 +25,9 @@ use Rattle.model.specs.Guarantees.{RowDue, placeOf, LedgerPromises}
 use Rattle.model.proofs.Sums.{count-holds, holds-count}
 use Rattle.model.proofs.Rows.{length-rows, written-at, length-written}
 
-verdict-passed : (v : Verdict) → isPassed v ≡ true → v ≡ passes
-verdict-passed passes h = refl
-verdict-passed (refused x y z) h = cc
+verdict-passed : (v : Verdict) → isPassed v ≡ true → v ≡ Passes
+verdict-passed Passes h = refl
+verdict-passed (Refused r) h = cc
 
 passed-holds : (c : Checks) → isPassed (verdict c) ≡ true → Hold c
 passed-holds c h = hold-of-passes c (verdict-passed (verdict c) h)
@@ -33,8 +36,8 @@ holds-passed : (c : Checks) → Hold c → isPassed (verdict c) ≡ true
 holds-passed c h = rw (passes-of-hold c h)
 
 -- checks that are refused do not all hold
-pub refused-fails : (c : Checks) (x y z : ℕ) → verdict c ≡ refused x y z → Hold c → ⊥
-refused-fails c x y z v h = let e = passes-of-hold c h in let z : _≡_ {A = ℕ} 0 1 = cc in omega arith
+pub refused-fails : (c : Checks) (r : Refusal) → verdict c ≡ Refused r → Hold c → ⊥
+refused-fails c r v h = let e = passes-of-hold c h in let z : _≡_ {A = ℕ} 0 1 = cc in omega arith
 
 module _ (network plan : List Line) (size : ℕ) where
   earlier : (m n : ℕ) → m ≤ n → isPassed (verdict (rowChecks network plan size n)) ≡ true → isPassed (verdict (rowChecks network plan size m)) ≡ true

@@ -4,10 +4,10 @@ use mathlib.Core.Bool.{Bool, true, false, cond}
 use mathlib.Core.List.{List, _++_}
 use lib.Dec.{leb, ltb}
 use lib.ListN.{length, getD, drop}
-use Rattle.search.specs.Checks.{Verdict, passes, refused, Checks, check, each, _then_, verdict}
+use Rattle.search.specs.declared.Verdict.{Verdict}
+use Rattle.search.specs.declared.Verdict.the-variants.{Passes, Refused}
+use Rattle.search.specs.Checks.{Checks, check, each, _then_, verdict}
 use Rattle.records.specs.Lines.{Line}
-use Rattle.model.specs.declared.NetworkAnswer.{NetworkAnswer}
-use Rattle.model.specs.declared.NetworkAnswer.the-variants as network-answer
 use Rattle.model.specs.declared.PlanAnswer.{PlanAnswer}
 use Rattle.model.specs.declared.PlanAnswer.the-variants as plan-answer
 use Rattle.model.specs.declared.LinkAnswer.{LinkAnswer}
@@ -15,24 +15,18 @@ use Rattle.model.specs.declared.LinkAnswer.the-variants as link-answer
 use Rattle.model.specs.Test.{_and_, within}
 use Rattle.model.specs.Sum.{sum, only, joined}
 use Rattle.model.specs.Network.{linkCount, stepCount, travelTime, standing, time, arrivalBoundary}
-use Rattle.model.specs.Flows.{vehicles, allAdmitted, allLetOut, doubledTime, row}
+use Rattle.model.specs.Flows.{totals, row}
 use Rattle.model.specs.Table.{networkChecks, ledgerChecks, lineChecks, planChecks}
 
 -- ---- check a network
-unfoldable pub networkAnswer : Verdict → NetworkAnswer
-networkAnswer passes = network-answer.Valid
-networkAnswer (refused number line item) = network-answer.Refused number line item
-
-unfoldable pub checkNetwork : List Line → NetworkAnswer
-checkNetwork network = networkAnswer (verdict (networkChecks network))
+unfoldable pub checkNetwork : List Line → Verdict
+checkNetwork network = verdict (networkChecks network)
 
 -- ---- check a plan
--- an accepted plan is told with the four totals: admitted, let out, vehicles in the network at the end, doubled travel time
+-- an accepted plan is told with the four totals
 unfoldable pub planAnswer : List Line → List Line → Verdict → PlanAnswer
-planAnswer network plan passes =
-    plan-answer.Accepted (sum (stepCount network) (allAdmitted network plan)) (sum (stepCount network) (allLetOut network plan))
-    (vehicles network plan (stepCount network)) (doubledTime network plan (stepCount network))
-planAnswer network plan (refused number line item) = plan-answer.Refused number line item
+planAnswer network plan Passes = plan-answer.Accepted (totals network plan (stepCount network))
+planAnswer network plan (Refused r) = plan-answer.Refused r
 
 -- with a ledger of so many numbers
 unfoldable pub checkPlan : List Line → List Line → ℕ → PlanAnswer
@@ -40,8 +34,8 @@ checkPlan network plan size = planAnswer network plan (verdict (planChecks netwo
 
 -- whether a verdict passes
 abbrev pub isPassed : Verdict → Bool
-isPassed passes = true
-isPassed (refused number line item) = false
+isPassed Passes = true
+isPassed (Refused r) = false
 
 -- what comes before row n: the network's checks, the ledger's length, and steps 1 to n
 unfoldable pub rowChecks : List Line → List Line → ℕ → ℕ → Checks
@@ -83,8 +77,8 @@ module _ (network : List Line) (ledger : List ℕ) (boundary link : ℕ) where
 
   -- queued (the paper's standing) and in transit (its moving)
   unfoldable pub linkAnswer : Verdict → LinkAnswer
-  linkAnswer passes = link-answer.State (ledgerArrived - ledgerLeft) (ledgerEntered boundary - ledgerArrived)
-  linkAnswer (refused number line item) = link-answer.Refused number line item
+  linkAnswer Passes = link-answer.State (ledgerArrived - ledgerLeft) (ledgerEntered boundary - ledgerArrived)
+  linkAnswer (Refused r) = link-answer.Refused r
 
   unfoldable pub linkState : LinkAnswer
   linkState = linkAnswer (verdict stateChecks)

@@ -5,6 +5,7 @@ use mathlib.Core.Bool.{Bool}
 use lib.Dec.{eqb}
 use Rattle.records.specs.Lines.{Line}
 use Rattle.model.specs.declared.Signal.{Signal}
+use Rattle.model.specs.declared.Totals.{Totals}
 use Rattle.model.specs.Test.{_or_}
 use Rattle.model.specs.Sum.{sum, only}
 use Rattle.model.specs.Network.{entry, linkCount, signalCount, movementCount, signal, signalOf, phaseMask, standing, fromLink, toLink, stepLength, arrivalBoundary}
@@ -19,10 +20,10 @@ module _ (network plan : List Line) where
   admitted n i = entry plan n (signalCount network + i)
 
   unfoldable pub letOut : ℕ → ℕ → ℕ
-  letOut n i = entry plan n (signalCount network + linkCount network + i)
+  letOut n i = entry plan n (signalCount network + (linkCount network + i))
 
   unfoldable pub moved : ℕ → ℕ → ℕ
-  moved n j = entry plan n (signalCount network + 2 * linkCount network + j)
+  moved n j = entry plan n (signalCount network + (2 * linkCount network + j))
 
   -- the phase that signal r shows in step n; 0 where its mask is not one phase
   unfoldable pub shownIn : ℕ → ℕ → ℕ
@@ -80,6 +81,10 @@ module _ (network plan : List Line) where
   -- the doubled travel time of the first n steps: length × (vehicles at its start + vehicles at its end), over the steps
   unfoldable pub doubledTime : ℕ → ℕ
   doubledTime n = sum n (λ m. stepLength network m * (vehicles m + vehicles (suc m)))
+
+  -- the four totals of the first n steps: admitted, let out, vehicles in the network at their end, doubled travel time
+  unfoldable pub totals : ℕ → Totals
+  totals n = record { admitted = sum n allAdmitted; «let_out» = sum n allLetOut; inside = vehicles n; «doubled_time» = doubledTime n }
 
   -- row n of the ledger: entered and left of each link, in link order; k of them are the first k numbers
   unfoldable pub rowOf : ℕ → ℕ → List ℕ

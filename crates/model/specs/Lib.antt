@@ -5,7 +5,6 @@ pub mod Signals
 pub mod Flows
 pub mod Rules
 pub mod Table
-pub mod Tables
 pub mod Calls
 pub mod Report
 pub mod Guarantees

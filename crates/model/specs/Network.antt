@@ -9,6 +9,19 @@ use Rattle.records.specs.Lines.{Line, noLine, number}
 use Rattle.model.specs.declared.Signal.{Signal}
 use Rattle.model.specs.Sum.{sum, list}
 
+-- the limits: links, signals, movements, steps
+abbrev pub maxLinks : ℕ
+maxLinks = 24
+
+abbrev pub maxSignals : ℕ
+maxSignals = 8
+
+abbrev pub maxMovements : ℕ
+maxMovements = 64
+
+abbrev pub maxSteps : ℕ
+maxSteps = 120
+
 -- number k of line i
 unfoldable pub entry : List Line → ℕ → ℕ → ℕ
 entry text i k = number (getD text i noLine) k
@@ -32,13 +45,13 @@ module _ (network : List Line) where
   signalLine r = 1 + r
 
   unfoldable pub linkLine : ℕ → ℕ
-  linkLine i = 1 + signalCount + i
+  linkLine i = 1 + (signalCount + i)
 
   unfoldable pub movementLine : ℕ → ℕ
-  movementLine j = 1 + signalCount + linkCount + j
+  movementLine j = 1 + (signalCount + (linkCount + j))
 
   unfoldable pub stepLine : ℕ → ℕ
-  stepLine n = 1 + signalCount + linkCount + movementCount + n
+  stepLine n = 1 + (signalCount + (linkCount + (movementCount + n)))
 
   -- signal r before the plan, by its `G` line; the times of a phase past 8 are not kept
   unfoldable pub signal : ℕ → Signal

@@ -8,7 +8,7 @@ use Rattle.records.specs.Lines.{Line}
 use Rattle.model.specs.declared.Signal.{Signal}
 use Rattle.model.specs.Test.{_and_, _or_, within, every}
 use Rattle.model.specs.Sum.{sum, only}
-use Rattle.model.specs.Network.{linkCount, signalCount, movementCount, stepCount, signal, capacity, travelTime, exitRate, signalOf, phaseMask, standing, fromLink, toLink, rate, share, stepLength, demand, time, lastBoundary}
+use Rattle.model.specs.Network.{maxLinks, maxSignals, maxMovements, maxSteps, linkCount, signalCount, movementCount, stepCount, signal, capacity, travelTime, exitRate, signalOf, phaseMask, standing, fromLink, toLink, rate, share, stepLength, demand, time, lastBoundary}
 use Rattle.model.specs.Signals.{greatestTime, showsOnePhase, keepsOrder, keepsLeastTime, keepsGreatestTime, keepsCycle}
 use Rattle.model.specs.Flows.{admitted, letOut, moved, shownIn, signalAt, isOpen, movedFrom, entered, left, arrived}
 
@@ -30,7 +30,8 @@ module _ (network : List Line) where
   -- 2: L 1 to 24, R 0 to 8, M 0 to 64, K 1 to 120
   unfoldable pub validCounts : Bool
   validCounts =
-      within 1 (linkCount network) 24 and leb (signalCount network) 8 and leb (movementCount network) 64 and within 1 (stepCount network) 120
+      within 1 (linkCount network) maxLinks and leb (signalCount network) maxSignals and leb (movementCount network) maxMovements
+      and within 1 (stepCount network) maxSteps
 
   -- 4, the mask of link i: 0 without a signal; with one not 0, and no phase above its P
   unfoldable pub validMask : ℕ → Bool

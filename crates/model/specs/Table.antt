@@ -14,6 +14,11 @@ use Rattle.model.specs.Rules.{validPhases, validSignal, validCounts, val
 unfoldable pub isForm : List Line → ℕ → ℕ → ℕ → Bool
 isForm text i letter k = isRecord letter k (getD text i noLine)
 
+-- a line that is a record: its form (1), then its values, refused by a number and an item
+abbrev pub recordChecks : List Line → ℕ → ℕ → ℕ → ℕ → ℕ → Bool → Checks
+recordChecks text line letter width number item valid =
+    check 1 (suc line) 0 (isForm text line letter width) then check number (suc line) item valid
+
 -- the letters of the records
 abbrev pub letterN : ℕ
 letterN = 78
@@ -36,7 +41,7 @@ letterP = 80
 module _ (network : List Line) where
   -- the `N` line
   unfoldable pub countChecks : Checks
-  countChecks = check 1 1 0 (isForm network 0 letterN 4) then check 2 1 0 (validCounts network)
+  countChecks = recordChecks network 0 letterN 4 2 0 (validCounts network)
 
   -- `G` line r: a line whose first seven fields are good gets 3 for a bad P before 1 for anything later in it
   unfoldable pub signalChecks : ℕ → Checks
@@ -48,15 +53,11 @@ module _ (network : List Line) where
 
   -- `Q` line i
   unfoldable pub linkChecks : ℕ → Checks
-  linkChecks i =
-      check 1 (suc (linkLine network i)) 0 (isForm network (linkLine network i) letterQ 6)
-      then check 4 (suc (linkLine network i)) (suc i) (validLink network i)
+  linkChecks i = recordChecks network (linkLine network i) letterQ 6 4 (suc i) (validLink network i)
 
   -- `M` line j
   unfoldable pub movementChecks : ℕ → Checks
-  movementChecks j =
-      check 1 (suc (movementLine network j)) 0 (isForm network (movementLine network j) letterM 4)
-      then check 5 (suc (movementLine network j)) (suc j) (validMovement network j)
+  movementChecks j = recordChecks network (movementLine network j) letterM 4 5 (suc j) (validMovement network j)
 
   -- the shares of link i, told at its last movement, whose line from 1 is `movementLine` of its number from 1
   unfoldable pub shareChecks : ℕ → Checks
@@ -65,9 +66,7 @@ module _ (network : List Line) where
 
   -- `S` line n
   unfoldable pub stepChecks : ℕ → Checks
-  stepChecks n =
-      check 1 (suc (stepLine network n)) 0 (isForm network (stepLine network n) letterS (1 + linkCount network))
-      then check 6 (suc (stepLine network n)) (suc n) (validStep network n)
+  stepChecks n = recordChecks network (stepLine network n) letterS (1 + linkCount network) 6 (suc n) (validStep network n)
 
   -- 7, at the end of step n, by rising link
   unfoldable pub boundaryChecks : ℕ → Checks
@@ -90,18 +89,28 @@ module _ (network : List Line) where
   ledgerChecks size = check 8 0 0 (leb (2 * suc (stepCount network) * linkCount network) size)
 
 module _ (network plan : List Line) where
-  -- rules 10 to 18 at step n, by number; rule 15 takes admitted, then let out, then movements
-  unfoldable pub rules : ℕ → List Rule
-  rules n =
+  -- the rules at step n, by number: 10 to 14 of the signals ..
+  unfoldable pub signalRules : ℕ → List Rule
+  signalRules n =
       record { number = 10; items = signalCount network; holds = rule10 network plan n }
       ∷ record { number = 11; items = signalCount network; holds = rule11 network plan n }
       ∷ record { number = 12; items = signalCount network; holds = rule12 network plan n }
       ∷ record { number = 13; items = signalCount network; holds = rule13 network plan n }
       ∷ record { number = 14; items = signalCount network; holds = rule14 network plan n }
-      ∷ record { number = 15; items = linkCount network; holds = rule15Admitted network plan n }
+      ∷ []
+
+  -- .. 15, the limits of the volumes: admitted, then let out, then movements ..
+  unfoldable pub limitRules : ℕ → List Rule
+  limitRules n =
+      record { number = 15; items = linkCount network; holds = rule15Admitted network plan n }
       ∷ record { number = 15; items = linkCount network; holds = rule15LetOut network plan n }
       ∷ record { number = 15; items = movementCount network; holds = rule15Moved network plan n }
-      ∷ record { number = 16; items = movementCount network; holds = rule16 network plan n }
+      ∷ []
+
+  -- .. and 16 to 18, by sums of volumes
+  unfoldable pub sumRules : ℕ → List Rule
+  sumRules n =
+      record { number = 16; items = movementCount network; holds = rule16 network plan n }
       ∷ record { number = 17; items = linkCount network; holds = rule17 network plan n }
       ∷ record { number = 18; items = linkCount network; holds = rule18 network plan n }
       ∷ []
@@ -109,7 +118,10 @@ module _ (network plan : List Line) where
   -- line n of the plan: 9, its form of 1 + R + 2L + M fields; then its rules
   unfoldable pub lineChecks : ℕ → Checks
   lineChecks n =
-      check 9 (suc n) 0 (isForm plan n letterP (signalCount network + 2 * linkCount network + movementCount network)) then table (suc n) (rules n)
+      check 9 (suc n) 0 (isForm plan n letterP (signalCount network + (2 * linkCount network + movementCount network)))
+      then table (suc n) (signalRules n)
+      then table (suc n) (limitRules n)
+      then table (suc n) (sumRules n)
 
   -- the plan's lines, and nothing after them
   unfoldable pub planLineChecks : Checks

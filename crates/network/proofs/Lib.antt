@@ -1,4 +1,2 @@
-mod Stages
 mod End
-mod Blocks
-mod Whole
+mod Chain

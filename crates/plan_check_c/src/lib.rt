@@ -6,8 +6,8 @@ ghost use Rattle.model.specs.Calls.{checkNetwork, checkPlan, ledgerAfter, linkS
 ghost use Rattle.model.specs.Guarantees.{Promises};
 ghost use Rattle.plan_check_c.specs.Results.{networkResult, planResult, planAnswerOf, linkResult};
 use model::LinkAnswer;
-use model::NetworkAnswer;
 use model::PlanAnswer;
+use search::Verdict;
 
 // The answer of a network's check; number 0: the network is valid.
 #[repr(C)]
@@ -44,12 +44,16 @@ pub extern "C" fn plancheck_check_network(network: &[u8]) -> NetworkResult
     ensures { λ r. ⌜ r ≡ networkResult (checkNetwork (lines (now (network .entry)))) ⌝ }
 {
     match network::check_network(network) {
-        NetworkAnswer::Valid => NetworkResult {
+        Verdict::Passes => NetworkResult {
             number: 0,
             line: 0,
             item: 0,
         },
-        NetworkAnswer::Refused { number, line, item } => NetworkResult { number, line, item },
+        Verdict::Refused(refusal) => NetworkResult {
+            number: refusal.number,
+            line: refusal.line,
+            item: refusal.item,
+        },
     }
 }
 
@@ -64,24 +68,19 @@ pub extern "C" fn plancheck_check_plan(
     ensures { λ r. ⌜ Promises (lines (now (network .entry))) (lines (now (plan .entry))) (now (ledger .entry)) (now (ledger .exit)) (planAnswerOf r) ⌝ }
 {
     match plan_check::check_plan(network, plan, ledger) {
-        PlanAnswer::Accepted {
-            admitted,
-            let_out,
-            inside,
-            doubled_time,
-        } => PlanResult {
+        PlanAnswer::Accepted(totals) => PlanResult {
             number: 0,
             line: 0,
             item: 0,
-            admitted,
-            let_out,
-            inside,
-            doubled_time,
+            admitted: totals.admitted,
+            let_out: totals.let_out,
+            inside: totals.inside,
+            doubled_time: totals.doubled_time,
         },
-        PlanAnswer::Refused { number, line, item } => PlanResult {
-            number,
-            line,
-            item,
+        PlanAnswer::Refused(r) => PlanResult {
+            number: r.number,
+            line: r.line,
+            item: r.item,
             admitted: 0,
             let_out: 0,
             inside: 0,
@@ -107,10 +106,10 @@ pub extern "C" fn plancheck_link_state(
             queued,
             in_transit,
         },
-        LinkAnswer::Refused { number, line, item } => LinkResult {
-            number,
-            line,
-            item,
+        LinkAnswer::Refused(r) => LinkResult {
+            number: r.number,
+            line: r.line,
+            item: r.item,
             queued: 0,
             in_transit: 0,
         },

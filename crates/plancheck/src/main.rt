@@ -1,4 +1,4 @@
 // Checks the plan of `plan.tsv` on the network of `network.tsv`, both in the folder that it is run in.
 fn main() {
-    program_files::run(b"network.tsv", b"plan.tsv");
+    plancheck_files::run(b"network.tsv", b"plan.tsv");
 }

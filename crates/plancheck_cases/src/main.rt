@@ -3,7 +3,7 @@
 // Prints a case's name, and then what the program prints of its two files.
 fn case(name: &[u8], network: &[u8], plan: &[u8]) {
     io::write_all(1, name);
-    program_files::run(network, plan);
+    plancheck_files::run(network, plan);
 }
 
 // c1 to c11, c9 once with a capacity of 5000 and once with 4999.

@@ -30,7 +30,7 @@ unfoldable pub others : List ℕ → List Field
 others bs = map fieldOf (drop 1 (split 9 (piece bs)))
 
 -- ---- split
-split-headed : (c : ℕ) (bs : List ℕ) → split c bs ≡ getD (split c bs) 0 [] ∷ drop 1 (split c bs)
+pub split-headed : (c : ℕ) (bs : List ℕ) → split c bs ≡ getD (split c bs) 0 [] ∷ drop 1 (split c bs)
 unfolding split inFront
 split-headed c [] = refl
 split-headed c (b ∷ bs) = by (eqb b c) (split c bs)
@@ -40,11 +40,11 @@ split-headed c (b ∷ bs) = by (eqb b c) (split c bs)
     by false [] = refl
     by false (p ∷ ps) = refl
 
-split-here : (c : ℕ) (bs : List ℕ) → split c (c ∷ bs) ≡ [] ∷ split c bs
+pub split-here : (c : ℕ) (bs : List ℕ) → split c (c ∷ bs) ≡ [] ∷ split c bs
 unfolding split inFront
 split-here c bs = rw (eq-eqb c c refl)
 
-split-on : (c b : ℕ) (bs : List ℕ) → b ≢ c → split c (b ∷ bs) ≡ (b ∷ getD (split c bs) 0 []) ∷ drop 1 (split c bs)
+pub split-on : (c b : ℕ) (bs : List ℕ) → b ≢ c → split c (b ∷ bs) ≡ (b ∷ getD (split c bs) 0 []) ∷ drop 1 (split c bs)
 unfolding split inFront
 split-on c b bs h = rw (ne-eqb b c h) (ap (inFront false b) (split-headed c bs))
 

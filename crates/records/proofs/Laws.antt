@@ -8,7 +8,7 @@ use native.Mathlib.Nat.{add-zero}
 use native.Mathlib.Omega.{arith}
 use borrow.Author.Tests.{eqb-true, eqb-false, eq-eqb, ne-eqb, leb-true, le-leb}
 use lib.Dec.{eqb, leb}
-use lib.ListN.{length, take, drop, getD, length-drop, drop-of-length-le}
+use lib.ListN.{length, take, drop, getD, length-drop, drop-of-length-le, List·getD-eq-default}
 use lib.Seq.{drop-drop, getD-drop}
 use Rattle.records.specs.declared.Field.{Field}
 use Rattle.records.specs.declared.Field.the-variants.{Number, NoNumber}
@@ -76,6 +76,11 @@ module _ (letter n : ℕ) (line : Line) where
 
   pub record-numbers : isRecord letter n line ≡ true → Numbered n line (leadingAs letter n line)
   record-numbers e = head-numbers (record-starts n (omega arith) e)
+
+  -- it has no number past its last
+  pub record-past : isRecord letter n line ≡ true → (k : ℕ) → n ≤ k → number line k ≡ 0
+  unfolding number numberOf
+  record-past e k h = ap numberOf (List·getD-eq-default (line .fields) NoNumber (omega (arith, parts letter n line e .count)))
 
 -- ---- what a read tells
 -- a line that was read

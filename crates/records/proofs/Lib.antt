@@ -1,6 +1,6 @@
-mod Bytes
+pub mod Bytes
 mod Places
-mod Numerals
+pub mod Numerals
 pub mod Fill
 pub mod Laws
 mod Tests

@@ -11,7 +11,7 @@ use borrow.Author.Tests.{lt-ltb, le-leb, lt-leb, leb-true, ne-eqb}
 use lib.Dec.{leb}
 use lib.ListN.{length}
 use Rattle.records.specs.declared.Field.the-variants.{Number, NoNumber}
-use Rattle.records.specs.Field.{digit, digits, shift, decimal, largest, leadingZero, numeral, fieldOf}
+use Rattle.records.specs.Field.{digit, digits, shift, decimal, largest, leadingZero, isNumeral, fieldOf}
 use Rattle.records.specs.Reading.{worth}
 
 -- a byte that is a digit
@@ -76,24 +76,24 @@ worth-long v bs h l =
     rw (lt-leb (foldl shift v bs) largest (omega arith), and-false)
 
 pub field-none : fieldOf [] ≡ NoNumber
-unfolding fieldOf numeral
+unfolding fieldOf isNumeral
 field-none = refl
 
 pub field-zero : fieldOf (48 ∷ []) ≡ Number 0
-unfolding fieldOf numeral leadingZero digits digit decimal shift
+unfolding fieldOf isNumeral leadingZero digits digit decimal shift
 field-zero = refl
 
 pub field-leading : (c : ℕ) (bs : List ℕ) → fieldOf (48 ∷ c ∷ bs) ≡ NoNumber
-unfolding fieldOf numeral leadingZero
+unfolding fieldOf isNumeral leadingZero
 field-leading c bs = rw (lt-ltb 1 (length (48 ∷ c ∷ bs)) (omega arith), and-false)
 
 module _ (b : ℕ) (bs : List ℕ) where
   pub field-not : digit b ≡ false → fieldOf (b ∷ bs) ≡ NoNumber
-  unfolding fieldOf numeral digits
+  unfolding fieldOf isNumeral digits
   field-not e = rw (e, and-false)
 
   pub field-rest : digit b ≡ true → b ≢ 48 → fieldOf (b ∷ bs) ≡ worth (0 * 10 + (b - 48)) bs
-  unfolding fieldOf numeral leadingZero digits decimal shift
+  unfolding fieldOf isNumeral leadingZero digits decimal shift
   field-rest e h = elim (decLe (length bs) 9) [
     | yes s ↦ rw (le-leb 1 (length (b ∷ bs)) (omega arith), le-leb (length (b ∷ bs)) 10 (omega arith), ne-eqb b 48 h, e, and-false) (unfold worth in refl)
     | no s ↦ rw (lt-leb (length (b ∷ bs)) 10 (omega arith), and-false) (sym (worth-long _ bs (omega (arith, digit-bounds b e)) (omega arith)))

@@ -33,9 +33,9 @@ unfoldable pub leadingZero : List ℕ → Bool
 leadingZero bs = ltb 1 (length bs) && eqb (getD bs 0 0) 48
 
 -- the grammar of a number: one to ten digits with no leading zero, at most the largest
-unfoldable pub numeral : List ℕ → Bool
-numeral bs = leb 1 (length bs) && leb (length bs) 10 && not (leadingZero bs) && digits bs && leb (decimal bs) largest
+unfoldable pub isNumeral : List ℕ → Bool
+isNumeral bs = leb 1 (length bs) && leb (length bs) 10 && not (leadingZero bs) && digits bs && leb (decimal bs) largest
 
 -- what a field says
 unfoldable pub fieldOf : List ℕ → Field
-fieldOf bs = cond (numeral bs) (Number (decimal bs)) NoNumber
+fieldOf bs = cond (isNumeral bs) (Number (decimal bs)) NoNumber

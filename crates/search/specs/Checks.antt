@@ -2,14 +2,16 @@
 use mathlib.Core.Path.{_≡_}
 use mathlib.Core.Bool.{Bool, true, false}
 use mathlib.Core.Logic.{_⊎_}
-use mathlib.Core.List.{List, []}
+use mathlib.Core.List.{List}
 use Prim.Native.Nat.{ℕ, zero, suc, _+_, _<_}
 use lib.ListN.{length, getD}
+use Rattle.search.specs.declared.Refusal.{Refusal}
+use Rattle.search.specs.declared.Verdict.{Verdict}
+use Rattle.search.specs.declared.Verdict.the-variants.{Passes, Refused}
 
--- What checks say: all pass, or the refusal of the first that does not.
-pub data Verdict : Type 0 where
-  passes : Verdict
-  refused : ℕ → ℕ → ℕ → Verdict  -- the paper's number, line and item
+-- the refusal with the paper's number, line and item
+abbrev pub refusal : ℕ → ℕ → ℕ → Refusal
+refusal number line item = record { number = number; line = line; item = item }
 
 infixr 20 _then_
 -- Checks in the order in which they are taken.
@@ -20,17 +22,17 @@ pub data Checks : Type 0 where
 
 -- the verdict v, and where it passes, that of what comes after
 unfoldable pub orElse : Verdict → Verdict → Verdict
-orElse passes later = later
-orElse (refused number line item) later = refused number line item
+orElse Passes later = later
+orElse (Refused r) later = Refused r
 
 -- the first refusal of n verdicts from index i on
 unfoldable pub firstFrom : (ℕ → Verdict) → ℕ → ℕ → Verdict
-firstFrom f zero i = passes
+firstFrom f zero i = Passes
 firstFrom f (suc n) i = orElse (f i) (firstFrom f n (i + 1))
 
 unfoldable pub checked : Bool → ℕ → ℕ → ℕ → Verdict
-checked true number line item = passes
-checked false number line item = refused number line item
+checked true number line item = Passes
+checked false number line item = Refused (refusal number line item)
 
 -- the first check that is broken
 unfoldable pub verdict : Checks → Verdict
@@ -44,11 +46,11 @@ Hold (check number line item holds) = holds ≡ true
 Hold (each n f) = (i : ℕ) → i < n → Hold (f i)
 Hold (a then b) = Hold a × Hold b
 
--- the refusal with this number, line and item is that of a check that does not hold, and every check before it holds
-unfoldable pub FirstBroken : Checks → ℕ → ℕ → ℕ → Type 0
-FirstBroken (check number line item holds) x y z = (holds ≡ false) × (x ≡ number) × (y ≡ line) × (z ≡ item)
-FirstBroken (each n f) x y z = (i : ℕ) × (i < n) × FirstBroken (f i) x y z × ((k : ℕ) → k < i → Hold (f k))
-FirstBroken (a then b) x y z = FirstBroken a x y z ⊎ (Hold a × FirstBroken b x y z)
+-- the refusal is that of a check that does not hold, and every check before it holds
+unfoldable pub FirstBroken : Checks → Refusal → Type 0
+FirstBroken (check number line item holds) r = (holds ≡ false) × (r ≡ refusal number line item)
+FirstBroken (each n f) r = (i : ℕ) × (i < n) × FirstBroken (f i) r × ((k : ℕ) → k < i → Hold (f k))
+FirstBroken (a then b) r = FirstBroken a r ⊎ (Hold a × FirstBroken b r)
 
 -- One rule of a table: its refusal number, to how many items it is put, and whether it holds of an item. Items are counted from 0 here, from 1 in a refusal.
 pub record Rule : Type 0 where

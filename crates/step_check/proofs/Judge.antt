@@ -1,86 +1,64 @@
--- The searches of a step as one judgement. Assumes nothing.
-use Prim.Native.Nat.{ℕ, _*_}
-use mathlib.Core.Path.{_≡_, refl, sym, ap, ap₂, _∙_}
+-- The searches of a step as one judgement, for each way out. Assumes nothing.
+use Prim.Native.Nat.{ℕ, suc, _+_}
+use mathlib.Core.Path.{_≡_, refl, sym, _∙_}
 use mathlib.Core.List.{List}
+use native.Mathlib.Numerals.{add-one}
 use native.Mathlib.Omega.{arith}
-use lib.ListN.{getD}
-use Rattle.search.specs.Checks.{Verdict, passes, refused, orElse}
+use Rattle.search.specs.declared.Refusal.{Refusal}
+use Rattle.search.specs.declared.Verdict.{Verdict}
+use Rattle.search.specs.declared.Verdict.the-variants.{Passes, Refused}
+use Rattle.search.specs.Checks.{verdict, table}
 use Rattle.search.proofs.Laws.{or-else-passes, or-else-refused}
-use Rattle.model.specs.declared.Counts.{Counts}
 use Rattle.model.specs.declared.Signal.{Signal}
-use Rattle.rows.specs.Rows.{Fits}
-use Rattle.flows.specs.Tests.{lineRule, flowRule, FlowTables}
-use Rattle.step_check.specs.declared.Judgement.{Judgement}
-use Rattle.step_check.specs.declared.Judgement.the-variants.{Kept, Broken}
-use Rattle.step_check.specs.Search.{rulesVerdict, judgementVerdict}
-use Rattle.step_check.specs.Step.{signalHolds, lineHolds, SignalTables, StepTables, rowFrom, madeRow, lineVerdict, flowVerdict, JudgeAsked, Judged}
-use Rattle.step_check.proofs.Items.{holds-signal, holds-line}
-use Rattle.step_check.proofs.Table.{rules-same, rules-split}
+use Rattle.tables.specs.declared.Counts.{Counts}
+use Rattle.tables.specs.Fields.{lengthIn}
+use Rattle.step_signals.specs.Step.{signalRulesIn}
+use Rattle.step_rows.specs.Rows.{Fits}
+use Rattle.step_limits.specs.Limits.{limitRulesIn}
+use Rattle.step_sums.specs.Sums.{sumRulesIn, SumTables}
+use Rattle.step_check.specs.Step.{rowFrom, madeRow, signalVerdict, limitVerdict, sumVerdict, JudgeAsked, Judged}
 
-pub kept-is : (b : Judgement) (v : Verdict) → judgementVerdict b ≡ v → b ≡ Kept → v ≡ passes
-unfolding judgementVerdict
-kept-is b v e k = sym e ∙ ap judgementVerdict k
+module _ (counts : Counts) (signals : List Signal) (line step links movements phases ledger arrivals row : List ℕ) (n : ℕ) where
+  module _ {v : Verdict} (signals-told : v ≡ verdict (table (n + 1) (signalRulesIn signals (counts .signals) phases (lengthIn step)))) where
+    signals-are : v ≡ signalVerdict counts signals line step links movements phases ledger arrivals row n
+    unfolding signalVerdict
+    signals-are = rw add-one at signals-told
 
-pub broken-is : (b : Judgement) (v : Verdict) (x y z : ℕ) → judgementVerdict b ≡ v → b ≡ Broken x y z → v ≡ refused x y z
-unfolding judgementVerdict
-broken-is b v x y z e k = sym e ∙ ap judgementVerdict k
+    -- a rule of the signals is broken
+    pub judged-signals : {r : Refusal} → v ≡ Refused r → {after : List ℕ} → Judged counts signals line step links movements phases ledger arrivals row n v after
+    judged-signals {r} e = record {
+      told = e ∙ sym (or-else-refused _ _ r (sym signals-are ∙ e));
+      made = λ p. let z : _≡_ {A = ℕ} 0 1 = cc in absurd (omega arith);
+    }
 
-module _ (counts : Counts) (signals : List Signal) (line step links movements phases : List ℕ) where
-  pub signal-tables : StepTables counts signals line step links movements phases → SignalTables counts signals phases (getD step 0 0)
-  signal-tables t =
-      record {
-        few = t .tables .few;
-        ready = t .ready;
-        short = t .short;
-        phases-size = t .tables .phases-size;
-        phase-last = t .tables .phase-last;
+    module _ (kept : v ≡ Passes) {w : Verdict} (limits-told : w ≡ verdict (table (n + 1) (limitRulesIn counts line step links movements phases))) where
+      limits-are : w ≡ limitVerdict counts signals line step links movements phases ledger arrivals row n
+      unfolding limitVerdict
+      limits-are = rw add-one at limits-told
+
+      -- a limit is broken
+      pub judged-limits : {r : Refusal} → w ≡ Refused r → {after : List ℕ} → Judged counts signals line step links movements phases ledger arrivals row n w after
+      judged-limits {r} e = record {
+        told = e ∙ sym (or-else-passes _ _ (sym signals-are ∙ kept) ∙ or-else-refused _ _ r (sym limits-are ∙ e));
+        made = λ p. let z : _≡_ {A = ℕ} 0 1 = cc in absurd (omega arith);
       }
 
-  -- the verdict on rules 10 to 15 is that of rules 10 to 14, and then that of rule 15
-  line-is : (number : ℕ) → lineVerdict counts signals line step links movements phases number
-      ≡ orElse (rulesVerdict counts number (signalHolds signals phases (getD step 0 0)) 5 0) (rulesVerdict counts number (lineRule counts line step links movements phases) 3 5)
-  line-is number =
-      rules-split counts number (lineHolds counts signals line step links movements phases) 5 3 0
-      ∙ ap₂ orElse
-      (rules-same counts number _ _ 5 0 (λ place a b item l. sym (holds-signal counts signals line step links movements phases place item _ (omega arith) refl)))
-      (rules-same counts number _ _ 3 5 (λ place a b item l. sym (holds-line counts signals line step links movements phases place item _ a refl)))
+      module _ (within : w ≡ Passes) where
+        pub judge-fits : JudgeAsked counts signals line step links movements phases ledger arrivals row n → Fits counts line movements (rowFrom counts ledger n) row
+        judge-fits asked = asked .fits (sym limits-are ∙ within)
 
-  module _ (number : ℕ) (b : Judgement) (told : judgementVerdict b ≡ rulesVerdict counts number (signalHolds signals phases (getD step 0 0)) 5 0) where
-    pub line-broken : (x y z : ℕ) → b ≡ Broken x y z → judgementVerdict b ≡ lineVerdict counts signals line step links movements phases number
-    line-broken x y z e =
-        let r = broken-is b _ x y z told e in
-        told ∙ r ∙ sym (line-is number ∙ or-else-refused _ _ x y z r)
+        module _ {after : List ℕ} (made : after ≡ madeRow counts line movements ledger row n) where
+          pub judge-sums : JudgeAsked counts signals line step links movements phases ledger arrivals row n → SumTables counts line links movements (rowFrom counts ledger n) after ledger arrivals
+          judge-sums asked = rw made (asked .sums (sym limits-are ∙ within))
 
-    pub line-kept : b ≡ Kept → (f : Judgement) → judgementVerdict f ≡ rulesVerdict counts number (lineRule counts line step links movements phases) 3 5
-        → judgementVerdict f ≡ lineVerdict counts signals line step links movements phases number
-    line-kept e f v = v ∙ sym (line-is number ∙ or-else-passes _ _ (kept-is b _ told e))
-
-module _ (counts : Counts) (signals : List Signal) (line step links movements phases ledger arrivals row : List ℕ) (n number : ℕ) (b : Judgement)
-    (told : judgementVerdict b ≡ lineVerdict counts signals line step links movements phases number) where
-  pub judge-broken : (x y z : ℕ) → b ≡ Broken x y z → (after : List ℕ) → Judged counts signals line step links movements phases ledger arrivals row n number b after
-  judge-broken x y z e after =
-      let r = broken-is b (lineVerdict counts signals line step links movements phases number) x y z told e in
-      record {
-        told = told ∙ r ∙ sym (or-else-refused _ (flowVerdict counts line links movements ledger arrivals row n number) x y z r);
-        made = λ k. let z : _≡_ {A = ℕ} 0 1 = cc in absurd (omega arith);
-      }
-
-  pub judge-kept : b ≡ Kept → (f : Judgement) (after : List ℕ) → after ≡ madeRow counts line movements ledger row n
-      → judgementVerdict f ≡ rulesVerdict counts number (flowRule counts line links movements (rowFrom ledger (2 * n * counts .links)) after ledger arrivals) 3 8
-      → Judged counts signals line step links movements phases ledger arrivals row n number f after
-  judge-kept e f after m v =
-      let p = kept-is b (lineVerdict counts signals line step links movements phases number) told e in
-      record {
-        told = v
-            ∙ ap (λ x. rulesVerdict counts number (flowRule counts line links movements (rowFrom ledger (2 * n * counts .links)) x ledger arrivals) 3 8) m
-            ∙ sym (or-else-passes _ (flowVerdict counts line links movements ledger arrivals row n number) p);
-        made = λ k. m;
-      }
-
-  module _ (asked : JudgeAsked counts signals line step links movements phases ledger arrivals row n number) (e : b ≡ Kept) where
-    pub judge-fits : Fits counts line movements (rowFrom ledger (2 * n * counts .links)) row
-    judge-fits = asked .fits (kept-is b (lineVerdict counts signals line step links movements phases number) told e)
-
-    pub judge-flows : (after : List ℕ) → after ≡ madeRow counts line movements ledger row n
-        → FlowTables counts line links movements (rowFrom ledger (2 * n * counts .links)) after ledger arrivals
-    judge-flows after m = rw m (asked .flows (kept-is b (lineVerdict counts signals line step links movements phases number) told e))
+          -- the sums decide
+          pub judged-sums : {x : Verdict} → x ≡ verdict (table (n + 1) (sumRulesIn counts line links movements (rowFrom counts ledger n) after ledger arrivals))
+              → Judged counts signals line step links movements phases ledger arrivals row n x after
+          judged-sums told = record {
+            told = rw (add-one, made) at told ∙ sums ∙ sym (or-else-passes _ _ (sym signals-are ∙ kept) ∙ or-else-passes _ _ (sym limits-are ∙ within));
+            made = λ p. made;
+          }
+            where
+              sums : verdict (table (suc n) (sumRulesIn counts line links movements (rowFrom counts ledger n) (madeRow counts line movements ledger row n) ledger arrivals))
+                  ≡ sumVerdict counts signals line step links movements phases ledger arrivals row n
+              sums = unfold sumVerdict in refl

@@ -1,5 +1,1 @@
-pub mod Table
-pub mod Items
-pub mod Turns
 pub mod Judge
-pub mod Texts

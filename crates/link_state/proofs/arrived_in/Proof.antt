@@ -1,20 +1,11 @@
--- `link_state::arrived_in` meets its contract: before the travel time, and from then on. Assumes nothing.
+-- `link_state::arrived_in` meets its contract. Assumes nothing.
 use borrow.Author.Needs.{needs}
 use Rattle.link_state.proofs.Ledger.{arrival-held, arrived-before, arrived-later}
 use Rattle.link_state.proofs.arrived_in.Statement.{statement}
 use Rattle.link_state.proofs.arrived_in.Tie as tie
 
-mul-travel : tie.Need-mul-travel
-mul-travel c = search needs
-
-add-travel : tie.Need-add-travel
-add-travel c = search needs
-
-mul-travel-2 : tie.Need-mul-travel-2
-mul-travel-2 c = search needs
-
-shared-slice-read-travel : tie.Need-shared-slice-read-travel
-shared-slice-read-travel c = search needs
+travel-time-requires : tie.Need-travel-time-requires
+travel-time-requires c κs = search needs
 
 mul-if1 : tie.Need-mul-if1
 mul-if1 c = search needs
@@ -22,47 +13,29 @@ mul-if1 c = search needs
 shared-slice-read-if1 : tie.Need-shared-slice-read-if1
 shared-slice-read-if1 c = search needs
 
-mul-result : tie.Need-mul-result
-mul-result c = search needs
-
-add-result : tie.Need-add-result
-add-result c = search needs
-
-mul-result-2 : tie.Need-mul-result-2
-mul-result-2 c = search needs
-
-shared-slice-read-result : tie.Need-shared-slice-read-result
-shared-slice-read-result c = search needs
+standing-requires : tie.Need-standing-requires
+standing-requires c κs = search needs
 
 returns : tie.Need-returns
-returns c =
-    arrived-before _ _ _ _ _ _ (c .before .if1 .taken)
+returns c = search (arrived-before, needs)
 
 arrival-boundary-requires : tie.Need-arrival-boundary-requires
 arrival-boundary-requires c κs = search needs
 
 entered-in-requires : tie.Need-entered-in-requires
-entered-in-requires c κs =
-    arrival-held _ _ (c .before .before .before .before .before .before .before .pre .held) (c .arrival-boundary .ensures)
+entered-in-requires c κs = search (arrival-held, needs)
 
 returns-2 : tie.Need-returns-2
-returns-2 c =
-    arrived-later _ _ _ _ _ _ (c .before .before .if1 .left) (c .before .arrival-boundary .ensures) (c .entered-in .ensures)
+returns-2 c = search (arrived-later, needs)
 
 pub arrived-in-spec : {M : Type 1} → statement M
 arrived-in-spec =
     tie.close
     (tie.spec
-    mul-travel
-    add-travel
-    mul-travel-2
-    shared-slice-read-travel
+    travel-time-requires
     mul-if1
     shared-slice-read-if1
-    mul-result
-    add-result
-    mul-result-2
-    shared-slice-read-result
+    standing-requires
     returns
     arrival-boundary-requires
     entered-in-requires

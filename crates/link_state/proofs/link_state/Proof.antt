@@ -1,6 +1,6 @@
--- `link_state::link_state` meets its contract: the tables are those of the network that was loaded. Assumes nothing.
+-- `link_state::link_state` meets its contract. Assumes nothing.
 use borrow.Author.Needs.{needs}
-use Rattle.link_state.proofs.State.{state-asked, tabled, refused-told}
+use Rattle.link_state.proofs.State.{asked-by, told-by, refused-told}
 use Rattle.link_state.proofs.link_state.Statement.{statement}
 use Rattle.link_state.proofs.link_state.Tie as tie
 
@@ -16,8 +16,8 @@ slice-aggregate-load-network-3 c = search needs
 load-network-requires : tie.Need-load-network-requires
 load-network-requires c κs = search needs
 
-enum-known-counts : tie.Need-enum-known-counts
-enum-known-counts c = search needs
+enum-known-reading : tie.Need-enum-known-reading
+enum-known-reading c = search needs
 
 slice-aggregate-state-by : tie.Need-slice-aggregate-state-by
 slice-aggregate-state-by c = search needs
@@ -26,19 +26,16 @@ slice-aggregate-state-by-2 : tie.Need-slice-aggregate-state-by-2
 slice-aggregate-state-by-2 c = search needs
 
 state-by-requires : tie.Need-state-by-requires
-state-by-requires c κs =
-    state-asked (tabled (c .before .before .before .before .before .before .before .before .load-network .ensures) (c .before .before .before .counts .given .1))
+state-by-requires c κs = search (asked-by, needs)
 
-enum-known-number : tie.Need-enum-known-number
-enum-known-number c = search needs
+enum-known-refusal : tie.Need-enum-known-refusal
+enum-known-refusal c = search needs
 
 returns : tie.Need-returns
-returns c =
-    c .state-by .ensures .told _ (tabled (c .before .before .before .before .before .before .before .before .before .load-network .ensures) (c .before .before .before .before .counts .given .1))
+returns c = search (told-by, needs)
 
 returns-2 : tie.Need-returns-2
-returns-2 c =
-    refused-told (c .before .before .before .before .before .before .load-network .ensures) _ _ _ (c .before .number .given .1)
+returns-2 c = search (refused-told, needs)
 
 pub link-state-spec : {M : Type 1} → statement M
 link-state-spec =
@@ -48,10 +45,10 @@ link-state-spec =
     slice-aggregate-load-network-2
     slice-aggregate-load-network-3
     load-network-requires
-    enum-known-counts
+    enum-known-reading
     slice-aggregate-state-by
     slice-aggregate-state-by-2
     state-by-requires
-    enum-known-number
+    enum-known-refusal
     returns
     returns-2)

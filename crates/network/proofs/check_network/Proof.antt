@@ -1,6 +1,6 @@
--- `network::check_network` meets its contract: its answer is that of the verdict that `load_network` tells. Assumes nothing.
+-- `network::check_network` meets its contract. Assumes nothing.
 use borrow.Author.Needs.{needs}
-use Rattle.network.proofs.Whole.{answer-valid, answer-refused}
+use Rattle.network.proofs.Chain.{answer-passes, answer-refused}
 use Rattle.network.proofs.check_network.Statement.{statement}
 use Rattle.network.proofs.check_network.Tie as tie
 
@@ -19,16 +19,14 @@ load-network-requires c κs = search needs
 enum-told : tie.Need-enum-told
 enum-told c = search needs
 
-enum-known-number : tie.Need-enum-known-number
-enum-known-number c = search needs
+enum-known-refusal : tie.Need-enum-known-refusal
+enum-known-refusal c = search needs
 
 returns : tie.Need-returns
-returns c =
-    answer-valid (c .before .before .before .before .before .load-network .ensures) (c .enum-told .given .1)
+returns c = search (answer-passes, needs)
 
 returns-2 : tie.Need-returns-2
-returns-2 c =
-    answer-refused (c .before .before .before .before .before .before .load-network .ensures) (c .before .number .given .1)
+returns-2 c = search (answer-refused, needs)
 
 pub check-network-spec : {M : Type 1} → statement M
 check-network-spec =
@@ -39,6 +37,6 @@ check-network-spec =
     slice-aggregate-load-network-3
     load-network-requires
     enum-told
-    enum-known-number
+    enum-known-refusal
     returns
     returns-2)

@@ -1,30 +1,95 @@
--- `network::load_network` meets its contract: one law for each way out. Assumes nothing.
+-- `network::load_network` meets its contract. Assumes nothing.
 use borrow.Author.Needs.{needs}
-use Rattle.network.proofs.Whole.{counts-refused, from-signals, rest-refused, rest-passed}
+use Rattle.network.proofs.Chain.{counts-stop, signals-asked, signals-stop, links-asked, links-stop, movements-asked, movements-stop, shares-ready, shares-stop, steps-asked, steps-stop, end-asked, end-stop, boundaries-asked, network-judged}
 use Rattle.network.proofs.load_network.Statement.{statement}
 use Rattle.network.proofs.load_network.Tie as tie
 
 read-counts-requires : tie.Need-read-counts-requires
 read-counts-requires c κs = search needs
 
-enum-known-counts : tie.Need-enum-known-counts
-enum-known-counts c = search needs
+enum-known-stage : tie.Need-enum-known-stage
+enum-known-stage c = search needs
 
-load-from-signals-requires : tie.Need-load-from-signals-requires
-load-from-signals-requires c κs =
-    from-signals (c .before .before .before .before .before .before .before .before .before .before .before .pre) (c .before .before .before .before .before .before .read-counts .ensures) (c .before .before .before .before .counts .given .1)
+enum-told : tie.Need-enum-told
+enum-told c = search needs
 
-enum-known-steps-at : tie.Need-enum-known-steps-at
-enum-known-steps-at c = search needs
+returns : tie.Need-returns
+returns c =
+    let r1 = c .before .before in
+    let s = r1 .before .before .before .before .before in
+    counts-stop (s .pre) (r1 .read-counts .ensures) (c .enum-told .given .1)
 
-enum-known-number : tie.Need-enum-known-number
-enum-known-number c = search needs
+slice-aggregate-read-signals : tie.Need-slice-aggregate-read-signals
+slice-aggregate-read-signals c = search needs
 
-enum-known-number-2 : tie.Need-enum-known-number-2
-enum-known-number-2 c = search needs
+read-signals-requires : tie.Need-read-signals-requires
+read-signals-requires c κs =
+    let p1 = c .before .before in
+    let r1 = p1 .before .before in
+    let s = r1 .before .before .before .before .before in
+    signals-asked (s .pre) (r1 .read-counts .ensures) (p1 .stage .given .1) (search needs)
+
+enum-known-stage-2 : tie.Need-enum-known-stage-2
+enum-known-stage-2 c = search needs
+
+enum-told-2 : tie.Need-enum-told-2
+enum-told-2 c = search needs
+
+returns-2 : tie.Need-returns-2
+returns-2 c =
+    let r2 = c .before .before .before in
+    let p1 = r2 .before .before .before in
+    let r1 = p1 .before .before in
+    let s = r1 .before .before .before .before .before in
+    signals-stop (s .pre) (r1 .read-counts .ensures) (p1 .stage .given .1) (r2 .read-signals .ensures) (c .enum-told2 .given .1)
+
+slice-aggregate-read-links : tie.Need-slice-aggregate-read-links
+slice-aggregate-read-links c = search needs
+
+read-links-requires : tie.Need-read-links-requires
+read-links-requires c κs =
+    let p2 = c .before .before .before in
+    let r2 = p2 .before .before .before in
+    let p1 = r2 .before .before .before in
+    let r1 = p1 .before .before in
+    let s = r1 .before .before .before .before .before in
+    links-asked (s .pre) (r1 .read-counts .ensures) (p1 .stage .given .1) (r2 .read-signals .ensures) (p2 .stage2 .given .1)
+
+enum-known-stage-3 : tie.Need-enum-known-stage-3
+enum-known-stage-3 c = search needs
+
+enum-told-3 : tie.Need-enum-told-3
+enum-told-3 c = search needs
 
 same-length : tie.Need-same-length
 same-length c = search needs
+
+returns-3 : tie.Need-returns-3
+returns-3 c =
+    let r3 = c .before .before .before .before in
+    let p2 = r3 .before .before .before .before in
+    let r2 = p2 .before .before .before in
+    let p1 = r2 .before .before .before in
+    let r1 = p1 .before .before in
+    let s = r1 .before .before .before .before .before in
+    links-stop (s .pre) (r1 .read-counts .ensures) (p1 .stage .given .1) (r2 .read-signals .ensures) (p2 .stage2 .given .1) (r3 .read-links .ensures) (c .enum-told3 .given .1)
+
+read-movements-requires : tie.Need-read-movements-requires
+read-movements-requires c κs =
+    let p3 = c .before .before in
+    let r3 = p3 .before .before .before .before in
+    let p2 = r3 .before .before .before .before in
+    let r2 = p2 .before .before .before in
+    let p1 = r2 .before .before .before in
+    let r1 = p1 .before .before in
+    let s = r1 .before .before .before .before .before in
+    movements-asked (s .pre) (r1 .read-counts .ensures) (p1 .stage .given .1) (r2 .read-signals .ensures) (p2 .stage2 .given .1) (r3 .read-links .ensures) (p3 .stage3 .given .1)
+
+enum-known-stage-4 : tie.Need-enum-known-stage-4
+enum-known-stage-4 c = search needs
+
+enum-told-4 : tie.Need-enum-told-4
+enum-told-4 c = search needs
 
 same-length-2 : tie.Need-same-length-2
 same-length-2 c = search needs
@@ -32,9 +97,36 @@ same-length-2 c = search needs
 same-length-3 : tie.Need-same-length-3
 same-length-3 c = search needs
 
-returns : tie.Need-returns
-returns c =
-    rest-passed (c .before .before .before .before .before .before .before .before .before .before .before .before .before .before .before .before .before .before .before .before .before .pre) (c .before .before .before .before .before .before .before .before .before .before .before .before .before .before .before .before .read-counts .ensures) (c .before .before .before .before .before .before .before .before .before .before .before .before .before .before .counts .given .1) (c .before .before .before .before .before .before .before .before .before .load-from-signals .ensures) (c .before .steps-at .given .1)
+returns-4 : tie.Need-returns-4
+returns-4 c =
+    let r4 = c .before .before .before .before in
+    let p3 = r4 .before .before .before in
+    let r3 = p3 .before .before .before .before in
+    let p2 = r3 .before .before .before .before in
+    let r2 = p2 .before .before .before in
+    let p1 = r2 .before .before .before in
+    let r1 = p1 .before .before in
+    let s = r1 .before .before .before .before .before in
+    movements-stop (s .pre) (r1 .read-counts .ensures) (p1 .stage .given .1) (r2 .read-signals .ensures) (p2 .stage2 .given .1) (r3 .read-links .ensures) (p3 .stage3 .given .1) (r4 .read-movements .ensures) (c .enum-told4 .given .1)
+
+check-shares-requires : tie.Need-check-shares-requires
+check-shares-requires c κs =
+    let p4 = c .before .before in
+    let r4 = p4 .before .before .before .before in
+    let p3 = r4 .before .before .before in
+    let r3 = p3 .before .before .before .before in
+    let p2 = r3 .before .before .before .before in
+    let r2 = p2 .before .before .before in
+    let p1 = r2 .before .before .before in
+    let r1 = p1 .before .before in
+    let s = r1 .before .before .before .before .before in
+    shares-ready (s .pre) (r1 .read-counts .ensures) (p1 .stage .given .1) (r2 .read-signals .ensures) (p2 .stage2 .given .1) (r3 .read-links .ensures) (p3 .stage3 .given .1) (r4 .read-movements .ensures) (p4 .stage4 .given .1)
+
+enum-known-stage-5 : tie.Need-enum-known-stage-5
+enum-known-stage-5 c = search needs
+
+enum-told-5 : tie.Need-enum-told-5
+enum-told-5 c = search needs
 
 same-length-4 : tie.Need-same-length-4
 same-length-4 c = search needs
@@ -42,33 +134,211 @@ same-length-4 c = search needs
 same-length-5 : tie.Need-same-length-5
 same-length-5 c = search needs
 
+returns-5 : tie.Need-returns-5
+returns-5 c =
+    let r5 = c .before .before in
+    let p4 = r5 .before .before .before in
+    let r4 = p4 .before .before .before .before in
+    let p3 = r4 .before .before .before in
+    let r3 = p3 .before .before .before .before in
+    let p2 = r3 .before .before .before .before in
+    let r2 = p2 .before .before .before in
+    let p1 = r2 .before .before .before in
+    let r1 = p1 .before .before in
+    let s = r1 .before .before .before .before .before in
+    shares-stop (s .pre) (r1 .read-counts .ensures) (p1 .stage .given .1) (r2 .read-signals .ensures) (p2 .stage2 .given .1) (r3 .read-links .ensures) (p3 .stage3 .given .1) (r4 .read-movements .ensures) (p4 .stage4 .given .1) (r5 .check-shares .ensures) (c .enum-told5 .given .1)
+
+read-steps-requires : tie.Need-read-steps-requires
+read-steps-requires c κs =
+    let p5 = c .before .before in
+    let r5 = p5 .before .before in
+    let p4 = r5 .before .before .before in
+    let r4 = p4 .before .before .before .before in
+    let p3 = r4 .before .before .before in
+    let r3 = p3 .before .before .before .before in
+    let p2 = r3 .before .before .before .before in
+    let r2 = p2 .before .before .before in
+    let p1 = r2 .before .before .before in
+    let r1 = p1 .before .before in
+    let s = r1 .before .before .before .before .before in
+    steps-asked (s .pre) (r1 .read-counts .ensures) (p1 .stage .given .1) (r2 .read-signals .ensures) (p2 .stage2 .given .1) (r3 .read-links .ensures) (p3 .stage3 .given .1) (r4 .read-movements .ensures) (p4 .stage4 .given .1) (r5 .check-shares .ensures) (p5 .stage5 .given .1)
+
+enum-known-stage-6 : tie.Need-enum-known-stage-6
+enum-known-stage-6 c = search needs
+
+enum-told-6 : tie.Need-enum-told-6
+enum-told-6 c = search needs
+
 same-length-6 : tie.Need-same-length-6
-same-length-6 c = search needs
+same-length-6 c = c .before .before .before .before .before .before .before .before .before .before .before .before .before .before .before .before .before .before .before .before .before .before .before .read-links .kept .1 .1 .1 .0
 
-returns-2 : tie.Need-returns-2
-returns-2 c =
-    rest-refused (c .before .before .before .before .before .before .before .before .before .before .before .before .before .before .before .before .before .before .before .before .before .pre) (c .before .before .before .before .before .before .before .before .before .before .before .before .before .before .before .before .read-counts .ensures) (c .before .before .before .before .before .before .before .before .before .before .before .before .before .before .counts .given .1) (c .before .before .before .before .before .before .before .before .before .load-from-signals .ensures) (c .before .number .given .1)
+same-length-7 : tie.Need-same-length-7
+same-length-7 c = search needs
 
-returns-3 : tie.Need-returns-3
-returns-3 c =
-    counts-refused (c .before .before .before .before .before .before .before .before .pre) (c .before .before .before .read-counts .ensures) (c .before .number2 .given .1)
+same-length-8 : tie.Need-same-length-8
+same-length-8 c = search needs
+
+returns-6 : tie.Need-returns-6
+returns-6 c =
+    let r6 = c .before .before .before .before in
+    let p5 = r6 .before .before .before in
+    let r5 = p5 .before .before in
+    let p4 = r5 .before .before .before in
+    let r4 = p4 .before .before .before .before in
+    let p3 = r4 .before .before .before in
+    let r3 = p3 .before .before .before .before in
+    let p2 = r3 .before .before .before .before in
+    let r2 = p2 .before .before .before in
+    let p1 = r2 .before .before .before in
+    let r1 = p1 .before .before in
+    let s = r1 .before .before .before .before .before in
+    steps-stop (s .pre) (r1 .read-counts .ensures) (p1 .stage .given .1) (r2 .read-signals .ensures) (p2 .stage2 .given .1) (r3 .read-links .ensures) (p3 .stage3 .given .1) (r4 .read-movements .ensures) (p4 .stage4 .given .1) (r5 .check-shares .ensures) (p5 .stage5 .given .1) (r6 .read-steps .ensures) (c .enum-told6 .given .1)
+
+check-end-requires : tie.Need-check-end-requires
+check-end-requires c κs =
+    let p6 = c .before in
+    let r6 = p6 .before .before .before .before in
+    let p5 = r6 .before .before .before in
+    let r5 = p5 .before .before in
+    let p4 = r5 .before .before .before in
+    let r4 = p4 .before .before .before .before in
+    let p3 = r4 .before .before .before in
+    let r3 = p3 .before .before .before .before in
+    let p2 = r3 .before .before .before .before in
+    let r2 = p2 .before .before .before in
+    let p1 = r2 .before .before .before in
+    let r1 = p1 .before .before in
+    let s = r1 .before .before .before .before .before in
+    end-asked (s .pre) (r1 .read-counts .ensures) (p1 .stage .given .1) (r2 .read-signals .ensures) (p2 .stage2 .given .1) (r3 .read-links .ensures) (p3 .stage3 .given .1) (r4 .read-movements .ensures) (p4 .stage4 .given .1) (r5 .check-shares .ensures) (p5 .stage5 .given .1) (r6 .read-steps .ensures) (p6 .stage6 .given .1)
+
+enum-known-stage-7 : tie.Need-enum-known-stage-7
+enum-known-stage-7 c = search needs
+
+enum-told-7 : tie.Need-enum-told-7
+enum-told-7 c = search needs
+
+same-length-9 : tie.Need-same-length-9
+same-length-9 c = c .before .before .before .before .before .before .before .before .before .before .before .before .before .before .before .before .before .before .before .before .before .before .before .before .before .before .before .read-links .kept .1 .1 .1 .0
+
+same-length-10 : tie.Need-same-length-10
+same-length-10 c = c .before .before .before .before .before .before .before .before .before .before .before .before .before .before .before .before .before .before .before .before .read-movements .kept .1 .1 .0
+
+same-length-11 : tie.Need-same-length-11
+same-length-11 c = search needs
+
+returns-7 : tie.Need-returns-7
+returns-7 c =
+    let r7 = c .before .before in
+    let p6 = r7 .before .before in
+    let r6 = p6 .before .before .before .before in
+    let p5 = r6 .before .before .before in
+    let r5 = p5 .before .before in
+    let p4 = r5 .before .before .before in
+    let r4 = p4 .before .before .before .before in
+    let p3 = r4 .before .before .before in
+    let r3 = p3 .before .before .before .before in
+    let p2 = r3 .before .before .before .before in
+    let r2 = p2 .before .before .before in
+    let p1 = r2 .before .before .before in
+    let r1 = p1 .before .before in
+    let s = r1 .before .before .before .before .before in
+    end-stop (s .pre) (r1 .read-counts .ensures) (p1 .stage .given .1) (r2 .read-signals .ensures) (p2 .stage2 .given .1) (r3 .read-links .ensures) (p3 .stage3 .given .1) (r4 .read-movements .ensures) (p4 .stage4 .given .1) (r5 .check-shares .ensures) (p5 .stage5 .given .1) (r6 .read-steps .ensures) (p6 .stage6 .given .1) (r7 .check-end .ensures) (c .enum-told7 .given .1)
+
+check-boundaries-requires : tie.Need-check-boundaries-requires
+check-boundaries-requires c κs =
+    let p7 = c .before .before .before in
+    let r7 = p7 .before .before in
+    let p6 = r7 .before .before in
+    let r6 = p6 .before .before .before .before in
+    let p5 = r6 .before .before .before in
+    let r5 = p5 .before .before in
+    let p4 = r5 .before .before .before in
+    let r4 = p4 .before .before .before .before in
+    let p3 = r4 .before .before .before in
+    let r3 = p3 .before .before .before .before in
+    let p2 = r3 .before .before .before .before in
+    let r2 = p2 .before .before .before in
+    let p1 = r2 .before .before .before in
+    let r1 = p1 .before .before in
+    let s = r1 .before .before .before .before .before in
+    boundaries-asked (s .pre) (r1 .read-counts .ensures) (p1 .stage .given .1) (r2 .read-signals .ensures) (p2 .stage2 .given .1) (r3 .read-links .ensures) (p3 .stage3 .given .1) (r4 .read-movements .ensures) (p4 .stage4 .given .1) (r5 .check-shares .ensures) (p5 .stage5 .given .1) (r6 .read-steps .ensures) (p6 .stage6 .given .1) (r7 .check-end .ensures) (p7 .stage7 .given .1)
+
+same-length-12 : tie.Need-same-length-12
+same-length-12 c = c .before .before .before .before .before .before .before .before .before .before .before .before .before .before .before .before .before .before .before .before .before .before .before .before .before .before .before .before .before .before .before .read-links .kept .1 .1 .1 .0
+
+same-length-13 : tie.Need-same-length-13
+same-length-13 c = c .before .before .before .before .before .before .before .before .before .before .before .before .before .before .before .before .before .before .before .before .before .before .before .before .read-movements .kept .1 .1 .0
+
+same-length-14 : tie.Need-same-length-14
+same-length-14 c = search needs
+
+returns-8 : tie.Need-returns-8
+returns-8 c =
+    let r8 = c in
+    let p7 = r8 .before .before .before .before in
+    let r7 = p7 .before .before in
+    let p6 = r7 .before .before in
+    let r6 = p6 .before .before .before .before in
+    let p5 = r6 .before .before .before in
+    let r5 = p5 .before .before in
+    let p4 = r5 .before .before .before in
+    let r4 = p4 .before .before .before .before in
+    let p3 = r4 .before .before .before in
+    let r3 = p3 .before .before .before .before in
+    let p2 = r3 .before .before .before .before in
+    let r2 = p2 .before .before .before in
+    let p1 = r2 .before .before .before in
+    let r1 = p1 .before .before in
+    let s = r1 .before .before .before .before .before in
+    network-judged (s .pre) (r1 .read-counts .ensures) (p1 .stage .given .1) (r2 .read-signals .ensures) (p2 .stage2 .given .1) (r3 .read-links .ensures) (p3 .stage3 .given .1) (r4 .read-movements .ensures) (p4 .stage4 .given .1) (r5 .check-shares .ensures) (p5 .stage5 .given .1) (r6 .read-steps .ensures) (p6 .stage6 .given .1) (r7 .check-end .ensures) (p7 .stage7 .given .1) (r8 .check-boundaries .ensures)
 
 pub load-network-spec : {M : Type 1} → statement M
 load-network-spec =
     tie.close
     (tie.spec
     read-counts-requires
-    enum-known-counts
-    load-from-signals-requires
-    enum-known-steps-at
-    enum-known-number
-    enum-known-number-2
+    enum-known-stage
+    enum-told
+    returns
+    slice-aggregate-read-signals
+    read-signals-requires
+    enum-known-stage-2
+    enum-told-2
+    returns-2
+    slice-aggregate-read-links
+    read-links-requires
+    enum-known-stage-3
+    enum-told-3
     same-length
+    returns-3
+    read-movements-requires
+    enum-known-stage-4
+    enum-told-4
     same-length-2
     same-length-3
-    returns
+    returns-4
+    check-shares-requires
+    enum-known-stage-5
+    enum-told-5
     same-length-4
     same-length-5
+    returns-5
+    read-steps-requires
+    enum-known-stage-6
+    enum-told-6
     same-length-6
-    returns-2
-    returns-3)
+    same-length-7
+    same-length-8
+    returns-6
+    check-end-requires
+    enum-known-stage-7
+    enum-told-7
+    same-length-9
+    same-length-10
+    same-length-11
+    returns-7
+    check-boundaries-requires
+    same-length-12
+    same-length-13
+    same-length-14
+    returns-8)

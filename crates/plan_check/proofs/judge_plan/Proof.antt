@@ -1,7 +1,8 @@
+-- `plan_check::judge_plan` meets its contract: one law for each way out. Assumes nothing.
 use Prim.Native.Nat.{_+_, _*_, _≤_}
 use native.Mathlib.Nat.{mul-le-mul-right}
 use native.Mathlib.Omega.{arith}
-use Rattle.plan_check.proofs.Plans.{plan-short, start-asked, signals-asked, run-asked, plan-run}
+use Rattle.plan_check.proofs.Plans.{plan-short, signals-asked, run-asked, plan-run}
 use borrow.Author.Needs.{needs}
 use Rattle.plan_check.proofs.judge_plan.Statement.{statement}
 use Rattle.plan_check.proofs.judge_plan.Tie as tie
@@ -14,38 +15,37 @@ mul-if1 c = search needs
 
 mul-if1-2 : tie.Need-mul-if1-2
 mul-if1-2 c =
-    let s = c .before .before .before .before .before .before .before .before in
-    let t = s .pre .counted in
-    let h : 2 * (s .args .counts .steps + 1) ≤ 242 = omega (arith, t .steps, t .few-steps) in
-    omega (arith, mul-le-mul-right (s .args .counts .links) h, t .links, t .few-links)
+    let s = c .before .before .before .before .before .before .before .before .before in
+    let few = s .pre .counted .few in
+    let h : 2 * (s .args .reading .counts .steps + 1) ≤ 242 = omega (arith, few .steps) in
+    omega (arith, mul-le-mul-right (s .args .reading .counts .links) h, few .links)
+
+new-requires : tie.Need-new-requires
+new-requires c κs = search needs
 
 returns : tie.Need-returns
 returns c =
-    let s = c .before .before .before .before .before .before .before .before .before in
-    plan-short _ (s .args .plan .now) _ _ _ _ _ _ (s .args .ledger .now) (s .pre) (c .if1 .taken)
+    let s = c .before .before .before .before .before .before .before .before .before .before .before in
+    rw (c .new .ensures) (plan-short _ (s .args .plan .now) _ _ _ (s .args .ledger .now) _ (s .pre) (c .before .if1 .taken))
 
 write-start-requires : tie.Need-write-start-requires
-write-start-requires c κs =
-    let s = c .before .before .before .before .before .before .before .before .before .before in
-    start-asked _ (s .args .plan .now) _ _ _ _ _ _ (s .args .ledger .now) (s .pre) (c .before .if1 .left)
+write-start-requires c κs = search needs
 
 load-signals-requires : tie.Need-load-signals-requires
-load-signals-requires c κs =
-    let s = c .before .before .before .before .before .before .before .before .before .before .before .before .before in
-    signals-asked _ (s .args .plan .now) _ _ _ _ _ _ (s .args .ledger .now) (s .pre) (c .before .before .before .before .if1 .left)
+load-signals-requires c κs = signals-asked (c .before .before .before .before .before .before .before .before .before .before .before .before .before .before .pre)
 
 run-steps-requires : tie.Need-run-steps-requires
 run-steps-requires c κs =
-    let s = c .before .before .before .before .before .before .before .before .before .before .before .before .before .before .before in
-    run-asked _ (s .args .plan .now) _ _ _ _ _ _ (s .args .ledger .now) (s .pre) (c .before .before .before .before .before .before .if1 .left) _ (c .before .before .before .before .write-start .ensures) _ (c .before .load-signals .ensures)
+    let s = c .before .before .before .before .before .before .before .before .before .before .before .before .before .before .before .before in
+    run-asked _ (s .args .plan .now) _ _ _ (s .args .ledger .now) _ (s .pre) (c .before .before .before .before .before .before .if1 .left) _ (c .before .before .before .before .write-start .ensures) _ (c .before .load-signals .ensures)
 
 same-length : tie.Need-same-length
 same-length c = search needs
 
 returns-2 : tie.Need-returns-2
 returns-2 c =
-    let s = c .before .before .before .before .before .before .before .before .before .before .before .before .before .before .before .before .before .before in
-    plan-run _ (s .args .plan .now) _ _ _ _ _ _ (s .args .ledger .now) (s .pre) (c .before .before .before .before .before .before .before .before .before .if1 .left) _ (c .before .before .before .before .before .before .before .write-start .ensures) _ _ (c .before .before .run-steps .ensures)
+    let s = c .before .before .before .before .before .before .before .before .before .before .before .before .before .before .before .before .before .before .before in
+    plan-run _ (s .args .plan .now) _ _ _ (s .args .ledger .now) _ (s .pre) (c .before .before .before .before .before .before .before .before .before .if1 .left) _ (c .before .before .before .before .before .before .before .write-start .ensures) (c .before .before .run-steps .ensures)
 
 pub judge-plan-spec : {M : Type 1} → statement M
 judge-plan-spec =
@@ -54,6 +54,7 @@ judge-plan-spec =
     add-if1
     mul-if1
     mul-if1-2
+    new-requires
     returns
     write-start-requires
     load-signals-requires

@@ -1,3 +1,4 @@
+-- `plan_check_c::plancheck_check_plan` meets its contract. Assumes nothing.
 use Prim.Native.Nat.{ℕ}
 use mathlib.Core.Path.{refl, sym, ap, _∙_}
 use mathlib.Core.List.{List}
@@ -15,17 +16,17 @@ use Rattle.plan_check_c.proofs.plancheck_check_plan.Tie as tie
 -- what is promised of an answer is promised of the answer that its result is read as, since no refusal has the number 0
 promised : (network plan : List Line) (before after : List ℕ) (a : PlanAnswer) → Promises network plan before after a
     → Promises network plan before after (planAnswerOf (planResult a))
-promised network plan before after (plan-answer.Accepted admitted letOut inside time) p = p
-promised network plan before after (plan-answer.Refused number line item) p = rw (ne-eqb number 0 (λ e. omega (arith, p .refused-number number line item refl))) p
+promised network plan before after (plan-answer.Accepted t) p = p
+promised network plan before after (plan-answer.Refused r) p = rw (ne-eqb (r .number) 0 (λ e. omega (arith, p .refused-number r refl))) p
 
 check-plan-requires : tie.Need-check-plan-requires
 check-plan-requires c κs = search needs
 
-enum-known-admitted : tie.Need-enum-known-admitted
-enum-known-admitted c = search needs
+enum-known-totals : tie.Need-enum-known-totals
+enum-known-totals c = search needs
 
-enum-known-number : tie.Need-enum-known-number
-enum-known-number c = search needs
+enum-known-r : tie.Need-enum-known-r
+enum-known-r c = search needs
 
 same-length : tie.Need-same-length
 same-length c = search needs
@@ -33,7 +34,7 @@ same-length c = search needs
 returns : tie.Need-returns
 returns c =
     let e = c .before .before .before .before .before .check-plan .ensures in
-    let told = c .before .admitted .given .1 in
+    let told = c .before .totals .given .1 in
     (sym (ap planResult (sym (e .0) ∙ told)), (e .1 .0, rw told at (promised _ _ _ _ _ (e .1 .1))))
 
 same-length-2 : tie.Need-same-length-2
@@ -42,7 +43,7 @@ same-length-2 c = search needs
 returns-2 : tie.Need-returns-2
 returns-2 c =
     let e = c .before .before .before .before .before .check-plan .ensures in
-    let told = c .before .number .given .1 in
+    let told = c .before .r .given .1 in
     (sym (ap planResult (sym (e .0) ∙ told)), (e .1 .0, rw told at (promised _ _ _ _ _ (e .1 .1))))
 
 pub plancheck-check-plan-spec : {M : Type 1} → statement M
@@ -50,8 +51,8 @@ plancheck-check-plan-spec =
     tie.close
     (tie.spec
     check-plan-requires
-    enum-known-admitted
-    enum-known-number
+    enum-known-totals
+    enum-known-r
     same-length
     returns
     same-length-2

@@ -1,3 +1,4 @@
+-- `plan_check_c::plancheck_link_state` meets its contract. Assumes nothing.
 use mathlib.Core.Path.{sym, ap, _∙_}
 use Rattle.plan_check_c.specs.Results.{linkResult}
 use borrow.Author.Needs.{needs}
@@ -10,15 +11,15 @@ link-state-requires c κs = search needs
 enum-known-queued : tie.Need-enum-known-queued
 enum-known-queued c = search needs
 
-enum-known-number : tie.Need-enum-known-number
-enum-known-number c = search needs
+enum-known-r : tie.Need-enum-known-r
+enum-known-r c = search needs
 
 returns : tie.Need-returns
 returns c = sym (ap linkResult (sym (c .before .before .before .link-state .ensures) ∙ c .before .queued .given .1))
 
 returns-2 : tie.Need-returns-2
-returns-2 c = sym (ap linkResult (sym (c .before .before .before .link-state .ensures) ∙ c .before .number .given .1))
+returns-2 c = sym (ap linkResult (sym (c .before .before .before .link-state .ensures) ∙ c .before .r .given .1))
 
 pub plancheck-link-state-spec : {M : Type 1} → statement M
 plancheck-link-state-spec =
-    tie.close (tie.spec link-state-requires enum-known-queued enum-known-number returns returns-2)
+    tie.close (tie.spec link-state-requires enum-known-queued enum-known-r returns returns-2)

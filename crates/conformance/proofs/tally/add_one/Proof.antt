@@ -3,7 +3,6 @@ use Rattle.conformance.specs.Tally.{counted}
 use borrow.Author.Needs.{needs}
 use Rattle.conformance.proofs.tally.add_one.Statement.{statement}
 use Rattle.conformance.proofs.tally.add_one.Tie as tie
-use Rattle.std.proofs.num.wrapping_add_u64.Reads as wrapping-add-u64-reads
 
 mul-wrapping-add-u64 : tie.Need-mul-wrapping-add-u64
 mul-wrapping-add-u64 c = search needs

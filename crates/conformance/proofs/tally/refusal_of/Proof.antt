@@ -1,7 +1,6 @@
 -- `conformance::tally::refusal_of` meets its contract. Assumes nothing.
 use borrow.Author.Tests.{eq-eqb, ne-eqb}
 use Rattle.conformance.specs.Tally.{refusalOf}
-use borrow.Author.Needs.{needs}
 use Rattle.conformance.proofs.tally.refusal_of.Statement.{statement}
 use Rattle.conformance.proofs.tally.refusal_of.Tie as tie
 

@@ -1,0 +1,35 @@
+-- The answers of the calls in the stored form. Assumes nothing.
+use mathlib.Core.Bool.{Bool, _&&_}
+use lib.Dec.{eqb}
+use Rattle.search.specs.declared.Refusal.{Refusal}
+use Rattle.search.specs.declared.Verdict.{Verdict}
+use Rattle.search.specs.declared.Verdict.the-variants as verdict
+use Rattle.model.specs.declared.PlanAnswer.{PlanAnswer}
+use Rattle.model.specs.declared.PlanAnswer.the-variants as plan-answer
+use Rattle.model.specs.declared.LinkAnswer.{LinkAnswer}
+use Rattle.model.specs.declared.LinkAnswer.the-variants as link-answer
+use Rattle.conformance_cases.specs.declared.outcome.Outcome.{Outcome}
+
+abbrev pub refusedOutcome : Refusal → Outcome
+refusedOutcome r = record { kind = 3; first = r .number; second = r .line; third = r .item; fourth = 0 }
+
+abbrev pub networkOutcome : Verdict → Outcome
+networkOutcome verdict.Passes = record { kind = 0; first = 0; second = 0; third = 0; fourth = 0 }
+networkOutcome (verdict.Refused r) = refusedOutcome r
+
+abbrev pub planOutcome : PlanAnswer → Outcome
+planOutcome (plan-answer.Accepted t) =
+    record { kind = 1; first = t .admitted; second = t .«let_out»; third = t .inside; fourth = t .«doubled_time» }
+planOutcome (plan-answer.Refused r) = refusedOutcome r
+
+abbrev pub linkOutcome : LinkAnswer → Outcome
+linkOutcome (link-answer.State queued transit) = record { kind = 2; first = queued; second = transit; third = 0; fourth = 0 }
+linkOutcome (link-answer.Refused r) = refusedOutcome r
+
+abbrev pub sameOutcome : Outcome → Outcome → Bool
+sameOutcome one other =
+    eqb (one .kind) (other .kind)
+    && eqb (one .first) (other .first)
+    && eqb (one .second) (other .second)
+    && eqb (one .third) (other .third)
+    && eqb (one .fourth) (other .fourth)

@@ -1,0 +1,85 @@
+// What a call gives, in the stored form.
+ghost use mathlib.Core.Path.{_≡_};
+ghost use Rattle.conformance_cases.specs.Outcome.{refusedOutcome, networkOutcome, planOutcome, linkOutcome, sameOutcome};
+use model::LinkAnswer;
+use model::PlanAnswer;
+use search::Refusal;
+use search::Verdict;
+
+// The kind is 0 for a network accepted, 1 for a plan accepted, 2 for a state, 3 for a refusal; the numbers are the totals, queued and in
+// transit, or the refusal's number, line and item; 0 where there is none.
+pub struct Outcome {
+    pub kind: u32,
+    pub first: u64,
+    pub second: u64,
+    pub third: u64,
+    pub fourth: u64,
+}
+
+fn refused(refusal: Refusal) -> Outcome
+    ensures { λ r. ⌜ r ≡ refusedOutcome refusal ⌝ }
+{
+    Outcome {
+        kind: 3,
+        first: refusal.number as u64,
+        second: refusal.line as u64,
+        third: refusal.item as u64,
+        fourth: 0,
+    }
+}
+
+pub fn of_network(verdict: Verdict) -> Outcome
+    ensures { λ r. ⌜ r ≡ networkOutcome verdict ⌝ }
+{
+    match verdict {
+        Verdict::Passes => Outcome {
+            kind: 0,
+            first: 0,
+            second: 0,
+            third: 0,
+            fourth: 0,
+        },
+        Verdict::Refused(refusal) => refused(refusal),
+    }
+}
+
+pub fn of_plan(answer: PlanAnswer) -> Outcome
+    ensures { λ r. ⌜ r ≡ planOutcome answer ⌝ }
+{
+    match answer {
+        PlanAnswer::Accepted(totals) => Outcome {
+            kind: 1,
+            first: totals.admitted,
+            second: totals.let_out,
+            third: totals.inside,
+            fourth: totals.doubled_time,
+        },
+        PlanAnswer::Refused(refusal) => refused(refusal),
+    }
+}
+
+pub fn of_link(answer: LinkAnswer) -> Outcome
+    ensures { λ r. ⌜ r ≡ linkOutcome answer ⌝ }
+{
+    match answer {
+        LinkAnswer::State { queued, in_transit } => Outcome {
+            kind: 2,
+            first: queued as u64,
+            second: in_transit as u64,
+            third: 0,
+            fourth: 0,
+        },
+        LinkAnswer::Refused(refusal) => refused(refusal),
+    }
+}
+
+// Whether two outcomes are the same in every part.
+pub fn is_same(one: Outcome, other: Outcome) -> bool
+    ensures { λ r. ⌜ r ≡ sameOutcome one other ⌝ }
+{
+    (one.kind == other.kind)
+        & (one.first == other.first)
+        & (one.second == other.second)
+        & (one.third == other.third)
+        & (one.fourth == other.fourth)
+}

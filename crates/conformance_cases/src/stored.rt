@@ -1,0 +1,191 @@
+// Reads the stored form of the cases, one part at a time. The form is described in reference/src/cases.rs.
+ghost use mathlib.Core.Path.{_≡_};
+ghost use Prim.Native.Nat.{_+_, _≤_};
+ghost use lib.ListN.{length};
+ghost use Rattle.conformance_cases.specs.Stored.{number32, number64, answerOf, questionOf};
+use crate::outcome::Outcome;
+
+// For the length of a text, or of the given numbers: the same ones as in the case before.
+const SAME: u32 = 4294967295;
+
+// A length that no buffer has: nothing was read, as the file is malformed, or no case came before.
+pub const NOTHING: usize = 4294967295;
+
+// How many cases the file says that it has.
+pub enum CaseCount {
+    Cases(u32),
+    Malformed,
+}
+
+// The ledger of a case: its length, what it holds past the given numbers, and how many are given.
+pub struct LedgerForm {
+    pub size: usize,
+    pub fill: u32,
+    pub given: u32,
+}
+
+// The call of a case (1 check a network, 2 check a plan, 3 state of one link; 0 where the file is malformed), with what the other
+// implementation answers and the checksum of the ledger that it leaves.
+pub struct Question {
+    pub call: u32,
+    pub boundary: u64,
+    pub link: u64,
+    pub answer: Outcome,
+    pub checksum: u64,
+}
+
+fn wide(byte: u8) -> u32
+    ensures { λ r. ⌜ r ≡ byte ⌝ }
+    ensures { λ r. ⌜ r ≤ 255 ⌝ }
+{
+    byte as u32
+}
+
+// The number of four bytes, the lowest first.
+fn number_at(bytes: &[u8], at: usize) -> u32
+    requires { ⌜ at + 4 ≤ length (now bytes) ⌝ }
+    ensures { λ r. ⌜ r ≡ number32 (now (bytes .entry)) at ⌝ }
+{
+    let low = wide(bytes[at]) + wide(bytes[at + 1]) * 256;
+    low + wide(bytes[at + 2]) * 65536 + wide(bytes[at + 3]) * 16777216
+}
+
+// The number of eight bytes, the lowest first.
+fn long_number_at(bytes: &[u8], at: usize) -> u64
+    requires { ⌜ at + 8 ≤ length (now bytes) ⌝ }
+    ensures { λ r. ⌜ r ≡ number64 (now (bytes .entry)) at ⌝ }
+{
+    let low = number_at(bytes, at);
+    let high = number_at(bytes, at + 4);
+    low as u64 + high as u64 * 4294967296
+}
+
+// Fills a buffer from the file; false where the file ends before or can't be read.
+fn read_whole(file: i32, buffer: &mut [u8]) -> bool {
+    let size = buffer.len();
+    io::read_full(file, buffer) == size
+}
+
+// Reads the header: the file's mark, version 1, and how many cases follow. The greatest lengths that it names are not needed, as each length
+// is held to its buffer.
+pub fn read_header(file: i32) -> CaseCount {
+    let mut bytes = [0u8; 28];
+    if !read_whole(file, &mut bytes) {
+        return CaseCount::Malformed;
+    }
+    // "PLANCASE"
+    if long_number_at(&bytes, 0) != 4995408169015528528 {
+        return CaseCount::Malformed;
+    }
+    if number_at(&bytes, 8) != 1 {
+        return CaseCount::Malformed;
+    }
+    CaseCount::Cases(number_at(&bytes, 12))
+}
+
+// Reads a text of a case, or goes on with that of the case before: the text's length.
+pub fn read_text(file: i32, text: &mut [u8], before: usize) -> usize {
+    let mut bytes = [0u8; 4];
+    if !read_whole(file, &mut bytes) {
+        return NOTHING;
+    }
+    let given = number_at(&bytes, 0);
+    if given == SAME {
+        return before;
+    }
+    let size = given as usize;
+    if text.len() < size {
+        return NOTHING;
+    }
+    if !read_whole(file, &mut text[..size]) {
+        return NOTHING;
+    }
+    size
+}
+
+// Reads the form of a case's ledger.
+pub fn read_ledger(file: i32) -> LedgerForm {
+    let mut bytes = [0u8; 12];
+    if !read_whole(file, &mut bytes) {
+        return LedgerForm {
+            size: NOTHING,
+            fill: 0,
+            given: SAME,
+        };
+    }
+    LedgerForm {
+        size: number_at(&bytes, 0) as usize,
+        fill: number_at(&bytes, 4),
+        given: number_at(&bytes, 8),
+    }
+}
+
+// Fills a slice with numbers from the file; false where the file ends before or can't be read.
+fn read_numbers(file: i32, numbers: &mut [u32]) -> bool {
+    let mut i = 0;
+    while i < numbers.len() {
+        let mut bytes = [0u8; 4];
+        if !read_whole(file, &mut bytes) {
+            return false;
+        }
+        numbers[i] = number_at(&bytes, 0);
+        i += 1;
+    }
+    true
+}
+
+// Reads the given numbers at the start of a case's ledger, or goes on with those of the case before: how many there are.
+pub fn read_start(file: i32, start: &mut [u32], given: u32, before: usize) -> usize {
+    if given == SAME {
+        return before;
+    }
+    let size = given as usize;
+    if start.len() < size {
+        return NOTHING;
+    }
+    if !read_numbers(file, &mut start[..size]) {
+        return NOTHING;
+    }
+    size
+}
+
+// What the other implementation answers, of the 64 bytes that a case ends with.
+fn answer_of(bytes: &[u8; 64]) -> Outcome
+    ensures { λ r. ⌜ r ≡ answerOf (now (bytes .entry)) ⌝ }
+{
+    Outcome {
+        kind: number_at(bytes, 20),
+        first: long_number_at(bytes, 24),
+        second: long_number_at(bytes, 32),
+        third: long_number_at(bytes, 40),
+        fourth: long_number_at(bytes, 48),
+    }
+}
+
+// The call of a case and its answer, of the same bytes.
+fn question_of(bytes: &[u8; 64]) -> Question
+    ensures { λ r. ⌜ r ≡ questionOf (now (bytes .entry)) ⌝ }
+{
+    Question {
+        call: number_at(bytes, 0),
+        boundary: long_number_at(bytes, 4),
+        link: long_number_at(bytes, 12),
+        answer: answer_of(bytes),
+        checksum: long_number_at(bytes, 56),
+    }
+}
+
+// Reads the call of a case and its answer. What is told of a file that ends before is that of zeros.
+pub fn read_question(file: i32) -> Question {
+    let mut bytes = [0u8; 64];
+    if !read_whole(file, &mut bytes) {
+        return question_of(&[0u8; 64]);
+    }
+    question_of(&bytes)
+}
+
+// Whether the file has no byte more.
+pub fn is_at_end(file: i32) -> bool {
+    let mut bytes = [0u8; 1];
+    io::read_full(file, &mut bytes) == 0
+}

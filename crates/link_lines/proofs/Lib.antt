@@ -1,3 +1,0 @@
-mod Links
-pub mod Movements
-mod Rows

@@ -1,4 +1,0 @@
-pub mod Links
-pub mod Movements
-pub mod Rows
-pub mod Stages

@@ -1,0 +1,189 @@
+-- The stages of a network's reading, one after another: where one is refused, so is the network; and what each asks of those before it. Assumes nothing.
+use Prim.Native.Nat.{ℕ}
+use mathlib.Core.Path.{_≡_, refl, sym, _∙_}
+use mathlib.Core.List.{List}
+use native.Mathlib.Omega.{arith}
+use lib.ListN.{length}
+use Rattle.search.specs.declared.Refusal.{Refusal}
+use Rattle.search.specs.declared.Verdict.the-variants as verdicts
+use Rattle.search.specs.Checks.{Checks, each, _then_, verdict}
+use Rattle.search.proofs.Laws.{or-else-passes, or-else-refused, hold-of-passes}
+use Rattle.records.specs.Lines.{lines}
+use Rattle.model.specs.Network.{maxSignals, linkCount, stepCount}
+use Rattle.model.specs.Table.{countChecks, shareChecks, boundaryChecks, networkChecks}
+use Rattle.model.specs.Calls.{checkNetwork}
+use Rattle.tables.specs.declared.Reading.{Reading}
+use Rattle.tables.specs.declared.Stage.{Stage}
+use Rattle.tables.specs.declared.Stage.the-variants.{Passed, Refused}
+use Rattle.tables.specs.Blocks.{blockChecks, signalBlock, linkBlock, movementBlock, stepBlock}
+use Rattle.tables.specs.Tables.{Judged}
+use Rattle.tables.proofs.Stages.{judged-refused, verdict-passed, verdict-refused}
+use Rattle.network_signals.specs.Counts.{CountsHeld}
+use Rattle.network_signals.specs.Stages.{SignalsAsked, SignalsHeld}
+use Rattle.network_links.specs.Movements.{shareChecksIn}
+use Rattle.network_links.specs.Stages.{LinksAsked, LinksHeld, MovementsAsked, MovementsHeld, SharesAsked}
+use Rattle.network_links.proofs.Movements.{shares-asked, shares-checked}
+use Rattle.network_steps.specs.Steps.{StepsAsked, StepsHeld}
+use Rattle.network_steps.specs.Boundaries.{boundaryChecksIn, BoundariesAsked}
+use Rattle.network_steps.proofs.Boundaries.{boundaries-ready, boundaries-are}
+use Rattle.network.specs.Loading.{endChecks, EndAsked, Rooms, Loaded}
+use Rattle.network.proofs.End.{lines-within}
+
+-- ---- what is left to judge: the whole is refused where what is left of it is, and passes where nothing is left
+abbrev Left : List ℕ → Checks → Type 0
+Left text rest = verdict (networkChecks (lines text)) ≡ verdict rest
+
+module _ (text : List ℕ) (first rest : Checks) (l : Left text (first then rest)) where
+  on : verdict first ≡ verdicts.Passes → Left text rest
+  unfolding verdict
+  on e = l ∙ or-else-passes _ _ e
+
+  stop : {Held : Reading → Type 0} {stage : Stage} {r : Refusal} → stage ≡ Refused r → verdict first ≡ verdicts.Refused r → Judged (networkChecks (lines text)) Held stage
+  unfolding verdict
+  stop {r = r} e v = rw e (judged-refused (l ∙ or-else-refused _ _ r v))
+
+-- the checks from each stage on
+module _ (text : List ℕ) where
+  abbrev last : Checks
+  last = each (stepCount (lines text)) (boundaryChecks (lines text))
+
+  abbrev fromEnd : Checks
+  fromEnd = endChecks (lines text) then last
+
+  abbrev fromSteps : Checks
+  fromSteps = blockChecks (stepBlock (lines text)) then fromEnd
+
+  abbrev fromShares : Checks
+  fromShares = each (linkCount (lines text)) (shareChecks (lines text)) then fromSteps
+
+  abbrev fromMovements : Checks
+  fromMovements = blockChecks (movementBlock (lines text)) then fromShares
+
+  abbrev fromLinks : Checks
+  fromLinks = blockChecks (linkBlock (lines text)) then fromMovements
+
+  abbrev fromSignals : Checks
+  fromSignals = blockChecks (signalBlock (lines text)) then fromLinks
+
+  whole : Left text (countChecks (lines text) then fromSignals)
+  unfolding networkChecks endChecks
+  whole = refl
+
+-- ---- the stages
+module _ {text links₀ movements₀ times₀ : List ℕ} (rooms : Rooms links₀ movements₀ times₀) {counts : Stage} (j : Judged (countChecks (lines text)) (CountsHeld text) counts) where
+  pub counts-stop : {Held : Reading → Type 0} {r : Refusal} → counts ≡ Refused r → Judged (networkChecks (lines text)) Held counts
+  counts-stop e = stop text _ (fromSignals text) (whole text) e (verdict-refused j e)
+
+  module _ {atSignals : Reading} (e₁ : counts ≡ Passed atSignals) where
+    pub signals-asked : {phases : List ℕ} → length phases ≡ maxSignals → SignalsAsked text atSignals phases
+    signals-asked room = record { counted = j .held _ e₁ .counted; starts = j .held _ e₁ .starts; room = room }
+
+    left₁ : Left text (fromSignals text)
+    left₁ = on text _ (fromSignals text) (whole text) (verdict-passed j e₁)
+
+    module _ {phases : List ℕ} {signals : Stage} (j₁ : Judged (blockChecks (signalBlock (lines text))) (SignalsHeld text phases) signals) where
+      pub signals-stop : {Held : Reading → Type 0} {r : Refusal} → signals ≡ Refused r → Judged (networkChecks (lines text)) Held signals
+      signals-stop e = stop text _ (fromLinks text) left₁ e (verdict-refused j₁ e)
+
+      module _ {atLinks : Reading} (e₂ : signals ≡ Passed atLinks) where
+        pub links-asked : LinksAsked text atLinks phases links₀
+        links-asked = record { reached = j₁ .held _ e₂ .reached; phased = j₁ .held _ e₂ .phase-table; room = rooms .link-room }
+
+        left₂ : Left text (fromLinks text)
+        left₂ = on text _ (fromLinks text) left₁ (verdict-passed j₁ e₂)
+
+        module _ {links : List ℕ} {linked : Stage} (j₂ : Judged (blockChecks (linkBlock (lines text))) (LinksHeld text links) linked) where
+          pub links-stop : {Held : Reading → Type 0} {r : Refusal} → linked ≡ Refused r → Judged (networkChecks (lines text)) Held linked
+          links-stop e = stop text _ (fromMovements text) left₂ e (verdict-refused j₂ e)
+
+          module _ {atMovements : Reading} (e₃ : linked ≡ Passed atMovements) where
+            pub movements-asked : MovementsAsked text atMovements movements₀
+            movements-asked = record { reached = j₂ .held _ e₃ .reached; room = rooms .movement-room }
+
+            left₃ : Left text (fromMovements text)
+            left₃ = on text _ (fromMovements text) left₂ (verdict-passed j₂ e₃)
+
+            module _ {movements : List ℕ} {moved : Stage} (j₃ : Judged (blockChecks (movementBlock (lines text))) (MovementsHeld text movements) moved) where
+              pub movements-stop : {Held : Reading → Type 0} {r : Refusal} → moved ≡ Refused r → Judged (networkChecks (lines text)) Held moved
+              movements-stop e = stop text _ (fromShares text) left₃ e (verdict-refused j₃ e)
+
+              module _ {atShares : Reading} (e₄ : moved ≡ Passed atShares) where
+                pub shares-ready : SharesAsked movements (atShares .counts)
+                shares-ready = shares-asked (j₃ .held _ e₄ .reached .counted) (j₃ .held _ e₄ .table)
+
+                left₄ : Left text (fromShares text)
+                left₄ = on text _ (fromShares text) left₃ (verdict-passed j₃ e₄)
+
+                checked : verdict (each (atShares .counts .links) (shareChecksIn movements (atShares .counts))) ≡ verdict (each (linkCount (lines text)) (shareChecks (lines text)))
+                checked = shares-checked (j₃ .held _ e₄ .reached .counted) (j₃ .held _ e₄ .table)
+
+                module _ {shared : Stage} (j₄ : Judged (each (atShares .counts .links) (shareChecksIn movements (atShares .counts))) (λ after. after ≡ atShares) shared) where
+                  pub shares-stop : {Held : Reading → Type 0} {r : Refusal} → shared ≡ Refused r → Judged (networkChecks (lines text)) Held shared
+                  shares-stop e = stop text _ (fromSteps text) left₄ e (sym checked ∙ verdict-refused j₄ e)
+
+                  module _ {atSteps : Reading} (e₅ : shared ≡ Passed atSteps) where
+                    pub steps-asked : StepsAsked text atSteps times₀
+                    steps-asked = record { reached = rw (j₄ .held _ e₅) (j₃ .held _ e₄ .reached); size = rooms .time-room }
+
+                    left₅ : Left text (fromSteps text)
+                    left₅ = on text _ (fromSteps text) left₄ (sym checked ∙ verdict-passed j₄ e₅)
+
+                    module _ {times : List ℕ} {stepped : Stage} (j₅ : Judged (blockChecks (stepBlock (lines text))) (StepsHeld text times) stepped) where
+                      pub steps-stop : {Held : Reading → Type 0} {r : Refusal} → stepped ≡ Refused r → Judged (networkChecks (lines text)) Held stepped
+                      steps-stop e = stop text _ (fromEnd text) left₅ e (verdict-refused j₅ e)
+
+                      module _ {atEnd : Reading} (e₆ : stepped ≡ Passed atEnd) where
+                        pub end-asked : EndAsked text atEnd
+                        end-asked =
+                            let held = j₅ .held _ e₆ in
+                            record {
+                              reached = held .reached;
+                              within = lines-within (lines text) (omega (arith, held .reached .counted .some-steps, held .reached .counted .steps)) (verdict-passed j₅ e₆);
+                            }
+
+                        left₆ : Left text (fromEnd text)
+                        left₆ = on text _ (fromEnd text) left₅ (verdict-passed j₅ e₆)
+
+                        module _ {ended : Stage} (j₆ : Judged (endChecks (lines text)) (λ after. after ≡ atEnd) ended) where
+                          pub end-stop : {Held : Reading → Type 0} {r : Refusal} → ended ≡ Refused r → Judged (networkChecks (lines text)) Held ended
+                          end-stop e = stop text _ (last text) left₆ e (verdict-refused j₆ e)
+
+                          module _ {reading : Reading} (e₇ : ended ≡ Passed reading) where
+                            held : StepsHeld text times reading
+                            held = rw (j₆ .held _ e₇) (j₅ .held _ e₆)
+
+                            pub boundaries-asked : BoundariesAsked times links (reading .counts)
+                            boundaries-asked = boundaries-ready (held .reached .counted) (held .table) (j₂ .held _ e₃ .table)
+
+                            met : verdict (networkChecks (lines text)) ≡ verdict (each (reading .counts .steps) (boundaryChecksIn times links (reading .counts)))
+                            met =
+                                on text _ (last text) left₆ (verdict-passed j₆ e₇)
+                                ∙ sym (boundaries-are (held .reached .counted) (held .table) (j₂ .held _ e₃ .table))
+
+                            module _ {stage : Stage} (j₇ : Judged (each (reading .counts .steps) (boundaryChecksIn times links (reading .counts))) (λ after. after ≡ reading) stage) where
+                              pub network-judged : Judged (networkChecks (lines text)) (Loaded text links movements times) stage
+                              network-judged =
+                                  record {
+                                    told = j₇ .told ∙ sym met;
+                                    held = λ after e.
+                                        rw (j₇ .held after e)
+                                        (record {
+                                          counted = held .reached .counted;
+                                          signals-start = held .reached .signals-start;
+                                          steps-start = held .steps-start;
+                                          link-table = j₂ .held _ e₃ .table;
+                                          movement-table = j₃ .held _ e₄ .table;
+                                          time-table = held .table;
+                                          holds = hold-of-passes (networkChecks (lines text)) (met ∙ verdict-passed j₇ e);
+                                        });
+                                  }
+
+-- ---- the answer
+module _ {text : List ℕ} {stage : Stage} {links movements times : List ℕ} (got : Judged (networkChecks (lines text)) (Loaded text links movements times) stage) where
+  pub answer-passes : {reading : Reading} → stage ≡ Passed reading → verdicts.Passes ≡ checkNetwork (lines text)
+  unfolding checkNetwork
+  answer-passes e = sym (verdict-passed got e)
+
+  pub answer-refused : {r : Refusal} → stage ≡ Refused r → verdicts.Refused r ≡ checkNetwork (lines text)
+  unfolding checkNetwork
+  answer-refused e = sym (verdict-refused got e)

@@ -1,0 +1,3 @@
+pub mod Links
+pub mod Movements
+pub mod Stages

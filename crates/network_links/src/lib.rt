@@ -1,0 +1,184 @@
+// The `Q` and `M` lines of a network text and the sums of the shares: refusals 1, 4 and 5.
+ghost use mathlib.Core.Path.{_≡_};
+ghost use Prim.Native.Nat.{_+_, _≤_, _<_};
+ghost use Rattle.search.specs.Checks.{each};
+ghost use Rattle.records.specs.Lines.{lines};
+ghost use Rattle.tables.specs.Tables.{Judged};
+ghost use Rattle.tables.specs.Blocks.{blockChecks, linkBlock, movementBlock};
+ghost use Rattle.network_links.specs.Links.{validMaskIn, validLinkIn, PhasesKnown, LinkAsked};
+ghost use Rattle.network_links.specs.Movements.{pairRisesIn, validMovementIn, lastMovementIn, shareSumIn, validSharesIn, shareChecksIn, MovementsKnown};
+ghost use Rattle.network_links.specs.Stages.{LinksAsked, LinksHeld, MovementsAsked, MovementsHeld, SharesAsked};
+use records::LineRead;
+use search::Refusal;
+use tables::LINK_FIELDS;
+use tables::MOVEMENT_FIELDS;
+use tables::Reading;
+use tables::Stage;
+
+// Refusal 4: a link without a signal has no phase; one with a signal has a phase, and none above the signal's number of phases.
+fn valid_mask(mask: u32, signal: usize, phases: &[u32]) -> bool
+    requires { ⌜ PhasesKnown signal (now phases) ⌝ }
+    ensures { λ r. ⌜ r ≡ validMaskIn mask signal (now (phases .entry)) ⌝ }
+{
+    if signal == 0 {
+        return mask == 0;
+    }
+    let last = signal - 1;
+    (1 <= mask) & (mask < 1 << phases[last])
+}
+
+// Refusal 4, link `i`.
+fn valid_link(links: &[u32], i: usize, signals: usize, phases: &[u32]) -> bool
+    requires { ⌜ LinkAsked (now links) i signals (now phases) ⌝ }
+    ensures { λ r. ⌜ r ≡ validLinkIn (now (links .entry)) i signals (now (phases .entry)) ⌝ }
+{
+    let signal = tables::index(tables::signal_of(links, i));
+    if signals < signal {
+        return false;
+    }
+    let capacity = tables::capacity(links, i);
+    let travel = tables::travel_time(links, i);
+    (capacity <= 2000000000)
+        & ((1 <= travel) & (travel <= 3600))
+        & (tables::exit_rate(links, i) <= 10000)
+        & valid_mask(tables::phase_mask(links, i), signal, phases)
+        & (tables::standing(links, i) <= capacity)
+}
+
+// The `Q` lines: each line's form (refusal 1), then its values (refusal 4). Its numbers go straight into the row of its link.
+pub fn read_links(text: &[u8], reading: Reading, phases: &[u32], links: &mut [u32]) -> Stage
+    requires { ⌜ LinksAsked (now text) reading (now phases) (now links) ⌝ }
+    ensures { λ r. ⌜ Judged (blockChecks (linkBlock (lines (now (text .entry))))) (LinksHeld (now (text .entry)) (now (links .exit))) r ⌝ }
+{
+    let counts = reading.counts;
+    let mut place = reading.next;
+    let mut i = 0;
+    while i < counts.links {
+        let line = counts.link_line(i) + 1;
+        let start = LINK_FIELDS * i;
+        let read = tables::read_row(text, place, b'Q', links, start, LINK_FIELDS);
+        let LineRead::Next(next) = read else {
+            return Stage::Refused(Refusal::new(1, line, 0));
+        };
+        if !valid_link(links, i, counts.signals, phases) {
+            return Stage::Refused(Refusal::new(4, line, i + 1));
+        }
+        place = next;
+        i += 1;
+    }
+    Stage::Passed(reading.moved_to(place))
+}
+
+// Refusal 5: the pair (from, to) of movement `j` is above that of the movement before.
+fn pair_rises(movements: &[u32], j: usize) -> bool
+    requires { ⌜ MovementsKnown (now movements) (j + 1) ⌝ }
+    ensures { λ r. ⌜ r ≡ pairRisesIn (now (movements .entry)) j ⌝ }
+{
+    if j == 0 {
+        return true;
+    }
+    let before = tables::link_of(movements, j - 1, 0);
+    let from = tables::link_of(movements, j, 0);
+    (before < from)
+        | (before == from)
+            & (tables::link_of(movements, j - 1, 1) < tables::link_of(movements, j, 1))
+}
+
+// Refusal 5, movement `j`, by its row and the one before.
+fn valid_movement(movements: &[u32], links: usize, j: usize) -> bool
+    requires { ⌜ MovementsKnown (now movements) (j + 1) ⌝ }
+    ensures { λ r. ⌜ r ≡ validMovementIn (now (movements .entry)) links j ⌝ }
+{
+    let from = tables::index(tables::link_of(movements, j, 0));
+    let to = tables::index(tables::link_of(movements, j, 1));
+    let rate = tables::rate(movements, j);
+    let share = tables::share(movements, j);
+    ((1 <= from) & (from <= links))
+        & ((1 <= to) & (to <= links))
+        & (from != to)
+        & ((1 <= rate) & (rate <= 10000))
+        & ((1 <= share) & (share <= 1000))
+        & pair_rises(movements, j)
+}
+
+// The `M` lines: each line's form (refusal 1), then its values (refusal 5). Its numbers go straight into the row of its movement.
+pub fn read_movements(text: &[u8], reading: Reading, movements: &mut [u32]) -> Stage
+    requires { ⌜ MovementsAsked (now text) reading (now movements) ⌝ }
+    ensures { λ r. ⌜ Judged (blockChecks (movementBlock (lines (now (text .entry))))) (MovementsHeld (now (text .entry)) (now (movements .exit))) r ⌝ }
+{
+    let counts = reading.counts;
+    let mut place = reading.next;
+    let mut j = 0;
+    while j < counts.movements {
+        let line = counts.movement_line(j) + 1;
+        let start = MOVEMENT_FIELDS * j;
+        let read = tables::read_row(text, place, b'M', movements, start, MOVEMENT_FIELDS);
+        let LineRead::Next(next) = read else {
+            return Stage::Refused(Refusal::new(1, line, 0));
+        };
+        if !valid_movement(movements, counts.links, j) {
+            return Stage::Refused(Refusal::new(5, line, j + 1));
+        }
+        place = next;
+        j += 1;
+    }
+    Stage::Passed(reading.moved_to(place))
+}
+
+// The number, from 1, of the last movement that leaves a link, numbered from 1; 0 where none does.
+fn last_movement(movements: &[u32], count: usize, link: usize) -> usize
+    requires { ⌜ MovementsKnown (now movements) count ⌝ }
+    ensures { λ r. ⌜ (r ≡ lastMovementIn (now (movements .entry)) count link) × (r ≤ count) ⌝ }
+{
+    let mut last = 0;
+    let mut j = 0;
+    while j < count {
+        if tables::index(tables::link_of(movements, j, 0)) == link {
+            last = j + 1;
+        }
+        j += 1;
+    }
+    last
+}
+
+// The sum of the shares of the movements that leave a link.
+fn share_sum(movements: &[u32], count: usize, link: usize) -> u64
+    requires { ⌜ MovementsKnown (now movements) count ⌝ }
+    ensures { λ r. ⌜ r ≡ shareSumIn (now (movements .entry)) count link ⌝ }
+{
+    let mut sum: u64 = 0;
+    let mut j = 0;
+    while j < count {
+        if tables::index(tables::link_of(movements, j, 0)) == link {
+            sum += tables::wide(tables::share(movements, j));
+        }
+        j += 1;
+    }
+    sum
+}
+
+// Refusal 5: a link has no movements, or their shares sum to 1000.
+fn valid_shares(movements: &[u32], count: usize, link: usize) -> bool
+    requires { ⌜ MovementsKnown (now movements) count ⌝ }
+    ensures { λ r. ⌜ r ≡ validSharesIn (now (movements .entry)) count link ⌝ }
+{
+    (last_movement(movements, count, link) == 0) | (share_sum(movements, count, link) == 1000)
+}
+
+// Refusal 5 after all `M` lines: the shares by rising link, told at the link's last movement.
+pub fn check_shares(movements: &[u32], reading: Reading) -> Stage
+    requires { ⌜ SharesAsked (now movements) (reading .counts) ⌝ }
+    ensures { λ r. ⌜ Judged (each (reading .counts .links) (shareChecksIn (now (movements .entry)) (reading .counts))) (λ after. after ≡ reading) r ⌝ }
+{
+    let counts = reading.counts;
+    let count = counts.movements;
+    let mut i = 0;
+    while i < counts.links {
+        if !valid_shares(movements, count, i + 1) {
+            let last = last_movement(movements, count, i + 1);
+            return Stage::Refused(Refusal::new(5, counts.movement_line(last), last));
+        }
+        i += 1;
+    }
+    Stage::Passed(reading)
+}

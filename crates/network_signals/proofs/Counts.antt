@@ -1,0 +1,62 @@
+-- The returns of the function that reads the `N` line, each in the form of a need. Assumes nothing.
+use Prim.Native.Nat.{ℕ, _+_, _<_}
+use mathlib.Core.Path.{_≡_, sym, ap, _∙_}
+use mathlib.Core.Bool.{Bool, true, false, not}
+use mathlib.Core.List.{List}
+use native.Mathlib.Omega.{arith}
+use borrow.Author.Tests.{leb-true, not-true, not-false}
+use lib.ListN.{getD}
+use Rattle.search.specs.declared.Refusal.{Refusal}
+use Rattle.search.specs.Checks.{refusal}
+use Rattle.records.specs.declared.LineRead.{LineRead}
+use Rattle.records.specs.declared.LineRead.the-variants.{Next, Malformed}
+use Rattle.records.specs.Lines.{lines}
+use Rattle.records.proofs.Laws.{starts-first}
+use Rattle.model.specs.Test.{within}
+use Rattle.model.specs.Network.{entry, linkCount, signalCount, movementCount, stepCount, signalLine}
+use Rattle.model.specs.Rules.{validCounts}
+use Rattle.model.specs.Table.{letterN, countChecks}
+use Rattle.model.proofs.Tests.{and-left, and-right}
+use Rattle.tables.specs.declared.Counts.{Counts}
+use Rattle.tables.specs.declared.Stage.the-variants.{Passed, Refused}
+use Rattle.tables.specs.Rows.{RowRead}
+use Rattle.tables.specs.Tables.{Judged, CountsHold}
+use Rattle.tables.proofs.Blocks.{line-malformed, line-invalid, line-valid}
+use Rattle.tables.proofs.Stages.{judged-refused, judged-passed}
+use Rattle.network_signals.specs.Counts.{countFields, countsFrom, validCountsIn, CountsHeld}
+
+module _ {text old fields : List ℕ} {r : LineRead} (row : RowRead letterN countFields text 0 0 old r fields) where
+  pub counts-malformed : r ≡ Malformed → {q : Refusal} → q ≡ refusal 1 1 0 → Judged (countChecks (lines text)) (CountsHeld text) (Refused q)
+  unfolding countChecks
+  counts-malformed e t = rw t (judged-refused (line-malformed row 0 2 0 (validCounts (lines text)) (starts-first text) e))
+
+  module _ {next : ℕ} (e : r ≡ Next next) {counts : Counts} (c : counts ≡ countsFrom fields) {v : Bool} (told : v ≡ validCountsIn counts) where
+    number-at : (k : ℕ) → k < countFields → getD fields k 0 ≡ entry (lines text) 0 k
+    number-at k h = let z : k ≡ 0 + k = omega arith in ap (λ x. getD fields x 0) z ∙ row .held next e 0 (starts-first text) .numbers k h
+
+    judged : v ≡ validCounts (lines text)
+    unfolding validCountsIn validCounts linkCount signalCount movementCount stepCount
+    judged =
+        told ∙ rw (c, number-at 0 (omega arith), number-at 1 (omega arith), number-at 2 (omega arith), number-at 3 (omega arith))
+
+    pub counts-invalid : not v ≡ true → {q : Refusal} → q ≡ refusal 2 1 0 → Judged (countChecks (lines text)) (CountsHeld text) (Refused q)
+    unfolding countChecks
+    counts-invalid n t =
+        rw t (judged-refused (line-invalid row 0 2 0 (validCounts (lines text)) (starts-first text) e (sym judged ∙ not-true v n)))
+
+    held : validCountsIn counts ≡ true → CountsHold (lines text) counts
+    unfolding validCountsIn within
+    held w =
+        let links : counts .links ≡ linkCount (lines text) = ap (λ (c : Counts). c .links) c ∙ unfold linkCount in number-at 0 (omega arith) in
+        let signals : counts .signals ≡ signalCount (lines text) = ap (λ (c : Counts). c .signals) c ∙ unfold signalCount in number-at 1 (omega arith) in
+        let movements : counts .movements ≡ movementCount (lines text) = ap (λ (c : Counts). c .movements) c ∙ unfold movementCount in number-at 2 (omega arith) in
+        let steps : counts .steps ≡ stepCount (lines text) = ap (λ (c : Counts). c .steps) c ∙ unfold stepCount in number-at 3 (omega arith) in
+        search (leb-true, and-left, and-right) depth 9
+
+    pub counts-passed : not v ≡ false
+        → Judged (countChecks (lines text)) (CountsHeld text) (Passed (record { counts = counts; next = next; «signals_at» = next; «steps_at» = next; shortest = 0 }))
+    unfolding countChecks signalLine
+    counts-passed n =
+        let w = sym judged ∙ not-false v n in
+        judged-passed (line-valid row 0 2 0 (validCounts (lines text)) (starts-first text) e w)
+        (record { counted = held (sym told ∙ not-false v n); starts = row .held next e 0 (starts-first text) .starts })

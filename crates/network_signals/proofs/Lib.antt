@@ -1,0 +1,4 @@
+mod Values
+mod Counts
+mod Lines
+mod Loops

@@ -1,0 +1,174 @@
+-- The turns and the returns of the loops over the `G` lines, each in the form of a need. Assumes nothing.
+use Prim.Native.Nat.{ℕ, _+_, _≤_, _<_}
+use mathlib.Core.Path.{_≡_, refl, ap, _∙_}
+use mathlib.Core.Logic.{⊎-elim}
+use mathlib.Core.List.{List}
+use native.Mathlib.Decide.{decLe}
+use native.Mathlib.Nat.{eq-or-lt-of-le, le-of-suc-le-suc}
+use native.Mathlib.Numerals.{add-one}
+use native.Mathlib.Omega.{arith}
+use borrow.Author.Tests.{le-leb}
+use lib.Dec.{leb}
+use lib.ListN.{length, getD, set, replicate, length-set, length-replicate, getD-replicate, List·getD-eq-default}
+use lib.Seq.{getD-set-same, getD-set-other}
+use Rattle.search.specs.declared.Refusal.{Refusal}
+use Rattle.search.specs.Checks.{verdict}
+use Rattle.search.proofs.Laws.{first-all}
+use Rattle.records.specs.Lines.{lines}
+use Rattle.records.specs.Reading.{Starts}
+use Rattle.model.specs.declared.Signal.{Signal}
+use Rattle.model.specs.Test.{every}
+use Rattle.model.specs.Network.{maxSignals, signalCount, signalLine, signal}
+use Rattle.model.specs.Table.{signalChecks}
+use Rattle.tables.specs.declared.Reading.{Reading}
+use Rattle.tables.specs.declared.Stage.{Stage}
+use Rattle.tables.specs.declared.Stage.the-variants.{Passed, Refused}
+use Rattle.tables.specs.Blocks.{blockChecks, ReadTo, signalBlock}
+use Rattle.tables.specs.Tables.{Judged, noSignal, SignalTable, movedTo}
+use Rattle.tables.proofs.Places.{links-after-signals}
+use Rattle.tables.proofs.Blocks.{passed-all, passed-stop, block-begin, block-end, block-next}
+use Rattle.tables.proofs.Stages.{judged-refused, judged-passed, verdict-passed, verdict-refused}
+use Rattle.network_signals.specs.Signals.{headFields, signalFields, signalFrom, shortestTime}
+use Rattle.network_signals.specs.Stages.{Clear, SignalAsked, SignalHeld, SignalsAsked, SignalsHeld, LoadAsked}
+use Rattle.network_signals.proofs.Values.{shortest-all}
+
+-- 22 zeros
+zeros-clear : Clear headFields (replicate signalFields 0)
+zeros-clear =
+    record {
+      size = refl;
+      rest = λ k l. elim (decLe signalFields k) [
+        | yes h ↦ List·getD-eq-default (replicate signalFields 0) 0 h
+        | no h ↦ getD-replicate signalFields k 0 0 (omega arith)
+      ];
+    }
+
+-- what is known of the indices below r, and of r
+below-next : (P : ℕ → Type 0) (r : ℕ) → ((i : ℕ) → i < r → P i) → P r → (i : ℕ) → i < r + 1 → P i
+below-next P r below at i h =
+    ⊎-elim (λ (e : i ≡ r). rw e at) (λ (q : i < r). below i q) (eq-or-lt-of-le (le-of-suc-le-suc (rw add-one at h)))
+
+-- ---- one line more, by what its read promises
+module _ {text : List ℕ} {r : ℕ} {fields : List ℕ} {stage : Stage} (got : Judged (signalChecks (lines text) r) (SignalHeld text r fields) stage) {passed : Reading}
+    (e : stage ≡ Passed passed) where
+  pub line-size : length fields ≡ signalFields
+  line-size = got .held passed e .size
+
+  module _ {s : Signal} (q : s ≡ signalFrom fields) where
+    line-signal : s ≡ signal (lines text) r
+    line-signal = q ∙ got .held passed e .signals
+
+    pub line-few : s .phases ≤ 8
+    line-few = rw q (got .held passed e .few)
+
+-- ---- the lines are judged
+-- the first r of them have passed
+pub record SignalsTo (text phases : List ℕ) (at shortest r : ℕ) : Type 0 where
+  pub read : ReadTo text (signalBlock (lines text)) at r
+  pub room : length phases ≡ maxSignals
+  pub holds : (i : ℕ) → i < r → getD phases i 0 ≡ signal (lines text) i .phases
+  pub few : (i : ℕ) → i < r → getD phases i 0 ≤ 8
+  pub least : (x : ℕ) → x ≤ 60
+      → leb x shortest ≡ every r (λ i. every (signal (lines text) i .phases) (λ k. leb x (getD (signal (lines text) i .greatest) k 0)))
+
+module _ {text : List ℕ} {reading : Reading} {phases₀ : List ℕ} (asked : SignalsAsked text reading phases₀) where
+  pub signals-begin : SignalsTo text phases₀ (reading .next) 60 0
+  unfolding every
+  signals-begin =
+      record {
+        read = block-begin (asked .starts);
+        room = asked .room;
+        holds = λ i h. absurd (omega arith);
+        few = λ i h. absurd (omega arith);
+        least = λ x h. le-leb x 60 h;
+      }
+
+  module _ {phases : List ℕ} {at shortest r : ℕ} (inv : SignalsTo text phases at shortest r) where
+    pub signals-done : reading .counts .signals ≤ r → Judged (blockChecks (signalBlock (lines text))) (SignalsHeld text phases)
+        (Passed (record { counts = reading .counts; next = at; «signals_at» = reading .next; «steps_at» = reading .«steps_at»; shortest = shortest }))
+    signals-done h =
+        let past : signalCount (lines text) ≤ r = omega (arith, asked .counted .signals) in
+        let end : r ≡ signalCount (lines text) = omega (arith, inv .read .passed .within) in
+        judged-passed (passed-all (inv .read .passed) past)
+        (record {
+          reached =
+              record {
+                counted = asked .counted;
+                starts = rw links-after-signals at (block-end (inv .read) past);
+                signals-start = asked .starts;
+                shortest-time = record { least = rw end at (inv .least) };
+              };
+          phase-table = record { size = inv .room; holds = rw end at (inv .holds); few = rw end at (inv .few) };
+        })
+
+    module _ (h : r < reading .counts .signals) where
+      pub signal-asked : {moved : Reading} → moved ≡ movedTo reading at → SignalAsked text moved r (replicate signalFields 0)
+      signal-asked e = rw e (record { starts = inv .read .starts; few = omega (arith, asked .counted .few .signals); clear = zeros-clear })
+
+      module _ {fields : List ℕ} {stage : Stage} (got : Judged (signalChecks (lines text) r) (SignalHeld text r fields) stage) where
+        below : r < signalCount (lines text)
+        below = omega (arith, asked .counted .signals)
+
+        pub signals-stop : {q : Refusal} → stage ≡ Refused q → Judged (blockChecks (signalBlock (lines text))) (SignalsHeld text phases) stage
+        signals-stop e = rw e (judged-refused (passed-stop (inv .read .passed) below (verdict-refused got e)))
+
+        pub signals-next : {passed : Reading} → stage ≡ Passed passed → {s : Signal} → s ≡ signalFrom fields → {short : ℕ} → short ≡ shortestTime s (s .phases) shortest
+            → SignalsTo text (set phases r (s .phases)) (passed .next) short (r + 1)
+        unfolding every
+        signals-next {passed} e {s} q l =
+            let same = line-signal got e q in
+            let inside : r < length phases = omega (arith, inv .room, asked .counted .few .signals) in
+            record {
+              read = block-next (inv .read) below (verdict-passed got e) (got .held passed e .starts);
+              room = length-set phases r (s .phases) ∙ inv .room;
+              holds = below-next (λ i. getD (set phases r (s .phases)) i 0 ≡ signal (lines text) i .phases) r
+                  (λ i j. getD-set-other phases r i (s .phases) 0 (λ z. omega arith) ∙ inv .holds i j)
+                  (getD-set-same phases r (s .phases) 0 inside ∙ ap (λ (s : Signal). s .phases) same);
+              few = below-next (λ i. getD (set phases r (s .phases)) i 0 ≤ 8) r
+                  (λ i j. rw (getD-set-other phases r i (s .phases) 0 (λ z. omega arith)) (inv .few i j))
+                  (rw (getD-set-same phases r (s .phases) 0 inside) (line-few got e q));
+              least = λ x j. rw (l, shortest-all s x shortest (s .phases), inv .least x j, same, add-one);
+            }
+
+-- ---- the lines are loaded
+-- the first r of them are loaded
+pub record LoadedTo (text : List ℕ) (signals : List Signal) (at r : ℕ) : Type 0 where
+  pub within : r ≤ signalCount (lines text)
+  pub starts : Starts text at (signalLine (lines text) r)
+  pub size : length signals ≡ maxSignals
+  pub holds : (i : ℕ) → i < r → getD signals i noSignal ≡ signal (lines text) i
+
+module _ {text : List ℕ} {reading : Reading} (asked : LoadAsked text reading) where
+  pub loaded-none : (s : Signal) → LoadedTo text (replicate maxSignals s) (reading .«signals_at») 0
+  loaded-none s = record { within = omega arith; starts = asked .starts; size = length-replicate maxSignals s; holds = λ i h. absurd (omega arith) }
+
+  module _ {signals : List Signal} {at r : ℕ} (inv : LoadedTo text signals at r) where
+    pub loaded-all : reading .counts .signals ≤ r → SignalTable (lines text) signals
+    loaded-all h =
+        let end : r ≡ signalCount (lines text) = omega (arith, inv .within, asked .counted) in
+        record { size = inv .size; holds = rw end at (inv .holds) }
+
+    module _ (h : r < reading .counts .signals) where
+      pub loaded-asked : {moved : Reading} → moved ≡ movedTo reading at → SignalAsked text moved r (replicate signalFields 0)
+      loaded-asked e = rw e (record { starts = inv .starts; few = omega (arith, asked .few); clear = zeros-clear })
+
+      module _ {fields : List ℕ} {stage : Stage} (got : Judged (signalChecks (lines text) r) (SignalHeld text r fields) stage) where
+        pub loaded-next : {passed : Reading} → stage ≡ Passed passed → {s : Signal} → s ≡ signalFrom fields → LoadedTo text (set signals r s) (passed .next) (r + 1)
+        loaded-next {passed} e {s} q =
+            record {
+              within = omega (arith, asked .counted);
+              starts = rw add-one (got .held passed e .starts);
+              size = length-set signals r s ∙ inv .size;
+              holds = below-next (λ i. getD (set signals r s) i noSignal ≡ signal (lines text) i) r
+                  (λ i j. getD-set-other signals r i s noSignal (λ z. omega arith) ∙ inv .holds i j)
+                  (getD-set-same signals r s noSignal (omega (arith, inv .size, asked .few)) ∙ line-signal got e q);
+            }
+
+        -- lines that have passed are not refused
+        pub loaded-stop : {q : Refusal} → stage ≡ Refused q → SignalTable (lines text) signals
+        unfolding verdict
+        loaded-stop e =
+            let one = first-all (λ i. verdict (signalChecks (lines text) i)) (signalCount (lines text)) (asked .passed) r (omega (arith, asked .counted)) in
+            let other = verdict-refused got e in
+            let z : _≡_ {A = ℕ} 0 1 = cc in
+            absurd (omega arith)

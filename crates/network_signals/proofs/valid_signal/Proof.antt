@@ -1,0 +1,46 @@
+-- `network_signals::valid_signal` meets its contract. Each return by where the shown phase stands. Assumes nothing.
+use mathlib.Core.Path.{sym}
+use native.Mathlib.Omega.{arith}
+use borrow.Author.Needs.{needs}
+use Rattle.network_signals.proofs.Values.{shown-below, shown-above, shown-within}
+use Rattle.network_signals.proofs.valid_signal.Statement.{statement}
+use Rattle.network_signals.proofs.valid_signal.Tie as tie
+
+returns : tie.Need-returns
+returns c = sym (shown-below (c .before .args .t1) (c .if1 .taken))
+
+returns-2 : tie.Need-returns-2
+returns-2 c = sym (shown-above (c .before .before .args .t1) (c .if2 .taken))
+
+cast-at : tie.Need-cast-at
+cast-at c = search needs
+
+sub-at : tie.Need-sub-at
+sub-at c = search needs
+
+valid-times-requires : tie.Need-valid-times-requires
+valid-times-requires c κs = search needs
+
+mul-result : tie.Need-mul-result
+mul-result c = search needs
+
+element-copy-out-result : tie.Need-element-copy-out-result
+element-copy-out-result c = search needs
+
+returns-3 : tie.Need-returns-3
+returns-3 c =
+    let s = c .before .before .before .before .args .t1 in
+    shown-within s (omega arith) (omega arith) _ (c .before .valid-times .ensures)
+
+pub valid-signal-spec : {M : Type 1} → statement M
+valid-signal-spec =
+    tie.close
+    (tie.spec
+    returns
+    returns-2
+    cast-at
+    sub-at
+    valid-times-requires
+    mul-result
+    element-copy-out-result
+    returns-3)

@@ -1,0 +1,49 @@
+-- What is read of the `G` lines. Assumes nothing.
+use Prim.Native.Nat.{ℕ, zero, suc}
+use mathlib.Core.Bool.{Bool, cond}
+use mathlib.Core.List.{List, [], _∷_}
+use lib.Dec.{leb, ltb}
+use lib.ListN.{getD}
+use Rattle.model.specs.declared.Signal.{Signal}
+use Rattle.model.specs.Test.{_and_, within, every}
+
+-- how many numbers a `G` line has before those of its phases, and at most
+abbrev pub headFields : ℕ
+headFields = 6
+
+abbrev pub signalFields : ℕ
+signalFields = 22
+
+-- a signal by its numbers
+abbrev pub signalBy : (ℕ → ℕ) → Signal
+signalBy number =
+    record {
+      «least_cycle» = number 0;
+      «greatest_cycle» = number 1;
+      phases = number 2;
+      shown = number 3;
+      «shown_for» = number 4;
+      «cycle_clock» = number 5;
+      least = number 6 ∷ number 8 ∷ number 10 ∷ number 12 ∷ number 14 ∷ number 16 ∷ number 18 ∷ number 20 ∷ [];
+      greatest = number 7 ∷ number 9 ∷ number 11 ∷ number 13 ∷ number 15 ∷ number 17 ∷ number 19 ∷ number 21 ∷ [];
+    }
+
+-- by those of a `G` line, where what the line lacks of eight phases is 0
+abbrev pub signalFrom : List ℕ → Signal
+signalFrom fields = signalBy (λ k. getD fields k 0)
+
+-- 3, the times of one phase: 1 ≤ least ≤ greatest ≤ 3600
+unfoldable pub validTime : ℕ → ℕ → Bool
+validTime least greatest = leb 1 least and within least greatest 3600
+
+-- 3, the times of the first n phases
+abbrev pub validTimes : Signal → ℕ → Bool
+validTimes s n = every n (λ k. validTime (getD (s .least) k 0) (getD (s .greatest) k 0))
+
+abbrev pub lesser : ℕ → ℕ → ℕ
+lesser x y = cond (ltb y x) y x
+
+-- the least of x and the greatest times of the first n phases
+unfoldable pub shortestTime : Signal → ℕ → ℕ → ℕ
+shortestTime s zero x = x
+shortestTime s (suc n) x = lesser (shortestTime s n x) (getD (s .greatest) n 0)

@@ -1,0 +1,49 @@
+-- What the functions that read `G` lines ask, and what is held where the lines pass. Assumes nothing.
+use Prim.Native.Nat.{ℕ, suc, _≤_, _<_}
+use mathlib.Core.Path.{_≡_}
+use mathlib.Core.List.{List}
+use lib.ListN.{length, getD}
+use Rattle.search.specs.declared.Verdict.the-variants.{Passes}
+use Rattle.search.specs.Checks.{verdict}
+use Rattle.records.specs.Lines.{lines}
+use Rattle.records.specs.Reading.{Starts}
+use Rattle.model.specs.Network.{maxSignals, signalCount, signalLine, linkLine, signal}
+use Rattle.tables.specs.declared.Reading.{Reading}
+use Rattle.tables.specs.Blocks.{blockChecks, signalBlock}
+use Rattle.tables.specs.Tables.{CountsHold, PhaseTable, Reached}
+use Rattle.network_signals.specs.Signals.{headFields, signalFields, signalFrom}
+
+-- the numbers of one `G` line from n on are 0
+pub record Clear (n : ℕ) (fields : List ℕ) : Type 0 where
+  pub size : length fields ≡ signalFields
+  pub rest : (k : ℕ) → n ≤ k → getD fields k 0 ≡ 0
+
+-- `G` line r is the next of the text
+pub record SignalAsked (text : List ℕ) (reading : Reading) (r : ℕ) (fields : List ℕ) : Type 0 where
+  pub starts : Starts text (reading .next) (signalLine (lines text) r)
+  pub few : r < maxSignals
+  pub clear : Clear headFields fields
+
+-- its signal
+pub record SignalHeld (text : List ℕ) (r : ℕ) (fields : List ℕ) (reading : Reading) : Type 0 where
+  pub size : length fields ≡ signalFields
+  pub signals : signalFrom fields ≡ signal (lines text) r
+  pub few : signalFrom fields .phases ≤ 8
+  pub starts : Starts text (reading .next) (signalLine (lines text) (suc r))
+
+-- all `G` lines
+pub record SignalsAsked (text : List ℕ) (reading : Reading) (phases : List ℕ) : Type 0 where
+  pub counted : CountsHold (lines text) (reading .counts)
+  pub starts : Starts text (reading .next) (signalLine (lines text) 0)
+  pub room : length phases ≡ maxSignals
+
+pub record SignalsHeld (text phases : List ℕ) (reading : Reading) : Type 0 where
+  pub reached : Reached text (linkLine (lines text) 0) reading
+  pub phase-table : PhaseTable (lines text) phases
+
+-- `G` lines that have passed are loaded again
+pub record LoadAsked (text : List ℕ) (reading : Reading) : Type 0 where
+  pub starts : Starts text (reading .«signals_at») (signalLine (lines text) 0)
+  pub counted : reading .counts .signals ≡ signalCount (lines text)
+  pub few : reading .counts .signals ≤ maxSignals
+  pub passed : verdict (blockChecks (signalBlock (lines text))) ≡ Passes

@@ -1,0 +1,263 @@
+// The `N` line and the `G` lines of a network text: refusals 1, 2 and 3.
+ghost use mathlib.Core.Path.{_≡_};
+ghost use Prim.Native.Nat.{_≤_};
+ghost use lib.ListN.{length};
+ghost use Rattle.records.specs.Lines.{lines};
+ghost use Rattle.model.specs.Test.{within};
+ghost use Rattle.model.specs.Rules.{validSignal};
+ghost use Rattle.model.specs.Table.{countChecks, signalChecks};
+ghost use Rattle.tables.specs.Tables.{Judged, SignalTable};
+ghost use Rattle.tables.specs.Blocks.{blockChecks, signalBlock};
+ghost use Rattle.network_signals.specs.Counts.{countFields, countsFrom, validCountsIn, CountsHeld};
+ghost use Rattle.network_signals.specs.Signals.{signalFields, signalFrom, validTime, validTimes, lesser, shortestTime};
+ghost use Rattle.network_signals.specs.Stages.{SignalAsked, SignalHeld, SignalsAsked, SignalsHeld, LoadAsked};
+use model::Signal;
+use records::LineRead;
+use search::Refusal;
+use tables::Counts;
+use tables::MAX_LINKS;
+use tables::MAX_MOVEMENTS;
+use tables::MAX_SIGNALS;
+use tables::MAX_STEPS;
+use tables::Reading;
+use tables::Stage;
+
+// How many numbers an `N` line has, a `G` line before those of its phases, and a `G` line at most: eight phases.
+const COUNT_FIELDS: usize = 4;
+
+const HEAD_FIELDS: usize = 6;
+
+const SIGNAL_FIELDS: usize = HEAD_FIELDS + 2 * 8;
+
+// Refusal 2.
+fn valid_counts(counts: Counts) -> bool
+    ensures { λ r. ⌜ r ≡ validCountsIn counts ⌝ }
+{
+    ((1 <= counts.links) & (counts.links <= MAX_LINKS))
+        & (counts.signals <= MAX_SIGNALS)
+        & (counts.movements <= MAX_MOVEMENTS)
+        & ((1 <= counts.steps) & (counts.steps <= MAX_STEPS))
+}
+
+// The counts of an `N` line's numbers.
+fn counts_from(fields: &[u32]) -> Counts
+    requires { ⌜ length (now fields) ≡ countFields ⌝ }
+    ensures { λ r. ⌜ r ≡ countsFrom (now (fields .entry)) ⌝ }
+{
+    Counts {
+        links: tables::index(fields[0]),
+        signals: tables::index(fields[1]),
+        movements: tables::index(fields[2]),
+        steps: tables::index(fields[3]),
+    }
+}
+
+// The `N` line: refusals 1 and 2.
+pub fn read_counts(text: &[u8]) -> Stage
+    ensures { λ r. ⌜ Judged (countChecks (lines (now (text .entry)))) (CountsHeld (now (text .entry))) r ⌝ }
+{
+    let mut fields = [0u32; COUNT_FIELDS];
+    let read = tables::read_row(text, 0, b'N', &mut fields, 0, COUNT_FIELDS);
+    let LineRead::Next(next) = read else {
+        return Stage::Refused(Refusal::new(1, 1, 0));
+    };
+    let counts = counts_from(&fields);
+    if !valid_counts(counts) {
+        return Stage::Refused(Refusal::new(2, 1, 0));
+    }
+    Stage::Passed(Reading {
+        counts,
+        next,
+        signals_at: next,
+        steps_at: next,
+        shortest: 0,
+    })
+}
+
+// The signal of a `G` line's numbers, where those of the phases that it lacks are 0.
+fn signal_from(fields: &[u32]) -> Signal
+    requires { ⌜ length (now fields) ≡ signalFields ⌝ }
+    ensures { λ r. ⌜ r ≡ signalFrom (now (fields .entry)) ⌝ }
+{
+    let least = [
+        fields[6],
+        fields[8],
+        fields[10],
+        fields[12],
+        fields[14],
+        fields[16],
+        fields[18],
+        fields[20],
+    ];
+    let greatest = [
+        fields[7],
+        fields[9],
+        fields[11],
+        fields[13],
+        fields[15],
+        fields[17],
+        fields[19],
+        fields[21],
+    ];
+    Signal {
+        least_cycle: fields[0],
+        greatest_cycle: fields[1],
+        phases: fields[2],
+        shown: fields[3],
+        shown_for: fields[4],
+        cycle_clock: fields[5],
+        least,
+        greatest,
+    }
+}
+
+// Refusal 3, the times of one phase.
+fn valid_time(least: u32, greatest: u32) -> bool
+    ensures { λ r. ⌜ r ≡ validTime least greatest ⌝ }
+{
+    (1 <= least) & ((least <= greatest) & (greatest <= 3600))
+}
+
+// Refusal 3, the times of every phase.
+fn valid_times(signal: Signal) -> bool
+    requires { ⌜ signal .phases ≤ 8 ⌝ }
+    ensures { λ r. ⌜ r ≡ validTimes signal (signal .phases) ⌝ }
+{
+    let mut valid = true;
+    let mut k = 0;
+    let phases = signal.phases as usize;
+    while k < phases {
+        valid = valid & valid_time(signal.least[k], signal.greatest[k]);
+        k += 1;
+    }
+    valid
+}
+
+// Refusal 3, the rest of a `G` line whose number of phases is valid.
+fn valid_signal(signal: Signal) -> bool
+    requires { ⌜ signal .phases ≤ 8 ⌝ }
+    ensures { λ r. ⌜ r ≡ validSignal signal ⌝ }
+{
+    if signal.shown < 1 {
+        return false;
+    }
+    if signal.phases < signal.shown {
+        return false;
+    }
+    let at = signal.shown as usize - 1;
+    valid_times(signal)
+        & (1 <= signal.least_cycle)
+        & ((signal.least_cycle <= signal.greatest_cycle) & (signal.greatest_cycle <= 3600))
+        & (signal.shown_for <= signal.greatest[at])
+        & ((signal.shown_for <= signal.cycle_clock) & (signal.cycle_clock <= signal.greatest_cycle))
+        & ((signal.shown != 1) | (signal.cycle_clock == signal.shown_for))
+}
+
+// The lesser of two times.
+fn lesser_of(x: u32, y: u32) -> u32
+    ensures { λ r. ⌜ r ≡ lesser x y ⌝ }
+{
+    if y < x { y } else { x }
+}
+
+// The least of `so_far` and the greatest times of the signal's phases: no step may be longer (refusal 6).
+fn shortest_time(signal: Signal, so_far: u32) -> u32
+    requires { ⌜ signal .phases ≤ 8 ⌝ }
+    ensures { λ r. ⌜ r ≡ shortestTime signal (signal .phases) «so_far» ⌝ }
+{
+    let mut shortest = so_far;
+    let mut k = 0;
+    let phases = signal.phases as usize;
+    while k < phases {
+        shortest = lesser_of(shortest, signal.greatest[k]);
+        k += 1;
+    }
+    shortest
+}
+
+// Refusal 3, the number of phases.
+fn valid_phases(phases: usize) -> bool
+    ensures { λ r. ⌜ r ≡ within 2 phases 8 ⌝ }
+{
+    (2 <= phases) & (phases <= 8)
+}
+
+// The `G` line of signal `r` into `fields`: refusal 1 for its first seven fields, 3 for its number of phases, 1 for the rest of its form, 3 for its other
+// values.
+fn read_signal(text: &[u8], reading: Reading, r: usize, fields: &mut [u32]) -> Stage
+    requires { ⌜ SignalAsked (now text) reading r (now fields) ⌝ }
+    ensures { λ s. ⌜ Judged (signalChecks (lines (now (text .entry))) r) (SignalHeld (now (text .entry)) r (now (fields .exit))) s ⌝ }
+{
+    let at = reading.next;
+    let counts = reading.counts;
+    let line = counts.signal_line(r) + 1;
+    if !tables::read_head(text, at, b'G', fields, 0, HEAD_FIELDS) {
+        return Stage::Refused(Refusal::new(1, line, 0));
+    }
+    let phases = tables::index(fields[2]);
+    if !valid_phases(phases) {
+        return Stage::Refused(Refusal::new(3, line, r + 1));
+    }
+    let read = tables::read_row(text, at, b'G', fields, 0, HEAD_FIELDS + 2 * phases);
+    let LineRead::Next(next) = read else {
+        return Stage::Refused(Refusal::new(1, line, 0));
+    };
+    if !valid_signal(signal_from(fields)) {
+        return Stage::Refused(Refusal::new(3, line, r + 1));
+    }
+    Stage::Passed(reading.moved_to(next))
+}
+
+// All `G` lines: the first refusal, or the number of phases of each signal and the shortest of all greatest times, 60 where all are longer: no step has
+// more seconds (refusal 6).
+pub fn read_signals(text: &[u8], reading: Reading, phases: &mut [u32]) -> Stage
+    requires { ⌜ SignalsAsked (now text) reading (now phases) ⌝ }
+    ensures { λ r. ⌜ Judged (blockChecks (signalBlock (lines (now (text .entry))))) (SignalsHeld (now (text .entry)) (now (phases .exit))) r ⌝ }
+{
+    let counts = reading.counts;
+    let mut place = reading.next;
+    let mut shortest = 60;
+    let mut r = 0;
+    while r < counts.signals {
+        let mut fields = [0u32; SIGNAL_FIELDS];
+        let stage = read_signal(text, reading.moved_to(place), r, &mut fields);
+        let Stage::Passed(passed) = stage else {
+            return stage;
+        };
+        let signal = signal_from(&fields);
+        phases[r] = signal.phases;
+        shortest = shortest_time(signal, shortest);
+        place = passed.next;
+        r += 1;
+    }
+    Stage::Passed(Reading {
+        counts,
+        next: place,
+        signals_at: reading.next,
+        steps_at: reading.steps_at,
+        shortest,
+    })
+}
+
+// The signals of the `G` lines, once these have passed, so that none of them is refused here.
+pub fn load_signals(text: &[u8], reading: Reading) -> [Signal; 8]
+    requires { ⌜ LoadAsked (now text) reading ⌝ }
+    ensures { λ r. ⌜ SignalTable (lines (now (text .entry))) r ⌝ }
+{
+    let unread = signal_from(&[0u32; SIGNAL_FIELDS]); // stands past the signals that there are
+    let counts = reading.counts;
+    let mut signals = [unread; 8];
+    let mut place = reading.signals_at;
+    let mut r = 0;
+    while r < counts.signals {
+        let mut fields = [0u32; SIGNAL_FIELDS];
+        let stage = read_signal(text, reading.moved_to(place), r, &mut fields);
+        let Stage::Passed(passed) = stage else {
+            return signals;
+        };
+        signals[r] = signal_from(&fields);
+        place = passed.next;
+        r += 1;
+    }
+    signals
+}

@@ -1,0 +1,5 @@
+mod Values
+pub mod Boundaries
+mod Meets
+pub mod Steps
+mod Unmet

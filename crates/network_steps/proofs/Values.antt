@@ -1,0 +1,77 @@
+-- The values of an `S` line: the demands are taken one by one, and the test of the numbers is the paper's, where they are a network's. Assumes nothing.
+use Prim.Native.Nat.{ℕ, zero, suc, _+_, _≤_, _<_}
+use mathlib.Core.Path.{_≡_, refl, sym, ap₂}
+use mathlib.Core.Bool.{Bool, true, false}
+use mathlib.Core.Logic.{_⊎_, inl, inr}
+use mathlib.Core.List.{List}
+use native.Mathlib.Nat.{eq-or-lt-of-le}
+use native.Mathlib.Numerals.{add-one}
+use native.Mathlib.Omega.{arith}
+use borrow.Author.Tests.{leb-true, le-leb, lt-leb}
+use lib.Dec.{leb}
+use Rattle.records.specs.Lines.{Line}
+use Rattle.model.specs.Test.{_and_, within, every}
+use Rattle.model.specs.Network.{linkCount, stepLength}
+use Rattle.model.specs.Rules.{validStep}
+use Rattle.model.proofs.Tests.{and-left, and-right}
+use Rattle.tables.specs.Fields.{demandIn}
+use Rattle.tables.specs.Tables.{Shortest, StepNumbers}
+use Rattle.tables.proofs.Tables.{step-length-at, demand-at}
+use Rattle.network_steps.specs.Steps.{validDemandsIn, validStepIn}
+
+every-broken : (n : ℕ) (test : ℕ → Bool) (k : ℕ) → k < n → test k ≡ false → every n test ≡ false
+unfolding every _and_
+every-broken zero test k l e = absurd (omega arith)
+every-broken (suc n) test k l e = go (eq-or-lt-of-le l) (every-broken n test k)
+  where
+    go : (suc k ≡ suc n) ⊎ (suc k < suc n) → (k < n → test k ≡ false → every n test ≡ false) → every n test and test n ≡ false
+    go (inl q) ih = let p : k ≡ n = omega arith in rw (← p, e) (by (every k test))
+      where
+        by : (b : Bool) → b and false ≡ false
+        by true = refl
+        by false = refl
+    go (inr q) ih = rw (ih (omega arith) e)
+
+module _ (step : List ℕ) (links i : ℕ) where
+  pub demands-none : validDemandsIn step 0 ≡ true
+  unfolding validDemandsIn every
+  demands-none = refl
+
+  module _ {demand : ℕ} (d : demand ≡ demandIn step i) where
+    pub demands-on : validDemandsIn step i ≡ true → demand ≤ 600_000 → validDemandsIn step (i + 1) ≡ true
+    unfolding validDemandsIn every _and_
+    demands-on h l = rw (add-one, h, ← d, le-leb demand 600_000 l)
+
+    pub demands-broken : i < links → 600_000 < demand → false ≡ validDemandsIn step links
+    unfolding validDemandsIn
+    demands-broken h l = sym (every-broken links (λ i. leb (demandIn step i) 600_000) i h (lt-leb (demandIn step i) 600_000 (omega arith)))
+
+  pub demands-all : i ≤ links → links ≤ i → validDemandsIn step i ≡ true → true ≡ validDemandsIn step links
+  demands-all u l h = let e : i ≡ links = omega arith in sym (rw e at h)
+
+every-same : (n : ℕ) (f g : ℕ → Bool) → ((k : ℕ) → k < n → f k ≡ g k) → every n f ≡ every n g
+unfolding every
+every-same zero f g h = refl
+every-same (suc n) f g h = ap₂ _and_ (every-same n f g (λ k l. h k (omega arith))) (h n (omega arith))
+
+within-high : (low x high : ℕ) → within low x high ≡ true → x ≤ high
+unfolding within
+within-high low x high e = leb-true x high (and-right _ _ e)
+
+pub step-short : (network : List Line) (n : ℕ) → validStep network n ≡ true → stepLength network n ≤ 60
+unfolding validStep
+step-short network n v = within-high 1 _ 60 (and-left _ _ (and-left _ _ v))
+
+and-same : (a : Bool) {b c : Bool} → (a ≡ true → b ≡ c) → a and b ≡ a and c
+unfolding _and_
+and-same true h = h refl
+and-same false h = refl
+
+-- the test of a step's numbers is that of the network's step
+pub valid-step-is : {network : List Line} {n : ℕ} {step : List ℕ} {links shortest : ℕ} → StepNumbers network n step → Shortest network shortest → links ≡ linkCount network
+    → validStepIn step links shortest ≡ validStep network n
+unfolding validStepIn validStep validDemandsIn
+valid-step-is {network} {n} {step} {links} {shortest} s h e =
+    rw (e, step-length-at s)
+    (ap₂ _and_ (and-same (within 1 (stepLength network n) 60) (λ w. h .least (stepLength network n) (within-high 1 (stepLength network n) 60 w)))
+    (every-same (linkCount network) _ _ (λ i l. rw (demand-at s i l))))

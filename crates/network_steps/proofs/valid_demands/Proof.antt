@@ -1,0 +1,50 @@
+-- `network_steps::valid_demands` meets its contract. Assumes nothing.
+use Prim.Native.Nat.{_-_, _≤_}
+use mathlib.Core.Path.{_≡_}
+use mathlib.Core.Bool.{true}
+use borrow.Author.Needs.{needs}
+use Rattle.network_steps.specs.Steps.{validDemandsIn}
+use Rattle.network_steps.proofs.Values.{demands-none, demands-broken, demands-on, demands-all}
+use Rattle.network_steps.proofs.valid_demands.Statement.{statement}
+use Rattle.network_steps.proofs.valid_demands.Tie as tie
+
+abbrev Inv-loop : tie.InvT-loop
+Inv-loop step links i₀ i = (i ≤ links) × (validDemandsIn step i ≡ true)
+
+abbrev μ-loop : tie.MeasureT-loop
+μ-loop step links i₀ i = links - i
+
+loop-holds : tie.Need-loop-holds Inv-loop μ-loop
+loop-holds c = search (demands-none, needs)
+
+demand-requires : tie.Need-demand-requires Inv-loop μ-loop
+demand-requires c κs = search needs
+
+returns : tie.Need-returns Inv-loop μ-loop
+returns c = search (demands-broken, needs)
+
+add-i : tie.Need-add-i Inv-loop μ-loop
+add-i c = search needs
+
+loop-less : tie.Need-loop-less Inv-loop μ-loop
+loop-less c = search needs
+
+loop-again : tie.Need-loop-again Inv-loop μ-loop
+loop-again c = search (demands-on, needs)
+
+returns-2 : tie.Need-returns-2 Inv-loop μ-loop
+returns-2 c = search (demands-all, needs)
+
+pub valid-demands-spec : {M : Type 1} → statement M
+valid-demands-spec =
+    tie.close
+    (tie.spec
+    Inv-loop
+    μ-loop
+    loop-holds
+    demand-requires
+    returns
+    add-i
+    loop-less
+    loop-again
+    returns-2)

@@ -1,0 +1,48 @@
+-- The numbers of one `S` line, its length and then the demand of each link, and what the functions that read such lines ask and promise. Assumes nothing.
+use Prim.Native.Nat.{ℕ, _+_, _≤_}
+use mathlib.Core.Path.{_≡_}
+use mathlib.Core.Bool.{Bool, true}
+use mathlib.Core.List.{List}
+use lib.Dec.{leb}
+use lib.ListN.{length}
+use Rattle.records.specs.Lines.{lines}
+use Rattle.records.specs.Reading.{Starts}
+use Rattle.model.specs.Test.{_and_, within, every}
+use Rattle.model.specs.Network.{maxLinks, stepCount, stepLine}
+use Rattle.model.specs.Table.{isForm, letterS}
+use Rattle.tables.specs.declared.Reading.{Reading}
+use Rattle.tables.specs.Fields.{timeTableSize, stepSize, lengthIn, demandIn}
+use Rattle.tables.specs.Rows.{LineHeld}
+use Rattle.tables.specs.Tables.{Reached, TimeTable}
+
+-- 6: each demand is at most 600,000
+unfoldable pub validDemandsIn : List ℕ → ℕ → Bool
+validDemandsIn step links = every links (λ i. leb (demandIn step i) 600_000)
+
+-- 6: the length is 1 to 60 and at most the shortest of all greatest times, and the demands are valid
+unfoldable pub validStepIn : List ℕ → ℕ → ℕ → Bool
+validStepIn step links shortest = within 1 (lengthIn step) 60 and leb (lengthIn step) shortest and validDemandsIn step links
+
+-- what a load of an `S` line that has passed asks ..
+pub record LoadAsked (text : List ℕ) (at links : ℕ) (step : List ℕ) : Type 0 where
+  pub few : links ≤ maxLinks
+  pub size : length step ≡ stepSize
+  pub line : ℕ
+  pub starts : Starts text at line
+  pub form : isForm (lines text) line letterS (1 + links) ≡ true
+
+-- .. and promises: the numbers of the line that starts at the place, and the place of the next
+pub record Loaded (text : List ℕ) (at links next : ℕ) (step : List ℕ) : Type 0 where
+  pub size : length step ≡ stepSize
+  pub held : (line : ℕ) → Starts text at line → LineHeld letterS (1 + links) text line next 0 step
+
+-- what the reading of all `S` lines asks ..
+pub record StepsAsked (text : List ℕ) (reading : Reading) (times : List ℕ) : Type 0 where
+  pub reached : Reached text (stepLine (lines text) 0) reading
+  pub size : length times ≡ timeTableSize
+
+-- .. and what is held where they pass
+pub record StepsHeld (text times : List ℕ) (reading : Reading) : Type 0 where
+  pub reached : Reached text (stepLine (lines text) (stepCount (lines text))) reading
+  pub steps-start : Starts text (reading .«steps_at») (stepLine (lines text) 0)
+  pub table : TimeTable (lines text) times

@@ -1,0 +1,5 @@
+pub mod Adding
+pub mod Ledger
+pub mod Verdicts
+pub mod Steps
+pub mod Runs

@@ -1,0 +1,344 @@
+-- What is known between the calls of one step. Assumes nothing.
+use Prim.Native.Nat.{ℕ, zero, suc, _+_, _*_, _-_, _≤_, _<_}
+use mathlib.Core.Path.{_≡_, refl, sym, ap, ap₂, _∙_}
+use mathlib.Core.Bool.{true}
+use mathlib.Core.Logic.{_⊎_, inl, inr}
+use mathlib.Core.List.{List, _++_}
+use native.Mathlib.Numerals.{add-one}
+use native.Mathlib.Nat.{eq-or-lt-of-le, mul-le-mul-right}
+use native.Mathlib.Decide.{decLe}
+use native.Mathlib.Omega.{arith}
+use lib.ListN.{length, getD, take, drop, length-append, length-drop}
+use lib.Seq.{length-take-le}
+use Rattle.search.specs.declared.Refusal.{Refusal}
+use Rattle.search.specs.declared.Verdict.{Verdict}
+use Rattle.search.specs.declared.Verdict.the-variants.{Passes, Refused}
+use Rattle.search.specs.Checks.{refusal, verdict, orElse, table, Hold}
+use Rattle.search.proofs.Table.{table-holds}
+use Rattle.records.specs.declared.LineRead.{LineRead}
+use Rattle.records.specs.declared.LineRead.the-variants.{Next, Malformed}
+use Rattle.records.specs.Lines.{Line, lines}
+use Rattle.model.specs.declared.Signal.{Signal}
+use Rattle.model.specs.Signals.{phaseOf}
+use Rattle.model.specs.Network.{maxSignals, arrivalBoundary, linkCount, signalCount, movementCount, stepCount, stepLine, stepLength, signal, maxSteps}
+use Rattle.model.specs.Flows.{shownMask, shownIn, signalAt}
+use Rattle.model.specs.Rules.{rule10, rule13, rule14}
+use Rattle.model.specs.Table.{isForm, letterS, letterP, networkChecks, stepChecks, limitRules, lineChecks}
+use Rattle.model.specs.Calls.{written}
+use borrow.Author.Tests.{leb-true}
+use Rattle.model.proofs.Accepted.{ValidNetwork, valid-network, LawfulStep}
+use Rattle.model.proofs.Limits.{step-limits}
+use Rattle.model.proofs.Bounds.{Keeps15, lawful-keeps15, entered-word, left-word}
+use Rattle.model.proofs.Phases.{phase-of-le}
+use Rattle.model.proofs.Rows.{length-written}
+use Rattle.tables.specs.declared.Counts.{Counts}
+use Rattle.tables.specs.Places.{planWidth}
+use Rattle.tables.specs.Fields.{lineSize, stepSize, rowSize, lengthIn}
+use Rattle.tables.specs.Rows.{RowRead}
+use Rattle.tables.specs.Tables.{noSignal, CountsHold, StepNumbers, PlanNumbers}
+use Rattle.tables.proofs.Tables.{travel-time-at, step-length-at, shown-mask-at}
+use Rattle.arrivals.specs.Arrivals.{arrivalIn, ArrivalsAsked, Arrived, ArrivalTable}
+use Rattle.arrivals.proofs.Boundaries.{arrival-is, cursor-ready}
+use Rattle.network_steps.specs.Steps.{LoadAsked, Loaded}
+use Rattle.network_steps.proofs.Steps.{load-ready, loaded-numbers, loaded-next}
+use Rattle.step_signals.specs.Ready.{Ready}
+use Rattle.step_signals.specs.Step.{ShownPhases, ShownTable, Advanced, SignalsAt}
+use Rattle.step_signals.proofs.Rules.{ready-after}
+use Rattle.step_signals.proofs.Texts.{signal-rules-are}
+use Rattle.step_rows.specs.Rows.{nextRow, RowHolds}
+use Rattle.step_rows.proofs.Texts.{movements-named, next-row-fits, next-row-holds, next-row-front}
+use Rattle.step_rows.proofs.Ledger.{part-holds, next-written}
+use Rattle.step_rows.proofs.Next.{length-next}
+use Rattle.step_limits.proofs.Texts.{limit-rules-are, line-tables}
+use Rattle.step_sums.proofs.Texts.{sum-rules-are, sum-tables}
+use Rattle.step_check.specs.Step.{rowFrom, madeRow, signalVerdict, limitVerdict, sumVerdict, JudgeAsked, Judged}
+use Rattle.plan_steps.specs.declared.State.{State}
+use Rattle.plan_steps.specs.State.{StateAt, NextAsked, NextGot, StepAsked, StepGot}
+use Rattle.plan_steps.proofs.Adding.{passed-lawful, totals-asked, totals-next}
+use Rattle.plan_steps.proofs.Ledger.{written-again}
+use Rattle.plan_steps.proofs.Verdicts.{formed, line-malformed, line-formed}
+
+-- a network that has passed has the form of an `S` line at each step
+step-form : (network : List Line) → Hold (networkChecks network) → (n : ℕ) → n < stepCount network → isForm network (stepLine network n) letterS (1 + linkCount network) ≡ true
+unfolding Hold networkChecks stepChecks
+step-form network (counts, (signals, (links, (movements, (shares, (steps, rest)))))) n l = steps n l .0
+
+-- a step keeps the number of phases
+signal-phases : (network plan : List Line) (n r : ℕ) → signalAt network plan n r .phases ≡ signal network r .phases
+unfolding signalAt
+signal-phases network plan zero r = refl
+signal-phases network plan (suc n) r = signal-phases network plan n r
+
+-- rule 15 of a step, by its table
+limits-keep : (network plan : List Line) (m line : ℕ) → verdict (table line (limitRules network plan m)) ≡ Passes → Keeps15 network plan m
+unfolding limitRules
+limits-keep network plan m line h =
+    let at = table-holds line (limitRules network plan m) h in
+    record { admissions = at 0 (omega arith); exits = at 1 (omega arith); movements = at 2 (omega arith) }
+
+-- the signals after a step that has passed
+module _ (network plan : List Line) (n : ℕ) (signals signals′ : List Signal) (phases : List ℕ) (seconds count : ℕ) (before : SignalsAt network plan n signals)
+    (shown : ShownTable network plan n phases) (lawful : LawfulStep network plan n) (is-count : count ≡ signalCount network) (is-seconds : seconds ≡ stepLength network n)
+    (moved : Advanced signals count phases seconds signals′) where
+  stepped : (r : ℕ) → r < signalCount network → getD signals′ r noSignal ≡ signalAt network plan (suc n) r
+  unfolding signalAt
+  stepped r l = moved .stepped r (omega arith) ∙ rw (before .holds r l, shown .holds r l, is-seconds)
+
+  ready-next : (r : ℕ) → r < signalCount network → Ready (signalAt network plan (suc n) r)
+  unfolding signalAt rule10 rule13 rule14
+  ready-next r l =
+      let s = signalAt network plan n r in
+      ready-after s (shownIn network plan n r) (stepLength network n) (rw (before .holds r l) at (before .ready r l)) (leb-true _ _ (lawful .keeps10 r l)) shows (lawful .keeps13 r l) (lawful .keeps14 r l)
+    where
+      shows : shownIn network plan n r ≤ signalAt network plan n r .phases
+      shows = rw (signal-phases network plan n r) (unfold shownIn in phase-of-le (shownMask network plan n r) (signal network r .phases))
+
+  signals-next : SignalsAt network plan (suc n) signals′
+  signals-next = record { size = moved .size; holds = stepped; ready = λ r l. rw (stepped r l) (ready-next r l) }
+
+module _ {networkText planText : List ℕ} {counts : Counts} {links movements times arrivals ledger : List ℕ} {state : State}
+    (asked : StepAsked networkText planText counts links movements times arrivals ledger state) where
+  abbrev net : List Line
+  net = lines networkText
+
+  abbrev pln : List Line
+  pln = lines planText
+
+  abbrev n : ℕ
+  n = state .boundary
+
+  counted : CountsHold net counts
+  counted = asked .tables .counted
+
+  valid : ValidNetwork net
+  valid = valid-network net (asked .tables .holds)
+
+  pub step-few : n < maxSteps
+  step-few = omega (arith, asked .more, counted .steps, counted .few .steps)
+
+  pub load-asked : {step : List ℕ} → length step ≡ stepSize → LoadAsked networkText (state .«step_at») (counts .links) step
+  load-asked size = load-ready networkText (state .«step_at») n (counts .links) (asked .state-at .step-starts) (counted .links) (step-form net (asked .tables .holds) n (asked .more)) (counted .few .links) size
+
+  pub place-small : 2 * (n + 1) * counts .links ≤ 5760
+  place-small = let m : 2 * (n + 1) ≤ 240 = omega (arith, step-few) in omega (arith, mul-le-mul-right (counts .links) m, counted .few .links)
+
+  width-is : planWidth counts ≡ signalCount net + (2 * linkCount net + movementCount net)
+  width-is = omega (arith, counted .links, counted .signals, counted .movements)
+
+  room-after : 2 * suc (suc n) * linkCount net ≤ length ledger
+  room-after = let m : suc (suc n) ≤ suc (stepCount net) = omega (arith, asked .more) in omega (arith, asked .state-at .room, mul-le-mul-right (2 * linkCount net) m)
+
+  room-before : 2 * n * counts .links ≤ length ledger
+  room-before = rw (counted .links) (omega (arith, asked .state-at .room, mul-le-mul-right (2 * linkCount net) (asked .state-at .within)))
+
+  row-room : 2 * linkCount net ≤ length ledger - 2 * n * counts .links
+  row-room = rw (counted .links) (omega (arith, room-after))
+
+  -- the row before the step, as the judgement reads it off the ledger
+  before : RowHolds net pln n (rowFrom counts ledger n)
+  before =
+      let p = part-holds net pln ledger (suc n) n (length ledger - 2 * n * counts .links) (omega arith) row-room in
+      rw (← asked .state-at .rows, ← counted .links) at p
+
+  previous-size : 2 * linkCount net ≤ length (rowFrom counts ledger n)
+  previous-size =
+      let a = 2 * n * counts .links in
+      omega (arith, row-room, length-take-le (length ledger - a) (drop a ledger) (omega (arith, length-drop a ledger)))
+
+  module _ {stepEnd : ℕ} {step : List ℕ} (loaded : Loaded networkText (state .«step_at») (counts .links) stepEnd step) where
+    step-numbers : StepNumbers net n step
+    step-numbers = loaded-numbers networkText (state .«step_at») n (counts .links) (asked .state-at .step-starts) (counted .links) loaded
+
+    short : lengthIn step ≤ 60
+    short = omega (arith, step-length-at step-numbers, step-limits net valid n (asked .more) .length-limit)
+
+    module _ {width : ℕ} (is-width : width ≡ planWidth counts) {result : LineRead} {line₀ line : List ℕ}
+        (read : RowRead letterP width planText (state .«plan_at») 0 line₀ result line) where
+      -- the line has not the form of a `P` line
+      pub step-malformed : result ≡ Malformed → StepGot networkText planText ledger state (record { verdict = Refused (refusal 9 (n + 1) 0); state = state }) arrivals ledger
+      step-malformed e =
+          let v = line-malformed net pln n (rw (is-width, width-is) at (read .malformed e n (asked .state-at .plan-starts))) in
+          record {
+            told = rw (add-one n) (sym v);
+            kept = λ r q. refl;
+            boundary = λ p. let z : _≡_ {A = ℕ} 0 1 = cc in absurd (omega arith);
+            reached = λ p. let z : _≡_ {A = ℕ} 0 1 = cc in absurd (omega arith);
+            row-more = λ p. let z : _≡_ {A = ℕ} 0 1 = cc in absurd (omega arith);
+          }
+
+      module _ (size : length line₀ ≡ lineSize) {planEnd : ℕ} (e : result ≡ Next planEnd) where
+        plan-numbers : PlanNumbers net pln n line
+        plan-numbers =
+            record {
+              size = read .size ∙ size;
+              holds = λ k l. let z : 0 + k ≡ k = omega arith in rw z at (read .held planEnd e n (asked .state-at .plan-starts) .numbers k (omega (arith, is-width, width-is)));
+            }
+
+        is-formed : formed net pln n ≡ true
+        is-formed = rw (is-width, width-is) at (read .held planEnd e n (asked .state-at .plan-starts) .form)
+
+        pub shown-asked : (phases : List ℕ) → length phases ≡ maxSignals → (counts .signals ≤ maxSignals) × (counts .signals ≤ length line) × (length phases ≡ maxSignals)
+        shown-asked phases q = (counted .few .signals, omega (arith, counted .few .signals, plan-numbers .size), q)
+
+        pub arrivals-asked : ArrivalsAsked times links (counts .links) (n + 1) arrivals
+        arrivals-asked =
+            record {
+              few = counted .few .links;
+              link-size = asked .tables .link-table .size;
+              size = asked .state-at .arrivals-at .size;
+              cursors = λ i l. let l′ : i < linkCount net = omega (arith, counted .links) in
+                  cursor-ready (asked .tables .time-table) n i (asked .more) step-few (asked .state-at .arrivals-at .holds i l′) (travel-time-at (asked .tables .link-table) i l′);
+            }
+
+        module _ {phases₀ phases : List ℕ} (showing : ShownPhases (state .signals) (counts .signals) line phases₀ phases) where
+          shown : ShownTable net pln n phases
+          unfolding shownIn
+          shown =
+              record {
+                size = showing .size;
+                holds = λ r l. showing .shown r (omega (arith, counted .signals))
+                    ∙ ap₂ phaseOf (shown-mask-at plan-numbers r l) (ap (λ s. s .phases) (asked .state-at .signals-at .holds r l) ∙ signal-phases net pln n r);
+              }
+
+          module _ {arrivals′ : List ℕ} (moved : Arrived times links (counts .links) (n + 1) arrivals′) where
+            arrivals-at : ArrivalTable net (suc n) arrivals′
+            arrivals-at =
+                record {
+                  size = moved .size;
+                  holds = λ i l. moved .arrived i (omega (arith, counted .links))
+                      ∙ ap (arrivalIn times (n + 1)) (travel-time-at (asked .tables .link-table) i l)
+                      ∙ arrival-is (asked .tables .time-table) (n + 1) i (omega (arith, asked .more)) ∙ ap (λ x. arrivalBoundary net x i) (add-one n);
+                }
+
+            module _ (row : List ℕ) (row-size : length row ≡ rowSize) where
+              limits-are : limitVerdict counts (state .signals) line step links movements phases ledger arrivals′ row n ≡ verdict (table (suc n) (limitRules net pln n))
+              unfolding limitVerdict
+              limits-are = limit-rules-are valid counted plan-numbers (asked .tables .link-table) (asked .tables .movement-table) step-numbers shown (suc n)
+
+              keeps : limitVerdict counts (state .signals) line step links movements phases ledger arrivals′ row n ≡ Passes → (m : ℕ) → m < suc n → Keeps15 net pln m
+              keeps v m l = go (let l′ : m ≤ n = omega arith in eq-or-lt-of-le l′)
+                where
+                  go : (m ≡ n) ⊎ (m < n) → Keeps15 net pln m
+                  go (inl q) = rw q (limits-keep net pln n (suc n) (sym limits-are ∙ v))
+                  go (inr u) = lawful-keeps15 (passed-lawful net pln m (asked .state-at .passed m u))
+
+              after : RowHolds net pln (suc n) (madeRow counts line movements ledger row n)
+              after = next-row-holds counted plan-numbers (asked .tables .movement-table) before (drop (2 * counts .links) row) refl
+
+              made-size : length (madeRow counts line movements ledger row n) ≡ rowSize
+              made-size =
+                  length-append (nextRow counts line movements (rowFrom counts ledger n)) _
+                  ∙ omega (arith, length-next counts line movements (rowFrom counts ledger n), length-drop (2 * counts .links) row, row-size, counted .few .links)
+
+              pub judge-asked : JudgeAsked counts (state .signals) line step links movements phases ledger arrivals′ row n
+              judge-asked =
+                  let tables = line-tables valid counted plan-numbers (asked .tables .link-table) (asked .tables .movement-table) step-numbers shown in
+                  record {
+                    signal-tables = record {
+                      few = counted .few .signals;
+                      ready = λ r l. asked .state-at .signals-at .ready r (omega (arith, counted .signals));
+                      short = short;
+                      phases-size = shown .size;
+                      phase-last = tables .phase-last;
+                    };
+                    line-tables = tables;
+                    few-steps = step-few;
+                    room = room-before;
+                    fits = λ v.
+                        next-row-fits counted plan-numbers (asked .tables .movement-table) before (movements-named counted (asked .tables .movement-table) valid) previous-size row-size
+                        (entered-word net pln (asked .tables .holds) (suc n) (asked .more) (keeps v)) (left-word net pln (asked .tables .holds) (suc n) (asked .more) (keeps v));
+                    sums = λ v.
+                        sum-tables valid counted plan-numbers (asked .tables .link-table) (asked .tables .movement-table) before after ledger (asked .state-at .rows) arrivals-at
+                        (drop (2 * counts .links) row) refl made-size (asked .more) previous-size (omega (arith, room-after));
+                  }
+
+              module _ {v : Verdict} {row′ : List ℕ} (got : Judged counts (state .signals) line step links movements phases ledger arrivals′ row n v row′) where
+                -- the judgement is the paper's verdict on the line
+                line-judged : v ≡ verdict (lineChecks net pln n)
+                unfolding signalVerdict sumVerdict
+                line-judged =
+                    got .told
+                    ∙ ap₂ orElse (signal-rules-are (counted .signals) (asked .state-at .signals-at) shown (step-length-at step-numbers) (suc n))
+                    (ap₂ orElse limits-are
+                    (sum-rules-are valid counted plan-numbers (asked .tables .link-table) (asked .tables .movement-table) before after ledger (asked .state-at .rows) arrivals-at (suc n)))
+                    ∙ sym (line-formed net pln n is-formed)
+
+                pub step-refused : {r : Refusal} → v ≡ Refused r → StepGot networkText planText ledger state (record { verdict = v; state = state }) arrivals′ ledger
+                step-refused q =
+                    record {
+                      told = line-judged;
+                      kept = λ r p. refl;
+                      boundary = λ p. let z : _≡_ {A = ℕ} 0 1 = cc in absurd (omega arith);
+                      reached = λ p. let z : _≡_ {A = ℕ} 0 1 = cc in absurd (omega arith);
+                      row-more = λ p. let z : _≡_ {A = ℕ} 0 1 = cc in absurd (omega arith);
+                    }
+
+                module _ (passes : v ≡ Passes) (same : length row′ ≡ length row) where
+                  made : row′ ≡ madeRow counts line movements ledger row n
+                  made = got .made passes
+
+                  passed-line : verdict (lineChecks net pln n) ≡ Passes
+                  passed-line = sym line-judged ∙ passes
+
+                  pub write-asked : (2 * counts .links ≤ length row′) × (2 * (n + 1) * counts .links + 2 * counts .links ≤ length ledger)
+                  write-asked = (omega (arith, same, row-size, counted .few .links), rw (counted .links) (omega (arith, room-after)))
+
+                  -- the state with the places of the next lines
+                  abbrev placed : State
+                  placed = record { boundary = n; «step_at» = stepEnd; «plan_at» = planEnd; signals = state .signals; totals = state .totals }
+
+                  pub next-asked : NextAsked placed counts step line phases row′
+                  next-asked =
+                      record {
+                        few-steps = step-few;
+                        ready = λ r l. asked .state-at .signals-at .ready r (omega (arith, counted .signals));
+                        phases-size = shown .size;
+                        totals-asked = totals-asked net pln (asked .tables .holds) counts counted n (asked .state-at .within) (state .totals) (asked .state-at .totals-at) (asked .state-at .passed) line step row′
+                            (asked .more) (plan-numbers .size) step-numbers (same ∙ row-size);
+                      }
+
+                  module _ {ledger′ : List ℕ}
+                      (wrote : ledger′ ≡ take (2 * (n + 1) * counts .links) ledger ++ (take (2 * counts .links) row′ ++ drop (2 * (n + 1) * counts .links + 2 * counts .links) ledger))
+                      {next : State} (on : NextGot placed counts step line phases row′ next) where
+                    rows-written : ledger′ ≡ written net pln ledger (suc (suc n))
+                    rows-written =
+                        next-written net pln ledger row′ (suc n) (asked .state-at .rows) (next-row-front counted plan-numbers (asked .tables .movement-table) before (drop (2 * counts .links) row) made)
+                        (rw (counted .links, add-one) at wrote)
+
+                    passed-more : (m : ℕ) → m < suc n → verdict (lineChecks net pln m) ≡ Passes
+                    passed-more m l = elim (decLe n m) [
+                      | yes u ↦ let q : m ≡ n = omega arith in rw q passed-line
+                      | no u ↦ asked .state-at .passed m (omega arith)
+                    ]
+
+                    is-next : next .boundary ≡ suc n
+                    is-next = on .boundary ∙ add-one n
+
+                    state-next : StateAt networkText planText next arrivals′ ledger′
+                    state-next =
+                        record {
+                          within = rw is-next (omega (arith, asked .more));
+                          passed = rw is-next passed-more;
+                          step-starts = rw (is-next, on .step-place) (loaded-next networkText (state .«step_at») n (counts .links) (asked .state-at .step-starts) (counted .links) loaded);
+                          plan-starts = rw (is-next, on .plan-place) (read .held planEnd e n (asked .state-at .plan-starts) .starts);
+                          signals-at = rw is-next
+                              (signals-next net pln n (state .signals) (next .signals) phases (lengthIn step) (counts .signals) (asked .state-at .signals-at) shown (passed-lawful net pln n passed-line) (counted .signals)
+                              (step-length-at step-numbers) (on .signals));
+                          totals-at = rw is-next
+                              (on .totals ∙ totals-next net pln (asked .tables .holds) counts counted n (asked .state-at .within) (state .totals) (asked .state-at .totals-at) (asked .state-at .passed) line step row′ plan-numbers step-numbers
+                              (rw made after));
+                          arrivals-at = rw is-next arrivals-at;
+                          rows = rw is-next
+                              (rows-written ∙ sym (written-again net pln ledger (suc (suc n)) (suc (suc n)) (omega arith)) ∙ ap (λ x. written net pln x (suc (suc n))) (sym rows-written));
+                          room = rw (ap length rows-written ∙ length-written net pln ledger (suc (suc n)) room-after) (asked .state-at .room);
+                        }
+
+                    pub step-kept : StepGot networkText planText ledger state (record { verdict = v; state = next }) arrivals′ ledger′
+                    step-kept =
+                        record {
+                          told = line-judged;
+                          kept = λ r q. let z : _≡_ {A = ℕ} 0 1 = cc in absurd (omega arith);
+                          boundary = λ p. on .boundary;
+                          reached = λ p. state-next;
+                          row-more = λ p. rows-written;
+                        }

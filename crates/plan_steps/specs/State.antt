@@ -1,0 +1,104 @@
+-- What taking the steps of a plan one after another asks and promises. Assumes nothing.
+use Prim.Native.Nat.{ℕ, suc, _+_, _*_, _≤_, _<_}
+use mathlib.Core.Path.{_≡_}
+use mathlib.Core.Bool.{cond}
+use mathlib.Core.List.{List}
+use lib.ListN.{length}
+use Rattle.search.specs.declared.Refusal.{Refusal}
+use Rattle.search.specs.declared.Verdict.the-variants.{Passes, Refused}
+use Rattle.search.specs.Checks.{refusal, verdict, Hold}
+use Rattle.records.specs.Lines.{lines}
+use Rattle.records.specs.Reading.{Starts, atEnd}
+use Rattle.model.specs.declared.Signal.{Signal}
+use Rattle.model.specs.declared.Totals.{Totals}
+use Rattle.model.specs.declared.PlanAnswer.{PlanAnswer}
+use Rattle.model.specs.declared.PlanAnswer.the-variants as plan-answer
+use Rattle.model.specs.Network.{maxSignals, maxSteps, linkCount, stepCount, stepLine}
+use Rattle.model.specs.Flows.{totals}
+use Rattle.model.specs.Table.{networkChecks, lineChecks, planLineChecks}
+use Rattle.model.specs.Calls.{planAnswer, rowsWritten, written, ledgerAfter}
+use Rattle.tables.specs.declared.Counts.{Counts}
+use Rattle.tables.specs.Fields.{lengthIn}
+use Rattle.tables.specs.Tables.{CountsHold, SignalTable, LinkTable, MovementTable, TimeTable}
+use Rattle.arrivals.specs.Arrivals.{ArrivalTable}
+use Rattle.step_signals.specs.Ready.{AllReady}
+use Rattle.step_signals.specs.Step.{Advanced, SignalsAt}
+use Rattle.plan_steps.specs.declared.State.{State}
+use Rattle.plan_steps.specs.declared.Taken.{Taken}
+use Rattle.plan_steps.specs.Totals.{totalsAfter, TotalsAsked}
+
+-- the tables of a network that has passed
+pub record Tables (networkText : List ℕ) (counts : Counts) (links movements times : List ℕ) : Type 0 where
+  pub holds : Hold (networkChecks (lines networkText))
+  pub counted : CountsHold (lines networkText) counts
+  pub link-table : LinkTable (lines networkText) links
+  pub movement-table : MovementTable (lines networkText) movements
+  pub time-table : TimeTable (lines networkText) times
+
+-- The state at a boundary: the steps before it have passed, the lines of the next start at its places, its signals and totals are the paper's, and the ledger
+-- has the rows up to the boundary.
+pub record StateAt (networkText planText : List ℕ) (state : State) (arrivals ledger : List ℕ) : Type 0 where
+  pub within : state .boundary ≤ stepCount (lines networkText)
+  pub passed : (m : ℕ) → m < state .boundary → verdict (lineChecks (lines networkText) (lines planText) m) ≡ Passes
+  pub step-starts : Starts networkText (state .«step_at») (stepLine (lines networkText) (state .boundary))
+  pub plan-starts : Starts planText (state .«plan_at») (state .boundary)
+  pub signals-at : SignalsAt (lines networkText) (lines planText) (state .boundary) (state .signals)
+  pub totals-at : state .totals ≡ totals (lines networkText) (lines planText) (state .boundary)
+  pub arrivals-at : ArrivalTable (lines networkText) (state .boundary) arrivals
+  pub rows : ledger ≡ written (lines networkText) (lines planText) ledger (suc (state .boundary))
+  pub room : 2 * suc (stepCount (lines networkText)) * linkCount (lines networkText) ≤ length ledger
+
+-- what the state after a step that is kept asks, by the step's tables ..
+pub record NextAsked (state : State) (counts : Counts) (step line phases row : List ℕ) : Type 0 where
+  pub few-steps : state .boundary < maxSteps
+  pub ready : AllReady (state .signals) (counts .signals)
+  pub phases-size : length phases ≡ maxSignals
+  pub totals-asked : TotalsAsked (state .totals) counts line step row
+
+-- .. and is: it has the state's places, which are those of the next lines already
+pub record NextGot (state : State) (counts : Counts) (step line phases row : List ℕ) (next : State) : Type 0 where
+  pub boundary : next .boundary ≡ state .boundary + 1
+  pub step-place : next .«step_at» ≡ state .«step_at»
+  pub plan-place : next .«plan_at» ≡ state .«plan_at»
+  pub signals : Advanced (state .signals) (counts .signals) phases (lengthIn step) (next .signals)
+  pub totals : next .totals ≡ totalsAfter (state .totals) counts line step row
+
+-- what taking the next step asks ..
+pub record StepAsked (networkText planText : List ℕ) (counts : Counts) (links movements times arrivals ledger : List ℕ) (state : State) : Type 0 where
+  pub tables : Tables networkText counts links movements times
+  pub state-at : StateAt networkText planText state arrivals ledger
+  pub more : state .boundary < stepCount (lines networkText)
+
+-- .. and promises: the verdict on the step's line; where it is refused, the ledger is what it was, and where it passes, the next state is reached and the ledger
+-- has one row more
+pub record StepGot (networkText planText old : List ℕ) (state : State) (taken : Taken) (arrivals ledger : List ℕ) : Type 0 where
+  pub told : taken .verdict ≡ verdict (lineChecks (lines networkText) (lines planText) (state .boundary))
+  pub kept : (r : Refusal) → taken .verdict ≡ Refused r → ledger ≡ old
+  pub boundary : taken .verdict ≡ Passes → taken .state .boundary ≡ state .boundary + 1
+  pub reached : taken .verdict ≡ Passes → StateAt networkText planText (taken .state) arrivals ledger
+  pub row-more : taken .verdict ≡ Passes → ledger ≡ written (lines networkText) (lines planText) old (suc (suc (state .boundary)))
+
+-- the answer once all steps have passed: the plan's text is at its end, or one line more is refused
+unfoldable pub finished : List ℕ → ℕ → ℕ → Totals → PlanAnswer
+finished plan at steps t = cond (atEnd plan at) (plan-answer.Accepted t) (plan-answer.Refused (refusal 9 (steps + 1) 0))
+
+-- what taking all steps asks, with row 0 in the ledger ..
+pub record RunAsked (networkText planText : List ℕ) (counts : Counts) (signals : List Signal) (links movements times ledger : List ℕ) (stepsAt : ℕ) : Type 0 where
+  pub tables : Tables networkText counts links movements times
+  pub steps-start : Starts networkText stepsAt (stepLine (lines networkText) 0)
+  pub signal-table : SignalTable (lines networkText) signals
+  pub rows : ledger ≡ written (lines networkText) (lines planText) ledger 1
+  pub room : 2 * suc (stepCount (lines networkText)) * linkCount (lines networkText) ≤ length ledger
+
+-- .. and promises: the answer, and the ledger with the rows of the steps that have passed
+pub record RunGot (networkText planText old : List ℕ) (answer : PlanAnswer) (ledger : List ℕ) : Type 0 where
+  pub answered : answer ≡ planAnswer (lines networkText) (lines planText) (verdict (planLineChecks (lines networkText) (lines planText)))
+  pub rows : ledger ≡ ledgerAfter (lines networkText) (lines planText) old
+  pub some-row : 1 ≤ rowsWritten (lines networkText) (lines planText) (length old)
+
+-- the state while the steps are taken, since the ledger was `old`
+pub record Running (networkText planText : List ℕ) (counts : Counts) (links movements times old : List ℕ) (state : State) (arrivals ledger : List ℕ) : Type 0 where
+  pub tables : Tables networkText counts links movements times
+  pub state-at : StateAt networkText planText state arrivals ledger
+  pub since : ledger ≡ written (lines networkText) (lines planText) old (suc (state .boundary))
+  pub long : length ledger ≡ length old

@@ -1,0 +1,205 @@
+// The steps of a plan, taken one after another: each is read, judged and, where every rule is kept, written into the ledger.
+ghost use mathlib.Core.Path.{_≡_};
+ghost use Prim.Native.Nat.{_+_, _*_, _≤_};
+ghost use Rattle.plan_steps.specs.State.{NextAsked, NextGot, StepAsked, StepGot, RunAsked, RunGot, finished};
+ghost use Rattle.plan_steps.specs.Totals.{totalsAfter, TotalsAsked};
+ghost use Rattle.model.specs.Network.{maxSteps};
+use model::PlanAnswer;
+use model::Signal;
+use model::Totals;
+use records::LineRead;
+use search::Refusal;
+use search::Verdict;
+use tables::Counts;
+use tables::LINE_SIZE;
+use tables::MAX_LINKS;
+use tables::MAX_SIGNALS;
+use tables::ROW_SIZE;
+use tables::STEP_SIZE;
+use tables::wide;
+
+// The state at a boundary: where the `S` and the `P` line of the next step start, the signals, and the totals so far.
+pub struct State {
+    pub boundary: usize,
+    pub step_at: usize,
+    pub plan_at: usize,
+    pub signals: [Signal; 8],
+    pub totals: Totals,
+}
+
+// What a step comes to: the verdict on it, and where it passes the state after it. (An enum can't hold the signals, since they hold arrays.)
+pub struct Taken {
+    pub verdict: Verdict,
+    pub state: State,
+}
+
+// Length × (vehicles at the step's start + vehicles at its end).
+fn travel_time(seconds: u32, start: u64, end: u64) -> u64
+    requires { ⌜ (seconds ≤ 60) × (start ≤ 103079215080) × (end ≤ 103079215080) ⌝ }
+    ensures { λ r. ⌜ (r ≡ seconds * (start + end)) × (r ≤ 12369505809600) ⌝ }
+{
+    wide(seconds) * (start + end)
+}
+
+// The totals with one step more.
+fn add_step(totals: Totals, line: &[u32], step: &[u32], row: &[u32], counts: Counts) -> Totals
+    requires { ⌜ TotalsAsked totals counts (now line) (now step) (now row) ⌝ }
+    ensures { λ r. ⌜ r ≡ totalsAfter totals counts (now (line .entry)) (now (step .entry)) (now (row .entry)) ⌝ }
+{
+    let admitted = step_rows::sum_of(line, counts.signals, counts.links);
+    let let_out = step_rows::sum_of(line, counts.signals + counts.links, counts.links);
+    let inside = step_rows::held_in(row, counts.links);
+    let time = travel_time(step[0], totals.inside, inside);
+    Totals {
+        admitted: totals.admitted + admitted,
+        let_out: totals.let_out + let_out,
+        inside,
+        doubled_time: totals.doubled_time + time,
+    }
+}
+
+// The state after a step that is kept: `row` is the row after it, and the state has the places of the next lines already.
+fn next_state(
+    state: State,
+    step: &[u32],
+    line: &[u32],
+    phases: &[u32],
+    row: &[u32],
+    counts: Counts,
+) -> State
+    requires { ⌜ NextAsked state counts (now step) (now line) (now phases) (now row) ⌝ }
+    ensures { λ r. ⌜ NextGot state counts (now (step .entry)) (now (line .entry)) (now (phases .entry)) (now (row .entry)) r ⌝ }
+{
+    let shown = state.signals;
+    let signals = step_signals::advance(shown, counts.signals, phases, step[0]);
+    let totals = add_step(state.totals, line, step, row, counts);
+    State {
+        boundary: state.boundary + 1,
+        step_at: state.step_at,
+        plan_at: state.plan_at,
+        signals,
+        totals,
+    }
+}
+
+// Takes the next step: reads its `S` and `P` lines, judges it and, where every rule is kept, writes the row after it into the ledger.
+fn take_step(
+    network: &[u8],
+    plan: &[u8],
+    counts: Counts,
+    links: &[u32],
+    movements: &[u32],
+    times: &[u32],
+    arrivals: &mut [usize],
+    ledger: &mut [u32],
+    mut state: State,
+) -> Taken
+    requires { ⌜ StepAsked (now network) (now plan) counts (now links) (now movements) (now times) (now arrivals) (now ledger) state ⌝ }
+    ensures { λ r. ⌜ StepGot (now (network .entry)) (now (plan .entry)) (now (ledger .entry)) state r (now (arrivals .exit)) (now (ledger .exit)) ⌝ }
+{
+    let mut step = [0u32; STEP_SIZE];
+    let mut line = [0u32; LINE_SIZE];
+    let mut phases = [0u32; MAX_SIGNALS];
+    let mut row = [0u32; ROW_SIZE];
+    let n = state.boundary;
+    let signals = state.signals;
+    let step_end = network_steps::load_step(network, state.step_at, counts.links, &mut step);
+    let read = tables::read_row(plan, state.plan_at, b'P', &mut line, 0, counts.plan_width());
+    let LineRead::Next(plan_end) = read else {
+        let verdict = Verdict::Refused(Refusal::new(9, n + 1, 0));
+        return Taken { verdict, state };
+    };
+    step_signals::shown_phases(signals, counts.signals, &line, &mut phases);
+    arrivals::next_arrivals(times, links, counts.links, n + 1, arrivals);
+    let verdict = step_check::judge_step(
+        signals,
+        &line,
+        &step,
+        links,
+        movements,
+        &phases,
+        ledger,
+        arrivals,
+        &mut row,
+        counts,
+        n,
+    );
+    let Verdict::Passes = verdict else {
+        return Taken { verdict, state };
+    };
+    step_rows::write_row(ledger, 2 * (n + 1) * counts.links, &row, 2 * counts.links);
+    state.step_at = step_end;
+    state.plan_at = plan_end;
+    let next = next_state(state, &step, &line, &phases, &row, counts);
+    Taken {
+        verdict,
+        state: next,
+    }
+}
+
+// The answer once all steps have passed.
+fn finish(plan: &[u8], at: usize, steps: usize, totals: Totals) -> PlanAnswer
+    requires { ⌜ steps ≤ maxSteps ⌝ }
+    ensures { λ r. ⌜ r ≡ finished (now (plan .entry)) at steps totals ⌝ }
+{
+    if records::is_end(plan, at) {
+        PlanAnswer::Accepted(totals)
+    } else {
+        PlanAnswer::Refused(Refusal::new(9, steps + 1, 0))
+    }
+}
+
+// Takes the steps one after another, up to the first that is refused; the ledger has row 0. A plan with more lines than steps is refused after the last.
+pub fn run_steps(
+    network: &[u8],
+    plan: &[u8],
+    counts: Counts,
+    signals: [Signal; 8],
+    links: &[u32],
+    movements: &[u32],
+    times: &[u32],
+    ledger: &mut [u32],
+    steps_at: usize,
+) -> PlanAnswer
+    requires { ⌜ RunAsked (now network) (now plan) counts signals (now links) (now movements) (now times) (now ledger) «steps_at» ⌝ }
+    ensures { λ r. ⌜ RunGot (now (network .entry)) (now (plan .entry)) (now (ledger .entry)) r (now (ledger .exit)) ⌝ }
+{
+    let mut arrivals = [0usize; MAX_LINKS];
+    let totals = Totals {
+        admitted: 0,
+        let_out: 0,
+        inside: step_rows::held_in(ledger, counts.links),
+        doubled_time: 0,
+    };
+    let state = State {
+        boundary: 0,
+        step_at: steps_at,
+        plan_at: 0,
+        signals,
+        totals,
+    };
+    let mut taken = Taken {
+        verdict: Verdict::Passes,
+        state,
+    };
+    while taken.state.boundary < counts.steps {
+        let state = taken.state;
+        taken = take_step(
+            network,
+            plan,
+            counts,
+            links,
+            movements,
+            times,
+            &mut arrivals,
+            ledger,
+            state,
+        );
+        let verdict = taken.verdict;
+        if let Verdict::Refused(refusal) = verdict {
+            return PlanAnswer::Refused(refusal);
+        }
+    }
+    let totals = taken.state.totals;
+    finish(plan, taken.state.plan_at, counts.steps, totals)
+}

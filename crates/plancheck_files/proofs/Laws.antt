@@ -1,0 +1,24 @@
+-- What was read is short enough, and what was written fits its buffer. Assumes nothing.
+use Prim.Native.Nat.{ℕ, _+_, _≤_}
+use mathlib.Core.Path.{_≡_, sym, ap}
+use mathlib.Core.List.{List, _++_}
+use native.Mathlib.Omega.{arith}
+use lib.ListN.{length, take, drop, length-append}
+use lib.Seq.{length-take-le}
+use Rattle.files.specs.Read.{Within}
+use Rattle.files.specs.declared.FileRead.{FileRead}
+use Rattle.files.specs.declared.FileRead.the-variants.{Read}
+use Rattle.record_writer.specs.Writing.{putAt, Wrote}
+use Rattle.plancheck_files.specs.Output.{ReadInto}
+
+pub text-length : {size n : ℕ} {buffer : List ℕ} {read : FileRead} → ReadInto size buffer read → read ≡ Read n → n ≡ length (take n buffer)
+unfolding Within
+text-length i e =
+    let h = rw e at (i .within) in
+    sym (length-take-le _ _ (omega (arith, i .whole)))
+
+pub end-within : {text old new : List ℕ} {end : ℕ} → Wrote text 0 old new end → end ≤ length new
+unfolding putAt
+end-within {text} {old} {new} {end} w =
+    let e : length new ≡ length (text ++ drop (0 + length text) old) = ap length (w .is) in
+    omega (arith, w .ends, e, length-append text (drop (0 + length text) old))

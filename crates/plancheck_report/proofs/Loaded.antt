@@ -1,0 +1,53 @@
+-- The counts and times that a network's reading tells are those of its text. Assumes nothing.
+use Prim.Native.Nat.{ℕ, suc, _*_}
+use mathlib.Core.Path.{_≡_, sym, ap, _∙_}
+use mathlib.Core.List.{List, _∷_}
+use native.Mathlib.Omega.{arith}
+use lib.ListN.{getD, take, drop}
+use Rattle.search.specs.declared.Refusal.{Refusal}
+use Rattle.search.specs.declared.Verdict.the-variants as verdicts
+use Rattle.search.proofs.Laws.{passes-of-hold}
+use Rattle.records.specs.Lines.{lines}
+use Rattle.record_writer.specs.Records.{recordTexts}
+use Rattle.record_writer.specs.Writing.{Wrote}
+use Rattle.record_writer.proofs.Laws.{records-same}
+use Rattle.model.specs.Network.{linkCount, stepCount, time}
+use Rattle.model.specs.Table.{networkChecks}
+use Rattle.tables.specs.declared.Reading.{Reading}
+use Rattle.tables.specs.declared.Stage.{Stage}
+use Rattle.tables.specs.declared.Stage.the-variants.{Passed, Refused}
+use Rattle.tables.specs.Tables.{Judged, stageVerdict}
+use Rattle.network.specs.Loading.{Loaded}
+use Rattle.plancheck_report.specs.Boundaries.{ledgerNumbers, RowsAsked, BoundariesAsked}
+
+module _ {text : List ℕ} {result : Stage} {links movements times : List ℕ} (got : Judged (networkChecks (lines text)) (Loaded text links movements times) result) where
+  module _ {reading : Reading} (e : result ≡ Passed reading) where
+    pub rows-asked : {out ledger : List ℕ} {at : ℕ} → BoundariesAsked out at (lines text) ledger → RowsAsked out at (reading .counts) times ledger
+    rows-asked {out} {ledger} asked =
+        let l = got .held reading e in
+        let c = l .counted in
+        record {
+          few = c .few;
+          all-times = l .time-table .size;
+          rows = rw (c .steps, c .links) (asked .rows);
+          room = asked .room;
+        }
+
+    pub rows-told : (ledger : List ℕ) {old new : List ℕ} {at answer : ℕ}
+        → Wrote (recordTexts 66 (suc (reading .counts .steps)) (ledgerNumbers (reading .counts .links) (λ n. getD times n 0) ledger)) at old new answer
+        → Wrote (recordTexts 66 (suc (stepCount (lines text))) (ledgerNumbers (linkCount (lines text)) (time (lines text)) ledger)) at old new answer
+    unfolding ledgerNumbers
+    rows-told ledger w =
+        let l = got .held reading e in
+        let c = l .counted in
+        let same : recordTexts 66 (suc (reading .counts .steps)) (ledgerNumbers (reading .counts .links) (λ n. getD times n 0) ledger) ≡ recordTexts 66 (suc (stepCount (lines text))) (ledgerNumbers (linkCount (lines text)) (time (lines text)) ledger) =
+        rw (c .steps, c .links) (records-same 66 _ _ (suc (stepCount (lines text))) (λ n h. ap (λ t. n ∷ t ∷ take (2 * linkCount (lines text)) (drop (2 * n * linkCount (lines text)) ledger)) (l .time-table .holds n (omega arith)))) in
+        rw same at w
+
+  -- a network whose checks hold is loaded
+  pub not-refused : {r : Refusal} {out ledger : List ℕ} {at : ℕ} → result ≡ Refused r → BoundariesAsked out at (lines text) ledger → ⊥
+  unfolding stageVerdict
+  not-refused {r} e asked =
+      let v : verdicts.Refused r ≡ verdicts.Passes = sym (ap stageVerdict e) ∙ got .told ∙ passes-of-hold (networkChecks (lines text)) (asked .holds) in
+      let z : _≡_ {A = ℕ} 0 1 = cc in
+      omega arith

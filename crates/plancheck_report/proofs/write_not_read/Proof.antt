@@ -1,0 +1,23 @@
+-- `plancheck_report::write_not_read` meets its contract. Assumes nothing.
+use Rattle.model.specs.Report.{notRead}
+use Rattle.record_writer.proofs.Laws.{record-fits}
+use borrow.Author.Needs.{needs}
+use Rattle.plancheck_report.proofs.write_not_read.Statement.{statement}
+use Rattle.plancheck_report.proofs.write_not_read.Tie as tie
+
+slice-aggregate-write-record : tie.Need-slice-aggregate-write-record
+slice-aggregate-write-record c = search needs
+
+write-record-requires : tie.Need-write-record-requires
+write-record-requires c κs = record-fits _ _ _ _ (search needs)
+
+same-length : tie.Need-same-length
+same-length c = search needs
+
+returns : tie.Need-returns
+unfolding notRead
+returns c = c .before .before .write-record .ensures
+
+pub write-not-read-spec : {M : Type 1} → statement M
+write-not-read-spec =
+    tie.close (tie.spec slice-aggregate-write-record write-record-requires same-length returns)

@@ -1,0 +1,88 @@
+-- `plancheck_report::write_rows` meets its contract. The invariant: the records of the first n boundaries are written. Assumes nothing.
+use Prim.Native.Nat.{suc, _-_}
+use native.Mathlib.Omega.{arith}
+use Rattle.plancheck_report.proofs.Boundaries.{Written, start-small, row-within, rows-first, rows-again, rows-all}
+use borrow.Author.Needs.{needs}
+use Rattle.plancheck_report.proofs.write_rows.Statement.{statement}
+use Rattle.plancheck_report.proofs.write_rows.Tie as tie
+
+abbrev Inv-loop : tie.InvT-loop
+Inv-loop out₀ at counts times ledger next₀ n₀ out next n = Written counts times ledger at out₀ out next n
+
+abbrev μ-loop : tie.MeasureT-loop
+μ-loop out₀ at counts times ledger next₀ n₀ out next n = suc (counts .steps) - n
+
+loop-holds : tie.Need-loop-holds Inv-loop μ-loop
+loop-holds c = search rows-first
+
+mul-start : tie.Need-mul-start Inv-loop μ-loop
+mul-start c = search needs
+
+mul-start-2 : tie.Need-mul-start-2 Inv-loop μ-loop
+mul-start-2 c = omega (arith, start-small (c .before .before .before .before .before .before .before .pre) (c .before .before .before .loop .n) (omega arith))
+
+mul-end : tie.Need-mul-end Inv-loop μ-loop
+mul-end c = search needs
+
+add-end : tie.Need-add-end Inv-loop μ-loop
+add-end c = omega (arith, start-small (c .before .before .before .before .before .before .before .before .pre) (c .before .before .before .before .loop .n) (omega arith))
+
+mul-write-boundary : tie.Need-mul-write-boundary Inv-loop μ-loop
+mul-write-boundary c = search needs
+
+shared-slice-read-write-boundary : tie.Need-shared-slice-read-write-boundary Inv-loop μ-loop
+shared-slice-read-write-boundary c = search needs
+
+mul-write-boundary-2 : tie.Need-mul-write-boundary-2 Inv-loop μ-loop
+mul-write-boundary-2 c = omega (arith, start-small (c .before .before .before .before .before .before .before .before .before .before .pre) (c .before .before .before .before .before .before .loop .n) (omega arith))
+
+sub-write-boundary : tie.Need-sub-write-boundary Inv-loop μ-loop
+sub-write-boundary c = search needs
+
+part-write-boundary-start : tie.Need-part-write-boundary-start Inv-loop μ-loop
+part-write-boundary-start c = search needs
+
+part-write-boundary-end : tie.Need-part-write-boundary-end Inv-loop μ-loop
+part-write-boundary-end c = omega (arith, row-within (c .before .before .before .before .before .before .before .before .before .before .pre) (c .before .before .before .before .before .before .loop .n) (omega arith))
+
+write-boundary-requires : tie.Need-write-boundary-requires Inv-loop μ-loop
+write-boundary-requires c κs = search needs
+
+add-n : tie.Need-add-n Inv-loop μ-loop
+add-n c = search needs
+
+loop-less : tie.Need-loop-less Inv-loop μ-loop
+loop-less c = search needs
+
+loop-again : tie.Need-loop-again Inv-loop μ-loop
+loop-again c = rows-again (c .before .before .before .before .before .before .before .before .before .before .before .before .before .before .pre) (c .before .before .before .before .before .before .before .before .before .before .loop .n) (omega arith) (c .before .before .before .before .before .before .before .before .before .before .loop .inv) (c .before .before .write-boundary .ensures)
+
+same-length : tie.Need-same-length Inv-loop μ-loop
+same-length c = search needs
+
+returns : tie.Need-returns Inv-loop μ-loop
+returns c = rows-all (c .before .before .before .before .before .before .pre) (omega arith) (c .before .before .loop .inv)
+
+pub write-rows-spec : {M : Type 1} → statement M
+write-rows-spec =
+    tie.close
+    (tie.spec
+    Inv-loop
+    μ-loop
+    loop-holds
+    mul-start
+    mul-start-2
+    mul-end
+    add-end
+    mul-write-boundary
+    shared-slice-read-write-boundary
+    mul-write-boundary-2
+    sub-write-boundary
+    part-write-boundary-start
+    part-write-boundary-end
+    write-boundary-requires
+    add-n
+    loop-less
+    loop-again
+    same-length
+    returns)

@@ -1,0 +1,29 @@
+-- The text of a plan's answer, with the rows as they stand in a ledger. Assumes nothing.
+use Prim.Native.Nat.{ℕ, _≤_}
+use mathlib.Core.Path.{_≡_}
+use mathlib.Core.List.{List, [], _∷_, _++_}
+use lib.ListN.{length}
+use Rattle.records.specs.Lines.{Line}
+use Rattle.record_writer.specs.Records.{recordText}
+use Rattle.search.specs.declared.Refusal.{Refusal}
+use Rattle.model.specs.declared.Totals.{Totals}
+use Rattle.model.specs.declared.PlanAnswer.{PlanAnswer}
+use Rattle.model.specs.declared.PlanAnswer.the-variants.{Accepted, Refused}
+use Rattle.plancheck_report.specs.Boundaries.{boundaryTexts, BoundariesAsked}
+
+-- the `A` record
+abbrev pub totalsText : Totals → List ℕ
+totalsText t = recordText 65 (t .admitted ∷ t .«let_out» ∷ t .inside ∷ t .«doubled_time» ∷ [])
+
+-- the `R` record
+abbrev pub refusalText : Refusal → List ℕ
+refusalText r = recordText 82 (r .number ∷ r .line ∷ r .item ∷ [])
+
+unfoldable pub answerText : List Line → PlanAnswer → List ℕ → List ℕ
+answerText network (Accepted t) ledger = totalsText t ++ boundaryTexts network ledger
+answerText network (Refused r) ledger = refusalText r
+
+-- an `A` record has at most 86 bytes, an `R` record fewer
+pub record AnswerAsked (out : List ℕ) (network : List Line) (answer : PlanAnswer) (ledger : List ℕ) : Type 0 where
+  pub room : 86 ≤ length out
+  pub accepted : (t : Totals) → answer ≡ Accepted t → BoundariesAsked out 86 network ledger

@@ -1,0 +1,137 @@
+// Writes what the program `plancheck` prints into a lent buffer: the whole text is proved, and the bytes behind it are kept.
+ghost use mathlib.Core.Path.{_≡_};
+ghost use mathlib.Core.List.{_∷_, _++_};
+ghost use Prim.Native.Nat.{suc, _+_, _*_, _≤_};
+ghost use lib.ListN.{length, getD};
+ghost use Rattle.records.specs.Lines.{lines};
+ghost use Rattle.record_writer.specs.Records.{recordText, recordTexts};
+ghost use Rattle.record_writer.specs.Writing.{putAt, Wrote};
+ghost use Rattle.model.specs.Report.{report, notRead};
+ghost use Rattle.tables.specs.Fields.{rowSize};
+ghost use Rattle.plancheck_report.specs.Boundaries.{ledgerNumbers, boundaryTexts, RowsAsked, BoundariesAsked};
+ghost use Rattle.plancheck_report.specs.Answer.{totalsText, refusalText, answerText, AnswerAsked};
+use model::PlanAnswer;
+use model::Totals;
+use search::Refusal;
+use tables::Counts;
+use tables::LINK_TABLE_SIZE;
+use tables::MOVEMENT_TABLE_SIZE;
+use tables::ROW_SIZE;
+use tables::Stage;
+use tables::TIME_TABLE_SIZE;
+
+// The ledger of the largest network: a row for each boundary.
+const LEDGER_SIZE: usize = TIME_TABLE_SIZE * ROW_SIZE;
+
+// The numbers of a row go behind the first two of a record.
+fn put_row(fields: &mut [u64], row: &[u32])
+    requires { ⌜ 2 + length (now row) ≤ length (now fields) ⌝ }
+    ensures { λ _. ⌜ now (fields .exit) ≡ putAt 2 (now (row .entry)) (now (fields .entry)) ⌝ }
+{
+    let mut k: usize = 0;
+    while k < row.len() {
+        fields[2 + k] = tables::wide(row[k]);
+        k += 1;
+    }
+}
+
+// Writes the `B` record of a boundary: its number, its time, and its row of the ledger.
+fn write_boundary(out: &mut [u8], at: usize, n: usize, time: u32, row: &[u32]) -> usize
+    requires { ⌜ (length (now row) ≤ rowSize) × (at + 1052 ≤ length (now out)) ⌝ }
+    ensures { λ r. ⌜ Wrote (recordText 66 (n ∷ time ∷ now (row .entry))) at (now (out .entry)) (now (out .exit)) r ⌝ }
+{
+    let mut fields = [0u64; 2 + ROW_SIZE];
+    fields[0] = n as u64;
+    fields[1] = tables::wide(time);
+    put_row(&mut fields, row);
+    let end = 2 + row.len();
+    record_writer::write_record(out, at, b'B', &fields[..end])
+}
+
+// Writes the `B` records of boundaries 0 to K, by the counts and times of a network that has passed.
+fn write_rows(out: &mut [u8], at: usize, counts: Counts, times: &[u32], ledger: &[u32]) -> usize
+    requires { ⌜ RowsAsked (now out) at counts (now times) (now ledger) ⌝ }
+    ensures { λ r. ⌜ Wrote (recordTexts 66 (suc (counts .steps)) (ledgerNumbers (counts .links) (λ n. getD (now (times .entry)) n 0) (now (ledger .entry)))) at (now (out .entry)) (now (out .exit)) r ⌝ }
+{
+    let mut next = at;
+    let mut n: usize = 0;
+    while n <= counts.steps {
+        let start = 2 * n * counts.links;
+        let end = start + 2 * counts.links;
+        next = write_boundary(out, next, n, times[n], &ledger[start..end]);
+        n += 1;
+    }
+    next
+}
+
+// Writes the `B` records of an accepted plan, whose rows stand in the ledger: the network's text tells the counts and the time of each boundary.
+fn write_boundaries(out: &mut [u8], at: usize, network: &[u8], ledger: &[u32]) -> usize
+    requires { ⌜ BoundariesAsked (now out) at (lines (now network)) (now ledger) ⌝ }
+    ensures { λ r. ⌜ Wrote (boundaryTexts (lines (now (network .entry))) (now (ledger .entry))) at (now (out .entry)) (now (out .exit)) r ⌝ }
+{
+    let mut links = [0u32; LINK_TABLE_SIZE];
+    let mut movements = [0u32; MOVEMENT_TABLE_SIZE];
+    let mut times = [0u32; TIME_TABLE_SIZE];
+    match network::load_network(network, &mut links, &mut movements, &mut times) {
+        Stage::Passed(reading) => write_rows(out, at, reading.counts, &times, ledger),
+        Stage::Refused(_) => at,
+    }
+}
+
+// Writes `A` with the four totals, and the `B` records behind it.
+fn write_accepted(out: &mut [u8], network: &[u8], ledger: &[u32], totals: Totals) -> usize
+    requires { ⌜ BoundariesAsked (now out) 86 (lines (now network)) (now ledger) ⌝ }
+    ensures { λ r. ⌜ Wrote (totalsText totals ++ boundaryTexts (lines (now (network .entry))) (now (ledger .entry))) 0 (now (out .entry)) (now (out .exit)) r ⌝ }
+{
+    let fields = [
+        totals.admitted,
+        totals.let_out,
+        totals.inside,
+        totals.doubled_time,
+    ];
+    let next = record_writer::write_record(out, 0, b'A', &fields);
+    write_boundaries(out, next, network, ledger)
+}
+
+// Writes `R`, number, line, item.
+fn write_refusal(out: &mut [u8], refusal: Refusal) -> usize
+    requires { ⌜ 86 ≤ length (now out) ⌝ }
+    ensures { λ r. ⌜ Wrote (refusalText refusal) 0 (now (out .entry)) (now (out .exit)) r ⌝ }
+{
+    let fields = [
+        tables::wide(refusal.number),
+        tables::wide(refusal.line),
+        tables::wide(refusal.item),
+    ];
+    record_writer::write_record(out, 0, b'R', &fields)
+}
+
+// Writes the answer of a plan's check; the rows of an accepted plan stand in the ledger.
+fn write_answer(out: &mut [u8], network: &[u8], answer: PlanAnswer, ledger: &[u32]) -> usize
+    requires { ⌜ AnswerAsked (now out) (lines (now network)) answer (now ledger) ⌝ }
+    ensures { λ r. ⌜ Wrote (answerText (lines (now (network .entry))) answer (now (ledger .entry))) 0 (now (out .entry)) (now (out .exit)) r ⌝ }
+{
+    match answer {
+        PlanAnswer::Accepted(totals) => write_accepted(out, network, ledger, totals),
+        PlanAnswer::Refused(refusal) => write_refusal(out, refusal),
+    }
+}
+
+// Writes the report of two texts that were read: the ledger is long enough for every network.
+pub fn write_report(network: &[u8], plan: &[u8], out: &mut [u8]) -> usize
+    requires { ⌜ 131072 ≤ length (now out) ⌝ }
+    ensures { λ r. ⌜ Wrote (report (now (network .entry)) (now (plan .entry))) 0 (now (out .entry)) (now (out .exit)) r ⌝ }
+{
+    let mut ledger = [0u32; LEDGER_SIZE];
+    let answer = plan_check::check_plan(network, plan, &mut ledger);
+    write_answer(out, network, answer, &ledger)
+}
+
+// Writes `L`: the network (1) or the plan (2) is longer than the program takes, or not to be opened or read.
+pub fn write_not_read(out: &mut [u8], file: u64) -> usize
+    requires { ⌜ 23 ≤ length (now out) ⌝ }
+    ensures { λ r. ⌜ Wrote (notRead file) 0 (now (out .entry)) (now (out .exit)) r ⌝ }
+{
+    let fields = [file];
+    record_writer::write_record(out, 0, b'L', &fields)
+}

@@ -1,5 +1,0 @@
-mod Values
-mod Counts
-mod Numbers
-mod Turns
-mod Loops

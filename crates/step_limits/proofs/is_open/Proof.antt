@@ -1,0 +1,58 @@
+-- `step_limits::is_open` meets its contract. Without a signal the first test decides, with one the second. Assumes nothing.
+use mathlib.Core.Path.{_≡_, sym, ap, ap₂, _∙_}
+use Prim.Native.Nat.{_-_}
+use native.Mathlib.Omega.{arith}
+use lib.ListN.{getD}
+use Rattle.model.specs.Signals.{opens}
+use Rattle.tables.specs.Fields.{signalIn}
+use Rattle.step_limits.proofs.Turns.{open-free, open-shown}
+use borrow.Author.Needs.{needs}
+use Rattle.step_limits.proofs.is_open.Statement.{statement}
+use Rattle.step_limits.proofs.is_open.Tie as tie
+
+signal-of-requires : tie.Need-signal-of-requires
+signal-of-requires c κs = search needs
+
+index-requires : tie.Need-index-requires
+index-requires c κs = search needs
+
+returns : tie.Need-returns
+returns c = open-free _ _ _ (sym (c .before .index .ensures .0 ∙ c .before .before .signal-of .ensures) ∙ c .if1 .taken)
+
+phase-mask-requires : tie.Need-phase-mask-requires
+phase-mask-requires c κs = search needs
+
+sub-opens : tie.Need-sub-opens
+sub-opens c = search needs
+
+mul-opens : tie.Need-mul-opens
+mul-opens c = search needs
+
+shared-slice-read-opens : tie.Need-shared-slice-read-opens
+shared-slice-read-opens c = search needs
+
+opens-requires : tie.Need-opens-requires
+opens-requires c κs =
+    let s = c .before .before .before .before .before .before .before in
+    let e : c .before .before .before .index .result ≡ signalIn (s .args .links .now) (s .args .i) = c .before .before .before .index .ensures .0 ∙ c .before .before .before .before .signal-of .ensures in
+    omega (arith, s .pre .1 (c .before .before .before .index .result - 1) (omega arith))
+
+returns-2 : tie.Need-returns-2
+returns-2 c =
+    let s = c .before .before .before .before .before .before .before .before in
+    let e : c .before .before .before .before .index .result ≡ signalIn (s .args .links .now) (s .args .i) = c .before .before .before .before .index .ensures .0 ∙ c .before .before .before .before .before .signal-of .ensures in
+    open-shown _ _ _ (λ z. omega arith) (c .opens .ensures ∙ ap₂ opens (c .before .before .phase-mask .ensures) (ap (λ x. getD (s .args .phases .now) (x - 1) 0) e))
+
+pub is-open-spec : {M : Type 1} → statement M
+is-open-spec =
+    tie.close
+    (tie.spec
+    signal-of-requires
+    index-requires
+    returns
+    phase-mask-requires
+    sub-opens
+    mul-opens
+    shared-slice-read-opens
+    opens-requires
+    returns-2)

@@ -1,0 +1,36 @@
+-- `step_limits::lets_out_rate` meets its contract. Assumes nothing.
+use mathlib.Core.Path.{_∙_, ap₂}
+use Prim.Native.Nat.{_*_}
+use lib.Dec.{leb}
+use Rattle.tables.specs.Fields.{lengthIn}
+use Rattle.step_limits.specs.Limits.{letsOutRate}
+use borrow.Author.Needs.{needs}
+use Rattle.step_limits.proofs.lets_out_rate.Statement.{statement}
+use Rattle.step_limits.proofs.lets_out_rate.Tie as tie
+
+let-out-requires : tie.Need-let-out-requires
+let-out-requires c κs = search needs
+
+exit-rate-requires : tie.Need-exit-rate-requires
+exit-rate-requires c κs = search needs
+
+shared-slice-read-within-rate : tie.Need-shared-slice-read-within-rate
+shared-slice-read-within-rate c = search needs
+
+within-rate-requires : tie.Need-within-rate-requires
+within-rate-requires c κs = search needs
+
+returns : tie.Need-returns
+unfolding letsOutRate
+returns c =
+    c .within-rate .ensures ∙ ap₂ (λ x y. leb x (y * lengthIn (c .before .before .before .before .before .before .before .args .step .now))) (c .before .before .before .let-out .ensures) (c .before .before .exit-rate .ensures)
+
+pub lets-out-rate-spec : {M : Type 1} → statement M
+lets-out-rate-spec =
+    tie.close
+    (tie.spec
+    let-out-requires
+    exit-rate-requires
+    shared-slice-read-within-rate
+    within-rate-requires
+    returns)

@@ -1,0 +1,50 @@
+-- `step_limits::limit_test` meets its contract. Each way out is one test of the table. Assumes nothing.
+use Prim.Native.Nat.{_<_}
+use native.Mathlib.Omega.{arith}
+use Rattle.step_limits.specs.Limits.{limitTest}
+use Rattle.step_limits.proofs.Rules.{no-limit-test}
+use borrow.Author.Needs.{needs}
+use Rattle.step_limits.proofs.limit_test.Statement.{statement}
+use Rattle.step_limits.proofs.limit_test.Tie as tie
+
+admits-demand-requires : tie.Need-admits-demand-requires
+admits-demand-requires c κs =
+    let asked = c .before .before .before .before .before .before .pre .0 in
+    let h : c .before .before .before .before .before .before .args .item < c .before .before .before .before .before .before .args .counts .links = rw (c .match .keys1) at (c .before .before .before .before .before .before .pre .1) in
+    search needs
+
+lets-out-rate-requires : tie.Need-lets-out-rate-requires
+lets-out-rate-requires c κs =
+    let asked = c .before .before .before .before .before .before .pre .0 in
+    let h : c .before .before .before .before .before .before .args .item < c .before .before .before .before .before .before .args .counts .links = rw (c .match .keys2) at (c .before .before .before .before .before .before .pre .1) in
+    search needs
+
+moves-open-requires : tie.Need-moves-open-requires
+moves-open-requires c κs = (c .before .before .before .before .before .before .pre .0, rw (c .match .keys3) at (c .before .before .before .before .before .before .pre .1))
+
+returns : tie.Need-returns
+unfolding limitTest
+returns c = rw (c .before .match .keys1) (c .admits-demand .ensures)
+
+returns-2 : tie.Need-returns-2
+unfolding limitTest
+returns-2 c = rw (c .before .match .keys2) (c .lets-out-rate .ensures)
+
+returns-3 : tie.Need-returns-3
+unfolding limitTest
+returns-3 c = rw (c .before .match .keys3) (c .moves-open .ensures)
+
+returns-4 : tie.Need-returns-4
+returns-4 c = no-limit-test _ _ _ _ _ _ _ _ (omega arith)
+
+pub limit-test-spec : {M : Type 1} → statement M
+limit-test-spec =
+    tie.close
+    (tie.spec
+    admits-demand-requires
+    lets-out-rate-requires
+    moves-open-requires
+    returns
+    returns-2
+    returns-3
+    returns-4)

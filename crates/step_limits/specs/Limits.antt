@@ -1,0 +1,62 @@
+-- Rule 15 at one step, as tests of the program's tables: the numbers of the step's `P` and `S` lines, the links and movements of the network, and the phase that
+-- each signal shows in the step. Links, movements and signals are counted from 0, a link's signal and a movement's links from 1. Assumes nothing.
+use mathlib.Core.Path.{_≡_}
+use mathlib.Core.Bool.{Bool, true}
+use mathlib.Core.List.{List, [], _∷_}
+use Prim.Native.Nat.{ℕ, _*_, _-_, _≤_, _<_}
+use lib.Dec.{leb, eqb}
+use lib.ListN.{length, getD}
+use Rattle.search.specs.Checks.{Rule}
+use Rattle.model.specs.Test.{_and_, _or_}
+use Rattle.model.specs.Network.{maxSignals}
+use Rattle.model.specs.Signals.{opens}
+use Rattle.tables.specs.declared.Counts.{Counts}
+use Rattle.tables.specs.Places.{Few}
+use Rattle.tables.specs.Fields.{linkTableSize, stepSize, lineSize, exitRateIn, signalIn, phaseMaskIn, linkIn, rateIn, lengthIn, demandIn, admittedIn, letOutIn, movedIn}
+use Rattle.step_rows.specs.Rows.{Named}
+
+-- 15, link i: admitted is at most demand
+unfoldable pub admitsDemand : Counts → List ℕ → List ℕ → ℕ → Bool
+admitsDemand counts line step i = leb (admittedIn counts line i) (demandIn step i)
+
+-- 15, link i: let out is at most exit rate × length
+unfoldable pub letsOutRate : Counts → List ℕ → List ℕ → List ℕ → ℕ → Bool
+letsOutRate counts line step links i = leb (letOutIn counts line i) (exitRateIn links i * lengthIn step)
+
+-- link i has no signal, or its signal shows a phase of the link's mask
+unfoldable pub isOpenIn : List ℕ → List ℕ → ℕ → Bool
+isOpenIn links phases i = eqb (signalIn links i) 0 or opens (phaseMaskIn links i) (getD phases (signalIn links i - 1) 0)
+
+-- 15, movement j: it is at most its rate × length, and 0 if its from link is shut
+unfoldable pub movesOpen : Counts → List ℕ → List ℕ → List ℕ → List ℕ → List ℕ → ℕ → Bool
+movesOpen counts line step links movements phases j =
+    leb (movedIn counts line j) (rateIn movements j * lengthIn step) and (isOpenIn links phases (linkIn movements 0 j - 1) or eqb (movedIn counts line j) 0)
+
+-- test k of the three, admitted, let out and movements, and to how many items it is put
+abbrev pub limitItems : Counts → ℕ → ℕ
+limitItems counts k = getD (counts .links ∷ counts .links ∷ counts .movements ∷ []) k 0
+
+unfoldable pub limitTest : Counts → List ℕ → List ℕ → List ℕ → List ℕ → List ℕ → ℕ → ℕ → Bool
+limitTest counts line step links movements phases k item =
+    getD (admitsDemand counts line step item ∷ letsOutRate counts line step links item ∷ movesOpen counts line step links movements phases item ∷ []) k true
+
+abbrev pub limitRuleIn : Counts → List ℕ → List ℕ → List ℕ → List ℕ → List ℕ → ℕ → Rule
+limitRuleIn counts line step links movements phases k =
+    record { number = 15; items = limitItems counts k; holds = limitTest counts line step links movements phases k }
+
+-- the table of rule 15
+unfoldable pub limitRulesIn : Counts → List ℕ → List ℕ → List ℕ → List ℕ → List ℕ → List Rule
+limitRulesIn counts line step links movements phases =
+    let rule = limitRuleIn counts line step links movements phases in
+    rule 0 ∷ rule 1 ∷ rule 2 ∷ []
+
+-- the tables that rule 15 reads
+pub record LineTables (counts : Counts) (line step links movements phases : List ℕ) : Type 0 where
+  pub few : Few counts
+  pub named : Named counts movements
+  pub line-size : length line ≡ lineSize
+  pub step-size : length step ≡ stepSize
+  pub links-size : length links ≡ linkTableSize
+  pub phases-size : length phases ≡ maxSignals
+  pub signal-last : (i : ℕ) → i < counts .links → signalIn links i ≤ counts .signals
+  pub phase-last : (r : ℕ) → r < counts .signals → getD phases r 0 ≤ 8

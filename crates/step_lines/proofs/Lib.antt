@@ -1,5 +1,0 @@
-mod Arrivals
-mod Values
-mod Unmet
-pub mod Boundaries
-pub mod StepLines

@@ -1,0 +1,102 @@
+-- `step_rows::add_movements` meets its contract. The invariant: the first j movements have been added to the row. Each store has room, since what is added so far is at most what all movements add. Assumes nothing.
+use mathlib.Core.Path.{_≡_}
+use Prim.Native.Nat.{_-_, _≤_}
+use native.Mathlib.Omega.{arith}
+use Rattle.step_rows.proofs.Scatter.{added-none, room-to, room-second, added-turn}
+use Rattle.step_rows.specs.Rows.{Added}
+use borrow.Author.Needs.{needs}
+use Rattle.step_rows.proofs.add_movements.Statement.{statement}
+use Rattle.step_rows.proofs.add_movements.Tie as tie
+
+abbrev Inv-loop : tie.InvT-loop
+Inv-loop row₀ line movements counts j₀ row j = (j ≤ counts .movements) × Added counts line movements row₀ j row
+
+abbrev μ-loop : tie.MeasureT-loop
+μ-loop row₀ line movements counts j₀ row j = counts .movements - j
+
+loop-holds : tie.Need-loop-holds Inv-loop μ-loop
+loop-holds c = (search needs, search added-none)
+
+moved-requires : tie.Need-moved-requires Inv-loop μ-loop
+moved-requires c κs = search needs
+
+link-index-requires : tie.Need-link-index-requires Inv-loop μ-loop
+link-index-requires c κs =
+    let asked = c .before .before .before .before .before .before .before .pre in
+    let e = asked .named .ends (c .before .before .before .loop .j) (omega arith) in
+    search needs
+
+mul-to : tie.Need-mul-to Inv-loop μ-loop
+mul-to c =
+    let asked = c .before .before .before .before .before .before .before .before .pre in
+    let e = asked .named .ends (c .before .before .before .before .loop .j) (omega arith) in
+    search needs
+
+link-index-requires-2 : tie.Need-link-index-requires-2 Inv-loop μ-loop
+link-index-requires-2 c κs =
+    let asked = c .before .before .before .before .before .before .before .before .pre in
+    let e = asked .named .ends (c .before .before .before .before .loop .j) (omega arith) in
+    search needs
+
+mul-from : tie.Need-mul-from Inv-loop μ-loop
+mul-from c =
+    let asked = c .before .before .before .before .before .before .before .before .before .pre in
+    let e = asked .named .ends (c .before .before .before .before .before .loop .j) (omega arith) in
+    search needs
+
+add-from : tie.Need-add-from Inv-loop μ-loop
+add-from c =
+    let asked = c .before .before .before .before .before .before .before .before .before .pre in
+    let e = asked .named .ends (c .before .before .before .before .before .loop .j) (omega arith) in
+    search needs
+
+add-at-requires : tie.Need-add-at-requires Inv-loop μ-loop
+add-at-requires c κs =
+    let l = c .before .before .before .before .before .before .loop in
+    room-to (c .before .before .before .before .before .before .before .before .before .before .pre) (omega arith) (l .inv .1) _ _ _ (c .before .before .link-index .ensures) (c .before .link-index2 .ensures) (c .before .before .before .moved .ensures)
+
+add-at-requires-2 : tie.Need-add-at-requires-2 Inv-loop μ-loop
+add-at-requires-2 c κs =
+    let l = c .before .before .before .before .before .before .before .before .before .before .loop in
+    room-second (c .before .before .before .before .before .before .before .before .before .before .before .before .before .before .pre) (omega arith) (l .inv .1) _ _ _ (c .before .before .before .before .before .before .link-index .ensures) (c .before .before .before .before .before .link-index2 .ensures) (c .before .before .before .before .before .before .before .moved .ensures) _ (c .before .before .before .add-at .ensures)
+
+add-j : tie.Need-add-j Inv-loop μ-loop
+add-j c = search needs
+
+loop-less : tie.Need-loop-less Inv-loop μ-loop
+loop-less c = search needs
+
+loop-again : tie.Need-loop-again Inv-loop μ-loop
+loop-again c =
+    let l = c .before .before .before .before .before .before .before .before .before .before .before .before .before .loop in
+    (search needs, added-turn (c .before .before .before .before .before .before .before .before .before .before .before .before .before .before .before .before .before .pre) (omega arith) (l .inv .1) _ _ _ (c .before .before .before .before .before .before .before .before .before .link-index .ensures) (c .before .before .before .before .before .before .before .before .link-index2 .ensures) (c .before .before .before .before .before .before .before .before .before .before .moved .ensures) _ (c .before .before .before .before .before .before .add-at .ensures) _ (c .before .before .add-at2 .ensures))
+
+same-length : tie.Need-same-length Inv-loop μ-loop
+same-length c = search needs
+
+returns : tie.Need-returns Inv-loop μ-loop
+returns c =
+    let l = c .before .before .loop in
+    let e : l .j ≡ c .before .before .before .before .before .before .args .counts .movements = omega arith in
+    rw e at (l .inv .1)
+
+pub add-movements-spec : {M : Type 1} → statement M
+add-movements-spec =
+    tie.close
+    (tie.spec
+    Inv-loop
+    μ-loop
+    loop-holds
+    moved-requires
+    link-index-requires
+    mul-to
+    link-index-requires-2
+    mul-from
+    add-from
+    add-at-requires
+    add-at-requires-2
+    add-j
+    loop-less
+    loop-again
+    same-length
+    returns)

@@ -1,0 +1,106 @@
+-- `step_rows::base_row` meets its contract. The invariant: the row has begun with the first i links. Assumes nothing.
+use mathlib.Core.List.{_++_}
+use mathlib.Core.Path.{_≡_}
+use Prim.Native.Nat.{_*_, _-_, _≤_}
+use native.Mathlib.Omega.{arith}
+use lib.ListN.{length, drop, length-set}
+use Rattle.tables.specs.Fields.{rowSize}
+use Rattle.step_rows.specs.Rows.{pairs, baseEntered, baseLeft}
+use Rattle.step_rows.proofs.Lists.{begun-none}
+use Rattle.step_rows.proofs.Turns.{base-entered-fits, base-left-fits, base-turn}
+use borrow.Author.Needs.{needs}
+use Rattle.step_rows.proofs.base_row.Statement.{statement}
+use Rattle.step_rows.proofs.base_row.Tie as tie
+
+abbrev Inv-loop : tie.InvT-loop
+Inv-loop previous line counts row₀ i₀ row i =
+    (i ≤ counts .links) × (row ≡ pairs (baseEntered counts line previous) (baseLeft counts line previous) i ++ drop (2 * i) row₀) × (length row ≡ rowSize)
+
+abbrev μ-loop : tie.MeasureT-loop
+μ-loop previous line counts row₀ i₀ row i = counts .links - i
+
+loop-holds : tie.Need-loop-holds Inv-loop μ-loop
+loop-holds c = (search needs, begun-none _ _ _ 0, search needs)
+
+entered-requires : tie.Need-entered-requires Inv-loop μ-loop
+entered-requires c κs = search needs
+
+admitted-requires : tie.Need-admitted-requires Inv-loop μ-loop
+admitted-requires c κs = search needs
+
+add-row : tie.Need-add-row Inv-loop μ-loop
+add-row c = record { fits = search base-entered-fits }
+
+mul-row : tie.Need-mul-row Inv-loop μ-loop
+mul-row c = search needs
+
+mul-row-2 : tie.Need-mul-row-2 Inv-loop μ-loop
+mul-row-2 c = search needs
+
+slice-write-row : tie.Need-slice-write-row Inv-loop μ-loop
+slice-write-row c = search needs
+
+left-requires : tie.Need-left-requires Inv-loop μ-loop
+left-requires c κs = search needs
+
+let-out-requires : tie.Need-let-out-requires Inv-loop μ-loop
+let-out-requires c κs = search needs
+
+add-row-2 : tie.Need-add-row-2 Inv-loop μ-loop
+add-row-2 c = record { fits = search base-left-fits }
+
+mul-row-3 : tie.Need-mul-row-3 Inv-loop μ-loop
+mul-row-3 c = search needs
+
+add-row-3 : tie.Need-add-row-3 Inv-loop μ-loop
+add-row-3 c = search needs
+
+mul-row-4 : tie.Need-mul-row-4 Inv-loop μ-loop
+mul-row-4 c = search needs
+
+slice-write-row-2 : tie.Need-slice-write-row-2 Inv-loop μ-loop
+slice-write-row-2 c = rw length-set (search needs)
+
+add-i : tie.Need-add-i Inv-loop μ-loop
+add-i c = search needs
+
+loop-less : tie.Need-loop-less Inv-loop μ-loop
+loop-less c = search needs
+
+loop-again : tie.Need-loop-again Inv-loop μ-loop
+loop-again c = (search needs, search base-turn, simp length-set (search needs))
+
+same-length : tie.Need-same-length Inv-loop μ-loop
+same-length c = search needs
+
+returns : tie.Need-returns Inv-loop μ-loop
+returns c =
+    let l = c .before .before .loop in
+    let e : l .i ≡ c .before .before .before .before .before .before .args .counts .links = omega arith in
+    rw e at (l .inv .1)
+
+pub base-row-spec : {M : Type 1} → statement M
+base-row-spec =
+    tie.close
+    (tie.spec
+    Inv-loop
+    μ-loop
+    loop-holds
+    entered-requires
+    admitted-requires
+    add-row
+    mul-row
+    mul-row-2
+    slice-write-row
+    left-requires
+    let-out-requires
+    add-row-2
+    mul-row-3
+    add-row-3
+    mul-row-4
+    slice-write-row-2
+    add-i
+    loop-less
+    loop-again
+    same-length
+    returns)

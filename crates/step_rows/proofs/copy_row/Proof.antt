@@ -1,0 +1,72 @@
+-- `step_rows::copy_row` meets its contract. The invariant: the first k numbers are the row's, the others the part's. Assumes nothing.
+use mathlib.Core.Path.{_≡_, refl}
+use mathlib.Core.List.{_++_}
+use Prim.Native.Nat.{_-_, _≤_}
+use native.Mathlib.Omega.{arith}
+use borrow.Author.Needs.{needs}
+use lib.ListN.{length, take, drop, length-set}
+use Rattle.step_rows.proofs.Lists.{copy-turn}
+use Rattle.step_rows.proofs.copy_row.Statement.{statement}
+use Rattle.step_rows.proofs.copy_row.Tie as tie
+
+abbrev Inv-loop : tie.InvT-loop
+Inv-loop part₀ row count k₀ part k = (k ≤ count) × (part ≡ take k row ++ drop k part₀) × (length part ≡ length part₀)
+
+abbrev μ-loop : tie.MeasureT-loop
+μ-loop part₀ row count k₀ part k = count - k
+
+loop-holds : tie.Need-loop-holds Inv-loop μ-loop
+loop-holds c = (search needs, refl, refl)
+
+mul-part : tie.Need-mul-part Inv-loop μ-loop
+mul-part c = search needs
+
+shared-slice-read-part : tie.Need-shared-slice-read-part Inv-loop μ-loop
+shared-slice-read-part c = search needs
+
+mul-part-2 : tie.Need-mul-part-2 Inv-loop μ-loop
+mul-part-2 c = search needs
+
+slice-write-part : tie.Need-slice-write-part Inv-loop μ-loop
+slice-write-part c = omega (arith, c .before .before .loop .inv .2)
+
+add-k : tie.Need-add-k Inv-loop μ-loop
+add-k c = search needs
+
+loop-less : tie.Need-loop-less Inv-loop μ-loop
+loop-less c = search needs
+
+loop-again : tie.Need-loop-again Inv-loop μ-loop
+loop-again c =
+    let l = c .before .before in
+    let s = l .before in (
+      search needs,
+      copy-turn (s .args .part .now) (s .args .row .now) (l .loop .k) (omega arith) (omega arith) (l .loop .inv .1),
+      simp length-set (l .loop .inv .2),
+    )
+
+same-length : tie.Need-same-length Inv-loop μ-loop
+same-length c = c .before .loop .inv .2
+
+returns : tie.Need-returns Inv-loop μ-loop
+returns c =
+    let l = c .before in
+    let e : l .loop .k ≡ l .before .args .count = omega arith in
+    rw e at (l .loop .inv .1)
+
+pub copy-row-spec : {M : Type 1} → statement M
+copy-row-spec =
+    tie.close
+    (tie.spec
+    Inv-loop
+    μ-loop
+    loop-holds
+    mul-part
+    shared-slice-read-part
+    mul-part-2
+    slice-write-part
+    add-k
+    loop-less
+    loop-again
+    same-length
+    returns)

@@ -1,0 +1,65 @@
+-- `step_rows::held_in` meets its contract. The invariant: the total is what the first i links hold. Assumes nothing.
+use mathlib.Core.Path.{_≡_, sym}
+use Prim.Native.Nat.{_*_, _-_, _≤_}
+use native.Mathlib.Omega.{arith}
+use Rattle.model.specs.Sum.{sum}
+use Rattle.tables.specs.Fields.{enteredIn, leftIn}
+use Rattle.step_rows.proofs.Sums.{sum-none}
+use Rattle.step_rows.proofs.Turns.{held-turn}
+use borrow.Author.Needs.{needs}
+use Rattle.step_rows.proofs.held_in.Statement.{statement}
+use Rattle.step_rows.proofs.held_in.Tie as tie
+
+abbrev Inv-loop : tie.InvT-loop
+Inv-loop row links total₀ i₀ total i = (i ≤ links) × (total ≡ sum i (λ k. enteredIn row k - leftIn row k)) × (total ≤ 4294967295 * i)
+
+abbrev μ-loop : tie.MeasureT-loop
+μ-loop row links total₀ i₀ total i = links - i
+
+loop-holds : tie.Need-loop-holds Inv-loop μ-loop
+loop-holds c = (search needs, sym (sum-none _), search needs)
+
+entered-requires : tie.Need-entered-requires Inv-loop μ-loop
+entered-requires c κs = search needs
+
+left-requires : tie.Need-left-requires Inv-loop μ-loop
+left-requires c κs = search needs
+
+held-requires : tie.Need-held-requires Inv-loop μ-loop
+held-requires c κs = search needs
+
+add-total : tie.Need-add-total Inv-loop μ-loop
+add-total c = search needs
+
+add-i : tie.Need-add-i Inv-loop μ-loop
+add-i c = search needs
+
+loop-less : tie.Need-loop-less Inv-loop μ-loop
+loop-less c = search needs
+
+loop-again : tie.Need-loop-again Inv-loop μ-loop
+loop-again c =
+    let r = c .before .before .before .before .before .before .args .row .now in
+    (search needs, held-turn r (c .before .before .before .before .loop .i) (c .before .before .before .before .loop .inv .1) (c .before .before .entered .ensures) (c .before .left .ensures) (c .held .ensures .0), search needs)
+
+returns : tie.Need-returns Inv-loop μ-loop
+returns c =
+    let l = c .before .loop in
+    let e : l .i ≡ c .before .before .before .args .links = omega arith in
+    (rw e at (l .inv .1), omega arith)
+
+pub held-in-spec : {M : Type 1} → statement M
+held-in-spec =
+    tie.close
+    (tie.spec
+    Inv-loop
+    μ-loop
+    loop-holds
+    entered-requires
+    left-requires
+    held-requires
+    add-total
+    add-i
+    loop-less
+    loop-again
+    returns)

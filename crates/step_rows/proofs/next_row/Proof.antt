@@ -1,0 +1,20 @@
+-- `step_rows::next_row` meets its contract. The row that the line begins has room for the movements, and with them it is the next row. Assumes nothing.
+use borrow.Author.Needs.{needs}
+use Rattle.step_rows.proofs.Next.{next-base, next-room, next-is}
+use Rattle.step_rows.proofs.next_row.Statement.{statement}
+use Rattle.step_rows.proofs.next_row.Tie as tie
+
+base-row-requires : tie.Need-base-row-requires
+base-row-requires c κs = next-base _ _ _ _ _ (c .before .before .before .before .before .pre)
+
+add-movements-requires : tie.Need-add-movements-requires
+add-movements-requires c κs = next-room _ _ _ _ _ (c .before .before .before .before .before .before .before .before .before .pre) _ (c .before .before .before .base-row .ensures)
+
+same-length : tie.Need-same-length
+same-length c = search needs
+
+returns : tie.Need-returns
+returns c = next-is _ _ _ _ _ (c .before .before .before .before .before .before .before .before .before .before .before .before .pre) _ (c .before .before .before .before .before .before .base-row .ensures) _ (c .before .before .add-movements .ensures)
+
+pub next-row-spec : {M : Type 1} → statement M
+next-row-spec = tie.close (tie.spec base-row-requires add-movements-requires same-length returns)

@@ -1,0 +1,73 @@
+-- `step_rows::sum_of` meets its contract. The invariant: the total is the sum of the first i numbers. Assumes nothing.
+use mathlib.Core.Path.{_≡_, sym}
+use Prim.Native.Nat.{_+_, _*_, _-_, _≤_}
+use native.Mathlib.Omega.{arith}
+use borrow.Author.Needs.{needs}
+use lib.ListN.{getD}
+use Rattle.model.specs.Sum.{sum}
+use Rattle.step_rows.proofs.Sums.{sum-none, sum-next}
+use Rattle.step_rows.proofs.sum_of.Statement.{statement}
+use Rattle.step_rows.proofs.sum_of.Tie as tie
+
+abbrev Inv-loop : tie.InvT-loop
+Inv-loop line first count total₀ i₀ total i =
+    (i ≤ count) × (total ≡ sum i (λ k. getD line (first + k) 0)) × (total ≤ 4294967295 * i)
+
+abbrev μ-loop : tie.MeasureT-loop
+μ-loop line first count total₀ i₀ total i = count - i
+
+loop-holds : tie.Need-loop-holds Inv-loop μ-loop
+loop-holds c = (search needs, sym (sum-none _), search needs)
+
+add-wide : tie.Need-add-wide Inv-loop μ-loop
+add-wide c = search needs
+
+mul-wide : tie.Need-mul-wide Inv-loop μ-loop
+mul-wide c = search needs
+
+shared-slice-read-wide : tie.Need-shared-slice-read-wide Inv-loop μ-loop
+shared-slice-read-wide c = search needs
+
+wide-requires : tie.Need-wide-requires Inv-loop μ-loop
+wide-requires c κs = search needs
+
+add-total : tie.Need-add-total Inv-loop μ-loop
+add-total c = omega (arith, c .before .before .before .loop .inv, c .before .before .before .before .before .pre)
+
+add-i : tie.Need-add-i Inv-loop μ-loop
+add-i c = search needs
+
+loop-less : tie.Need-loop-less Inv-loop μ-loop
+loop-less c = search needs
+
+loop-again : tie.Need-loop-again Inv-loop μ-loop
+loop-again c =
+    let l = c .before .before .before in
+    let s = l .before .before in (
+      search needs,
+      omega (arith, sum-next (l .loop .i) (λ k. getD (s .args .line .now) (s .args .first + k) 0)),
+      omega (arith, c .wide .ensures),
+    )
+
+returns : tie.Need-returns Inv-loop μ-loop
+returns c =
+    let l = c .before in
+    let e : l .loop .i ≡ l .before .before .args .count = omega arith in
+    (rw e at (l .loop .inv .1), omega arith)
+
+pub sum-of-spec : {M : Type 1} → statement M
+sum-of-spec =
+    tie.close
+    (tie.spec
+    Inv-loop
+    μ-loop
+    loop-holds
+    add-wide
+    mul-wide
+    shared-slice-read-wide
+    wide-requires
+    add-total
+    add-i
+    loop-less
+    loop-again
+    returns)

@@ -1,0 +1,72 @@
+-- The rules of a signal by their places in the table of rules 10 to 14, and that they keep it ready for the next step. Assumes nothing.
+use Prim.Native.Nat.{ℕ, zero, suc, _-_, _≤_, _<_}
+use mathlib.Core.Path.{_≡_, refl, sym}
+use mathlib.Core.Bool.{true, not, _||_}
+use mathlib.Core.List.{List}
+use native.Mathlib.Nat.{le-trans}
+use native.Mathlib.Omega.{arith}
+use lib.Dec.{leb}
+use lib.ListN.{getD, List·getD-eq-default}
+use borrow.Author.Tests.{leb-true}
+use Rattle.search.specs.Checks.{ruleAt}
+use Rattle.model.specs.declared.Signal.{Signal}
+use Rattle.model.specs.Test.{_and_, within}
+use Rattle.model.specs.Signals.{greatestTime, beginsCycle, shownForAfter, clockAfter, keepsGreatestTime, keepsCycle, after}
+use Rattle.model.specs.Rules.{validPhases, validSignal}
+use Rattle.model.proofs.Tests.{and-left, and-right, every-at}
+use Rattle.step_signals.specs.Ready.{Ready}
+use Rattle.step_signals.specs.Step.{signalTests, signalTest, signalRuleIn, signalRulesIn}
+
+-- past rule 14 there is none to break
+pub no-signal-test : (k : ℕ) (s : Signal) (q seconds : ℕ) → 5 ≤ k → true ≡ signalTest k s q seconds
+unfolding signalTest
+no-signal-test k s q seconds h = sym (List·getD-eq-default (signalTests s q seconds) true h)
+
+-- ---- the table of rules 10 to 14
+module _ (signals : List Signal) (count : ℕ) (phases : List ℕ) (seconds : ℕ) where
+  pub signal-rule-is : (k : ℕ) → k < 5 → ruleAt (signalRulesIn signals count phases seconds) k ≡ signalRuleIn signals count phases seconds k
+  unfolding signalRulesIn
+  signal-rule-is zero h = refl
+  signal-rule-is (suc zero) h = refl
+  signal-rule-is (suc (suc zero)) h = refl
+  signal-rule-is (suc (suc (suc zero))) h = refl
+  signal-rule-is (suc (suc (suc (suc zero)))) h = refl
+  signal-rule-is (suc (suc (suc (suc (suc k))))) h = absurd (omega arith)
+
+-- a signal that passes the network's check is ready for the first step
+pub ready-first : (s : Signal) → validPhases s ≡ true → validSignal s ≡ true → Ready s
+unfolding validPhases validSignal within
+ready-first s p v =
+    let clocks = and-left _ _ v in
+    let run = and-left _ _ clocks in
+    let cycle = and-left _ _ run in
+    let times = and-left _ _ (and-left _ _ cycle) in
+    let clock : s .«cycle_clock» ≤ s .«greatest_cycle» = leb-true _ _ (and-right _ _ (and-right _ _ clocks)) in
+    let longest : s .«greatest_cycle» ≤ 3600 = leb-true _ _ (and-right _ _ (and-right _ _ cycle)) in
+    let first : 1 ≤ s .shown = leb-true _ _ (and-left _ _ (and-left _ _ times)) in
+    let last : s .shown ≤ s .phases = leb-true _ _ (and-right _ _ (and-left _ _ times)) in
+    let each : (k : ℕ) → k < s .phases → getD (s .greatest) k 0 ≤ 3600 = λ k h. leb-true _ _ (and-right _ _ (and-right _ _ (every-at (s .phases) _ (and-right _ _ times) k h))) in
+    record {
+      few-phases = leb-true _ _ (and-right _ _ p);
+      shows-phase = last;
+      short-run = le-trans (leb-true _ _ (and-right _ _ run)) (each (s .shown - 1) (omega arith));
+      short-cycle = omega arith;
+      greatest-times = each;
+      greatest-cycle = longest;
+    }
+
+-- rules 10, 13 and 14 leave a signal ready for the next step
+pub ready-after : (s : Signal) (q seconds : ℕ) → Ready s → 1 ≤ q → q ≤ s .phases
+    → keepsGreatestTime s q seconds ≡ true → keepsCycle s q seconds ≡ true → Ready (after s q seconds)
+unfolding _and_
+ready-after s q seconds r first last run cycle =
+    let run-in-time : shownForAfter s q seconds ≤ greatestTime s q = leb-true _ _ run in
+    let clock-in-time : clockAfter s q seconds ≤ s .«greatest_cycle» = leb-true _ _ (and-right (not (beginsCycle s q) || leb (s .«least_cycle») (s .«cycle_clock»)) _ cycle) in
+    record {
+      few-phases = r .few-phases;
+      shows-phase = last;
+      short-run = le-trans run-in-time (r .greatest-times (q - 1) (omega arith));
+      short-cycle = le-trans clock-in-time (r .greatest-cycle);
+      greatest-times = r .greatest-times;
+      greatest-cycle = r .greatest-cycle;
+    }

@@ -1,0 +1,46 @@
+-- All signals through a step, one after the other. Assumes nothing.
+use Prim.Native.Nat.{ℕ, _+_, _<_}
+use mathlib.Core.Path.{_≡_, refl, ap, _∙_}
+use mathlib.Core.List.{List}
+use native.Mathlib.Nat.{le-refl}
+use native.Mathlib.Omega.{arith}
+use lib.ListN.{length, getD, set, length-set}
+use lib.Seq.{getD-set-same, getD-set-other}
+use borrow.Author.Count.{below-more}
+use Rattle.model.specs.declared.Signal.{Signal}
+use Rattle.tables.specs.Tables.{noSignal}
+use Rattle.model.specs.Signals.{phaseOf, after}
+use Rattle.step_signals.specs.Step.{ShownPhases, Advanced}
+
+module _ {A : Type 0} (l : List A) (i : ℕ) (x d : A) (h : i < length l) where
+  -- what is said of every place below i, and of what is laid at i, is said of every place up to it
+  laid : (f : ℕ → A) → ((k : ℕ) → k < i → getD l k d ≡ f k) → x ≡ f i → (k : ℕ) → k < i + 1 → getD (set l i x) k d ≡ f k
+  laid f below e =
+      below-more (λ k. getD (set l i x) k d ≡ f k) i (λ k b. getD-set-other l i k x d (λ q. omega arith) ∙ below k b) (getD-set-same l i x d h ∙ e)
+
+-- no phase is written yet
+pub shown-none : (signals : List Signal) (masks before : List ℕ) → length before ≡ 8 → ShownPhases signals 0 masks before before
+shown-none signals masks before h = record { size = h; shown = λ r l. absurd (omega arith); kept = λ r l. refl }
+
+-- one more is
+pub shown-more : (signals : List Signal) (masks before : List ℕ) (i : ℕ) (phases : List ℕ) (q : ℕ) → i < 8 → ShownPhases signals i masks before phases
+    → q ≡ phaseOf (getD masks i 0) (getD signals i noSignal .phases) → ShownPhases signals (i + 1) masks before (set phases i q)
+shown-more signals masks before i phases q h s e = record {
+  size = length-set phases i q ∙ s .size;
+  shown = laid phases i q 0 (omega arith) _ (s .shown) e;
+  kept = λ r l. getD-set-other phases i r q 0 (λ x. omega arith) ∙ s .kept r (omega arith);
+}
+
+-- no signal is a step on yet
+pub advanced-none : (signals : List Signal) (phases : List ℕ) (seconds : ℕ) → length signals ≡ 8 → Advanced signals 0 phases seconds signals
+advanced-none signals phases seconds h = record { size = h; stepped = λ r l. absurd (omega arith); kept = λ r l. refl }
+
+-- one more is
+pub advanced-more : (signals : List Signal) (phases : List ℕ) (seconds i : ℕ) (result : List Signal) (s : Signal) → i < 8
+    → Advanced signals i phases seconds result → s ≡ after (getD result i noSignal) (getD phases i 0) seconds
+    → Advanced signals (i + 1) phases seconds (set result i s)
+advanced-more signals phases seconds i result s h a e = record {
+  size = length-set result i s ∙ a .size;
+  stepped = laid result i s noSignal (omega arith) _ (a .stepped) (e ∙ ap (λ x. after x (getD phases i 0) seconds) (a .kept i (le-refl i)));
+  kept = λ r l. getD-set-other result i r s noSignal (λ x. omega arith) ∙ a .kept r (omega arith);
+}

@@ -1,0 +1,13 @@
+-- `step_signals::keeps_order` meets its contract: what it calls gives the definition's parts. Assumes nothing.
+use borrow.Author.Needs.{needs}
+use Rattle.step_signals.proofs.keeps_order.Statement.{statement}
+use Rattle.step_signals.proofs.keeps_order.Tie as tie
+
+next-phase-requires : tie.Need-next-phase-requires
+next-phase-requires c κs = search needs
+
+returns : tie.Need-returns
+returns c = rw (c .next-phase .ensures)
+
+pub keeps-order-spec : {M : Type 1} → statement M
+keeps-order-spec = tie.close (tie.spec next-phase-requires returns)

@@ -1,0 +1,79 @@
+-- `step_signals::shown_phases` meets its contract. The loop's invariant: the phases of the first i signals are written. Assumes nothing.
+use mathlib.Core.Path.{_≡_}
+use Prim.Native.Nat.{_-_, _≤_}
+use native.Mathlib.Omega.{arith}
+use Rattle.step_signals.specs.Step.{ShownPhases}
+use Rattle.step_signals.proofs.Steps.{shown-none, shown-more}
+use borrow.Author.Needs.{needs}
+use Rattle.step_signals.proofs.shown_phases.Statement.{statement}
+use Rattle.step_signals.proofs.shown_phases.Tie as tie
+
+abbrev Inv-loop : tie.InvT-loop
+Inv-loop count masks phases₀ signals i₀ phases i = (i ≤ count) × ShownPhases signals i masks phases₀ phases
+
+abbrev μ-loop : tie.MeasureT-loop
+μ-loop count masks phases₀ signals i₀ phases i = count - i
+
+loop-holds : tie.Need-loop-holds Inv-loop μ-loop
+loop-holds c = (search needs, shown-none _ _ _ (search needs))
+
+mul-phase-of : tie.Need-mul-phase-of Inv-loop μ-loop
+mul-phase-of c = search needs
+
+shared-slice-read-phase-of : tie.Need-shared-slice-read-phase-of Inv-loop μ-loop
+shared-slice-read-phase-of c = search needs
+
+mul-phase-of-2 : tie.Need-mul-phase-of-2 Inv-loop μ-loop
+mul-phase-of-2 c = search needs
+
+element-copy-out-phase-of : tie.Need-element-copy-out-phase-of Inv-loop μ-loop
+element-copy-out-phase-of c = search needs
+
+phase-of-requires : tie.Need-phase-of-requires Inv-loop μ-loop
+phase-of-requires c κs = search needs
+
+mul-phases : tie.Need-mul-phases Inv-loop μ-loop
+mul-phases c = search needs
+
+slice-write-phases : tie.Need-slice-write-phases Inv-loop μ-loop
+slice-write-phases c = search needs
+
+add-i : tie.Need-add-i Inv-loop μ-loop
+add-i c = search needs
+
+loop-less : tie.Need-loop-less Inv-loop μ-loop
+loop-less c = search needs
+
+loop-again : tie.Need-loop-again Inv-loop μ-loop
+loop-again c =
+    let w = c .before .before .before .loop in
+    (search needs, shown-more _ _ _ (w .i) (w .phases) (c .phase-of .result) (omega arith) (w .inv .1) (c .phase-of .ensures))
+
+same-length : tie.Need-same-length Inv-loop μ-loop
+same-length c = search needs
+
+returns : tie.Need-returns Inv-loop μ-loop
+returns c =
+    let w = c .before .loop in
+    let e : w .i ≡ c .before .before .before .before .args .count = omega arith in
+    rw e at (w .inv .1)
+
+pub shown-phases-spec : {M : Type 1} → statement M
+shown-phases-spec =
+    tie.close
+    (tie.spec
+    Inv-loop
+    μ-loop
+    loop-holds
+    mul-phase-of
+    shared-slice-read-phase-of
+    mul-phase-of-2
+    element-copy-out-phase-of
+    phase-of-requires
+    mul-phases
+    slice-write-phases
+    add-i
+    loop-less
+    loop-again
+    same-length
+    returns)

@@ -1,0 +1,57 @@
+-- `step_signals::signal_test` meets its contract: at each place the rule that it calls is the definition's. Assumes nothing.
+use native.Mathlib.Omega.{arith}
+use Rattle.step_signals.specs.Step.{signalTest}
+use Rattle.step_signals.proofs.Rules.{no-signal-test}
+use borrow.Author.Needs.{needs}
+use Rattle.step_signals.proofs.signal_test.Statement.{statement}
+use Rattle.step_signals.proofs.signal_test.Tie as tie
+
+keeps-order-requires : tie.Need-keeps-order-requires
+keeps-order-requires c κs = search needs
+
+keeps-least-time-requires : tie.Need-keeps-least-time-requires
+keeps-least-time-requires c κs = search needs
+
+keeps-greatest-time-requires : tie.Need-keeps-greatest-time-requires
+keeps-greatest-time-requires c κs = search needs
+
+keeps-cycle-requires : tie.Need-keeps-cycle-requires
+keeps-cycle-requires c κs = search needs
+
+returns : tie.Need-returns
+unfolding signalTest
+returns c = rw (c .match .keys1)
+
+returns-2 : tie.Need-returns-2
+unfolding signalTest
+returns-2 c = rw (c .before .match .keys2) (c .keeps-order .ensures)
+
+returns-3 : tie.Need-returns-3
+unfolding signalTest
+returns-3 c = rw (c .before .match .keys3) (c .keeps-least-time .ensures)
+
+returns-4 : tie.Need-returns-4
+unfolding signalTest
+returns-4 c = rw (c .before .match .keys4) (c .keeps-greatest-time .ensures)
+
+returns-5 : tie.Need-returns-5
+unfolding signalTest
+returns-5 c = rw (c .before .match .keys5) (c .keeps-cycle .ensures)
+
+returns-6 : tie.Need-returns-6
+returns-6 c = no-signal-test _ _ _ _ (omega arith)
+
+pub signal-test-spec : {M : Type 1} → statement M
+signal-test-spec =
+    tie.close
+    (tie.spec
+    keeps-order-requires
+    keeps-least-time-requires
+    keeps-greatest-time-requires
+    keeps-cycle-requires
+    returns
+    returns-2
+    returns-3
+    returns-4
+    returns-5
+    returns-6)

@@ -1,0 +1,51 @@
+-- `step_sums::fits_capacity` meets its contract. A sum stands in place of the difference. Assumes nothing.
+use mathlib.Core.Path.{_∙_, ap₂}
+use Prim.Native.Nat.{_+_}
+use lib.Dec.{leb}
+use Rattle.tables.specs.Fields.{capacityIn, enteredIn, leftIn}
+use Rattle.step_sums.specs.Sums.{fitsCapacity}
+use Rattle.step_sums.proofs.Turns.{leb-over}
+use borrow.Author.Needs.{needs}
+use Rattle.step_sums.proofs.fits_capacity.Statement.{statement}
+use Rattle.step_sums.proofs.fits_capacity.Tie as tie
+
+entered-requires : tie.Need-entered-requires
+entered-requires c κs = search needs
+
+wide-requires : tie.Need-wide-requires
+wide-requires c κs = search needs
+
+capacity-requires : tie.Need-capacity-requires
+capacity-requires c κs = search needs
+
+wide-requires-2 : tie.Need-wide-requires-2
+wide-requires-2 c κs = search needs
+
+left-requires : tie.Need-left-requires
+left-requires c κs = search needs
+
+wide-requires-3 : tie.Need-wide-requires-3
+wide-requires-3 c κs = search needs
+
+add-result : tie.Need-add-result
+add-result c = search needs
+
+returns : tie.Need-returns
+unfolding fitsCapacity
+returns c =
+    let a = c .before .before .before .before .before .before .before .before .before .args in
+    ap₂ leb (c .before .before .before .before .wide .ensures .0 ∙ c .before .before .before .before .before .entered .ensures) (ap₂ _+_ (c .before .before .wide2 .ensures .0 ∙ c .before .before .before .capacity .ensures) (c .wide3 .ensures .0 ∙ c .before .left .ensures))
+    ∙ leb-over (enteredIn (a .row .now) (a .i)) (leftIn (a .previous .now) (a .i)) (capacityIn (a .links .now) (a .i))
+
+pub fits-capacity-spec : {M : Type 1} → statement M
+fits-capacity-spec =
+    tie.close
+    (tie.spec
+    entered-requires
+    wide-requires
+    capacity-requires
+    wide-requires-2
+    left-requires
+    wide-requires-3
+    add-result
+    returns)

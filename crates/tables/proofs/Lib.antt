@@ -1,0 +1,6 @@
+pub mod Product
+pub mod Tables
+pub mod Places
+mod Rows
+pub mod Blocks
+pub mod Stages

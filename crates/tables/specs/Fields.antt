@@ -1,0 +1,86 @@
+-- The numbers of the program's tables by their names in the paper. Links, movements and signals are counted from 0; a link's signal and a movement's links are
+-- named from 1. Assumes nothing.
+use Prim.Native.Nat.{ℕ, _+_, _*_}
+use mathlib.Core.List.{List}
+use lib.ListN.{getD}
+use Rattle.model.specs.Network.{maxLinks, maxSignals, maxMovements, maxSteps}
+use Rattle.tables.specs.declared.Counts.{Counts}
+use Rattle.tables.specs.Places.{admittedPlace, letOutPlace, movedPlace}
+
+-- how many numbers a `Q` and an `M` line have, and the sizes of the tables
+abbrev pub linkFields : ℕ
+linkFields = 6
+
+abbrev pub movementFields : ℕ
+movementFields = 4
+
+abbrev pub linkTableSize : ℕ
+linkTableSize = linkFields * maxLinks
+
+abbrev pub movementTableSize : ℕ
+movementTableSize = movementFields * maxMovements
+
+abbrev pub timeTableSize : ℕ
+timeTableSize = maxSteps + 1
+
+abbrev pub stepSize : ℕ
+stepSize = 1 + maxLinks
+
+abbrev pub lineSize : ℕ
+lineSize = maxSignals + (2 * maxLinks + maxMovements)
+
+abbrev pub rowSize : ℕ
+rowSize = 2 * maxLinks
+
+-- link i, by the table of the `Q` lines
+abbrev pub capacityIn : List ℕ → ℕ → ℕ
+capacityIn links i = getD links (linkFields * i) 0
+
+abbrev pub travelTimeIn : List ℕ → ℕ → ℕ
+travelTimeIn links i = getD links (linkFields * i + 1) 0
+
+abbrev pub exitRateIn : List ℕ → ℕ → ℕ
+exitRateIn links i = getD links (linkFields * i + 2) 0
+
+abbrev pub signalIn : List ℕ → ℕ → ℕ
+signalIn links i = getD links (linkFields * i + 3) 0
+
+abbrev pub phaseMaskIn : List ℕ → ℕ → ℕ
+phaseMaskIn links i = getD links (linkFields * i + 4) 0
+
+abbrev pub standingIn : List ℕ → ℕ → ℕ
+standingIn links i = getD links (linkFields * i + 5) 0
+
+-- movement j, by the table of the `M` lines: the link that it leaves (side 0) or enters (side 1)
+abbrev pub linkIn : List ℕ → ℕ → ℕ → ℕ
+linkIn movements side j = getD movements (movementFields * j + side) 0
+
+abbrev pub rateIn : List ℕ → ℕ → ℕ
+rateIn movements j = getD movements (movementFields * j + 2) 0
+
+abbrev pub shareIn : List ℕ → ℕ → ℕ
+shareIn movements j = getD movements (movementFields * j + 3) 0
+
+-- the numbers of an `S` line: its length, and the demand of link i
+abbrev pub lengthIn : List ℕ → ℕ
+lengthIn step = getD step 0 0
+
+abbrev pub demandIn : List ℕ → ℕ → ℕ
+demandIn step i = getD step (1 + i) 0
+
+-- the numbers of a `P` line
+abbrev pub admittedIn : Counts → List ℕ → ℕ → ℕ
+admittedIn counts line i = getD line (admittedPlace counts i) 0
+
+abbrev pub letOutIn : Counts → List ℕ → ℕ → ℕ
+letOutIn counts line i = getD line (letOutPlace counts i) 0
+
+abbrev pub movedIn : Counts → List ℕ → ℕ → ℕ
+movedIn counts line j = getD line (movedPlace counts j) 0
+
+-- entered and left of link i in a row of the ledger
+abbrev pub enteredIn : List ℕ → ℕ → ℕ
+enteredIn row i = getD row (2 * i) 0
+
+abbrev pub leftIn : List ℕ → ℕ → ℕ
+leftIn row i = getD row (2 * i + 1) 0

@@ -1,0 +1,114 @@
+-- What the program's tables hold of a network text while it is judged. Not of the paper: the contracts between the crates of the program speak of these.
+-- Assumes nothing.
+use Prim.Native.Nat.{ℕ, _+_, _*_, _≤_, _<_}
+use mathlib.Core.Path.{_≡_}
+use mathlib.Core.List.{List, []}
+use lib.Dec.{leb}
+use lib.ListN.{length, getD}
+use Rattle.search.specs.declared.Verdict.{Verdict}
+use Rattle.search.specs.declared.Verdict.the-variants as verdicts
+use Rattle.search.specs.Checks.{Checks, verdict}
+use Rattle.records.specs.Lines.{Line, lines}
+use Rattle.records.specs.Reading.{Starts}
+use Rattle.model.specs.declared.Signal.{Signal}
+use Rattle.model.specs.Test.{every}
+use Rattle.model.specs.Network.{maxSignals, entry, linkCount, signalCount, movementCount, stepCount, signalLine, linkLine, movementLine, stepLine, signal, time}
+use Rattle.tables.specs.declared.Counts.{Counts}
+use Rattle.tables.specs.declared.Reading.{Reading}
+use Rattle.tables.specs.declared.Stage.{Stage}
+use Rattle.tables.specs.declared.Stage.the-variants.{Passed, Refused}
+use Rattle.tables.specs.Places.{Few}
+use Rattle.tables.specs.Fields.{linkFields, movementFields, linkTableSize, movementTableSize, timeTableSize, stepSize, lineSize}
+
+-- the verdict on a stage: some lines pass, or one of them is refused
+unfoldable pub stageVerdict : Stage → Verdict
+stageVerdict (Passed reading) = verdicts.Passes
+stageVerdict (Refused r) = verdicts.Refused r
+
+-- What a stage of a network's reading promises: the verdict on its checks, and where they pass, what is held.
+pub record Judged (checks : Checks) (Held : Reading → Type 0) (result : Stage) : Type 0 where
+  pub told : stageVerdict result ≡ verdict checks
+  pub held : (reading : Reading) → result ≡ Passed reading → Held reading
+
+-- the counts of a network whose `N` line has passed
+pub record CountsHold (network : List Line) (counts : Counts) : Type 0 where
+  pub links : counts .links ≡ linkCount network
+  pub signals : counts .signals ≡ signalCount network
+  pub movements : counts .movements ≡ movementCount network
+  pub steps : counts .steps ≡ stepCount network
+  pub few : Few counts
+  pub some-links : 1 ≤ counts .links
+  pub some-steps : 1 ≤ counts .steps
+
+-- the same reading, with the next line at a place
+abbrev pub movedTo : Reading → ℕ → Reading
+movedTo reading next =
+    record {
+      counts = reading .counts;
+      next = next;
+      «signals_at» = reading .«signals_at»;
+      «steps_at» = reading .«steps_at»;
+      shortest = reading .shortest;
+    }
+
+-- what stands past the signals of a list
+abbrev pub noSignal : Signal
+noSignal =
+    record {
+      «least_cycle» = 0;
+      «greatest_cycle» = 0;
+      phases = 0;
+      shown = 0;
+      «shown_for» = 0;
+      «cycle_clock» = 0;
+      least = [];
+      greatest = [];
+    }
+
+-- the signals before the plan
+pub record SignalTable (network : List Line) (signals : List Signal) : Type 0 where
+  pub size : length signals ≡ maxSignals
+  pub holds : (r : ℕ) → r < signalCount network → getD signals r noSignal ≡ signal network r
+
+-- the number of phases of each signal, 8 at most
+pub record PhaseTable (network : List Line) (phases : List ℕ) : Type 0 where
+  pub size : length phases ≡ maxSignals
+  pub holds : (r : ℕ) → r < signalCount network → getD phases r 0 ≡ signal network r .phases
+  pub few : (r : ℕ) → r < signalCount network → getD phases r 0 ≤ 8
+
+-- the shortest of all greatest times: a step of x seconds is at most every phase's greatest time exactly if it is at most this
+pub record Shortest (network : List Line) (shortest : ℕ) : Type 0 where
+  pub least : (x : ℕ) → x ≤ 60
+      → leb x shortest ≡ every (signalCount network) (λ r. every (signal network r .phases) (λ k. leb x (getD (signal network r .greatest) k 0)))
+
+-- a network text whose `G` lines have passed is read up to a line
+pub record Reached (text : List ℕ) (line : ℕ) (reading : Reading) : Type 0 where
+  pub counted : CountsHold (lines text) (reading .counts)
+  pub starts : Starts text (reading .next) line
+  pub signals-start : Starts text (reading .«signals_at») (signalLine (lines text) 0)
+  pub shortest-time : Shortest (lines text) (reading .shortest)
+
+-- six numbers a link, as its `Q` line has them
+pub record LinkTable (network : List Line) (links : List ℕ) : Type 0 where
+  pub size : length links ≡ linkTableSize
+  pub holds : (i k : ℕ) → i < linkCount network → k < linkFields → getD links (linkFields * i + k) 0 ≡ entry network (linkLine network i) k
+
+-- four numbers a movement, as its `M` line has them
+pub record MovementTable (network : List Line) (movements : List ℕ) : Type 0 where
+  pub size : length movements ≡ movementTableSize
+  pub holds : (j k : ℕ) → j < movementCount network → k < movementFields → getD movements (movementFields * j + k) 0 ≡ entry network (movementLine network j) k
+
+-- the time of each boundary
+pub record TimeTable (network : List Line) (times : List ℕ) : Type 0 where
+  pub size : length times ≡ timeTableSize
+  pub holds : (n : ℕ) → n ≤ stepCount network → getD times n 0 ≡ time network n
+
+-- the numbers of the `S` line of step n
+pub record StepNumbers (network : List Line) (n : ℕ) (step : List ℕ) : Type 0 where
+  pub size : length step ≡ stepSize
+  pub holds : (k : ℕ) → k < 1 + linkCount network → getD step k 0 ≡ entry network (stepLine network n) k
+
+-- the numbers of the `P` line of step n
+pub record PlanNumbers (network plan : List Line) (n : ℕ) (line : List ℕ) : Type 0 where
+  pub size : length line ≡ lineSize
+  pub holds : (k : ℕ) → k < signalCount network + (2 * linkCount network + movementCount network) → getD line k 0 ≡ entry plan n k

@@ -1,0 +1,279 @@
+// The program's tables of a network and a plan while they are judged: their sizes, and each number of them by its name in the paper. Links, signals, movements
+// and steps are counted from 0 here.
+ghost use mathlib.Core.Path.{_≡_};
+ghost use Prim.Native.Nat.{_+_, _*_, _<_, _≤_};
+ghost use lib.ListN.{length};
+ghost use Rattle.model.specs.Network.{maxLinks, maxSignals, maxMovements, maxSteps};
+ghost use Rattle.tables.specs.Places.{signalLineIn, linkLineIn, movementLineIn, stepLineIn, planWidth, Few};
+ghost use Rattle.tables.specs.Fields.{linkTableSize, movementTableSize, stepSize, lineSize, capacityIn, travelTimeIn, exitRateIn, signalIn, phaseMaskIn, standingIn, linkIn, rateIn, shareIn, lengthIn, demandIn, admittedIn, letOutIn, movedIn, enteredIn, leftIn};
+ghost use Rattle.tables.specs.Rows.{RowRead, HeadRead};
+ghost use Rattle.tables.specs.Tables.{movedTo};
+use records::LineRead;
+use search::Refusal;
+
+pub const MAX_LINKS: usize = 24;
+
+pub const MAX_SIGNALS: usize = 8;
+
+pub const MAX_MOVEMENTS: usize = 64;
+
+pub const MAX_STEPS: usize = 120;
+
+// How many numbers a `Q`, an `M`, an `S` and a `P` line have at most.
+pub const LINK_FIELDS: usize = 6;
+
+pub const MOVEMENT_FIELDS: usize = 4;
+
+pub const STEP_SIZE: usize = 1 + MAX_LINKS;
+
+pub const LINE_SIZE: usize = MAX_SIGNALS + 2 * MAX_LINKS + MAX_MOVEMENTS;
+
+// The sizes of the tables of all links, all movements, the time of each boundary, and of a row of the ledger.
+pub const LINK_TABLE_SIZE: usize = LINK_FIELDS * MAX_LINKS;
+
+pub const MOVEMENT_TABLE_SIZE: usize = MOVEMENT_FIELDS * MAX_MOVEMENTS;
+
+pub const TIME_TABLE_SIZE: usize = MAX_STEPS + 1;
+
+pub const ROW_SIZE: usize = 2 * MAX_LINKS;
+
+// The counts of an `N` line.
+pub struct Counts {
+    pub links: usize,
+    pub signals: usize,
+    pub movements: usize,
+    pub steps: usize,
+}
+
+// How far a network text has been read while its lines pass: its counts, the place of the next line, the places where its `G` and its `S` lines start, and the
+// shortest of all greatest times.
+pub struct Reading {
+    pub counts: Counts,
+    pub next: usize,
+    pub signals_at: usize,
+    pub steps_at: usize,
+    pub shortest: u32,
+}
+
+// What the reading of some lines of a network text says: they pass, or one of them is refused.
+pub enum Stage {
+    Passed(Reading),
+    Refused(Refusal),
+}
+
+impl Reading {
+    pub fn moved_to(mut self, next: usize) -> Self
+        ensures { λ r. ⌜ r ≡ movedTo self next ⌝ }
+    {
+        self.next = next;
+        self
+    }
+}
+
+// The places of lines in a network text, from 0, and how many numbers a `P` line has.
+impl Counts {
+    pub fn signal_line(self, r: usize) -> usize
+        requires { ⌜ r ≤ maxSignals ⌝ }
+        ensures { λ p. ⌜ p ≡ signalLineIn self r ⌝ }
+    {
+        1 + r
+    }
+
+    pub fn link_line(self, i: usize) -> usize
+        requires { ⌜ Few self × (i ≤ maxLinks) ⌝ }
+        ensures { λ p. ⌜ p ≡ linkLineIn self i ⌝ }
+    {
+        1 + (self.signals + i)
+    }
+
+    pub fn movement_line(self, j: usize) -> usize
+        requires { ⌜ Few self × (j ≤ maxMovements) ⌝ }
+        ensures { λ p. ⌜ p ≡ movementLineIn self j ⌝ }
+    {
+        1 + (self.signals + (self.links + j))
+    }
+
+    pub fn step_line(self, n: usize) -> usize
+        requires { ⌜ Few self × (n ≤ maxSteps) ⌝ }
+        ensures { λ p. ⌜ p ≡ stepLineIn self n ⌝ }
+    {
+        1 + (self.signals + (self.links + (self.movements + n)))
+    }
+
+    pub fn plan_width(self) -> usize
+        requires { ⌜ Few self ⌝ }
+        ensures { λ p. ⌜ p ≡ planWidth self ⌝ }
+    {
+        self.signals + (2 * self.links + self.movements)
+    }
+}
+
+// A number of 32 bits as an index, and as one of 64 bits, in which sums and products of a few fit.
+pub fn index(x: u32) -> usize
+    ensures { λ r. ⌜ (r ≡ x) × (r < 4294967296) ⌝ }
+{
+    x as usize
+}
+
+pub fn wide(x: u32) -> u64
+    ensures { λ r. ⌜ (r ≡ x) × (r < 4294967296) ⌝ }
+{
+    x as u64
+}
+
+// The whole product of two numbers of 32 bits.
+pub fn times(a: u32, b: u32) -> u64
+    ensures { λ r. ⌜ r ≡ a * b ⌝ }
+{
+    wide(a) * wide(b)
+}
+
+// Reads a line of this letter and `width` numbers into the table's row that starts at `start`.
+pub fn read_row(
+    text: &[u8],
+    at: usize,
+    letter: u8,
+    table: &mut [u32],
+    start: usize,
+    width: usize,
+) -> LineRead
+    requires { ⌜ start + width ≤ length (now table) ⌝ }
+    ensures { λ r. ⌜ RowRead letter width (now (text .entry)) at start (now (table .entry)) r (now (table .exit)) ⌝ }
+{
+    let end = start + width;
+    records::line_at(text, at, letter, &mut table[start..end])
+}
+
+// Reads the beginning of a line of this letter, `width` numbers whatever follows them, into the table's row that starts at `start`.
+pub fn read_head(
+    text: &[u8],
+    at: usize,
+    letter: u8,
+    table: &mut [u32],
+    start: usize,
+    width: usize,
+) -> bool
+    requires { ⌜ start + width ≤ length (now table) ⌝ }
+    ensures { λ r. ⌜ HeadRead letter width (now (text .entry)) at start (now (table .entry)) r (now (table .exit)) ⌝ }
+{
+    let end = start + width;
+    records::head_at(text, at, letter, &mut table[start..end])
+}
+
+// A link's numbers, as its `Q` line has them.
+pub fn capacity(links: &[u32], i: usize) -> u32
+    requires { ⌜ (i < maxLinks) × (length (now links) ≡ linkTableSize) ⌝ }
+    ensures { λ r. ⌜ r ≡ capacityIn (now (links .entry)) i ⌝ }
+{
+    links[LINK_FIELDS * i]
+}
+
+pub fn travel_time(links: &[u32], i: usize) -> u32
+    requires { ⌜ (i < maxLinks) × (length (now links) ≡ linkTableSize) ⌝ }
+    ensures { λ r. ⌜ r ≡ travelTimeIn (now (links .entry)) i ⌝ }
+{
+    links[LINK_FIELDS * i + 1]
+}
+
+pub fn exit_rate(links: &[u32], i: usize) -> u32
+    requires { ⌜ (i < maxLinks) × (length (now links) ≡ linkTableSize) ⌝ }
+    ensures { λ r. ⌜ r ≡ exitRateIn (now (links .entry)) i ⌝ }
+{
+    links[LINK_FIELDS * i + 2]
+}
+
+// The number of its signal, from 1; 0 for none.
+pub fn signal_of(links: &[u32], i: usize) -> u32
+    requires { ⌜ (i < maxLinks) × (length (now links) ≡ linkTableSize) ⌝ }
+    ensures { λ r. ⌜ r ≡ signalIn (now (links .entry)) i ⌝ }
+{
+    links[LINK_FIELDS * i + 3]
+}
+
+pub fn phase_mask(links: &[u32], i: usize) -> u32
+    requires { ⌜ (i < maxLinks) × (length (now links) ≡ linkTableSize) ⌝ }
+    ensures { λ r. ⌜ r ≡ phaseMaskIn (now (links .entry)) i ⌝ }
+{
+    links[LINK_FIELDS * i + 4]
+}
+
+pub fn standing(links: &[u32], i: usize) -> u32
+    requires { ⌜ (i < maxLinks) × (length (now links) ≡ linkTableSize) ⌝ }
+    ensures { λ r. ⌜ r ≡ standingIn (now (links .entry)) i ⌝ }
+{
+    links[LINK_FIELDS * i + 5]
+}
+
+// A movement's numbers, as its `M` line has them: the link, from 1, that it leaves (side 0) or enters (side 1), its rate and its share.
+pub fn link_of(movements: &[u32], j: usize, side: usize) -> u32
+    requires { ⌜ (j < maxMovements) × (side < 2) × (length (now movements) ≡ movementTableSize) ⌝ }
+    ensures { λ r. ⌜ r ≡ linkIn (now (movements .entry)) side j ⌝ }
+{
+    movements[MOVEMENT_FIELDS * j + side]
+}
+
+pub fn rate(movements: &[u32], j: usize) -> u32
+    requires { ⌜ (j < maxMovements) × (length (now movements) ≡ movementTableSize) ⌝ }
+    ensures { λ r. ⌜ r ≡ rateIn (now (movements .entry)) j ⌝ }
+{
+    movements[MOVEMENT_FIELDS * j + 2]
+}
+
+pub fn share(movements: &[u32], j: usize) -> u32
+    requires { ⌜ (j < maxMovements) × (length (now movements) ≡ movementTableSize) ⌝ }
+    ensures { λ r. ⌜ r ≡ shareIn (now (movements .entry)) j ⌝ }
+{
+    movements[MOVEMENT_FIELDS * j + 3]
+}
+
+// The numbers of an `S` line: its length, and the demand of link `i`.
+pub fn step_length(step: &[u32]) -> u32
+    requires { ⌜ length (now step) ≡ stepSize ⌝ }
+    ensures { λ r. ⌜ r ≡ lengthIn (now (step .entry)) ⌝ }
+{
+    step[0]
+}
+
+pub fn demand(step: &[u32], i: usize) -> u32
+    requires { ⌜ (i < maxLinks) × (length (now step) ≡ stepSize) ⌝ }
+    ensures { λ r. ⌜ r ≡ demandIn (now (step .entry)) i ⌝ }
+{
+    step[1 + i]
+}
+
+// The numbers of a `P` line: what it admits on link i, lets out from link i, and moves by movement j.
+pub fn admitted(line: &[u32], counts: Counts, i: usize) -> u32
+    requires { ⌜ Few counts × (i < maxLinks) × (length (now line) ≡ lineSize) ⌝ }
+    ensures { λ r. ⌜ r ≡ admittedIn counts (now (line .entry)) i ⌝ }
+{
+    line[counts.signals + i]
+}
+
+pub fn let_out(line: &[u32], counts: Counts, i: usize) -> u32
+    requires { ⌜ Few counts × (i < maxLinks) × (length (now line) ≡ lineSize) ⌝ }
+    ensures { λ r. ⌜ r ≡ letOutIn counts (now (line .entry)) i ⌝ }
+{
+    line[counts.signals + (counts.links + i)]
+}
+
+pub fn moved(line: &[u32], counts: Counts, j: usize) -> u32
+    requires { ⌜ Few counts × (j < maxMovements) × (length (now line) ≡ lineSize) ⌝ }
+    ensures { λ r. ⌜ r ≡ movedIn counts (now (line .entry)) j ⌝ }
+{
+    line[counts.signals + (2 * counts.links + j)]
+}
+
+// Entered and left of link i in a row of the ledger.
+pub fn entered(row: &[u32], i: usize) -> u32
+    requires { ⌜ 2 * i + 1 < length (now row) ⌝ }
+    ensures { λ r. ⌜ r ≡ enteredIn (now (row .entry)) i ⌝ }
+{
+    row[2 * i]
+}
+
+pub fn left(row: &[u32], i: usize) -> u32
+    requires { ⌜ 2 * i + 1 < length (now row) ⌝ }
+    ensures { λ r. ⌜ r ≡ leftIn (now (row .entry)) i ⌝ }
+{
+    row[2 * i + 1]
+}
