@@ -1,0 +1,66 @@
+-- `traces::move_one` meets its contract. The invariant: the target is cut to the lines passed. The measure is what is left of them. Assumes nothing.
+use Prim.Native.Nat.{_≤_, _-_}
+use mathlib.Core.Path.{_≡_}
+use lib.ListN.{length}
+use Rattle.traces.specs.Step.{cutToLines}
+use Rattle.traces.proofs.Turns.{no-line, next-line, moves, stays}
+use borrow.Author.Needs.{needs}
+use Rattle.traces.proofs.move_one.Statement.{statement}
+use Rattle.traces.proofs.move_one.Tie as tie
+
+abbrev Inv-loop : tie.InvT-loop
+Inv-loop red-lines spacing place target₀ j₀ target j = (j ≤ length red-lines) × (target ≡ cutToLines spacing place red-lines j target₀)
+
+abbrev μ-loop : tie.MeasureT-loop
+μ-loop red-lines spacing place target₀ j₀ target j = length red-lines - j
+
+cut-to-requires : tie.Need-cut-to-requires Inv-loop μ-loop
+cut-to-requires c κs = search needs
+
+loop-holds : tie.Need-loop-holds Inv-loop μ-loop
+loop-holds c = search (no-line, needs)
+
+mul-line-for : tie.Need-mul-line-for Inv-loop μ-loop
+mul-line-for c = search needs
+
+shared-slice-read-line-for : tie.Need-shared-slice-read-line-for Inv-loop μ-loop
+shared-slice-read-line-for c = search needs
+
+line-for-requires : tie.Need-line-for-requires Inv-loop μ-loop
+line-for-requires c κs = search needs
+
+cut-to-requires-2 : tie.Need-cut-to-requires-2 Inv-loop μ-loop
+cut-to-requires-2 c κs = search needs
+
+add-j : tie.Need-add-j Inv-loop μ-loop
+add-j c = search needs
+
+loop-less : tie.Need-loop-less Inv-loop μ-loop
+loop-less c = search needs
+
+loop-again : tie.Need-loop-again Inv-loop μ-loop
+loop-again c = search (next-line, needs)
+
+returns : tie.Need-returns Inv-loop μ-loop
+returns c = search (moves, needs)
+
+returns-2 : tie.Need-returns-2 Inv-loop μ-loop
+returns-2 c = search (stays, needs)
+
+pub move-one-spec : {M : Type 1} → statement M
+move-one-spec =
+    tie.close
+    (tie.spec
+    Inv-loop
+    μ-loop
+    cut-to-requires
+    loop-holds
+    mul-line-for
+    shared-slice-read-line-for
+    line-for-requires
+    cut-to-requires-2
+    add-j
+    loop-less
+    loop-again
+    returns
+    returns-2)

@@ -1,0 +1,59 @@
+-- `traces::valid_distances` meets its contract. The invariant: the test of all values is that of those not passed. The measure is how many they are. Assumes nothing.
+use Prim.Native.Nat.{_≤_, _-_}
+use mathlib.Core.Path.{_≡_, refl}
+use lib.ListN.{length, drop}
+use Rattle.lists.specs.Indexed.{every}
+use Rattle.lists.proofs.Laws.{every-fails, every-goes-on, every-done}
+use Rattle.traces.specs.Call.{validDistance}
+use borrow.Author.Needs.{needs}
+use Rattle.traces.proofs.valid_distances.Statement.{statement}
+use Rattle.traces.proofs.valid_distances.Tie as tie
+
+abbrev Inv-loop : tie.InvT-loop
+Inv-loop values i₀ i = (i ≤ length values) × (every validDistance values ≡ every validDistance (drop i values))
+
+abbrev μ-loop : tie.MeasureT-loop
+μ-loop values i₀ i = length values - i
+
+loop-holds : tie.Need-loop-holds Inv-loop μ-loop
+loop-holds c = (search needs, refl)
+
+mul-valid-distance : tie.Need-mul-valid-distance Inv-loop μ-loop
+mul-valid-distance c = search needs
+
+shared-slice-read-valid-distance : tie.Need-shared-slice-read-valid-distance Inv-loop μ-loop
+shared-slice-read-valid-distance c = search needs
+
+valid-distance-requires : tie.Need-valid-distance-requires Inv-loop μ-loop
+valid-distance-requires c κs = search needs
+
+returns : tie.Need-returns Inv-loop μ-loop
+returns c = search (every-fails, needs)
+
+add-i : tie.Need-add-i Inv-loop μ-loop
+add-i c = search needs
+
+loop-less : tie.Need-loop-less Inv-loop μ-loop
+loop-less c = search needs
+
+loop-again : tie.Need-loop-again Inv-loop μ-loop
+loop-again c = search (every-goes-on, needs)
+
+returns-2 : tie.Need-returns-2 Inv-loop μ-loop
+returns-2 c = search (every-done, needs)
+
+pub valid-distances-spec : {M : Type 1} → statement M
+valid-distances-spec =
+    tie.close
+    (tie.spec
+    Inv-loop
+    μ-loop
+    loop-holds
+    mul-valid-distance
+    shared-slice-read-valid-distance
+    valid-distance-requires
+    returns
+    add-i
+    loop-less
+    loop-again
+    returns-2)
