@@ -12,9 +12,9 @@ use Rattle.plan_check_c.specs.declared.NetworkResult.{NetworkResult}
 use Rattle.plan_check_c.specs.declared.PlanResult.{PlanResult}
 use Rattle.plan_check_c.specs.declared.LinkResult.{LinkResult}
 
-abbrev pub networkResult : Verdict → NetworkResult
-networkResult Passes = record { number = 0; line = 0; item = 0 }
-networkResult (Refused r) = record { number = r .number; line = r .line; item = r .item }
+abbrev pub verdictResult : Verdict → NetworkResult
+verdictResult Passes = record { number = 0; line = 0; item = 0 }
+verdictResult (Refused r) = record { number = r .number; line = r .line; item = r .item }
 
 abbrev pub planResult : PlanAnswer → PlanResult
 planResult (plan-answer.Accepted t) =

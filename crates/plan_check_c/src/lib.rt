@@ -1,15 +1,16 @@
-// The C library: the three calls over slices, each a pointer and a length, with answers by value. include/plancheck.h declares them.
+// The C library: the calls over slices, each a pointer and a length, with answers by value. include/plancheck.h declares them.
 ghost use mathlib.Core.Path.{_≡_};
 ghost use lib.ListN.{length};
 ghost use Rattle.records.specs.Lines.{lines};
 ghost use Rattle.model.specs.Calls.{checkNetwork, checkPlan, ledgerAfter, linkState};
 ghost use Rattle.model.specs.Guarantees.{Promises};
-ghost use Rattle.plan_check_c.specs.Results.{networkResult, planResult, planAnswerOf, linkResult};
+ghost use Rattle.traces.specs.Call.{stepVehicles, placesAfter};
+ghost use Rattle.plan_check_c.specs.Results.{verdictResult, planResult, planAnswerOf, linkResult};
 use model::LinkAnswer;
 use model::PlanAnswer;
 use search::Verdict;
 
-// The answer of a network's check; number 0: the network is valid.
+// The answer of a network's check or of a step of vehicles; number 0: the network is valid, the vehicles have moved.
 #[repr(C)]
 pub struct NetworkResult {
     pub number: u32,
@@ -41,9 +42,15 @@ pub struct LinkResult {
 
 #[no_mangle]
 pub extern "C" fn plancheck_check_network(network: &[u8]) -> NetworkResult
-    ensures { λ r. ⌜ r ≡ networkResult (checkNetwork (lines (now (network .entry)))) ⌝ }
+    ensures { λ r. ⌜ r ≡ verdictResult (checkNetwork (lines (now (network .entry)))) ⌝ }
 {
-    match network::check_network(network) {
+    verdict_result(network::check_network(network))
+}
+
+fn verdict_result(verdict: Verdict) -> NetworkResult
+    ensures { λ r. ⌜ r ≡ verdictResult verdict ⌝ }
+{
+    match verdict {
         Verdict::Passes => NetworkResult {
             number: 0,
             line: 0,
@@ -114,4 +121,17 @@ pub extern "C" fn plancheck_link_state(
             in_transit: 0,
         },
     }
+}
+
+#[no_mangle]
+pub extern "C" fn plancheck_step_vehicles(
+    places: &mut [f64],
+    advances: &[f64],
+    red_lines: &[f64],
+    spacing: f64,
+) -> NetworkResult
+    ensures { λ r. ⌜ r ≡ verdictResult (stepVehicles (now (places .entry)) (now (advances .entry)) (now («red_lines» .entry)) spacing) ⌝ }
+    ensures { λ _. ⌜ now (places .exit) ≡ placesAfter (now (places .entry)) (now (advances .entry)) (now («red_lines» .entry)) spacing ⌝ }
+{
+    verdict_result(traces::step_vehicles(places, advances, red_lines, spacing))
 }
