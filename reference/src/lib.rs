@@ -11,6 +11,7 @@ mod plan;
 mod report;
 mod state;
 mod text;
+pub mod traces;
 
 pub use network::{Link, Movement, Network, Phase, Signal, Step};
 pub use plan::PlanStep;

@@ -1,0 +1,222 @@
+//! Compares a step of vehicles with the other implementation: the answer, and the bits of every place after the call, signs of zeros included.
+//!
+//! `traces COUNT SEED`: COUNT steps, of the seeds SEED, SEED + 1, .., so that a difference can be found again by itself: `traces 1 SEED` with the
+//! seed that is told.
+
+use plancheck_reference::cases::Random;
+use plancheck_reference::traces;
+use std::collections::BTreeMap;
+use std::process::ExitCode;
+
+/// After so many differences nothing more is learnt.
+const MOST_DIFFERENCES: u64 = 20;
+/// What stands on both sides of the places, to see that nothing is written there.
+const GUARD: f64 = 12345.678;
+const GUARDS: usize = 4;
+/// Values at which something changes.
+const SPECIAL: [f64; 18] = [
+    0.0,
+    -0.0,
+    1e6,
+    -1e6,
+    1_000_000.000_000_000_1,
+    -1_000_000.000_000_000_1,
+    1e300,
+    f64::MAX,
+    f64::INFINITY,
+    f64::NEG_INFINITY,
+    f64::NAN,
+    f64::MIN_POSITIVE,
+    5e-324,
+    -5e-324,
+    0.1,
+    0.2,
+    0.3,
+    1e-17,
+];
+
+#[repr(C)]
+#[derive(Clone, Copy, Debug, PartialEq, Eq)]
+struct StepResult {
+    number: u32,
+    line: u32,
+    item: u32,
+}
+
+extern "C" {
+    fn plancheck_step_vehicles(
+        places: *mut f64,
+        places_len: usize,
+        advances: *const f64,
+        advances_len: usize,
+        red_lines: *const f64,
+        red_lines_len: usize,
+        spacing: f64,
+    ) -> StepResult;
+}
+
+#[derive(Debug)]
+struct Step {
+    places: Vec<f64>,
+    advances: Vec<f64>,
+    red_lines: Vec<f64>,
+    spacing: f64,
+}
+
+#[derive(Default)]
+struct Counts {
+    steps: u64,
+    differences: u64,
+    moved: u64,
+    zeros: u64,
+    answers: BTreeMap<u32, u64>,
+}
+
+fn main() -> ExitCode {
+    let arguments: Option<Vec<u64>> = std::env::args()
+        .skip(1)
+        .map(|argument| argument.parse().ok())
+        .collect();
+    let Some([count, seed]) = arguments.as_deref() else {
+        eprintln!("traces COUNT SEED");
+        return ExitCode::FAILURE;
+    };
+    let mut counts = Counts::default();
+    while counts.steps < *count && counts.differences < MOST_DIFFERENCES {
+        let seed = seed.wrapping_add(counts.steps);
+        judge(&mut counts, seed, &draw_step(&mut Random::new(seed)));
+    }
+    report(&counts);
+    if counts.differences == 0 {
+        ExitCode::SUCCESS
+    } else {
+        ExitCode::FAILURE
+    }
+}
+
+fn judge(counts: &mut Counts, seed: u64, step: &Step) {
+    let mut expected_places = step.places.clone();
+    let expected = match traces::step_vehicles(
+        &mut expected_places,
+        &step.advances,
+        &step.red_lines,
+        step.spacing,
+    ) {
+        Ok(()) => [0; 3],
+        Err(refusal) => [refusal.number, refusal.line, refusal.item],
+    };
+    let (given, given_places) = ask_library(step);
+    counts.steps += 1;
+    *counts.answers.entry(given.number).or_default() += 1;
+    for (before, after) in step.places.iter().zip(&expected_places) {
+        counts.moved += u64::from(after > before);
+        counts.zeros += u64::from(after > before && *after == 0.0);
+    }
+    let given_numbers = [given.number, given.line, given.item].map(u64::from);
+    if given_numbers != expected || given_places != guarded(&expected_places) {
+        counts.differences += 1;
+        println!("difference: seed {seed}, {step:?}");
+        println!("reference {expected:?} {expected_places:?}");
+        let given_places: Vec<f64> = given_places.into_iter().map(f64::from_bits).collect();
+        println!("library   {given:?}, guards included {given_places:?}");
+    }
+}
+
+/// The places with what stands on both sides of them, as bits.
+fn guarded(places: &[f64]) -> Vec<u64> {
+    let guard = [GUARD; GUARDS];
+    let all = guard.iter().chain(places).chain(&guard);
+    all.map(|place| place.to_bits()).collect()
+}
+
+fn ask_library(step: &Step) -> (StepResult, Vec<u64>) {
+    let mut numbers: Vec<f64> = guarded(&step.places)
+        .into_iter()
+        .map(f64::from_bits)
+        .collect();
+    let places = &mut numbers[GUARDS..GUARDS + step.places.len()];
+    // SAFETY: a slice gives an aligned pointer that is not null, readable (and, where it is mutable, writable) for its length, and no other
+    // reference reaches the places. The header asks for no more.
+    let given = unsafe {
+        plancheck_step_vehicles(
+            places.as_mut_ptr(),
+            places.len(),
+            step.advances.as_ptr(),
+            step.advances.len(),
+            step.red_lines.as_ptr(),
+            step.red_lines.len(),
+            step.spacing,
+        )
+    };
+    (given, numbers.into_iter().map(f64::to_bits).collect())
+}
+
+/// Mostly a few vehicles and lines with good values; now and then a count or a value that is near a limit or past it.
+fn draw_step(random: &mut Random) -> Step {
+    let vehicles = draw_count(random, 9);
+    let lines = draw_count(random, 6);
+    let bad = random.pick(&[0, 0, 0, 1, 8, 40]);
+    let mut places: Vec<f64> = (0..vehicles).map(|_| draw_value(random, bad)).collect();
+    if random.chance(50) {
+        places.sort_by(|a, b| b.total_cmp(a));
+    }
+    let advances = if random.chance(97) {
+        vehicles
+    } else {
+        random.index(vehicles + 2)
+    };
+    let mut red_lines: Vec<f64> = (0..lines).map(|_| draw_value(random, bad)).collect();
+    if !places.is_empty() && !red_lines.is_empty() && random.chance(40) {
+        let line = random.index(red_lines.len());
+        red_lines[line] = random.pick(&places);
+    }
+    Step {
+        advances: (0..advances).map(|_| draw_distance(random, bad)).collect(),
+        spacing: draw_distance(random, bad),
+        places,
+        red_lines,
+    }
+}
+
+fn draw_count(random: &mut Random, most: usize) -> usize {
+    if random.chance(90) {
+        random.index(most + 1)
+    } else {
+        random.pick(&[0, 1, 63, 64, 65, 66])
+    }
+}
+
+/// On a small grid, so that ties and zeros are met; or anywhere on a street, near or far.
+fn draw_value(random: &mut Random, bad: u64) -> f64 {
+    if random.chance(bad) {
+        return random.pick(&SPECIAL);
+    }
+    let fraction = random.draw() as f64 / u64::MAX as f64;
+    let sign = random.pick(&[1.0, -1.0]);
+    sign * match random.index(4) {
+        0 => random.index(6) as f64,
+        1 => random.index(40) as f64 / 10.0,
+        2 => 30.0 * fraction,
+        _ => 1e6 * fraction,
+    }
+}
+
+/// A value that is not negative, but for a bad one now and then.
+fn draw_distance(random: &mut Random, bad: u64) -> f64 {
+    let value = draw_value(random, bad);
+    if random.chance(bad) {
+        value
+    } else {
+        value.abs()
+    }
+}
+
+fn report(counts: &Counts) {
+    for (number, steps) in &counts.answers {
+        println!("answer {number}\t{steps}");
+    }
+    println!("vehicles moved\t{}", counts.moved);
+    println!("of them to a zero\t{}", counts.zeros);
+    println!("steps\t{}", counts.steps);
+    println!("differences\t{}", counts.differences);
+}
