@@ -2,7 +2,7 @@
  * plancheck.h: the plan check library (libplan_check_c.a).
  *
  * Decides whether a traffic-signal plan may run on a network under the Queue Transmission Model, and what travel time
- * it gives. Three calls: check a network, check a plan, and the state of one link.
+ * it gives. Calls: check a network, check a plan, and the state of one link; beside them, a step of vehicles along a street.
  *
  *     static uint32_t ledger[PLANCHECK_LEDGER_MAX];
  *
@@ -19,6 +19,7 @@
  *     time     seconds; boundary n is the end of step n, boundary 0 is time 0
  *     rate     thousandths of a vehicle per second
  *     share    thousandths
+ *     metre    a double: places and distances along a street
  * Signals, links, movements, steps and lines are counted from 1, in the order of their lines.
  *
  * TEXTS
@@ -50,6 +51,8 @@
  *   - A text pointer is readable for its length in bytes; a ledger pointer is aligned for uint32_t and is readable
  *     (and, for plancheck_check_plan, writable) for its length in numbers.
  *   - The ledger lent to plancheck_check_plan overlaps neither text. The texts may overlap each other.
+ *   - A pointer to doubles is aligned for double and is readable (the places of plancheck_step_vehicles also writable)
+ *     for its length in doubles. The places overlap neither the advances nor the red lines.
  *   - No other thread writes to the texts or the ledger, or reads the ledger of plancheck_check_plan, during the call.
  * There are no others: any bytes in the texts, any numbers in the ledger and any lengths are allowed, and lead to a
  * refusal at worst.
@@ -58,12 +61,12 @@
  * It keeps nothing between calls and uses no heap, no global or static data, no file and no errno. The answer depends
  * on the arguments alone. The calls are re-entrant and may run in several threads at once, each plan check with a
  * ledger of its own. A call always returns, after work that grows linearly with the lengths of the texts and with
- * K * (R + L + M).
+ * K * (R + L + M), and of a step with vehicles * red lines.
  * The library needs memcpy and memset from the C library, at most.
  *
  * STACK
- * On x86-64, plancheck_check_plan takes at most 7,816 bytes and each of the other two at most 3,656
- * (docs/MEASUREMENTS.md; bench/run measures it).
+ * On x86-64, plancheck_check_plan takes at most 7,816 bytes, plancheck_check_network and plancheck_link_state each at
+ * most 3,656 (docs/MEASUREMENTS.md; bench/run measures it).
  *
  * ERRORS
  * A result has number 0 (PLANCHECK_OK), or the number of the first refusal in the order of judging, with the line and
@@ -86,6 +89,10 @@ extern "C" {
 #define PLANCHECK_MAX_SIGNALS 8
 #define PLANCHECK_MAX_MOVEMENTS 64
 #define PLANCHECK_MAX_STEPS 120
+
+/* Limits of a step of vehicles. There may be none of either. */
+#define PLANCHECK_MAX_VEHICLES 64
+#define PLANCHECK_MAX_RED_LINES 64
 
 /* Numbers (of 32 bits) that a ledger needs for so many links and steps. */
 #define PLANCHECK_LEDGER_LEN(links, steps) ((size_t)2 * ((size_t)(steps) + 1) * (size_t)(links))
@@ -167,12 +174,20 @@ enum plancheck_number {
     /* The link is not 1 to L. */
     PLANCHECK_NO_SUCH_LINK = 20,
     /* The ledger has left above arrived, or arrived above entered: it is not one of this network. */
-    PLANCHECK_LEDGER_CONTRADICTION = 21
+    PLANCHECK_LEDGER_CONTRADICTION = 21,
+
+    /* Step of vehicles. No line, no item. 39 is judged before 38. */
+
+    /* A place, advance, line or the spacing is not finite or beyond a million metres either way, or an advance or the
+       spacing is negative. */
+    PLANCHECK_VEHICLE_VALUES = 38,
+    /* More than 64 vehicles or lines, or not one advance for each vehicle. */
+    PLANCHECK_VEHICLE_COUNTS = 39
 };
 
-/* Answer of plancheck_check_network. 12 bytes. */
+/* Answer of plancheck_check_network and plancheck_step_vehicles. 12 bytes. */
 typedef struct {
-    uint32_t number; /* PLANCHECK_OK: the network is valid */
+    uint32_t number; /* PLANCHECK_OK: the network is valid, or the step is done */
     uint32_t line;
     uint32_t item;
 } plancheck_network_result;
@@ -228,6 +243,20 @@ plancheck_plan_result plancheck_check_plan(const uint8_t *network, size_t networ
  */
 plancheck_link_result plancheck_link_state(const uint8_t *network, size_t network_len, const uint32_t *ledger,
                                            size_t ledger_len, uint32_t boundary, uint32_t link);
+
+/*
+ * Moves vehicles along a street by one step, for a time-distance display. Refusals 39 and 38.
+ *
+ * places[0] is the leading vehicle's; each other vehicle's leader is the one just before it, wherever it stands. A
+ * vehicle's target is its place plus its advance, cut to each obstacle that is nearer: one spacing behind its leader's
+ * place before the step, and each red line at or ahead of its own place. It moves only if its target is greater than
+ * its place. Every sum and difference is that of IEEE 754 doubles, rounded once to nearest; -0.0 is not negative.
+ *
+ * Reads advances and red_lines. Writes places: places_len new ones, or none where the step is refused.
+ */
+plancheck_network_result plancheck_step_vehicles(double *places, size_t places_len, const double *advances,
+                                                 size_t advances_len, const double *red_lines, size_t red_lines_len,
+                                                 double spacing);
 
 #ifdef __cplusplus
 }

@@ -5,8 +5,10 @@
 
 mod library;
 mod refusal;
+mod traces;
 
 pub use refusal::{ItemKind, Refusal, Text};
+pub use traces::step_vehicles;
 
 /// The greatest number of links of a network; there is at least one.
 pub const MAX_LINKS: usize = 24;

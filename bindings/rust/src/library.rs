@@ -47,4 +47,14 @@ extern "C" {
         boundary: u32,
         link: u32,
     ) -> LinkResult;
+
+    pub fn plancheck_step_vehicles(
+        places: *mut f64,
+        places_len: usize,
+        advances: *const f64,
+        advances_len: usize,
+        red_lines: *const f64,
+        red_lines_len: usize,
+        spacing: f64,
+    ) -> NetworkResult;
 }

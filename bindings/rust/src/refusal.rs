@@ -20,7 +20,7 @@ use core::fmt;
 /// ```
 #[derive(Clone, Copy, Debug, PartialEq, Eq, Hash)]
 pub struct Refusal {
-    /// 1 to 21, as in the table of refusals.
+    /// As in the table of refusals.
     pub number: u32,
     /// The line of the network or plan text; 0 where none is named.
     pub line: u32,
@@ -106,6 +106,8 @@ impl Refusal {
             19 => "there is no such boundary",
             20 => "there is no such link",
             21 => "the ledger contradicts itself or the network",
+            38 => "a place, advance, line or spacing is outside its limits",
+            39 => "there are too many vehicles or lines, or not one advance for each vehicle",
             _ => "the number is unknown",
         }
     }
