@@ -443,7 +443,7 @@ fn draw_traffic(random: &mut Random) -> Traffic {
 }
 
 /// The stored set of cases.
-pub fn conformance_cases(seed: u64) -> Vec<Case> {
+pub fn stored_cases(seed: u64) -> Vec<Case> {
     let mut maker = Maker::new(seed);
     paper::cases(&mut maker);
     paper::extreme_numbers(&mut maker);

@@ -3,7 +3,7 @@
 
 use plancheck_reference::cases::{
     accepted_cases, checksum, decode, draw_full_size, draw_small_size, encode, random_cases,
-    conformance_cases, Answer, Call, Case, Maker, Random, Scenario, Traffic, LARGEST,
+    stored_cases, Answer, Call, Case, Maker, Random, Scenario, Traffic, LARGEST,
 };
 use plancheck_reference::Refusal;
 use std::sync::OnceLock;
@@ -11,7 +11,7 @@ use std::sync::OnceLock;
 /// The stored cases, made once for all tests.
 fn stored() -> &'static [Case] {
     static STORED: OnceLock<Vec<Case>> = OnceLock::new();
-    STORED.get_or_init(|| conformance_cases(1))
+    STORED.get_or_init(|| stored_cases(1))
 }
 
 fn assert_as_intended(case: &Case) {

@@ -5,7 +5,7 @@
 //! (`cases.bin` if none is given), the index, if one is named, gets a line for
 //! each case with its number, its answer and what it is about.
 
-use plancheck_reference::cases::{encode, conformance_cases, Answer, Case};
+use plancheck_reference::cases::{encode, stored_cases, Answer, Case};
 use std::process::ExitCode;
 
 fn main() -> ExitCode {
@@ -27,7 +27,7 @@ fn run() -> Result<(), String> {
     let file = arguments.next().unwrap_or_else(|| "cases.bin".to_string());
     let index = arguments.next();
 
-    let cases = conformance_cases(seed);
+    let cases = stored_cases(seed);
     for (number, case) in cases.iter().enumerate() {
         // A case that is not what it was made for shows a fault in the maker
         // or in the judge; nothing is to be built on it.
