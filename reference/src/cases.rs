@@ -1,58 +1,5 @@
 //! Test cases with the answers of this implementation, for programs that judge
-//! the same texts in another way.
-//!
-//! # The stored form
-//!
-//! A file of cases is one run of bytes, to be read from its start to its end
-//! with fixed buffers. All numbers are little-endian; `u32` takes four bytes,
-//! `u64` eight.
-//!
-//! Header:
-//!
-//! ```text
-//! 8 bytes  "PLANCASE"
-//! u32      version of this form: 1
-//! u32      number of cases
-//! u32      greatest length of a network text, in bytes
-//! u32      greatest length of a plan text, in bytes
-//! u32      greatest length of a ledger, in 32-bit numbers
-//! ```
-//!
-//! Then, for each case:
-//!
-//! ```text
-//! u32      length of the network text, or 0xFFFFFFFF for the same network as
-//!          in the case before; else its bytes follow
-//! u32      length of the plan text, or 0xFFFFFFFF for the same plan as in the
-//!          case before; else its bytes follow
-//! u32      length of the ledger, in numbers
-//! u32      fill: what the ledger holds before the call, except at its start
-//! u32      number of given numbers at the ledger's start (at most its length),
-//!          or 0xFFFFFFFF for the same ones as in the case before; else the
-//!          numbers follow, a u32 each
-//! u32      call: 1 check a network, 2 check a plan, 3 state of one link
-//! u64      boundary (0 unless the call is 3)
-//! u64      link (0 unless the call is 3)
-//! u32      answer: 0 network accepted, 1 plan accepted, 2 state, 3 refused
-//! u64 x 4  numbers of the answer
-//!            0: 0, 0, 0, 0
-//!            1: admitted, let out, inside, doubled travel time
-//!            2: queued (standing), in transit (moving), 0, 0
-//!            3: refusal number, line, item, 0
-//! u64      checksum of the whole ledger after the call
-//! ```
-//!
-//! The first case gives both texts and the ledger's start in full. "The same
-//! ones as in the case before" are what that case used, whether given there or
-//! taken over in turn. A text that a call has no use for (the plan in calls 1
-//! and 3) is there all the same.
-//!
-//! The checksum is FNV-1a of 64 bits over the ledger's numbers in order, each
-//! as four bytes, the lowest first: start with 0xCBF29CE484222325; for each
-//! byte, exclusive-or it in, then multiply by 0x100000001B3, modulo 2^64.
-//!
-//! In a few state cases the boundary or the link is above 4,294,967,295; a
-//! program whose call takes 32-bit numbers passes those over.
+//! the same texts in another way. `stored` says how they are kept in a file.
 
 mod damage;
 mod form;
@@ -65,10 +12,12 @@ mod scenario;
 mod sheet;
 mod special;
 mod state_calls;
+mod stored;
 
 pub use damage::damage;
 pub use random::Random;
 pub use scenario::{Scenario, Size, Traffic};
+pub use stored::{decode, encode, Stored};
 
 use crate::{check_network, check_plan, link_state, Network, PlanStep, Refusal, State, Totals};
 use sheet::Sheet;
@@ -301,11 +250,7 @@ impl Texts {
 }
 
 fn refused(number: u64, line: usize, item: usize) -> Refusal {
-    Refusal {
-        number,
-        line: line as u64,
-        item: item as u64,
-    }
+    Refusal::new(number, line as u64, item as u64)
 }
 
 /// FNV-1a of 64 bits over the numbers as little-endian bytes.
@@ -567,200 +512,5 @@ fn largest_cases(maker: &mut Maker) {
         let scenario = Scenario::make(&mut maker.random, size, traffic);
         accepted_cases(maker, &scenario);
         some_families(maker, &scenario, 30);
-    }
-}
-
-const MAGIC: &[u8; 8] = b"PLANCASE";
-const VERSION: u32 = 1;
-const SAME: u32 = u32::MAX;
-
-/// The stored form of cases.
-pub fn encode(cases: &[Case]) -> Vec<u8> {
-    let greatest = |length: fn(&Question) -> usize| -> u32 {
-        cases
-            .iter()
-            .map(|case| length(&case.question) as u32)
-            .fold(0, u32::max)
-    };
-    let mut bytes = MAGIC.to_vec();
-    for number in [
-        VERSION,
-        cases.len() as u32,
-        greatest(|question| question.network.len()),
-        greatest(|question| question.plan.len()),
-        greatest(|question| question.ledger.length),
-    ] {
-        bytes.extend(number.to_le_bytes());
-    }
-    let mut before = None;
-    for case in cases {
-        encode_case(&mut bytes, case, before);
-        before = Some(&case.question);
-    }
-    bytes
-}
-
-fn encode_case(bytes: &mut Vec<u8>, case: &Case, before: Option<&Question>) {
-    let question = &case.question;
-    let mut text = |text: &Vec<u8>, before: Option<&Vec<u8>>| {
-        if before == Some(text) {
-            bytes.extend(SAME.to_le_bytes());
-        } else {
-            bytes.extend((text.len() as u32).to_le_bytes());
-            bytes.extend(text);
-        }
-    };
-    text(&question.network, before.map(|before| &before.network));
-    text(&question.plan, before.map(|before| &before.plan));
-
-    let Ledger {
-        length,
-        start,
-        fill,
-    } = &question.ledger;
-    bytes.extend((*length as u32).to_le_bytes());
-    bytes.extend(fill.to_le_bytes());
-    // An empty start is given as such, which takes no more room.
-    if !start.is_empty() && before.is_some_and(|before| before.ledger.start == *start) {
-        bytes.extend(SAME.to_le_bytes());
-    } else {
-        bytes.extend((start.len() as u32).to_le_bytes());
-        bytes.extend(start.iter().flat_map(|number| number.to_le_bytes()));
-    }
-
-    let (call, boundary, link) = match question.call {
-        Call::CheckNetwork => (1u32, 0u64, 0u64),
-        Call::CheckPlan => (2, 0, 0),
-        Call::LinkState { boundary, link } => (3, boundary, link),
-    };
-    bytes.extend(call.to_le_bytes());
-    bytes.extend(boundary.to_le_bytes());
-    bytes.extend(link.to_le_bytes());
-
-    let (kind, numbers) = match case.answer {
-        Answer::NetworkAccepted => (0u32, [0; 4]),
-        Answer::PlanAccepted(totals) => (
-            1,
-            [
-                totals.admitted,
-                totals.let_out,
-                totals.inside,
-                totals.doubled_time,
-            ],
-        ),
-        Answer::State(state) => (2, [state.queued, state.in_transit, 0, 0]),
-        Answer::Refused(refusal) => (3, [refusal.number, refusal.line, refusal.item, 0]),
-    };
-    bytes.extend(kind.to_le_bytes());
-    for number in numbers {
-        bytes.extend(number.to_le_bytes());
-    }
-    bytes.extend(case.checksum.to_le_bytes());
-}
-
-/// A stored case: its question, its answer and the ledger's checksum.
-pub type Stored = (Question, Answer, u64);
-
-/// Reads the stored form; nothing if the bytes are not of that form.
-pub fn decode(bytes: &[u8]) -> Option<Vec<Stored>> {
-    let mut reader = Reader { rest: bytes };
-    if reader.take(8)? != MAGIC || reader.u32()? != VERSION {
-        return None;
-    }
-    let count = reader.u32()?;
-    let _greatest_network_length = reader.u32()?;
-    let _greatest_plan_length = reader.u32()?;
-    let _greatest_ledger_length = reader.u32()?;
-    let mut cases: Vec<Stored> = Vec::new();
-    for _ in 0..count {
-        let before = cases.last().map(|case| &case.0);
-        let case = reader.case(before)?;
-        cases.push(case);
-    }
-    reader.rest.is_empty().then_some(cases)
-}
-
-struct Reader<'a> {
-    rest: &'a [u8],
-}
-
-impl<'a> Reader<'a> {
-    fn take(&mut self, length: usize) -> Option<&'a [u8]> {
-        let (taken, rest) = self.rest.split_at_checked(length)?;
-        self.rest = rest;
-        Some(taken)
-    }
-
-    fn u32(&mut self) -> Option<u32> {
-        Some(u32::from_le_bytes(self.take(4)?.try_into().ok()?))
-    }
-
-    fn u64(&mut self) -> Option<u64> {
-        Some(u64::from_le_bytes(self.take(8)?.try_into().ok()?))
-    }
-
-    fn text(&mut self, before: Option<&Vec<u8>>) -> Option<Vec<u8>> {
-        match self.u32()? {
-            SAME => before.cloned(),
-            length => Some(self.take(length as usize)?.to_vec()),
-        }
-    }
-
-    fn case(&mut self, before: Option<&Question>) -> Option<Stored> {
-        let network = self.text(before.map(|before| &before.network))?;
-        let plan = self.text(before.map(|before| &before.plan))?;
-        let length = self.u32()? as usize;
-        let fill = self.u32()?;
-        let start = match self.u32()? {
-            SAME => before?.ledger.start.clone(),
-            count => {
-                let numbers = self.take(4 * count as usize)?;
-                numbers
-                    .chunks(4)
-                    .map(|bytes| u32::from_le_bytes([bytes[0], bytes[1], bytes[2], bytes[3]]))
-                    .collect()
-            }
-        };
-        let call = self.u32()?;
-        let boundary = self.u64()?;
-        let link = self.u64()?;
-        let call = match call {
-            1 => Call::CheckNetwork,
-            2 => Call::CheckPlan,
-            3 => Call::LinkState { boundary, link },
-            _ => return None,
-        };
-        let kind = self.u32()?;
-        let numbers = [self.u64()?, self.u64()?, self.u64()?, self.u64()?];
-        let answer = match kind {
-            0 => Answer::NetworkAccepted,
-            1 => Answer::PlanAccepted(Totals {
-                admitted: numbers[0],
-                let_out: numbers[1],
-                inside: numbers[2],
-                doubled_time: numbers[3],
-            }),
-            2 => Answer::State(State {
-                queued: numbers[0],
-                in_transit: numbers[1],
-            }),
-            3 => Answer::Refused(Refusal {
-                number: numbers[0],
-                line: numbers[1],
-                item: numbers[2],
-            }),
-            _ => return None,
-        };
-        let question = Question {
-            network,
-            plan,
-            ledger: Ledger {
-                length,
-                start,
-                fill,
-            },
-            call,
-        };
-        Some((question, answer, self.u64()?))
     }
 }

@@ -26,6 +26,12 @@ pub struct Refusal {
     pub item: u64,
 }
 
+impl Refusal {
+    pub const fn new(number: u64, line: u64, item: u64) -> Refusal {
+        Refusal { number, line, item }
+    }
+}
+
 /// What an accepted plan adds up to.
 #[derive(Clone, Copy, Debug, PartialEq, Eq)]
 pub struct Totals {

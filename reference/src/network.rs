@@ -116,11 +116,7 @@ impl Network {
             }
             if let Some(item) = last_movement {
                 if sum != 1000 {
-                    return Err(Refusal {
-                        number: 5,
-                        line: self.lines_before_movements() + item,
-                        item,
-                    });
+                    return Err(Refusal::new(5, self.lines_before_movements() + item, item));
                 }
             }
         }
@@ -137,11 +133,11 @@ impl Network {
                     continue;
                 }
                 if !times.contains(&(times[step] - link.travel_time)) {
-                    return Err(Refusal {
-                        number: 7,
-                        line: self.lines_before_steps() + step as u64,
-                        item: index as u64 + 1,
-                    });
+                    return Err(Refusal::new(
+                        7,
+                        self.lines_before_steps() + step as u64,
+                        index as u64 + 1,
+                    ));
                 }
             }
         }
@@ -187,11 +183,7 @@ impl Network {
     /// Refusal 8: a ledger that is too short.
     pub fn judge_ledger_length(&self, length: usize) -> Result<(), Refusal> {
         if length < self.ledger_need() {
-            return Err(Refusal {
-                number: 8,
-                line: 0,
-                item: 0,
-            });
+            return Err(Refusal::new(8, 0, 0));
         }
         Ok(())
     }
@@ -199,11 +191,7 @@ impl Network {
 
 /// Refusal 1 at a line.
 fn malformed(line: u64) -> Refusal {
-    Refusal {
-        number: 1,
-        line,
-        item: 0,
-    }
+    Refusal::new(1, line, 0)
 }
 
 /// The counts of the `N` line.
@@ -230,11 +218,7 @@ impl Counts {
         if within_limits {
             Ok(counts)
         } else {
-            Err(Refusal {
-                number: 2,
-                line: line.number,
-                item: 0,
-            })
+            Err(Refusal::new(2, line.number, 0))
         }
     }
 }
@@ -242,11 +226,7 @@ impl Counts {
 /// A `G` line. With seven good fields a bad number of phases is told before
 /// anything later in the line, as it decides how many fields there are.
 fn read_signal(line: &Line, item: u64) -> Result<Signal, Refusal> {
-    let unacceptable = Refusal {
-        number: 3,
-        line: line.number,
-        item,
-    };
+    let unacceptable = Refusal::new(3, line.number, item);
     let head = line
         .leading_numbers(b'G', 6)
         .ok_or(malformed(line.number))?;
@@ -324,11 +304,7 @@ fn read_link(line: &Line, item: u64, signals: &[Signal]) -> Result<Link, Refusal
     if is_acceptable_link(&link, signals) {
         Ok(link)
     } else {
-        Err(Refusal {
-            number: 4,
-            line: line.number,
-            item,
-        })
+        Err(Refusal::new(4, line.number, item))
     }
 }
 
@@ -376,11 +352,7 @@ fn read_movement(
     if is_acceptable_movement(&movement, link_count, before) {
         Ok(movement)
     } else {
-        Err(Refusal {
-            number: 5,
-            line: line.number,
-            item,
-        })
+        Err(Refusal::new(5, line.number, item))
     }
 }
 
@@ -417,11 +389,7 @@ fn read_step(line: &Line, item: u64, link_count: u64, signals: &[Signal]) -> Res
     if is_acceptable_step(&step, signals) {
         Ok(step)
     } else {
-        Err(Refusal {
-            number: 6,
-            line: line.number,
-            item,
-        })
+        Err(Refusal::new(6, line.number, item))
     }
 }
 

@@ -66,11 +66,7 @@ fn judge_step(
 
 /// Refusal 9 at a line.
 fn malformed(line: u64) -> Refusal {
-    Refusal {
-        number: 9,
-        line,
-        item: 0,
-    }
+    Refusal::new(9, line, 0)
 }
 
 /// A `P` line: 1 + R + 2L + M fields.
@@ -182,11 +178,7 @@ impl Attempt<'_> {
     fn judge(&self) -> Result<(), Refusal> {
         for (number, rule) in RULES {
             if let Some(index) = rule(self) {
-                return Err(Refusal {
-                    number,
-                    line: self.number as u64,
-                    item: index as u64 + 1,
-                });
+                return Err(Refusal::new(number, self.number as u64, index as u64 + 1));
             }
         }
         Ok(())

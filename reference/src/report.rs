@@ -1,6 +1,7 @@
 //! The text that the program `plancheck` prints.
 
 use crate::network::Network;
+use crate::text::write_record;
 use crate::{check_plan, Refusal, Totals};
 
 /// The greatest number of bytes of `network.tsv`.
@@ -26,15 +27,15 @@ pub fn report(network: &[u8], plan: &[u8]) -> Vec<u8> {
 /// network, 2 for the plan.
 pub fn file_refusal(file: u64) -> Vec<u8> {
     let mut output = Vec::new();
-    write_line(&mut output, 'L', &[file]);
+    write_record(&mut output, b'L', &[file]);
     output
 }
 
 fn accepted(network: &Network, totals: &Totals, ledger: &[u32]) -> Vec<u8> {
     let mut output = Vec::new();
-    write_line(
+    write_record(
         &mut output,
-        'A',
+        b'A',
         &[
             totals.admitted,
             totals.let_out,
@@ -47,27 +48,17 @@ fn accepted(network: &Network, totals: &Totals, ledger: &[u32]) -> Vec<u8> {
         let mut numbers = vec![boundary as u64, time];
         let row = &ledger[boundary * row_length..(boundary + 1) * row_length];
         numbers.extend(row.iter().map(|&number| u64::from(number)));
-        write_line(&mut output, 'B', &numbers);
+        write_record(&mut output, b'B', &numbers);
     }
     output
 }
 
 fn refused(refusal: &Refusal) -> Vec<u8> {
     let mut output = Vec::new();
-    write_line(
+    write_record(
         &mut output,
-        'R',
+        b'R',
         &[refusal.number, refusal.line, refusal.item],
     );
     output
-}
-
-fn write_line(output: &mut Vec<u8>, letter: char, numbers: &[u64]) {
-    let mut line = letter.to_string();
-    for number in numbers {
-        line.push('\t');
-        line.push_str(&number.to_string());
-    }
-    line.push('\n');
-    output.extend_from_slice(line.as_bytes());
 }

@@ -42,9 +42,5 @@ pub fn link_state(
 
 /// These refusals name neither line nor item.
 fn refusal(number: u64) -> Refusal {
-    Refusal {
-        number,
-        line: 0,
-        item: 0,
-    }
+    Refusal::new(number, 0, 0)
 }

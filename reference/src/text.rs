@@ -87,6 +87,16 @@ impl<'a> Lines<'a> {
     }
 }
 
+/// Writes one record, the numbers without leading zeros.
+pub fn write_record(output: &mut Vec<u8>, letter: u8, numbers: &[u64]) {
+    output.push(letter);
+    for number in numbers {
+        output.push(TAB);
+        output.extend(number.to_string().as_bytes());
+    }
+    output.push(LINE_FEED);
+}
+
 /// A decimal number of 1 to 10 digits, at most 4,294,967,295, without sign and
 /// without leading zeros.
 fn number(field: &[u8]) -> Option<u64> {
@@ -175,6 +185,14 @@ mod tests {
         let line = lines.take();
         assert_eq!((line.number, line.finished), (5, false));
         assert!(line.fields.is_empty());
+    }
+
+    #[test]
+    fn written_records() {
+        let mut text = Vec::new();
+        write_record(&mut text, b'A', &[0, 4_294_967_295]);
+        write_record(&mut text, b'B', &[]);
+        assert_eq!(text, b"A\t0\t4294967295\nB\n");
     }
 
     #[test]

@@ -1,6 +1,7 @@
-//! The calls of the C library, as `include/plancheck.h` declares them.
+//! The calls of the C library, as `include/plancheck.h` declares them. `reference/differential` takes them from here.
 
 #[repr(C)]
+#[derive(Clone, Copy, Debug, PartialEq, Eq)]
 pub struct NetworkResult {
     pub number: u32,
     pub line: u32,
@@ -8,6 +9,7 @@ pub struct NetworkResult {
 }
 
 #[repr(C)]
+#[derive(Clone, Copy, Debug, PartialEq, Eq)]
 pub struct PlanResult {
     pub number: u32,
     pub line: u32,
@@ -19,6 +21,7 @@ pub struct PlanResult {
 }
 
 #[repr(C)]
+#[derive(Clone, Copy, Debug, PartialEq, Eq)]
 pub struct LinkResult {
     pub number: u32,
     pub line: u32,

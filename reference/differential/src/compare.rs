@@ -1,6 +1,7 @@
 //! One input, judged by both.
 
-use crate::library::{self, LinkResult, NetworkResult, PlanResult};
+use crate::declarations::{LinkResult, NetworkResult, PlanResult};
+use crate::library;
 use plancheck_reference::cases::{Answer, Call, Question};
 
 /// What stands on both sides of the ledger, to see that nothing is written there.

@@ -4,6 +4,8 @@
 //! difference can be found again by itself: `differential 1 SEED` with the seed that is told.
 
 mod compare;
+#[path = "../../../bindings/rust/src/library.rs"]
+mod declarations;
 mod inputs;
 mod library;
 

@@ -113,6 +113,9 @@ pub fn counts(maker: &mut Maker, scenario: &Scenario) {
     );
 }
 
+/// A near miss or a breach of one item.
+type Judged<'a, T> = (&'a str, T, bool);
+
 /// Refusal 3, except for the number of phases.
 pub fn signals(maker: &mut Maker, scenario: &Scenario) {
     let signal_count = scenario.network.signals.len();
@@ -120,11 +123,8 @@ pub fn signals(maker: &mut Maker, scenario: &Scenario) {
         return;
     }
     let signal = maker.random.index(signal_count);
-    let limits = &scenario.network.signals[signal];
-    let phase_count = limits.phases.len();
+    let phase_count = scenario.network.signals[signal].phases.len();
     let phase = maker.random.index(phase_count);
-    let other_phase = (phase + 1) % phase_count;
-    let longest_step = scenario.longest_step();
     let place = Place {
         number: 3,
         line: 2 + signal,
@@ -144,11 +144,54 @@ pub fn signals(maker: &mut Maker, scenario: &Scenario) {
             signal.clock = 1;
         });
     }
+    phase_times(maker, scenario, &place, phase);
+    cycle_times(maker, scenario, &place);
+    shown_times(maker, scenario, &place, phase);
+}
 
-    // The times of a phase. Where seconds have shown, they stay in reach.
-    let set_phase = |maker: &mut Maker, name: &str, least: u64, greatest: u64, passes: bool| {
-        let change = |network: &mut Network| {
-            let signal = &mut network.signals[signal];
+impl Maker {
+    /// A change that the item passes or not.
+    fn judged_change(
+        &mut self,
+        scenario: &Scenario,
+        place: &Place,
+        name: &str,
+        passes: bool,
+        change: impl FnOnce(&mut Network),
+    ) {
+        if passes {
+            self.near_miss(scenario, name, change);
+        } else {
+            self.breach(scenario, name, place, change);
+        }
+    }
+}
+
+const MOST: u64 = u32::MAX as u64;
+
+/// The times of a phase. Where seconds have shown, they stay in reach.
+fn phase_times(maker: &mut Maker, scenario: &Scenario, place: &Place, phase: usize) {
+    let longest_step = scenario.longest_step();
+    let times: [Judged<(u64, u64)>; 11] = [
+        ("3: least time 0", (0, 3600), false),
+        ("least time 1", (1, 3600), true),
+        ("3: least above greatest time", (101, 100), false),
+        ("least equal to greatest time", (100, 100), true),
+        ("3: greatest time 3601", (1, 3601), false),
+        ("3: least and greatest time 3601", (3601, 3601), false),
+        ("least and greatest time 3600", (3600, 3600), true),
+        ("3: greatest time at most of 32 bits", (1, MOST), false),
+        ("3: least time at most of 32 bits", (MOST, 3600), false),
+        ("3: both times 0", (0, 0), false),
+        (
+            "greatest time equal to the longest step",
+            (1, longest_step),
+            true,
+        ),
+    ];
+    for (name, (least, greatest), passes) in times {
+        maker.judged_change(scenario, place, name, passes, |network| {
+            let signal = &mut network.signals[place.item - 1];
             signal.phases[phase] = Phase { least, greatest };
             if signal.shown_phase == phase as u64 + 1 {
                 signal.shown_seconds = signal.shown_seconds.min(greatest);
@@ -156,184 +199,109 @@ pub fn signals(maker: &mut Maker, scenario: &Scenario) {
                     signal.clock = signal.shown_seconds;
                 }
             }
-        };
-        if passes {
-            maker.near_miss(scenario, name, change);
-        } else {
-            maker.breach(scenario, name, &place, change);
-        }
-    };
-    let most = u64::from(u32::MAX);
-    set_phase(maker, "3: least time 0", 0, 3600, false);
-    set_phase(maker, "least time 1", 1, 3600, true);
-    set_phase(maker, "3: least above greatest time", 101, 100, false);
-    set_phase(maker, "least equal to greatest time", 100, 100, true);
-    set_phase(maker, "3: greatest time 3601", 1, 3601, false);
-    set_phase(maker, "3: least and greatest time 3601", 3601, 3601, false);
-    set_phase(maker, "least and greatest time 3600", 3600, 3600, true);
-    set_phase(maker, "3: greatest time at most of 32 bits", 1, most, false);
-    set_phase(maker, "3: least time at most of 32 bits", most, 3600, false);
-    set_phase(maker, "3: both times 0", 0, 0, false);
-    set_phase(
-        maker,
-        "greatest time equal to the longest step",
-        1,
-        longest_step,
-        true,
-    );
+        });
+    }
+}
 
-    // The times of the cycle, the clock at 1 second.
-    let set_cycle = |maker: &mut Maker, name: &str, least: u64, greatest: u64, passes: bool| {
-        let change = |network: &mut Network| {
-            let signal = &mut network.signals[signal];
+/// The times of the cycle, the clock at 1 second.
+fn cycle_times(maker: &mut Maker, scenario: &Scenario, place: &Place) {
+    let times: [Judged<(u64, u64)>; 9] = [
+        ("3: least cycle 0", (0, 3600), false),
+        ("least cycle 1", (1, 3600), true),
+        ("3: least above greatest cycle", (101, 100), false),
+        ("least equal to greatest cycle", (100, 100), true),
+        ("3: greatest cycle 3601", (1, 3601), false),
+        ("3: both cycles 3601", (3601, 3601), false),
+        ("both cycles 3600", (3600, 3600), true),
+        ("cycle of 1 second", (1, 1), true),
+        ("3: greatest cycle at most of 32 bits", (1, MOST), false),
+    ];
+    for (name, (least, greatest), passes) in times {
+        maker.judged_change(scenario, place, name, passes, |network| {
+            let signal = &mut network.signals[place.item - 1];
             signal.least_cycle = least;
             signal.greatest_cycle = greatest;
             signal.shown_seconds = 1;
             signal.clock = 1;
-        };
-        if passes {
-            maker.near_miss(scenario, name, change);
-        } else {
-            maker.breach(scenario, name, &place, change);
-        }
-    };
-    set_cycle(maker, "3: least cycle 0", 0, 3600, false);
-    set_cycle(maker, "least cycle 1", 1, 3600, true);
-    set_cycle(maker, "3: least above greatest cycle", 101, 100, false);
-    set_cycle(maker, "least equal to greatest cycle", 100, 100, true);
-    set_cycle(maker, "3: greatest cycle 3601", 1, 3601, false);
-    set_cycle(maker, "3: both cycles 3601", 3601, 3601, false);
-    set_cycle(maker, "both cycles 3600", 3600, 3600, true);
-    set_cycle(maker, "cycle of 1 second", 1, 1, true);
-    set_cycle(
-        maker,
-        "3: greatest cycle at most of 32 bits",
-        1,
-        most,
-        false,
-    );
+        });
+    }
+}
 
-    // Shown seconds and clock. A phase other than the first is shown where
-    // the clock may differ from the seconds.
-    let set_shown = |maker: &mut Maker,
-                     name: &str,
-                     shown_phase: usize,
-                     seconds: u64,
-                     clock: u64,
-                     greatest_cycle: u64,
-                     passes: bool| {
-        let change = |network: &mut Network| {
-            let signal = &mut network.signals[signal];
-            signal.shown_phase = shown_phase as u64 + 1;
+/// A shown phase (from index 0), its seconds, the clock and the greatest cycle.
+type Shown = (usize, u64, u64, u64);
+
+/// Shown seconds and clock. A phase other than the first is shown where the
+/// clock may differ from the seconds.
+fn shown_times(maker: &mut Maker, scenario: &Scenario, place: &Place, phase: usize) {
+    let phases = &scenario.network.signals[place.item - 1].phases;
+    let other = (phase + 1) % phases.len();
+    let greatest = phases[phase].greatest;
+    let mut times: Vec<Judged<Shown>> = vec![(
+        "shown seconds equal to the greatest time",
+        (phase, greatest, greatest, 3600),
+        true,
+    )];
+    if greatest < 3600 {
+        let above = greatest + 1;
+        let name = "3: shown seconds above the greatest time";
+        times.push((name, (phase, above, above, 3600), false));
+    }
+    if greatest > phases[other].greatest {
+        let name = "3: shown seconds above that phase's greatest time only";
+        times.push((name, (other, greatest, greatest, 3600), false));
+    }
+    let name = "3: shown seconds at most of 32 bits";
+    times.push((name, (phase, MOST, MOST, 3600), false));
+
+    let later = phase.max(1);
+    let later_seconds = phases[later].greatest.min(5);
+    let seconds = phases[0].greatest.min(5);
+    times.extend([
+        (
+            "clock equal to the greatest cycle",
+            (later, 1, 77, 77),
+            true,
+        ),
+        (
+            "3: clock above the greatest cycle",
+            (later, 1, 78, 77),
+            false,
+        ),
+        ("3: clock at most of 32 bits", (later, 1, MOST, 77), false),
+        (
+            "clock equal to shown seconds",
+            (later, later_seconds, later_seconds, 77),
+            true,
+        ),
+        (
+            "3: clock below shown seconds",
+            (later, later_seconds, later_seconds - 1, 77),
+            false,
+        ),
+        ("nothing shown yet", (later, 0, 0, 77), true),
+        ("phase 1 and clock agree", (0, seconds, seconds, 77), true),
+        (
+            "3: clock above phase 1",
+            (0, seconds, seconds + 1, 77),
+            false,
+        ),
+        (
+            "3: clock below phase 1",
+            (0, seconds, seconds - 1, 77),
+            false,
+        ),
+        ("clock above a later phase", (later, 1, 2, 77), true),
+    ]);
+    for (name, (phase, seconds, clock, greatest_cycle), passes) in times {
+        maker.judged_change(scenario, place, name, passes, |network| {
+            let signal = &mut network.signals[place.item - 1];
+            signal.shown_phase = phase as u64 + 1;
             signal.shown_seconds = seconds;
             signal.clock = clock;
             signal.greatest_cycle = greatest_cycle;
             signal.least_cycle = 1;
-        };
-        if passes {
-            maker.near_miss(scenario, name, change);
-        } else {
-            maker.breach(scenario, name, &place, change);
-        }
-    };
-    let greatest = limits.phases[phase].greatest;
-    let greatest_other = limits.phases[other_phase].greatest;
-    let name = "shown seconds equal to the greatest time";
-    set_shown(maker, name, phase, greatest, greatest, 3600, true);
-    if greatest < 3600 {
-        let name = "3: shown seconds above the greatest time";
-        set_shown(maker, name, phase, greatest + 1, greatest + 1, 3600, false);
+        });
     }
-    if greatest > greatest_other {
-        let name = "3: shown seconds above that phase's greatest time only";
-        set_shown(maker, name, other_phase, greatest, greatest, 3600, false);
-    }
-    set_shown(
-        maker,
-        "3: shown seconds at most of 32 bits",
-        phase,
-        most,
-        most,
-        3600,
-        false,
-    );
-    let later = phase.max(1);
-    set_shown(
-        maker,
-        "clock equal to the greatest cycle",
-        later,
-        1,
-        77,
-        77,
-        true,
-    );
-    set_shown(
-        maker,
-        "3: clock above the greatest cycle",
-        later,
-        1,
-        78,
-        77,
-        false,
-    );
-    set_shown(
-        maker,
-        "3: clock at most of 32 bits",
-        later,
-        1,
-        most,
-        77,
-        false,
-    );
-    let seconds = limits.phases[later].greatest.min(5);
-    set_shown(
-        maker,
-        "clock equal to shown seconds",
-        later,
-        seconds,
-        seconds,
-        77,
-        true,
-    );
-    set_shown(
-        maker,
-        "3: clock below shown seconds",
-        later,
-        seconds,
-        seconds - 1,
-        77,
-        false,
-    );
-    set_shown(maker, "nothing shown yet", later, 0, 0, 77, true);
-    let seconds = limits.phases[0].greatest.min(5);
-    set_shown(
-        maker,
-        "phase 1 and clock agree",
-        0,
-        seconds,
-        seconds,
-        77,
-        true,
-    );
-    set_shown(
-        maker,
-        "3: clock above phase 1",
-        0,
-        seconds,
-        seconds + 1,
-        77,
-        false,
-    );
-    set_shown(
-        maker,
-        "3: clock below phase 1",
-        0,
-        seconds,
-        seconds - 1,
-        77,
-        false,
-    );
-    set_shown(maker, "clock above a later phase", later, 1, 2, 77, true);
 }
 
 /// Refusal 4.
@@ -346,9 +314,8 @@ pub fn links(maker: &mut Maker, scenario: &Scenario) {
         line: 2 + network.signals.len() + link,
         item: 1 + link,
     };
-    let most = u64::from(u32::MAX);
 
-    for capacity in [2_000_000_001, most] {
+    for capacity in [2_000_000_001, MOST] {
         maker.breach(scenario, "4: capacity", &place, |network| {
             network.links[link].capacity = capacity;
         });
@@ -361,7 +328,7 @@ pub fn links(maker: &mut Maker, scenario: &Scenario) {
         network.links[link].standing = 0;
     });
 
-    for travel_time in [0, 3601, most] {
+    for travel_time in [0, 3601, MOST] {
         maker.breach(scenario, "4: travel time", &place, |network| {
             network.links[link].travel_time = travel_time;
         });
@@ -375,7 +342,7 @@ pub fn links(maker: &mut Maker, scenario: &Scenario) {
         }
     }
 
-    for exit_rate in [10_001, most] {
+    for exit_rate in [10_001, MOST] {
         maker.breach(scenario, "4: exit rate", &place, |network| {
             network.links[link].exit_rate = exit_rate;
         });
@@ -384,13 +351,13 @@ pub fn links(maker: &mut Maker, scenario: &Scenario) {
         network.links[link].exit_rate = 10_000;
     });
 
-    for signal in [signal_count + 1, most] {
+    for signal in [signal_count + 1, MOST] {
         maker.breach(scenario, "4: light above R", &place, |network| {
             network.links[link].signal = signal;
             network.links[link].phase_mask = 1;
         });
     }
-    for mask in [1, 128, most] {
+    for mask in [1, 128, MOST] {
         maker.breach(scenario, "4: mask without a light", &place, |network| {
             network.links[link].signal = 0;
             network.links[link].phase_mask = mask;
@@ -404,7 +371,7 @@ pub fn links(maker: &mut Maker, scenario: &Scenario) {
         let signal = maker.random.index(network.signals.len());
         let phase_count = network.signals[signal].phases.len();
         let above = 1 << phase_count;
-        for mask in [0, above, above + 1, 1 << 31, most] {
+        for mask in [0, above, above + 1, 1 << 31, MOST] {
             maker.breach(scenario, "4: mask of a light", &place, |network| {
                 network.links[link].signal = signal as u64 + 1;
                 network.links[link].phase_mask = mask;
@@ -429,7 +396,7 @@ pub fn links(maker: &mut Maker, scenario: &Scenario) {
         "4: standing at most of 32 bits",
         &place,
         |network| {
-            network.links[link].standing = most;
+            network.links[link].standing = MOST;
         },
     );
 }
@@ -449,9 +416,8 @@ pub fn movements(maker: &mut Maker, scenario: &Scenario) {
         line: lines_before + movement + 1,
         item: movement + 1,
     };
-    let most = u64::from(u32::MAX);
 
-    for link in [0, link_count + 1, most] {
+    for link in [0, link_count + 1, MOST] {
         maker.breach(scenario, "5: from link", &place(movement), |network| {
             network.movements[movement].from = link;
         });
@@ -467,7 +433,7 @@ pub fn movements(maker: &mut Maker, scenario: &Scenario) {
             network.movements[movement].to = network.movements[movement].from;
         },
     );
-    for rate in [0, 10_001, most] {
+    for rate in [0, 10_001, MOST] {
         maker.breach(scenario, "5: rate", &place(movement), |network| {
             network.movements[movement].rate = rate;
         });
@@ -477,7 +443,7 @@ pub fn movements(maker: &mut Maker, scenario: &Scenario) {
             network.movements[movement].rate = rate;
         });
     }
-    for share in [0, 1001, most] {
+    for share in [0, 1001, MOST] {
         maker.breach(scenario, "5: share", &place(movement), |network| {
             network.movements[movement].share = share;
         });
@@ -627,30 +593,16 @@ pub fn steps(maker: &mut Maker, scenario: &Scenario) {
         line: lines_before + step + 1,
         item: step + 1,
     };
-    let most = u64::from(u32::MAX);
 
-    for length in [0, 61, most] {
+    for length in [0, 61, MOST] {
         maker.breach(scenario, "6: length", &place, |network| {
-            // All phases may last for a minute and more.
-            for phase in network
-                .signals
-                .iter_mut()
-                .flat_map(|signal| &mut signal.phases)
-            {
-                phase.greatest = 3600;
-            }
+            let_phases_last(network);
             network.steps[step].length = length;
         });
     }
     for length in [1, 60] {
         maker.near_miss(scenario, "length at its limit", |network| {
-            for phase in network
-                .signals
-                .iter_mut()
-                .flat_map(|signal| &mut signal.phases)
-            {
-                phase.greatest = 3600;
-            }
+            let_phases_last(network);
             for step in &mut network.steps {
                 step.length = length;
             }
@@ -659,7 +611,7 @@ pub fn steps(maker: &mut Maker, scenario: &Scenario) {
             }
         });
     }
-    for demand in [600_001, most] {
+    for demand in [600_001, MOST] {
         maker.breach(scenario, "6: demand", &place, |network| {
             network.steps[step].demand[link] = demand;
         });
@@ -705,6 +657,14 @@ pub fn steps(maker: &mut Maker, scenario: &Scenario) {
     }
 
     travel_times(maker, scenario, lines_before);
+}
+
+/// All phases may last for a minute and more.
+fn let_phases_last(network: &mut Network) {
+    let signals = network.signals.iter_mut();
+    for phase in signals.flat_map(|signal| &mut signal.phases) {
+        phase.greatest = 3600;
+    }
 }
 
 /// Refusal 7.

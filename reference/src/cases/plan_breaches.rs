@@ -29,6 +29,21 @@ enum Field {
 }
 
 impl Breach {
+    /// A value that breaks a rule in its own step, told at the value's item.
+    fn at_once(rule: u64, name: &'static str, step: usize, field: Field, value: u64) -> Breach {
+        let (Field::Mask(item) | Field::Admitted(item) | Field::LetOut(item) | Field::Moved(item)) =
+            field;
+        Breach {
+            name,
+            step,
+            field,
+            value,
+            broken_in: step,
+            rule,
+            item: item + 1,
+        }
+    }
+
     fn apply(&self, plan: &mut [PlanStep]) {
         let step = &mut plan[self.step];
         match self.field {
@@ -99,15 +114,8 @@ fn bad_masks(scenario: &Scenario, step: usize, breaches: &mut Vec<Breach>) {
             ("10: a phase and the highest bit", shown | 1 << 31),
             ("10: all bits", u64::from(u32::MAX)),
         ] {
-            breaches.push(Breach {
-                name,
-                step,
-                field: Field::Mask(signal),
-                value,
-                broken_in: step,
-                rule: 10,
-                item: signal + 1,
-            });
+            let field = Field::Mask(signal);
+            breaches.push(Breach::at_once(10, name, step, field, value));
         }
     }
 }
@@ -126,15 +134,8 @@ fn phases_out_of_order(scenario: &Scenario, step: usize, breaches: &mut Vec<Brea
             } else {
                 "11: phase skipped"
             };
-            breaches.push(Breach {
-                name,
-                step,
-                field: Field::Mask(signal),
-                value: 1 << (phase - 1),
-                broken_in: step,
-                rule: 11,
-                item: signal + 1,
-            });
+            let field = Field::Mask(signal);
+            breaches.push(Breach::at_once(11, name, step, field, 1 << (phase - 1)));
         }
     }
 }
@@ -174,15 +175,8 @@ fn other_choices(scenario: &Scenario, step: usize, rule: u64, breaches: &mut Vec
         };
         if let Some((broken_rule, name)) = broken {
             if broken_rule == rule {
-                breaches.push(Breach {
-                    name,
-                    step,
-                    field: Field::Mask(signal),
-                    value: 1 << (phase - 1),
-                    broken_in: step,
-                    rule,
-                    item: signal + 1,
-                });
+                let field = Field::Mask(signal);
+                breaches.push(Breach::at_once(rule, name, step, field, 1 << (phase - 1)));
             }
         }
     }
@@ -191,15 +185,14 @@ fn other_choices(scenario: &Scenario, step: usize, rule: u64, breaches: &mut Vec
 fn above_demand(scenario: &Scenario, step: usize, breaches: &mut Vec<Breach>) {
     for (link, &demand) in scenario.network.steps[step].demand.iter().enumerate() {
         for value in [demand + 1, u64::from(u32::MAX)] {
-            breaches.push(Breach {
-                name: "15: admitted above demand",
+            let field = Field::Admitted(link);
+            breaches.push(Breach::at_once(
+                15,
+                "15: admitted above demand",
                 step,
-                field: Field::Admitted(link),
+                field,
                 value,
-                broken_in: step,
-                rule: 15,
-                item: link + 1,
-            });
+            ));
         }
     }
 }
@@ -208,15 +201,14 @@ fn above_exit_rate(scenario: &Scenario, step: usize, breaches: &mut Vec<Breach>)
     let length = scenario.network.steps[step].length;
     for (link, limits) in scenario.network.links.iter().enumerate() {
         for value in [limits.exit_rate * length + 1, u64::from(u32::MAX)] {
-            breaches.push(Breach {
-                name: "15: let out above the exit rate",
+            let field = Field::LetOut(link);
+            breaches.push(Breach::at_once(
+                15,
+                "15: let out above the exit rate",
                 step,
-                field: Field::LetOut(link),
+                field,
                 value,
-                broken_in: step,
-                rule: 15,
-                item: link + 1,
-            });
+            ));
         }
     }
 }
@@ -225,15 +217,14 @@ fn above_movement_rate(scenario: &Scenario, step: usize, breaches: &mut Vec<Brea
     let length = scenario.network.steps[step].length;
     for (movement, limits) in scenario.network.movements.iter().enumerate() {
         for value in [limits.rate * length + 1, u64::from(u32::MAX)] {
-            breaches.push(Breach {
-                name: "15: movement above its rate",
+            let field = Field::Moved(movement);
+            breaches.push(Breach::at_once(
+                15,
+                "15: movement above its rate",
                 step,
-                field: Field::Moved(movement),
+                field,
                 value,
-                broken_in: step,
-                rule: 15,
-                item: movement + 1,
-            });
+            ));
         }
     }
 }
@@ -245,15 +236,14 @@ fn at_red(scenario: &Scenario, step: usize, breaches: &mut Vec<Breach>) {
             continue;
         }
         for value in [1, limits.rate * length] {
-            breaches.push(Breach {
-                name: "15: movement at red",
+            let field = Field::Moved(movement);
+            breaches.push(Breach::at_once(
+                15,
+                "15: movement at red",
                 step,
-                field: Field::Moved(movement),
+                field,
                 value,
-                broken_in: step,
-                rule: 15,
-                item: movement + 1,
-            });
+            ));
         }
     }
 }
@@ -265,15 +255,14 @@ fn above_share(scenario: &Scenario, step: usize, breaches: &mut Vec<Breach>) {
         let value = scenario.plan[step].moved[movement] + 1;
         let from = limits.from as usize - 1;
         if limits.share < 1000 && value <= limits.rate * length && scenario.is_open(step, from) {
-            breaches.push(Breach {
-                name: "16: movement one above its share",
+            let field = Field::Moved(movement);
+            breaches.push(Breach::at_once(
+                16,
+                "16: movement one above its share",
                 step,
-                field: Field::Moved(movement),
+                field,
                 value,
-                broken_in: step,
-                rule: 16,
-                item: movement + 1,
-            });
+            ));
         }
     }
 }
@@ -290,14 +279,10 @@ fn below_share(scenario: &Scenario, step: usize, breaches: &mut Vec<Breach>) {
             .into_iter()
             .find(|&other| other != movement);
         if let Some(other) = other {
+            let field = Field::Moved(movement);
             breaches.push(Breach {
-                name: "16: others above their share",
-                step,
-                field: Field::Moved(movement),
-                value: moved - 1,
-                broken_in: step,
-                rule: 16,
                 item: other + 1,
+                ..Breach::at_once(16, "16: others above their share", step, field, moved - 1)
             });
         }
     }
@@ -309,15 +294,14 @@ fn let_out_before_arrival(scenario: &Scenario, step: usize, breaches: &mut Vec<B
         let waiting = scenario.arrived[step + 1][link] - scenario.left[step + 1][link];
         let value = scenario.plan[step].let_out[link] + waiting + 1;
         if value <= limits.exit_rate * length {
-            breaches.push(Breach {
-                name: "17: one let out that has not arrived",
+            let field = Field::LetOut(link);
+            breaches.push(Breach::at_once(
+                17,
+                "17: one let out that has not arrived",
                 step,
-                field: Field::LetOut(link),
+                field,
                 value,
-                broken_in: step,
-                rule: 17,
-                item: link + 1,
-            });
+            ));
         }
     }
 }
@@ -329,14 +313,10 @@ fn moved_before_arrival(scenario: &Scenario, step: usize, breaches: &mut Vec<Bre
         let waiting = scenario.arrived[step + 1][from] - scenario.left[step + 1][from];
         let value = scenario.plan[step].moved[movement] + waiting + 1;
         if limits.share == 1000 && value <= limits.rate * length && scenario.is_open(step, from) {
+            let field = Field::Moved(movement);
             breaches.push(Breach {
-                name: "17: one moved that has not arrived",
-                step,
-                field: Field::Moved(movement),
-                value,
-                broken_in: step,
-                rule: 17,
                 item: from + 1,
+                ..Breach::at_once(17, "17: one moved that has not arrived", step, field, value)
             });
         }
     }
@@ -356,14 +336,16 @@ fn too_little_entered(scenario: &Scenario, step: usize, breaches: &mut Vec<Breac
                 && scenario.left[boundary][link] == scenario.arrived[boundary][link]
         });
         if let Some(boundary) = first_short {
+            let field = Field::Admitted(link);
             breaches.push(Breach {
-                name: "17: one that left was not admitted before",
-                step,
-                field: Field::Admitted(link),
-                value: admitted - 1,
                 broken_in: boundary - 1,
-                rule: 17,
-                item: link + 1,
+                ..Breach::at_once(
+                    17,
+                    "17: one that left was not admitted before",
+                    step,
+                    field,
+                    admitted - 1,
+                )
             });
         }
     }
@@ -374,15 +356,14 @@ fn above_capacity(scenario: &Scenario, step: usize, breaches: &mut Vec<Breach>) 
         let room = limits.capacity + scenario.left[step][link] - scenario.entered[step + 1][link];
         let value = scenario.plan[step].admitted[link] + room + 1;
         if value <= scenario.network.steps[step].demand[link] {
-            breaches.push(Breach {
-                name: "18: one admitted to a full link",
+            let field = Field::Admitted(link);
+            breaches.push(Breach::at_once(
+                18,
+                "18: one admitted to a full link",
                 step,
-                field: Field::Admitted(link),
+                field,
                 value,
-                broken_in: step,
-                rule: 18,
-                item: link + 1,
-            });
+            ));
         }
     }
 }
