@@ -8,8 +8,8 @@ use native.Mathlib.Nat.{eq-or-lt-of-le, le-of-suc-le-suc}
 use native.Mathlib.Numerals.{add-one}
 use native.Mathlib.Omega.{arith}
 use borrow.Author.Tests.{not-true, not-false}
-use lib.ListN.{length, getD, set, drop, length-append, List·getD-append, drop-of-length-le}
-use lib.Seq.{drop-cons, set-at, getD-at, getD-append-add, getD-drop}
+use lib.ListN.{length, getD, set, take, drop, length-append, List·getD-append, drop-of-length-le}
+use lib.Seq.{drop-cons, take-at, drop-at, set-at, getD-at, getD-append-add, getD-drop}
 use Rattle.lists.specs.Indexed.{list, filled, every}
 use Rattle.lists.proofs.Tests.{and-left, and-right}
 
@@ -50,6 +50,15 @@ module _ {A : Type 0} (f : ℕ → A) where
     pub filled-all : (n : ℕ) → n ≡ length old → filled f old n ≡ list (length old) f
     unfolding filled
     filled-all n h = rw (h, drop-of-length-le old {i = length old} (omega arith)) (append-nil (list (length old) f))
+
+    -- the two parts of a list that is filled to n
+    pub take-filled : (n : ℕ) → take n (filled f old n) ≡ list n f
+    unfolding filled
+    take-filled n = take-at (list n f) (drop n old) n (length-list n)
+
+    pub drop-filled : (n : ℕ) → drop n (filled f old n) ≡ drop n old
+    unfolding filled
+    drop-filled n = drop-at (list n f) (drop n old) n (length-list n)
 
 -- ---- a loop that tests one value after the other: those passed hold, so the test of all is that of the rest
 module _ {A : Type 0} (test : A → Bool) (other : A) (xs : List A) where
