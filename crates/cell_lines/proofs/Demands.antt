@@ -1,0 +1,178 @@
+-- The `D` lines, as the loop reads them. Assumes nothing.
+use Prim.Native.Nat.{ℕ, suc, _+_, _-_, _≤_, _<_}
+use mathlib.Core.Path.{_≡_, sym, ap, _∙_}
+use mathlib.Core.Bool.{Bool, true, false, cond, not, _&&_}
+use mathlib.Core.Logic.{inl, inr, _≢_}
+use mathlib.Core.List.{List}
+use native.Mathlib.Nat.{eq-or-lt-of-le, le-of-suc-le-suc}
+use native.Mathlib.Numerals.{add-one}
+use native.Mathlib.Omega.{arith}
+use borrow.Author.Tests.{lt-ltb, le-ltb, le-leb, lt-leb, eqb-true, eqb-false, not-true, not-false}
+use lib.Dec.{eqb}
+use lib.ListN.{length, getD, set, length-set}
+use Rattle.search.specs.declared.Verdict.the-variants.{Passes, Refused}
+use Rattle.search.specs.Checks.{refusal, each, verdict, checked}
+use Rattle.search.proofs.Laws.{first-stop, first-passes, or-else-refused, or-else-passes}
+use Rattle.records.specs.declared.LineRead.the-variants.{Next, Malformed}
+use Rattle.records.specs.Lines.{lines, noLine, isRecord, number}
+use Rattle.records.specs.Reading.{lineAt, nextLine, recordAt, atEnd, Starts}
+use Rattle.records.proofs.Laws.{starts-line, starts-end, starts-plus}
+use Rattle.lists.specs.Indexed.{filled}
+use Rattle.lists.proofs.Laws.{filled-none, filled-more}
+use Rattle.cell_lines.specs.declared.VolumeRead.{VolumeRead}
+use Rattle.cell_lines.specs.declared.VolumeRead.the-variants as volume
+use Rattle.cell_lines.specs.declared.DemandsRead.the-variants as demand
+use Rattle.cell_lines.specs.Corridor.{letterD, isVolume, volumeForm, cellCount, demandLine, demandCount, demandCheck, demandChecks}
+use Rattle.cell_lines.specs.Reading.{volumeOf, volumeAt, demandsVerdict, demandOf, DemandsAsked, DemandsGot}
+
+-- ---- what a line of one volume says
+module _ (letter : ℕ) (text : List ℕ) (at : ℕ) where
+  pub volume-refused : volume.Malformed ≡ volumeAt letter text at → volumeForm letter (lineAt text at) ≡ false
+  unfolding volumeAt volumeOf
+  volume-refused e = go (volumeForm letter (lineAt text at)) e
+    where
+      go : (form : Bool) → volume.Malformed ≡ cond form (volume.Passed (number (lineAt text at) 0) (nextLine text at)) volume.Malformed → form ≡ false
+      go true e = cc
+      go false e = cc
+
+  module _ (v next : ℕ) (e : volume.Passed v next ≡ volumeAt letter text at) where
+    pub volume-form : volumeForm letter (lineAt text at) ≡ true
+    unfolding volumeAt volumeOf
+    volume-form = go (volumeForm letter (lineAt text at)) e
+      where
+        go : (form : Bool) → volume.Passed v next ≡ cond form (volume.Passed (number (lineAt text at) 0) (nextLine text at)) volume.Malformed → form ≡ true
+        go true e = cc
+        go false e = cc
+
+    pub volume-is : v ≡ number (lineAt text at) 0
+    unfolding volumeAt volumeOf
+    volume-is = go (volumeForm letter (lineAt text at)) e
+      where
+        go : (form : Bool) → volume.Passed v next ≡ cond form (volume.Passed (number (lineAt text at) 0) (nextLine text at)) volume.Malformed → v ≡ number (lineAt text at) 0
+        go true e = cc
+        go false e = cc
+
+    pub volume-record : recordAt letter 1 text at ≡ Next next
+    unfolding volumeAt volumeOf volumeForm recordAt
+    volume-record = go (isRecord letter 1 (lineAt text at)) (isVolume (number (lineAt text at) 0)) e
+      where
+        go : (form small : Bool) → volume.Passed v next ≡ cond (form && small) (volume.Passed (number (lineAt text at) 0) (nextLine text at)) volume.Malformed
+            → cond form (Next (nextLine text at)) Malformed ≡ Next next
+        go true true e = cc
+        go true false e = cc
+        go false small e = cc
+
+-- ---- the loop: k lines have passed
+pub record DemandsReading (text : List ℕ) (cells : ℕ) (table₀ table : List ℕ) (place k : ℕ) : Type 0 where
+  pub few : k ≤ 120
+  pub size : length table ≡ 120
+  pub begins : Starts text place (cells + 1 + k)
+  pub inside : cells + 1 + k ≤ length (lines text)
+  pub passed : (j : ℕ) → j < k → verdict (demandCheck (lines text) j) ≡ Passes
+  pub held : table ≡ filled (demandOf (lines text)) table₀ k
+
+module _ (text : List ℕ) (cells at : ℕ) (table₀ : List ℕ) (asked : DemandsAsked text at cells table₀) where
+  pub demands-none : DemandsReading text cells table₀ table₀ at 0
+  demands-none =
+      let e : cells + 1 ≡ cells + 1 + 0 = omega arith in
+      record {
+        few = omega arith;
+        size = asked .size;
+        begins = rw e at (asked .begins);
+        inside = omega (arith, asked .inside);
+        passed = λ j h. absurd (omega arith);
+        held = filled-none (demandOf (lines text)) table₀;
+      }
+
+  module _ (table : List ℕ) (place k : ℕ) (g : DemandsReading text cells table₀ table place k) (t : Bool) (is : t ≡ atEnd text place) where
+    line-at : demandLine (lines text) k ≡ cells + 1 + k
+    unfolding demandLine
+    line-at = rw (← asked .counted)
+
+    -- the line at the place is that of demand k
+    line-is : lineAt text place ≡ getD (lines text) (demandLine (lines text) k) noLine
+    line-is = rw line-at (starts-line text place (cells + 1 + k) (g .begins))
+
+    ended : t ≡ eqb (length (lines text)) (cells + 1 + k)
+    ended = is ∙ starts-end text place (cells + 1 + k) (g .begins) (g .inside)
+
+    count-is : demandCount (lines text) ≡ length (lines text) - (cells + 1)
+    unfolding demandCount demandLine
+    count-is = rw (← asked .counted) (omega arith)
+
+    stopped : (line : ℕ) → verdict (demandChecks (lines text)) ≡ Refused (refusal 36 line 0) → DemandsGot text (demand.Stopped line) table₀ table
+    unfolding demandsVerdict
+    stopped line e = record { told = sym e; counted = λ n p. none p; few = λ n p. none p; held = λ n p. none p }
+      where
+        none : {A : Type 0} {n : ℕ} → demand.Stopped line ≡ demand.Passed n → A
+        none p = let z : _≡_ {A = ℕ} 0 1 = cc in absurd (omega arith)
+
+    -- ---- a line is left
+    module _ (more : not t ≡ true) where
+      within : k < demandCount (lines text)
+      within =
+          let q : length (lines text) ≢ cells + 1 + k = eqb-false (length (lines text)) (cells + 1 + k) (sym ended ∙ not-true t more) in
+          omega (arith, count-is, q, g .inside)
+
+      line-stops : verdict (demandCheck (lines text) k) ≡ Refused (refusal 36 (suc (demandLine (lines text) k)) 0) → DemandsGot text (demand.Stopped (cells + 2 + k)) table₀ table
+      unfolding demandChecks verdict
+      line-stops v =
+          let e : suc (demandLine (lines text) k) ≡ cells + 2 + k = omega (arith, line-at) in
+          rw (← e)
+          (stopped (suc (demandLine (lines text) k))
+          (or-else-refused _ _ (refusal 36 (suc (demandLine (lines text) k)) 0)
+          (first-stop (λ j. verdict (demandCheck (lines text) j)) (demandCount (lines text)) k (refusal 36 (suc (demandLine (lines text) k)) 0) (g .passed) within v)))
+
+      pub demands-too-many : 120 ≤ k → DemandsGot text (demand.Stopped (cells + 2 + k)) table₀ table
+      unfolding demandCheck verdict checked
+      demands-too-many h = line-stops (rw (le-ltb k 120 h))
+
+      module _ (h : k < 120) (read : VolumeRead) (told : read ≡ volumeAt letterD text place) where
+        pub demands-malformed : read ≡ volume.Malformed → DemandsGot text (demand.Stopped (cells + 2 + k)) table₀ table
+        unfolding demandCheck verdict checked
+        demands-malformed e =
+            let form = volume-refused letterD text place (sym e ∙ told) in
+            line-stops (rw (lt-ltb k 120 h, ← line-is, form))
+
+        pub demands-more : (v next : ℕ) → read ≡ volume.Passed v next → DemandsReading text cells table₀ (set table k v) next (k + 1)
+        unfolding demandCheck verdict checked
+        demands-more v next e =
+            let p = sym e ∙ told in
+            let same : cells + 1 + k + 1 ≡ cells + 1 + (k + 1) = omega arith in
+            let here : verdict (demandCheck (lines text) k) ≡ Passes = rw (lt-ltb k 120 h, ← line-is, volume-form letterD text place v next p) in
+            let value : v ≡ demandOf (lines text) k = volume-is letterD text place v next p ∙ ap (λ line. number line 0) line-is in
+            record {
+              few = omega arith;
+              size = length-set table k v ∙ g .size;
+              begins = rw same at (starts-plus text place (cells + 1 + k) (g .begins) letterD 1 next (volume-record letterD text place v next p));
+              inside = omega (arith, within, count-is);
+              passed = λ j l. elim (eq-or-lt-of-le (le-of-suc-le-suc (rw (add-one k) at l))) [ inl w ↦ rw w here | inr w ↦ g .passed j w ];
+              held = ap (λ list. set list k v) (g .held) ∙ filled-more (demandOf (lines text)) table₀ k v (omega (arith, asked .size)) value;
+            }
+
+    -- ---- no line is left
+    module _ (none-left : not t ≡ false) where
+      all : demandCount (lines text) ≡ k
+      all =
+          let q : length (lines text) ≡ cells + 1 + k = eqb-true (length (lines text)) (cells + 1 + k) (sym ended ∙ not-false t none-left) in
+          omega (arith, count-is, q)
+
+      all-pass : verdict (each (demandCount (lines text)) (demandCheck (lines text))) ≡ Passes
+      unfolding verdict
+      all-pass = rw all (first-passes (λ j. verdict (demandCheck (lines text) j)) k (g .passed))
+
+      pub demands-empty : k ≡ 0 → DemandsGot text (demand.Stopped (cells + 2)) table₀ table
+      unfolding demandChecks demandLine verdict checked
+      demands-empty e =
+          let line : suc (cellCount (lines text) + 1 + 0) ≡ cells + 2 = omega (arith, asked .counted) in
+          stopped (cells + 2) (or-else-passes _ _ all-pass ∙ rw (lt-leb 1 (demandCount (lines text)) (omega (arith, all)), line))
+
+      pub demands-all : k ≢ 0 → DemandsGot text (demand.Passed k) table₀ table
+      unfolding demandsVerdict demandChecks verdict checked
+      demands-all e =
+          record {
+            told = sym (or-else-passes _ _ all-pass ∙ rw (le-leb 1 (demandCount (lines text)) (omega (arith, all, e))));
+            counted = λ n p. let q : k ≡ n = cc in omega (arith, all);
+            few = λ n p. let q : k ≡ n = cc in omega (arith, g .few);
+            held = λ n p. let q : k ≡ n = cc in rw q at (g .held);
+          }

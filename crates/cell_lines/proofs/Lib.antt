@@ -1,0 +1,4 @@
+pub mod Lines
+pub mod Cells
+pub mod Demands
+pub mod Load

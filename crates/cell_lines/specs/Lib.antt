@@ -1,0 +1,2 @@
+pub mod Corridor
+pub mod Reading

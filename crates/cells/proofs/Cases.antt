@@ -1,0 +1,76 @@
+-- Texts of corridors, judged and run by computation. Assumes nothing.
+use Prim.Native.Nat.{ℕ}
+use Prim.Native.Char.{code}
+use Prim.Native.String.{String, _++_}
+use mathlib.Core.Path.{_≡_, refl}
+use mathlib.Core.List.{List, [], _∷_, map}
+use Rattle.search.specs.Checks.{refusal, verdict, checked, orElse, firstFrom}
+use Rattle.records.specs.Field.{digit, digits, shift, decimal, leadingZero, isNumeral, fieldOf}
+use Rattle.records.specs.Lines.{inFront, split, letterOf, lineOf, linesOf, lines, isNumber, allNumbers, isRecord, numberOf, number}
+use Rattle.lists.specs.Indexed.{list}
+use Rattle.cell_steps.specs.Steps.{inflow, outflow, flow, volumeAfter, after, volumesAfter, totalIn, totalOut}
+use Rattle.cell_lines.specs.Corridor.{validCell, cellForm, startHeld, volumeForm, cellCount, demandLine, demandCount, cellChecks, exitCheck, demandCheck, demandChecks, corridorChecks, column, chain, starts, demands}
+use Rattle.cells.specs.declared.CellsAnswer.{CellsAnswer}
+use Rattle.cells.specs.declared.CellsAnswer.the-variants.{Ran, Refused}
+use Rattle.cells.specs.Call.{answerOf, runCells, volumesOf}
+
+abbrev bytes : String → List ℕ
+bytes String.[] = []
+bytes (String._∷_ c s) = code c ∷ bytes s
+
+-- all that a run's computation unfolds
+unfoldable opened : Unit {0}
+unfolding verdict checked orElse firstFrom digit digits shift decimal leadingZero isNumeral fieldOf inFront split letterOf lineOf linesOf lines isNumber allNumbers isRecord numberOf number list inflow outflow flow volumeAfter after volumesAfter totalIn totalOut validCell cellForm startHeld volumeForm cellCount demandLine demandCount cellChecks exitCheck demandCheck demandChecks corridorChecks column chain starts demands answerOf runCells volumesOf
+opened = tt
+
+-- a text: its answer, and the volumes after its steps
+record Case : Type 0 where
+  pub text : String
+  pub told : CellsAnswer
+  pub volumes : List ℕ
+
+abbrev run : String → CellsAnswer
+run text = runCells (lines (bytes text))
+
+abbrev left : String → List ℕ
+left text = volumesOf (verdict (corridorChecks (lines (bytes text)))) (lines (bytes text))
+
+abbrev cell : String
+cell = "C\t10\t100\t500\t20\n"
+
+abbrev cases : List Case
+cases =
+    -- two cells: of 7 and 100 flow in 7 and 10, nothing and then 5 flow out, and the first step's inflow does not flow on in it
+    record { text = cell ++ "C\t8\t50\t1000\t0\nX\t5\nD\t7\nD\t100\n"; told = Ran 2 17 5; volumes = 21 ∷ 11 ∷ [] }
+    -- one cell is first and last; what does not fit is gone
+    ∷ record { text = "C\t9\t10\t1000\t3\nX\t2\nD\t100\nD\t0\n"; told = Ran 1 7 4; volumes = 6 ∷ [] }
+    -- the room × 1/3 is rounded down
+    ∷ record { text = "C\t9\t10\t333\t0\nX\t0\nD\t100\n"; told = Ran 1 3 0; volumes = 3 ∷ [] }
+    -- a start at its holding limit, and limits of 0
+    ∷ record { text = "C\t0\t0\t1\t0\nC\t5\t7\t1000\t7\nX\t3\nD\t4\n"; told = Ran 2 0 3; volumes = 0 ∷ 4 ∷ [] }
+    -- the largest volumes
+    ∷ record { text = "C\t2000000000\t2000000000\t1000\t0\nX\t2000000000\nD\t2000000000\nD\t2000000000\n"; told = Ran 1 2000000000 2000000000; volumes = 0 ∷ [] }
+    ∷ record { text = ""; told = Refused (refusal 36 1 0); volumes = [] }
+    ∷ record { text = "X\t5\nD\t7\n"; told = Refused (refusal 36 1 0); volumes = [] }
+    ∷ record { text = "C\t10\t100\t500\t101\nX\t5\nD\t7\n"; told = Refused (refusal 37 1 0); volumes = [] }
+    ∷ record { text = "C\t10\t100\t0\t101\nX\t5\nD\t7\n"; told = Refused (refusal 36 1 0); volumes = [] }
+    ∷ record { text = "C\t10\t100\t500\t101\nC\t10\nX\t5\nD\t7\n"; told = Refused (refusal 37 1 0); volumes = [] }
+    ∷ record { text = "C\t10\t100\t1001\t20\nX\t5\nD\t7\n"; told = Refused (refusal 36 1 0); volumes = [] }
+    ∷ record { text = "C\t10\t2000000001\t500\t20\nX\t5\nD\t7\n"; told = Refused (refusal 36 1 0); volumes = [] }
+    ∷ record { text = cell; told = Refused (refusal 36 2 0); volumes = [] }
+    ∷ record { text = cell ++ "D\t7\n"; told = Refused (refusal 36 2 0); volumes = [] }
+    ∷ record { text = cell ++ "X\t2000000001\nD\t7\n"; told = Refused (refusal 36 2 0); volumes = [] }
+    ∷ record { text = cell ++ "X\t5\n"; told = Refused (refusal 36 3 0); volumes = [] }
+    ∷ record { text = cell ++ "X\t5\nD\t2000000001\n"; told = Refused (refusal 36 3 0); volumes = [] }
+    ∷ record { text = cell ++ "X\t5\nD\t7\nD\t8"; told = Refused (refusal 36 4 0); volumes = [] }
+    ∷ record { text = cell ++ "X\t5\nD\t7\nX\t5\n"; told = Refused (refusal 36 4 0); volumes = [] }
+    ∷ record { text = cell ++ "X\t5\nD\t7\n\n"; told = Refused (refusal 36 4 0); volumes = [] }
+    ∷ []
+
+judged : map (λ (c : Case). run (c .text)) cases ≡ map (λ (c : Case). c .told) cases
+unfolding opened
+judged = refl
+
+left-over : map (λ (c : Case). left (c .text)) cases ≡ map (λ (c : Case). c .volumes) cases
+unfolding opened
+left-over = refl
