@@ -1,5 +1,7 @@
 -- The numbers that the C library gives for each answer: a refusal's number, line and item, or number 0 and the values. Assumes nothing.
+use Prim.Native.Nat.{ℕ}
 use mathlib.Core.Bool.{cond}
+use mathlib.Core.List.{List}
 use lib.Dec.{eqb}
 use Rattle.search.specs.declared.Verdict.{Verdict}
 use Rattle.search.specs.declared.Verdict.the-variants.{Passes, Refused}
@@ -8,9 +10,12 @@ use Rattle.model.specs.declared.PlanAnswer.{PlanAnswer}
 use Rattle.model.specs.declared.PlanAnswer.the-variants as plan-answer
 use Rattle.model.specs.declared.LinkAnswer.{LinkAnswer}
 use Rattle.model.specs.declared.LinkAnswer.the-variants as link-answer
+use Rattle.cells.specs.declared.CellsAnswer.{CellsAnswer}
+use Rattle.cells.specs.declared.CellsAnswer.the-variants as cells-answer
 use Rattle.plan_check_c.specs.declared.NetworkResult.{NetworkResult}
 use Rattle.plan_check_c.specs.declared.PlanResult.{PlanResult}
 use Rattle.plan_check_c.specs.declared.LinkResult.{LinkResult}
+use Rattle.plan_check_c.specs.declared.CellsResult.{CellsResult}
 
 abbrev pub verdictResult : Verdict → NetworkResult
 verdictResult Passes = record { number = 0; line = 0; item = 0 }
@@ -31,3 +36,9 @@ planAnswerOf r =
 abbrev pub linkResult : LinkAnswer → LinkResult
 linkResult (link-answer.State queued inTransit) = record { number = 0; line = 0; item = 0; queued = queued; «in_transit» = inTransit }
 linkResult (link-answer.Refused r) = record { number = r .number; line = r .line; item = r .item; queued = 0; «in_transit» = 0 }
+
+abbrev pub cellsResult : CellsAnswer → List ℕ → CellsResult
+cellsResult (cells-answer.Ran cells flowIn flowOut) volumes =
+    record { number = 0; line = 0; item = 0; cells = cells; «flow_in» = flowIn; «flow_out» = flowOut; volumes = volumes }
+cellsResult (cells-answer.Refused r) volumes =
+    record { number = r .number; line = r .line; item = r .item; cells = 0; «flow_in» = 0; «flow_out» = 0; volumes = volumes }

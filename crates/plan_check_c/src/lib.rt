@@ -5,7 +5,9 @@ ghost use Rattle.records.specs.Lines.{lines};
 ghost use Rattle.model.specs.Calls.{checkNetwork, checkPlan, ledgerAfter, linkState};
 ghost use Rattle.model.specs.Guarantees.{Promises};
 ghost use Rattle.traces.specs.Call.{stepVehicles, placesAfter};
-ghost use Rattle.plan_check_c.specs.Results.{verdictResult, planResult, planAnswerOf, linkResult};
+ghost use Rattle.cells.specs.Call.{runCells, finalVolumes};
+ghost use Rattle.plan_check_c.specs.Results.{verdictResult, planResult, planAnswerOf, linkResult, cellsResult};
+use cells::CellsAnswer;
 use model::LinkAnswer;
 use model::PlanAnswer;
 use search::Verdict;
@@ -38,6 +40,18 @@ pub struct LinkResult {
     pub item: u32,
     pub queued: u32,
     pub in_transit: u32,
+}
+
+// The answer of a run of cells; number 0: so many cells, these totals, and the volumes after the last step, 0 past the cells.
+#[repr(C)]
+pub struct CellsResult {
+    pub number: u32,
+    pub line: u32,
+    pub item: u32,
+    pub cells: u32,
+    pub flow_in: u64,
+    pub flow_out: u64,
+    pub volumes: [u32; 64],
 }
 
 #[no_mangle]
@@ -134,4 +148,37 @@ pub extern "C" fn plancheck_step_vehicles(
     ensures { λ _. ⌜ now (places .exit) ≡ placesAfter (now (places .entry)) (now (advances .entry)) (now («red_lines» .entry)) spacing ⌝ }
 {
     verdict_result(traces::step_vehicles(places, advances, red_lines, spacing))
+}
+
+#[no_mangle]
+pub extern "C" fn plancheck_run_cells(corridor: &[u8]) -> CellsResult
+    ensures { λ r. ⌜ r ≡ cellsResult (runCells (lines (now (corridor .entry)))) (finalVolumes (lines (now (corridor .entry)))) ⌝ }
+{
+    let run = cells::run_cells(corridor);
+    let answer = run.answer;
+    let volumes = run.volumes;
+    match answer {
+        CellsAnswer::Ran {
+            cells,
+            flow_in,
+            flow_out,
+        } => CellsResult {
+            number: 0,
+            line: 0,
+            item: 0,
+            cells,
+            flow_in,
+            flow_out,
+            volumes,
+        },
+        CellsAnswer::Refused(r) => CellsResult {
+            number: r.number,
+            line: r.line,
+            item: r.item,
+            cells: 0,
+            flow_in: 0,
+            flow_out: 0,
+            volumes,
+        },
+    }
 }
