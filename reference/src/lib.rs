@@ -6,6 +6,7 @@
 //! limits that have been judged before, so nothing can overflow.
 
 pub mod cases;
+pub mod cells;
 mod network;
 mod plan;
 mod report;

@@ -1,0 +1,173 @@
+//! Compares runs of corridors in cells with the other implementation: the answer, the totals and every volume.
+//!
+//! `cells COUNT SEED`: COUNT texts, of the seeds SEED, SEED + 1, .., so that a difference can be found again by itself: `cells 1 SEED` with the seed
+//! that is told.
+
+use plancheck_reference::cases::{damage, Random};
+use plancheck_reference::cells;
+use std::collections::BTreeMap;
+use std::process::ExitCode;
+
+/// After so many differences nothing more is learnt.
+const MOST_DIFFERENCES: u64 = 20;
+const CELLS: usize = 64;
+const LARGEST: u64 = 2_000_000_000;
+
+#[repr(C)]
+#[derive(Clone, Copy, Debug, PartialEq, Eq)]
+struct CellsResult {
+    number: u32,
+    line: u32,
+    item: u32,
+    cells: u32,
+    flow_in: u64,
+    flow_out: u64,
+    volumes: [u32; CELLS],
+}
+
+extern "C" {
+    fn plancheck_run_cells(corridor: *const u8, corridor_len: usize) -> CellsResult;
+}
+
+#[derive(Default)]
+struct Counts {
+    texts: u64,
+    differences: u64,
+    cells: u64,
+    flow_out: u64,
+    answers: BTreeMap<u32, u64>,
+}
+
+fn main() -> ExitCode {
+    let arguments: Option<Vec<u64>> = std::env::args()
+        .skip(1)
+        .map(|argument| argument.parse().ok())
+        .collect();
+    let Some([count, seed]) = arguments.as_deref() else {
+        eprintln!("cells COUNT SEED");
+        return ExitCode::FAILURE;
+    };
+    let mut counts = Counts::default();
+    while counts.texts < *count && counts.differences < MOST_DIFFERENCES {
+        let seed = seed.wrapping_add(counts.texts);
+        judge(&mut counts, seed, &draw_text(&mut Random::new(seed)));
+    }
+    report(&counts);
+    if counts.differences == 0 {
+        ExitCode::SUCCESS
+    } else {
+        ExitCode::FAILURE
+    }
+}
+
+fn judge(counts: &mut Counts, seed: u64, text: &[u8]) {
+    let expected = in_numbers(text);
+    // SAFETY: a slice gives a pointer that is not null, readable for its length. The header asks for no more.
+    let given = unsafe { plancheck_run_cells(text.as_ptr(), text.len()) };
+    counts.texts += 1;
+    counts.cells += u64::from(given.cells);
+    counts.flow_out += u64::from(given.flow_out > 0);
+    *counts.answers.entry(given.number).or_default() += 1;
+    if given != expected {
+        counts.differences += 1;
+        println!("difference: seed {seed}, text {}", text.escape_ascii());
+        println!("reference {expected:?}");
+        println!("library   {given:?}");
+    }
+}
+
+/// The answer as the header puts it: 0 in each member that it does not name.
+fn in_numbers(text: &[u8]) -> CellsResult {
+    let mut result = CellsResult {
+        number: 0,
+        line: 0,
+        item: 0,
+        cells: 0,
+        flow_in: 0,
+        flow_out: 0,
+        volumes: [0; CELLS],
+    };
+    match cells::run_cells(text) {
+        Ok(run) => {
+            result.cells = narrow(run.volumes.len() as u64);
+            result.flow_in = run.flow_in;
+            result.flow_out = run.flow_out;
+            for (place, &volume) in result.volumes.iter_mut().zip(&run.volumes) {
+                *place = narrow(volume);
+            }
+        }
+        Err(refusal) => {
+            result.number = narrow(refusal.number);
+            result.line = narrow(refusal.line);
+            result.item = narrow(refusal.item);
+        }
+    }
+    result
+}
+
+fn narrow(number: u64) -> u32 {
+    u32::try_from(number).expect("the header has 32 bits for this number")
+}
+
+/// Mostly a good text; else one with a count or a value near a limit or past it, or with damaged bytes.
+fn draw_text(random: &mut Random) -> Vec<u8> {
+    let bad = random.pick(&[0, 0, 0, 1, 5]);
+    let cells = draw_count(random, 6, CELLS);
+    let demands = draw_count(random, 12, 120);
+    let scale = random.pick(&[10, 1000, 100_000, LARGEST]);
+    let mut text = String::new();
+    for _ in 0..cells {
+        let holding = draw_volume(random, scale, bad);
+        let start = if random.chance(100 - bad) {
+            random.between(0, holding)
+        } else {
+            holding + random.between(0, 2)
+        };
+        let flow = draw_volume(random, scale, bad);
+        let ratio = draw_ratio(random, bad);
+        text += &format!("C\t{flow}\t{holding}\t{ratio}\t{start}\n");
+    }
+    if random.chance(100 - bad) {
+        text += &format!("X\t{}\n", draw_volume(random, scale, bad));
+    }
+    for _ in 0..demands {
+        text += &format!("D\t{}\n", draw_volume(random, scale, bad));
+    }
+    if random.chance(80) {
+        text.into_bytes()
+    } else {
+        damage(random, text.as_bytes())
+    }
+}
+
+fn draw_count(random: &mut Random, most: usize, limit: usize) -> usize {
+    if random.chance(92) {
+        1 + random.index(most)
+    } else {
+        random.pick(&[0, 1, limit - 1, limit, limit + 1])
+    }
+}
+
+fn draw_volume(random: &mut Random, scale: u64, bad: u64) -> u64 {
+    if random.chance(bad) {
+        return random.pick(&[0, LARGEST, LARGEST + 1, 4_294_967_295, 4_294_967_296]);
+    }
+    random.between(0, scale)
+}
+
+fn draw_ratio(random: &mut Random, bad: u64) -> u64 {
+    if random.chance(bad) {
+        return random.pick(&[0, 1, 1000, 1001]);
+    }
+    random.between(1, 1000)
+}
+
+fn report(counts: &Counts) {
+    for (number, texts) in &counts.answers {
+        println!("answer {number}\t{texts}");
+    }
+    println!("cells run\t{}", counts.cells);
+    println!("texts with flow out\t{}", counts.flow_out);
+    println!("texts\t{}", counts.texts);
+    println!("differences\t{}", counts.differences);
+}
