@@ -2,7 +2,8 @@
  * plancheck.h: the plan check library (libplan_check_c.a).
  *
  * Decides whether a traffic-signal plan may run on a network under the Queue Transmission Model, and what travel time
- * it gives. Calls: check a network, check a plan, and the state of one link; beside them, a step of vehicles along a street.
+ * it gives. Calls: check a network, check a plan, and the state of one link; beside them, a run of a corridor in cells,
+ * and a step of vehicles along a street.
  *
  *     static uint32_t ledger[PLANCHECK_LEDGER_MAX];
  *
@@ -39,6 +40,12 @@
  *     P  mask shown by each signal, volume admitted on each link, volume let out of the network from each link,
  *        volume of each movement                                                                          K lines
  *
+ * The corridor text of plancheck_run_cells, for 1 to 64 cells and 1 to 120 steps, in this order:
+ *     C  flow limit, holding limit, wave ratio in thousandths (1 to 1000), volume at the start            a line a cell
+ *     X  exit limit                                                                                       one line
+ *     D  demand volume                                                                                    a line a step
+ * Volumes and limits are at most 2000000000.
+ *
  * LEDGER
  * The caller lends it to plancheck_check_plan, which writes into it, and to plancheck_link_state, which reads it. Row n
  * belongs to boundary n and starts at index 2 * n * L. For link i it holds two cumulative volumes:
@@ -61,7 +68,7 @@
  * It keeps nothing between calls and uses no heap, no global or static data, no file and no errno. The answer depends
  * on the arguments alone. The calls are re-entrant and may run in several threads at once, each plan check with a
  * ledger of its own. A call always returns, after work that grows linearly with the lengths of the texts and with
- * K * (R + L + M), and of a step with vehicles * red lines.
+ * K * (R + L + M), of a corridor with cells * demands, and of a step with vehicles * red lines.
  * The library needs memcpy and memset from the C library, at most.
  *
  * STACK
@@ -71,7 +78,8 @@
  * ERRORS
  * A result has number 0 (PLANCHECK_OK), or the number of the first refusal in the order of judging, with the line and
  * the item that it names, 0 where it names none. Nothing else is reported: when number is not 0, every other member but
- * line and item is 0. Numbers 1 to 7 name a line of the network text, 9 to 18 a line of the plan text.
+ * line and item is 0. Numbers 1 to 7 name a line of the network text, 9 to 18 a line of the plan text, 36 and 37 a line of
+ * the corridor text.
  * docs/REFUSALS.md says what to do about each.
  */
 #ifndef PLANCHECK_H
@@ -89,6 +97,10 @@ extern "C" {
 #define PLANCHECK_MAX_SIGNALS 8
 #define PLANCHECK_MAX_MOVEMENTS 64
 #define PLANCHECK_MAX_STEPS 120
+
+/* Limits of a corridor in cells; both are at least 1. */
+#define PLANCHECK_MAX_CELLS 64
+#define PLANCHECK_MAX_DEMANDS 120
 
 /* Limits of a step of vehicles. There may be none of either. */
 #define PLANCHECK_MAX_VEHICLES 64
@@ -176,6 +188,14 @@ enum plancheck_number {
     /* The ledger has left above arrived, or arrived above entered: it is not one of this network. */
     PLANCHECK_LEDGER_CONTRADICTION = 21,
 
+    /* Corridor text. No item. */
+
+    /* A line is missing, unfinished, surplus, has a wrong letter, a bad number or a wrong number of fields, or a value is
+       beyond its limits. */
+    PLANCHECK_CORRIDOR_FORM = 36,
+    /* The volume at the start is above the cell's holding limit; judged after 36 on its line. */
+    PLANCHECK_START_VOLUME = 37,
+
     /* Step of vehicles. No line, no item. 39 is judged before 38. */
 
     /* A place, advance, line or the spacing is not finite or beyond a million metres either way, or an advance or the
@@ -213,6 +233,17 @@ typedef struct {
     uint32_t in_transit; /* volume that has entered and has not arrived */
 } plancheck_link_result;
 
+/* Answer of plancheck_run_cells. 288 bytes. */
+typedef struct {
+    uint32_t number; /* PLANCHECK_OK: the corridor was run */
+    uint32_t line;
+    uint32_t item;
+    uint32_t cells;                        /* how many */
+    uint64_t flow_in;                      /* volume that flowed into the first cell in all steps */
+    uint64_t flow_out;                     /* volume that flowed out of the last cell in all steps */
+    uint32_t volumes[PLANCHECK_MAX_CELLS]; /* of each cell after the last step; 0 past the cells */
+} plancheck_cells_result;
+
 /*
  * Checks a network text. Refusals 1 to 7.
  *
@@ -243,6 +274,17 @@ plancheck_plan_result plancheck_check_plan(const uint8_t *network, size_t networ
  */
 plancheck_link_result plancheck_link_state(const uint8_t *network, size_t network_len, const uint32_t *ledger,
                                            size_t ledger_len, uint32_t boundary, uint32_t link);
+
+/*
+ * Runs a corridor in cells (the Cell Transmission Model), one step a demand. Refusals 36 and 37, line by line.
+ *
+ * In each step the flow into a cell is the least of the volume in the cell before (the demand for the first), its flow
+ * limit, and wave ratio * (holding limit - volume) / 1000, rounded down; out of the last cell flows the least of its
+ * volume and the exit limit. All flows use the volumes before the step. Demand that does not flow in is gone.
+ *
+ * Reads corridor[0 .. corridor_len - 1]. Writes nothing.
+ */
+plancheck_cells_result plancheck_run_cells(const uint8_t *corridor, size_t corridor_len);
 
 /*
  * Moves vehicles along a street by one step, for a time-distance display. Refusals 39 and 38.

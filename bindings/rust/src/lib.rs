@@ -3,10 +3,12 @@
 #![deny(missing_docs)]
 #![warn(clippy::pedantic)]
 
+mod cells;
 mod library;
 mod refusal;
 mod traces;
 
+pub use cells::{run_cells, CellsRun, MAX_CELLS};
 pub use refusal::{ItemKind, Refusal, Text};
 pub use traces::step_vehicles;
 

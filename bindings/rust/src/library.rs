@@ -30,6 +30,17 @@ pub struct LinkResult {
     pub in_transit: u32,
 }
 
+#[repr(C)]
+pub struct CellsResult {
+    pub number: u32,
+    pub line: u32,
+    pub item: u32,
+    pub cells: u32,
+    pub flow_in: u64,
+    pub flow_out: u64,
+    pub volumes: [u32; 64],
+}
+
 extern "C" {
     pub fn plancheck_check_network(network: *const u8, network_len: usize) -> NetworkResult;
 
@@ -50,6 +61,8 @@ extern "C" {
         boundary: u32,
         link: u32,
     ) -> LinkResult;
+
+    pub fn plancheck_run_cells(corridor: *const u8, corridor_len: usize) -> CellsResult;
 
     pub fn plancheck_step_vehicles(
         places: *mut f64,

@@ -5,7 +5,7 @@ use core::fmt;
 /// Why a call declined: the number of the refusal, and the line and the item that it names.
 ///
 /// Lines and items are counted from 1; 0 where none is named. Numbers 1 to 7 name a line of the network text, 9 to 18
-/// a line of the plan text, the others none. What the item is depends on the number: see [`Refusal::item_kind`].
+/// a line of the plan text, 36 and 37 a line of the corridor text, the others none. What the item is depends on the number: see [`Refusal::item_kind`].
 ///
 /// `Display` says it in words:
 ///
@@ -22,7 +22,7 @@ use core::fmt;
 pub struct Refusal {
     /// As in the table of refusals.
     pub number: u32,
-    /// The line of the network or plan text; 0 where none is named.
+    /// The line of the text; 0 where none is named.
     pub line: u32,
     /// The signal, link, movement or step; 0 where none is named.
     pub item: u32,
@@ -35,6 +35,8 @@ pub enum Text {
     Network,
     /// The plan text.
     Plan,
+    /// The corridor text of a run of cells.
+    Corridor,
 }
 
 /// What a refusal's item counts.
@@ -59,6 +61,7 @@ impl Refusal {
         match self.number {
             1..=7 => Some(Text::Network),
             9..=18 => Some(Text::Plan),
+            36 | 37 => Some(Text::Corridor),
             _ => None,
         }
     }
@@ -106,6 +109,11 @@ impl Refusal {
             19 => "there is no such boundary",
             20 => "there is no such link",
             21 => "the ledger contradicts itself or the network",
+            36 => {
+                "a line is missing, unfinished or surplus, has a wrong letter, a bad number or a wrong number of fields, \
+                 or is beyond its limits"
+            }
+            37 => "the start is above the cell's holding limit",
             38 => "a place, advance, line or spacing is outside its limits",
             39 => "there are too many vehicles or lines, or not one advance for each vehicle",
             _ => "the number is unknown",
@@ -118,6 +126,7 @@ impl fmt::Display for Text {
         formatter.write_str(match self {
             Text::Network => "network",
             Text::Plan => "plan",
+            Text::Corridor => "corridor",
         })
     }
 }
