@@ -1,0 +1,49 @@
+use Rattle.listing_lines.proofs.Turns.{in-phase, in-bad, in-admitted, in-let-out, in-moved, in-none}
+use borrow.Author.Needs.{needs}
+use Rattle.listing_lines.proofs.variable_in.Statement.{statement}
+use Rattle.listing_lines.proofs.variable_in.Tie as tie
+
+phase-in-requires : tie.Need-phase-in-requires
+phase-in-requires c κs = search needs
+
+returns : tie.Need-returns
+returns c = search in-phase
+
+pair-of-requires : tie.Need-pair-of-requires
+pair-of-requires c κs = search needs
+
+enum-known-first : tie.Need-enum-known-first
+enum-known-first c = search needs
+
+enum-told : tie.Need-enum-told
+enum-told c = search needs
+
+returns-2 : tie.Need-returns-2
+returns-2 c = search in-bad
+
+returns-3 : tie.Need-returns-3
+returns-3 c = search in-admitted
+
+returns-4 : tie.Need-returns-4
+returns-4 c = search in-let-out
+
+returns-5 : tie.Need-returns-5
+returns-5 c = search in-moved
+
+returns-6 : tie.Need-returns-6
+returns-6 c = search in-none
+
+pub variable-in-spec : {M : Type 1} → statement M
+variable-in-spec =
+    tie.close
+    (tie.spec
+    phase-in-requires
+    returns
+    pair-of-requires
+    enum-known-first
+    enum-told
+    returns-2
+    returns-3
+    returns-4
+    returns-5
+    returns-6)
