@@ -1,3 +1,4 @@
+-- `listing_lines::digits_of` meets its contract. Assumes nothing.
 use Prim.Native.Nat.{_-_}
 use lib.ListN.{length}
 use Rattle.listing_lines.proofs.Laws.{Said, digits-none, digits-long, said-none, said-not, said-small, digit-low, said-more, said-all}

@@ -1,3 +1,4 @@
+-- `listing_lines::find` meets its contract. Assumes nothing.
 use Prim.Native.Nat.{_-_}
 use lib.ListN.{length}
 use Rattle.listing_lines.proofs.Laws.{Finding, find-none, find-hit, find-more, find-past}

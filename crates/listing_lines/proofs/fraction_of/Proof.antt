@@ -1,3 +1,4 @@
+-- `listing_lines::fraction_of` meets its contract. Assumes nothing.
 use native.Mathlib.Omega.{arith}
 use Rattle.listing_lines.proofs.Turns.{fraction-none, fraction-is, fraction-fits}
 use borrow.Author.Needs.{needs}

@@ -1,3 +1,4 @@
+-- `listing_lines::is_digit` meets its contract. Assumes nothing.
 use Rattle.records.specs.Field.{digit}
 use borrow.Author.Tests.{le-leb, lt-leb}
 use Rattle.listing_lines.proofs.is_digit.Statement.{statement}

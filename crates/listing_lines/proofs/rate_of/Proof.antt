@@ -1,3 +1,4 @@
+-- `listing_lines::rate_of` meets its contract. Assumes nothing.
 use native.Mathlib.Omega.{arith}
 use Rattle.listing_lines.proofs.Turns.{fraction-small, ten-small, part-size, rate-bad, rate-whole, rate-part, rate-part-bad}
 use borrow.Author.Needs.{needs}

@@ -1,3 +1,4 @@
+-- `listing_lines::scale` meets its contract. Assumes nothing.
 use native.Mathlib.Omega.{arith}
 use Rattle.listing_lines.proofs.Laws.{scale-at, scale-past}
 use Rattle.listing_lines.proofs.scale.Statement.{statement}

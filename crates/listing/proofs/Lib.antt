@@ -1,0 +1,13 @@
+mod Bits
+mod Turns
+mod Places
+mod Numbers
+mod Writing
+mod Judge
+mod Stored
+mod Reading
+mod Whole
+mod ReadBack
+pub mod Theorem
+mod Call
+mod Examples

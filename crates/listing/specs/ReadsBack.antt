@@ -1,0 +1,53 @@
+-- What the call promises, and the theorem of the request: reading the written plan gives just the listing's numbers. Assumes nothing.
+use Prim.Native.Nat.{ℕ, _+_, _*_, _-_, _/_, _%_, _^_, _≤_, _<_}
+use mathlib.Core.Path.{_≡_}
+use mathlib.Core.Bool.{true}
+use mathlib.Core.List.{List}
+use lib.ListN.{length, take}
+use Rattle.search.specs.Checks.{verdict}
+use Rattle.records.specs.Lines.{Line, lines}
+use Rattle.model.specs.Network.{linkCount, signalCount, movementCount, stepCount, signal, stepLength}
+use Rattle.model.specs.Flows.{shownMask, admitted, letOut, moved}
+use Rattle.model.specs.Table.{letterP, isForm}
+use Rattle.listing_lines.specs.declared.Variable.{Variable}
+use Rattle.listing_lines.specs.declared.Variable.the-variants.{Shown, Admitted, LetOut, Moved}
+use Rattle.listing_lines.specs.declared.Entry.{Entry}
+use Rattle.listing_lines.specs.declared.Entry.the-variants.{Sets}
+use Rattle.listing.specs.declared.ListingAnswer.{ListingAnswer}
+use Rattle.listing.specs.declared.ListingAnswer.the-variants.{Written}
+use Rattle.listing.specs.Listing.{one, hasVariable, volume, lineAt, writeChecks, writtenAnswer, writtenBytes}
+
+-- bit k of a number
+abbrev pub bitOf : ℕ → ℕ → ℕ
+bitOf mask k = mask / 2 ^ k % 2
+
+-- the number that a plan has of a variable: the phase's bit of the signal's mask, or the volume
+unfoldable pub planned : List Line → List Line → Variable → ℕ
+planned network plan (Shown r k n) = bitOf (shownMask network plan (n - 1) (r - 1)) (k - 1)
+planned network plan (Admitted i n) = admitted network plan (n - 1) (i - 1)
+planned network plan (LetOut i n) = letOut network plan (n - 1) (i - 1)
+planned network plan (Moved j n) = moved network plan (n - 1) (j - 1)
+
+-- the number that a line gives its variable: 0 or 1, or the rate over the step
+unfoldable pub stated : List Line → Variable → ℕ → ℕ
+stated network (Shown r k n) millionths = millionths / one
+stated network (Admitted i n) millionths = volume millionths (stepLength network (n - 1))
+stated network (LetOut i n) millionths = volume millionths (stepLength network (n - 1))
+stated network (Moved j n) millionths = volume millionths (stepLength network (n - 1))
+
+pub record ReadsBack (network : List Line) (listing : List Entry) (plan : List Line) : Type 0 where
+  -- one line for each step, each in the form of a plan's line: refusal 9 never arises of it
+  pub count : length plan ≡ stepCount network
+  pub form : (n : ℕ) → n < stepCount network → isForm plan n letterP (signalCount network + (2 * linkCount network + movementCount network)) ≡ true
+  -- what a line of the listing names has the number that it says
+  pub named : (i : ℕ) → i < length listing → (v : Variable) (millionths : ℕ) → lineAt listing i ≡ Sets v millionths → planned network plan v ≡ stated network v millionths
+  -- every other variable is 0
+  pub others : (v : Variable) → hasVariable network v ≡ true → ((i : ℕ) → i < length listing → (millionths : ℕ) → lineAt listing i ≡ Sets v millionths → ⊥) → planned network plan v ≡ 0
+  -- and so is every bit past the phases of a signal
+  pub past : (n r k : ℕ) → n < stepCount network → r < signalCount network → signal network r .phases ≤ k → bitOf (shownMask network plan n r) k ≡ 0
+
+-- the answer and the whole buffer are those of the definitions, and a plan that was written reads back
+pub record PlanGot (network : List Line) (listing : List Entry) (old : List ℕ) (answer : ListingAnswer) (new : List ℕ) : Type 0 where
+  pub told : answer ≡ writtenAnswer network listing (verdict (writeChecks network listing (length old)))
+  pub holds : new ≡ writtenBytes network listing (verdict (writeChecks network listing (length old))) old
+  pub reads-back : (end : ℕ) → answer ≡ Written end → ReadsBack network listing (lines (take end new))
