@@ -35,7 +35,7 @@ use Rattle.listing.specs.declared.ListingAnswer.{ListingAnswer}
 use Rattle.listing.specs.declared.ListingAnswer.the-variants.{Written, Refused}
 use Rattle.listing.specs.Listing.{entryChecksBy, listingChecks, planText, writeChecks, writtenAnswer, writtenBytes}
 use Rattle.listing.specs.ReadsBack.{PlanGot}
-use Rattle.listing.specs.Tables.{hasIn, secondsIn, TablesAsked, ListingGot, ListingAsked}
+use Rattle.listing.specs.Tables.{hasIn, secondsIn, TablesAsked, ListingGot, ListingAsked, numberTableSize, seenSize}
 use Rattle.listing.specs.Numbers.{textIn, Kept, LinesAsked}
 use Rattle.listing.specs.Writing.{answerOf, bytesOf, Told, roomVerdict, StoredGot, WriteGot, NetworkAsked, ListingWritten}
 use Rattle.listing.proofs.Theorem.{few-phases, reads-back}
@@ -72,7 +72,7 @@ zero-at zero k = refl
 zero-at (suc n) zero = refl
 zero-at (suc n) (suc k) = zero-at n k
 
-pub empty-asked : (n k : ℕ) (counts : Counts) (phases times : List ℕ) → n ≡ 14_400 → k ≡ 2_640 → TablesAsked counts phases times → ListingAsked counts phases times (zeroes n) (zeroes k)
+pub empty-asked : (n k : ℕ) (counts : Counts) (phases times : List ℕ) → n ≡ numberTableSize → k ≡ seenSize → TablesAsked counts phases times → ListingAsked counts phases times (zeroes n) (zeroes k)
 empty-asked n k counts phases times e f t =
     record {
       tables = t;

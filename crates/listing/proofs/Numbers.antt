@@ -13,6 +13,9 @@ use Rattle.model.specs.Sum.{list}
 use Rattle.tables.specs.declared.Counts.{Counts}
 use Rattle.tables.specs.Places.{planWidth}
 use Rattle.listing.specs.Numbers.{columnIn, numbersIn, ColumnAsked, FillAsked}
+use Rattle.model.specs.Network.{maxSignals, maxLinks, maxMovements}
+use Rattle.tables.specs.Fields.{lineSize}
+use Rattle.listing.specs.Tables.{numberTableSize}
 
 -- ---- the column of number k
 module _ (counts : Counts) (k : ℕ) where
@@ -35,7 +38,7 @@ module _ (counts : Counts) (k : ℕ) where
       column-moved m = sym (rw (le-ltb k (counts .signals) h, le-ltb (k - counts .signals) (counts .links) l, le-ltb (k - counts .signals - counts .links) (counts .links) m))
 
 -- it is one of the 120 of a step
-pub column-few : (counts : Counts) (k c : ℕ) → c ≡ columnIn counts k → counts .signals ≤ 8 → counts .links ≤ 24 → counts .movements ≤ 64 → k < planWidth counts → c < 120
+pub column-few : (counts : Counts) (k c : ℕ) → c ≡ columnIn counts k → counts .signals ≤ maxSignals → counts .links ≤ maxLinks → counts .movements ≤ maxMovements → k < planWidth counts → c < lineSize
 column-few counts k c e a b m h = elim (decLe (counts .signals) k) [
   | no x ↦ omega (arith, column-mask counts k (omega arith))
   | yes x ↦ elim (decLe (counts .links) (k - counts .signals)) [
@@ -47,7 +50,7 @@ column-few counts k c e a b m h = elim (decLe (counts .signals) k) [
   ]
 ]
 
-pub number-inside : (numbers : List ℕ) (counts : Counts) (n : ℕ) (fields : List ℕ) → FillAsked numbers counts n fields → (w k c : ℕ) → w ≡ planWidth counts → k < w → c ≡ columnIn counts k → 120 * n + c < 14_400
+pub number-inside : (numbers : List ℕ) (counts : Counts) (n : ℕ) (fields : List ℕ) → FillAsked numbers counts n fields → (w k c : ℕ) → w ≡ planWidth counts → k < w → c ≡ columnIn counts k → lineSize * n + c < numberTableSize
 number-inside numbers counts n fields a w k c q h e =
     omega (arith, column-few counts k c e (a .kept .few .signals) (a .kept .few .links) (a .kept .few .movements) (omega arith), a .step, a .kept .few .steps)
 
@@ -67,7 +70,7 @@ over-next k f old h =
 pub record Filling (numbers : List ℕ) (counts : Counts) (n : ℕ) (old fields : List ℕ) (k : ℕ) : Type 0 where
   pub few : k ≤ planWidth counts
   pub long : length fields ≡ length old
-  pub is : fields ≡ over (list k (λ j. getD numbers (120 * n + columnIn counts j) 0)) old
+  pub is : fields ≡ over (list k (λ j. getD numbers (lineSize * n + columnIn counts j) 0)) old
   pub room : planWidth counts ≤ length old
 
 module _ (numbers : List ℕ) (counts : Counts) (n : ℕ) (old : List ℕ) where
@@ -80,12 +83,12 @@ module _ (numbers : List ℕ) (counts : Counts) (n : ℕ) (old : List ℕ) where
     pub filling-asked : FillAsked numbers counts n old → k < w → ColumnAsked counts k
     filling-asked a h = record { few = a .kept .few; inside = omega arith }
 
-    pub filling-more : (c y : ℕ) → k < w → c ≡ columnIn counts k → y ≡ getD numbers (120 * n + c) 0 → Filling numbers counts n old (set fields k y) (k + 1)
+    pub filling-more : (c y : ℕ) → k < w → c ≡ columnIn counts k → y ≡ getD numbers (lineSize * n + c) 0 → Filling numbers counts n old (set fields k y) (k + 1)
     filling-more c y h e q =
         record {
           few = omega arith;
           long = length-set fields k y ∙ f .long;
-          is = ap₂ (λ (z : List ℕ) (w : ℕ). set z k w) (f .is) (q ∙ ap (λ x. getD numbers (120 * n + x) 0) e) ∙ over-next k (λ j. getD numbers (120 * n + columnIn counts j) 0) old (omega (arith, f .room));
+          is = ap₂ (λ (z : List ℕ) (w : ℕ). set z k w) (f .is) (q ∙ ap (λ x. getD numbers (lineSize * n + x) 0) e) ∙ over-next k (λ j. getD numbers (lineSize * n + columnIn counts j) 0) old (omega (arith, f .room));
           room = f .room;
         }
 

@@ -13,8 +13,10 @@ use Rattle.model.proofs.Tests.{and-left, and-right}
 use Rattle.listing_lines.specs.declared.Variable.{Variable}
 use Rattle.listing_lines.specs.declared.Variable.the-variants.{Shown, Admitted, LetOut, Moved}
 use Rattle.listing.specs.Listing.{same, stepOf}
-use Rattle.listing.specs.Tables.{bitColumn, column, bitPlace, place, Placed, hasIn, hasVolume, PlacesAsked}
+use Rattle.listing.specs.Tables.{bitColumn, column, bitPlace, place, Placed, hasIn, hasVolume, PlacesAsked, numberTableSize, bits, stepBits}
 use Rattle.listing.proofs.Turns.{within-parts, phase-parts}
+use Rattle.tables.specs.Fields.{lineSize}
+use Rattle.model.specs.Network.{maxSteps, maxSignals}
 
 -- ---- the same variable
 pub same-is : (v w : Variable) → same v w ≡ true → v ≡ w
@@ -64,14 +66,14 @@ steps-same c a b x y h k e = elim (decLe a b) [
   | no l ↦ let t : suc b ≤ a = omega arith in absurd (omega (arith, mul-le-mul-left c t))
 ]
 
-bit-column : (v : Variable) → Placed v → (1 ≤ stepOf v) × (bitColumn v < 176)
+bit-column : (v : Variable) → Placed v → (1 ≤ stepOf v) × (bitColumn v < stepBits)
 unfolding bitColumn stepOf
 bit-column (Shown r k n) p = (p .0, omega arith)
 bit-column (Admitted i n) p = (p .0, omega arith)
 bit-column (LetOut i n) p = (p .0, omega arith)
 bit-column (Moved j n) p = (p .0, omega arith)
 
-number-column : (v : Variable) → Placed v → (1 ≤ stepOf v) × (column v < 120)
+number-column : (v : Variable) → Placed v → (1 ≤ stepOf v) × (column v < lineSize)
 unfolding column stepOf
 number-column (Shown r k n) p = (p .0, omega arith)
 number-column (Admitted i n) p = (p .0, omega arith)
@@ -107,7 +109,7 @@ unfolding bitPlace
 bit-same v w p q e =
     let a = bit-column v p in
     let b = bit-column w q in
-    let t : stepOf v - 1 ≡ stepOf w - 1 = steps-same 176 (stepOf v - 1) (stepOf w - 1) (bitColumn v) (bitColumn w) (a .1) (b .1) e in
+    let t : stepOf v - 1 ≡ stepOf w - 1 = steps-same stepBits (stepOf v - 1) (stepOf w - 1) (bitColumn v) (bitColumn w) (a .1) (b .1) e in
     bit-columns v w p q (omega arith) (omega arith)
 
 -- a volume has its number for itself
@@ -135,26 +137,26 @@ unfolding place
 volume-same v w p q h e =
     let a = number-column v p in
     let b = number-column w q in
-    let t : stepOf v - 1 ≡ stepOf w - 1 = steps-same 120 (stepOf v - 1) (stepOf w - 1) (column v) (column w) (a .1) (b .1) e in
+    let t : stepOf v - 1 ≡ stepOf w - 1 = steps-same lineSize (stepOf v - 1) (stepOf w - 1) (column v) (column w) (a .1) (b .1) e in
     volume-columns v w p q h (omega arith) (omega arith)
 
 -- the number of a mask is that of the phases of its signal
-pub mask-only : (w : Variable) (n r : ℕ) → Placed w → n < 120 → r < 8 → 120 * n + r ≡ place w → (k : ℕ) × (k < 8) × (w ≡ Shown (suc r) (suc k) (suc n))
+pub mask-only : (w : Variable) (n r : ℕ) → Placed w → n < maxSteps → r < maxSignals → lineSize * n + r ≡ place w → (k : ℕ) × (k < 8) × (w ≡ Shown (suc r) (suc k) (suc n))
 unfolding place column stepOf
 mask-only (Shown r′ k′ n′) n r q l m e =
-    let t : n ≡ n′ - 1 = steps-same 120 n (n′ - 1) r (r′ - 1) (omega arith) (omega arith) e in
+    let t : n ≡ n′ - 1 = steps-same lineSize n (n′ - 1) r (r′ - 1) (omega arith) (omega arith) e in
     let x : r′ ≡ suc r = omega arith in
     let y : k′ ≡ suc (k′ - 1) = omega arith in
     let z : n′ ≡ suc n = omega arith in
     (k′ - 1, omega arith, cc)
 mask-only (Admitted i′ n′) n r q l m e =
-    let t : n ≡ n′ - 1 = steps-same 120 n (n′ - 1) r (7 + i′) (omega arith) (omega arith) e in
+    let t : n ≡ n′ - 1 = steps-same lineSize n (n′ - 1) r (7 + i′) (omega arith) (omega arith) e in
     absurd (omega arith)
 mask-only (LetOut i′ n′) n r q l m e =
-    let t : n ≡ n′ - 1 = steps-same 120 n (n′ - 1) r (31 + i′) (omega arith) (omega arith) e in
+    let t : n ≡ n′ - 1 = steps-same lineSize n (n′ - 1) r (31 + i′) (omega arith) (omega arith) e in
     absurd (omega arith)
 mask-only (Moved j′ n′) n r q l m e =
-    let t : n ≡ n′ - 1 = steps-same 120 n (n′ - 1) r (55 + j′) (omega arith) (omega arith) e in
+    let t : n ≡ n′ - 1 = steps-same lineSize n (n′ - 1) r (55 + j′) (omega arith) (omega arith) e in
     absurd (omega arith)
 
 -- ---- what the network has is placed
@@ -186,14 +188,14 @@ module _ (counts : Counts) (phases : List ℕ) (a : PlacesAsked counts phases) w
   has-step (LetOut i n) h = within-parts n (counts .steps) (and-right _ _ h)
   has-step (Moved j n) h = within-parts n (counts .steps) (and-right _ _ h)
 
-pub bit-inside : (v : Variable) → Placed v → bitPlace v < 21_120
+pub bit-inside : (v : Variable) → Placed v → bitPlace v < bits
 unfolding bitPlace bitColumn stepOf
 bit-inside (Shown r k n) p = omega arith
 bit-inside (Admitted i n) p = omega arith
 bit-inside (LetOut i n) p = omega arith
 bit-inside (Moved j n) p = omega arith
 
-pub place-inside : (v : Variable) → Placed v → place v < 14_400
+pub place-inside : (v : Variable) → Placed v → place v < numberTableSize
 unfolding place column stepOf
 place-inside (Shown r k n) p = omega arith
 place-inside (Admitted i n) p = omega arith

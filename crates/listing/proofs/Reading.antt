@@ -29,7 +29,7 @@ use Rattle.listing.specs.declared.Number.the-variants.{Whole, NoNumber}
 use Rattle.listing.specs.declared.Outcome.{Outcome}
 use Rattle.listing.specs.declared.Outcome.the-variants.{Store, Refuse}
 use Rattle.listing.specs.Listing.{stepOf, validValue, volume, isVolume, fits, lineAt, setBefore, formedBy, fitsBy, entryChecksBy}
-use Rattle.listing.specs.Tables.{bitPlace, place, Placed, hasIn, secondsIn, bitAt, withBit, volumeIn, numberIn, stored, outcome, bits, bit, Stored, TablesAsked, JudgeAsked, ListingAsked, ListingGot}
+use Rattle.listing.specs.Tables.{bitPlace, place, Placed, hasIn, secondsIn, bitAt, withBit, volumeIn, numberIn, stored, outcome, bits, bit, Stored, TablesAsked, JudgeAsked, ListingAsked, ListingGot, seenSize, numberTableSize}
 use Rattle.listing.proofs.Bits.{bits-few}
 use Rattle.listing.proofs.Places.{has-placed, bit-inside, place-inside}
 use Rattle.listing.proofs.Stored.{stored-none, stored-more, number-fits}
@@ -133,8 +133,8 @@ pub record Reading (counts : Counts) (phases times text : List ℕ) (numbers see
   pub starts : EntryStarts text place i
   pub left : verdict (each (length (entries text)) (entryChecksBy (hasIn counts phases) (secondsIn times) (entries text))) ≡ firstFrom (lineVerdict counts phases times text) (length (entries text) - i) i
   pub few : i ≤ length (entries text)
-  pub number-length : length numbers ≡ 14_400
-  pub seen-length : length seen ≡ 2_640
+  pub number-length : length numbers ≡ numberTableSize
+  pub seen-length : length seen ≡ seenSize
   pub line : i ≤ bits
 
 abbrev pub GotListing : Counts → List ℕ → List ℕ → List ℕ → Verdict → List ℕ → List ℕ → Type 0
@@ -232,8 +232,8 @@ module _ (v : Variable) (m : ℕ) (counts : Counts) (phases times seen : List �
   store-parts : Kept (hasIn counts phases) (secondsIn times) seen v m b k x
   store-parts = kept-parts (hasIn counts phases) (secondsIn times) seen v m b k x (sym f ∙ g)
 
-  pub store-place : k < 14_400
+  pub store-place : k < numberTableSize
   store-place = omega (arith, place-inside v (has-placed counts phases (a .places) v (store-parts .known)), store-parts .at-place)
 
-  pub store-bit : length seen ≡ 2_640 → (b / 8 < length seen) × (bitAt seen b ≡ 0)
+  pub store-bit : length seen ≡ seenSize → (b / 8 < length seen) × (bitAt seen b ≡ 0)
   store-bit l = (omega (arith, bit-inside v (has-placed counts phases (a .places) v (store-parts .known)), store-parts .at-bit), store-parts .free)

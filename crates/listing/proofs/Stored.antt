@@ -22,10 +22,12 @@ use Rattle.listing_lines.specs.declared.Entry.{Entry}
 use Rattle.listing_lines.specs.declared.Entry.the-variants.{Sets}
 use Rattle.listing.specs.declared.Number.the-variants.{Whole, NoNumber}
 use Rattle.listing.specs.Listing.{same, sets, millionthsOf, stepOf, one, volume, isVolume, lineAt, setBefore, valueBefore}
-use Rattle.listing.specs.Tables.{bitPlace, place, column, Placed, bitAt, withBit, phaseBit, volumeIn, numberIn, bits, bit, hasVolume, maskBefore, Stored}
+use Rattle.listing.specs.Tables.{bitPlace, place, column, Placed, bitAt, withBit, phaseBit, volumeIn, numberIn, bits, bit, hasVolume, maskBefore, Stored, numberTableSize, seenSize}
 use Rattle.listing.proofs.Bits.{bit-set, bit-other, bits-below, sum-change}
 use Rattle.listing.proofs.Turns.{within-is}
 use Rattle.listing.proofs.Places.{same-is, same-self, bit-same, volume-same, mask-only, bit-inside, place-inside}
+use Rattle.tables.specs.Fields.{lineSize}
+use Rattle.model.specs.Network.{maxSteps, maxSignals}
 
 -- ---- one line more
 or-true : (t : Bool) → t or true ≡ true
@@ -117,7 +119,7 @@ bit-true : (t : Bool) → t ≡ true → bit t ≡ 1
 unfolding bit
 bit-true t e = rw e
 
-shown-place : (n r j : ℕ) → place (Shown (suc r) (suc j) (suc n)) ≡ 120 * n + r
+shown-place : (n r j : ℕ) → place (Shown (suc r) (suc j) (suc n)) ≡ lineSize * n + r
 unfolding place column stepOf
 shown-place n r j = omega arith
 
@@ -156,13 +158,13 @@ no-volume listing v s = sym (volume-none s)
 
 -- ---- nothing, and one line more
 module _ (seconds : ℕ → ℕ) (listing : List Entry) where
-  pub stored-none : (numbers seen : List ℕ) → length numbers ≡ 14_400 → length seen ≡ 2_640 → ((k : ℕ) → getD numbers k 0 ≡ 0) → ((k : ℕ) → getD seen k 0 ≡ 0) → Stored seconds listing 0 numbers seen
+  pub stored-none : (numbers seen : List ℕ) → length numbers ≡ numberTableSize → length seen ≡ seenSize → ((k : ℕ) → getD numbers k 0 ≡ 0) → ((k : ℕ) → getD seen k 0 ≡ 0) → Stored seconds listing 0 numbers seen
   stored-none numbers seen a b n z =
       record {
         number-room = a;
         seen-room = b;
         marks = λ v p. no-bit (bitPlace v) ∙ none-set listing v;
-        masks = λ m r l k. n (120 * m + r) ∙ no-mask listing m r;
+        masks = λ m r l k. n (lineSize * m + r) ∙ no-mask listing m r;
         volumes = λ v p h. n (place v) ∙ no-volume listing v (seconds (stepOf v - 1));
         counted = omega (arith, sum-bound bits 0 (bitAt seen) (λ k l. omega (arith, no-bit k)));
       }
@@ -226,14 +228,14 @@ module _ (seconds : ℕ → ℕ) (listing : List Entry) where
         (omega arith)
         (λ t h d. ap (λ a. only (eqb a one) (2 ^ t)) (value-kept listing i w m e (Shown (suc r) (suc t) (suc n)) (λ vw. d (phase-same (suc r) t j (suc n) (vw ∙ q)))))
 
-    masks-more : (n r : ℕ) → n < 120 → r < 8 → getD (set numbers k (getD numbers k 0 + x)) (120 * n + r) 0 ≡ maskBefore listing (i + 1) n r
-    masks-more n r l h = elim (ℕ-discrete (120 * n + r) k) [
+    masks-more : (n r : ℕ) → n < maxSteps → r < maxSignals → getD (set numbers k (getD numbers k 0 + x)) (lineSize * n + r) 0 ≡ maskBefore listing (i + 1) n r
+    masks-more n r l h = elim (ℕ-discrete (lineSize * n + r) k) [
       | yes z ↦
           let o = mask-only w n r p l h (z ∙ kq) in
           ap (λ t. getD (set numbers k (getD numbers k 0 + x)) t 0) z ∙ added
           ∙ ap (λ t. t + x) (ap (λ t. getD numbers t 0) (sym z) ∙ s .masks n r l h) ∙ sym (mask-grown n r (o .0) (o .1) (o .2))
       | no d ↦
-          getD-set-other numbers k (120 * n + r) (getD numbers k 0 + x) 0 d ∙ s .masks n r l h
+          getD-set-other numbers k (lineSize * n + r) (getD numbers k 0 + x) 0 d ∙ s .masks n r l h
           ∙ sym (mask-same listing i w m e n r (λ j vw. d (sym (shown-place n r j) ∙ ap place vw ∙ sym kq)))
     ]
 

@@ -20,7 +20,8 @@ use Rattle.listing.specs.declared.Place.the-variants.{At, NoPlace}
 use Rattle.listing.specs.declared.Number.{Number}
 use Rattle.listing.specs.declared.Number.the-variants.{Whole, NoNumber}
 use Rattle.listing.specs.Listing.{stepOf, validValue, volume, isVolume}
-use Rattle.listing.specs.Tables.{bitColumn, column, bitPlace, place, hasPhaseIn, hasIn, placeIn, itemPlaceIn, phasePlaceIn, placeOf, phaseBit, volumeIn, numberIn, Power, PlacesAsked, PlaceAsked, ItemAsked}
+use Rattle.listing.specs.Tables.{bitColumn, column, bitPlace, place, hasPhaseIn, hasIn, placeIn, itemPlaceIn, phasePlaceIn, placeOf, phaseBit, volumeIn, numberIn, Power, PlacesAsked, PlaceAsked, ItemAsked, stepBits}
+use Rattle.tables.specs.Fields.{lineSize}
 
 -- ---- what the network has
 pub within-parts : (x high : ℕ) → within 1 x high ≡ true → (1 ≤ x) × (x ≤ high)
@@ -57,7 +58,7 @@ module _ (steps step bit number : ℕ) (r : Bool) (e : r ≡ within 1 step steps
   unfolding placeIn
   place-none t = sym (rw (← e, not-true r t))
 
-  pub place-at : not r ≡ false → At (step - 1) (176 * (step - 1) + bit) (120 * (step - 1) + number) ≡ placeIn steps step bit number
+  pub place-at : not r ≡ false → At (step - 1) (stepBits * (step - 1) + bit) (lineSize * (step - 1) + number) ≡ placeIn steps step bit number
   unfolding placeIn
   place-at t = sym (rw (← e, not-false r t))
 

@@ -29,6 +29,7 @@ use Rattle.listing.specs.Tables.{column, place, hasPhaseIn, hasIn, secon
 use Rattle.listing.specs.Numbers.{columnIn, numbersIn, textIn}
 use Rattle.listing.proofs.Turns.{within-parts}
 use Rattle.listing.proofs.Numbers.{column-mask, column-admitted, column-let-out, column-moved}
+use Rattle.tables.specs.Fields.{lineSize}
 
 -- ---- lists by index
 list-ext : (n : ℕ) (f g : ℕ → ℕ) → ((k : ℕ) → k < n → f k ≡ g k) → list n f ≡ list n g
@@ -107,10 +108,10 @@ module _ (network : List Line) (counts : Counts) (phases times : List ℕ) (c : 
       checks-same (hasIn counts phases) (hasVariable network) (secondsIn times) (stepLength network) listing has-same (λ v h. seconds-same (stepOf v - 1) (omega (arith, step-of v (sym (has-same v) ∙ h))))
 
   module _ (listing : List Entry) (numbers seen : List ℕ) (st : Stored (secondsIn times) listing (length listing) numbers seen) (n : ℕ) (h : n < stepCount network) where
-    mask-same : (r : ℕ) → r < signalCount network → getD numbers (120 * n + columnIn counts r) 0 ≡ maskOf network listing n r
+    mask-same : (r : ℕ) → r < signalCount network → getD numbers (lineSize * n + columnIn counts r) 0 ≡ maskOf network listing n r
     unfolding maskOf maskBefore value
     mask-same r a =
-        ap (λ (x : ℕ). getD numbers (120 * n + x) 0) (sym (column-mask counts r (omega (arith, c .signals)))) ∙ st .masks n r (omega (arith, c .few .steps)) (omega (arith, c .few .signals))
+        ap (λ (x : ℕ). getD numbers (lineSize * n + x) 0) (sym (column-mask counts r (omega (arith, c .signals)))) ∙ st .masks n r (omega (arith, c .few .steps)) (omega (arith, c .few .signals))
 
     volume-here : (v : Variable) (x : ℕ) → Placed v → hasVolume v ≡ true → stepOf v ≡ suc n → x ≡ place v → getD numbers x 0 ≡ volumeOf network listing n v
     unfolding volumeOf value
@@ -118,20 +119,20 @@ module _ (network : List Line) (counts : Counts) (phases times : List ℕ) (c : 
         let z : stepOf v - 1 ≡ n = omega arith in
         ap (λ (y : ℕ). getD numbers y 0) e ∙ st .volumes v q a ∙ ap (volume (valueBefore listing (length listing) v)) (ap (secondsIn times) z ∙ seconds-same n h)
 
-    admitted-same : (i : ℕ) → i < linkCount network → getD numbers (120 * n + columnIn counts (signalCount network + i)) 0 ≡ volumeOf network listing n (Admitted (suc i) (suc n))
+    admitted-same : (i : ℕ) → i < linkCount network → getD numbers (lineSize * n + columnIn counts (signalCount network + i)) 0 ≡ volumeOf network listing n (Admitted (suc i) (suc n))
     unfolding hasVolume stepOf place column
     admitted-same i l =
         volume-here (Admitted (suc i) (suc n)) _ (omega arith, omega (arith, c .few .steps), omega arith, omega (arith, c .few .links)) refl refl
         (omega (arith, column-admitted counts (signalCount network + i) (omega (arith, c .signals)) (omega (arith, c .signals, c .links)), c .signals))
 
-    let-out-same : (i : ℕ) → i < linkCount network → getD numbers (120 * n + columnIn counts (signalCount network + (linkCount network + i))) 0 ≡ volumeOf network listing n (LetOut (suc i) (suc n))
+    let-out-same : (i : ℕ) → i < linkCount network → getD numbers (lineSize * n + columnIn counts (signalCount network + (linkCount network + i))) 0 ≡ volumeOf network listing n (LetOut (suc i) (suc n))
     unfolding hasVolume stepOf place column
     let-out-same i l =
         volume-here (LetOut (suc i) (suc n)) _ (omega arith, omega (arith, c .few .steps), omega arith, omega (arith, c .few .links)) refl refl
         (omega (arith, column-let-out counts (signalCount network + (linkCount network + i)) (omega (arith, c .signals)) (omega (arith, c .signals, c .links)) (omega (arith, c .signals, c .links)), c .signals, c .links))
 
     moved-same : (j : ℕ) → j < movementCount network
-        → getD numbers (120 * n + columnIn counts (signalCount network + (linkCount network + (linkCount network + j)))) 0 ≡ volumeOf network listing n (Moved (suc j) (suc n))
+        → getD numbers (lineSize * n + columnIn counts (signalCount network + (linkCount network + (linkCount network + j)))) 0 ≡ volumeOf network listing n (Moved (suc j) (suc n))
     unfolding hasVolume stepOf place column
     moved-same j l =
         volume-here (Moved (suc j) (suc n)) _ (omega arith, omega (arith, c .few .steps), omega arith, omega (arith, c .few .movements)) refl refl
@@ -140,7 +141,7 @@ module _ (network : List Line) (counts : Counts) (phases times : List ℕ) (c : 
     numbers-same : numbersIn numbers counts n ≡ planNumbers network listing n
     unfolding numbersIn planNumbers
     numbers-same =
-        let f : ℕ → ℕ = λ k. getD numbers (120 * n + columnIn counts k) 0 in
+        let f : ℕ → ℕ = λ k. getD numbers (lineSize * n + columnIn counts k) 0 in
         let w : planWidth counts ≡ signalCount network + (linkCount network + (linkCount network + movementCount network)) = omega (arith, c .signals, c .links, c .movements) in
         rw w (list-plus (signalCount network) (linkCount network + (linkCount network + movementCount network)) f
         ∙ ap₂ _++_ (list-ext (signalCount network) f (maskOf network listing n) (λ r a. mask-same r a))

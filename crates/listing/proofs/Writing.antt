@@ -16,6 +16,7 @@ use Rattle.record_writer.specs.Writing.{putAt, Wrote}
 use Rattle.record_writer.proofs.Laws.{wrote-more, record-most}
 use Rattle.listing.specs.Numbers.{columnIn, numbersIn, lineIn, textIn, Kept, StepAsked, LineAsked, LinesAsked}
 use Rattle.listing.proofs.Numbers.{list-length}
+use Rattle.tables.specs.Fields.{lineSize}
 
 records-upto : (letter n m : ℕ) (f : ℕ → List ℕ) → n ≤ m → length (recordTexts letter n f) ≤ length (recordTexts letter m f)
 unfolding recordTexts
@@ -28,20 +29,20 @@ records-upto letter n (suc m) f h = elim (decLe n m) [
 module _ (numbers : List ℕ) (counts : Counts) where
   numbers-length : (n : ℕ) → length (numbersIn numbers counts n) ≡ planWidth counts
   unfolding numbersIn
-  numbers-length n = list-length (planWidth counts) (λ k. getD numbers (120 * n + columnIn counts k) 0)
+  numbers-length n = list-length (planWidth counts) (λ k. getD numbers (lineSize * n + columnIn counts k) 0)
 
   numbers-first : (n : ℕ) (old fields : List ℕ) → fields ≡ over (numbersIn numbers counts n) old → (w : ℕ) → w ≡ planWidth counts → take w fields ≡ numbersIn numbers counts n
   unfolding over
   numbers-first n old fields e w q = ap (take w) e ∙ take-at (numbersIn numbers counts n) _ w (numbers-length n ∙ sym q)
 
-  pub few-numbers : Kept numbers counts → planWidth counts ≤ 120
+  pub few-numbers : Kept numbers counts → planWidth counts ≤ lineSize
   few-numbers k = omega (arith, k .few .links, k .few .signals, k .few .movements)
 
   -- ---- one line
-  pub end-size : (fields : List ℕ) → Kept numbers counts → length fields ≡ 120 → (w : ℕ) → w ≡ planWidth counts → w ≡ length (take w fields)
+  pub end-size : (fields : List ℕ) → Kept numbers counts → length fields ≡ lineSize → (w : ℕ) → w ≡ planWidth counts → w ≡ length (take w fields)
   end-size fields k e w q = sym (length-take-le w fields (omega (arith, few-numbers k)))
 
-  pub part-few : (fields : List ℕ) → Kept numbers counts → length fields ≡ 120 → (w : ℕ) → w ≡ planWidth counts → 2 + 21 * length (take w fields) ≤ 18_446_744_073_709_551_615
+  pub part-few : (fields : List ℕ) → Kept numbers counts → length fields ≡ lineSize → (w : ℕ) → w ≡ planWidth counts → 2 + 21 * length (take w fields) ≤ 18_446_744_073_709_551_615
   part-few fields k e w q = omega (arith, end-size fields k e w q, few-numbers k)
 
   module _ (n : ℕ) (old fields : List ℕ) (e : fields ≡ over (numbersIn numbers counts n) old) (w : ℕ) (q : w ≡ planWidth counts) where

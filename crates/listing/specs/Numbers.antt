@@ -10,6 +10,8 @@ use Rattle.model.specs.Sum.{list}
 use Rattle.model.specs.Table.{letterP}
 use Rattle.tables.specs.declared.Counts.{Counts}
 use Rattle.tables.specs.Places.{planWidth, Few}
+use Rattle.tables.specs.Fields.{lineSize}
+use Rattle.listing.specs.Tables.{numberTableSize}
 
 -- the column of number k of a line: masks, admitted, let out, moved
 unfoldable pub columnIn : Counts → ℕ → ℕ
@@ -20,7 +22,7 @@ columnIn counts k =
     (56 + (k - counts .signals - counts .links - counts .links))))
 
 unfoldable pub numbersIn : List ℕ → Counts → ℕ → List ℕ
-numbersIn numbers counts n = list (planWidth counts) (λ k. getD numbers (120 * n + columnIn counts k) 0)
+numbersIn numbers counts n = list (planWidth counts) (λ k. getD numbers (lineSize * n + columnIn counts k) 0)
 
 unfoldable pub lineIn : List ℕ → Counts → ℕ → List ℕ
 lineIn numbers counts n = recordText letterP (numbersIn numbers counts n)
@@ -34,7 +36,7 @@ pub record ColumnAsked (counts : Counts) (k : ℕ) : Type 0 where
 
 -- the table of a listing that has passed
 pub record Kept (numbers : List ℕ) (counts : Counts) : Type 0 where
-  pub number-room : length numbers ≡ 14_400
+  pub number-room : length numbers ≡ numberTableSize
   pub few : Few counts
 
 pub record StepAsked (numbers : List ℕ) (counts : Counts) (n : ℕ) : Type 0 where
@@ -44,7 +46,7 @@ pub record StepAsked (numbers : List ℕ) (counts : Counts) (n : ℕ) : Type 0 w
 pub record FillAsked (numbers : List ℕ) (counts : Counts) (n : ℕ) (fields : List ℕ) : Type 0 where
   pub kept : Kept numbers counts
   pub step : n < counts .steps
-  pub long : length fields ≡ 120
+  pub long : length fields ≡ lineSize
 
 pub record LineAsked (numbers : List ℕ) (counts : Counts) (n : ℕ) (out : List ℕ) (at : ℕ) : Type 0 where
   pub kept : Kept numbers counts

@@ -23,6 +23,23 @@ use Rattle.listing.specs.declared.Number.the-variants.{Whole, NoNumber}
 use Rattle.listing.specs.declared.Outcome.{Outcome}
 use Rattle.listing.specs.declared.Outcome.the-variants.{Store, Refuse}
 use Rattle.listing.specs.Listing.{stepOf, one, volume, isVolume, validValue, setBefore, valueBefore, entryChecksBy}
+use Rattle.model.specs.Network.{maxSignals, maxSteps, maxLinks, maxMovements}
+use Rattle.tables.specs.Fields.{lineSize}
+
+-- ---- sizes
+-- how many variables a step has at most: phases of signals, 8 at most, admitted, let out, moved
+abbrev pub stepBits : ℕ
+stepBits = 8 * maxSignals + (2 * maxLinks + maxMovements)
+
+-- the bits of all steps, how many bytes hold them, and the numbers of all steps
+abbrev pub bits : ℕ
+bits = maxSteps * stepBits
+
+abbrev pub seenSize : ℕ
+seenSize = bits / 8
+
+abbrev pub numberTableSize : ℕ
+numberTableSize = maxSteps * lineSize
 
 -- ---- places
 -- the bit of a variable among the 176 of its step: 64 for phases, 24 for admitted, 24 for let out, 64 for moved
@@ -40,17 +57,17 @@ column (LetOut i n) = 31 + i
 column (Moved j n) = 55 + j
 
 unfoldable pub bitPlace : Variable → ℕ
-bitPlace v = 176 * (stepOf v - 1) + bitColumn v
+bitPlace v = stepBits * (stepOf v - 1) + bitColumn v
 
 unfoldable pub place : Variable → ℕ
-place v = 120 * (stepOf v - 1) + column v
+place v = lineSize * (stepOf v - 1) + column v
 
 -- a variable that has a place
 abbrev pub Placed : Variable → Type 0
-Placed (Shown r k n) = (1 ≤ n) × (n ≤ 120) × (1 ≤ r) × (r ≤ 8) × (1 ≤ k) × (k ≤ 8)
-Placed (Admitted i n) = (1 ≤ n) × (n ≤ 120) × (1 ≤ i) × (i ≤ 24)
-Placed (LetOut i n) = (1 ≤ n) × (n ≤ 120) × (1 ≤ i) × (i ≤ 24)
-Placed (Moved j n) = (1 ≤ n) × (n ≤ 120) × (1 ≤ j) × (j ≤ 64)
+Placed (Shown r k n) = (1 ≤ n) × (n ≤ maxSteps) × (1 ≤ r) × (r ≤ maxSignals) × (1 ≤ k) × (k ≤ 8)
+Placed (Admitted i n) = (1 ≤ n) × (n ≤ maxSteps) × (1 ≤ i) × (i ≤ maxLinks)
+Placed (LetOut i n) = (1 ≤ n) × (n ≤ maxSteps) × (1 ≤ i) × (i ≤ maxLinks)
+Placed (Moved j n) = (1 ≤ n) × (n ≤ maxSteps) × (1 ≤ j) × (j ≤ maxMovements)
 
 -- ---- what the tables of a network tell: what it has, and how long a step is
 unfoldable pub hasPhaseIn : ℕ → ℕ → ℕ → List ℕ → Bool
@@ -67,7 +84,7 @@ secondsIn times n = getD times (n + 1) 0 - getD times n 0
 
 -- the places of a variable that the network has
 unfoldable pub placeIn : ℕ → ℕ → ℕ → ℕ → Place
-placeIn steps n bit number = cond (within 1 n steps) (At (n - 1) (176 * (n - 1) + bit) (120 * (n - 1) + number)) NoPlace
+placeIn steps n bit number = cond (within 1 n steps) (At (n - 1) (stepBits * (n - 1) + bit) (lineSize * (n - 1) + number)) NoPlace
 
 unfoldable pub itemPlaceIn : ℕ → ℕ → ℕ → ℕ → ℕ → ℕ → Place
 itemPlaceIn item high n steps bits numbers = cond (within 1 item high) (placeIn steps n (bits + item) (numbers + item)) NoPlace
@@ -116,9 +133,6 @@ outcome has seconds seen v millionths =
     (Refuse 22)
 
 -- ---- the tables after the first i lines
-abbrev pub bits : ℕ
-bits = 21_120
-
 unfoldable pub bit : Bool → ℕ
 bit t = cond t 1 0
 
@@ -132,10 +146,10 @@ unfoldable pub maskBefore : List Entry → ℕ → ℕ → ℕ → ℕ
 maskBefore listing i n r = sum 8 (λ k. only (eqb (valueBefore listing i (Shown (suc r) (suc k) (suc n))) one) (2 ^ k))
 
 pub record Stored (seconds : ℕ → ℕ) (listing : List Entry) (i : ℕ) (numbers seen : List ℕ) : Type 0 where
-  pub number-room : length numbers ≡ 14_400
-  pub seen-room : length seen ≡ 2_640
+  pub number-room : length numbers ≡ numberTableSize
+  pub seen-room : length seen ≡ seenSize
   pub marks : (v : Variable) → Placed v → bitAt seen (bitPlace v) ≡ bit (setBefore listing i v)
-  pub masks : (n r : ℕ) → n < 120 → r < 8 → getD numbers (120 * n + r) 0 ≡ maskBefore listing i n r
+  pub masks : (n r : ℕ) → n < maxSteps → r < maxSignals → getD numbers (lineSize * n + r) 0 ≡ maskBefore listing i n r
   pub volumes : (v : Variable) → Placed v → hasVolume v ≡ true → getD numbers (place v) 0 ≡ volume (valueBefore listing i v) (seconds (stepOf v - 1))
   pub counted : sum bits (bitAt seen) ≡ i
 
@@ -152,14 +166,14 @@ pub record TablesAsked (counts : Counts) (phases times : List ℕ) : Type 0 wher
   pub short : (n : ℕ) → n < counts .steps → getD times (n + 1) 0 ≤ getD times n 0 + 60
 
 pub record PlaceAsked (steps bit number : ℕ) : Type 0 where
-  pub few-steps : steps ≤ 120
-  pub few-bits : bit < 176
-  pub few-numbers : number < 120
+  pub few-steps : steps ≤ maxSteps
+  pub few-bits : bit < stepBits
+  pub few-numbers : number < lineSize
 
 pub record ItemAsked (high steps bits numbers : ℕ) : Type 0 where
-  pub few-steps : steps ≤ 120
-  pub few-bits : bits + high < 176
-  pub few-numbers : numbers + high < 120
+  pub few-steps : steps ≤ maxSteps
+  pub few-bits : bits + high < stepBits
+  pub few-numbers : numbers + high < lineSize
 
 pub record SecondsAsked (times : List ℕ) (n : ℕ) : Type 0 where
   pub within-times : n + 1 < length times
@@ -168,13 +182,13 @@ pub record SecondsAsked (times : List ℕ) (n : ℕ) : Type 0 where
 pub record JudgeAsked (millionths : ℕ) (counts : Counts) (phases times seen : List ℕ) : Type 0 where
   pub tables : TablesAsked counts phases times
   pub small : millionths ≤ 20_000_000_000_000_000
-  pub seen-room : length seen ≡ 2_640
+  pub seen-room : length seen ≡ seenSize
 
 -- nothing is set yet
 pub record ListingAsked (counts : Counts) (phases times numbers seen : List ℕ) : Type 0 where
   pub tables : TablesAsked counts phases times
-  pub number-room : length numbers ≡ 14_400
-  pub seen-room : length seen ≡ 2_640
+  pub number-room : length numbers ≡ numberTableSize
+  pub seen-room : length seen ≡ seenSize
   pub no-numbers : (k : ℕ) → getD numbers k 0 ≡ 0
   pub no-marks : (k : ℕ) → getD seen k 0 ≡ 0
 

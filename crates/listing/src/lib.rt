@@ -20,11 +20,22 @@ use search::Verdict;
 use tables::Counts;
 use tables::LINE_SIZE;
 use tables::LINK_TABLE_SIZE;
+use tables::MAX_LINKS;
+use tables::MAX_MOVEMENTS;
 use tables::MAX_SIGNALS;
+use tables::MAX_STEPS;
 use tables::MOVEMENT_TABLE_SIZE;
 use tables::Reading;
 use tables::Stage;
 use tables::TIME_TABLE_SIZE;
+
+// How many variables a step has at most: a signal's phases, 8 at most, and what is admitted, let out and moved.
+const STEP_BITS: usize = 8 * MAX_SIGNALS + 2 * MAX_LINKS + MAX_MOVEMENTS;
+
+// The sizes of the tables of all steps: the numbers of their lines, and a bit for each variable, eight to a byte.
+const NUMBER_TABLE_SIZE: usize = MAX_STEPS * LINE_SIZE;
+
+const SEEN_SIZE: usize = MAX_STEPS * STEP_BITS / 8;
 
 // The answer of the call: how long the written plan text is, or a refusal.
 pub enum ListingAnswer {
@@ -86,8 +97,8 @@ fn place_in(steps: usize, step: usize, bit: usize, number: usize) -> Place
     let n = step - 1;
     Place::At {
         step: n,
-        bit: 176 * n + bit,
-        number: 120 * n + number,
+        bit: STEP_BITS * n + bit,
+        number: LINE_SIZE * n + number,
     }
 }
 
@@ -371,7 +382,7 @@ fn fill_numbers(numbers: &[u32], counts: Counts, n: usize, fields: &mut [u64])
     let width = counts.plan_width();
     let mut k = 0;
     while k < width {
-        fields[k] = tables::wide(numbers[120 * n + column_at(counts, k)]);
+        fields[k] = tables::wide(numbers[LINE_SIZE * n + column_at(counts, k)]);
         k += 1;
     }
 }
@@ -448,8 +459,8 @@ fn write_listing(
     requires { ⌜ TablesAsked counts (now phases) (now times) ⌝ }
     ensures { λ r. ⌜ WriteGot counts (now (phases .entry)) (now (times .entry)) (entries (now (listing .entry))) (now (out .entry)) r (now (out .exit)) ⌝ }
 {
-    let mut numbers = [0u32; 14_400];
-    let mut seen = [0u8; 2_640];
+    let mut numbers = [0u32; NUMBER_TABLE_SIZE];
+    let mut seen = [0u8; SEEN_SIZE];
     match read_listing(listing, counts, phases, times, &mut numbers, &mut seen) {
         Verdict::Passes => write_stored(&numbers, counts, out),
         Verdict::Refused(refusal) => ListingAnswer::Refused(refusal),

@@ -2,6 +2,7 @@
 use Rattle.listing.proofs.Call.{empty-asked, write-kept, write-passed, write-stopped}
 use mathlib.Core.Path.{refl}
 use borrow.Author.Needs.{needs}
+use Rattle.listing.specs.Tables.{numberTableSize, seenSize}
 use Rattle.listing.proofs.write_listing.Statement.{statement}
 use Rattle.listing.proofs.write_listing.Tie as tie
 
@@ -12,7 +13,7 @@ slice-aggregate-read-listing-2 : tie.Need-slice-aggregate-read-listing-2
 slice-aggregate-read-listing-2 c = search needs
 
 read-listing-requires : tie.Need-read-listing-requires
-read-listing-requires c κs = empty-asked 14_400 2_640 _ _ _ refl refl (c .before .before .before .before .before .before .pre)
+read-listing-requires c κs = empty-asked numberTableSize seenSize _ _ _ refl refl (c .before .before .before .before .before .before .pre)
 
 enum-told : tie.Need-enum-told
 enum-told c = search needs
