@@ -61,7 +61,7 @@ module _ (bytes : List ℕ) (k : ℕ) (h : k / 8 < length bytes) (free : bitAt b
   unfolding bitAt withBit
   bit-set = rw (getD-set-same bytes (k / 8) (getD bytes (k / 8) 0 + 2 ^ (k % 8)) 0 h) (byte-set (k % 8) (getD bytes (k / 8) 0) free)
 
-  pub bit-fits : getD bytes (k / 8) 0 < 256 → getD bytes (k / 8) 0 + 2 ^ (k % 8) < 256
+  bit-fits : getD bytes (k / 8) 0 < 256 → getD bytes (k / 8) 0 + 2 ^ (k % 8) < 256
   unfolding bitAt
   bit-fits l = byte-small (k % 8) (omega arith) (getD bytes (k / 8) 0) l free
 

@@ -16,18 +16,18 @@ use Rattle.search.specs.Checks.{refusal, each, orElse, checked, verdict, Hold}
 use Rattle.search.proofs.Laws.{hold-of-passes, passes-of-hold, or-else-passes, or-else-refused}
 use Rattle.records.specs.Lines.{Line, lines}
 use Rattle.records.specs.Reading.{over}
+use Rattle.record_writer.specs.Writing.{putAt, Wrote}
 use Rattle.model.specs.Sum.{sum}
+use Rattle.model.specs.Network.{stepLength, time}
+use Rattle.model.specs.Table.{networkChecks}
+use Rattle.model.proofs.Accepted.{valid-network}
+use Rattle.model.proofs.Limits.{step-limits}
 use Rattle.tables.specs.declared.Counts.{Counts}
 use Rattle.tables.specs.declared.Reading.{Reading}
 use Rattle.tables.specs.declared.Stage.{Stage}
 use Rattle.tables.specs.declared.Stage.the-variants as stages
 use Rattle.tables.specs.Blocks.{blockChecks, signalBlock}
-use Rattle.model.specs.Network.{stepLength, time}
 use Rattle.tables.specs.Tables.{stageVerdict, movedTo, Judged, PhaseTable}
-use Rattle.model.specs.Table.{networkChecks}
-use Rattle.model.proofs.Accepted.{valid-network}
-use Rattle.model.proofs.Limits.{step-limits}
-use Rattle.record_writer.specs.Writing.{putAt, Wrote}
 use Rattle.network_signals.specs.Stages.{SignalsAsked, SignalsHeld}
 use Rattle.network.specs.Loading.{Loaded}
 use Rattle.listing_lines.specs.declared.Entry.{Entry}
@@ -38,7 +38,7 @@ use Rattle.listing.specs.ReadsBack.{PlanGot}
 use Rattle.listing.specs.Tables.{hasIn, secondsIn, TablesAsked, ListingGot, ListingAsked, numberTableSize, seenSize}
 use Rattle.listing.specs.Numbers.{textIn, Kept, LinesAsked}
 use Rattle.listing.specs.Writing.{answerOf, bytesOf, Told, roomVerdict, StoredGot, WriteGot, NetworkAsked, ListingWritten}
-use Rattle.listing.proofs.Theorem.{few-phases, reads-back}
+use Rattle.listing.proofs.Theorem.{reads-back}
 use Rattle.listing.proofs.Whole.{verdict-same, text-same}
 
 -- ---- 24, and the text

@@ -10,11 +10,11 @@ use lib.ListN.{length, getD, set, drop, length-set, length-append}
 use lib.Seq.{drop-cons, set-at, append-snoc}
 use Rattle.records.specs.Reading.{over}
 use Rattle.model.specs.Sum.{list}
+use Rattle.model.specs.Network.{maxSignals, maxLinks, maxMovements}
 use Rattle.tables.specs.declared.Counts.{Counts}
 use Rattle.tables.specs.Places.{planWidth}
-use Rattle.listing.specs.Numbers.{columnIn, numbersIn, ColumnAsked, FillAsked}
-use Rattle.model.specs.Network.{maxSignals, maxLinks, maxMovements}
 use Rattle.tables.specs.Fields.{lineSize}
+use Rattle.listing.specs.Numbers.{columnIn, numbersIn, ColumnAsked, FillAsked}
 use Rattle.listing.specs.Tables.{numberTableSize}
 
 -- ---- the column of number k
@@ -38,7 +38,7 @@ module _ (counts : Counts) (k : ℕ) where
       column-moved m = sym (rw (le-ltb k (counts .signals) h, le-ltb (k - counts .signals) (counts .links) l, le-ltb (k - counts .signals - counts .links) (counts .links) m))
 
 -- it is one of the 120 of a step
-pub column-few : (counts : Counts) (k c : ℕ) → c ≡ columnIn counts k → counts .signals ≤ maxSignals → counts .links ≤ maxLinks → counts .movements ≤ maxMovements → k < planWidth counts → c < lineSize
+column-few : (counts : Counts) (k c : ℕ) → c ≡ columnIn counts k → counts .signals ≤ maxSignals → counts .links ≤ maxLinks → counts .movements ≤ maxMovements → k < planWidth counts → c < lineSize
 column-few counts k c e a b m h = elim (decLe (counts .signals) k) [
   | no x ↦ omega (arith, column-mask counts k (omega arith))
   | yes x ↦ elim (decLe (counts .links) (k - counts .signals)) [

@@ -8,15 +8,15 @@ use native.Mathlib.Nat.{mul-le-mul-left}
 use native.Mathlib.Omega.{arith}
 use borrow.Author.Tests.{eq-eqb, eqb-true}
 use Rattle.model.specs.Test.{_and_}
-use Rattle.tables.specs.declared.Counts.{Counts}
+use Rattle.model.specs.Network.{maxSteps, maxSignals}
 use Rattle.model.proofs.Tests.{and-left, and-right}
+use Rattle.tables.specs.declared.Counts.{Counts}
+use Rattle.tables.specs.Fields.{lineSize}
 use Rattle.listing_lines.specs.declared.Variable.{Variable}
 use Rattle.listing_lines.specs.declared.Variable.the-variants.{Shown, Admitted, LetOut, Moved}
 use Rattle.listing.specs.Listing.{same, stepOf}
 use Rattle.listing.specs.Tables.{bitColumn, column, bitPlace, place, Placed, hasIn, hasVolume, PlacesAsked, numberTableSize, bits, stepBits}
 use Rattle.listing.proofs.Turns.{within-parts, phase-parts}
-use Rattle.tables.specs.Fields.{lineSize}
-use Rattle.model.specs.Network.{maxSteps, maxSignals}
 
 -- ---- the same variable
 pub same-is : (v w : Variable) → same v w ≡ true → v ≡ w

@@ -13,14 +13,14 @@ use lib.Seq.{getD-append-add}
 use Rattle.search.specs.Checks.{Hold}
 use Rattle.records.specs.Field.{largest}
 use Rattle.records.specs.Lines.{Line, lines, noLine, number}
+use Rattle.record_writer.specs.Records.{recordLines}
+use Rattle.record_writer.proofs.Records.{Small, text-back, entry-back, form-back, lines-count}
 use Rattle.model.specs.Test.{_and_}
 use Rattle.model.specs.Sum.{list}
 use Rattle.model.specs.Network.{entry, linkCount, signalCount, movementCount, stepCount, stepLength}
 use Rattle.model.specs.Flows.{shownMask, admitted, letOut, moved}
 use Rattle.model.specs.Table.{letterP, isForm}
 use Rattle.model.proofs.Tests.{and-right}
-use Rattle.record_writer.specs.Records.{recordLines}
-use Rattle.record_writer.proofs.Records.{Small, text-back, entry-back, form-back, lines-count}
 use Rattle.listing_lines.specs.declared.Variable.{Variable}
 use Rattle.listing_lines.specs.declared.Entry.{Entry}
 use Rattle.listing_lines.specs.declared.Entry.the-variants.{Sets, Malformed}
@@ -144,7 +144,7 @@ module _ (network : List Line) (listing : List Entry) where
       go true e ih = line-fits (stepLength network) v n (lineAt listing i) l s e (f i (omega arith))
       go false e ih = ih
 
-  pub mask-small : (n r : ℕ) → maskOf network listing n r < 256
+  mask-small : (n r : ℕ) → maskOf network listing n r < 256
   unfolding maskOf
   mask-small n r = bits-below 8 (λ k. eqb (value listing (Shown (suc r) (suc k) (suc n))) one)
 

@@ -14,8 +14,10 @@ use lib.Seq.{getD-set-same, getD-set-other}
 use Rattle.records.specs.Field.{largest}
 use Rattle.model.specs.Test.{_and_, _or_}
 use Rattle.model.specs.Sum.{sum, only}
+use Rattle.model.specs.Network.{maxSteps, maxSignals}
 use Rattle.model.proofs.Sums.{sum-ext, sum-bound}
 use Rattle.model.proofs.Tests.{and-right}
+use Rattle.tables.specs.Fields.{lineSize}
 use Rattle.listing_lines.specs.declared.Variable.{Variable}
 use Rattle.listing_lines.specs.declared.Variable.the-variants.{Shown, Admitted, LetOut, Moved}
 use Rattle.listing_lines.specs.declared.Entry.{Entry}
@@ -26,8 +28,6 @@ use Rattle.listing.specs.Tables.{bitPlace, place, column, Placed, bitAt,
 use Rattle.listing.proofs.Bits.{bit-set, bit-other, bits-below, sum-change}
 use Rattle.listing.proofs.Turns.{within-is}
 use Rattle.listing.proofs.Places.{same-is, same-self, bit-same, volume-same, mask-only, bit-inside, place-inside}
-use Rattle.tables.specs.Fields.{lineSize}
-use Rattle.model.specs.Network.{maxSteps, maxSignals}
 
 -- ---- one line more
 or-true : (t : Bool) → t or true ≡ true
@@ -48,7 +48,7 @@ same-not v w n = go (same v w) refl
     go false e = refl
 
 module _ (listing : List Entry) (i : ℕ) (w : Variable) (m : ℕ) (e : lineAt listing i ≡ Sets w m) where
-  pub set-now : setBefore listing (i + 1) w ≡ true
+  set-now : setBefore listing (i + 1) w ≡ true
   unfolding setBefore sets
   set-now = rw (add-one, setBefore, e, same-self w) (or-true (setBefore listing i w))
 
@@ -57,11 +57,11 @@ module _ (listing : List Entry) (i : ℕ) (w : Variable) (m : ℕ) (e : lineAt l
   value-now = rw (add-one, valueBefore, e, same-self w)
 
   module _ (v : Variable) (n : v ≡ w → ⊥) where
-    pub set-kept : setBefore listing (i + 1) v ≡ setBefore listing i v
+    set-kept : setBefore listing (i + 1) v ≡ setBefore listing i v
     unfolding setBefore sets
     set-kept = rw (add-one, setBefore, e, same-not v w n) (or-false (setBefore listing i v))
 
-    pub value-kept : valueBefore listing (i + 1) v ≡ valueBefore listing i v
+    value-kept : valueBefore listing (i + 1) v ≡ valueBefore listing i v
     unfolding valueBefore sets millionthsOf
     value-kept = rw (add-one, valueBefore, e, same-not v w n)
 
@@ -126,7 +126,7 @@ shown-place n r j = omega arith
 phase-same : (r t j n : ℕ) → _≡_ {A = Variable} (Shown r (suc t) n) (Shown r (suc j) n) → t ≡ j
 phase-same r t j n c = let z : suc t ≡ suc j = cc in omega arith
 
-pub mask-few : (listing : List Entry) (i n r : ℕ) → maskBefore listing i n r < 256
+mask-few : (listing : List Entry) (i n r : ℕ) → maskBefore listing i n r < 256
 unfolding maskBefore
 mask-few listing i n r = bits-below 8 (λ k. eqb (valueBefore listing i (Shown (suc r) (suc k) (suc n))) one)
 

@@ -34,7 +34,7 @@ use Rattle.listing.proofs.Stored.{same-not, value-now, value-unset, vol
 use Rattle.listing.proofs.ReadBack.{mask-back, admitted-back, let-out-back, moved-back, form-is, count-is}
 
 -- ---- what the lines that have passed say of a variable
-pub few-phases : (network : List Line) → Hold (networkChecks network) → (r : ℕ) → r < signalCount network → signal network r .phases ≤ 8
+few-phases : (network : List Line) → Hold (networkChecks network) → (r : ℕ) → r < signalCount network → signal network r .phases ≤ 8
 unfolding validPhases within
 few-phases network valid r h = leb-true (signal network r .phases) 8 (and-right _ _ (valid-network network valid .phases r h))
 

@@ -11,8 +11,9 @@ use lib.Dec.{eqb}
 use lib.ListN.{getD}
 use Rattle.records.specs.Field.{largest}
 use Rattle.model.specs.Test.{_and_, _or_, within}
-use Rattle.tables.specs.declared.Counts.{Counts}
 use Rattle.model.proofs.Tests.{and-left, and-right}
+use Rattle.tables.specs.declared.Counts.{Counts}
+use Rattle.tables.specs.Fields.{lineSize}
 use Rattle.listing_lines.specs.declared.Variable.{Variable}
 use Rattle.listing_lines.specs.declared.Variable.the-variants.{Shown, Admitted, LetOut, Moved}
 use Rattle.listing.specs.declared.Place.{Place}
@@ -21,7 +22,6 @@ use Rattle.listing.specs.declared.Number.{Number}
 use Rattle.listing.specs.declared.Number.the-variants.{Whole, NoNumber}
 use Rattle.listing.specs.Listing.{stepOf, validValue, volume, isVolume}
 use Rattle.listing.specs.Tables.{bitColumn, column, bitPlace, place, hasPhaseIn, hasIn, placeIn, itemPlaceIn, phasePlaceIn, placeOf, phaseBit, volumeIn, numberIn, Power, PlacesAsked, PlaceAsked, ItemAsked, stepBits}
-use Rattle.tables.specs.Fields.{lineSize}
 
 -- ---- what the network has
 pub within-parts : (x high : ℕ) → within 1 x high ≡ true → (1 ≤ x) × (x ≤ high)

@@ -10,16 +10,17 @@ use Rattle.search.specs.declared.Verdict.{Verdict}
 use Rattle.search.specs.Checks.{each, orElse, checked, verdict}
 use Rattle.search.proofs.Laws.{first-same}
 use Rattle.records.specs.Lines.{Line}
-use Rattle.model.specs.Test.{_and_, within}
-use Rattle.model.specs.Sum.{sum, list}
-use Rattle.tables.specs.declared.Counts.{Counts}
-use Rattle.tables.specs.Places.{planWidth}
-use Rattle.model.specs.Network.{linkCount, signalCount, movementCount, stepCount, signal, stepLength, time}
-use Rattle.tables.specs.Tables.{CountsHold, PhaseTable, TimeTable}
-use Rattle.model.specs.Table.{letterP}
 use Rattle.record_writer.specs.Records.{recordTexts}
 use Rattle.record_writer.proofs.Laws.{records-same}
+use Rattle.model.specs.Test.{_and_, within}
+use Rattle.model.specs.Sum.{sum, list}
+use Rattle.model.specs.Network.{linkCount, signalCount, movementCount, stepCount, signal, stepLength, time}
+use Rattle.model.specs.Table.{letterP}
 use Rattle.model.proofs.Tests.{and-right}
+use Rattle.tables.specs.declared.Counts.{Counts}
+use Rattle.tables.specs.Places.{planWidth}
+use Rattle.tables.specs.Tables.{CountsHold, PhaseTable, TimeTable}
+use Rattle.tables.specs.Fields.{lineSize}
 use Rattle.listing_lines.specs.declared.Variable.{Variable}
 use Rattle.listing_lines.specs.declared.Variable.the-variants.{Shown, Admitted, LetOut, Moved}
 use Rattle.listing_lines.specs.declared.Entry.{Entry}
@@ -29,7 +30,6 @@ use Rattle.listing.specs.Tables.{column, place, hasPhaseIn, hasIn, secon
 use Rattle.listing.specs.Numbers.{columnIn, numbersIn, textIn}
 use Rattle.listing.proofs.Turns.{within-parts}
 use Rattle.listing.proofs.Numbers.{column-mask, column-admitted, column-let-out, column-moved}
-use Rattle.tables.specs.Fields.{lineSize}
 
 -- ---- lists by index
 list-ext : (n : ℕ) (f g : ℕ → ℕ) → ((k : ℕ) → k < n → f k ≡ g k) → list n f ≡ list n g

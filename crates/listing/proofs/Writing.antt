@@ -8,15 +8,15 @@ use native.Mathlib.Omega.{arith}
 use lib.ListN.{length, getD, take, length-append}
 use lib.Seq.{take-at, length-take-le}
 use Rattle.records.specs.Reading.{over}
-use Rattle.tables.specs.declared.Counts.{Counts}
-use Rattle.tables.specs.Places.{planWidth}
-use Rattle.model.specs.Table.{letterP}
 use Rattle.record_writer.specs.Records.{recordText, recordTexts}
 use Rattle.record_writer.specs.Writing.{putAt, Wrote}
 use Rattle.record_writer.proofs.Laws.{wrote-more, record-most}
+use Rattle.model.specs.Table.{letterP}
+use Rattle.tables.specs.declared.Counts.{Counts}
+use Rattle.tables.specs.Places.{planWidth}
+use Rattle.tables.specs.Fields.{lineSize}
 use Rattle.listing.specs.Numbers.{columnIn, numbersIn, lineIn, textIn, Kept, StepAsked, LineAsked, LinesAsked}
 use Rattle.listing.proofs.Numbers.{list-length}
-use Rattle.tables.specs.Fields.{lineSize}
 
 records-upto : (letter n m : ℕ) (f : ℕ → List ℕ) → n ≤ m → length (recordTexts letter n f) ≤ length (recordTexts letter m f)
 unfolding recordTexts

@@ -11,8 +11,10 @@ use Rattle.search.specs.declared.Verdict.the-variants.{Passes}
 use Rattle.search.specs.Checks.{each, verdict}
 use Rattle.model.specs.Test.{_and_, within}
 use Rattle.model.specs.Sum.{sum, only}
+use Rattle.model.specs.Network.{maxSignals, maxSteps, maxLinks, maxMovements}
 use Rattle.tables.specs.declared.Counts.{Counts}
 use Rattle.tables.specs.Places.{Few}
+use Rattle.tables.specs.Fields.{lineSize}
 use Rattle.listing_lines.specs.declared.Variable.{Variable}
 use Rattle.listing_lines.specs.declared.Variable.the-variants.{Shown, Admitted, LetOut, Moved}
 use Rattle.listing_lines.specs.declared.Entry.{Entry}
@@ -23,8 +25,6 @@ use Rattle.listing.specs.declared.Number.the-variants.{Whole, NoNumber}
 use Rattle.listing.specs.declared.Outcome.{Outcome}
 use Rattle.listing.specs.declared.Outcome.the-variants.{Store, Refuse}
 use Rattle.listing.specs.Listing.{stepOf, one, volume, isVolume, validValue, setBefore, valueBefore, entryChecksBy}
-use Rattle.model.specs.Network.{maxSignals, maxSteps, maxLinks, maxMovements}
-use Rattle.tables.specs.Fields.{lineSize}
 
 -- ---- sizes
 -- how many variables a step has at most: phases of signals, 8 at most, admitted, let out, moved

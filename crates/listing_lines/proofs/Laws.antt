@@ -17,7 +17,7 @@ use Rattle.listing_lines.specs.declared.Digits.the-variants.{Value, NoVa
 use Rattle.listing_lines.specs.Entry.{upTo, after, digitsOf, leadingZero, Found}
 
 -- ---- up to a byte
-pub upTo-within : (c : ℕ) (bs : List ℕ) → length (upTo c bs) ≤ length bs
+upTo-within : (c : ℕ) (bs : List ℕ) → length (upTo c bs) ≤ length bs
 unfolding upTo
 upTo-within c [] = omega arith
 upTo-within c (b ∷ bs) = by (eqb b c) (upTo-within c bs)
@@ -75,7 +75,7 @@ module _ (most : ℕ) (bs : List ℕ) where
 
 -- the first i bytes are digits that say v
 pub record Said (most : ℕ) (bs : List ℕ) (v i : ℕ) : Type 0 where
-  pub most-ten : most ≤ 10
+  most-ten : most ≤ 10
   pub some : 1 ≤ length bs
   pub few : length bs ≤ most
   pub within : i ≤ length bs

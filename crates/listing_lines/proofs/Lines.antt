@@ -196,7 +196,7 @@ unfolding EntryStarts
 entry-first text = refl
 
 module _ (text : List ℕ) (at i : ℕ) (s : EntryStarts text at i) where
-  pub entry-line : entryAt text at ≡ getD (entries text) i Malformed
+  entry-line : entryAt text at ≡ getD (entries text) i Malformed
   unfolding EntryStarts entryAt
   entry-line = rw s (getD-drop i (entries text) 0 Malformed ∙ rw add-zero)
 

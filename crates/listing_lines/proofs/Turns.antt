@@ -99,7 +99,7 @@ module _ (bs : List ℕ) (d : Digits) (v : ℕ) where
   pub ten-small : d ≡ digitsOf 10 bs → d ≡ Value v → v < 10_000_000_000
   ten-small e f = digits-small 10 bs v (sym e ∙ f)
 
-  pub six-small : d ≡ digitsOf 6 bs → d ≡ Value v → v < 1_000_000
+  six-small : d ≡ digitsOf 6 bs → d ≡ Value v → v < 1_000_000
   six-small e f = digits-small 6 bs v (sym e ∙ f)
 
 -- ---- an index
