@@ -103,21 +103,15 @@ fn place_in(steps: usize, step: usize, bit: usize, number: usize) -> Place
 }
 
 // The places of a link's or movement's variable: `high` is how many there are.
-fn item_place(
-    item: usize,
-    high: usize,
-    step: usize,
-    steps: usize,
-    bits: usize,
-    numbers: usize,
-) -> Place
+fn item_place(item: u64, high: usize, step: u64, steps: usize, bits: usize, numbers: usize) -> Place
     requires { ⌜ ItemAsked high steps bits numbers ⌝ }
     ensures { λ r. ⌜ r ≡ itemPlaceIn item high step steps bits numbers ⌝ }
 {
+    let item = item as usize;
     if !is_within(item, high) {
         return Place::NoPlace;
     }
-    place_in(steps, step, bits + item, numbers + item)
+    place_in(steps, step as usize, bits + item, numbers + item)
 }
 
 // The places of a phase's variable.
@@ -141,6 +135,7 @@ fn place_of(variable: Variable, counts: Counts, phases: &[u32]) -> Place
     requires { ⌜ PlacesAsked counts (now phases) ⌝ }
     ensures { λ r. ⌜ r ≡ placeOf counts (now (phases .entry)) variable ⌝ }
 {
+    let steps = counts.steps;
     match variable {
         Variable::Shown {
             signal,
@@ -153,30 +148,11 @@ fn place_of(variable: Variable, counts: Counts, phases: &[u32]) -> Place
             counts,
             phases,
         ),
-        Variable::Admitted { link, step } => item_place(
-            link as usize,
-            counts.links,
-            step as usize,
-            counts.steps,
-            63,
-            7,
-        ),
-        Variable::LetOut { link, step } => item_place(
-            link as usize,
-            counts.links,
-            step as usize,
-            counts.steps,
-            87,
-            31,
-        ),
-        Variable::Moved { movement, step } => item_place(
-            movement as usize,
-            counts.movements,
-            step as usize,
-            counts.steps,
-            111,
-            55,
-        ),
+        Variable::Admitted { link, step } => item_place(link, counts.links, step, steps, 63, 7),
+        Variable::LetOut { link, step } => item_place(link, counts.links, step, steps, 87, 31),
+        Variable::Moved { movement, step } => {
+            item_place(movement, counts.movements, step, steps, 111, 55)
+        }
     }
 }
 

@@ -1,7 +1,6 @@
 -- `listing::item_place` meets its contract. Assumes nothing.
 use native.Mathlib.Omega.{arith}
-use Rattle.listing.proofs.Turns.{within-some}
-use Rattle.listing.proofs.Turns.{item-none, item-asked, item-is}
+use Rattle.listing.proofs.Turns.{within-some, item-none, item-asked, item-is}
 use borrow.Author.Needs.{needs}
 use Rattle.listing.proofs.item_place.Statement.{statement}
 use Rattle.listing.proofs.item_place.Tie as tie
