@@ -31,6 +31,7 @@ pub struct LinkResult {
 }
 
 #[repr(C)]
+#[derive(Clone, Copy, Debug, PartialEq, Eq)]
 pub struct CellsResult {
     pub number: u32,
     pub line: u32,

@@ -4,6 +4,8 @@
 //! difference can be found again by itself: `differential 1 SEED` with the seed that is told.
 
 mod compare;
+// Each of the comparing programs calls a part of the library.
+#[allow(dead_code)]
 #[path = "../../../bindings/rust/src/library.rs"]
 mod declarations;
 mod inputs;

@@ -3,6 +3,12 @@
 //! `cells COUNT SEED`: COUNT texts, of the seeds SEED, SEED + 1, .., so that a difference can be found again by itself: `cells 1 SEED` with the seed
 //! that is told.
 
+// Each of the comparing programs calls a part of the library.
+#[allow(dead_code)]
+#[path = "../../../../bindings/rust/src/library.rs"]
+mod declarations;
+
+use declarations::{plancheck_run_cells, CellsResult};
 use plancheck_reference::cases::{damage, Random};
 use plancheck_reference::cells;
 use std::collections::BTreeMap;
@@ -12,22 +18,6 @@ use std::process::ExitCode;
 const MOST_DIFFERENCES: u64 = 20;
 const CELLS: usize = 64;
 const LARGEST: u64 = 2_000_000_000;
-
-#[repr(C)]
-#[derive(Clone, Copy, Debug, PartialEq, Eq)]
-struct CellsResult {
-    number: u32,
-    line: u32,
-    item: u32,
-    cells: u32,
-    flow_in: u64,
-    flow_out: u64,
-    volumes: [u32; CELLS],
-}
-
-extern "C" {
-    fn plancheck_run_cells(corridor: *const u8, corridor_len: usize) -> CellsResult;
-}
 
 #[derive(Default)]
 struct Counts {

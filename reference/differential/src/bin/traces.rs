@@ -3,6 +3,12 @@
 //! `traces COUNT SEED`: COUNT steps, of the seeds SEED, SEED + 1, .., so that a difference can be found again by itself: `traces 1 SEED` with the
 //! seed that is told.
 
+// Each of the comparing programs calls a part of the library.
+#[allow(dead_code)]
+#[path = "../../../../bindings/rust/src/library.rs"]
+mod declarations;
+
+use declarations::{plancheck_step_vehicles, NetworkResult};
 use plancheck_reference::cases::Random;
 use plancheck_reference::traces;
 use std::collections::BTreeMap;
@@ -34,26 +40,6 @@ const SPECIAL: [f64; 18] = [
     0.3,
     1e-17,
 ];
-
-#[repr(C)]
-#[derive(Clone, Copy, Debug, PartialEq, Eq)]
-struct StepResult {
-    number: u32,
-    line: u32,
-    item: u32,
-}
-
-extern "C" {
-    fn plancheck_step_vehicles(
-        places: *mut f64,
-        places_len: usize,
-        advances: *const f64,
-        advances_len: usize,
-        red_lines: *const f64,
-        red_lines_len: usize,
-        spacing: f64,
-    ) -> StepResult;
-}
 
 #[derive(Debug)]
 struct Step {
@@ -129,7 +115,7 @@ fn guarded(places: &[f64]) -> Vec<u64> {
     all.map(|place| place.to_bits()).collect()
 }
 
-fn ask_library(step: &Step) -> (StepResult, Vec<u64>) {
+fn ask_library(step: &Step) -> (NetworkResult, Vec<u64>) {
     let mut numbers: Vec<f64> = guarded(&step.places)
         .into_iter()
         .map(f64::from_bits)
