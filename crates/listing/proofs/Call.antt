@@ -5,6 +5,7 @@ use mathlib.Core.Bool.{Bool, true, false}
 use mathlib.Core.List.{List}
 use native.Mathlib.Numerals.{add-one}
 use native.Mathlib.Omega.{arith}
+use borrow.Author.Needs.{needs}
 use borrow.Author.Tests.{le-leb, lt-leb}
 use lib.Dec.{leb}
 use lib.ListN.{length, getD, take, replicate, length-replicate}
@@ -22,6 +23,7 @@ use Rattle.model.specs.Network.{stepLength, time}
 use Rattle.model.specs.Table.{networkChecks}
 use Rattle.model.proofs.Accepted.{valid-network}
 use Rattle.model.proofs.Limits.{step-limits}
+use Rattle.model.proofs.Numbers.{Numbered, refused-number, network-numbered}
 use Rattle.tables.specs.declared.Counts.{Counts}
 use Rattle.tables.specs.declared.Reading.{Reading}
 use Rattle.tables.specs.declared.Stage.{Stage}
@@ -33,7 +35,7 @@ use Rattle.network.specs.Loading.{Loaded}
 use Rattle.listing_lines.specs.declared.Entry.{Entry}
 use Rattle.listing.specs.declared.ListingAnswer.{ListingAnswer}
 use Rattle.listing.specs.declared.ListingAnswer.the-variants.{Written, Refused}
-use Rattle.listing.specs.Listing.{entryChecksBy, listingChecks, planText, writeChecks, writtenAnswer, writtenBytes}
+use Rattle.listing.specs.Listing.{entryChecksBy, listingChecks, planText, writeChecks, writtenAnswer, planFromListing, writtenBytes, bufferAfter}
 use Rattle.listing.specs.ReadsBack.{PlanGot}
 use Rattle.listing.specs.Tables.{hasIn, secondsIn, TablesAsked, ListingGot, ListingAsked, numberTableSize, seenSize}
 use Rattle.listing.specs.Numbers.{textIn, Kept, LinesAsked}
@@ -188,6 +190,20 @@ unfolding bytesOf writtenBytes
 buffers network listing verdicts.Passes old = refl
 buffers network listing (verdicts.Refused r) old = refl
 
+write-numbered : (network : List Line) (listing : List Entry) (size : ℕ) → Numbered (writeChecks network listing size)
+unfolding Numbered writeChecks listingChecks entryChecksBy
+write-numbered network listing size = search (needs, network-numbered network)
+
+of-answer : (network : List Line) (listing : List Entry) (v : Verdict) (r : Refusal) → writtenAnswer network listing v ≡ Refused r → v ≡ verdicts.Refused r
+unfolding writtenAnswer
+of-answer network listing verdicts.Passes r h = cc
+of-answer network listing (verdicts.Refused q) r h = cc
+
+answer-number : (network : List Line) (listing : List Entry) (size : ℕ) (r : Refusal) → planFromListing network listing size ≡ Refused r → 1 ≤ r .number
+unfolding planFromListing
+answer-number network listing size r h =
+    refused-number (writeChecks network listing size) r (write-numbered network listing size) (of-answer network listing _ r h)
+
 module _ (text : List ℕ) (r : Stage) (links movements times : List ℕ) (g : Judged (networkChecks (lines text)) (Loaded text links movements times) r) where
   pub plan-asked : (reading : Reading) → r ≡ stages.Passed reading → NetworkAsked text reading times
   plan-asked reading e =
@@ -196,24 +212,28 @@ module _ (text : List ℕ) (r : Stage) (links movements times : List ℕ) (g : J
 
   module _ (listing : List Entry) (old : List ℕ) where
     pub plan-refused : (q : Refusal) → r ≡ stages.Refused q → PlanGot (lines text) listing old (Refused q) old
-    unfolding stageVerdict writeChecks verdict writtenAnswer writtenBytes
+    unfolding stageVerdict writeChecks verdict planFromListing bufferAfter writtenAnswer writtenBytes
     plan-refused q e =
         let v : verdict (networkChecks (lines text)) ≡ verdicts.Refused q = sym (g .told) ∙ ap stageVerdict e in
         let o = or-else-refused (verdict (networkChecks (lines text))) (orElse (verdict (listingChecks (lines text) listing)) (roomVerdict (planText (lines text) listing) old)) q v in
+        let t : Refused q ≡ planFromListing (lines text) listing (length old) = sym (ap (writtenAnswer (lines text) listing) o) in
         record {
-          told = sym (ap (writtenAnswer (lines text) listing) o);
+          told = t;
           holds = sym (ap (λ (x : Verdict). writtenBytes (lines text) listing x old) o);
           reads-back = λ end q. let z : _≡_ {A = ℕ} 0 1 = cc in absurd (omega arith);
+          refused-number = λ r e. answer-number (lines text) listing (length old) r (sym t ∙ e);
         }
 
     pub plan-written : (reading : Reading) → r ≡ stages.Passed reading → (answer : ListingAnswer) (new : List ℕ) → ListingWritten (lines text) listing old answer new → PlanGot (lines text) listing old answer new
-    unfolding writeChecks verdict
+    unfolding writeChecks verdict planFromListing bufferAfter
     plan-written reading e answer new w =
         let loaded = g .held reading e in
         let o = or-else-passes (verdict (networkChecks (lines text))) (orElse (verdict (listingChecks (lines text) listing)) (roomVerdict (planText (lines text) listing) old)) (passes-of-hold (networkChecks (lines text)) (loaded .holds)) in
+        let t : answer ≡ planFromListing (lines text) listing (length old) = w .answered ∙ answers (lines text) listing _ ∙ ap (writtenAnswer (lines text) listing) (sym o) in
         record {
-          told = w .answered ∙ answers (lines text) listing _ ∙ ap (writtenAnswer (lines text) listing) (sym o);
+          told = t;
           holds = w .holds ∙ buffers (lines text) listing _ old ∙ ap (λ (x : Verdict). writtenBytes (lines text) listing x old) (sym o);
           reads-back = λ end q. let p = written-parts (planText (lines text) listing) (verdict (listingChecks (lines text) listing)) old answer new w end q in
               rw (p .1) (reads-back (lines text) listing (hold-of-passes (listingChecks (lines text) listing) (p .0)) (loaded .holds));
+          refused-number = λ r e. answer-number (lines text) listing (length old) r (sym t ∙ e);
         }

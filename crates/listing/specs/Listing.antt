@@ -7,7 +7,7 @@ use lib.Dec.{leb, eqb}
 use lib.ListN.{length, getD}
 use Rattle.search.specs.declared.Verdict.{Verdict}
 use Rattle.search.specs.declared.Verdict.the-variants as verdicts
-use Rattle.search.specs.Checks.{Checks, check, each, _then_}
+use Rattle.search.specs.Checks.{Checks, check, each, _then_, verdict}
 use Rattle.records.specs.Field.{largest}
 use Rattle.records.specs.Lines.{Line}
 use Rattle.records.specs.Reading.{over}
@@ -152,7 +152,13 @@ module _ (network : List Line) (listing : List Entry) where
   writtenAnswer verdicts.Passes = Written (length planText)
   writtenAnswer (verdicts.Refused r) = Refused r
 
+  unfoldable pub planFromListing : ℕ → ListingAnswer
+  planFromListing size = writtenAnswer (verdict (writeChecks size))
+
   -- the buffer after: the plan text, and the bytes past it as they were; untouched by a refusal
   unfoldable pub writtenBytes : Verdict → List ℕ → List ℕ
   writtenBytes verdicts.Passes old = over planText old
   writtenBytes (verdicts.Refused r) old = old
+
+  unfoldable pub bufferAfter : List ℕ → List ℕ
+  bufferAfter old = writtenBytes (verdict (writeChecks (length old))) old

@@ -4,7 +4,7 @@ use mathlib.Core.Path.{_≡_}
 use mathlib.Core.Bool.{true}
 use mathlib.Core.List.{List}
 use lib.ListN.{length, take}
-use Rattle.search.specs.Checks.{verdict}
+use Rattle.search.specs.declared.Refusal.{Refusal}
 use Rattle.records.specs.Lines.{Line, lines}
 use Rattle.model.specs.Network.{linkCount, signalCount, movementCount, stepCount, signal, stepLength}
 use Rattle.model.specs.Flows.{shownMask, admitted, letOut, moved}
@@ -14,8 +14,8 @@ use Rattle.listing_lines.specs.declared.Variable.the-variants.{Shown, Admitted,
 use Rattle.listing_lines.specs.declared.Entry.{Entry}
 use Rattle.listing_lines.specs.declared.Entry.the-variants.{Sets}
 use Rattle.listing.specs.declared.ListingAnswer.{ListingAnswer}
-use Rattle.listing.specs.declared.ListingAnswer.the-variants.{Written}
-use Rattle.listing.specs.Listing.{one, hasVariable, volume, lineAt, writeChecks, writtenAnswer, writtenBytes}
+use Rattle.listing.specs.declared.ListingAnswer.the-variants.{Written, Refused}
+use Rattle.listing.specs.Listing.{one, hasVariable, volume, lineAt, planFromListing, bufferAfter}
 
 -- bit k of a number
 abbrev pub bitOf : ℕ → ℕ → ℕ
@@ -46,8 +46,9 @@ pub record ReadsBack (network : List Line) (listing : List Entry) (plan : List L
   -- and so is every bit past the phases of a signal
   pub past : (n r k : ℕ) → n < stepCount network → r < signalCount network → signal network r .phases ≤ k → bitOf (shownMask network plan n r) k ≡ 0
 
--- the answer and the whole buffer are those of the definitions, and a plan that was written reads back
+-- the answer and the whole buffer are those of the definitions, a plan that was written reads back, and no refusal has the number 0
 pub record PlanGot (network : List Line) (listing : List Entry) (old : List ℕ) (answer : ListingAnswer) (new : List ℕ) : Type 0 where
-  pub told : answer ≡ writtenAnswer network listing (verdict (writeChecks network listing (length old)))
-  pub holds : new ≡ writtenBytes network listing (verdict (writeChecks network listing (length old))) old
+  pub told : answer ≡ planFromListing network listing (length old)
+  pub holds : new ≡ bufferAfter network listing old
   pub reads-back : (end : ℕ) → answer ≡ Written end → ReadsBack network listing (lines (take end new))
+  pub refused-number : (r : Refusal) → answer ≡ Refused r → 1 ≤ r .number

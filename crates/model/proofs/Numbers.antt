@@ -22,7 +22,7 @@ use Rattle.model.specs.Calls.{checkNetwork, stateChecks, linkAnswer, lin
 use Rattle.model.proofs.Tests.{every-at}
 
 -- every check has a number from 1 on
-pub Numbered : Checks → Type 0
+unfoldable pub Numbered : Checks → Type 0
 Numbered (check number line item holds) = 1 ≤ number
 Numbered (each n f) = (i : ℕ) → i < n → Numbered (f i)
 Numbered (a then b) = Numbered a × Numbered b
@@ -39,7 +39,7 @@ pub refused-number : (c : Checks) (r : Refusal) → Numbered c → verdict c ≡
 refused-number c r h v = broken-number c r h (refused-first c r v)
 
 -- ---- the checks of the three calls
-network-numbered : (network : List Line) → Numbered (networkChecks network)
+pub network-numbered : (network : List Line) → Numbered (networkChecks network)
 unfolding Numbered networkChecks countChecks signalChecks linkChecks movementChecks shareChecks stepChecks boundaryChecks
 network-numbered network = search needs
 
