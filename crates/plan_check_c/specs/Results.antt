@@ -10,11 +10,14 @@ use Rattle.model.specs.declared.PlanAnswer.{PlanAnswer}
 use Rattle.model.specs.declared.PlanAnswer.the-variants as plan-answer
 use Rattle.model.specs.declared.LinkAnswer.{LinkAnswer}
 use Rattle.model.specs.declared.LinkAnswer.the-variants as link-answer
+use Rattle.listing.specs.declared.ListingAnswer.{ListingAnswer}
+use Rattle.listing.specs.declared.ListingAnswer.the-variants as listing-answer
 use Rattle.cells.specs.declared.CellsAnswer.{CellsAnswer}
 use Rattle.cells.specs.declared.CellsAnswer.the-variants as cells-answer
 use Rattle.plan_check_c.specs.declared.NetworkResult.{NetworkResult}
 use Rattle.plan_check_c.specs.declared.PlanResult.{PlanResult}
 use Rattle.plan_check_c.specs.declared.LinkResult.{LinkResult}
+use Rattle.plan_check_c.specs.declared.TextResult.{TextResult}
 use Rattle.plan_check_c.specs.declared.CellsResult.{CellsResult}
 
 abbrev pub verdictResult : Verdict → NetworkResult
@@ -36,6 +39,15 @@ planAnswerOf r =
 abbrev pub linkResult : LinkAnswer → LinkResult
 linkResult (link-answer.State queued inTransit) = record { number = 0; line = 0; item = 0; queued = queued; «in_transit» = inTransit }
 linkResult (link-answer.Refused r) = record { number = r .number; line = r .line; item = r .item; queued = 0; «in_transit» = 0 }
+
+abbrev pub textResult : ListingAnswer → TextResult
+textResult (listing-answer.Written end) = record { number = 0; line = 0; item = 0; length = end }
+textResult (listing-answer.Refused r) = record { number = r .number; line = r .line; item = r .item; length = 0 }
+
+-- the answer that a C caller reads off: number 0 is a text written, any other a refusal
+abbrev pub listingAnswerOf : TextResult → ListingAnswer
+listingAnswerOf r =
+    cond (eqb (r .number) 0) (listing-answer.Written (r .length)) (listing-answer.Refused (refusal (r .number) (r .line) (r .item)))
 
 abbrev pub cellsResult : CellsAnswer → List ℕ → CellsResult
 cellsResult (cells-answer.Ran cells flowIn flowOut) volumes =

@@ -6,8 +6,12 @@ ghost use Rattle.model.specs.Calls.{checkNetwork, checkPlan, ledgerAfter, linkS
 ghost use Rattle.model.specs.Guarantees.{Promises};
 ghost use Rattle.traces.specs.Call.{stepVehicles, placesAfter};
 ghost use Rattle.cells.specs.Call.{runCells, finalVolumes};
-ghost use Rattle.plan_check_c.specs.Results.{verdictResult, planResult, planAnswerOf, linkResult, cellsResult};
+ghost use Rattle.listing_lines.specs.Entry.{entries};
+ghost use Rattle.listing.specs.Listing.{planFromListing};
+ghost use Rattle.listing.specs.ReadsBack.{PlanGot};
+ghost use Rattle.plan_check_c.specs.Results.{verdictResult, planResult, planAnswerOf, linkResult, textResult, listingAnswerOf, cellsResult};
 use cells::CellsAnswer;
+use listing::ListingAnswer;
 use model::LinkAnswer;
 use model::PlanAnswer;
 use search::Verdict;
@@ -40,6 +44,15 @@ pub struct LinkResult {
     pub item: u32,
     pub queued: u32,
     pub in_transit: u32,
+}
+
+// The answer of a call that writes a text; number 0: it is written, so many bytes.
+#[repr(C)]
+pub struct TextResult {
+    pub number: u32,
+    pub line: u32,
+    pub item: u32,
+    pub length: usize,
 }
 
 // The answer of a run of cells; number 0: so many cells, these totals, and the volumes after the last step, 0 past the cells.
@@ -133,6 +146,31 @@ pub extern "C" fn plancheck_link_state(
             item: r.item,
             queued: 0,
             in_transit: 0,
+        },
+    }
+}
+
+#[no_mangle]
+pub extern "C" fn plancheck_plan_from_listing(
+    network: &[u8],
+    listing: &[u8],
+    plan: &mut [u8],
+) -> TextResult
+    ensures { λ r. ⌜ r ≡ textResult (planFromListing (lines (now (network .entry))) (entries (now (listing .entry))) (length (now (plan .entry)))) ⌝ }
+    ensures { λ r. ⌜ PlanGot (lines (now (network .entry))) (entries (now (listing .entry))) (now (plan .entry)) (listingAnswerOf r) (now (plan .exit)) ⌝ }
+{
+    match listing::plan_from_listing(network, listing, plan) {
+        ListingAnswer::Written(length) => TextResult {
+            number: 0,
+            line: 0,
+            item: 0,
+            length,
+        },
+        ListingAnswer::Refused(r) => TextResult {
+            number: r.number,
+            line: r.line,
+            item: r.item,
+            length: 0,
         },
     }
 }
