@@ -2,8 +2,8 @@
  * plancheck.h: the plan check library (libplan_check_c.a).
  *
  * Decides whether a traffic-signal plan may run on a network under the Queue Transmission Model, and what travel time
- * it gives. Calls: check a network, check a plan, and the state of one link; beside them, a run of a corridor in cells,
- * and a step of vehicles along a street.
+ * it gives. Calls: check a network, check a plan, and the state of one link; beside them, a plan from a solver's listing,
+ * a run of a corridor in cells, and a step of vehicles along a street.
  *
  *     static uint32_t ledger[PLANCHECK_LEDGER_MAX];
  *
@@ -40,6 +40,13 @@
  *     P  mask shown by each signal, volume admitted on each link, volume let out of the network from each link,
  *        volume of each movement                                                                          K lines
  *
+ * The listing of plancheck_plan_from_listing: lines ended by a line feed, each a variable, one space and a decimal of 1 to
+ * 10 digits, then perhaps a point and 1 to 6 more. The lines come in any order; a variable that no line names is 0.
+ *     p_l_k_n       signal l shows phase k in step n: 0 or 1
+ *     i_i_n, o_i_n  rate at which link i admits, and lets out, in step n, in vehicles a second
+ *     m_j_n         rate of movement j in step n
+ * Indices have no leading zeros. A rate times the length of its step must be a whole volume.
+ *
  * The corridor text of plancheck_run_cells, for 1 to 64 cells and 1 to 120 steps, in this order:
  *     C  flow limit, holding limit, wave ratio in thousandths (1 to 1000), volume at the start            a line a cell
  *     X  exit limit                                                                                       one line
@@ -56,11 +63,13 @@
  * DUTIES OF THE CALLER
  *   - No pointer is NULL, not even for length 0: then any aligned address will do.
  *   - A text pointer is readable for its length in bytes; a ledger pointer is aligned for uint32_t and is readable
- *     (and, for plancheck_check_plan, writable) for its length in numbers.
+ *     (and, for plancheck_check_plan, writable) for its length in numbers. The buffer of plancheck_plan_from_listing is
+ *     writable for its length in bytes, and overlaps neither text.
  *   - The ledger lent to plancheck_check_plan overlaps neither text. The texts may overlap each other.
  *   - A pointer to doubles is aligned for double and is readable (the places of plancheck_step_vehicles also writable)
  *     for its length in doubles. The places overlap neither the advances nor the red lines.
- *   - No other thread writes to the texts or the ledger, or reads the ledger of plancheck_check_plan, during the call.
+ *   - No other thread writes to the texts, the ledger or the buffer, or reads the ledger of plancheck_check_plan or the
+ *     buffer, during the call.
  * There are no others: any bytes in the texts, any numbers in the ledger and any lengths are allowed, and lead to a
  * refusal at worst.
  *
@@ -68,18 +77,19 @@
  * It keeps nothing between calls and uses no heap, no global or static data, no file and no errno. The answer depends
  * on the arguments alone. The calls are re-entrant and may run in several threads at once, each plan check with a
  * ledger of its own. A call always returns, after work that grows linearly with the lengths of the texts and with
- * K * (R + L + M), of a corridor with cells * demands, and of a step with vehicles * red lines.
+ * K * (R + L + M), of a listing too, of a corridor with cells * demands, and of a step with vehicles * red lines.
  * The library needs memcpy and memset from the C library, at most.
  *
  * STACK
- * On x86-64, plancheck_check_plan takes at most 7,816 bytes, plancheck_check_network and plancheck_link_state each at
- * most 3,656 (docs/MEASUREMENTS.md; bench/run measures it).
+ * On x86-64, plancheck_check_plan takes at most 8,040 bytes, plancheck_check_network and plancheck_link_state each at
+ * most 3,912 (docs/MEASUREMENTS.md; bench/run measures it). plancheck_plan_from_listing is for an engineer's machine, not
+ * for a box: its tables take 65,416 bytes of stack.
  *
  * ERRORS
  * A result has number 0 (PLANCHECK_OK), or the number of the first refusal in the order of judging, with the line and
  * the item that it names, 0 where it names none. Nothing else is reported: when number is not 0, every other member but
- * line and item is 0. Numbers 1 to 7 name a line of the network text, 9 to 18 a line of the plan text, 36 and 37 a line of
- * the corridor text.
+ * line and item is 0. Numbers 1 to 7 name a line of the network text, 9 to 18 a line of the plan text, 22 and 23 a line of
+ * the listing, 36 and 37 a line of the corridor text.
  * docs/REFUSALS.md says what to do about each.
  */
 #ifndef PLANCHECK_H
@@ -118,6 +128,9 @@ extern "C" {
  */
 #define PLANCHECK_NETWORK_TEXT_MAX 23822
 #define PLANCHECK_PLAN_TEXT_MAX 98160
+
+/* No plan text that plancheck_plan_from_listing writes is longer than this, in bytes. */
+#define PLANCHECK_WRITTEN_PLAN_MAX 151920
 
 /* The longest files, in bytes, that the program plancheck reads. */
 #define PLANCHECK_NETWORK_FILE_MAX 16384
@@ -188,6 +201,16 @@ enum plancheck_number {
     /* The ledger has left above arrived, or arrived above entered: it is not one of this network. */
     PLANCHECK_LEDGER_CONTRADICTION = 21,
 
+    /* Listing. No item. 22, then 23, line by line; 24 last, without a line. */
+
+    /* A line is malformed or unfinished, names what the network does not have, gives a phase a value other than 0 and 1,
+       or sets a variable again. */
+    PLANCHECK_LISTING_FORM = 22,
+    /* A volume is not a whole number of thousandths of a vehicle, or is above 4294967295. */
+    PLANCHECK_LISTING_VOLUME = 23,
+    /* The buffer is shorter than the plan text. */
+    PLANCHECK_BUFFER_TOO_SHORT = 24,
+
     /* Corridor text. No item. */
 
     /* A line is missing, unfinished, surplus, has a wrong letter, a bad number or a wrong number of fields, or a value is
@@ -233,6 +256,14 @@ typedef struct {
     uint32_t in_transit; /* volume that has entered and has not arrived */
 } plancheck_link_result;
 
+/* Answer of plancheck_plan_from_listing. 24 bytes, of which the 4 after item are padding. */
+typedef struct {
+    uint32_t number; /* PLANCHECK_OK: the text is written */
+    uint32_t line;
+    uint32_t item;
+    size_t length; /* of the text, in bytes */
+} plancheck_text_result;
+
 /* Answer of plancheck_run_cells. 288 bytes. */
 typedef struct {
     uint32_t number; /* PLANCHECK_OK: the corridor was run */
@@ -274,6 +305,16 @@ plancheck_plan_result plancheck_check_plan(const uint8_t *network, size_t networ
  */
 plancheck_link_result plancheck_link_state(const uint8_t *network, size_t network_len, const uint32_t *ledger,
                                            size_t ledger_len, uint32_t boundary, uint32_t link);
+
+/*
+ * Writes the plan text of a solver's listing: a line for each step, all that no line names 0. Refusals 1 to 7 of the
+ * network, then 22 and 23 line by line, then 24. The plan itself is not judged: plancheck_check_plan does that.
+ *
+ * Reads both texts. Writes plan[0 .. length - 1], no leading zeros in it; the bytes past the text keep what they held,
+ * and a refusal leaves all of them as they were. PLANCHECK_WRITTEN_PLAN_MAX bytes are enough for every listing.
+ */
+plancheck_text_result plancheck_plan_from_listing(const uint8_t *network, size_t network_len, const uint8_t *listing,
+                                                  size_t listing_len, uint8_t *plan, size_t plan_len);
 
 /*
  * Runs a corridor in cells (the Cell Transmission Model), one step a demand. Refusals 36 and 37, line by line.

@@ -5,10 +5,12 @@
 
 mod cells;
 mod library;
+mod listing;
 mod refusal;
 mod traces;
 
 pub use cells::{run_cells, CellsRun, MAX_CELLS};
+pub use listing::{plan_from_listing, MAX_WRITTEN_PLAN_LEN};
 pub use refusal::{ItemKind, Refusal, Text};
 pub use traces::step_vehicles;
 

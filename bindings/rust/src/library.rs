@@ -42,6 +42,15 @@ pub struct CellsResult {
     pub volumes: [u32; 64],
 }
 
+#[repr(C)]
+#[derive(Clone, Copy, Debug, PartialEq, Eq)]
+pub struct TextResult {
+    pub number: u32,
+    pub line: u32,
+    pub item: u32,
+    pub length: usize,
+}
+
 extern "C" {
     pub fn plancheck_check_network(network: *const u8, network_len: usize) -> NetworkResult;
 
@@ -62,6 +71,15 @@ extern "C" {
         boundary: u32,
         link: u32,
     ) -> LinkResult;
+
+    pub fn plancheck_plan_from_listing(
+        network: *const u8,
+        network_len: usize,
+        listing: *const u8,
+        listing_len: usize,
+        plan: *mut u8,
+        plan_len: usize,
+    ) -> TextResult;
 
     pub fn plancheck_run_cells(corridor: *const u8, corridor_len: usize) -> CellsResult;
 

@@ -5,7 +5,8 @@ use core::fmt;
 /// Why a call declined: the number of the refusal, and the line and the item that it names.
 ///
 /// Lines and items are counted from 1; 0 where none is named. Numbers 1 to 7 name a line of the network text, 9 to 18
-/// a line of the plan text, 36 and 37 a line of the corridor text, the others none. What the item is depends on the number: see [`Refusal::item_kind`].
+/// a line of the plan text, 22 and 23 a line of the listing, 36 and 37 a line of the corridor text, the others none.
+/// What the item is depends on the number: see [`Refusal::item_kind`].
 ///
 /// `Display` says it in words:
 ///
@@ -35,6 +36,8 @@ pub enum Text {
     Network,
     /// The plan text.
     Plan,
+    /// The listing that a plan is written from.
+    Listing,
     /// The corridor text of a run of cells.
     Corridor,
 }
@@ -61,6 +64,7 @@ impl Refusal {
         match self.number {
             1..=7 => Some(Text::Network),
             9..=18 => Some(Text::Plan),
+            22 | 23 => Some(Text::Listing),
             36 | 37 => Some(Text::Corridor),
             _ => None,
         }
@@ -109,6 +113,12 @@ impl Refusal {
             19 => "there is no such boundary",
             20 => "there is no such link",
             21 => "the ledger contradicts itself or the network",
+            22 => {
+                "a line is malformed or unfinished, names what the network does not have, gives a phase a value other \
+                 than 0 and 1, or sets a variable again"
+            }
+            23 => "a volume is not a whole number of thousandths of a vehicle, or is too large",
+            24 => "the buffer is shorter than the plan text",
             36 => {
                 "a line is missing, unfinished or surplus, has a wrong letter, a bad number or a wrong number of fields, \
                  or is beyond its limits"
@@ -126,6 +136,7 @@ impl fmt::Display for Text {
         formatter.write_str(match self {
             Text::Network => "network",
             Text::Plan => "plan",
+            Text::Listing => "listing",
             Text::Corridor => "corridor",
         })
     }
