@@ -9,14 +9,11 @@
  * the ledger of the plan).
  */
 #define _XOPEN_SOURCE 700
+#include "painted_stack.h"
 #include "twin.h"
 
 #include <inttypes.h>
 #include <stdbool.h>
-#include <stdio.h>
-#include <stdlib.h>
-#include <string.h>
-#include <ucontext.h>
 
 struct implementation {
     const char *name;
@@ -29,32 +26,10 @@ static const struct implementation library = {"library", plancheck_check_network
                                               plancheck_link_state};
 static const struct implementation twin = {"twin", twin_check_network, twin_check_plan, twin_link_state};
 
-enum { TEXT_SIZE = 1 << 18, STACK_SIZE = 1 << 18, LEDGER_SIZE = PLANCHECK_LEDGER_MAX + 8 };
-
-struct text {
-    uint8_t bytes[TEXT_SIZE];
-    size_t length;
-};
+enum { LEDGER_SIZE = PLANCHECK_LEDGER_MAX + 8 };
 
 static struct text network, plan;
 static uint32_t ledger[LEDGER_SIZE];
-
-static void fail(const char *problem)
-{
-    fprintf(stderr, "measure: %s\n", problem);
-    exit(2);
-}
-
-static void read_file(const char *path, struct text *text)
-{
-    FILE *file = fopen(path, "rb");
-    if (file == NULL)
-        fail(path);
-    text->length = fread(text->bytes, 1, TEXT_SIZE, file);
-    if (ferror(file) || text->length == TEXT_SIZE)
-        fail(path);
-    fclose(file);
-}
 
 /* The call that is measured, with its arguments and its answer. */
 enum call { CHECK_NETWORK, CHECK_PLAN, LINK_STATE };
@@ -130,28 +105,7 @@ static void print_answer(void)
     }
 }
 
-/* Stack. The call runs on a stack of its own, painted before; what has lost its paint was used. */
-
-static uint8_t stack[STACK_SIZE];
-static ucontext_t caller, callee;
-
-static size_t painted_stack_used(void (*function)(void))
-{
-    const uint8_t paint = 0xA5;
-    memset(stack, paint, STACK_SIZE);
-    if (getcontext(&callee) != 0)
-        fail("no context");
-    callee.uc_stack.ss_sp = stack;
-    callee.uc_stack.ss_size = STACK_SIZE;
-    callee.uc_link = &caller;
-    makecontext(&callee, function, 0);
-    if (swapcontext(&caller, &callee) != 0)
-        fail("no context");
-    size_t unused = 0;
-    while (unused < STACK_SIZE && stack[unused] == paint)
-        unused++;
-    return STACK_SIZE - unused;
-}
+/* Stack. */
 
 static plancheck_network_result empty_check_network(const uint8_t *text, size_t length)
 {
