@@ -4,6 +4,7 @@
 mod damage;
 mod form;
 mod limits;
+mod listings;
 mod network_values;
 mod paper;
 mod plan_breaches;
@@ -15,18 +16,27 @@ mod state_calls;
 mod stored;
 
 pub use damage::damage;
+pub use listings::shuffled_listing;
 pub use random::Random;
 pub use scenario::{Scenario, Size, Traffic};
 pub use stored::{decode, encode, Stored};
 
-use crate::{check_network, check_plan, link_state, Network, PlanStep, Refusal, State, Totals};
+use crate::{
+    check_network, check_plan, link_state, plan_from_listing, Network, PlanStep, Refusal, State,
+    Totals,
+};
 use sheet::Sheet;
 
 #[derive(Clone, Copy, Debug, PartialEq, Eq)]
 pub enum Call {
     CheckNetwork,
     CheckPlan,
-    LinkState { boundary: u64, link: u64 },
+    LinkState {
+        boundary: u64,
+        link: u64,
+    },
+    /// The listing stands in place of the plan.
+    PlanFromListing,
 }
 
 #[derive(Clone, Copy, Debug, PartialEq, Eq)]
@@ -34,11 +44,13 @@ pub enum Answer {
     NetworkAccepted,
     PlanAccepted(Totals),
     State(State),
+    /// A text of this length in bytes, at the start of the buffer.
+    Written(u64),
     Refused(Refusal),
 }
 
 /// What a ledger holds before the call.
-#[derive(Clone, Debug, PartialEq, Eq)]
+#[derive(Clone, Debug, Default, PartialEq, Eq)]
 pub struct Ledger {
     /// How many numbers it has.
     pub length: usize,
@@ -55,19 +67,45 @@ impl Ledger {
     }
 }
 
+/// What a buffer for a text holds before the call.
+#[derive(Clone, Copy, Debug, Default, PartialEq, Eq)]
+pub struct Buffer {
+    /// How many bytes it has.
+    pub length: usize,
+    /// What each of them is.
+    pub fill: u8,
+}
+
+impl Buffer {
+    pub fn bytes(&self) -> Vec<u8> {
+        vec![self.fill; self.length]
+    }
+}
+
 /// The question of a case.
 #[derive(Clone, Debug, PartialEq, Eq)]
 pub struct Question {
     pub network: Vec<u8>,
+    /// The plan, or the listing that one is written from.
     pub plan: Vec<u8>,
     pub ledger: Ledger,
+    pub buffer: Buffer,
     pub call: Call,
 }
 
+/// What a call leaves behind.
+#[derive(Clone, Debug, PartialEq, Eq)]
+pub struct Outcome {
+    pub answer: Answer,
+    pub ledger: Vec<u32>,
+    pub buffer: Vec<u8>,
+}
+
 impl Question {
-    /// The answer of this implementation and the ledger after the call.
-    pub fn judge(&self) -> (Answer, Vec<u32>) {
+    /// What this implementation answers and writes.
+    pub fn judge(&self) -> Outcome {
         let mut ledger = self.ledger.numbers();
+        let mut buffer = self.buffer.bytes();
         let answer = match self.call {
             Call::CheckNetwork => check_network(&self.network).map(|()| Answer::NetworkAccepted),
             Call::CheckPlan => {
@@ -76,8 +114,14 @@ impl Question {
             Call::LinkState { boundary, link } => {
                 link_state(&self.network, &ledger, boundary, link).map(Answer::State)
             }
+            Call::PlanFromListing => plan_from_listing(&self.network, &self.plan, &mut buffer)
+                .map(|length| Answer::Written(length as u64)),
         };
-        (answer.unwrap_or_else(Answer::Refused), ledger)
+        Outcome {
+            answer: answer.unwrap_or_else(Answer::Refused),
+            ledger,
+            buffer,
+        }
     }
 }
 
@@ -89,10 +133,22 @@ pub struct Case {
     /// The answer that the making of the case leads to, where it is known
     /// without judging; not stored.
     pub intended: Option<Answer>,
-    /// The answer of this implementation.
-    pub answer: Answer,
-    /// Checksum of the ledger after the call.
-    pub checksum: u64,
+    /// What the making of the case has the buffer hold after the call, where
+    /// it is known; not stored.
+    pub intended_buffer: Option<Vec<u8>>,
+    /// What this implementation answers and writes.
+    pub outcome: Outcome,
+}
+
+impl Case {
+    pub fn is_as_intended(&self) -> bool {
+        self.intended
+            .is_none_or(|intended| intended == self.outcome.answer)
+            && self
+                .intended_buffer
+                .as_ref()
+                .is_none_or(|intended| *intended == self.outcome.buffer)
+    }
 }
 
 /// A case before it is judged.
@@ -100,17 +156,17 @@ struct Draft {
     name: String,
     question: Question,
     intended: Option<Answer>,
+    intended_buffer: Option<Vec<u8>>,
 }
 
 impl Draft {
     fn judge(self) -> Case {
-        let (answer, ledger) = self.question.judge();
         Case {
+            outcome: self.question.judge(),
             name: self.name,
             question: self.question,
             intended: self.intended,
-            answer,
-            checksum: checksum(&ledger),
+            intended_buffer: self.intended_buffer,
         }
     }
 }
@@ -147,6 +203,23 @@ impl Maker {
             name: name.to_string(),
             question,
             intended,
+            intended_buffer: None,
+        });
+    }
+
+    /// A question whose answer and written text are known.
+    fn ask_about_buffer(
+        &mut self,
+        name: &str,
+        question: Question,
+        answer: Answer,
+        buffer: Vec<u8>,
+    ) {
+        self.drafts.push(Draft {
+            name: name.to_string(),
+            question,
+            intended: Some(answer),
+            intended_buffer: Some(buffer),
         });
     }
 
@@ -169,12 +242,7 @@ impl Maker {
     }
 
     fn ask_network(&mut self, name: &str, texts: Texts, intended: Option<Answer>) {
-        let ledger = Ledger {
-            length: 0,
-            start: Vec::new(),
-            fill: 0,
-        };
-        let question = texts.question(ledger, Call::CheckNetwork);
+        let question = texts.question(Ledger::default(), Call::CheckNetwork);
         self.ask(name, question, intended);
     }
 
@@ -244,6 +312,7 @@ impl Texts {
             network: self.network,
             plan: self.plan,
             ledger,
+            buffer: Buffer::default(),
             call,
         }
     }
@@ -253,9 +322,11 @@ fn refused(number: u64, line: usize, item: usize) -> Refusal {
     Refusal::new(number, line as u64, item as u64)
 }
 
-/// FNV-1a of 64 bits over the numbers as little-endian bytes.
-pub fn checksum(ledger: &[u32]) -> u64 {
-    let bytes = ledger.iter().flat_map(|number| number.to_le_bytes());
+/// FNV-1a of 64 bits over the ledger's numbers as little-endian bytes, then
+/// the buffer's bytes.
+pub fn checksum(ledger: &[u32], buffer: &[u8]) -> u64 {
+    let numbers = ledger.iter().flat_map(|number| number.to_le_bytes());
+    let bytes = numbers.chain(buffer.iter().copied());
     bytes.fold(0xCBF2_9CE4_8422_2325, |sum: u64, byte| {
         (sum ^ u64::from(byte)).wrapping_mul(0x100_0000_01B3)
     })
@@ -341,6 +412,11 @@ pub fn all_families(maker: &mut Maker, scenario: &Scenario) {
     state_calls::contradictions(maker, scenario);
     damage::damaged_networks(maker, scenario, 12);
     damage::damaged_plans(maker, scenario, 12);
+    listings::written(maker, scenario);
+    listings::refused_lines(maker, scenario);
+    listings::volumes(maker, scenario);
+    listings::buffers(maker, scenario);
+    damage::damaged_listings(maker, scenario, 8);
 }
 
 /// Some cases of all families for one small random scenario.
@@ -358,6 +434,9 @@ pub fn random_questions(seed: u64) -> Vec<Question> {
 pub fn largest_questions(seed: u64) -> Vec<Question> {
     let mut maker = Maker::new(seed);
     largest_cases(&mut maker);
+    // Too long to be stored: all 21,120 variables.
+    let scenario = Scenario::make(&mut maker.random, LARGEST, Traffic::Full);
+    listings::written(&mut maker, &scenario);
     maker.asked()
 }
 
@@ -442,6 +521,8 @@ pub fn stored_cases(seed: u64) -> Vec<Case> {
         plan_breaches::two_breaches(&mut maker, &scenario);
         state_calls::outside(&mut maker, &scenario);
         state_calls::contradictions(&mut maker, &scenario);
+        listings::written(&mut maker, &scenario);
+        listings::buffers(&mut maker, &scenario);
     }
 
     damage::random_texts(&mut maker, 60);

@@ -7,6 +7,7 @@
 
 pub mod cases;
 pub mod cells;
+mod listing;
 mod network;
 mod plan;
 mod report;
@@ -34,7 +35,7 @@ impl Refusal {
 }
 
 /// What an accepted plan adds up to.
-#[derive(Clone, Copy, Debug, PartialEq, Eq)]
+#[derive(Clone, Copy, Debug, Default, PartialEq, Eq)]
 pub struct Totals {
     pub admitted: u64,
     pub let_out: u64,
@@ -43,7 +44,7 @@ pub struct Totals {
 }
 
 /// The two parts of what a link holds at a boundary.
-#[derive(Clone, Copy, Debug, PartialEq, Eq)]
+#[derive(Clone, Copy, Debug, Default, PartialEq, Eq)]
 pub struct State {
     /// Standing: arrived at the end of the link and not yet left.
     pub queued: u64,
@@ -60,6 +61,16 @@ pub fn check_network(network: &[u8]) -> Result<(), Refusal> {
 /// n once step n has.
 pub fn check_plan(network: &[u8], plan: &[u8], ledger: &mut [u32]) -> Result<Totals, Refusal> {
     plan::check(network, plan, ledger)
+}
+
+/// Refusals 1 to 7 and 22 to 24. Writes the plan text of a solver's listing at
+/// the start of the buffer and gives its length.
+pub fn plan_from_listing(
+    network: &[u8],
+    listing: &[u8],
+    buffer: &mut [u8],
+) -> Result<usize, Refusal> {
+    listing::write_plan(network, listing, buffer)
 }
 
 /// Refusals 1 to 8 and 19 to 21; nothing is written.

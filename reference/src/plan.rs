@@ -1,7 +1,7 @@
 //! The plan text and refusals 8 to 18.
 
 use crate::network::{Link, Movement, Network};
-use crate::text::{Line, Lines};
+use crate::text::{write_record, Line, Lines};
 use crate::{Refusal, Totals};
 use std::ops::Range;
 
@@ -16,6 +16,27 @@ pub struct PlanStep {
     pub let_out: Vec<u64>,
     /// Volume of each movement.
     pub moved: Vec<u64>,
+}
+
+impl PlanStep {
+    pub fn of_zeros(network: &Network) -> PlanStep {
+        PlanStep {
+            masks: vec![0; network.signals.len()],
+            admitted: vec![0; network.links.len()],
+            let_out: vec![0; network.links.len()],
+            moved: vec![0; network.movements.len()],
+        }
+    }
+}
+
+/// The plan text of these steps.
+pub fn text(steps: &[PlanStep]) -> Vec<u8> {
+    let mut text = Vec::new();
+    for step in steps {
+        let parts = [&step.masks, &step.admitted, &step.let_out, &step.moved];
+        write_record(&mut text, b'P', &parts.map(Vec::as_slice).concat());
+    }
+    text
 }
 
 /// Judges the plan line by line. A row of the ledger is written as soon as its

@@ -3,9 +3,10 @@
 
 use plancheck_reference::cases::{
     accepted_cases, checksum, decode, draw_full_size, draw_small_size, encode, random_cases,
-    stored_cases, Answer, Call, Case, Maker, Random, Scenario, Traffic, LARGEST,
+    shuffled_listing, stored_cases, Answer, Call, Case, Maker, Outcome, Question, Random, Scenario,
+    Traffic, LARGEST,
 };
-use plancheck_reference::Refusal;
+use plancheck_reference::{check_plan, plan_from_listing, Refusal};
 use std::sync::OnceLock;
 
 /// The stored cases, made once for all tests.
@@ -15,16 +16,15 @@ fn stored() -> &'static [Case] {
 }
 
 fn assert_as_intended(case: &Case) {
-    if let Some(intended) = case.intended {
-        assert_eq!(
-            intended,
-            case.answer,
-            "{}\n{}\n{}",
-            case.name,
-            String::from_utf8_lossy(&case.question.network),
-            String::from_utf8_lossy(&case.question.plan)
-        );
-    }
+    assert!(
+        case.is_as_intended(),
+        "{}: {:?}, not {:?}\n{}\n{}",
+        case.name,
+        case.outcome.answer,
+        case.intended,
+        String::from_utf8_lossy(&case.question.network),
+        String::from_utf8_lossy(&case.question.plan)
+    );
 }
 
 #[test]
@@ -64,8 +64,8 @@ fn simulated_plans_pass_with_the_simulated_ledger() {
         for case in maker.judged() {
             assert_as_intended(&case);
             if case.question.call == Call::CheckPlan {
-                let (_, ledger) = case.question.judge();
-                assert_eq!(ledger[..scenario.ledger_need()], scenario.ledger());
+                let ledger = &case.outcome.ledger[..scenario.ledger_need()];
+                assert_eq!(ledger, scenario.ledger());
             }
         }
         traffic.add(scenario);
@@ -139,9 +139,9 @@ fn the_stored_cases_leave_nothing_out() {
         assert_as_intended(case);
     }
     let count = |matches: &dyn Fn(&Case) -> bool| cases.iter().filter(|case| matches(case)).count();
-    for wanted in 1..=21 {
+    for wanted in 1..=24 {
         let refused = count(
-            &|case| matches!(case.answer, Answer::Refused(Refusal { number, .. }) if number == wanted),
+            &|case| matches!(case.outcome.answer, Answer::Refused(Refusal { number, .. }) if number == wanted),
         );
         assert!(refused >= 40, "refusal {wanted}: {refused} cases");
     }
@@ -189,6 +189,26 @@ fn the_stored_cases_leave_nothing_out() {
         "21: arrived below left",
         "21: arrived above entered",
         "row 0 has no say before the travel time",
+        "listing of a plan",
+        "listing of a plan, zeros named",
+        "listing in the plan's order",
+        "listing of any numbers",
+        "empty listing",
+        "last variable alone",
+        "22: malformed",
+        "22: names nothing",
+        "22: repeated",
+        "22: unfinished last line",
+        "22: bytes after the last line",
+        "22: malformed line before a volume",
+        "whole volume",
+        "23: not whole",
+        "23: one too large",
+        "23: too large",
+        "24: buffer too short",
+        "buffer just long enough",
+        "4: before the listing",
+        "damaged listing",
     ] {
         let named = count(&|case| case.name == name);
         assert!(named >= 3, "{name}: {named} cases");
@@ -206,11 +226,9 @@ fn the_stored_form_can_be_read_back() {
     assert_eq!(stored.len(), cases.len());
     for (case, (question, answer, sum)) in cases.iter().zip(&stored) {
         assert_eq!(&case.question, question);
-        assert_eq!(&case.answer, answer);
-        assert_eq!(&case.checksum, sum);
-        let (judged, ledger) = question.judge();
-        assert_eq!(&judged, answer);
-        assert_eq!(&checksum(&ledger), sum);
+        assert_eq!(&case.outcome.answer, answer);
+        let Outcome { ledger, buffer, .. } = &case.outcome;
+        assert_eq!(checksum(ledger, buffer), *sum);
     }
     assert!(decode(&bytes[..bytes.len() - 1]).is_none());
 }
@@ -229,13 +247,41 @@ fn the_stored_file_is_made_from_seed_1() {
 }
 
 #[test]
+fn a_plan_written_from_its_listing_is_the_plan_itself() {
+    let mut random = Random::new(78);
+    let mut accepted = 0;
+    for round in 0..300 {
+        let size = draw_small_size(&mut random);
+        let traffic = [Traffic::Free, Traffic::Full][round % 2];
+        let scenario = Scenario::make(&mut random, size, traffic);
+        let mut maker = Maker::new(1);
+        accepted_cases(&mut maker, &scenario);
+        let case = &maker.judged()[1];
+        let Question { network, plan, .. } = &case.question;
+        let listing = shuffled_listing(&mut random, &scenario);
+        let mut buffer = vec![0; plan.len()];
+        let length = plan_from_listing(network, &listing, &mut buffer);
+        // A listing cannot name every volume; then the plan has lower ones.
+        if buffer[..length.expect("the listing is good")] == plan[..] {
+            let mut ledger = vec![0; scenario.ledger_need()];
+            assert_eq!(
+                check_plan(network, &buffer, &mut ledger),
+                Ok(scenario.totals())
+            );
+            accepted += 1;
+        }
+    }
+    assert!(accepted > 100, "{accepted}");
+}
+
+#[test]
 fn checksums() {
-    // Known values of FNV-1a: no bytes, and the bytes of "abcd".
-    assert_eq!(checksum(&[]), 0xCBF2_9CE4_8422_2325);
-    assert_eq!(
-        checksum(&[u32::from_le_bytes(*b"abcd")]),
-        0xFC17_9F83_EE07_24DD
-    );
+    // Known values of FNV-1a: no bytes, the bytes of "abcd" and of "abcdef".
+    assert_eq!(checksum(&[], b""), 0xCBF2_9CE4_8422_2325);
+    let abcd = [u32::from_le_bytes(*b"abcd")];
+    assert_eq!(checksum(&abcd, b""), 0xFC17_9F83_EE07_24DD);
+    assert_eq!(checksum(&[], b"abcd"), 0xFC17_9F83_EE07_24DD);
+    assert_eq!(checksum(&abcd, b"ef"), 0xD80B_DA3F_BE24_4A0A);
 }
 
 #[test]

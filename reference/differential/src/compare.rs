@@ -1,11 +1,13 @@
 //! One input, judged by both.
 
-use crate::declarations::{LinkResult, NetworkResult, PlanResult};
+use crate::declarations::{LinkResult, NetworkResult, PlanResult, TextResult};
 use crate::library;
-use plancheck_reference::cases::{Answer, Call, Question};
+use plancheck_reference::cases::{Answer, Call, Outcome, Question};
+use plancheck_reference::{State, Totals};
 
-/// What stands on both sides of the ledger, to see that nothing is written there.
-const GUARD: u32 = 0xA5C3_96F0;
+/// What stands on both sides of what is lent, to see that nothing is written there.
+const NUMBER_GUARD: u32 = 0xA5C3_96F0;
+const BYTE_GUARD: u8 = 0xA5;
 const GUARDS: usize = 4;
 
 /// All that a call of the library gives.
@@ -14,49 +16,85 @@ pub enum Given {
     Network(NetworkResult),
     Plan(PlanResult),
     Link(LinkResult),
+    Text(TextResult),
 }
 
-/// What both said of an input, and the ledgers that they left.
-pub struct Compared {
-    pub answer: Answer,
-    pub expected: Given,
+/// What the library gave for an input, and what it left in ledger and buffer.
+pub struct Asked {
     pub given: Given,
-    pub expected_ledger: Vec<u32>,
-    pub given_ledger: Vec<u32>,
+    pub ledger: Vec<u32>,
+    pub buffer: Vec<u8>,
     pub is_guard_kept: bool,
+}
+
+/// What both said of an input.
+pub struct Compared {
+    pub expected: Given,
+    pub outcome: Outcome,
+    pub asked: Asked,
 }
 
 impl Compared {
     pub fn agree(&self) -> bool {
-        self.expected == self.given
-            && self.expected_ledger == self.given_ledger
-            && self.is_guard_kept
+        self.expected == self.asked.given
+            && self.outcome.ledger == self.asked.ledger
+            && self.outcome.buffer == self.asked.buffer
+            && self.asked.is_guard_kept
     }
 }
 
 /// Nothing where the library has no such call: its boundaries and links are of 32 bits.
 pub fn compare(question: &Question) -> Option<Compared> {
-    let before = question.ledger.numbers();
-    let mut guarded = vec![GUARD; before.len() + 2 * GUARDS];
-    let inside = GUARDS..GUARDS + before.len();
-    guarded[inside.clone()].copy_from_slice(&before);
-    let given = ask_library(question, &mut guarded[inside.clone()])?;
-    let (answer, expected_ledger) = question.judge();
-    let is_guard_kept = guarded[..inside.start]
-        .iter()
-        .chain(&guarded[inside.end..])
-        .all(|&number| number == GUARD);
+    let asked = ask(question)?;
+    let outcome = question.judge();
     Some(Compared {
-        answer,
-        expected: in_numbers(question.call, answer),
-        given,
-        expected_ledger,
-        given_ledger: guarded[inside].to_vec(),
-        is_guard_kept,
+        expected: in_numbers(question.call, outcome.answer),
+        outcome,
+        asked,
     })
 }
 
-fn ask_library(question: &Question, ledger: &mut [u32]) -> Option<Given> {
+/// Lends the library a ledger and a buffer between guards.
+fn ask(question: &Question) -> Option<Asked> {
+    let mut ledger = Guarded::new(&question.ledger.numbers(), NUMBER_GUARD);
+    let mut buffer = Guarded::new(&question.buffer.bytes(), BYTE_GUARD);
+    let given = ask_library(question, ledger.inside(), buffer.inside())?;
+    Some(Asked {
+        given,
+        is_guard_kept: ledger.is_kept() && buffer.is_kept(),
+        ledger: ledger.inside().to_vec(),
+        buffer: buffer.inside().to_vec(),
+    })
+}
+
+/// Numbers or bytes between guards.
+struct Guarded<T> {
+    whole: Vec<T>,
+    guard: T,
+}
+
+impl<T: Copy + PartialEq> Guarded<T> {
+    fn new(inside: &[T], guard: T) -> Guarded<T> {
+        let guards = [guard; GUARDS];
+        Guarded {
+            whole: [&guards, inside, &guards].concat(),
+            guard,
+        }
+    }
+
+    fn inside(&mut self) -> &mut [T] {
+        let end = self.whole.len() - GUARDS;
+        &mut self.whole[GUARDS..end]
+    }
+
+    fn is_kept(&self) -> bool {
+        let end = self.whole.len() - GUARDS;
+        let guards = self.whole[..GUARDS].iter().chain(&self.whole[end..]);
+        guards.copied().all(|guard| guard == self.guard)
+    }
+}
+
+fn ask_library(question: &Question, ledger: &mut [u32], buffer: &mut [u8]) -> Option<Given> {
     let network = &question.network;
     Some(match question.call {
         Call::CheckNetwork => Given::Network(library::check_network(network)),
@@ -65,6 +103,9 @@ fn ask_library(question: &Question, ledger: &mut [u32]) -> Option<Given> {
             let boundary = u32::try_from(boundary).ok()?;
             let link = u32::try_from(link).ok()?;
             Given::Link(library::link_state(network, ledger, boundary, link))
+        }
+        Call::PlanFromListing => {
+            Given::Text(library::plan_from_listing(network, &question.plan, buffer))
         }
     })
 }
@@ -76,40 +117,48 @@ fn in_numbers(call: Call, answer: Answer) -> Given {
         _ => (0, 0, 0),
     };
     let [number, line, item] = [number, line, item].map(narrow);
-    match (call, answer) {
-        (Call::CheckNetwork, _) => Given::Network(NetworkResult { number, line, item }),
-        (Call::CheckPlan, Answer::PlanAccepted(totals)) => Given::Plan(PlanResult {
-            number,
-            line,
-            item,
-            admitted: totals.admitted,
-            let_out: totals.let_out,
-            inside: totals.inside,
-            doubled_time: totals.doubled_time,
-        }),
-        (Call::CheckPlan, _) => Given::Plan(PlanResult {
-            number,
-            line,
-            item,
-            admitted: 0,
-            let_out: 0,
-            inside: 0,
-            doubled_time: 0,
-        }),
-        (Call::LinkState { .. }, Answer::State(state)) => Given::Link(LinkResult {
-            number,
-            line,
-            item,
-            queued: narrow(state.queued),
-            in_transit: narrow(state.in_transit),
-        }),
-        (Call::LinkState { .. }, _) => Given::Link(LinkResult {
-            number,
-            line,
-            item,
-            queued: 0,
-            in_transit: 0,
-        }),
+    match call {
+        Call::CheckNetwork => Given::Network(NetworkResult { number, line, item }),
+        Call::CheckPlan => {
+            let totals = match answer {
+                Answer::PlanAccepted(totals) => totals,
+                _ => Totals::default(),
+            };
+            Given::Plan(PlanResult {
+                number,
+                line,
+                item,
+                admitted: totals.admitted,
+                let_out: totals.let_out,
+                inside: totals.inside,
+                doubled_time: totals.doubled_time,
+            })
+        }
+        Call::LinkState { .. } => {
+            let state = match answer {
+                Answer::State(state) => state,
+                _ => State::default(),
+            };
+            Given::Link(LinkResult {
+                number,
+                line,
+                item,
+                queued: narrow(state.queued),
+                in_transit: narrow(state.in_transit),
+            })
+        }
+        Call::PlanFromListing => {
+            let length = match answer {
+                Answer::Written(length) => length as usize,
+                _ => 0,
+            };
+            Given::Text(TextResult {
+                number,
+                line,
+                item,
+                length,
+            })
+        }
     }
 }
 

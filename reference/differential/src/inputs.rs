@@ -23,7 +23,7 @@ pub fn round(seed: u64) -> Vec<Question> {
     inputs
 }
 
-/// Texts, ledger and call, each changed or kept.
+/// Texts, ledger or buffer, and call, each changed or kept.
 fn mutate(random: &mut Random, question: &Question) -> Question {
     let mut mutated = question.clone();
     if random.chance(35) {
@@ -35,10 +35,21 @@ fn mutate(random: &mut Random, question: &Question) -> Question {
     if random.chance(30) {
         mutated.ledger = mutate_ledger(random, &question.ledger);
     }
-    if random.chance(40) {
+    if random.chance(30) {
+        mutated.buffer.length = draw_room(random, question.buffer.length);
+    }
+    if random.chance(40) && question.call != Call::PlanFromListing {
         mutated.call = draw_call(random);
     }
     mutated
+}
+
+/// A few bytes more or fewer, or any number of them up to as many.
+fn draw_room(random: &mut Random, length: usize) -> usize {
+    let more = length + random.index(9);
+    let fewer = length.saturating_sub(random.index(9));
+    let any = random.index(length + 1);
+    random.pick(&[more, fewer, any])
 }
 
 /// A little longer or shorter, with other numbers at some places.

@@ -1,8 +1,8 @@
 //! The calls of the C library on slices, with all that they give.
 
-use crate::declarations::{self, LinkResult, NetworkResult, PlanResult};
+use crate::declarations::{self, LinkResult, NetworkResult, PlanResult, TextResult};
 
-// SAFETY of the three: a slice gives an aligned pointer that is not null, readable (and, where it is mutable, writable) for its length, and
+// SAFETY of all: a slice gives an aligned pointer that is not null, readable (and, where it is mutable, writable) for its length, and
 // no other reference reaches what a mutable one does. The header asks for no more.
 
 pub fn check_network(network: &[u8]) -> NetworkResult {
@@ -31,6 +31,19 @@ pub fn link_state(network: &[u8], ledger: &[u32], boundary: u32, link: u32) -> L
             ledger.len(),
             boundary,
             link,
+        )
+    }
+}
+
+pub fn plan_from_listing(network: &[u8], listing: &[u8], plan: &mut [u8]) -> TextResult {
+    unsafe {
+        declarations::plancheck_plan_from_listing(
+            network.as_ptr(),
+            network.len(),
+            listing.as_ptr(),
+            listing.len(),
+            plan.as_mut_ptr(),
+            plan.len(),
         )
     }
 }

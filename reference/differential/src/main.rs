@@ -1,4 +1,4 @@
-//! Compares the C library with the other implementation: each answer, and every number of the ledger after the call.
+//! Compares the C library with the other implementation: each answer, every number of the ledger and every byte of the buffer after the call.
 //!
 //! `differential COUNT SEED`: at least COUNT inputs, made from SEED. The inputs of round n are those of the seed SEED + n, so that a
 //! difference can be found again by itself: `differential 1 SEED` with the seed that is told.
@@ -14,10 +14,18 @@ mod library;
 use compare::{compare, Compared};
 use plancheck_reference::cases::{Answer, Call, Question};
 use std::collections::BTreeMap;
+use std::fmt::Display;
 use std::process::ExitCode;
 
 /// After so many differences nothing more is learnt.
 const MOST_DIFFERENCES: u64 = 20;
+
+const CALLS: [&str; 4] = [
+    "check_network",
+    "check_plan",
+    "link_state",
+    "plan_from_listing",
+];
 
 #[derive(Default)]
 struct Counts {
@@ -69,7 +77,7 @@ fn judge(counts: &mut Counts, seed: u64, index: usize, question: &Question) {
         return;
     };
     counts.inputs += 1;
-    let number = match compared.answer {
+    let number = match compared.outcome.answer {
         Answer::Refused(refusal) => refusal.number,
         _ => 0,
     };
@@ -86,6 +94,7 @@ fn name_of(call: Call) -> &'static str {
         Call::CheckNetwork => "check_network",
         Call::CheckPlan => "check_plan",
         Call::LinkState { .. } => "link_state",
+        Call::PlanFromListing => "plan_from_listing",
     }
 }
 
@@ -95,30 +104,37 @@ fn tell_difference(seed: u64, index: usize, question: &Question, compared: &Comp
         question.call
     );
     println!("reference {:?}", compared.expected);
-    println!("library   {:?}", compared.given);
-    if !compared.is_guard_kept {
-        println!("the library wrote outside the ledger");
+    println!("library   {:?}", compared.asked.given);
+    if !compared.asked.is_guard_kept {
+        println!("the library wrote outside of what it was lent");
     }
-    let pairs = compared.expected_ledger.iter().zip(&compared.given_ledger);
-    if let Some((place, (expected, given))) = pairs.enumerate().find(|(_, (a, b))| a != b) {
-        println!("ledger[{place}]: reference {expected}, library {given}");
-    }
+    tell_place("ledger", &compared.outcome.ledger, &compared.asked.ledger);
+    tell_place("buffer", &compared.outcome.buffer, &compared.asked.buffer);
     println!("ledger of {} numbers", question.ledger.length);
+    println!("buffer of {} bytes", question.buffer.length);
     println!("network: {}", question.network.escape_ascii());
-    println!("plan: {}", question.plan.escape_ascii());
+    println!("plan or listing: {}", question.plan.escape_ascii());
+}
+
+/// The first place at which what was written differs.
+fn tell_place<T: PartialEq + Display>(name: &str, expected: &[T], given: &[T]) {
+    let pairs = expected.iter().zip(given).enumerate();
+    for (place, (expected, given)) in pairs.filter(|(_, (a, b))| a != b).take(1) {
+        println!("{name}[{place}]: reference {expected}, library {given}");
+    }
 }
 
 fn report(counts: &Counts) {
-    println!("answer\tcheck_network\tcheck_plan\tlink_state");
-    for number in 0..=21 {
-        let columns = ["check_network", "check_plan", "link_state"]
-            .map(|call| counts.answers.get(&(call, number)).copied().unwrap_or(0));
+    println!("answer\t{}", CALLS.join("\t"));
+    for number in 0..=24 {
+        let count = |call| counts.answers.get(&(call, number)).copied().unwrap_or(0);
+        let columns = CALLS.map(|call| count(call).to_string());
         let name = if number == 0 {
             "accepted".to_string()
         } else {
             number.to_string()
         };
-        println!("{name}\t{}\t{}\t{}", columns[0], columns[1], columns[2]);
+        println!("{name}\t{}", columns.join("\t"));
     }
     println!("passed over\t{}", counts.passed_over);
     println!("inputs\t{}", counts.inputs);

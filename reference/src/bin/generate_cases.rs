@@ -31,13 +31,10 @@ fn run() -> Result<(), String> {
     for (number, case) in cases.iter().enumerate() {
         // A case that is not what it was made for shows a fault in the maker
         // or in the judge; nothing is to be built on it.
-        if case
-            .intended
-            .is_some_and(|intended| intended != case.answer)
-        {
+        if !case.is_as_intended() {
             return Err(format!(
-                "case {number} ({}) was made for {:?}, but is answered {:?}",
-                case.name, case.intended, case.answer
+                "case {number} ({}) was made for {:?}, but is answered {:?} or writes something else",
+                case.name, case.intended, case.outcome.answer
             ));
         }
     }
@@ -53,10 +50,11 @@ fn run() -> Result<(), String> {
 fn index_text(cases: &[Case]) -> String {
     let mut text = String::new();
     for (number, case) in cases.iter().enumerate() {
-        let answer = match case.answer {
+        let answer = match case.outcome.answer {
             Answer::NetworkAccepted => "network accepted".to_string(),
             Answer::PlanAccepted(_) => "plan accepted".to_string(),
             Answer::State(_) => "state".to_string(),
+            Answer::Written(length) => format!("written {length}"),
             Answer::Refused(refusal) => format!(
                 "refused {} {} {}",
                 refusal.number, refusal.line, refusal.item
@@ -69,7 +67,10 @@ fn index_text(cases: &[Case]) -> String {
 
 fn print_summary(cases: &[Case], size: usize) {
     let count = |matches: &dyn Fn(&Answer) -> bool| {
-        cases.iter().filter(|case| matches(&case.answer)).count()
+        cases
+            .iter()
+            .filter(|case| matches(&case.outcome.answer))
+            .count()
     };
     println!("cases\t{}", cases.len());
     println!("bytes\t{size}");
@@ -81,7 +82,11 @@ fn print_summary(cases: &[Case], size: usize) {
         "state\t{}",
         count(&|answer| matches!(answer, Answer::State(_)))
     );
-    for number in 1..=21 {
+    println!(
+        "written\t{}",
+        count(&|answer| matches!(answer, Answer::Written(_)))
+    );
+    for number in 1..=24 {
         let refused =
             count(&|answer| matches!(answer, Answer::Refused(refusal) if refusal.number == number));
         println!("refused {number}\t{refused}");

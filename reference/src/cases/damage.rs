@@ -1,5 +1,6 @@
 //! Damaged and random texts.
 
+use super::listings::shuffled_listing;
 use super::{Maker, Random, Scenario, Texts};
 
 /// Networks with some damage, for all calls.
@@ -26,6 +27,25 @@ pub fn damaged_plans(maker: &mut Maker, scenario: &Scenario, count: usize) {
     }
 }
 
+/// Listings with some damage, and lines of a listing's characters.
+pub fn damaged_listings(maker: &mut Maker, scenario: &Scenario, count: usize) {
+    for round in 0..count {
+        let random = &mut maker.random;
+        let listing = if round % 4 == 3 {
+            let length = random.index(80);
+            (0..length)
+                .map(|_| random.pick(b"piom___0111122233. \n\n"))
+                .collect()
+        } else {
+            let whole = shuffled_listing(random, scenario);
+            let lines = whole.split_inclusive(|&byte| byte == b'\n');
+            let some: Vec<&[u8]> = lines.take(random.index(30)).collect();
+            damage(random, &some.concat())
+        };
+        maker.ask_any_listing("damaged listing", scenario, listing);
+    }
+}
+
 /// One to three damages to a text.
 pub fn damage(random: &mut Random, text: &[u8]) -> Vec<u8> {
     let mut text = text.to_vec();
@@ -48,7 +68,8 @@ fn damage_byte(random: &mut Random, text: &[u8]) -> Vec<u8> {
     let place = random.index(text.len() + 1);
     let any = random.draw() as u8;
     let byte = random.pick(&[
-        b'\t', b'\n', b'\t', b'\n', b'0', b'1', b'9', b'-', b' ', b'\r', 0, b'P', b'G', any, any,
+        b'\t', b'\n', b'\t', b'\n', b'0', b'1', b'9', b'-', b' ', b'\r', 0, b'P', b'G', b'_', b'.',
+        any, any,
     ]);
     if place == text.len() {
         text.push(byte);
@@ -71,8 +92,9 @@ fn damage_byte(random: &mut Random, text: &[u8]) -> Vec<u8> {
 
 /// Changes one number, often by little.
 fn damage_number(random: &mut Random, text: &[u8]) -> Vec<u8> {
+    // A listing parts its numbers by other bytes than the two texts do.
     let separators: Vec<usize> = (0..text.len())
-        .filter(|&place| text[place] == b'\t')
+        .filter(|&place| matches!(text[place], b'\t' | b'_' | b' '))
         .collect();
     if separators.is_empty() {
         return damage_byte(random, text);
@@ -80,7 +102,7 @@ fn damage_number(random: &mut Random, text: &[u8]) -> Vec<u8> {
     let start = separators[random.index(separators.len())] + 1;
     let length = text[start..]
         .iter()
-        .position(|&byte| byte == b'\t' || byte == b'\n')
+        .position(|byte| matches!(byte, b'\t' | b'\n' | b'_' | b' ' | b'.'))
         .unwrap_or(text.len() - start);
     let field = &text[start..start + length];
     let number: Option<u64> = std::str::from_utf8(field)

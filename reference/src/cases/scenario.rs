@@ -594,7 +594,7 @@ fn movements_from(network: &Network, link: usize) -> Vec<usize> {
         .collect()
 }
 
-fn greatest_common_divisor(a: u64, b: u64) -> u64 {
+pub fn greatest_common_divisor(a: u64, b: u64) -> u64 {
     if b == 0 {
         a
     } else {

@@ -8,11 +8,12 @@
 //!
 //! ```text
 //! 8 bytes  "PLANCASE"
-//! u32      version of this form: 1
+//! u32      version of this form: 2
 //! u32      number of cases
 //! u32      greatest length of a network text, in bytes
-//! u32      greatest length of a plan text, in bytes
+//! u32      greatest length of a plan text or listing, in bytes
 //! u32      greatest length of a ledger, in 32-bit numbers
+//! u32      greatest length of a buffer, in bytes
 //! ```
 //!
 //! Then, for each case:
@@ -20,23 +21,29 @@
 //! ```text
 //! u32      length of the network text, or 0xFFFFFFFF for the same network as
 //!          in the case before; else its bytes follow
-//! u32      length of the plan text, or 0xFFFFFFFF for the same plan as in the
-//!          case before; else its bytes follow
+//! u32      length of the plan text (of the listing if the call is 4), or
+//!          0xFFFFFFFF for the same one as in the case before; else its bytes
+//!          follow
 //! u32      length of the ledger, in numbers
 //! u32      fill: what the ledger holds before the call, except at its start
 //! u32      number of given numbers at the ledger's start (at most its length),
 //!          or 0xFFFFFFFF for the same ones as in the case before; else the
 //!          numbers follow, a u32 each
-//! u32      call: 1 check a network, 2 check a plan, 3 state of one link
+//! u32      length of the buffer, in bytes (0 unless the call is 4)
+//! u32      what each byte of the buffer is before the call
+//! u32      call: 1 check a network, 2 check a plan, 3 state of one link,
+//!          4 plan from a listing
 //! u64      boundary (0 unless the call is 3)
 //! u64      link (0 unless the call is 3)
-//! u32      answer: 0 network accepted, 1 plan accepted, 2 state, 3 refused
+//! u32      answer: 0 network accepted, 1 plan accepted, 2 state, 3 refused,
+//!          4 written
 //! u64 x 4  numbers of the answer
 //!            0: 0, 0, 0, 0
 //!            1: admitted, let out, inside, doubled travel time
 //!            2: queued (standing), in transit (moving), 0, 0
 //!            3: refusal number, line, item, 0
-//! u64      checksum of the whole ledger after the call
+//!            4: length of the written text, 0, 0, 0
+//! u64      checksum of the whole ledger and the whole buffer after the call
 //! ```
 //!
 //! The first case gives both texts and the ledger's start in full. "The same
@@ -45,17 +52,17 @@
 //! and 3) is there all the same.
 //!
 //! The checksum is FNV-1a of 64 bits over the ledger's numbers in order, each
-//! as four bytes, the lowest first: start with 0xCBF29CE484222325; for each
+//! as four bytes, the lowest first, then over the buffer's bytes: start with 0xCBF29CE484222325; for each
 //! byte, exclusive-or it in, then multiply by 0x100000001B3, modulo 2^64.
 //!
 //! In a few state cases the boundary or the link is above 4,294,967,295; a
 //! program whose call takes 32-bit numbers passes those over.
 
-use super::{Answer, Call, Case, Ledger, Question};
+use super::{checksum, Answer, Buffer, Call, Case, Ledger, Outcome, Question};
 use crate::{Refusal, State, Totals};
 
 const MAGIC: &[u8; 8] = b"PLANCASE";
-const VERSION: u32 = 1;
+const VERSION: u32 = 2;
 const SAME: u32 = u32::MAX;
 
 /// The stored form of cases.
@@ -73,6 +80,7 @@ pub fn encode(cases: &[Case]) -> Vec<u8> {
         greatest(|question| question.network.len()),
         greatest(|question| question.plan.len()),
         greatest(|question| question.ledger.length),
+        greatest(|question| question.buffer.length),
     ] {
         bytes.extend(number.to_le_bytes());
     }
@@ -112,16 +120,25 @@ fn encode_case(bytes: &mut Vec<u8>, case: &Case, before: Option<&Question>) {
         bytes.extend(start.iter().flat_map(|number| number.to_le_bytes()));
     }
 
+    bytes.extend((question.buffer.length as u32).to_le_bytes());
+    bytes.extend(u32::from(question.buffer.fill).to_le_bytes());
+
     let (call, boundary, link) = match question.call {
         Call::CheckNetwork => (1u32, 0u64, 0u64),
         Call::CheckPlan => (2, 0, 0),
         Call::LinkState { boundary, link } => (3, boundary, link),
+        Call::PlanFromListing => (4, 0, 0),
     };
     bytes.extend(call.to_le_bytes());
     bytes.extend(boundary.to_le_bytes());
     bytes.extend(link.to_le_bytes());
 
-    let (kind, numbers) = match case.answer {
+    let Outcome {
+        answer,
+        ledger,
+        buffer,
+    } = &case.outcome;
+    let (kind, numbers) = match *answer {
         Answer::NetworkAccepted => (0u32, [0; 4]),
         Answer::PlanAccepted(totals) => (
             1,
@@ -134,15 +151,16 @@ fn encode_case(bytes: &mut Vec<u8>, case: &Case, before: Option<&Question>) {
         ),
         Answer::State(state) => (2, [state.queued, state.in_transit, 0, 0]),
         Answer::Refused(refusal) => (3, [refusal.number, refusal.line, refusal.item, 0]),
+        Answer::Written(length) => (4, [length, 0, 0, 0]),
     };
     bytes.extend(kind.to_le_bytes());
     for number in numbers {
         bytes.extend(number.to_le_bytes());
     }
-    bytes.extend(case.checksum.to_le_bytes());
+    bytes.extend(checksum(ledger, buffer).to_le_bytes());
 }
 
-/// A stored case: its question, its answer and the ledger's checksum.
+/// A stored case: its question, its answer and the checksum of what is written.
 pub type Stored = (Question, Answer, u64);
 
 /// Reads the stored form; nothing if the bytes are not of that form.
@@ -155,6 +173,7 @@ pub fn decode(bytes: &[u8]) -> Option<Vec<Stored>> {
     let _greatest_network_length = reader.u32()?;
     let _greatest_plan_length = reader.u32()?;
     let _greatest_ledger_length = reader.u32()?;
+    let _greatest_buffer_length = reader.u32()?;
     let mut cases: Vec<Stored> = Vec::new();
     for _ in 0..count {
         let before = cases.last().map(|case| &case.0);
@@ -205,6 +224,10 @@ impl<'a> Reader<'a> {
                     .collect()
             }
         };
+        let buffer = Buffer {
+            length: self.u32()? as usize,
+            fill: u8::try_from(self.u32()?).ok()?,
+        };
         let call = self.u32()?;
         let boundary = self.u64()?;
         let link = self.u64()?;
@@ -212,6 +235,7 @@ impl<'a> Reader<'a> {
             1 => Call::CheckNetwork,
             2 => Call::CheckPlan,
             3 => Call::LinkState { boundary, link },
+            4 => Call::PlanFromListing,
             _ => return None,
         };
         let kind = self.u32()?;
@@ -229,6 +253,7 @@ impl<'a> Reader<'a> {
                 in_transit: numbers[1],
             }),
             3 => Answer::Refused(Refusal::new(numbers[0], numbers[1], numbers[2])),
+            4 => Answer::Written(numbers[0]),
             _ => return None,
         };
         let question = Question {
@@ -239,6 +264,7 @@ impl<'a> Reader<'a> {
                 start,
                 fill,
             },
+            buffer,
             call,
         };
         Some((question, answer, self.u64()?))

@@ -2,6 +2,7 @@
 //! both sides, and what stands in the ledger afterwards.
 
 mod fixture;
+mod listing;
 mod network;
 mod plan;
 mod state;
