@@ -1,26 +1,31 @@
--- The ledger before a call, a number at a time, the answers, a call at a time, the places, a way through `judge` at a time, and the
+-- The ledger before a call, a number at a time, the buffer, valid questions, the answers, a call at a time, the places, a way through `judge` at a time, and the
 -- counting, a case at a time. Assumes nothing.
 use Prim.Native.Nat.{ℕ, _+_, _*_, _-_, _<_, _≤_}
 use native.Mathlib.Numerals.{add-one}
 use mathlib.Core.Path.{_≡_, ap, sym, _∙_}
 use mathlib.Core.Bool.{Bool, true, false, cond}
-use mathlib.Core.List.{List}
+use mathlib.Core.List.{List, _++_, append-nil}
 use native.Mathlib.Omega.{arith}
 use borrow.Author.Count.{below-more}
-use borrow.Author.Tests.{eq-eqb, ne-eqb, lt-ltb, le-ltb}
-use lib.ListN.{length, getD, set}
+use borrow.Author.Tests.{eq-eqb, ne-eqb, lt-ltb, le-ltb, leb-true}
+use lib.ListN.{length, getD, set, drop, drop-of-length-le, replicate}
 use lib.Seq.{getD-set-same, getD-set-other}
 use Rattle.records.specs.Lines.{lines}
+use Rattle.model.specs.Test.{within}
+use Rattle.model.proofs.Tests.{and-left, and-right}
 use Rattle.model.specs.Calls.{checkNetwork, checkPlan, ledgerAfter, linkState}
 use Rattle.search.specs.declared.Verdict.{Verdict}
 use Rattle.model.specs.declared.PlanAnswer.{PlanAnswer}
 use Rattle.model.specs.declared.LinkAnswer.{LinkAnswer}
-use Rattle.conformance_cases.specs.Outcome.{networkOutcome, planOutcome, linkOutcome}
+use Rattle.listing_lines.specs.Entry.{entries}
+use Rattle.listing.specs.declared.ListingAnswer.{ListingAnswer}
+use Rattle.listing.specs.ReadsBack.{PlanGot}
+use Rattle.conformance_cases.specs.Outcome.{networkOutcome, planOutcome, linkOutcome, listingOutcome}
 use Rattle.conformance_cases.specs.declared.outcome.Outcome.{Outcome}
 use Rattle.conformance_cases.specs.declared.stored.LedgerForm.{LedgerForm}
 use Rattle.conformance_cases.specs.declared.stored.Question.{Question}
-use Rattle.conformance.specs.Compare.{heldAt, Filled, answerTo, ledgerTo, asStored, placeIn, Judged, CaseCounted, OneMore, Counted, more}
-use Rattle.conformance.specs.Tally.{different, passedOver, refusalOf, placeOf, counted}
+use Rattle.conformance.specs.Compare.{validQuestion, heldAt, Filled, bufferBefore, writeVerdict, answerTo, ledgerTo, bufferTo, checksumTo, asStored, placeIn, Judged, CaseCounted, OneMore, Counted, more}
+use Rattle.conformance.specs.Tally.{answers, different, passedOver, refusalOf, placeOf, counted}
 use Rattle.conformance_cases.specs.Checksum.{checksumOf}
 
 -- the ledger is filled below a place
@@ -38,66 +43,108 @@ pub filled-all : (start : List ℕ) (fill : ℕ) (ledger : List ℕ) (n : ℕ) �
 unfolding Filled
 filled-all start fill ledger n h below i l = below i (omega arith)
 
-module _ (network plan ledger : List ℕ) (question : Question) where
+-- every byte is the fill
+pub filled-whole : (buffer : List ℕ) (fill n : ℕ) → length buffer ≤ n → n ≤ length buffer → replicate n fill ++ drop n buffer ≡ replicate (length buffer) fill
+filled-whole buffer fill n h l =
+    let e : n ≡ length buffer = omega arith in
+    rw (drop-of-length-le buffer h, append-nil, e)
+
+module _ (question : Question) (valid : validQuestion question ≡ true) where
+  pub valid-call : (1 ≤ question .call) × (question .call ≤ 4)
+  unfolding validQuestion within
+  valid-call =
+      let h = and-left _ _ valid in
+      (leb-true _ _ (and-left _ _ h), leb-true _ _ (and-right _ _ h))
+
+  pub valid-fill : question .«buffer_fill» ≤ 255
+  unfolding validQuestion
+  valid-fill = leb-true _ _ (and-right _ _ valid)
+
+module _ (network plan ledger buffer : List ℕ) (question : Question) where
+  -- what is given and left is what the definitions say
+  abbrev pub Answered : Outcome → List ℕ → List ℕ → Type 0
+  Answered given left written =
+      (given ≡ answerTo network plan ledger buffer question)
+      × ((left ≡ ledgerTo network plan ledger question) × (written ≡ bufferTo network plan buffer question))
+
   pub answered-network :
       (r : Outcome) {verdict : Verdict} → question .call ≡ 1 → verdict ≡ checkNetwork (lines network) → r ≡ networkOutcome verdict
-      → (r ≡ answerTo network plan ledger question) × (ledger ≡ ledgerTo network plan ledger question)
-  unfolding answerTo ledgerTo
-  answered-network r h a e = (rw (eq-eqb _ _ h) (e ∙ ap networkOutcome a), rw h)
+      → Answered r ledger buffer
+  unfolding answerTo ledgerTo bufferTo
+  answered-network r h a e = (rw (eq-eqb _ _ h) (e ∙ ap networkOutcome a), (rw h, rw h))
 
   pub answered-plan :
       (r : Outcome) {answer : PlanAnswer} (after : List ℕ) → (question .call ≡ 1 → ⊥) → question .call ≡ 2
       → answer ≡ checkPlan (lines network) (lines plan) (length ledger) → after ≡ ledgerAfter (lines network) (lines plan) ledger
-      → r ≡ planOutcome answer → (r ≡ answerTo network plan ledger question) × (after ≡ ledgerTo network plan ledger question)
-  unfolding answerTo ledgerTo
-  answered-plan r after n h a l e = (rw (ne-eqb _ _ n, eq-eqb _ _ h) (e ∙ ap planOutcome a), rw (eq-eqb _ _ h) l)
+      → r ≡ planOutcome answer → Answered r after buffer
+  unfolding answerTo ledgerTo bufferTo
+  answered-plan r after n h a l e = (rw (ne-eqb _ _ n, eq-eqb _ _ h) (e ∙ ap planOutcome a), (rw (eq-eqb _ _ h) l, rw h))
+
+  pub answered-listing :
+      (r : Outcome) {answer : ListingAnswer} (after : List ℕ) → (question .call ≡ 1 → ⊥) → (question .call ≡ 2 → ⊥) → question .call ≡ 4
+      → PlanGot (lines network) (entries plan) buffer answer after → r ≡ listingOutcome answer → Answered r ledger after
+  unfolding answerTo ledgerTo bufferTo writeVerdict
+  answered-listing r after n m h g e =
+      (rw (ne-eqb _ _ n, ne-eqb _ _ m, eq-eqb _ _ h) (e ∙ ap listingOutcome (g .told)), (rw h, rw (eq-eqb _ _ h) (g .holds)))
 
   pub answered-link :
-      (r : Outcome) {answer : LinkAnswer} → (question .call ≡ 1 → ⊥) → (question .call ≡ 2 → ⊥)
+      (r : Outcome) {answer : LinkAnswer} → (question .call ≡ 1 → ⊥) → (question .call ≡ 2 → ⊥) → (question .call ≡ 4 → ⊥)
       → answer ≡ linkState (lines network) ledger (question .boundary) (question .link) → r ≡ linkOutcome answer
-      → (r ≡ answerTo network plan ledger question) × (ledger ≡ ledgerTo network plan ledger question)
-  unfolding answerTo ledgerTo
-  answered-link r n m a e = (rw (ne-eqb _ _ n, ne-eqb _ _ m) (e ∙ ap linkOutcome a), rw (ne-eqb _ _ m))
+      → Answered r ledger buffer
+  unfolding answerTo ledgerTo bufferTo
+  answered-link r n m o a e =
+      (rw (ne-eqb _ _ n, ne-eqb _ _ m, ne-eqb _ _ o) (e ∙ ap linkOutcome a), (rw (ne-eqb _ _ m), rw (ne-eqb _ _ o)))
 
-  pub no-boundary : 4_294_967_295 < question .boundary → passedOver ≡ placeIn network plan ledger question
+  pub no-boundary : 4_294_967_295 < question .boundary → passedOver ≡ placeIn network plan ledger buffer question
   unfolding placeIn
   no-boundary h = rw (le-ltb (question .boundary) 4_294_967_296 (omega arith))
 
-  pub no-link : question .boundary ≤ 4_294_967_295 → 4_294_967_295 < question .link → passedOver ≡ placeIn network plan ledger question
+  pub no-link : question .boundary ≤ 4_294_967_295 → 4_294_967_295 < question .link → passedOver ≡ placeIn network plan ledger buffer question
   unfolding placeIn
   no-link b h = rw (lt-ltb (question .boundary) 4_294_967_296 (omega arith), le-ltb (question .link) 4_294_967_296 (omega arith))
 
   place-by : (same : Bool) → question .boundary ≤ 4_294_967_295 → question .link ≤ 4_294_967_295
-      → asStored (answerTo network plan ledger question) (checksumOf (ledgerTo network plan ledger question)) question ≡ same
-      → placeIn network plan ledger question ≡ cond same (placeOf (question .call) (answerTo network plan ledger question)) different
+      → asStored (answerTo network plan ledger buffer question) (checksumTo network plan ledger buffer question) question ≡ same
+      → placeIn network plan ledger buffer question ≡ cond same (placeOf (question .call) (answerTo network plan ledger buffer question)) different
   unfolding placeIn
   place-by same b l e = rw (lt-ltb (question .boundary) 4_294_967_296 (omega arith), lt-ltb (question .link) 4_294_967_296 (omega arith), e)
 
-  module _ {given : Outcome} {after : List ℕ} {sum : ℕ} {same : Bool} (b : question .boundary ≤ 4_294_967_295) (l : question .link ≤ 4_294_967_295)
-      (g : given ≡ answerTo network plan ledger question) (a : after ≡ ledgerTo network plan ledger question) (s : sum ≡ checksumOf after)
-      (e : same ≡ asStored given sum question) where
-    pub as-stored : {place : ℕ} → same ≡ true → place ≡ placeOf (question .call) given → place ≡ placeIn network plan ledger question
-    as-stored t p =
-        let h : asStored (answerTo network plan ledger question) (checksumOf (ledgerTo network plan ledger question)) question ≡ true = cc in
-        p ∙ ap (placeOf (question .call)) g ∙ sym (place-by true b l h)
+  module _ {given : Outcome} {left written : List ℕ} {sum : ℕ} {same : Bool} (b : question .boundary ≤ 4_294_967_295) (l : question .link ≤ 4_294_967_295)
+      (g : Answered given left written) (s : sum ≡ checksumOf left written) (e : same ≡ asStored given sum question) where
+    stored-as : asStored (answerTo network plan ledger buffer question) (checksumTo network plan ledger buffer question) question ≡ same
+    unfolding checksumTo
+    stored-as =
+        let a = g .0 in
+        let h = g .1 .0 in
+        let w = g .1 .1 in
+        cc
 
-    pub not-as-stored : same ≡ false → different ≡ placeIn network plan ledger question
-    not-as-stored f =
-        let h : asStored (answerTo network plan ledger question) (checksumOf (ledgerTo network plan ledger question)) question ≡ false = cc in
-        sym (place-by false b l h)
+    pub as-stored : {place : ℕ} → same ≡ true → place ≡ placeOf (question .call) given → place ≡ placeIn network plan ledger buffer question
+    as-stored t p = p ∙ ap (placeOf (question .call)) (g .0) ∙ sym (place-by true b l (stored-as ∙ t))
+
+    pub not-as-stored : same ≡ false → different ≡ placeIn network plan ledger buffer question
+    not-as-stored f = sym (place-by false b l (stored-as ∙ f))
+
+-- on a ledger and a buffer that were filled
+pub judged :
+    (network plan start ledger buffer : List ℕ) (size fill room place : ℕ) (question : Question) → length ledger ≡ size → Filled start fill ledger
+    → room ≡ question .«buffer_size» → buffer ≡ replicate room (question .«buffer_fill») → place ≡ placeIn network plan ledger buffer question
+    → Judged network plan start size fill question place
+unfolding bufferBefore
+judged network plan start ledger buffer size fill room place question h f e b p = record { ledger = ledger; sized = h; filled = f; is = rw (b, e) at p }
 
 -- nothing is asked of what is false
 pub never : {A : Type 0} → false ≡ true → A
 never e = let z : _≡_ {A = ℕ} 0 1 = cc in absurd (omega arith)
 
 module _ (call : ℕ) (outcome : Outcome) {n : ℕ} (e : n ≡ refusalOf outcome) where
-  pub no-place : 21 < n → different ≡ placeOf call outcome
+  pub no-place : answers ≤ n → different ≡ placeOf call outcome
   unfolding placeOf
-  no-place h = rw (lt-ltb 21 (refusalOf outcome) (omega arith))
+  no-place h = rw (le-ltb (refusalOf outcome) answers (omega arith))
 
-  pub has-place : n ≤ 21 → (call - 1) * 22 + n ≡ placeOf call outcome
+  pub has-place : n < answers → (call - 1) * answers + n ≡ placeOf call outcome
   unfolding placeOf
-  has-place h = rw (le-ltb 21 (refusalOf outcome) (omega arith), e)
+  has-place h = rw (lt-ltb (refusalOf outcome) answers (omega arith), e)
 
 pub case-counted :
     {network plan start before after : List ℕ} {size place : ℕ} {form : LedgerForm} {question : Question} → size ≡ form .size

@@ -1,21 +1,30 @@
--- What a ledger holds before a call, what the definitions say of the call, and that each case is compared with what was stored and counted.
+-- What a ledger and a buffer hold before a call, what the definitions say of the call, and that each case is compared with what was stored and counted.
 -- Assumes nothing.
 use Prim.Native.Nat.{ℕ, suc, zero, _<_}
 use mathlib.Core.Path.{_≡_}
 use mathlib.Core.Bool.{Bool, cond, _&&_}
 use mathlib.Core.List.{List}
-use lib.Dec.{ltb, eqb}
-use lib.ListN.{length, getD}
+use lib.Dec.{ltb, leb, eqb}
+use lib.ListN.{length, getD, replicate}
+use Rattle.search.specs.declared.Verdict.{Verdict}
+use Rattle.search.specs.Checks.{verdict}
 use Rattle.records.specs.Lines.{lines}
+use Rattle.model.specs.Test.{_and_, within}
 use Rattle.model.specs.Calls.{checkNetwork, checkPlan, ledgerAfter, linkState}
+use Rattle.listing_lines.specs.Entry.{entries}
+use Rattle.listing.specs.Listing.{writeChecks, writtenAnswer, writtenBytes}
 use Rattle.conformance_cases.specs.Checksum.{checksumOf}
-use Rattle.conformance_cases.specs.Outcome.{networkOutcome, planOutcome, linkOutcome, sameOutcome}
+use Rattle.conformance_cases.specs.Outcome.{networkOutcome, planOutcome, linkOutcome, listingOutcome, sameOutcome}
 use Rattle.conformance_cases.specs.declared.outcome.Outcome.{Outcome}
 use Rattle.conformance_cases.specs.declared.stored.CaseCount.{CaseCount}
 use Rattle.conformance_cases.specs.declared.stored.CaseCount.the-variants.{Cases, Malformed}
 use Rattle.conformance_cases.specs.declared.stored.LedgerForm.{LedgerForm}
 use Rattle.conformance_cases.specs.declared.stored.Question.{Question}
 use Rattle.conformance.specs.Tally.{different, passedOver, placeOf, counted}
+
+-- a call of the stored form, and a byte for the buffer
+unfoldable pub validQuestion : Question → Bool
+validQuestion question = within 1 (question .call) 4 and leb (question .«buffer_fill») 255
 
 -- the given numbers at its start, and the fill behind them
 unfoldable pub heldAt : List ℕ → ℕ → ℕ → ℕ
@@ -24,37 +33,55 @@ heldAt start fill i = cond (ltb i (length start)) (getD start i 0) fill
 unfoldable pub Filled : List ℕ → ℕ → List ℕ → Type 0
 Filled start fill ledger = (i : ℕ) → i < length ledger → getD ledger i 0 ≡ heldAt start fill i
 
--- the answer to a question
-unfoldable pub answerTo : List ℕ → List ℕ → List ℕ → Question → Outcome
-answerTo network plan ledger question =
+-- every byte of the buffer is the fill
+unfoldable pub bufferBefore : Question → List ℕ
+bufferBefore question = replicate (question .«buffer_size») (question .«buffer_fill»)
+
+-- T-01: what becomes of a listing on a network, with a buffer of so many bytes
+unfoldable pub writeVerdict : List ℕ → List ℕ → ℕ → Verdict
+writeVerdict network listing size = verdict (writeChecks (lines network) (entries listing) size)
+
+-- the answer to a question; the listing stands in place of the plan
+unfoldable pub answerTo : List ℕ → List ℕ → List ℕ → List ℕ → Question → Outcome
+answerTo network plan ledger buffer question =
     cond (eqb (question .call) 1) (networkOutcome (checkNetwork (lines network)))
     (cond (eqb (question .call) 2) (planOutcome (checkPlan (lines network) (lines plan) (length ledger)))
-    (linkOutcome (linkState (lines network) ledger (question .boundary) (question .link))))
+    (cond (eqb (question .call) 4) (listingOutcome (writtenAnswer (lines network) (entries plan) (writeVerdict network plan (length buffer))))
+    (linkOutcome (linkState (lines network) ledger (question .boundary) (question .link)))))
 
 -- the ledger after the call
 unfoldable pub ledgerTo : List ℕ → List ℕ → List ℕ → Question → List ℕ
 ledgerTo network plan ledger question =
     cond (eqb (question .call) 2) (ledgerAfter (lines network) (lines plan) ledger) ledger
 
--- an answer and a ledger are those that were stored: the answer in every part, the ledger by its checksum
+-- the buffer after the call
+unfoldable pub bufferTo : List ℕ → List ℕ → List ℕ → Question → List ℕ
+bufferTo network plan buffer question =
+    cond (eqb (question .call) 4) (writtenBytes (lines network) (entries plan) (writeVerdict network plan (length buffer)) buffer) buffer
+
+-- the checksum of both
+unfoldable pub checksumTo : List ℕ → List ℕ → List ℕ → List ℕ → Question → ℕ
+checksumTo network plan ledger buffer question = checksumOf (ledgerTo network plan ledger question) (bufferTo network plan buffer question)
+
+-- an answer, a ledger and a buffer are those that were stored: the answer in every part, the others by their checksum
 unfoldable pub asStored : Outcome → ℕ → Question → Bool
 asStored answer checksum question = sameOutcome answer (question .answer) && eqb checksum (question .checksum)
 
--- the place of a question on texts and a ledger: passed over where its numbers are not of 32 bits; else that of the library's answer where
--- answer and ledger are as stored; else different
-unfoldable pub placeIn : List ℕ → List ℕ → List ℕ → Question → ℕ
-placeIn network plan ledger question =
-    let answer : Outcome = answerTo network plan ledger question in
+-- the place of a question on texts, a ledger and a buffer: passed over where its numbers are not of 32 bits; else that of the library's answer
+-- where answer, ledger and buffer are as stored; else different
+unfoldable pub placeIn : List ℕ → List ℕ → List ℕ → List ℕ → Question → ℕ
+placeIn network plan ledger buffer question =
+    let answer : Outcome = answerTo network plan ledger buffer question in
     cond (ltb (question .boundary) 4_294_967_296 && ltb (question .link) 4_294_967_296)
-    (cond (asStored answer (checksumOf (ledgerTo network plan ledger question)) question) (placeOf (question .call) answer) different)
+    (cond (asStored answer (checksumTo network plan ledger buffer question) question) (placeOf (question .call) answer) different)
     passedOver
 
--- the place of a question on two texts and a ledger of so many numbers that holds a start and a fill
+-- the place of a question on two texts, a ledger of so many numbers that holds a start and a fill, and its buffer
 pub record Judged (network plan start : List ℕ) (size fill : ℕ) (question : Question) (place : ℕ) : Type 0 where
   pub ledger : List ℕ
   pub sized : length ledger ≡ size
   pub filled : Filled start fill ledger
-  pub is : place ≡ placeIn network plan ledger question
+  pub is : place ≡ placeIn network plan ledger (bufferBefore question) question
 
 -- a case that was read is judged, and counted at its place
 pub record CaseCounted (network plan start : List ℕ) (form : LedgerForm) (question : Question) (before after : List ℕ) : Type 0 where

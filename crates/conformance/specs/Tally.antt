@@ -6,19 +6,27 @@ use lib.Dec.{ltb, eqb}
 use lib.ListN.{getD, set}
 use Rattle.conformance_cases.specs.declared.outcome.Outcome.{Outcome}
 
+-- how many answers a call's cases are counted by: accepted, and each refusal's number
+abbrev pub answers : ℕ
+answers = 25
+
 abbrev pub different : ℕ
-different = 66
+different = 100
 
 abbrev pub passedOver : ℕ
-passedOver = 67
+passedOver = 101
+
+-- how many counts there are
+abbrev pub counters : ℕ
+counters = 102
 
 -- a refusal's number; 0 where nothing is refused
 unfoldable pub refusalOf : Outcome → ℕ
 refusalOf outcome = cond (eqb (outcome .kind) 3) (outcome .first) 0
 
--- the place of the cases of a call (1, 2 or 3) that agree: 22 for each call, by refusal number
+-- the place of the cases of a call, one of 1 to 4, that agree: so many for each call, by refusal number
 unfoldable pub placeOf : ℕ → Outcome → ℕ
-placeOf call outcome = cond (ltb 21 (refusalOf outcome)) different ((call - 1) * 22 + refusalOf outcome)
+placeOf call outcome = cond (ltb (refusalOf outcome) answers) ((call - 1) * answers + refusalOf outcome) different
 
 -- one more at a place; a count has 64 bits
 unfoldable pub counted : List ℕ → ℕ → List ℕ

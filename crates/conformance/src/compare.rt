@@ -2,9 +2,11 @@
 ghost use mathlib.Core.Path.{_≡_};
 ghost use mathlib.Core.Bool.{true};
 ghost use Prim.Native.Nat.{_<_, _≤_, _^_};
-ghost use lib.ListN.{length, take};
-ghost use Rattle.conformance.specs.Compare.{heldAt, Filled, answerTo, ledgerTo, asStored, placeIn, Judged, CaseCounted, OneMore, Counted, Compared};
+ghost use lib.ListN.{length, take, replicate};
+ghost use Rattle.conformance.specs.Compare.{validQuestion, heldAt, Filled, answerTo, ledgerTo, bufferTo, asStored, placeIn, Judged, CaseCounted, OneMore, Counted, Compared};
+ghost use Rattle.conformance.specs.Tally.{counters};
 use crate::tally;
+use crate::tally::COUNTERS;
 use conformance_cases::checksum;
 use conformance_cases::outcome;
 use conformance_cases::outcome::Outcome;
@@ -38,11 +40,29 @@ fn fill_ledger(ledger: &mut [u32], start: &[u32], fill: u32)
     }
 }
 
-// What the library answers to a question, and the ledger that it leaves.
-fn answer_to(network: &[u8], plan: &[u8], ledger: &mut [u32], question: Question) -> Outcome
+// Makes every byte of the buffer what it is before the call.
+fn fill_buffer(buffer: &mut [u8], fill: u8)
+    ensures { λ _. ⌜ now (buffer .exit) ≡ replicate (length (now (buffer .entry))) fill ⌝ }
+{
+    let mut i = 0;
+    while i < buffer.len() {
+        buffer[i] = fill;
+        i += 1;
+    }
+}
+
+// What the library answers to a question, and the ledger and the buffer that it leaves.
+fn answer_to(
+    network: &[u8],
+    plan: &[u8],
+    ledger: &mut [u32],
+    buffer: &mut [u8],
+    question: Question,
+) -> Outcome
     requires { ⌜ (question .boundary < 2 ^ 32) × (question .link < 2 ^ 32) ⌝ }
-    ensures { λ r. ⌜ r ≡ answerTo (now (network .entry)) (now (plan .entry)) (now (ledger .entry)) question ⌝ }
+    ensures { λ r. ⌜ r ≡ answerTo (now (network .entry)) (now (plan .entry)) (now (ledger .entry)) (now (buffer .entry)) question ⌝ }
     ensures { λ r. ⌜ now (ledger .exit) ≡ ledgerTo (now (network .entry)) (now (plan .entry)) (now (ledger .entry)) question ⌝ }
+    ensures { λ r. ⌜ now (buffer .exit) ≡ bufferTo (now (network .entry)) (now (plan .entry)) (now (buffer .entry)) question ⌝ }
 {
     if question.call == 1 {
         return outcome::of_network(network::check_network(network));
@@ -50,12 +70,15 @@ fn answer_to(network: &[u8], plan: &[u8], ledger: &mut [u32], question: Question
     if question.call == 2 {
         return outcome::of_plan(plan_check::check_plan(network, plan, ledger));
     }
+    if question.call == 4 {
+        return outcome::of_listing(listing::plan_from_listing(network, plan, buffer));
+    }
     let boundary = question.boundary as u32;
     let link = question.link as u32;
     outcome::of_link(link_state::link_state(network, ledger, boundary, link))
 }
 
-// Whether the library's answer, and the checksum of the ledger that it leaves, are those of the other implementation.
+// Whether the library's answer, and the checksum of the ledger and the buffer that it leaves, are those of the other implementation.
 fn is_as_stored(given: Outcome, sum: u64, question: Question) -> bool
     ensures { λ r. ⌜ r ≡ asStored given sum question ⌝ }
 {
@@ -63,12 +86,19 @@ fn is_as_stored(given: Outcome, sum: u64, question: Question) -> bool
     outcome::is_same(given, answer) & (sum == question.checksum)
 }
 
-// Judges a case by the library, on the ledger as it is before the call: the place at which it is counted. Boundaries and links above 32 bits are
-// passed over, as the library has no call that takes them.
-fn judge(number: u32, network: &[u8], plan: &[u8], ledger: &mut [u32], question: Question) -> usize
-    requires { ⌜ (1 ≤ question .call) × (question .call ≤ 3) ⌝ }
-    ensures { λ r. ⌜ r ≡ placeIn (now (network .entry)) (now (plan .entry)) (now (ledger .entry)) question ⌝ }
-    ensures { λ r. ⌜ r < 68 ⌝ }
+// Judges a case by the library, on the ledger and the buffer as they are before the call: the place at which it is counted. Boundaries and links
+// above 32 bits are passed over, as the library has no call that takes them.
+fn judge(
+    number: u32,
+    network: &[u8],
+    plan: &[u8],
+    ledger: &mut [u32],
+    buffer: &mut [u8],
+    question: Question,
+) -> usize
+    requires { ⌜ validQuestion question ≡ true ⌝ }
+    ensures { λ r. ⌜ r ≡ placeIn (now (network .entry)) (now (plan .entry)) (now (ledger .entry)) (now (buffer .entry)) question ⌝ }
+    ensures { λ r. ⌜ r < counters ⌝ }
 {
     if 4294967295 < question.boundary {
         return tally::PASSED_OVER;
@@ -76,8 +106,8 @@ fn judge(number: u32, network: &[u8], plan: &[u8], ledger: &mut [u32], question:
     if 4294967295 < question.link {
         return tally::PASSED_OVER;
     }
-    let given = answer_to(network, plan, ledger, question);
-    let sum = checksum::checksum(ledger);
+    let given = answer_to(network, plan, ledger, buffer, question);
+    let sum = checksum::checksum(ledger, buffer);
     if is_as_stored(given, sum, question) {
         return tally::place_of(question.call, given);
     }
@@ -85,7 +115,7 @@ fn judge(number: u32, network: &[u8], plan: &[u8], ledger: &mut [u32], question:
     tally::DIFFERENT
 }
 
-// Judges a case on a ledger that is first made what it is before the call.
+// Judges a case on a ledger and a buffer that are first made what they are before the call.
 fn judge_filled(
     number: u32,
     network: &[u8],
@@ -93,27 +123,38 @@ fn judge_filled(
     start: &[u32],
     fill: u32,
     ledger: &mut [u32],
+    buffer: &mut [u8],
     question: Question,
 ) -> usize
-    requires { ⌜ (1 ≤ question .call) × (question .call ≤ 3) ⌝ }
+    requires { ⌜ validQuestion question ≡ true ⌝ }
+    requires { ⌜ length (now buffer) ≡ question .«buffer_size» ⌝ }
     ensures { λ r. ⌜ Judged (now (network .entry)) (now (plan .entry)) (now (start .entry)) (length (now (ledger .entry))) fill question r ⌝ }
-    ensures { λ r. ⌜ r < 68 ⌝ }
+    ensures { λ r. ⌜ r < counters ⌝ }
 {
     fill_ledger(ledger, start, fill);
-    judge(number, network, plan, ledger, question)
+    fill_buffer(buffer, question.buffer_fill as u8);
+    judge(number, network, plan, ledger, buffer, question)
 }
 
-// Takes what a case uses of each buffer, and judges it; false where there is no such call, or a length is not one of its buffer.
+// Whether there is such a call, and the buffer can hold its fill.
+fn is_valid(question: Question) -> bool
+    ensures { λ r. ⌜ r ≡ validQuestion question ⌝ }
+{
+    (1 <= question.call) & (question.call <= 4) & (question.buffer_fill <= 255)
+}
+
+// Takes what a case uses of each buffer, and judges it; false where the question is not valid, or a length is not one of its buffer.
 fn run_read(
     number: u32,
     network: &[u8],
     plan: &[u8],
     start: &[u32],
     ledger: &mut [u32],
+    buffer: &mut [u8],
     sizes: Sizes,
     form: LedgerForm,
     question: Question,
-    counts: &mut [u64; 68],
+    counts: &mut [u64; COUNTERS],
 ) -> bool
     ensures { λ r. ⌜ (r ≡ true → CaseCounted (take (sizes .network) (now (network .entry))) (take (sizes .plan) (now (plan .entry))) (take (sizes .start) (now (start .entry))) form question (now (counts .entry)) (now (counts .exit))) ⌝ }
 {
@@ -121,10 +162,8 @@ fn run_read(
     let plan_size = sizes.plan;
     let start_size = sizes.start;
     let ledger_size = form.size;
-    if question.call < 1 {
-        return false;
-    }
-    if 3 < question.call {
+    let buffer_size = question.buffer_size;
+    if !is_valid(question) {
         return false;
     }
     if network.len() < network_size {
@@ -142,6 +181,9 @@ fn run_read(
     if ledger_size < start_size {
         return false;
     }
+    if buffer.len() < buffer_size {
+        return false;
+    }
     let place = judge_filled(
         number,
         &network[..network_size],
@@ -149,6 +191,7 @@ fn run_read(
         &start[..start_size],
         form.fill,
         &mut ledger[..ledger_size],
+        &mut buffer[..buffer_size],
         question,
     );
     tally::add_one(counts, place);
@@ -164,7 +207,8 @@ fn run_case(
     plan: &mut [u8],
     start: &mut [u32],
     ledger: &mut [u32],
-    counts: &mut [u64; 68],
+    buffer: &mut [u8],
+    counts: &mut [u64; COUNTERS],
 ) -> Sizes
     ensures { λ r. ⌜ ((r .network ≡ 4294967295 → ⊥) → OneMore (now (counts .entry)) (now (counts .exit))) ⌝ }
 {
@@ -184,6 +228,7 @@ fn run_case(
         plan,
         start,
         ledger,
+        buffer,
         sizes,
         form,
         question,
@@ -206,7 +251,8 @@ fn run_cases(
     plan: &mut [u8],
     start: &mut [u32],
     ledger: &mut [u32],
-    counts: &mut [u64; 68],
+    buffer: &mut [u8],
+    counts: &mut [u64; COUNTERS],
 ) -> bool
     ensures { λ r. ⌜ (r ≡ true → Counted count (now (counts .entry)) (now (counts .exit))) ⌝ }
 {
@@ -217,7 +263,17 @@ fn run_cases(
     };
     let mut done = 0;
     while done < count {
-        sizes = run_case(file, done, sizes, network, plan, start, ledger, counts);
+        sizes = run_case(
+            file,
+            done,
+            sizes,
+            network,
+            plan,
+            start,
+            ledger,
+            buffer,
+            counts,
+        );
         if sizes.network == stored::NOTHING {
             return false;
         }
@@ -233,14 +289,15 @@ pub fn run_file(
     plan: &mut [u8],
     start: &mut [u32],
     ledger: &mut [u32],
-    counts: &mut [u64; 68],
+    buffer: &mut [u8],
+    counts: &mut [u64; COUNTERS],
 ) -> CaseCount
     ensures { λ r. ⌜ Compared (now (counts .entry)) (now (counts .exit)) r ⌝ }
 {
     let CaseCount::Cases(count) = stored::read_header(file) else {
         return CaseCount::Malformed;
     };
-    if run_cases(file, count, network, plan, start, ledger, counts) {
+    if run_cases(file, count, network, plan, start, ledger, buffer, counts) {
         if stored::is_at_end(file) {
             return CaseCount::Cases(count);
         }

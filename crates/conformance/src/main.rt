@@ -1,17 +1,19 @@
-// Runs stored cases through the proved calls, and compares each answer and a checksum of the whole ledger after the call with those of another
-// implementation. Prints each case that differs, how many cases each file has, how many agreed, for each call and refusal number, and how many
-// differ. The one case of wrong_answer.bin has a wrong answer on purpose: it must be told as different.
+// Runs stored cases through the proved calls, and compares each answer and a checksum of the whole ledger and the whole buffer after the call with
+// those of another implementation. Prints each case that differs, how many cases each file has, how many agreed, for each call and refusal number,
+// and how many differ. The one case of wrong_answer.bin has a wrong answer on purpose: it must be told as different.
 mod compare;
 mod tally;
 
+use crate::tally::COUNTERS;
 use conformance_cases::stored::CaseCount;
 
 // Compares the cases of a file, and prints how many it has.
-fn compare_file(path: &[u8], counts: &mut [u64; 68]) {
+fn compare_file(path: &[u8], counts: &mut [u64; COUNTERS]) {
     let mut network = [0u8; 24576];
     let mut plan = [0u8; 98304];
     let mut start = [0u32; 5888];
     let mut ledger = [0u32; 5888];
+    let mut buffer = [0u8; 102400];
     let file = os::open_read(path);
     let answer = compare::run_file(
         file,
@@ -19,6 +21,7 @@ fn compare_file(path: &[u8], counts: &mut [u64; 68]) {
         &mut plan,
         &mut start,
         &mut ledger,
+        &mut buffer,
         counts,
     );
     libc::close(file);
@@ -31,7 +34,7 @@ fn compare_file(path: &[u8], counts: &mut [u64; 68]) {
 }
 
 fn main() {
-    let mut counts = [0u64; 68];
+    let mut counts = [0u64; COUNTERS];
     compare_file(b"cases.bin", &mut counts);
     compare_file(b"wrong_answer.bin", &mut counts);
     tally::print_table(&counts);

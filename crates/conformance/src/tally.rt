@@ -1,15 +1,20 @@
 // How many cases agreed, and what is printed.
 ghost use mathlib.Core.Path.{_≡_};
 ghost use Prim.Native.Nat.{_<_, _≤_};
-ghost use Rattle.conformance.specs.Tally.{refusalOf, placeOf, counted};
+ghost use Rattle.conformance.specs.Tally.{answers, counters, refusalOf, placeOf, counted};
 use conformance_cases::outcome::Outcome;
 use conformance_cases::stored::Question;
 use libc::STDOUT_FILENO;
 
-// The counts: for each call, 22 of the cases that agreed, accepted and by refusal number; then these two.
-pub const DIFFERENT: usize = 66;
+// How many answers a call's cases are counted by: accepted, and each refusal's number.
+const ANSWERS: usize = 25;
 
-pub const PASSED_OVER: usize = 67;
+// The counts: for each of four calls, the cases that agreed, by answer; then these two.
+pub const DIFFERENT: usize = 4 * ANSWERS;
+
+pub const PASSED_OVER: usize = DIFFERENT + 1;
+
+pub const COUNTERS: usize = DIFFERENT + 2;
 
 // Writes a text to standard output. Nothing is done about an output that takes no more.
 pub fn print(text: &[u8]) {
@@ -21,8 +26,8 @@ fn print_number(number: u64) {
 }
 
 // Counts one more at a place. There are fewer than 2^32 cases, so that no count wraps.
-pub fn add_one(counts: &mut [u64; 68], place: usize)
-    requires { ⌜ place < 68 ⌝ }
+pub fn add_one(counts: &mut [u64; COUNTERS], place: usize)
+    requires { ⌜ place < counters ⌝ }
     ensures { λ _. ⌜ now (counts .exit) ≡ counted (now (counts .entry)) place ⌝ }
 {
     counts[place] = std::num::wrapping_add_u64(counts[place], 1);
@@ -35,16 +40,16 @@ fn refusal_of(outcome: Outcome) -> u64
     if outcome.kind == 3 { outcome.first } else { 0 }
 }
 
-// The place of the cases of a call that gave an outcome. A refusal number above 21 has none.
+// The place of the cases of a call that gave an outcome. A refusal number above 24 has none.
 pub fn place_of(call: u32, outcome: Outcome) -> usize
-    requires { ⌜ (1 ≤ call) × (call ≤ 3) ⌝ }
-    ensures { λ r. ⌜ (r ≡ placeOf call outcome) × (r < 68) ⌝ }
+    requires { ⌜ (1 ≤ call) × (call ≤ 4) ⌝ }
+    ensures { λ r. ⌜ (r ≡ placeOf call outcome) × (r < counters) ⌝ }
 {
-    let number = refusal_of(outcome);
-    if 21 < number {
+    let number = refusal_of(outcome) as usize;
+    if ANSWERS <= number {
         return DIFFERENT;
     }
-    (call as usize - 1) * 22 + number as usize
+    (call as usize - 1) * ANSWERS + number
 }
 
 // A number behind a tab.
@@ -63,20 +68,25 @@ fn print_numbers(numbers: &[u64]) {
 }
 
 // The rest of a line of the table: how many cases of each call were accepted (0) or refused with a number.
-fn print_line(counts: &[u64; 68], number: usize)
-    requires { ⌜ number < 22 ⌝ }
+fn print_line(counts: &[u64; COUNTERS], number: usize)
+    requires { ⌜ number < answers ⌝ }
 {
-    let numbers = [counts[number], counts[22 + number], counts[44 + number]];
+    let numbers = [
+        counts[number],
+        counts[ANSWERS + number],
+        counts[2 * ANSWERS + number],
+        counts[3 * ANSWERS + number],
+    ];
     print_numbers(&numbers);
     print(b"\n");
 }
 
 // The table of the cases that agreed, and how many were passed over and differ.
-pub fn print_table(counts: &[u64; 68]) {
-    print(b"answer\tcheck_network\tcheck_plan\tlink_state\naccepted");
+pub fn print_table(counts: &[u64; COUNTERS]) {
+    print(b"answer\tcheck_network\tcheck_plan\tlink_state\tplan_from_listing\naccepted");
     print_line(counts, 0);
     let mut number = 1;
-    while number < 22 {
+    while number < ANSWERS {
         print_number(number as u64);
         print_line(counts, number);
         number += 1;

@@ -1,4 +1,4 @@
--- FNV-1a of 64 bits over the numbers of a ledger, each as four bytes, the lowest first. Assumes nothing.
+-- FNV-1a of 64 bits over the numbers of a ledger, each as four bytes, the lowest first, then over the bytes of a buffer. Assumes nothing.
 use Prim.Native.Nat.{ℕ, _*_, _/_, _%_, _^_}
 use mathlib.Core.List.{List, [], _∷_}
 use lib.Bits.{bitXor}
@@ -11,9 +11,10 @@ unfoldable pub withNumber : ℕ → ℕ → ℕ
 withNumber sum number =
     withByte (withByte (withByte (withByte sum (number % 256)) (number / 256 % 256)) (number / 65536 % 256)) (number / 16777216)
 
-unfoldable pub checksumFrom : ℕ → List ℕ → ℕ
-checksumFrom sum [] = sum
-checksumFrom sum (number ∷ numbers) = checksumFrom (withNumber sum number) numbers
+-- the sum with each item of a list more, in order
+unfoldable pub withEach : (ℕ → ℕ → ℕ) → ℕ → List ℕ → ℕ
+withEach add sum [] = sum
+withEach add sum (item ∷ items) = withEach add (add sum item) items
 
-unfoldable pub checksumOf : List ℕ → ℕ
-checksumOf numbers = checksumFrom 14695981039346656037 numbers
+unfoldable pub checksumOf : List ℕ → List ℕ → ℕ
+checksumOf numbers bytes = withEach withByte (withEach withNumber 14695981039346656037 numbers) bytes

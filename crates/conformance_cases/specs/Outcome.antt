@@ -8,6 +8,8 @@ use Rattle.model.specs.declared.PlanAnswer.{PlanAnswer}
 use Rattle.model.specs.declared.PlanAnswer.the-variants as plan-answer
 use Rattle.model.specs.declared.LinkAnswer.{LinkAnswer}
 use Rattle.model.specs.declared.LinkAnswer.the-variants as link-answer
+use Rattle.listing.specs.declared.ListingAnswer.{ListingAnswer}
+use Rattle.listing.specs.declared.ListingAnswer.the-variants as listing-answer
 use Rattle.conformance_cases.specs.declared.outcome.Outcome.{Outcome}
 
 abbrev pub refusedOutcome : Refusal → Outcome
@@ -25,6 +27,10 @@ planOutcome (plan-answer.Refused r) = refusedOutcome r
 abbrev pub linkOutcome : LinkAnswer → Outcome
 linkOutcome (link-answer.State queued transit) = record { kind = 2; first = queued; second = transit; third = 0; fourth = 0 }
 linkOutcome (link-answer.Refused r) = refusedOutcome r
+
+abbrev pub listingOutcome : ListingAnswer → Outcome
+listingOutcome (listing-answer.Written length) = record { kind = 4; first = length; second = 0; third = 0; fourth = 0 }
+listingOutcome (listing-answer.Refused r) = refusedOutcome r
 
 abbrev pub sameOutcome : Outcome → Outcome → Bool
 sameOutcome one other =

@@ -12,23 +12,25 @@ number32 bytes at =
 unfoldable pub number64 : List ℕ → ℕ → ℕ
 number64 bytes at = number32 bytes at + number32 bytes (at + 4) * 4294967296
 
--- the 64 bytes that a case ends with
+-- the 72 bytes that a case ends with
 abbrev pub answerOf : List ℕ → Outcome
 answerOf bytes =
     record {
-      kind = number32 bytes 20;
-      first = number64 bytes 24;
-      second = number64 bytes 32;
-      third = number64 bytes 40;
-      fourth = number64 bytes 48;
+      kind = number32 bytes 28;
+      first = number64 bytes 32;
+      second = number64 bytes 40;
+      third = number64 bytes 48;
+      fourth = number64 bytes 56;
     }
 
 abbrev pub questionOf : List ℕ → Question
 questionOf bytes =
     record {
-      call = number32 bytes 0;
-      boundary = number64 bytes 4;
-      link = number64 bytes 12;
+      «buffer_size» = number32 bytes 0;
+      «buffer_fill» = number32 bytes 4;
+      call = number32 bytes 8;
+      boundary = number64 bytes 12;
+      link = number64 bytes 20;
       answer = answerOf bytes;
-      checksum = number64 bytes 56;
+      checksum = number64 bytes 64;
     }

@@ -1,7 +1,7 @@
-// The checksum of a ledger: FNV-1a of 64 bits over its numbers in order, each as four bytes, the lowest first.
+// The checksum of a ledger and a buffer: FNV-1a of 64 bits over the numbers in order, each as four bytes, the lowest first, then over the bytes.
 ghost use mathlib.Core.Path.{_≡_};
 ghost use Prim.Native.Nat.{_*_, _%_, _^_};
-ghost use Rattle.conformance_cases.specs.Checksum.{withByte, withNumber, checksumOf};
+ghost use Rattle.conformance_cases.specs.Checksum.{withByte, withNumber, withEach, checksumOf};
 
 // A number times the prime 1,099,511,628,211, which is 2^40 + 435, modulo 2^64.
 fn times_prime(x: u64) -> u64
@@ -31,15 +31,41 @@ fn with_number(sum: u64, number: u32) -> u64
     with_byte(third, bytes / 16777216)
 }
 
-// The checksum of a ledger.
-pub fn checksum(ledger: &[u32]) -> u64
-    ensures { λ r. ⌜ r ≡ checksumOf (now (ledger .entry)) ⌝ }
+// The sum with the numbers of a ledger more.
+fn with_numbers(start: u64, numbers: &[u32]) -> u64
+    ensures { λ r. ⌜ r ≡ withEach withNumber start (now (numbers .entry)) ⌝ }
 {
-    let mut sum: u64 = 14695981039346656037;
+    let mut sum = start;
     let mut i = 0;
-    while i < ledger.len() {
-        sum = with_number(sum, ledger[i]);
+    while i < numbers.len() {
+        sum = with_number(sum, numbers[i]);
         i += 1;
     }
     sum
+}
+
+fn wide(byte: u8) -> u64
+    ensures { λ r. ⌜ r ≡ byte ⌝ }
+{
+    byte as u64
+}
+
+// The sum with the bytes of a buffer more.
+fn with_bytes(start: u64, bytes: &[u8]) -> u64
+    ensures { λ r. ⌜ r ≡ withEach withByte start (now (bytes .entry)) ⌝ }
+{
+    let mut sum = start;
+    let mut i = 0;
+    while i < bytes.len() {
+        sum = with_byte(sum, wide(bytes[i]));
+        i += 1;
+    }
+    sum
+}
+
+// The checksum of a ledger and a buffer.
+pub fn checksum(ledger: &[u32], buffer: &[u8]) -> u64
+    ensures { λ r. ⌜ r ≡ checksumOf (now (ledger .entry)) (now (buffer .entry)) ⌝ }
+{
+    with_bytes(with_numbers(14695981039346656037, ledger), buffer)
 }

@@ -1,13 +1,14 @@
 // What a call gives, in the stored form.
 ghost use mathlib.Core.Path.{_≡_};
-ghost use Rattle.conformance_cases.specs.Outcome.{refusedOutcome, networkOutcome, planOutcome, linkOutcome, sameOutcome};
+ghost use Rattle.conformance_cases.specs.Outcome.{refusedOutcome, networkOutcome, planOutcome, linkOutcome, listingOutcome, sameOutcome};
+use listing::ListingAnswer;
 use model::LinkAnswer;
 use model::PlanAnswer;
 use search::Refusal;
 use search::Verdict;
 
-// The kind is 0 for a network accepted, 1 for a plan accepted, 2 for a state, 3 for a refusal; the numbers are the totals, queued and in
-// transit, or the refusal's number, line and item; 0 where there is none.
+// The kind is 0 for a network accepted, 1 for a plan accepted, 2 for a state, 3 for a refusal, 4 for a text written; the numbers are the
+// totals, queued and in transit, the refusal's number, line and item, or the text's length; 0 where there is none.
 pub struct Outcome {
     pub kind: u32,
     pub first: u64,
@@ -70,6 +71,21 @@ pub fn of_link(answer: LinkAnswer) -> Outcome
             fourth: 0,
         },
         LinkAnswer::Refused(refusal) => refused(refusal),
+    }
+}
+
+pub fn of_listing(answer: ListingAnswer) -> Outcome
+    ensures { λ r. ⌜ r ≡ listingOutcome answer ⌝ }
+{
+    match answer {
+        ListingAnswer::Written(length) => Outcome {
+            kind: 4,
+            first: length as u64,
+            second: 0,
+            third: 0,
+            fourth: 0,
+        },
+        ListingAnswer::Refused(refusal) => refused(refusal),
     }
 }
 

@@ -1,4 +1,4 @@
-// Reads the stored form of the cases, one part at a time. The form is described in reference/src/cases.rs.
+// Reads the stored form of the cases, one part at a time. The form is described in reference/src/cases/stored.rs.
 ghost use mathlib.Core.Path.{_≡_};
 ghost use Prim.Native.Nat.{_+_, _≤_};
 ghost use lib.ListN.{length};
@@ -24,9 +24,12 @@ pub struct LedgerForm {
     pub given: u32,
 }
 
-// The call of a case (1 check a network, 2 check a plan, 3 state of one link; 0 where the file is malformed), with what the other
-// implementation answers and the checksum of the ledger that it leaves.
+// The call of a case (1 check a network, 2 check a plan, 3 state of one link, 4 plan from a listing; 0 where the file is malformed) and the
+// buffer that it is given, its length and what each byte is, with what the other implementation answers and the checksum of the ledger and the
+// buffer that it leaves.
 pub struct Question {
+    pub buffer_size: usize,
+    pub buffer_fill: u32,
     pub call: u32,
     pub boundary: u64,
     pub link: u64,
@@ -66,10 +69,10 @@ fn read_whole(file: i32, buffer: &mut [u8]) -> bool {
     io::read_full(file, buffer) == size
 }
 
-// Reads the header: the file's mark, version 1, and how many cases follow. The greatest lengths that it names are not needed, as each length
+// Reads the header: the file's mark, version 2, and how many cases follow. The greatest lengths that it names are not needed, as each length
 // is held to its buffer.
 pub fn read_header(file: i32) -> CaseCount {
-    let mut bytes = [0u8; 28];
+    let mut bytes = [0u8; 32];
     if !read_whole(file, &mut bytes) {
         return CaseCount::Malformed;
     }
@@ -77,7 +80,7 @@ pub fn read_header(file: i32) -> CaseCount {
     if long_number_at(&bytes, 0) != 4995408169015528528 {
         return CaseCount::Malformed;
     }
-    if number_at(&bytes, 8) != 1 {
+    if number_at(&bytes, 8) != 2 {
         return CaseCount::Malformed;
     }
     CaseCount::Cases(number_at(&bytes, 12))
@@ -149,37 +152,39 @@ pub fn read_start(file: i32, start: &mut [u32], given: u32, before: usize) -> us
     size
 }
 
-// What the other implementation answers, of the 64 bytes that a case ends with.
-fn answer_of(bytes: &[u8; 64]) -> Outcome
+// What the other implementation answers, of the 72 bytes that a case ends with.
+fn answer_of(bytes: &[u8; 72]) -> Outcome
     ensures { λ r. ⌜ r ≡ answerOf (now (bytes .entry)) ⌝ }
 {
     Outcome {
-        kind: number_at(bytes, 20),
-        first: long_number_at(bytes, 24),
-        second: long_number_at(bytes, 32),
-        third: long_number_at(bytes, 40),
-        fourth: long_number_at(bytes, 48),
+        kind: number_at(bytes, 28),
+        first: long_number_at(bytes, 32),
+        second: long_number_at(bytes, 40),
+        third: long_number_at(bytes, 48),
+        fourth: long_number_at(bytes, 56),
     }
 }
 
-// The call of a case and its answer, of the same bytes.
-fn question_of(bytes: &[u8; 64]) -> Question
+// The call of a case, its buffer and its answer, of the same bytes.
+fn question_of(bytes: &[u8; 72]) -> Question
     ensures { λ r. ⌜ r ≡ questionOf (now (bytes .entry)) ⌝ }
 {
     Question {
-        call: number_at(bytes, 0),
-        boundary: long_number_at(bytes, 4),
-        link: long_number_at(bytes, 12),
+        buffer_size: number_at(bytes, 0) as usize,
+        buffer_fill: number_at(bytes, 4),
+        call: number_at(bytes, 8),
+        boundary: long_number_at(bytes, 12),
+        link: long_number_at(bytes, 20),
         answer: answer_of(bytes),
-        checksum: long_number_at(bytes, 56),
+        checksum: long_number_at(bytes, 64),
     }
 }
 
-// Reads the call of a case and its answer. What is told of a file that ends before is that of zeros.
+// Reads the call of a case, its buffer and its answer. What is told of a file that ends before is that of zeros.
 pub fn read_question(file: i32) -> Question {
-    let mut bytes = [0u8; 64];
+    let mut bytes = [0u8; 72];
     if !read_whole(file, &mut bytes) {
-        return question_of(&[0u8; 64]);
+        return question_of(&[0u8; 72]);
     }
     question_of(&bytes)
 }

@@ -1,5 +1,5 @@
 -- `conformance::compare::answer_to` meets its contract. Assumes nothing.
-use Rattle.conformance.proofs.Laws.{answered-network, answered-plan, answered-link}
+use Rattle.conformance.proofs.Laws.{answered-network, answered-plan, answered-listing, answered-link}
 use borrow.Author.Needs.{needs}
 use Rattle.conformance.proofs.compare.answer_to.Statement.{statement}
 use Rattle.conformance.proofs.compare.answer_to.Tie as tie
@@ -11,7 +11,7 @@ of-network-requires : tie.Need-of-network-requires
 of-network-requires c κs = search needs
 
 returns : tie.Need-returns
-returns c = answered-network _ _ _ _ _ (c .before .before .if1 .taken) (c .before .check-network .ensures) (c .of-network .ensures)
+returns c = answered-network _ _ _ _ _ _ (c .before .before .if1 .taken) (c .before .check-network .ensures) (c .of-network .ensures)
 
 check-plan-requires : tie.Need-check-plan-requires
 check-plan-requires c κs = search needs
@@ -25,7 +25,19 @@ same-length c = search needs
 returns-2 : tie.Need-returns-2
 returns-2 c =
     let e = c .before .before .before .check-plan .ensures in
-    answered-plan _ _ _ _ _ _ (c .before .before .before .before .before .before .before .if1 .left) (c .before .before .before .before .before .if2 .taken) (e .0) (e .1 .0) (c .of-plan .ensures)
+    answered-plan _ _ _ _ _ _ _ (c .before .before .before .before .before .before .before .if1 .left) (c .before .before .before .before .before .if2 .taken) (e .0) (e .1 .0) (c .of-plan .ensures)
+
+plan-from-listing-requires : tie.Need-plan-from-listing-requires
+plan-from-listing-requires c κs = search needs
+
+of-listing-requires : tie.Need-of-listing-requires
+of-listing-requires c κs = search needs
+
+same-length-2 : tie.Need-same-length-2
+same-length-2 c = search needs
+
+returns-3 : tie.Need-returns-3
+returns-3 c = answered-listing _ _ _ _ _ _ _ (c .before .before .before .before .before .before .before .before .before .if1 .left) (c .before .before .before .before .before .before .before .if2 .left) (c .before .before .before .before .before .if3 .taken) (c .before .before .before .plan-from-listing .ensures) (c .of-listing .ensures)
 
 cast-boundary : tie.Need-cast-boundary
 cast-boundary c = search needs
@@ -39,11 +51,11 @@ link-state-requires c κs = search needs
 of-link-requires : tie.Need-of-link-requires
 of-link-requires c κs = search needs
 
-same-length-2 : tie.Need-same-length-2
-same-length-2 c = search needs
+same-length-3 : tie.Need-same-length-3
+same-length-3 c = search needs
 
-returns-3 : tie.Need-returns-3
-returns-3 c = answered-link _ _ _ _ _ (c .before .before .before .before .before .before .before .if1 .left) (c .before .before .before .before .before .if2 .left) (c .before .link-state .ensures) (c .of-link .ensures)
+returns-4 : tie.Need-returns-4
+returns-4 c = answered-link _ _ _ _ _ _ (c .before .before .before .before .before .before .before .before .before .if1 .left) (c .before .before .before .before .before .before .before .if2 .left) (c .before .before .before .before .before .if3 .left) (c .before .link-state .ensures) (c .of-link .ensures)
 
 pub answer-to-spec : {M : Type 1} → statement M
 answer-to-spec =
@@ -56,9 +68,13 @@ answer-to-spec =
     of-plan-requires
     same-length
     returns-2
+    plan-from-listing-requires
+    of-listing-requires
+    same-length-2
+    returns-3
     cast-boundary
     cast-link
     link-state-requires
     of-link-requires
-    same-length-2
-    returns-3)
+    same-length-3
+    returns-4)

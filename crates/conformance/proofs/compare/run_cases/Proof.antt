@@ -10,19 +10,20 @@ use Rattle.conformance.proofs.compare.run_cases.Statement.{statement}
 use Rattle.conformance.proofs.compare.run_cases.Tie as tie
 
 abbrev Inv-loop : tie.InvT-loop
-Inv-loop file count network₀ plan₀ start₀ ledger₀ counts₀ sizes₀ done₀ network plan start ledger counts sizes done =
+Inv-loop file count network₀ plan₀ start₀ ledger₀ buffer₀ counts₀ sizes₀ done₀ network plan start ledger buffer counts sizes done =
     (done ≤ count)
     × (length network ≡ length network₀)
     × (length plan ≡ length plan₀)
     × (length start ≡ length start₀)
     × (length ledger ≡ length ledger₀)
+    × (length buffer ≡ length buffer₀)
     × Counted done counts₀ counts
 
 abbrev μ-loop : tie.MeasureT-loop
-μ-loop file count network₀ plan₀ start₀ ledger₀ counts₀ sizes₀ done₀ network plan start ledger counts sizes done = count - done
+μ-loop file count network₀ plan₀ start₀ ledger₀ buffer₀ counts₀ sizes₀ done₀ network plan start ledger buffer counts sizes done = count - done
 
 loop-holds : tie.Need-loop-holds Inv-loop μ-loop
-loop-holds c = (search needs, refl, refl, refl, refl, none)
+loop-holds c = (search needs, refl, refl, refl, refl, refl, none)
 
 run-case-requires : tie.Need-run-case-requires Inv-loop μ-loop
 run-case-requires c κs = search needs
@@ -39,6 +40,9 @@ same-length-3 c = search needs
 same-length-4 : tie.Need-same-length-4 Inv-loop μ-loop
 same-length-4 c = search needs
 
+same-length-5 : tie.Need-same-length-5 Inv-loop μ-loop
+same-length-5 c = search needs
+
 returns : tie.Need-returns Inv-loop μ-loop
 returns c = never
 
@@ -49,10 +53,7 @@ loop-less : tie.Need-loop-less Inv-loop μ-loop
 loop-less c = search needs
 
 loop-again : tie.Need-loop-again Inv-loop μ-loop
-loop-again c = (search needs, search needs, search needs, search needs, search needs, counted-more (c .before .before .before .before .before .before .before .before .before .before .before .before .before .before .before .before .before .loop .inv .5) (c .before .before .before .before .before .before .before .before .before .before .run-case .ensures (c .if1 .left)))
-
-same-length-5 : tie.Need-same-length-5 Inv-loop μ-loop
-same-length-5 c = search needs
+loop-again c = (search needs, search needs, search needs, search needs, search needs, search needs, counted-more (c .before .before .before .before .before .before .before .before .before .before .before .before .before .before .before .before .before .before .before .before .loop .inv .6) (c .before .before .before .before .before .before .before .before .before .before .before .before .run-case .ensures (c .if1 .left)))
 
 same-length-6 : tie.Need-same-length-6 Inv-loop μ-loop
 same-length-6 c = search needs
@@ -63,8 +64,14 @@ same-length-7 c = search needs
 same-length-8 : tie.Need-same-length-8 Inv-loop μ-loop
 same-length-8 c = search needs
 
+same-length-9 : tie.Need-same-length-9 Inv-loop μ-loop
+same-length-9 c = search needs
+
+same-length-10 : tie.Need-same-length-10 Inv-loop μ-loop
+same-length-10 c = search needs
+
 returns-2 : tie.Need-returns-2 Inv-loop μ-loop
-returns-2 c = λ h. counted-all (c .before .loop .inv .0) (omega arith) (c .before .loop .inv .5)
+returns-2 c = λ h. counted-all (c .before .loop .inv .0) (omega arith) (c .before .loop .inv .6)
 
 pub run-cases-spec : {M : Type 1} → statement M
 run-cases-spec =
@@ -78,12 +85,14 @@ run-cases-spec =
     same-length-2
     same-length-3
     same-length-4
+    same-length-5
     returns
     add-done
     loop-less
     loop-again
-    same-length-5
     same-length-6
     same-length-7
     same-length-8
+    same-length-9
+    same-length-10
     returns-2)

@@ -35,12 +35,12 @@ same-length-3 c = search needs
 same-length-4 : tie.Need-same-length-4
 same-length-4 c = search needs
 
-returns-2 : tie.Need-returns-2
-unfolding Compared
-returns-2 c = c .before .before .before .before .before .before .before .before .before .before .before .run-cases .ensures (c .before .before .if1 .taken)
-
 same-length-5 : tie.Need-same-length-5
 same-length-5 c = search needs
+
+returns-2 : tie.Need-returns-2
+unfolding Compared
+returns-2 c = c .before .before .before .before .before .before .before .before .before .before .before .before .before .run-cases .ensures (c .before .before .if1 .taken)
 
 same-length-6 : tie.Need-same-length-6
 same-length-6 c = search needs
@@ -51,21 +51,30 @@ same-length-7 c = search needs
 same-length-8 : tie.Need-same-length-8
 same-length-8 c = search needs
 
-returns-3 : tie.Need-returns-3
-unfolding Compared
-returns-3 c = tt
-
 same-length-9 : tie.Need-same-length-9
 same-length-9 c = search needs
 
 same-length-10 : tie.Need-same-length-10
 same-length-10 c = search needs
 
+returns-3 : tie.Need-returns-3
+unfolding Compared
+returns-3 c = tt
+
 same-length-11 : tie.Need-same-length-11
 same-length-11 c = search needs
 
 same-length-12 : tie.Need-same-length-12
 same-length-12 c = search needs
+
+same-length-13 : tie.Need-same-length-13
+same-length-13 c = search needs
+
+same-length-14 : tie.Need-same-length-14
+same-length-14 c = search needs
+
+same-length-15 : tie.Need-same-length-15
+same-length-15 c = search needs
 
 returns-4 : tie.Need-returns-4
 unfolding Compared
@@ -85,14 +94,17 @@ run-file-spec =
     same-length-2
     same-length-3
     same-length-4
-    returns-2
     same-length-5
+    returns-2
     same-length-6
     same-length-7
     same-length-8
-    returns-3
     same-length-9
     same-length-10
+    returns-3
     same-length-11
     same-length-12
+    same-length-13
+    same-length-14
+    same-length-15
     returns-4)

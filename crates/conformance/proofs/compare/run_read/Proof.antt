@@ -1,11 +1,15 @@
 -- `conformance::compare::run_read` meets its contract. Assumes nothing.
-use mathlib.Core.Path.{sym}
+use mathlib.Core.Path.{sym, _∙_}
 use native.Mathlib.Omega.{arith}
+use borrow.Author.Tests.{not-false}
 use lib.Seq.{length-take-le}
 use Rattle.conformance.proofs.Laws.{never, case-counted}
 use borrow.Author.Needs.{needs}
 use Rattle.conformance.proofs.compare.run_read.Statement.{statement}
 use Rattle.conformance.proofs.compare.run_read.Tie as tie
+
+is-valid-requires : tie.Need-is-valid-requires
+is-valid-requires c κs = search needs
 
 returns : tie.Need-returns
 returns c = never
@@ -43,8 +47,14 @@ slice-relend-prefix-judge-filled c = search needs
 slice-aggregate-judge-filled-4 : tie.Need-slice-aggregate-judge-filled-4
 slice-aggregate-judge-filled-4 c = sym (length-take-le _ _ (omega arith))
 
+slice-relend-prefix-judge-filled-2 : tie.Need-slice-relend-prefix-judge-filled-2
+slice-relend-prefix-judge-filled-2 c = search needs
+
+slice-aggregate-judge-filled-5 : tie.Need-slice-aggregate-judge-filled-5
+slice-aggregate-judge-filled-5 c = sym (length-take-le _ _ (omega arith))
+
 judge-filled-requires : tie.Need-judge-filled-requires
-judge-filled-requires c κs = search needs
+judge-filled-requires c κs = (sym (c .before .before .before .before .before .before .before .before .before .before .before .before .is-valid .ensures) ∙ not-false _ (c .before .before .before .before .before .before .before .before .before .before .before .if1 .left), length-take-le _ _ (omega arith))
 
 add-one-requires : tie.Need-add-one-requires
 add-one-requires c κs = search needs
@@ -52,13 +62,17 @@ add-one-requires c κs = search needs
 same-length : tie.Need-same-length
 same-length c = search needs
 
+same-length-2 : tie.Need-same-length-2
+same-length-2 c = search needs
+
 returns-8 : tie.Need-returns-8
-returns-8 c = λ h. case-counted (length-take-le _ _ (omega arith)) (c .before .before .before .before .judge-filled .ensures .0) (c .add-one .ensures)
+returns-8 c = λ h. case-counted (length-take-le _ _ (omega arith)) (c .before .before .before .before .before .before .judge-filled .ensures .0) (c .add-one .ensures)
 
 pub run-read-spec : {M : Type 1} → statement M
 run-read-spec =
     tie.close
     (tie.spec
+    is-valid-requires
     returns
     returns-2
     returns-3
@@ -71,7 +85,10 @@ run-read-spec =
     slice-aggregate-judge-filled-3
     slice-relend-prefix-judge-filled
     slice-aggregate-judge-filled-4
+    slice-relend-prefix-judge-filled-2
+    slice-aggregate-judge-filled-5
     judge-filled-requires
     add-one-requires
     same-length
+    same-length-2
     returns-8)

@@ -5,10 +5,10 @@ use Rattle.conformance.proofs.tally.print_table.Statement.{statement}
 use Rattle.conformance.proofs.tally.print_table.Tie as tie
 
 abbrev Inv-loop : tie.InvT-loop
-Inv-loop counts number₀ t4 t5 t6 number = number ≤ 22
+Inv-loop counts number₀ t4 t5 t6 number = number ≤ 25
 
 abbrev μ-loop : tie.MeasureT-loop
-μ-loop counts number₀ t4 t5 t6 number = 22 - number
+μ-loop counts number₀ t4 t5 t6 number = 25 - number
 
 slice-aggregate-print : tie.Need-slice-aggregate-print Inv-loop μ-loop
 slice-aggregate-print c = search needs

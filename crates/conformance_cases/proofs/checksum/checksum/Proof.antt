@@ -1,54 +1,18 @@
 -- `conformance_cases::checksum::checksum` meets its contract. Assumes nothing.
-use Rattle.conformance_cases.proofs.Laws.{Summed, summed-first, summed-next, summed-all}
-use Prim.Native.Nat.{_-_, _≤_}
-use lib.ListN.{length}
+use Rattle.conformance_cases.specs.Checksum.{checksumOf}
 use borrow.Author.Needs.{needs}
 use Rattle.conformance_cases.proofs.checksum.checksum.Statement.{statement}
 use Rattle.conformance_cases.proofs.checksum.checksum.Tie as tie
 
-abbrev Inv-loop : tie.InvT-loop
-Inv-loop ledger sum₀ i₀ sum i = (i ≤ length ledger) × Summed ledger sum i
+with-numbers-requires : tie.Need-with-numbers-requires
+with-numbers-requires c κs = search needs
 
-abbrev μ-loop : tie.MeasureT-loop
-μ-loop ledger sum₀ i₀ sum i = length ledger - i
+with-bytes-requires : tie.Need-with-bytes-requires
+with-bytes-requires c κs = search needs
 
-loop-holds : tie.Need-loop-holds Inv-loop μ-loop
-loop-holds c = (search needs, summed-first _)
-
-mul-with-number : tie.Need-mul-with-number Inv-loop μ-loop
-mul-with-number c = search needs
-
-shared-slice-read-with-number : tie.Need-shared-slice-read-with-number Inv-loop μ-loop
-shared-slice-read-with-number c = search needs
-
-with-number-requires : tie.Need-with-number-requires Inv-loop μ-loop
-with-number-requires c κs = search needs
-
-add-i : tie.Need-add-i Inv-loop μ-loop
-add-i c = search needs
-
-loop-less : tie.Need-loop-less Inv-loop μ-loop
-loop-less c = search needs
-
-loop-again : tie.Need-loop-again Inv-loop μ-loop
-loop-again c =
-    let l = c .before .before .before .loop in
-    (search needs, summed-next _ (l .sum) (l .i) _ (search needs) (l .inv .1) (c .with-number .ensures))
-
-returns : tie.Need-returns Inv-loop μ-loop
-returns c = summed-all _ _ (c .before .loop .i) (search needs) (c .before .loop .inv .1)
+returns : tie.Need-returns
+unfolding checksumOf
+returns c = cc
 
 pub checksum-spec : {M : Type 1} → statement M
-checksum-spec =
-    tie.close
-    (tie.spec
-    Inv-loop
-    μ-loop
-    loop-holds
-    mul-with-number
-    shared-slice-read-with-number
-    with-number-requires
-    add-i
-    loop-less
-    loop-again
-    returns)
+checksum-spec = tie.close (tie.spec with-numbers-requires with-bytes-requires returns)
