@@ -24,7 +24,7 @@ use Rattle.conformance_cases.specs.Outcome.{networkOutcome, planOutcome, linkOu
 use Rattle.conformance_cases.specs.declared.outcome.Outcome.{Outcome}
 use Rattle.conformance_cases.specs.declared.stored.LedgerForm.{LedgerForm}
 use Rattle.conformance_cases.specs.declared.stored.Question.{Question}
-use Rattle.conformance.specs.Compare.{validQuestion, heldAt, Filled, bufferBefore, writeVerdict, answerTo, ledgerTo, bufferTo, checksumTo, asStored, placeIn, Judged, CaseCounted, OneMore, Counted, more}
+use Rattle.conformance.specs.Compare.{validQuestion, heldAt, Filled, bufferBefore, answerTo, ledgerTo, bufferTo, checksumTo, asStored, placeIn, Judged, CaseCounted, OneMore, Counted, more}
 use Rattle.conformance.specs.Tally.{answers, different, passedOver, refusalOf, placeOf, counted}
 use Rattle.conformance_cases.specs.Checksum.{checksumOf}
 
@@ -83,7 +83,7 @@ module _ (network plan ledger buffer : List ℕ) (question : Question) where
   pub answered-listing :
       (r : Outcome) {answer : ListingAnswer} (after : List ℕ) → (question .call ≡ 1 → ⊥) → (question .call ≡ 2 → ⊥) → question .call ≡ 4
       → PlanGot (lines network) (entries plan) buffer answer after → r ≡ listingOutcome answer → Answered r ledger after
-  unfolding answerTo ledgerTo bufferTo writeVerdict
+  unfolding answerTo ledgerTo bufferTo
   answered-listing r after n m h g e =
       (rw (ne-eqb _ _ n, ne-eqb _ _ m, eq-eqb _ _ h) (e ∙ ap listingOutcome (g .told)), (rw h, rw (eq-eqb _ _ h) (g .holds)))
 

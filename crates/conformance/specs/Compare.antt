@@ -6,13 +6,11 @@ use mathlib.Core.Bool.{Bool, cond, _&&_}
 use mathlib.Core.List.{List}
 use lib.Dec.{ltb, leb, eqb}
 use lib.ListN.{length, getD, replicate}
-use Rattle.search.specs.declared.Verdict.{Verdict}
-use Rattle.search.specs.Checks.{verdict}
 use Rattle.records.specs.Lines.{lines}
 use Rattle.model.specs.Test.{_and_, within}
 use Rattle.model.specs.Calls.{checkNetwork, checkPlan, ledgerAfter, linkState}
 use Rattle.listing_lines.specs.Entry.{entries}
-use Rattle.listing.specs.Listing.{writeChecks, writtenAnswer, writtenBytes}
+use Rattle.listing.specs.Listing.{planFromListing, bufferAfter}
 use Rattle.conformance_cases.specs.Checksum.{checksumOf}
 use Rattle.conformance_cases.specs.Outcome.{networkOutcome, planOutcome, linkOutcome, listingOutcome, sameOutcome}
 use Rattle.conformance_cases.specs.declared.outcome.Outcome.{Outcome}
@@ -37,16 +35,12 @@ Filled start fill ledger = (i : ℕ) → i < length ledger → getD ledger i 0 �
 unfoldable pub bufferBefore : Question → List ℕ
 bufferBefore question = replicate (question .«buffer_size») (question .«buffer_fill»)
 
--- T-01: what becomes of a listing on a network, with a buffer of so many bytes
-unfoldable pub writeVerdict : List ℕ → List ℕ → ℕ → Verdict
-writeVerdict network listing size = verdict (writeChecks (lines network) (entries listing) size)
-
 -- the answer to a question; the listing stands in place of the plan
 unfoldable pub answerTo : List ℕ → List ℕ → List ℕ → List ℕ → Question → Outcome
 answerTo network plan ledger buffer question =
     cond (eqb (question .call) 1) (networkOutcome (checkNetwork (lines network)))
     (cond (eqb (question .call) 2) (planOutcome (checkPlan (lines network) (lines plan) (length ledger)))
-    (cond (eqb (question .call) 4) (listingOutcome (writtenAnswer (lines network) (entries plan) (writeVerdict network plan (length buffer))))
+    (cond (eqb (question .call) 4) (listingOutcome (planFromListing (lines network) (entries plan) (length buffer)))
     (linkOutcome (linkState (lines network) ledger (question .boundary) (question .link)))))
 
 -- the ledger after the call
@@ -57,7 +51,7 @@ ledgerTo network plan ledger question =
 -- the buffer after the call
 unfoldable pub bufferTo : List ℕ → List ℕ → List ℕ → Question → List ℕ
 bufferTo network plan buffer question =
-    cond (eqb (question .call) 4) (writtenBytes (lines network) (entries plan) (writeVerdict network plan (length buffer)) buffer) buffer
+    cond (eqb (question .call) 4) (bufferAfter (lines network) (entries plan) buffer) buffer
 
 -- the checksum of both
 unfoldable pub checksumTo : List ℕ → List ℕ → List ℕ → List ℕ → Question → ℕ
