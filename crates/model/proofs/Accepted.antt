@@ -7,7 +7,7 @@ use native.Mathlib.Omega.{arith}
 use Rattle.search.specs.Checks.{Hold, table}
 use Rattle.records.specs.Lines.{Line}
 use Rattle.model.specs.Network.{linkCount, signalCount, movementCount, stepCount, signal}
-use Rattle.model.specs.Rules.{validPhases, validSignal, validCounts, validLink, validMovement, validShares, validStep, meetsBoundary, rule10, rule11, rule12, rule13, rule14, rule15Admitted, rule15LetOut, rule15Moved, rule16, rule17, rule18}
+use Rattle.model.specs.Rules.{validPhases, validSignal, validCounts, validLink, validMovement, validShares, validStep, meetsBoundary, rule10, rule11, rule12, rule13, rule14, rule15, rule16, rule17, rule18, rule25, rule26, rule27}
 use Rattle.model.specs.Table.{countChecks, signalChecks, linkChecks, movementChecks, shareChecks, stepChecks, boundaryChecks, networkChecks, signalRules, limitRules, sumRules, lineChecks, planLineChecks, planChecks}
 
 -- refusals 2 to 7 do not arise
@@ -21,16 +21,17 @@ pub record ValidNetwork (network : List Line) : Type 0 where
   pub steps : (n : ℕ) → n < stepCount network → validStep network n ≡ true
   pub boundaries : (n : ℕ) → n < stepCount network → (i : ℕ) → i < linkCount network → meetsBoundary network (suc n) i ≡ true
 
--- step n keeps rules 10 to 18
+-- step n keeps rules 10 to 18 and 25 to 27
 pub record LawfulStep (network plan : List Line) (n : ℕ) : Type 0 where
   pub keeps10 : (r : ℕ) → r < signalCount network → rule10 network plan n r ≡ true
   pub keeps11 : (r : ℕ) → r < signalCount network → rule11 network plan n r ≡ true
   pub keeps12 : (r : ℕ) → r < signalCount network → rule12 network plan n r ≡ true
   pub keeps13 : (r : ℕ) → r < signalCount network → rule13 network plan n r ≡ true
   pub keeps14 : (r : ℕ) → r < signalCount network → rule14 network plan n r ≡ true
-  pub keeps15Admitted : (i : ℕ) → i < linkCount network → rule15Admitted network plan n i ≡ true
-  pub keeps15LetOut : (i : ℕ) → i < linkCount network → rule15LetOut network plan n i ≡ true
-  pub keeps15Moved : (j : ℕ) → j < movementCount network → rule15Moved network plan n j ≡ true
+  pub keeps15 : (i : ℕ) → i < linkCount network → rule15 network plan n i ≡ true
+  pub keeps25 : (i : ℕ) → i < linkCount network → rule25 network plan n i ≡ true
+  pub keeps26 : (j : ℕ) → j < movementCount network → rule26 network plan n j ≡ true
+  pub keeps27 : (j : ℕ) → j < movementCount network → rule27 network plan n j ≡ true
   pub keeps16 : (j : ℕ) → j < movementCount network → rule16 network plan n j ≡ true
   pub keeps17 : (i : ℕ) → i < linkCount network → rule17 network plan n i ≡ true
   pub keeps18 : (i : ℕ) → i < linkCount network → rule18 network plan n i ≡ true
@@ -63,9 +64,10 @@ lawful-step network plan n (form, (signals, (limits, sums))) =
       keeps12 = signals 2 (omega arith);
       keeps13 = signals 3 (omega arith);
       keeps14 = signals 4 (omega arith);
-      keeps15Admitted = limits 0 (omega arith);
-      keeps15LetOut = limits 1 (omega arith);
-      keeps15Moved = limits 2 (omega arith);
+      keeps15 = limits 0 (omega arith);
+      keeps25 = limits 1 (omega arith);
+      keeps26 = limits 2 (omega arith);
+      keeps27 = limits 3 (omega arith);
       keeps16 = sums 0 (omega arith);
       keeps17 = sums 1 (omega arith);
       keeps18 = sums 2 (omega arith);

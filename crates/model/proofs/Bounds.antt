@@ -1,4 +1,4 @@
--- How large the sums of a plan can be, for a program that forms them in words of 32 and 64 bits: right after rule 15 has passed at a step.
+-- How large the sums of a plan can be, for a program that forms them in words of 32 and 64 bits: right after the limits of its volumes have passed at a step.
 -- At most L movements lead into a link, and from one, since (from, to) rises. Assumes nothing.
 use mathlib.Core.Path.{_≡_, refl, ap}
 use mathlib.Core.Bool.{Bool, true, false}
@@ -14,7 +14,7 @@ use Rattle.records.specs.Lines.{Line}
 use Rattle.model.specs.Sum.{sum, only}
 use Rattle.model.specs.Network.{linkCount, movementCount, stepCount, exitRate, fromLink, toLink, rate, stepLength, demand}
 use Rattle.model.specs.Flows.{admitted, letOut, moved, movedInto, movedFrom, inflow, outflow, entered, left, held, vehicles, allAdmitted, allLetOut, doubledTime}
-use Rattle.model.specs.Rules.{pairRises, validMovement, rule15Admitted, rule15LetOut, rule15Moved, rule18}
+use Rattle.model.specs.Rules.{pairRises, validMovement, rule15, rule18, rule25, rule26}
 use Rattle.model.specs.Table.{networkChecks}
 use Rattle.model.proofs.Tests.{and-left, and-right, or-cases}
 use Rattle.model.proofs.Sums.{sum-bound}
@@ -42,14 +42,14 @@ ranked-sum test rank f b (suc m) c rises ranked small =
         omega (arith, small m (omega arith), ap (λ x. x * b) one, mul-le-mul-right b (here .1))
     go false e ih = omega (arith, ih c (λ j u. ranked j (omega arith)))
 
--- step n keeps rule 15
-pub record Keeps15 (network plan : List Line) (n : ℕ) : Type 0 where
-  pub admissions : (i : ℕ) → i < linkCount network → rule15Admitted network plan n i ≡ true
-  pub exits : (i : ℕ) → i < linkCount network → rule15LetOut network plan n i ≡ true
-  pub movements : (j : ℕ) → j < movementCount network → rule15Moved network plan n j ≡ true
+-- step n keeps rules 15, 25 and 26, which bound its volumes
+pub record KeepsLimits (network plan : List Line) (n : ℕ) : Type 0 where
+  pub admissions : (i : ℕ) → i < linkCount network → rule15 network plan n i ≡ true
+  pub exits : (i : ℕ) → i < linkCount network → rule25 network plan n i ≡ true
+  pub movements : (j : ℕ) → j < movementCount network → rule26 network plan n j ≡ true
 
-pub lawful-keeps15 : {network plan : List Line} {n : ℕ} → LawfulStep network plan n → Keeps15 network plan n
-lawful-keeps15 l = record { admissions = l .keeps15Admitted; exits = l .keeps15LetOut; movements = l .keeps15Moved }
+pub lawful-limits : {network plan : List Line} {n : ℕ} → LawfulStep network plan n → KeepsLimits network plan n
+lawful-limits l = record { admissions = l .keeps15; exits = l .keeps25; movements = l .keeps26 }
 
 -- the pair (from, to) of movement k is above that of movement j
 abbrev Above : List Line → ℕ → ℕ → Type 0
@@ -77,12 +77,12 @@ module _ (network plan : List Line) (holds : Hold (networkChecks network)) where
       go (inl e) ih = let i : j ≡ k = omega arith in rw i last
       go (inr u) ih = both (ih (omega arith) (omega arith)) last
 
-  -- ---- one step that keeps rule 15
-  module _ (n : ℕ) (h : n < stepCount network) (keeps : Keeps15 network plan n) where
+  -- ---- one step that keeps the limits
+  module _ (n : ℕ) (h : n < stepCount network) (keeps : KeepsLimits network plan n) where
     pub moved-small : (j : ℕ) → j < movementCount network → moved network plan n j ≤ 600_000
-    unfolding rule15Moved
+    unfolding rule26
     moved-small j l =
-        le-trans (leb-true (moved network plan n j) (rate network j * stepLength network n) (and-left _ _ (keeps .movements j l)))
+        le-trans (leb-true (moved network plan n j) (rate network j * stepLength network n) (keeps .movements j l))
         (mul-le-mul (movement-limits network valid j l .rate-limit) (step-limits network valid n h .length-limit))
 
     pub moved-into-small : (i : ℕ) → movedInto network plan n i ≤ 14_400_000
@@ -110,11 +110,11 @@ module _ (network plan : List Line) (holds : Hold (networkChecks network)) where
         rise j k e f (inr a) = a .1
 
     admitted-small : (i : ℕ) → i < linkCount network → admitted network plan n i ≤ 600_000
-    unfolding rule15Admitted
+    unfolding rule15
     admitted-small i l = le-trans (leb-true (admitted network plan n i) (demand network n i) (keeps .admissions i l)) (step-limits network valid n h .demand-limit i l)
 
     let-out-small : (i : ℕ) → i < linkCount network → letOut network plan n i ≤ 600_000
-    unfolding rule15LetOut
+    unfolding rule25
     let-out-small i l =
         le-trans (leb-true (letOut network plan n i) (exitRate network i * stepLength network n) (keeps .exits i l))
         (mul-le-mul (link-limits network valid i l .exit-limit) (step-limits network valid n h .length-limit))
@@ -135,9 +135,9 @@ module _ (network plan : List Line) (holds : Hold (networkChecks network)) where
     unfolding allLetOut
     all-let-out-small = omega (arith, sum-bound (linkCount network) 600_000 (letOut network plan n) let-out-small, counts network valid .links)
 
-  -- ---- n steps that keep rule 15
-  module _ (n : ℕ) (h : n ≤ stepCount network) (keeps : (m : ℕ) → m < n → Keeps15 network plan m) where
-    each-step : (f : ℕ → ℕ) (c : ℕ) → ((m : ℕ) → m < stepCount network → Keeps15 network plan m → f m ≤ c) → sum n f ≤ n * c
+  -- ---- n steps that keep the limits
+  module _ (n : ℕ) (h : n ≤ stepCount network) (keeps : (m : ℕ) → m < n → KeepsLimits network plan m) where
+    each-step : (f : ℕ → ℕ) (c : ℕ) → ((m : ℕ) → m < stepCount network → KeepsLimits network plan m → f m ≤ c) → sum n f ≤ n * c
     each-step f c small = sum-bound n c f (λ m l. small m (omega arith) (keeps m l))
 
     pub entered-fits : (i : ℕ) → i < linkCount network → entered network plan n i ≤ 2_000_000_000 + n * 15_000_000

@@ -11,9 +11,9 @@ use Rattle.records.specs.Lines.{Line}
 use Rattle.model.specs.Network.{linkCount, signalCount, movementCount, stepCount, signal, signalOf, phaseMask, fromLink}
 use Rattle.model.specs.Signals.{opens}
 use Rattle.model.specs.Flows.{shownMask, shownIn, moved, isOpen}
-use Rattle.model.specs.Rules.{rule10, rule15Moved}
+use Rattle.model.specs.Rules.{rule10, rule27}
 use Rattle.model.specs.Guarantees.{Shows}
-use Rattle.model.proofs.Tests.{and-right, or-cases}
+use Rattle.model.proofs.Tests.{or-cases}
 use Rattle.model.proofs.Phases.{bit-of-phase}
 use Rattle.model.proofs.Accepted.{AcceptedPlan}
 use Rattle.model.proofs.Limits.{link-limits, movement-limits}
@@ -36,11 +36,11 @@ module _ (network plan : List Line) (accepted : AcceptedPlan network plan) where
       → 1 ≤ q → Shows network plan (signalOf network (fromLink network j - 1) - 1) q (suc n)
       → phaseMask network (fromLink network j - 1) / 2 ^ (q - 1) % 2 ≡ 0
       → moved network plan n j ≡ 0
-  unfolding Shows rule15Moved isOpen opens
+  unfolding Shows rule27 isOpen opens
   shut-passes-nothing n j q h l a b s m =
       let i = fromLink network j - 1 in
       let bit : 2 ^ (shownIn network plan n (signalOf network i - 1) - 1) ≡ 2 ^ (q - 1) = sym (shown-bit n (signalOf network i - 1) h (signal-in j l a)) ∙ s in
       let none : phaseMask network i / 2 ^ (shownIn network plan n (signalOf network i - 1) - 1) % 2 ≡ 0 = rw bit m in
       let shut : isOpen network plan n i ≡ true → ⊥ = λ o. ⊎-elim (λ (e : eqb (signalOf network i) 0 ≡ true). omega (arith, eqb-true))
       (λ (e : eqb (phaseMask network i / 2 ^ (shownIn network plan n (signalOf network i - 1) - 1) % 2) 1 ≡ true). omega (arith, eqb-true)) (or-cases _ _ o) in
-      ⊎-elim (λ o. absurd (shut o)) (λ e. eqb-true _ _ e) (or-cases _ _ (and-right _ _ (accepted .lawful n h .keeps15Moved j l)))
+      ⊎-elim (λ o. absurd (shut o)) (λ e. eqb-true _ _ e) (or-cases _ _ (accepted .lawful n h .keeps27 j l))

@@ -1,4 +1,4 @@
--- The rules, each a test: refusals 2 to 7 of a network's values, and rules 10 to 18 of step n. Assumes nothing.
+-- The rules, each a test: refusals 2 to 7 of a network's values, and rules 10 to 18 and 25 to 27 of step n. Assumes nothing.
 use Prim.Native.Nat.{ℕ, zero, suc, _+_, _*_, _-_, _^_}
 use mathlib.Core.Bool.{Bool, true, not, cond}
 use mathlib.Core.List.{List}
@@ -101,18 +101,20 @@ module _ (network plan : List Line) (n : ℕ) where
   rule14 r = keepsCycle (signalAt network plan n r) (shownIn network plan n r) (stepLength network n)
 
   -- 15 (C2), link i: admitted is at most demand
-  unfoldable pub rule15Admitted : ℕ → Bool
-  rule15Admitted i = leb (admitted network plan n i) (demand network n i)
+  unfoldable pub rule15 : ℕ → Bool
+  rule15 i = leb (admitted network plan n i) (demand network n i)
 
-  -- 15, link i: let out is at most exit rate × length
-  unfoldable pub rule15LetOut : ℕ → Bool
-  rule15LetOut i = leb (letOut network plan n i) (exitRate network i * stepLength network n)
+  -- 25 (C2), link i: let out is at most exit rate × length
+  unfoldable pub rule25 : ℕ → Bool
+  rule25 i = leb (letOut network plan n i) (exitRate network i * stepLength network n)
 
-  -- 15, movement j: it is at most its rate × length, and 0 if its from link is shut
-  unfoldable pub rule15Moved : ℕ → Bool
-  rule15Moved j =
-      leb (moved network plan n j) (rate network j * stepLength network n)
-      and (isOpen network plan n (fromLink network j - 1) or eqb (moved network plan n j) 0)
+  -- 26 (C2), movement j: it is at most its rate × length
+  unfoldable pub rule26 : ℕ → Bool
+  rule26 j = leb (moved network plan n j) (rate network j * stepLength network n)
+
+  -- 27 (C2), movement j: it is 0 if its from link is shut
+  unfoldable pub rule27 : ℕ → Bool
+  rule27 j = isOpen network plan n (fromLink network j - 1) or eqb (moved network plan n j) 0
 
   -- 16 (C1), movement j: 1000 × the movement is at most its share × the sum of all movements from its link
   unfoldable pub rule16 : ℕ → Bool

@@ -8,7 +8,7 @@ use lib.ListN.{length, getD}
 use Rattle.search.specs.Checks.{Checks, check, each, _then_, Rule, table}
 use Rattle.records.specs.Lines.{Line, noLine, isRecord, startsAs}
 use Rattle.model.specs.Network.{linkCount, signalCount, movementCount, stepCount, signalLine, linkLine, movementLine, stepLine, signal}
-use Rattle.model.specs.Rules.{validPhases, validSignal, validCounts, validLink, validMovement, lastMovement, validShares, validStep, meetsBoundary, rule10, rule11, rule12, rule13, rule14, rule15Admitted, rule15LetOut, rule15Moved, rule16, rule17, rule18}
+use Rattle.model.specs.Rules.{validPhases, validSignal, validCounts, validLink, validMovement, lastMovement, validShares, validStep, meetsBoundary, rule10, rule11, rule12, rule13, rule14, rule15, rule16, rule17, rule18, rule25, rule26, rule27}
 
 -- line i is there, is ended, and has the letter and k numbers
 unfoldable pub isForm : List Line → ℕ → ℕ → ℕ → Bool
@@ -89,7 +89,7 @@ module _ (network : List Line) where
   ledgerChecks size = check 8 0 0 (leb (2 * suc (stepCount network) * linkCount network) size)
 
 module _ (network plan : List Line) where
-  -- the rules at step n, by number: 10 to 14 of the signals ..
+  -- the rules at step n, in their order: 10 to 14 of the signals ..
   unfoldable pub signalRules : ℕ → List Rule
   signalRules n =
       record { number = 10; items = signalCount network; holds = rule10 network plan n }
@@ -99,12 +99,13 @@ module _ (network plan : List Line) where
       ∷ record { number = 14; items = signalCount network; holds = rule14 network plan n }
       ∷ []
 
-  -- .. 15, the limits of the volumes: admitted, then let out, then movements ..
+  -- .. 15 and 25 to 27, the limits of the volumes: admitted, let out, and the movements' two ..
   unfoldable pub limitRules : ℕ → List Rule
   limitRules n =
-      record { number = 15; items = linkCount network; holds = rule15Admitted network plan n }
-      ∷ record { number = 15; items = linkCount network; holds = rule15LetOut network plan n }
-      ∷ record { number = 15; items = movementCount network; holds = rule15Moved network plan n }
+      record { number = 15; items = linkCount network; holds = rule15 network plan n }
+      ∷ record { number = 25; items = linkCount network; holds = rule25 network plan n }
+      ∷ record { number = 26; items = movementCount network; holds = rule26 network plan n }
+      ∷ record { number = 27; items = movementCount network; holds = rule27 network plan n }
       ∷ []
 
   -- .. and 16 to 18, by sums of volumes

@@ -19,7 +19,7 @@ use Rattle.model.specs.Table.{networkChecks, lineChecks}
 use Rattle.model.proofs.Sums.{sum-ext}
 use Rattle.model.proofs.Accepted.{valid-network, lawful-step, LawfulStep}
 use Rattle.model.proofs.Limits.{step-limits}
-use Rattle.model.proofs.Bounds.{Keeps15, lawful-keeps15, admitted-total-small, let-out-total-small, vehicles-small, doubled-small}
+use Rattle.model.proofs.Bounds.{KeepsLimits, lawful-limits, admitted-total-small, let-out-total-small, vehicles-small, doubled-small}
 use Rattle.tables.specs.declared.Counts.{Counts}
 use Rattle.tables.specs.Fields.{lineSize, rowSize, lengthIn, admittedIn, letOutIn}
 use Rattle.tables.specs.Tables.{CountsHold, StepNumbers, PlanNumbers}
@@ -48,8 +48,8 @@ module _ (network plan : List Line) (holds : Hold (networkChecks network)) (coun
   totals-first row r held i = rw (i ∙ vehicles-is counted r)
 
   module _ (n : ℕ) (h : n ≤ stepCount network) (t : Totals) (at : t ≡ totals network plan n) (passed : (m : ℕ) → m < n → verdict (lineChecks network plan m) ≡ Passes) where
-    keeps-15 : (m : ℕ) → m < n → Keeps15 network plan m
-    keeps-15 m l = lawful-keeps15 (passed-lawful network plan m (passed m l))
+    keeps-limits : (m : ℕ) → m < n → KeepsLimits network plan m
+    keeps-limits m l = lawful-limits (passed-lawful network plan m (passed m l))
 
     keeps-18 : (m : ℕ) → m < n → (i : ℕ) → i < linkCount network → rule18 network plan m i ≡ true
     keeps-18 m l = passed-lawful network plan m (passed m l) .keeps18
@@ -64,8 +64,8 @@ module _ (network plan : List Line) (holds : Hold (networkChecks network)) (coun
           step-size = sn .size;
           row-size = rs;
           short = omega (arith, step-length-at sn, step-limits network valid n more .length-limit);
-          few-admitted = rw at (omega (arith, admitted-total-small network plan holds n h keeps-15, mul-le-mul-right 14_400_000 few-steps));
-          few-let-out = rw at (omega (arith, let-out-total-small network plan holds n h keeps-15, mul-le-mul-right 14_400_000 few-steps));
+          few-admitted = rw at (omega (arith, admitted-total-small network plan holds n h keeps-limits, mul-le-mul-right 14_400_000 few-steps));
+          few-let-out = rw at (omega (arith, let-out-total-small network plan holds n h keeps-limits, mul-le-mul-right 14_400_000 few-steps));
           few-inside = rw at (omega (arith, vehicles-small network plan holds n keeps-18, mul-le-mul-right 2_000_000_000 few-links));
           little-time = rw at (omega (arith, doubled-small network plan holds n h keeps-18, mul-le-mul-right 5_760_000_000_000 few-steps));
         }

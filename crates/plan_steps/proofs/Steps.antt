@@ -28,7 +28,7 @@ use Rattle.model.specs.Calls.{written}
 use borrow.Author.Tests.{leb-true}
 use Rattle.model.proofs.Accepted.{ValidNetwork, valid-network, LawfulStep}
 use Rattle.model.proofs.Limits.{step-limits}
-use Rattle.model.proofs.Bounds.{Keeps15, lawful-keeps15, entered-word, left-word}
+use Rattle.model.proofs.Bounds.{KeepsLimits, lawful-limits, entered-word, left-word}
 use Rattle.model.proofs.Phases.{phase-of-le}
 use Rattle.model.proofs.Rows.{length-written}
 use Rattle.tables.specs.declared.Counts.{Counts}
@@ -69,8 +69,8 @@ unfolding signalAt
 signal-phases network plan zero r = refl
 signal-phases network plan (suc n) r = signal-phases network plan n r
 
--- rule 15 of a step, by its table
-limits-keep : (network plan : List Line) (m line : ℕ) → verdict (table line (limitRules network plan m)) ≡ Passes → Keeps15 network plan m
+-- the limits of a step, by their table
+limits-keep : (network plan : List Line) (m line : ℕ) → verdict (table line (limitRules network plan m)) ≡ Passes → KeepsLimits network plan m
 unfolding limitRules
 limits-keep network plan m line h =
     let at = table-holds line (limitRules network plan m) h in
@@ -215,12 +215,12 @@ module _ {networkText planText : List ℕ} {counts : Counts} {links movements ti
               unfolding limitVerdict
               limits-are = limit-rules-are valid counted plan-numbers (asked .tables .link-table) (asked .tables .movement-table) step-numbers shown (suc n)
 
-              keeps : limitVerdict counts (state .signals) line step links movements phases ledger arrivals′ row n ≡ Passes → (m : ℕ) → m < suc n → Keeps15 net pln m
+              keeps : limitVerdict counts (state .signals) line step links movements phases ledger arrivals′ row n ≡ Passes → (m : ℕ) → m < suc n → KeepsLimits net pln m
               keeps v m l = go (let l′ : m ≤ n = omega arith in eq-or-lt-of-le l′)
                 where
-                  go : (m ≡ n) ⊎ (m < n) → Keeps15 net pln m
+                  go : (m ≡ n) ⊎ (m < n) → KeepsLimits net pln m
                   go (inl q) = rw q (limits-keep net pln n (suc n) (sym limits-are ∙ v))
-                  go (inr u) = lawful-keeps15 (passed-lawful net pln m (asked .state-at .passed m u))
+                  go (inr u) = lawful-limits (passed-lawful net pln m (asked .state-at .passed m u))
 
               after : RowHolds net pln (suc n) (madeRow counts line movements ledger row n)
               after = next-row-holds counted plan-numbers (asked .tables .movement-table) before (drop (2 * counts .links) row) refl
@@ -239,7 +239,7 @@ module _ {networkText planText : List ℕ} {counts : Counts} {links movements ti
                       ready = λ r l. asked .state-at .signals-at .ready r (omega (arith, counted .signals));
                       short = short;
                       phases-size = shown .size;
-                      phase-last = tables .phase-last;
+                      phase-last = tables .tables .phase-last;
                     };
                     line-tables = tables;
                     few-steps = step-few;

@@ -24,7 +24,7 @@ abbrev pub madeRow : Counts → List ℕ → List ℕ → List ℕ → List ℕ 
 madeRow counts line movements ledger row n = nextRow counts line movements (rowFrom counts ledger n) ++ drop (2 * counts .links) row
 
 module _ (counts : Counts) (signals : List Signal) (line step links movements phases ledger arrivals row : List ℕ) (n : ℕ) where
-  -- the verdicts on rules 10 to 14, on 15, and on 16 to 18, told at line n + 1 of the plan
+  -- the verdicts on rules 10 to 14, on 15 and 25 to 27, and on 16 to 18, told at line n + 1 of the plan
   unfoldable pub signalVerdict : Verdict
   signalVerdict = verdict (table (suc n) (signalRulesIn signals (counts .signals) phases (lengthIn step)))
 
@@ -34,7 +34,7 @@ module _ (counts : Counts) (signals : List Signal) (line step links movements ph
   unfoldable pub sumVerdict : Verdict
   sumVerdict = verdict (table (suc n) (sumRulesIn counts line links movements (rowFrom counts ledger n) (madeRow counts line movements ledger row n) ledger arrivals))
 
-  -- What the judgement of step n asks: the tables; and that the sums fit once rule 15 has passed.
+  -- What the judgement of step n asks: the tables; and that the sums fit once the limits of the volumes have passed.
   pub record JudgeAsked : Type 0 where
     pub signal-tables : SignalTables signals (counts .signals) phases (lengthIn step)
     pub line-tables : LineTables counts line step links movements phases

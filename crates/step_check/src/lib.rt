@@ -1,5 +1,5 @@
-// The judgement of one step of a plan: rules 10 to 18 by number, each over rising items. It goes in three searches, each of a family of rules, so that the sums of
-// rules 16 to 18 are formed only once rule 15 has passed.
+// The judgement of one step of a plan: rules 10 to 18 and 25 to 27 in their order, each over rising items. It goes in three searches, each of a family of rules, so that the sums of
+// rules 16 to 18 are formed only once the limits of the volumes (15, 25 to 27) have passed.
 ghost use Rattle.step_check.specs.Step.{JudgeAsked, Judged};
 use model::Signal;
 use search::Verdict;

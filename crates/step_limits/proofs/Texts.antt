@@ -1,4 +1,4 @@
--- Rule 15 by the program's tables is that of the paper, where the tables hold what the texts say. Assumes nothing.
+-- The limits by the program's tables are those of the paper, where the tables hold what the texts say. Assumes nothing.
 use mathlib.Core.Path.{_≡_, refl, ap₂}
 use mathlib.Core.List.{List}
 use Prim.Native.Nat.{ℕ, zero, suc, _*_, _-_, _≤_, _<_}
@@ -14,7 +14,7 @@ use Rattle.records.specs.Lines.{Line}
 use Rattle.model.specs.Test.{_or_, within}
 use Rattle.model.specs.Network.{linkCount, signalCount, movementCount, signal, signalOf, fromLink}
 use Rattle.model.specs.Flows.{shownIn, shownMask, isOpen}
-use Rattle.model.specs.Rules.{validPhases, rule15Admitted, rule15LetOut, rule15Moved}
+use Rattle.model.specs.Rules.{validPhases, rule15, rule25, rule26, rule27}
 use Rattle.model.specs.Table.{limitRules}
 use Rattle.model.proofs.Tests.{and-right}
 use Rattle.model.proofs.Phases.{phase-of-le}
@@ -25,17 +25,17 @@ use Rattle.tables.specs.Tables.{CountsHold, LinkTable, MovementTable, StepNumbe
 use Rattle.tables.proofs.Tables.{exit-rate-at, signal-of-at, phase-mask-at, from-link-at, rate-at, step-length-at, demand-at}
 use Rattle.step_signals.specs.Step.{ShownTable}
 use Rattle.step_rows.proofs.Texts.{movements-named, admitted-is, let-out-is, moved-is}
-use Rattle.step_limits.specs.Limits.{admitsDemand, letsOutRate, isOpenIn, movesOpen, limitTest, limitRulesIn, LineTables}
+use Rattle.step_limits.specs.Limits.{admitsDemand, letsOutRate, isOpenIn, movesRate, movesOpen, limitTest, limitRulesIn, LineTables}
 
 module _ {network plan : List Line} {n : ℕ} {counts : Counts} {line step links movements phases : List ℕ} (valid : ValidNetwork network) (counted : CountsHold network counts)
     (numbers : PlanNumbers network plan n line) (link-table : LinkTable network links) (movement-table : MovementTable network movements)
     (step-numbers : StepNumbers network n step) (shown : ShownTable network plan n phases) where
-  admits-demand-is : (i : ℕ) → i < linkCount network → admitsDemand counts line step i ≡ rule15Admitted network plan n i
-  unfolding admitsDemand rule15Admitted
+  admits-demand-is : (i : ℕ) → i < linkCount network → admitsDemand counts line step i ≡ rule15 network plan n i
+  unfolding admitsDemand rule15
   admits-demand-is i h = ap₂ leb (admitted-is counted numbers i h) (demand-at step-numbers i h)
 
-  lets-out-rate-is : (i : ℕ) → i < linkCount network → letsOutRate counts line step links i ≡ rule15LetOut network plan n i
-  unfolding letsOutRate rule15LetOut
+  lets-out-rate-is : (i : ℕ) → i < linkCount network → letsOutRate counts line step links i ≡ rule25 network plan n i
+  unfolding letsOutRate rule25
   lets-out-rate-is i h = ap₂ leb (let-out-is counted numbers i h) (ap₂ (λ x y. x * y) (exit-rate-at link-table i h) (step-length-at step-numbers))
 
   is-open-is : (i : ℕ) → i < linkCount network → isOpenIn links phases i ≡ isOpen network plan n i
@@ -47,18 +47,23 @@ module _ {network plan : List Line} {n : ℕ} {counts : Counts} {line step links
         | no s ↦ rw (eq-eqb (signalOf network i) 0 (omega arith)) refl
       ])
 
-  moves-open-is : (j : ℕ) → j < movementCount network → movesOpen counts line step links movements phases j ≡ rule15Moved network plan n j
-  unfolding movesOpen rule15Moved
+  moves-rate-is : (j : ℕ) → j < movementCount network → movesRate counts line step movements j ≡ rule26 network plan n j
+  unfolding movesRate rule26
+  moves-rate-is j h = ap₂ leb (moved-is counted numbers j h) (ap₂ (λ x y. x * y) (rate-at movement-table j h) (step-length-at step-numbers))
+
+  moves-open-is : (j : ℕ) → j < movementCount network → movesOpen counts line links movements phases j ≡ rule27 network plan n j
+  unfolding movesOpen rule27
   moves-open-is j h =
       let l : fromLink network j - 1 < linkCount network = omega (arith, movement-limits network valid j h) in
-      rw (moved-is counted numbers j h, rate-at movement-table j h, step-length-at step-numbers, from-link-at movement-table j h, is-open-is (fromLink network j - 1) l)
+      rw (moved-is counted numbers j h, from-link-at movement-table j h, is-open-is (fromLink network j - 1) l)
 
-  limit-rule-same : (k : ℕ) → k < 3 → SameRule (ruleAt (limitRulesIn counts line step links movements phases) k) (ruleAt (limitRules network plan n) k)
+  limit-rule-same : (k : ℕ) → k < 4 → SameRule (ruleAt (limitRulesIn counts line step links movements phases) k) (ruleAt (limitRules network plan n) k)
   unfolding limitRulesIn limitTest limitRules
   limit-rule-same zero h = record { number = refl; items = counted .links; holds = admits-demand-is }
   limit-rule-same (suc zero) h = record { number = refl; items = counted .links; holds = lets-out-rate-is }
-  limit-rule-same (suc (suc zero)) h = record { number = refl; items = counted .movements; holds = moves-open-is }
-  limit-rule-same (suc (suc (suc k))) h = absurd (omega arith)
+  limit-rule-same (suc (suc zero)) h = record { number = refl; items = counted .movements; holds = moves-rate-is }
+  limit-rule-same (suc (suc (suc zero))) h = record { number = refl; items = counted .movements; holds = moves-open-is }
+  limit-rule-same (suc (suc (suc (suc k)))) h = absurd (omega arith)
 
   pub limit-rules-are : (number : ℕ) → verdict (table number (limitRulesIn counts line step links movements phases)) ≡ verdict (table number (limitRules network plan n))
   unfolding limitRulesIn limitRules
@@ -73,12 +78,14 @@ module _ {network plan : List Line} {n : ℕ} {counts : Counts} {line step links
   pub line-tables : LineTables counts line step links movements phases
   line-tables =
       record {
-        few = counted .few;
-        named = movements-named counted movement-table valid;
-        line-size = numbers .size;
+        tables = record {
+          few = counted .few;
+          named = movements-named counted movement-table valid;
+          line-size = numbers .size;
+          links-size = link-table .size;
+          phases-size = shown .size;
+          signal-last = λ i h. omega (arith, signal-of-at link-table i (omega arith), link-limits network valid i (omega arith), counted .signals);
+          phase-last = λ r h. phase-small r (omega (arith, counted .signals));
+        };
         step-size = step-numbers .size;
-        links-size = link-table .size;
-        phases-size = shown .size;
-        signal-last = λ i h. omega (arith, signal-of-at link-table i (omega arith), link-limits network valid i (omega arith), counted .signals);
-        phase-last = λ r h. phase-small r (omega (arith, counted .signals));
       }

@@ -1,4 +1,4 @@
--- Rule 15 at one step, as tests of the program's tables: the numbers of the step's `P` and `S` lines, the links and movements of the network, and the phase that
+-- Rules 15 and 25 to 27 at one step, as tests of the program's tables: the numbers of the step's `P` and `S` lines, the links and movements of the network, and the phase that
 -- each signal shows in the step. Links, movements and signals are counted from 0, a link's signal and a movement's links from 1. Assumes nothing.
 use mathlib.Core.Path.{_≡_}
 use mathlib.Core.Bool.{Bool, true}
@@ -7,7 +7,7 @@ use Prim.Native.Nat.{ℕ, _*_, _-_, _≤_, _<_}
 use lib.Dec.{leb, eqb}
 use lib.ListN.{length, getD}
 use Rattle.search.specs.Checks.{Rule}
-use Rattle.model.specs.Test.{_and_, _or_}
+use Rattle.model.specs.Test.{_or_}
 use Rattle.model.specs.Network.{maxSignals}
 use Rattle.model.specs.Signals.{opens}
 use Rattle.tables.specs.declared.Counts.{Counts}
@@ -19,7 +19,7 @@ use Rattle.step_rows.specs.Rows.{Named}
 unfoldable pub admitsDemand : Counts → List ℕ → List ℕ → ℕ → Bool
 admitsDemand counts line step i = leb (admittedIn counts line i) (demandIn step i)
 
--- 15, link i: let out is at most exit rate × length
+-- 25, link i: let out is at most exit rate × length
 unfoldable pub letsOutRate : Counts → List ℕ → List ℕ → List ℕ → ℕ → Bool
 letsOutRate counts line step links i = leb (letOutIn counts line i) (exitRateIn links i * lengthIn step)
 
@@ -27,36 +27,53 @@ letsOutRate counts line step links i = leb (letOutIn counts line i) (exitRateIn 
 unfoldable pub isOpenIn : List ℕ → List ℕ → ℕ → Bool
 isOpenIn links phases i = eqb (signalIn links i) 0 or opens (phaseMaskIn links i) (getD phases (signalIn links i - 1) 0)
 
--- 15, movement j: it is at most its rate × length, and 0 if its from link is shut
-unfoldable pub movesOpen : Counts → List ℕ → List ℕ → List ℕ → List ℕ → List ℕ → ℕ → Bool
-movesOpen counts line step links movements phases j =
-    leb (movedIn counts line j) (rateIn movements j * lengthIn step) and (isOpenIn links phases (linkIn movements 0 j - 1) or eqb (movedIn counts line j) 0)
+-- 26, movement j: it is at most its rate × length
+unfoldable pub movesRate : Counts → List ℕ → List ℕ → List ℕ → ℕ → Bool
+movesRate counts line step movements j = leb (movedIn counts line j) (rateIn movements j * lengthIn step)
 
--- test k of the three, admitted, let out and movements, and to how many items it is put
+-- 27, movement j: it is 0 if its from link is shut
+unfoldable pub movesOpen : Counts → List ℕ → List ℕ → List ℕ → List ℕ → ℕ → Bool
+movesOpen counts line links movements phases j = isOpenIn links phases (linkIn movements 0 j - 1) or eqb (movedIn counts line j) 0
+
+-- test k of the four: the number it is refused by, and to how many items it is put
+abbrev pub limitNumber : ℕ → ℕ
+limitNumber k = getD (15 ∷ 25 ∷ 26 ∷ 27 ∷ []) k 0
+
 abbrev pub limitItems : Counts → ℕ → ℕ
-limitItems counts k = getD (counts .links ∷ counts .links ∷ counts .movements ∷ []) k 0
+limitItems counts k = getD (counts .links ∷ counts .links ∷ counts .movements ∷ counts .movements ∷ []) k 0
 
 unfoldable pub limitTest : Counts → List ℕ → List ℕ → List ℕ → List ℕ → List ℕ → ℕ → ℕ → Bool
 limitTest counts line step links movements phases k item =
-    getD (admitsDemand counts line step item ∷ letsOutRate counts line step links item ∷ movesOpen counts line step links movements phases item ∷ []) k true
+    getD
+    (admitsDemand counts line step item
+    ∷ letsOutRate counts line step links item
+    ∷ movesRate counts line step movements item
+    ∷ movesOpen counts line links movements phases item
+    ∷ [])
+    k
+    true
 
 abbrev pub limitRuleIn : Counts → List ℕ → List ℕ → List ℕ → List ℕ → List ℕ → ℕ → Rule
 limitRuleIn counts line step links movements phases k =
-    record { number = 15; items = limitItems counts k; holds = limitTest counts line step links movements phases k }
+    record { number = limitNumber k; items = limitItems counts k; holds = limitTest counts line step links movements phases k }
 
--- the table of rule 15
+-- the table of the limits
 unfoldable pub limitRulesIn : Counts → List ℕ → List ℕ → List ℕ → List ℕ → List ℕ → List Rule
 limitRulesIn counts line step links movements phases =
     let rule = limitRuleIn counts line step links movements phases in
-    rule 0 ∷ rule 1 ∷ rule 2 ∷ []
+    rule 0 ∷ rule 1 ∷ rule 2 ∷ rule 3 ∷ []
 
--- the tables that rule 15 reads
-pub record LineTables (counts : Counts) (line step links movements phases : List ℕ) : Type 0 where
+-- the tables that rule 27 reads
+pub record OpenTables (counts : Counts) (line links movements phases : List ℕ) : Type 0 where
   pub few : Few counts
   pub named : Named counts movements
   pub line-size : length line ≡ lineSize
-  pub step-size : length step ≡ stepSize
   pub links-size : length links ≡ linkTableSize
   pub phases-size : length phases ≡ maxSignals
   pub signal-last : (i : ℕ) → i < counts .links → signalIn links i ≤ counts .signals
   pub phase-last : (r : ℕ) → r < counts .signals → getD phases r 0 ≤ 8
+
+-- the tables that the four limits read
+pub record LineTables (counts : Counts) (line step links movements phases : List ℕ) : Type 0 where
+  pub tables : OpenTables counts line links movements phases
+  pub step-size : length step ≡ stepSize

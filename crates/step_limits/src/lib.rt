@@ -1,4 +1,4 @@
-// Rule 15 of the plan check: the limits of the volumes of a step's `P` line, admitted, let out and moved.
+// Rules 15 and 25 to 27 of the plan check: the limits of the volumes of a step's `P` line, admitted, let out and moved.
 ghost use mathlib.Core.Path.{_≡_};
 ghost use Prim.Native.Nat.{ℕ, _*_, _<_, _≤_};
 ghost use lib.Dec.{leb};
@@ -6,8 +6,8 @@ ghost use lib.ListN.{length, getD};
 ghost use Rattle.search.specs.Checks.{verdict, table};
 ghost use Rattle.model.specs.Network.{maxLinks, maxSignals};
 ghost use Rattle.tables.specs.Places.{Few};
-ghost use Rattle.tables.specs.Fields.{linkTableSize, stepSize, lineSize, signalIn};
-ghost use Rattle.step_limits.specs.Limits.{admitsDemand, letsOutRate, isOpenIn, movesOpen, limitItems, limitTest, limitRulesIn, LineTables};
+ghost use Rattle.tables.specs.Fields.{linkTableSize, movementTableSize, stepSize, lineSize, signalIn};
+ghost use Rattle.step_limits.specs.Limits.{admitsDemand, letsOutRate, isOpenIn, movesRate, movesOpen, limitNumber, limitItems, limitTest, limitRulesIn, OpenTables, LineTables};
 use search::Refusal;
 use search::Verdict;
 use tables::Counts;
@@ -29,7 +29,7 @@ fn within_rate(volume: u32, rate: u32, seconds: u32) -> bool
     wide(volume) <= times(rate, seconds)
 }
 
-// Link i: admitted is at most demand.
+// 15, link i: admitted is at most demand.
 fn admits_demand(line: &[u32], step: &[u32], counts: Counts, i: usize) -> bool
     requires { ⌜ (i < counts .links) × Few counts × (length (now line) ≡ lineSize) × (length (now step) ≡ stepSize) ⌝ }
     ensures { λ r. ⌜ r ≡ admitsDemand counts (now (line .entry)) (now (step .entry)) i ⌝ }
@@ -37,7 +37,7 @@ fn admits_demand(line: &[u32], step: &[u32], counts: Counts, i: usize) -> bool
     admitted(line, counts, i) <= step[1 + i]
 }
 
-// Link i: let out is at most exit rate × length.
+// 25, link i: let out is at most exit rate × length.
 fn lets_out_rate(line: &[u32], step: &[u32], links: &[u32], counts: Counts, i: usize) -> bool
     requires { ⌜ (i < counts .links) × Few counts × (length (now line) ≡ lineSize) × (length (now step) ≡ stepSize) × (length (now links) ≡ linkTableSize) ⌝ }
     ensures { λ r. ⌜ r ≡ letsOutRate counts (now (line .entry)) (now (step .entry)) (now (links .entry)) i ⌝ }
@@ -58,36 +58,55 @@ fn is_open(links: &[u32], phases: &[u32], i: usize) -> bool
     step_signals::opens(phase_mask(links, i), phases[signal - 1])
 }
 
-// Movement j: it is at most its rate × length, and 0 if its from link is shut.
+// 26, movement j: it is at most its rate × length.
+fn moves_rate(line: &[u32], step: &[u32], movements: &[u32], counts: Counts, j: usize) -> bool
+    requires { ⌜ (j < counts .movements) × Few counts × (length (now line) ≡ lineSize) × (length (now step) ≡ stepSize) × (length (now movements) ≡ movementTableSize) ⌝ }
+    ensures { λ r. ⌜ r ≡ movesRate counts (now (line .entry)) (now (step .entry)) (now (movements .entry)) j ⌝ }
+{
+    within_rate(moved(line, counts, j), rate(movements, j), step[0])
+}
+
+// 27, movement j: it is 0 if its from link is shut.
 fn moves_open(
     line: &[u32],
-    step: &[u32],
     links: &[u32],
     movements: &[u32],
     phases: &[u32],
     counts: Counts,
     j: usize,
 ) -> bool
-    requires { ⌜ LineTables counts (now line) (now step) (now links) (now movements) (now phases) ⌝ }
+    requires { ⌜ OpenTables counts (now line) (now links) (now movements) (now phases) ⌝ }
     requires { ⌜ j < counts .movements ⌝ }
-    ensures { λ r. ⌜ r ≡ movesOpen counts (now (line .entry)) (now (step .entry)) (now (links .entry)) (now (movements .entry)) (now (phases .entry)) j ⌝ }
+    ensures { λ r. ⌜ r ≡ movesOpen counts (now (line .entry)) (now (links .entry)) (now (movements .entry)) (now (phases .entry)) j ⌝ }
 {
-    let volume = moved(line, counts, j);
-    let from = step_rows::from_link(movements, counts, j);
-    within_rate(volume, rate(movements, j), step[0])
-        & (is_open(links, phases, from) | (volume == 0))
+    is_open(links, phases, step_rows::from_link(movements, counts, j))
+        | (moved(line, counts, j) == 0)
 }
 
-// To how many items each of the three tests is put.
+// The number that test k of the four is refused by.
+fn limit_number(k: usize) -> u32
+    requires { ⌜ k < 4 ⌝ }
+    ensures { λ r. ⌜ r ≡ limitNumber k ⌝ }
+{
+    let numbers = [15, 25, 26, 27];
+    numbers[k]
+}
+
+// To how many items test k of the four is put.
 fn limit_items(k: usize, counts: Counts) -> usize
-    requires { ⌜ k < 3 ⌝ }
+    requires { ⌜ k < 4 ⌝ }
     ensures { λ r. ⌜ r ≡ limitItems counts k ⌝ }
 {
-    let items = [counts.links, counts.links, counts.movements];
+    let items = [
+        counts.links,
+        counts.links,
+        counts.movements,
+        counts.movements,
+    ];
     items[k]
 }
 
-// Whether test k of the three holds of an item.
+// Whether test k of the four holds of an item.
 fn limit_test(
     k: usize,
     item: usize,
@@ -105,12 +124,13 @@ fn limit_test(
     match k {
         0 => admits_demand(line, step, counts, item),
         1 => lets_out_rate(line, step, links, counts, item),
-        2 => moves_open(line, step, links, movements, phases, counts, item),
+        2 => moves_rate(line, step, movements, counts, item),
+        3 => moves_open(line, links, movements, phases, counts, item),
         _ => true,
     }
 }
 
-// The first of admitted, let out and movements that breaks rule 15 in a step, each over rising items; `number` is the plan's line that tells it.
+// The first of rules 15, 25, 26 and 27 that a step breaks, each over rising items; `number` is the plan's line that tells it.
 pub fn first_limit_break(
     line: &[u32],
     step: &[u32],
@@ -124,12 +144,12 @@ pub fn first_limit_break(
     ensures { λ r. ⌜ r ≡ verdict (table number (limitRulesIn counts (now (line .entry)) (now (step .entry)) (now (links .entry)) (now (movements .entry)) (now (phases .entry)))) ⌝ }
 {
     let mut found = Verdict::Passes;
-    'judge: for k in 0..3 {
+    'judge: for k in 0..4 {
         let items = limit_items(k, counts);
         for item in 0..items {
             if !limit_test(k, item, line, step, links, movements, phases, counts) {
                 found = Verdict::Refused(Refusal {
-                    number: 15,
+                    number: limit_number(k),
                     line: number,
                     item: (item + 1) as u32,
                 });

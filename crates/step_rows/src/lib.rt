@@ -73,7 +73,7 @@ fn base_row(previous: &[u32], line: &[u32], counts: Counts, row: &mut [u32])
     }
 }
 
-// The row after a step, in the front of a lent row: one pass over the links, one over the movements. Only for a line that has passed rule 15, whose
+// The row after a step, in the front of a lent row: one pass over the links, one over the movements. Only for a line that has passed rules 15 and 25 to 27, whose
 // volumes are small enough for the sums to fit.
 pub fn next_row(previous: &[u32], line: &[u32], movements: &[u32], counts: Counts, row: &mut [u32])
     requires { ⌜ Fits counts (now line) (now movements) (now previous) (now row) ⌝ }

@@ -19,10 +19,10 @@ abbrev μ-loop : tie.MeasureT-loop
 
 abbrev Inv-judge : tie.InvT-judge
 Inv-judge line step links movements phases counts number found₀ k₀ found k =
-    (k ≤ 3) × (found ≡ Passes) × RulesLeft number (limitRulesIn counts line step links movements phases) k
+    (k ≤ 4) × (found ≡ Passes) × RulesLeft number (limitRulesIn counts line step links movements phases) k
 
 abbrev μ-judge : tie.MeasureT-judge
-μ-judge line step links movements phases counts number found₀ k₀ found k = 3 - k
+μ-judge line step links movements phases counts number found₀ k₀ found k = 4 - k
 
 judge-holds : tie.Need-judge-holds Inv-loop μ-loop Inv-judge μ-judge
 judge-holds c = (omega arith, refl, rules-first _ _)
@@ -39,15 +39,18 @@ loop-holds c =
 limit-test-requires : tie.Need-limit-test-requires Inv-loop μ-loop Inv-judge μ-judge
 limit-test-requires c κs = (search needs, omega (arith, c .before .loop .inv .1))
 
-add-t15 : tie.Need-add-t15 Inv-loop μ-loop Inv-judge μ-judge
-add-t15 c =
-    let h = few-limit-items (c .before .before .before .before .before .before .before .before .before .before .before .before .args .counts) (c .before .before .before .before .before .before .judge .k) (c .before .before .before .before .before .before .before .before .before .before .before .before .pre .few) in
-    omega (arith, c .before .before .before .loop .inv .1)
+limit-number-requires : tie.Need-limit-number-requires Inv-loop μ-loop Inv-judge μ-judge
+limit-number-requires c κs = search needs
 
-cast-t16 : tie.Need-cast-t16 Inv-loop μ-loop Inv-judge μ-judge
-cast-t16 c =
-    let h = few-limit-items (c .before .before .before .before .before .before .before .before .before .before .before .before .args .counts) (c .before .before .before .before .before .before .judge .k) (c .before .before .before .before .before .before .before .before .before .before .before .before .pre .few) in
-    omega (arith, c .before .before .before .loop .inv .1)
+add-t16 : tie.Need-add-t16 Inv-loop μ-loop Inv-judge μ-judge
+add-t16 c =
+    let h = few-limit-items (c .before .before .before .before .before .before .before .before .before .before .before .before .before .args .counts) (c .before .before .before .before .before .before .before .judge .k) (c .before .before .before .before .before .before .before .before .before .before .before .before .before .pre .tables .few) in
+    omega (arith, c .before .before .before .before .loop .inv .1)
+
+cast-t17 : tie.Need-cast-t17 Inv-loop μ-loop Inv-judge μ-judge
+cast-t17 c =
+    let h = few-limit-items (c .before .before .before .before .before .before .before .before .before .before .before .before .before .args .counts) (c .before .before .before .before .before .before .before .judge .k) (c .before .before .before .before .before .before .before .before .before .before .before .before .before .pre .tables .few) in
+    omega (arith, c .before .before .before .before .loop .inv .1)
 
 add-item : tie.Need-add-item Inv-loop μ-loop Inv-judge μ-judge
 add-item c = search needs
@@ -79,8 +82,9 @@ returns c =
 
 returns-2 : tie.Need-returns-2 Inv-loop μ-loop Inv-judge μ-judge
 returns-2 c =
-    let w = c .before .before .before .loop .inv in
-    items-hit (limit-rule-is _ _ _ _ _ _ _ (omega arith)) (w .3) (omega arith) (c .before .limit-test .ensures) (c .if1 .taken)
+    let w = c .before .before .before .before .loop .inv in
+    rw (c .limit-number .ensures)
+    (items-hit (limit-rule-is _ _ _ _ _ _ _ (omega arith)) (w .3) (omega arith) (c .before .before .limit-test .ensures) (c .before .if1 .taken))
 
 pub first-limit-break-spec : {M : Type 1} → statement M
 first-limit-break-spec =
@@ -94,8 +98,9 @@ first-limit-break-spec =
     limit-items-requires
     loop-holds
     limit-test-requires
-    add-t15
-    cast-t16
+    limit-number-requires
+    add-t16
+    cast-t17
     add-item
     loop-less
     loop-again

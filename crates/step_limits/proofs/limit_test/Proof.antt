@@ -19,8 +19,14 @@ lets-out-rate-requires c κs =
     let h : c .before .before .before .before .before .before .args .item < c .before .before .before .before .before .before .args .counts .links = rw (c .match .keys2) at (c .before .before .before .before .before .before .pre .1) in
     search needs
 
+moves-rate-requires : tie.Need-moves-rate-requires
+moves-rate-requires c κs =
+    let asked = c .before .before .before .before .before .before .pre .0 in
+    let h : c .before .before .before .before .before .before .args .item < c .before .before .before .before .before .before .args .counts .movements = rw (c .match .keys3) at (c .before .before .before .before .before .before .pre .1) in
+    search needs
+
 moves-open-requires : tie.Need-moves-open-requires
-moves-open-requires c κs = (c .before .before .before .before .before .before .pre .0, rw (c .match .keys3) at (c .before .before .before .before .before .before .pre .1))
+moves-open-requires c κs = (c .before .before .before .before .before .before .pre .0 .tables, rw (c .match .keys4) at (c .before .before .before .before .before .before .pre .1))
 
 returns : tie.Need-returns
 unfolding limitTest
@@ -32,10 +38,14 @@ returns-2 c = rw (c .before .match .keys2) (c .lets-out-rate .ensures)
 
 returns-3 : tie.Need-returns-3
 unfolding limitTest
-returns-3 c = rw (c .before .match .keys3) (c .moves-open .ensures)
+returns-3 c = rw (c .before .match .keys3) (c .moves-rate .ensures)
 
 returns-4 : tie.Need-returns-4
-returns-4 c = no-limit-test _ _ _ _ _ _ _ _ (omega arith)
+unfolding limitTest
+returns-4 c = rw (c .before .match .keys4) (c .moves-open .ensures)
+
+returns-5 : tie.Need-returns-5
+returns-5 c = no-limit-test _ _ _ _ _ _ _ _ (omega arith)
 
 pub limit-test-spec : {M : Type 1} → statement M
 limit-test-spec =
@@ -43,8 +53,10 @@ limit-test-spec =
     (tie.spec
     admits-demand-requires
     lets-out-rate-requires
+    moves-rate-requires
     moves-open-requires
     returns
     returns-2
     returns-3
-    returns-4)
+    returns-4
+    returns-5)
