@@ -358,7 +358,7 @@ static struct refusal judge_signals(struct network *network, const struct step *
     return passed;
 }
 
-/* Rules 15 and 16. */
+/* Rules 15, 25 to 27 and 16. */
 static struct refusal judge_flows(const struct network *network, struct step *step, uint32_t line)
 {
     bool is_open[PLANCHECK_MAX_LINKS];
@@ -367,17 +367,20 @@ static struct refusal judge_flows(const struct network *network, struct step *st
             return refuse(15, line, i + 1);
     for (uint32_t i = 0; i < network->links; i++)
         if (step->let_out[i] > network->link[i].exit_rate * step->length)
-            return refuse(15, line, i + 1);
+            return refuse(25, line, i + 1);
     for (uint32_t i = 0; i < network->links; i++) {
         const struct link *link = &network->link[i];
         is_open[i] = link->signal == 0 || (link->mask & step->mask[link->signal - 1]) != 0;
         step->moved_from[i] = 0;
         step->moved_to[i] = 0;
     }
+    for (uint32_t j = 0; j < network->movements; j++)
+        if (step->moved[j] > network->movement[j].rate * step->length)
+            return refuse(26, line, j + 1);
     for (uint32_t j = 0; j < network->movements; j++) {
         const struct movement *movement = &network->movement[j];
-        if (step->moved[j] > movement->rate * step->length || (step->moved[j] != 0 && !is_open[movement->from]))
-            return refuse(15, line, j + 1);
+        if (step->moved[j] != 0 && !is_open[movement->from])
+            return refuse(27, line, j + 1);
         step->moved_from[movement->from] += step->moved[j];
         step->moved_to[movement->to] += step->moved[j];
     }

@@ -88,8 +88,8 @@
  * ERRORS
  * A result has number 0 (PLANCHECK_OK), or the number of the first refusal in the order of judging, with the line and
  * the item that it names, 0 where it names none. Nothing else is reported: when number is not 0, every other member but
- * line and item is 0. Numbers 1 to 7 name a line of the network text, 9 to 18 a line of the plan text, 22 and 23 a line of
- * the listing, 36 and 37 a line of the corridor text.
+ * line and item is 0. Numbers 1 to 7 name a line of the network text, 9 to 18 and 25 to 27 a line of the plan text, 22 and
+ * 23 a line of the listing, 36 and 37 a line of the corridor text.
  * docs/REFUSALS.md says what to do about each.
  */
 #ifndef PLANCHECK_H
@@ -182,9 +182,14 @@ enum plancheck_number {
     PLANCHECK_PHASE_TOO_LONG = 13,
     /* Phase 1 begins again before the least cycle, or the cycle is longer than the greatest. Item: signal. */
     PLANCHECK_CYCLE_TIME = 14,
-    /* Admitted above demand (item: link); let out above exit rate * length (item: link); or a movement above its rate *
-       length, or not 0 from a link that its signal shuts (item: movement). In this order. */
-    PLANCHECK_FLOW_LIMIT = 15,
+    /* Admitted above demand. Item: link. */
+    PLANCHECK_ABOVE_DEMAND = 15,
+    /* Let out above exit rate * length. Judged after 15. Item: link. */
+    PLANCHECK_ABOVE_EXIT_LIMIT = 25,
+    /* A movement is above its rate * length. Judged after 25. Item: movement. */
+    PLANCHECK_ABOVE_RATE = 26,
+    /* A movement is not 0 from a link that its signal shuts. Judged after 26 and before 16. Item: movement. */
+    PLANCHECK_SHUT_LINK = 27,
     /* A movement is above its share of all movements from its link. Item: movement. */
     PLANCHECK_TURNING_SHARE = 16,
     /* More has left the link than has arrived at its end. Item: link. */
@@ -283,9 +288,9 @@ typedef struct {
 plancheck_network_result plancheck_check_network(const uint8_t *network, size_t network_len);
 
 /*
- * Checks a plan on a network, and fills the ledger. Refusals 1 to 18: first those of the network (1 to 7), then the
- * ledger's length (8), then the plan line by line: the form of the line (9), then rules 10 to 18 by number, each over
- * rising items.
+ * Checks a plan on a network, and fills the ledger. Refusals 1 to 18 and 25 to 27: first those of the network (1 to 7),
+ * then the ledger's length (8), then the plan line by line: the form of the line (9), then rules 10 to 15, 25 to 27 and
+ * 16 to 18 in this order, each over rising items.
  *
  * Reads both texts. Writes rows of the ledger, as far as the plan passes:
  *     accepted, or refused with 9 for text after the last line     rows 0 to K

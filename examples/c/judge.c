@@ -37,14 +37,16 @@ static const struct {
     [PLANCHECK_PHASE_TOO_SHORT] = {"plan", "signal", "a phase is left before its least time"},
     [PLANCHECK_PHASE_TOO_LONG] = {"plan", "signal", "a phase shows longer than its greatest time"},
     [PLANCHECK_CYCLE_TIME] = {"plan", "signal", "the cycle is shorter than its least or longer than its greatest time"},
-    [PLANCHECK_FLOW_LIMIT] = {"plan", "link or movement",
-                              "more is admitted, let out or moved than may be, or a movement leaves a shut link"},
+    [PLANCHECK_ABOVE_DEMAND] = {"plan", "link", "more is admitted than the step's demand"},
     [PLANCHECK_TURNING_SHARE] = {"plan", "movement", "the movement is above its share of the movements from its link"},
     [PLANCHECK_EARLY_DEPARTURE] = {"plan", "link", "more has left than has arrived"},
     [PLANCHECK_OVER_CAPACITY] = {"plan", "link", "the link would hold more than its capacity"},
     [PLANCHECK_NO_SUCH_BOUNDARY] = {NULL, NULL, "there is no such boundary"},
     [PLANCHECK_NO_SUCH_LINK] = {NULL, NULL, "there is no such link"},
     [PLANCHECK_LEDGER_CONTRADICTION] = {NULL, NULL, "the ledger contradicts itself or the network"},
+    [PLANCHECK_ABOVE_EXIT_LIMIT] = {"plan", "link", "more is let out than the link's exit rate allows"},
+    [PLANCHECK_ABOVE_RATE] = {"plan", "movement", "more is moved than the movement's rate allows"},
+    [PLANCHECK_SHUT_LINK] = {"plan", "movement", "the movement leaves a link that its signal shuts"},
 };
 
 static void print_refusal(uint32_t number, uint32_t line, uint32_t item)

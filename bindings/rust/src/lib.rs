@@ -89,7 +89,8 @@ pub fn check_network(network: &[u8]) -> Result<(), Refusal> {
 ///
 /// # Errors
 ///
-/// Refusals 1 to 7 of the network, 8 for a ledger shorter than [`required_ledger_len`], 9 to 18 of the plan.
+/// Refusals 1 to 7 of the network, 8 for a ledger shorter than [`required_ledger_len`], 9 to 18 and 25 to 27
+/// of the plan.
 ///
 /// # Examples
 ///

@@ -5,7 +5,8 @@ use core::fmt;
 /// Why a call declined: the number of the refusal, and the line and the item that it names.
 ///
 /// Lines and items are counted from 1; 0 where none is named. Numbers 1 to 7 name a line of the network text, 9 to 18
-/// a line of the plan text, 22 and 23 a line of the listing, 36 and 37 a line of the corridor text, the others none.
+/// and 25 to 27 a line of the plan text, 22 and 23 a line of the listing, 36 and 37 a line of the corridor text, the
+/// others none.
 /// What the item is depends on the number: see [`Refusal::item_kind`].
 ///
 /// `Display` says it in words:
@@ -53,8 +54,6 @@ pub enum ItemKind {
     Movement,
     /// A step: an `S` line.
     Step,
-    /// A link for admitted and let-out volume, a movement for a moved one.
-    LinkOrMovement,
 }
 
 impl Refusal {
@@ -63,7 +62,7 @@ impl Refusal {
     pub const fn text(&self) -> Option<Text> {
         match self.number {
             1..=7 => Some(Text::Network),
-            9..=18 => Some(Text::Plan),
+            9..=18 | 25..=27 => Some(Text::Plan),
             22 | 23 => Some(Text::Listing),
             36 | 37 => Some(Text::Corridor),
             _ => None,
@@ -75,10 +74,9 @@ impl Refusal {
     pub const fn item_kind(&self) -> Option<ItemKind> {
         match self.number {
             3 | 10..=14 => Some(ItemKind::Signal),
-            4 | 7 | 17 | 18 => Some(ItemKind::Link),
-            5 | 16 => Some(ItemKind::Movement),
+            4 | 7 | 15 | 17 | 18 | 25 => Some(ItemKind::Link),
+            5 | 16 | 26 | 27 => Some(ItemKind::Movement),
             6 => Some(ItemKind::Step),
-            15 => Some(ItemKind::LinkOrMovement),
             _ => None,
         }
     }
@@ -106,7 +104,7 @@ impl Refusal {
             12 => "a phase is left before its least time",
             13 => "a phase shows longer than its greatest time",
             14 => "the cycle is shorter than its least or longer than its greatest time",
-            15 => "more is admitted, let out or moved than may be, or a movement leaves a shut link",
+            15 => "more is admitted than the step's demand",
             16 => "the movement is above its share of the movements from its link",
             17 => "more has left than has arrived",
             18 => "the link would hold more than its capacity",
@@ -119,6 +117,9 @@ impl Refusal {
             }
             23 => "a volume is not a whole number of thousandths of a vehicle, or is too large",
             24 => "the buffer is shorter than the plan text",
+            25 => "more is let out than the link's exit rate allows",
+            26 => "more is moved than the movement's rate allows",
+            27 => "the movement leaves a link that its signal shuts",
             36 => {
                 "a line is missing, unfinished or surplus, has a wrong letter, a bad number or a wrong number of fields, \
                  or is beyond its limits"
@@ -149,7 +150,6 @@ impl fmt::Display for ItemKind {
             ItemKind::Link => "link",
             ItemKind::Movement => "movement",
             ItemKind::Step => "step",
-            ItemKind::LinkOrMovement => "link or movement",
         })
     }
 }

@@ -96,15 +96,18 @@ fn a_refusal_in_words() {
     );
     assert_eq!(
         refusal(15, 2, 1).to_string(),
-        "refusal 15, plan line 2, link or movement 1: \
-         more is admitted, let out or moved than may be, or a movement leaves a shut link"
+        "refusal 15, plan line 2, link 1: more is admitted than the step's demand"
     );
-    for number in 1..=21 {
+    assert_eq!(
+        refusal(27, 2, 1).to_string(),
+        "refusal 27, plan line 2, movement 1: the movement leaves a link that its signal shuts"
+    );
+    for number in 1..=27 {
         let refusal = refusal(number, 0, 0);
-        assert_ne!(refusal.meaning(), self::refusal(22, 0, 0).meaning());
-        let names_line = !matches!(number, 8 | 19..=21);
+        assert_ne!(refusal.meaning(), self::refusal(0, 0, 0).meaning());
+        let names_line = !matches!(number, 8 | 19..=21 | 24);
         assert_eq!(refusal.text().is_some(), names_line);
-        let names_item = matches!(number, 3..=7 | 10..=18);
+        let names_item = matches!(number, 3..=7 | 10..=18 | 25..=27);
         assert_eq!(refusal.item_kind().is_some(), names_item);
     }
     assert_eq!(refusal(7, 7, 1).text(), Some(Text::Network));

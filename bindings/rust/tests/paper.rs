@@ -77,12 +77,12 @@ fn c5_a_cycle_is_too_short() {
 
 #[test]
 fn c6_a_movement_is_above_its_rate() {
-    assert_eq!(judge(NETWORK, &with(PLAN, 2, 7, "5001"), 2), refused(15, 2, 1));
+    assert_eq!(judge(NETWORK, &with(PLAN, 2, 7, "5001"), 2), refused(26, 2, 1));
 }
 
 #[test]
 fn c7_a_movement_leaves_a_shut_link() {
-    assert_eq!(judge(NETWORK, &with(PLAN, 2, 2, "2"), 2), refused(15, 2, 1));
+    assert_eq!(judge(NETWORK, &with(PLAN, 2, 2, "2"), 2), refused(27, 2, 1));
 }
 
 #[test]
