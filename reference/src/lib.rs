@@ -57,7 +57,7 @@ pub fn check_network(network: &[u8]) -> Result<(), Refusal> {
     Network::read(network).map(|_| ())
 }
 
-/// Refusals 1 to 18; row 0 is written once the ledger's length has passed, row
+/// Refusals 1 to 18 and 25 to 27; row 0 is written once the ledger's length has passed, row
 /// n once step n has.
 pub fn check_plan(network: &[u8], plan: &[u8], ledger: &mut [u32]) -> Result<Totals, Refusal> {
     plan::check(network, plan, ledger)

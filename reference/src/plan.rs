@@ -1,4 +1,4 @@
-//! The plan text and refusals 8 to 18.
+//! The plan text and refusals 8 to 18 and 25 to 27.
 
 use crate::network::{Link, Movement, Network};
 use crate::text::{write_record, Line, Lines};
@@ -183,13 +183,16 @@ type Rule = fn(&Attempt) -> Option<usize>;
 
 /// The rules in the order in which they are judged. Rule 10 comes first: the
 /// others may ask for the phase that a mask shows.
-const RULES: [(u64, Rule); 9] = [
+const RULES: [(u64, Rule); 12] = [
     (10, |attempt| attempt.signal_with_bad_mask()),
     (11, |attempt| attempt.signal_out_of_order()),
     (12, |attempt| attempt.signal_below_least_time()),
     (13, |attempt| attempt.signal_above_greatest_time()),
     (14, |attempt| attempt.signal_outside_cycle()),
-    (15, |attempt| attempt.item_above_its_rate()),
+    (15, |attempt| attempt.link_above_demand()),
+    (25, |attempt| attempt.link_above_exit_rate()),
+    (26, |attempt| attempt.movement_above_its_rate()),
+    (27, |attempt| attempt.movement_from_shut_link()),
     (16, |attempt| attempt.movement_above_its_share()),
     (17, |attempt| attempt.link_left_before_arrival()),
     (18, |attempt| attempt.link_above_capacity()),
@@ -251,30 +254,32 @@ impl Attempt<'_> {
         })
     }
 
-    /// Rule 15: admitted, then let out, then movements.
-    fn item_above_its_rate(&self) -> Option<usize> {
-        self.link_above_demand()
-            .or_else(|| self.link_above_exit_rate())
-            .or_else(|| self.movement_above_rate_or_at_red())
-    }
-
+    /// Rule 15: admitted is at most demand.
     fn link_above_demand(&self) -> Option<usize> {
         let demand = &self.network.steps[self.number - 1].demand;
         self.links()
             .find(|&link| self.step.admitted[link] > demand[link])
     }
 
+    /// Rule 25: let out is at most exit rate x length.
     fn link_above_exit_rate(&self) -> Option<usize> {
         self.links().find(|&link| {
             self.step.let_out[link] > self.network.links[link].exit_rate * self.length()
         })
     }
 
-    fn movement_above_rate_or_at_red(&self) -> Option<usize> {
+    /// Rule 26: a movement is at most its rate x length.
+    fn movement_above_its_rate(&self) -> Option<usize> {
         self.movements().find(|&movement| {
-            let Movement { from, rate, .. } = self.network.movements[movement];
-            let volume = self.step.moved[movement];
-            volume > rate * self.length() || (volume != 0 && !self.is_open(from as usize - 1))
+            self.step.moved[movement] > self.network.movements[movement].rate * self.length()
+        })
+    }
+
+    /// Rule 27: a movement is 0 if its from link is shut.
+    fn movement_from_shut_link(&self) -> Option<usize> {
+        self.movements().find(|&movement| {
+            let from = self.network.movements[movement].from as usize - 1;
+            self.step.moved[movement] != 0 && !self.is_open(from)
         })
     }
 

@@ -139,11 +139,11 @@ fn the_stored_cases_leave_nothing_out() {
         assert_as_intended(case);
     }
     let count = |matches: &dyn Fn(&Case) -> bool| cases.iter().filter(|case| matches(case)).count();
-    for wanted in 1..=24 {
+    for wanted in 1..=27 {
         let refused = count(
             &|case| matches!(case.outcome.answer, Answer::Refused(Refusal { number, .. }) if number == wanted),
         );
-        assert!(refused >= 40, "refusal {wanted}: {refused} cases");
+        assert!(refused >= 30, "refusal {wanted}: {refused} cases");
     }
     for name in [
         "10: no bit",
@@ -169,12 +169,13 @@ fn the_stored_cases_leave_nothing_out() {
         "14: greatest cycle one below",
         "greatest cycle just kept",
         "15: admitted above demand",
-        "15: let out above the exit rate",
-        "15: movement above its rate",
-        "15: movement at red",
+        "25: let out above the exit rate",
+        "26: movement above its rate",
+        "26: movement from a shut link above its rate",
+        "27: movement from a shut link",
         "15: demand one below",
-        "15: exit rate one below",
-        "15: rate one below",
+        "25: exit rate one below",
+        "26: rate one below",
         "16: movement one above its share",
         "16: others above their share",
         "17: one let out that has not arrived",

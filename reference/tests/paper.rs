@@ -111,13 +111,13 @@ fn c5_cycle_too_short() {
 #[test]
 fn c6_movement_above_its_rate() {
     let plan = plan_with(2, "P\t1\t0\t0\t0\t0\t5001");
-    assert_prints(&text(&NETWORK), &plan, "R\t15\t2\t1\n");
+    assert_prints(&text(&NETWORK), &plan, "R\t26\t2\t1\n");
 }
 
 #[test]
-fn c7_movement_at_red() {
+fn c7_movement_from_a_shut_link() {
     let plan = plan_with(2, "P\t2\t0\t0\t0\t0\t3000");
-    assert_prints(&text(&NETWORK), &plan, "R\t15\t2\t1\n");
+    assert_prints(&text(&NETWORK), &plan, "R\t27\t2\t1\n");
 }
 
 #[test]

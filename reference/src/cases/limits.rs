@@ -243,7 +243,7 @@ fn rates_needed(scenario: &Scenario, volume: impl Fn(usize) -> u64) -> Vec<(usiz
         .collect()
 }
 
-/// Rule 15, let out.
+/// Rule 25.
 fn exit_rate(maker: &mut Maker, scenario: &Scenario, link: usize) {
     let values = rates_needed(scenario, |step| scenario.plan[step].let_out[link]);
     let needed = greatest(&values).expect("there is a step");
@@ -251,14 +251,14 @@ fn exit_rate(maker: &mut Maker, scenario: &Scenario, link: usize) {
         network.links[link].exit_rate = needed;
     });
     if needed > 0 {
-        let refusal = refused(15, first_step(&values, needed), link + 1);
-        maker.broken(scenario, "15: exit rate one below", refusal, |network| {
+        let refusal = refused(25, first_step(&values, needed), link + 1);
+        maker.broken(scenario, "25: exit rate one below", refusal, |network| {
             network.links[link].exit_rate = needed - 1;
         });
     }
 }
 
-/// Rule 15, movements.
+/// Rule 26.
 fn rate(maker: &mut Maker, scenario: &Scenario, movement: usize) {
     let values = rates_needed(scenario, |step| scenario.plan[step].moved[movement]);
     let needed = greatest(&values).expect("there is a step").max(1);
@@ -266,14 +266,14 @@ fn rate(maker: &mut Maker, scenario: &Scenario, movement: usize) {
         network.movements[movement].rate = needed;
     });
     if needed > 1 {
-        let refusal = refused(15, first_step(&values, needed), movement + 1);
-        maker.broken(scenario, "15: rate one below", refusal, |network| {
+        let refusal = refused(26, first_step(&values, needed), movement + 1);
+        maker.broken(scenario, "26: rate one below", refusal, |network| {
             network.movements[movement].rate = needed - 1;
         });
     }
 }
 
-/// Rule 15, admitted.
+/// Rule 15.
 fn demand(maker: &mut Maker, scenario: &Scenario, link: usize) {
     let steps: Vec<usize> = (0..scenario.step_count())
         .filter(|&step| scenario.plan[step].admitted[link] > 0)

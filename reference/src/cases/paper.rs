@@ -62,12 +62,12 @@ pub fn cases(maker: &mut Maker) {
     ask(
         "c6",
         Some(("\t0\t3000\nP", "\t0\t5001\nP")),
-        refused_plan(15, 2, 1),
+        refused_plan(26, 2, 1),
     );
     ask(
         "c7",
         Some(("P\t1\t0\t0\t0\t0", "P\t2\t0\t0\t0\t0")),
-        refused_plan(15, 2, 1),
+        refused_plan(27, 2, 1),
     );
     ask(
         "c8",

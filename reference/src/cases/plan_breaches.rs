@@ -1,4 +1,4 @@
-//! Rules 10 to 18 broken in the plan: one value one beyond its limit, and two
+//! Rules 10 to 18 and 25 to 27 broken in the plan: one value one beyond its limit, and two
 //! such values at once.
 
 use super::{refused, Answer, Maker, Scenario, Texts};
@@ -54,16 +54,15 @@ impl Breach {
         }
     }
 
-    /// Where the rule stands in the order in which a plan is judged.
-    fn order(&self) -> (usize, u64, u64, usize) {
-        // Rule 15 takes admitted, then let out, then movements.
-        let part = match self.field {
-            Field::Admitted(_) => 0,
-            Field::LetOut(_) => 1,
-            _ => 2,
-        };
-        let part = if self.rule == 15 { part } else { 0 };
-        (self.broken_in, self.rule, part, self.item)
+    /// Where the breach stands in the order in which a plan is judged.
+    fn order(&self) -> (usize, usize, usize) {
+        let rules = [10, 11, 12, 13, 14, 15, 25, 26, 27, 16, 17, 18];
+        let place = rules.iter().position(|&rule| rule == self.rule);
+        (
+            self.broken_in,
+            place.expect("the rule has a place"),
+            self.item,
+        )
     }
 
     fn refusal(&self) -> Refusal {
@@ -89,7 +88,7 @@ fn breaches(scenario: &Scenario) -> Vec<Vec<Breach>> {
     kind(&|step, breaches| above_demand(scenario, step, breaches));
     kind(&|step, breaches| above_exit_rate(scenario, step, breaches));
     kind(&|step, breaches| above_movement_rate(scenario, step, breaches));
-    kind(&|step, breaches| at_red(scenario, step, breaches));
+    kind(&|step, breaches| from_shut_links(scenario, step, breaches));
     kind(&|step, breaches| above_share(scenario, step, breaches));
     kind(&|step, breaches| below_share(scenario, step, breaches));
     kind(&|step, breaches| let_out_before_arrival(scenario, step, breaches));
@@ -203,8 +202,8 @@ fn above_exit_rate(scenario: &Scenario, step: usize, breaches: &mut Vec<Breach>)
         for value in [limits.exit_rate * length + 1, u64::from(u32::MAX)] {
             let field = Field::LetOut(link);
             breaches.push(Breach::at_once(
-                15,
-                "15: let out above the exit rate",
+                25,
+                "25: let out above the exit rate",
                 step,
                 field,
                 value,
@@ -219,8 +218,8 @@ fn above_movement_rate(scenario: &Scenario, step: usize, breaches: &mut Vec<Brea
         for value in [limits.rate * length + 1, u64::from(u32::MAX)] {
             let field = Field::Moved(movement);
             breaches.push(Breach::at_once(
-                15,
-                "15: movement above its rate",
+                26,
+                "26: movement above its rate",
                 step,
                 field,
                 value,
@@ -229,21 +228,20 @@ fn above_movement_rate(scenario: &Scenario, step: usize, breaches: &mut Vec<Brea
     }
 }
 
-fn at_red(scenario: &Scenario, step: usize, breaches: &mut Vec<Breach>) {
+fn from_shut_links(scenario: &Scenario, step: usize, breaches: &mut Vec<Breach>) {
     let length = scenario.network.steps[step].length;
     for (movement, limits) in scenario.network.movements.iter().enumerate() {
         if scenario.is_open(step, limits.from as usize - 1) {
             continue;
         }
-        for value in [1, limits.rate * length] {
+        let most = limits.rate * length;
+        for (rule, name, value) in [
+            (27, "27: movement from a shut link", 1),
+            (27, "27: movement from a shut link", most),
+            (26, "26: movement from a shut link above its rate", most + 1),
+        ] {
             let field = Field::Moved(movement);
-            breaches.push(Breach::at_once(
-                15,
-                "15: movement at red",
-                step,
-                field,
-                value,
-            ));
+            breaches.push(Breach::at_once(rule, name, step, field, value));
         }
     }
 }

@@ -1,4 +1,4 @@
-//! Refusals 8 to 18.
+//! Refusals 8 to 18 and 25 to 27.
 
 use crate::fixture::*;
 use plancheck_reference::check_plan;
@@ -149,8 +149,8 @@ fn r9_number_too_large_for_its_rule_is_no_bad_number() {
     let most = 4_294_967_295u64;
     assert_plan_refused(&network, &plan().set(1, 2, most).text(), 10, 1, 1);
     assert_plan_refused(&network, &plan().set(1, 4, most).text(), 15, 1, 1);
-    assert_plan_refused(&network, &plan().set(1, 7, most).text(), 15, 1, 1);
-    assert_plan_refused(&network, &plan().set(1, 10, most).text(), 15, 1, 1);
+    assert_plan_refused(&network, &plan().set(1, 7, most).text(), 25, 1, 1);
+    assert_plan_refused(&network, &plan().set(1, 10, most).text(), 26, 1, 1);
 }
 
 // Rule 10.
@@ -314,7 +314,7 @@ fn r14_signal_by_signal() {
     assert_plan_refused(&network, &plan().text(), 14, 4, 1);
 }
 
-// Rule 15.
+// Rules 15 and 25 to 27.
 
 #[test]
 fn r15_admitted() {
@@ -328,12 +328,12 @@ fn r15_admitted() {
 }
 
 #[test]
-fn r15_let_out() {
+fn r25_let_out() {
     // Link 3 lets 3000 out in step 3: 300 thousandths a second are enough.
     assert_plan_accepted(&network().set(6, 4, 300).text(), &plan().text());
-    assert_plan_refused(&network().set(6, 4, 299).text(), &plan().text(), 15, 3, 3);
-    assert_plan_refused(&network().text(), &plan().set(1, 7, 1).text(), 15, 1, 1);
-    assert_plan_refused(&network().text(), &plan().set(2, 8, 5001).text(), 15, 2, 2);
+    assert_plan_refused(&network().set(6, 4, 299).text(), &plan().text(), 25, 3, 3);
+    assert_plan_refused(&network().text(), &plan().set(1, 7, 1).text(), 25, 1, 1);
+    assert_plan_refused(&network().text(), &plan().set(2, 8, 5001).text(), 25, 2, 2);
     // At the rate's limit the rule passes and the next one that fails is 17.
     assert_plan_refused(&network().text(), &plan().set(2, 8, 5000).text(), 17, 2, 2);
     // A red signal does not keep volume from being let out: link 2 lets out in
@@ -342,47 +342,59 @@ fn r15_let_out() {
 }
 
 #[test]
-fn r15_movement_above_its_rate() {
+fn r26_movement_above_its_rate() {
     // Movement 2 takes 3000 in step 1, movement 1 takes 1000.
     assert_plan_accepted(&network().set(8, 4, 300).text(), &plan().text());
-    assert_plan_refused(&network().set(8, 4, 299).text(), &plan().text(), 15, 1, 2);
+    assert_plan_refused(&network().set(8, 4, 299).text(), &plan().text(), 26, 1, 2);
     assert_plan_accepted(&network().set(7, 4, 100).text(), &plan().text());
-    assert_plan_refused(&network().set(7, 4, 99).text(), &plan().text(), 15, 1, 1);
-    assert_plan_refused(&network().text(), &plan().set(3, 12, 3001).text(), 15, 3, 3);
+    assert_plan_refused(&network().set(7, 4, 99).text(), &plan().text(), 26, 1, 1);
+    assert_plan_refused(&network().text(), &plan().set(3, 12, 3001).text(), 26, 3, 3);
     assert_plan_refused(&network().text(), &plan().set(3, 12, 3000).text(), 17, 3, 2);
 }
 
 #[test]
-fn r15_movement_at_red() {
+fn r27_movement_from_a_shut_link() {
     // Signal 1 shows phase 2 in steps 3 and 4.
-    assert_plan_refused(&network().text(), &plan().set(3, 10, 1).text(), 15, 3, 1);
-    assert_plan_refused(&network().text(), &plan().set(4, 11, 1).text(), 15, 4, 2);
+    assert_plan_refused(&network().text(), &plan().set(3, 10, 1).text(), 27, 3, 1);
+    assert_plan_refused(&network().text(), &plan().set(4, 11, 1).text(), 27, 4, 2);
     // Signal 2 shows phase 2 in step 2.
-    assert_plan_refused(&network().text(), &plan().set(2, 12, 1).text(), 15, 2, 3);
+    assert_plan_refused(&network().text(), &plan().set(2, 12, 1).text(), 27, 2, 3);
     // With phase 2 in the mask, or without a signal, the link is open; one
     // less is then there to go in step 3.
     let open = plan().set(2, 12, 1).set(3, 12, 999).text();
     assert_plan_accepted(&network().set(5, 6, 7).text(), &open);
     assert_plan_accepted(&network().set(5, 5, 0).set(5, 6, 0).text(), &open);
     // With only phase 2 in its mask link 1 is shut in step 1.
-    assert_plan_refused(&network().set(4, 6, 2).text(), &plan().text(), 15, 1, 1);
+    assert_plan_refused(&network().set(4, 6, 2).text(), &plan().text(), 27, 1, 1);
 }
 
 #[test]
-fn r15_admitted_then_let_out_then_movements() {
+fn r15_then_r25_then_r26_then_r27() {
     let network = network().text();
-    let movement = plan().set(1, 10, 5001);
-    assert_plan_refused(&network, &movement.clone().text(), 15, 1, 1);
-    let let_out = movement.set(1, 8, 5001);
-    assert_plan_refused(&network, &let_out.clone().text(), 15, 1, 2);
-    let admitted = let_out.set(1, 6, 101);
-    assert_plan_refused(&network, &admitted.text(), 15, 1, 3);
-    // In step 3 movement 1 is at red and movement 3 above its rate.
+    let shut = plan().set(2, 12, 1);
+    assert_plan_refused(&network, &shut.clone().text(), 27, 2, 3);
+    let above_rate = shut.set(2, 11, 5001);
+    assert_plan_refused(&network, &above_rate.clone().text(), 26, 2, 2);
+    let let_out = above_rate.set(2, 9, 10_001);
+    assert_plan_refused(&network, &let_out.clone().text(), 25, 2, 3);
+    let admitted = let_out.set(2, 6, 1);
+    assert_plan_refused(&network, &admitted.text(), 15, 2, 3);
+    // Each over all its items: in step 3 movement 1 is shut in and movement 3
+    // above its rate, in step 2 it is the other way round.
     let text = plan().set(3, 10, 1).set(3, 12, 3001).text();
-    assert_plan_refused(&network, &text, 15, 3, 1);
-    // In step 2 movement 1 is above its rate and movement 3 at red.
+    assert_plan_refused(&network, &text, 26, 3, 3);
     let text = plan().set(2, 10, 5001).set(2, 12, 1).text();
-    assert_plan_refused(&network, &text, 15, 2, 1);
+    assert_plan_refused(&network, &text, 26, 2, 1);
+    // Link 3 is above its demand, link 1 above its exit limit.
+    let text = plan().set(2, 7, 1).set(2, 6, 1).text();
+    assert_plan_refused(&network, &text, 15, 2, 3);
+    // A movement above its rate from a shut link, at the rate and below it.
+    for (volume, number) in [(5001, 26), (5000, 27), (1, 27)] {
+        let text = plan().set(3, 10, volume).text();
+        assert_plan_refused(&network, &text, number, 3, 1);
+    }
+    // 27 comes before 16: the shut link's movements break their shares too.
+    assert_plan_refused(&network, &plan().set(4, 11, 7).text(), 27, 4, 2);
 }
 
 // Rule 16.
