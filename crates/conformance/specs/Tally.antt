@@ -8,17 +8,17 @@ use Rattle.conformance_cases.specs.declared.outcome.Outcome.{Outcome}
 
 -- how many answers a call's cases are counted by: accepted, and each refusal's number
 abbrev pub answers : ℕ
-answers = 25
+answers = 28
 
 abbrev pub different : ℕ
-different = 100
+different = 4 * answers
 
 abbrev pub passedOver : ℕ
-passedOver = 101
+passedOver = different + 1
 
 -- how many counts there are
 abbrev pub counters : ℕ
-counters = 102
+counters = different + 2
 
 -- a refusal's number; 0 where nothing is refused
 unfoldable pub refusalOf : Outcome → ℕ

@@ -1,14 +1,15 @@
 -- `conformance::tally::print_table` is safe and ends. Assumes nothing.
 use Prim.Native.Nat.{_-_, _≤_}
 use borrow.Author.Needs.{needs}
+use Rattle.conformance.specs.Tally.{answers}
 use Rattle.conformance.proofs.tally.print_table.Statement.{statement}
 use Rattle.conformance.proofs.tally.print_table.Tie as tie
 
 abbrev Inv-loop : tie.InvT-loop
-Inv-loop counts number₀ t4 t5 t6 number = number ≤ 25
+Inv-loop counts number₀ t4 t5 t6 number = number ≤ answers
 
 abbrev μ-loop : tie.MeasureT-loop
-μ-loop counts number₀ t4 t5 t6 number = 25 - number
+μ-loop counts number₀ t4 t5 t6 number = answers - number
 
 slice-aggregate-print : tie.Need-slice-aggregate-print Inv-loop μ-loop
 slice-aggregate-print c = search needs
