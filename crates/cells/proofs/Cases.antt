@@ -5,8 +5,8 @@ use Prim.Native.String.{String, _++_}
 use mathlib.Core.Path.{_≡_, refl}
 use mathlib.Core.List.{List, [], _∷_, map}
 use Rattle.search.specs.Checks.{refusal, verdict, checked, orElse, firstFrom}
-use Rattle.records.specs.Field.{digit, digits, shift, decimal, leadingZero, isNumeral, fieldOf}
-use Rattle.records.specs.Lines.{inFront, split, letterOf, lineOf, linesOf, lines, isNumber, allNumbers, isRecord, numberOf, number}
+use Rattle.records.specs.Lines.{lines}
+use Rattle.records.proofs.Opened.{opened as linesOpened}
 use Rattle.lists.specs.Indexed.{list}
 use Rattle.cell_steps.specs.Steps.{inflow, outflow, flow, volumeAfter, after, volumesAfter, totalIn, totalOut}
 use Rattle.cell_lines.specs.Corridor.{validCell, cellForm, startHeld, volumeForm, cellCount, demandLine, demandCount, cellChecks, exitCheck, demandCheck, demandChecks, corridorChecks, column, chain, starts, demands}
@@ -20,7 +20,7 @@ bytes (String._∷_ c s) = code c ∷ bytes s
 
 -- all that a run's computation unfolds
 unfoldable opened : Unit {0}
-unfolding verdict checked orElse firstFrom digit digits shift decimal leadingZero isNumeral fieldOf inFront split letterOf lineOf linesOf lines isNumber allNumbers isRecord numberOf number list inflow outflow flow volumeAfter after volumesAfter totalIn totalOut validCell cellForm startHeld volumeForm cellCount demandLine demandCount cellChecks exitCheck demandCheck demandChecks corridorChecks column chain starts demands answerOf runCells volumesOf
+unfolding verdict checked orElse firstFrom linesOpened list inflow outflow flow volumeAfter after volumesAfter totalIn totalOut validCell cellForm startHeld volumeForm cellCount demandLine demandCount cellChecks exitCheck demandCheck demandChecks corridorChecks column chain starts demands answerOf runCells volumesOf
 opened = tt
 
 -- a text: its answer, and the volumes after its steps
@@ -50,6 +50,9 @@ cases =
     ∷ record { text = "C\t0\t0\t1\t0\nC\t5\t7\t1000\t7\nX\t3\nD\t4\n"; told = Ran 2 0 3; volumes = 0 ∷ 4 ∷ [] }
     -- the largest volumes
     ∷ record { text = "C\t2000000000\t2000000000\t1000\t0\nX\t2000000000\nD\t2000000000\nD\t2000000000\n"; told = Ran 1 2000000000 2000000000; volumes = 0 ∷ [] }
+    -- padded numbers; eleven digits are no number
+    ∷ record { text = "C\t0000000009\t010\t0000000333\t00\nX\t0000000000\nD\t0000000100\n"; told = Ran 1 3 0; volumes = 3 ∷ [] }
+    ∷ record { text = cell ++ "X\t5\nD\t7\nD\t00000000008\n"; told = Refused (refusal 36 4 0); volumes = [] }
     ∷ record { text = ""; told = Refused (refusal 36 1 0); volumes = [] }
     ∷ record { text = "X\t5\nD\t7\n"; told = Refused (refusal 36 1 0); volumes = [] }
     ∷ record { text = "C\t10\t100\t500\t101\nX\t5\nD\t7\n"; told = Refused (refusal 37 1 0); volumes = [] }

@@ -1,7 +1,6 @@
 -- To unfold `opened` is to unfold every definition of the paper, for a proof by computation. Assumes nothing.
 use Rattle.search.specs.Checks.{orElse, firstFrom, checked, verdict, table}
-use Rattle.records.specs.Field.{digit, digits, shift, decimal, leadingZero, isNumeral, fieldOf}
-use Rattle.records.specs.Lines.{inFront, split, letterOf, lineOf, linesOf, lines, isNumber, allNumbers, isRecord, startsAs, numberOf, number}
+use Rattle.records.proofs.Opened.{opened as linesOpened}
 use Rattle.record_writer.specs.Records.{numeral, fieldText, fieldTexts, recordText, recordTexts}
 use Rattle.model.specs.Test.{_and_, _or_, within, every}
 use Rattle.model.specs.Sum.{sum, list, joined}
@@ -14,5 +13,5 @@ use Rattle.model.specs.Calls.{checkNetwork, planAnswer, checkPlan, rowCh
 use Rattle.model.specs.Report.{boundaryNumbers, reportText, report, notRead}
 
 unfoldable pub opened : Unit {0}
-unfolding orElse firstFrom checked verdict table digit digits shift decimal leadingZero isNumeral fieldOf inFront split letterOf lineOf linesOf lines isNumber allNumbers isRecord startsAs numberOf number _and_ _or_ within every sum list joined entry linkCount signalCount movementCount stepCount signalLine linkLine movementLine stepLine signal capacity travelTime exitRate signalOf phaseMask standing fromLink toLink rate share stepLength demand time lastBoundary arrivalBoundary phaseOf opens shownMask admitted letOut moved shownIn signalAt isOpen movedInto movedFrom inflow outflow entered left arrived held vehicles allAdmitted allLetOut doubledTime totals rowOf row validPhases validSignal validCounts validMask validLink pairRises validMovement lastMovement validShares validStep meetsBoundary rule10 rule11 rule12 rule13 rule14 rule15 rule16 rule17 rule18 rule25 rule26 rule27 isForm countChecks signalChecks linkChecks movementChecks shareChecks stepChecks boundaryChecks networkChecks ledgerChecks signalRules limitRules sumRules lineChecks planLineChecks planChecks checkNetwork planAnswer checkPlan rowChecks rowsWritten written ledgerAfter ledgerEntered ledgerLeft ledgerArrived stateChecks linkAnswer linkState numeral fieldText fieldTexts recordText recordTexts boundaryNumbers reportText report notRead
+unfolding orElse firstFrom checked verdict table linesOpened _and_ _or_ within every sum list joined entry linkCount signalCount movementCount stepCount signalLine linkLine movementLine stepLine signal capacity travelTime exitRate signalOf phaseMask standing fromLink toLink rate share stepLength demand time lastBoundary arrivalBoundary phaseOf opens shownMask admitted letOut moved shownIn signalAt isOpen movedInto movedFrom inflow outflow entered left arrived held vehicles allAdmitted allLetOut doubledTime totals rowOf row validPhases validSignal validCounts validMask validLink pairRises validMovement lastMovement validShares validStep meetsBoundary rule10 rule11 rule12 rule13 rule14 rule15 rule16 rule17 rule18 rule25 rule26 rule27 isForm countChecks signalChecks linkChecks movementChecks shareChecks stepChecks boundaryChecks networkChecks ledgerChecks signalRules limitRules sumRules lineChecks planLineChecks planChecks checkNetwork planAnswer checkPlan rowChecks rowsWritten written ledgerAfter ledgerEntered ledgerLeft ledgerArrived stateChecks linkAnswer linkState numeral fieldText fieldTexts recordText recordTexts boundaryNumbers reportText report notRead
 opened = tt

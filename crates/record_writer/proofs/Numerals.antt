@@ -2,15 +2,15 @@
 use Prim.Native.Nat.{ℕ, zero, suc, _+_, _-_, _*_, _/_, _%_, _^_, _≤_, _<_}
 use mathlib.Core.Path.{_≡_, refl, sym, ap, _∙_}
 use mathlib.Core.Logic.{_≢_}
-use mathlib.Core.Bool.{Bool, true, false, _&&_, and-false}
+use mathlib.Core.Bool.{Bool, true, false, _&&_}
 use mathlib.Core.List.{List, [], _∷_, _++_, foldl}
 use native.Mathlib.Decide.{decLe}
 use native.Mathlib.Nat.{pow-suc}
 use native.Mathlib.Omega.{arith}
-use borrow.Author.Tests.{le-ltb, le-leb, ne-eqb}
+use borrow.Author.Tests.{le-leb}
 use lib.ListN.{length, getD, length-append, List·getD-append}
 use Rattle.records.specs.declared.Field.the-variants.{Number}
-use Rattle.records.specs.Field.{digit, digits, shift, decimal, largest, leadingZero, isNumeral, fieldOf}
+use Rattle.records.specs.Field.{digit, digits, shift, decimal, largest, isNumeral, fieldOf}
 use Rattle.record_writer.specs.Records.{numeral}
 use Rattle.record_writer.proofs.Laws.{numeral-short, numeral-long}
 
@@ -76,17 +76,16 @@ numeral-spells (suc d) n h = elim (decLe 10 n) [
 
 -- a numeral that spells a number which a field may say is a field that says it
 pub spells-field : (n : ℕ) (bs : List ℕ) → n ≤ largest → Spells n bs → fieldOf bs ≡ Number n
-unfolding fieldOf isNumeral leadingZero
+unfolding fieldOf isNumeral
 spells-field n bs h s =
     let short : length bs ≤ 10 = s .short 9 (omega arith) in
     let small : decimal bs ≤ largest = omega (arith, s .says) in
-    elim (decLe 1 n) [
-      | yes l ↦ rw (le-leb 1 (length bs) (s .some), le-leb (length bs) 10 short, ne-eqb (getD bs 0 0) 48 (s .first l), and-false, s .all, le-leb (decimal bs) largest small) (ap Number (s .says))
-      | no l ↦
-          let one : length bs ≤ 1 = s .short 0 (omega arith) in
-          rw (le-leb 1 (length bs) (s .some), le-leb (length bs) 10 short, le-ltb 1 (length bs) one, s .all, le-leb (decimal bs) largest small) (ap Number (s .says))
-    ]
+    rw (le-leb 1 (length bs) (s .some), le-leb (length bs) 10 short, s .all, le-leb (decimal bs) largest small) (ap Number (s .says))
 
 -- a numeral reads back as its number
 pub field-back : (n : ℕ) → n ≤ largest → fieldOf (numeral 19 n) ≡ Number n
 field-back n h = spells-field n (numeral 19 n) h (numeral-spells 19 n (omega arith))
+
+-- what is written is not padded: a number of 64 bits that is not 0 starts with a digit that is not 0 (byte 48)
+pub never-padded : (n : ℕ) → 1 ≤ n → n < 18_446_744_073_709_551_616 → getD (numeral 19 n) 0 0 ≢ 48
+never-padded n h l = numeral-spells 19 n (omega arith) .first h

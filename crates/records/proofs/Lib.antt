@@ -3,7 +3,9 @@ mod Places
 pub mod Numerals
 pub mod Fill
 pub mod Laws
+pub mod Opened
 mod Tests
 mod Turns
+mod Sentinel
 mod Texts
 mod Examples

@@ -18,7 +18,7 @@ use Rattle.records.specs.declared.Numbers.{Numbers}
 use Rattle.records.specs.declared.Numbers.the-variants.{Last, More, Missing}
 use Rattle.records.specs.Field.{fieldOf}
 use Rattle.records.specs.Lines.{split, Line, lineOf, letterOf, isNumber, allNumbers, isRecord, startsAs}
-use Rattle.records.specs.Reading.{lineAt, nextLine, leading, fieldAt, located, separator, tabbedAt, numbersAt}
+use Rattle.records.specs.Reading.{lineAt, nextLine, leading, fieldAt, located, separator, tabbedAt, numbersAs, numbersAt}
 use Rattle.records.proofs.Bytes.{piece, fed, first, others, piece-feed, piece-on, fed-feed, fed-on, first-feed, first-on, first-tab, others-feed, others-tab, Past, past-first, line-first}
 
 -- ---- the line at a place
@@ -132,7 +132,7 @@ numbersOf n fs ended next =
     cond (ended && eqb (length fs) n && allNumbers fs) (Last next) (cond (leb n (length fs) && allNumbers (take n fs)) More Missing)
 
 numbers-of : (n : ℕ) (text : List ℕ) (at : ℕ) → numbersAt n text at ≡ numbersOf n (lineAt text at .fields) (lineAt text at .ended) (nextLine text at)
-unfolding numbersAt isRecord startsAs numbersOf
+unfolding numbersAt numbersAs isRecord startsAs numbersOf
 numbers-of n text at = rw (eq-eqb (lineAt text at .letter) (lineAt text at .letter) refl, and-true)
 
 module _ (fs : List Field) (ended : Bool) (next : ℕ) where

@@ -3,7 +3,7 @@
 use Prim.Native.Nat.{ℕ, suc, _+_, _-_, _*_, _≤_, _<_}
 use mathlib.Core.Path.{_≡_, refl, sym, ap, _∙_}
 use mathlib.Core.Logic.{_≢_}
-use mathlib.Core.Bool.{Bool, true, false, cond, not, and-false}
+use mathlib.Core.Bool.{Bool, true, false, cond, not, _&&_, and-false, and-eq-true-iff}
 use mathlib.Core.List.{List, [], _∷_}
 use native.Mathlib.Omega.{arith}
 use native.Mathlib.Decide.{ℕ-discrete}
@@ -12,7 +12,7 @@ use lib.Dec.{eqb, leb, eqb·suc-zero}
 use lib.ListN.{length, drop, getD, set, drop-of-length-le, List·getD-eq-default}
 use lib.Seq.{drop-cons}
 use Rattle.records.specs.declared.Field.{Field}
-use Rattle.records.specs.declared.Field.the-variants.{Number, NoNumber}
+use Rattle.records.specs.declared.Field.the-variants.{NoNumber}
 use Rattle.records.specs.declared.Tabbed.{Tabbed}
 use Rattle.records.specs.declared.Tabbed.the-variants.{Found, Absent}
 use Rattle.records.specs.declared.Numbers.{Numbers}
@@ -21,12 +21,12 @@ use Rattle.records.specs.declared.LineRead.{LineRead}
 use Rattle.records.specs.declared.LineRead.the-variants.{Next, Malformed}
 use Rattle.records.specs.Field.{digit, largest, fieldOf}
 use Rattle.records.specs.Lines.{letterOf, noLetter, lines, linesOf, split, isRecord, startsAs}
-use Rattle.records.specs.Reading.{lineAt, nextLine, leading, leadingAs, fieldAt, located, separator, worth, restAt, tabbedAt, numbersAt, over, recordAt, atEnd, Got}
+use Rattle.records.specs.Reading.{lineAt, nextLine, leading, leadingAs, fieldAt, located, separator, worth, restAt, startsWith, tabbedAt, numbersAs, numbersAt, over, recordAt, atEnd, Got, GotNumbers, GotNumbersAs}
 use Rattle.records.proofs.Bytes.{lines-some}
 use Rattle.records.proofs.Fill.{over-none, Filled, filled-none, filled-more, filled-stop, filled-all}
 use Rattle.records.proofs.Laws.{record-starts}
-use Rattle.records.proofs.Numerals.{digit-bounds, worth-end, worth-not, worth-more, worth-over, field-none, field-zero, field-leading, field-not, field-rest}
-use Rattle.records.proofs.Places.{line-letter, field-past, field-more, field-stop, field-goes, field-some, endOf, end-stops, start-reads, found-reads, found-stops, absent-reads, done-past, done-feed, done-other}
+use Rattle.records.proofs.Numerals.{digit-bounds, worth-end, worth-not, worth-full, worth-more, worth-over, field-none, field-some as numeral-some}
+use Rattle.records.proofs.Places.{line-letter, field-past, field-more, field-stop, field-goes, field-some, endOf, start-reads, found-reads, found-stops, absent-reads, done-past, done-feed, done-other}
 
 length-none : (bs : List ℕ) → length bs ≡ 0 → bs ≡ []
 length-none [] e = refl
@@ -67,49 +67,63 @@ module _ (v b : ℕ) (h : b ≤ 57) where
       by true e = let n = leb-true b 53 e in sym (le-leb (v * 10 + (b - 48)) largest (omega arith))
       by false e = let n = leb-false b 53 e in sym (lt-leb (v * 10 + (b - 48)) largest (omega arith))
 
--- ---- the digits of a field from i on, after digits that say v
-pub record Saying (v₀ : ℕ) (text : List ℕ) (from v i : ℕ) : Type 0 where
+-- ---- the digits of a field from i on, after digits that say v, where n more may come
+pub record Saying (text : List ℕ) (from n v i : ℕ) : Type 0 where
   pub small : v ≤ largest
-  pub same : restAt v₀ text from ≡ restAt v text i
+  pub same : restAt 10 0 text from ≡ restAt n v text i
 
-pub saying-none : (v : ℕ) (text : List ℕ) (from : ℕ) → v ≤ largest → Saying v text from v from
-saying-none v text from h = record { small = h; same = refl }
+pub saying-none : (text : List ℕ) (from : ℕ) → Saying text from 10 0 from
+saying-none text from = record { small = omega arith; same = refl }
 
-module _ (v₀ : ℕ) (text : List ℕ) (from v i : ℕ) (inv : Saying v₀ text from v i) where
-  stop : fieldAt text i ≡ [] → Found v i ≡ restAt v₀ text from
+module _ (text : List ℕ) (from n v i : ℕ) (inv : Saying text from n v i) where
+  stop : fieldAt text i ≡ [] → Found v i ≡ restAt 10 0 text from
   unfolding restAt located
-  stop e = sym (inv .same ∙ rw (e, worth-end v (inv .small)) (ap (Found v) (omega arith)))
+  stop e = sym (inv .same ∙ rw (e, worth-end n v (inv .small)) (ap (Found v) (omega arith)))
 
-  absent : worth v (fieldAt text i) ≡ NoNumber → Absent ≡ restAt v₀ text from
+  absent : worth n v (fieldAt text i) ≡ NoNumber → Absent ≡ restAt 10 0 text from
   unfolding restAt located
   absent e = sym (inv .same ∙ rw e)
 
-  pub rest-past : length text ≤ i → Found v i ≡ restAt v₀ text from
+  pub rest-past : length text ≤ i → Found v i ≡ restAt 10 0 text from
   rest-past h = stop (field-past text i h)
 
   module _ (h : i < length text) (s : Bool) (q : s ≡ separator (getD text i 0)) where
-    pub rest-stop : s ≡ true → Found v i ≡ restAt v₀ text from
+    pub rest-stop : s ≡ true → Found v i ≡ restAt 10 0 text from
     rest-stop u = stop (field-stop text i h (sym q ∙ u))
 
-    pub rest-not : (r : Bool) → r ≡ digit (getD text i 0) → not r ≡ true → s ≡ false → Absent ≡ restAt v₀ text from
-    rest-not r e t u = absent (rw (field-goes text i h (sym q ∙ u)) (worth-not v _ _ (sym e ∙ not-true r t)))
+    module _ (u : s ≡ false) where
+      goes-on : fieldAt text i ≡ getD text i 0 ∷ fieldAt text (i + 1)
+      goes-on = field-goes text i h (sym q ∙ u)
 
-  module _ (h : i < length text) (r : Bool) (e : r ≡ digit (getD text i 0)) (t : not r ≡ false) where
-    goes : fieldAt text i ≡ getD text i 0 ∷ fieldAt text (i + 1)
-    goes = field-more text i h (λ z. omega (arith, digit-low _ r e t)) (λ z. omega (arith, digit-low _ r e t))
+      pub rest-full : n ≡ 0 → Absent ≡ restAt 10 0 text from
+      rest-full z = absent (rw (goes-on, z) (worth-full n v _ _))
 
-    module _ (f : Bool) (g : f ≡ leb (v * 10 + (getD text i 0 - 48)) largest) where
-      pub rest-big : not f ≡ true → Absent ≡ restAt v₀ text from
-      rest-big u = absent (rw goes (worth-over v _ _ (sym e ∙ not-false r t) (leb-false _ largest (sym g ∙ not-true f u))))
+      pub rest-not : (b : ℕ) → b ≡ getD text i 0 → (r : Bool) → r ≡ digit b → not r ≡ true → Absent ≡ restAt 10 0 text from
+      rest-not b same r e t = absent (rw goes-on (worth-not n v _ _ (ap digit (sym same) ∙ sym e ∙ not-true r t)))
 
-      pub rest-more : (w : ℕ) → not f ≡ false → w ≡ v * 10 + (getD text i 0 - 48) → Saying v₀ text from w (i + 1)
+  module _ (h : i < length text) (b : ℕ) (same : b ≡ getD text i 0) (r : Bool) (e : r ≡ digit b) (t : not r ≡ false) where
+    goes : fieldAt text i ≡ b ∷ fieldAt text (i + 1)
+    goes = rw same (field-more text i h (λ z. omega (arith, digit-low b r e t)) (λ z. omega (arith, digit-low b r e t)))
+
+    module _ (f : Bool) (g : f ≡ leb (v * 10 + (b - 48)) largest) where
+      pub rest-big : not f ≡ true → Absent ≡ restAt 10 0 text from
+      rest-big u = absent (rw goes (worth-over n v _ _ (leb-false _ largest (sym g ∙ not-true f u))))
+
+      pub rest-more : (m w : ℕ) → n ≡ suc m → not f ≡ false → w ≡ v * 10 + (b - 48) → Saying text from m w (i + 1)
       unfolding restAt
-      rest-more w u a =
+      rest-more m w d u a =
           let end : endOf text i ≡ endOf text (i + 1) = omega (arith, ap length goes) in
           record {
-            small = omega (arith, has-room (v * 10 + (getD text i 0 - 48)) f g u);
-            same = inv .same ∙ rw (end, goes, worth-more v _ (fieldAt text (i + 1)) (sym e ∙ not-false r t), a);
+            small = omega (arith, has-room (v * 10 + (b - 48)) f g u);
+            same = inv .same ∙ rw (end, goes, d, worth-more m v b (fieldAt text (i + 1)) (sym e ∙ not-false r t), a);
           }
+
+      pub rest-turn : (w : ℕ) → n ≢ 0 → not f ≡ false → w ≡ v * 10 + (b - 48) → Saying text from (n - 1) w (i + 1)
+      rest-turn w z = rest-more (n - 1) w (omega arith)
+
+-- an empty field
+pub rest-empty : (text : List ℕ) (at : ℕ) → fieldAt text at ≡ [] → Found 0 at ≡ restAt 10 0 text at
+rest-empty text at = stop text at 10 0 at (saying-none text at)
 
 -- ---- the field after a tab
 module _ (text : List ℕ) (at : ℕ) where
@@ -126,43 +140,20 @@ module _ (text : List ℕ) (at : ℕ) where
     unfolding tabbedAt
     tabbed f e = rw (eq-eqb (getD text at 0) 9 tab, e)
 
-    missing : fieldOf (fieldAt text (at + 1)) ≡ NoNumber → Absent ≡ tabbedAt text at
+    pub tabbed-empty : fieldAt text (at + 1) ≡ [] → Absent ≡ tabbedAt text at
     unfolding located
-    missing e = tabbed NoNumber e
+    tabbed-empty e = tabbed NoNumber (rw e field-none)
 
-    pub tabbed-none : length text ≤ at + 1 → Absent ≡ tabbedAt text at
-    tabbed-none h = missing (rw (field-past text (at + 1) h) field-none)
+    pub tabbed-some : (b : ℕ) (bs : List ℕ) → fieldAt text (at + 1) ≡ b ∷ bs → restAt 10 0 text (at + 1) ≡ tabbedAt text at
+    unfolding restAt
+    tabbed-some b bs e = tabbed (worth 10 0 (fieldAt text (at + 1))) (rw e (numeral-some b bs))
 
-    module _ (h : at + 1 < length text) (r : Bool) (e : r ≡ digit (getD text (at + 1) 0)) where
-      pub tabbed-not : not r ≡ true → Absent ≡ tabbedAt text at
-      tabbed-not t = missing (by (separator (getD text (at + 1) 0)) refl)
-        where
-          by : (s : Bool) → separator (getD text (at + 1) 0) ≡ s → fieldOf (fieldAt text (at + 1)) ≡ NoNumber
-          by true q = rw (field-stop text (at + 1) h q) field-none
-          by false q = rw (field-goes text (at + 1) h q) (field-not _ _ (sym e ∙ not-true r t))
+    module _ (r : Bool) (e : r ≡ eqb (length (fieldAt text (at + 1))) 0) where
+      pub tabbed-none : r ≡ true → Absent ≡ tabbedAt text at
+      tabbed-none t = tabbed-empty (length-none (fieldAt text (at + 1)) (eqb-true (length (fieldAt text (at + 1))) 0 (sym e ∙ t)))
 
-      module _ (t : not r ≡ false) where
-        first : fieldAt text (at + 1) ≡ getD text (at + 1) 0 ∷ fieldAt text (at + 1 + 1)
-        first = field-more text (at + 1) h (λ z. omega (arith, digit-low _ r e t)) (λ z. omega (arith, digit-low _ r e t))
-
-        module _ (zero : getD text (at + 1) 0 ≡ 48) (s : Bool) (q : s ≡ eqb (length (fieldAt text (at + 1 + 1))) 0) where
-          pub tabbed-zero : s ≡ true → Found 0 (at + 1 + 1) ≡ tabbedAt text at
-          unfolding located
-          tabbed-zero u =
-              let alone = length-none (fieldAt text (at + 1 + 1)) (eqb-true (length (fieldAt text (at + 1 + 1))) 0 (sym q ∙ u)) in
-              ap (Found 0) (omega (arith, ap length first, ap length alone)) ∙ tabbed (Number 0) (rw (first, alone, zero) field-zero)
-
-          pub tabbed-leading : s ≡ false → Absent ≡ tabbedAt text at
-          tabbed-leading u =
-              let more = field-some text (at + 1 + 1) (eqb-false (length (fieldAt text (at + 1 + 1))) 0 (sym q ∙ u)) .1 in
-              missing (rw (first, more, zero) (field-leading _ _))
-
-        pub tabbed-rest : getD text (at + 1) 0 ≢ 48 → (w : ℕ) (m : Tabbed)
-            → w ≡ 0 * 10 + (getD text (at + 1) 0 - 48) → m ≡ restAt w text (at + 1 + 1) → m ≡ tabbedAt text at
-        unfolding restAt
-        tabbed-rest n w m a g =
-            let end : endOf text (at + 1) ≡ endOf text (at + 1 + 1) = omega (arith, ap length first) in
-            g ∙ rw (← end) (tabbed _ (rw (first, a) (field-rest _ _ (sym e ∙ not-false r t) n)))
+      pub tabbed-rest : r ≡ false → (m : Tabbed) → m ≡ restAt 10 0 text (at + 1) → m ≡ tabbedAt text at
+      tabbed-rest t m g = g ∙ tabbed-some _ _ (field-some text (at + 1) (eqb-false (length (fieldAt text (at + 1))) 0 (sym e ∙ t)) .1)
 
 -- ---- the letter of a line
 no-letter : (bs : List ℕ) → length bs ≢ 1 → letterOf bs ≡ noLetter
@@ -171,31 +162,76 @@ no-letter [] h = refl
 no-letter (b ∷ []) h = absurd (h refl)
 no-letter (b ∷ c ∷ bs) h = refl
 
-module _ (text : List ℕ) (at : ℕ) (r : Bool) (e : r ≡ eqb (length (fieldAt text at)) 0) (t : r ≡ false) where
-  some : (at < length text) × (fieldAt text at ≡ getD text at 0 ∷ fieldAt text (at + 1))
-  some = field-some text at (eqb-false (length (fieldAt text at)) 0 (sym e ∙ t))
+-- whether a letter stands at a place
+module _ (text : List ℕ) (at letter : ℕ) where
+  pub starts-past : length text ≤ at → false ≡ startsWith letter text at
+  unfolding startsWith
+  starts-past h = rw (le-leb (length text) at h)
 
-  pub letter-within : at < length text
-  letter-within = some .0
+  module _ (h : at < length text) (s : Bool) (q : s ≡ separator letter) where
+    pub starts-separator : s ≡ true → false ≡ startsWith letter text at
+    unfolding startsWith
+    starts-separator t = rw (← q, t, and-false)
+
+    pub starts-test : s ≡ false → eqb (getD text at 0) letter ≡ startsWith letter text at
+    unfolding startsWith
+    starts-test t = rw (← q, t, lt-leb (length text) at h)
 
 module _ (text : List ℕ) (at letter : ℕ) where
-  no-letter-at : length (fieldAt text at) ≢ 1 → letter < noLetter → false ≡ eqb (lineAt text at .letter) letter
-  no-letter-at h l = sym (rw (line-letter text at, no-letter (fieldAt text at) h) (ne-eqb noLetter letter (λ e. omega arith)))
+  -- a field of one byte is that byte
+  one-byte : length (fieldAt text at) ≡ 1 → (at < length text) × (fieldAt text at ≡ getD text at 0 ∷ []) × (separator (getD text at 0) ≡ false)
+  one-byte o =
+      let some = field-some text at (λ z. omega arith) in
+      (some .0, rw (length-none (fieldAt text (at + 1)) (omega (arith, ap length (some .1)))) at (some .1), by (separator (getD text at 0)) refl)
+    where
+      by : (s : Bool) → separator (getD text at 0) ≡ s → s ≡ false
+      by true q = let some = field-some text at (λ z. omega arith) in absurd (omega (arith, o, ap length (field-stop text at (some .0) q)))
+      by false q = refl
 
-  module _ (r : Bool) (e : r ≡ eqb (length (fieldAt text at)) 0) where
-    pub letter-none : r ≡ true → letter < noLetter → false ≡ eqb (lineAt text at .letter) letter
-    letter-none t = no-letter-at (λ o. omega (arith, eqb-true (length (fieldAt text at)) 0 (sym e ∙ t)))
+  starts-own : startsWith letter text at ≡ true → (at < length text) × (separator letter ≡ false) × (getD text at 0 ≡ letter)
+  unfolding startsWith
+  starts-own e =
+      let two = and-eq-true-iff (not (leb (length text) at) && not (separator letter)) (eqb (getD text at 0) letter) .0 e in
+      let front = and-eq-true-iff (not (leb (length text) at)) (not (separator letter)) .0 (two .0) in
+      (leb-false (length text) at (not-true _ (front .0)), not-true _ (front .1), eqb-true (getD text at 0) letter (two .1))
 
-    module _ (t : r ≡ false) (s : Bool) (q : s ≡ eqb (length (fieldAt text (at + 1))) 0) where
-      pub letter-alone : s ≡ true → eqb (getD text at 0) letter ≡ eqb (lineAt text at .letter) letter
-      unfolding letterOf
-      letter-alone u =
-          let alone = length-none (fieldAt text (at + 1)) (eqb-true (length (fieldAt text (at + 1))) 0 (sym q ∙ u)) in
-          rw (line-letter text at, some text at r e t .1, alone)
+  pub starts-within : (r : Bool) → r ≡ startsWith letter text at → not r ≡ false → at < length text
+  starts-within r e t = starts-own (sym e ∙ not-false r t) .0
 
-      pub letter-long : s ≡ false → letter < noLetter → false ≡ eqb (lineAt text at .letter) letter
-      letter-long u =
-          no-letter-at (λ o. eqb-false (length (fieldAt text (at + 1))) 0 (sym q ∙ u) (omega (arith, ap length (some text at r e t .1))))
+  module _ (l : letter < noLetter) where
+    no-letter-at : length (fieldAt text at) ≢ 1 → eqb (lineAt text at .letter) letter ≡ false
+    no-letter-at h = rw (line-letter text at, no-letter (fieldAt text at) h) (ne-eqb noLetter letter (λ e. omega arith))
+
+    -- a line that has the letter: the letter is its whole first field
+    alone : eqb (lineAt text at .letter) letter ≡ true → endOf text at ≡ at + 1
+    alone own = elim (ℕ-discrete (length (fieldAt text at)) 1) [
+      | yes o ↦ omega arith
+      | no o ↦
+          let other = no-letter-at o in
+          let z : _≡_ {A = ℕ} 0 1 = cc in
+          absurd (omega arith)
+    ]
+
+    letter-other : startsWith letter text at ≡ false → eqb (lineAt text at .letter) letter ≡ false
+    unfolding startsWith letterOf
+    letter-other e = elim (ℕ-discrete (length (fieldAt text at)) 1) [
+      | yes o ↦
+          let one = one-byte o in
+          rw (line-letter text at, one .1) (elim (ℕ-discrete (getD text at 0) letter) [
+            | yes same ↦ let z : _≡_ {A = Bool} true false = rw (lt-leb (length text) at (one .0), ← same, one .2, eq-eqb (getD text at 0) (getD text at 0) refl) at e in cc
+            | no n ↦ ne-eqb (getD text at 0) letter n
+          ])
+      | no o ↦ no-letter-at o
+    ]
+
+    letter-long : length (fieldAt text (at + 1)) ≢ 0 → eqb (lineAt text at .letter) letter ≡ false
+    letter-long n = no-letter-at (λ o. n (omega (arith, ap length (one-byte o .1), ap length (field-some text at (λ z. omega arith) .1))))
+
+    letter-own : startsWith letter text at ≡ true → fieldAt text (at + 1) ≡ [] → eqb (lineAt text at .letter) letter ≡ true
+    unfolding letterOf
+    letter-own e n =
+        let own = starts-own e in
+        rw (line-letter text at, field-goes text at (own .0) (ap separator (own .2) ∙ own .1), n) (eq-eqb (getD text at 0) letter (own .2))
 
 -- ---- the end of a text
 pub end-test : (text : List ℕ) (at : ℕ) → leb (length text) at ≡ atEnd text at
@@ -216,9 +252,6 @@ numbersFrom text n at = leading n (lineAt text at .fields)
 
 abbrev pub answerFrom : List ℕ → ℕ → ℕ → Numbers
 answerFrom text n at = numbersAt n text at
-
-abbrev pub GotNumbers : List ℕ → ℕ → List ℕ → Numbers → List ℕ → Type 0
-GotNumbers text at out₀ r out = Got (numbersAt (length out₀) text at) (leading (length out₀) (lineAt text at .fields)) out₀ r out
 
 -- k numbers are stored, and a field ends at i
 pub record Stored (text : List ℕ) (at : ℕ) (out₀ out : List ℕ) (i k : ℕ) : Type 0 where
@@ -255,8 +288,38 @@ module _ (text : List ℕ) (at : ℕ) (out₀ out : List ℕ) (i k : ℕ) (inv :
     pub all-other : i < length text → getD text i 0 ≢ 10 → GotNumbers text at out₀ More out
     all-other p f = all More (done-other text i (inv .stops) p f)
 
--- ---- a line of a letter: r is whether the line has it
--- what the numbers of a line that has the letter tell
+-- ---- the numbers of a line of a letter
+module _ (letter : ℕ) (text : List ℕ) (at : ℕ) (old : List ℕ) (l : letter < noLetter) where
+  other-as : eqb (lineAt text at .letter) letter ≡ false → GotNumbersAs letter text at old Missing old
+  unfolding numbersAs isRecord startsAs leadingAs
+  other-as e = record { told = rw (e, and-false); holds = rw e (sym (over-none old)) }
+
+  own-as : eqb (lineAt text at .letter) letter ≡ true → (m : Numbers) (out : List ℕ) → GotNumbers text (at + 1) old m out → GotNumbersAs letter text at old m out
+  unfolding numbersAt leadingAs
+  own-as e m out got =
+      let own = eqb-true (lineAt text at .letter) letter e in
+      let start = rw (alone text at letter l e) at (start-reads text at (length old)) in
+      record { told = rw (← own) (got .told ∙ sym (start .1)); holds = rw e (got .holds ∙ sym (ap (λ (vs : List ℕ). over vs old) (start .0))) }
+
+  module _ (r : Bool) (e : r ≡ startsWith letter text at) where
+    pub as-other : not r ≡ true → GotNumbersAs letter text at old Missing old
+    as-other t = other-as (letter-other text at letter l (sym e ∙ not-true r t))
+
+    module _ (t : not r ≡ false) where
+      pub as-own : fieldAt text (at + 1) ≡ [] → (m : Numbers) (out : List ℕ) → GotNumbers text (at + 1) old m out → GotNumbersAs letter text at old m out
+      as-own n = own-as (letter-own text at letter l (sym e ∙ not-false r t) n)
+
+      module _ (s : Bool) (q : s ≡ eqb (length (fieldAt text (at + 1))) 0) where
+        pub as-long : not s ≡ true → GotNumbersAs letter text at old Missing old
+        as-long u = other-as (letter-long text at letter l (eqb-false (length (fieldAt text (at + 1))) 0 (sym q ∙ not-true s u)))
+
+        pub as-stops : not s ≡ false → fieldAt text (at + 1) ≡ []
+        as-stops u = length-none (fieldAt text (at + 1)) (eqb-true (length (fieldAt text (at + 1))) 0 (sym q ∙ not-false s u))
+
+        pub as-guarded : not s ≡ false → (m : Numbers) (out : List ℕ) → GotNumbers text (at + 1) old m out → GotNumbersAs letter text at old m out
+        as-guarded u = as-own (as-stops u)
+
+-- ---- a line of a letter, and its beginning, by how its numbers end
 abbrev toLine : Numbers → LineRead
 toLine (Last next) = Next next
 toLine More = Malformed
@@ -267,94 +330,45 @@ toHead (Last next) = true
 toHead More = true
 toHead Missing = false
 
-module _ (letter n : ℕ) (text : List ℕ) (at : ℕ) where
-  other-letter : eqb (lineAt text at .letter) letter ≡ false
-      → (recordAt letter n text at ≡ Malformed) × (startsAs letter n (lineAt text at) ≡ false) × (leadingAs letter n (lineAt text at) ≡ [])
-  unfolding recordAt isRecord startsAs leadingAs
-  other-letter e = (rw (e, and-false), rw e, rw e)
-
-  own-letter : eqb (lineAt text at .letter) letter ≡ true
-      → (recordAt letter n text at ≡ toLine (numbersAt n text at)) × (startsAs letter n (lineAt text at) ≡ toHead (numbersAt n text at))
-      × (leadingAs letter n (lineAt text at) ≡ leading n (lineAt text at .fields))
-  unfolding recordAt numbersAt leadingAs
-  own-letter e =
-      let own = eqb-true (lineAt text at .letter) letter e in (
-        rw (← own) (by-line (isRecord _ n (lineAt text at)) (startsAs _ n (lineAt text at))),
-        rw (← own) (by-head (isRecord _ n (lineAt text at)) (startsAs _ n (lineAt text at)) (record-starts _ n (lineAt text at) n (omega arith))),
-        rw e,
-      )
-    where
-      by-line : (a b : Bool) → cond a (Next (nextLine text at)) Malformed ≡ toLine (cond a (Last (nextLine text at)) (cond b More Missing))
-      by-line true b = refl
-      by-line false true = refl
-      by-line false false = refl
-
-      by-head : (a b : Bool) → (a ≡ true → b ≡ true) → b ≡ toHead (cond a (Last (nextLine text at)) (cond b More Missing))
-      by-head true b h = h refl
-      by-head false true h = refl
-      by-head false false h = refl
-
 abbrev pub GotLine : ℕ → List ℕ → ℕ → List ℕ → LineRead → List ℕ → Type 0
 GotLine letter text at old r out = Got (recordAt letter (length old) text at) (leadingAs letter (length old) (lineAt text at)) old r out
 
 abbrev pub GotHead : ℕ → List ℕ → ℕ → List ℕ → Bool → List ℕ → Type 0
 GotHead letter text at old r out = Got (startsAs letter (length old) (lineAt text at)) (leadingAs letter (length old) (lineAt text at)) old r out
 
--- where a line has the letter, that is its whole first field
-module _ (letter : ℕ) (text : List ℕ) (at : ℕ) (r : Bool) (e : r ≡ eqb (lineAt text at .letter) letter) (t : not r ≡ false) (l : letter < noLetter) where
-  alone : endOf text at ≡ at + 1
-  alone = elim (ℕ-discrete (length (fieldAt text at)) 1) [
-    | yes o ↦ omega arith
-    | no o ↦
-        let other = no-letter-at text at letter o l in
-        let own = not-false r t in
-        let z : _≡_ {A = ℕ} 0 1 = cc in
-        absurd (omega arith)
-  ]
+module _ (letter : ℕ) (text : List ℕ) (at : ℕ) (old out : List ℕ) (m : Numbers) (got : GotNumbersAs letter text at old m out) where
+  both : (v : Numbers) → m ≡ v → GotLine letter text at old (toLine v) out × GotHead letter text at old (toHead v) out
+  unfolding recordAt numbersAs
+  both v g =
+      let told = sym g ∙ got .told in (
+        record { told = ap toLine told ∙ by-line (isRecord letter (length old) (lineAt text at)) (startsAs letter (length old) (lineAt text at)); holds = got .holds },
+        record { told = ap toHead told ∙ by-head (isRecord letter (length old) (lineAt text at)) (startsAs letter (length old) (lineAt text at)) (record-starts letter (length old) (lineAt text at) (length old) (omega arith)); holds = got .holds },
+      )
+    where
+      by-line : (a b : Bool) → toLine (cond a (Last (nextLine text at)) (cond b More Missing)) ≡ cond a (Next (nextLine text at)) Malformed
+      by-line true b = refl
+      by-line false true = refl
+      by-line false false = refl
 
-  pub line-within : at < length text
-  line-within = field-some text at (λ z. omega (arith, alone)) .0
+      by-head : (a b : Bool) → (a ≡ true → b ≡ true) → toHead (cond a (Last (nextLine text at)) (cond b More Missing)) ≡ b
+      by-head true b h = sym (h refl)
+      by-head false true h = refl
+      by-head false false h = refl
 
-  pub line-stops : fieldAt text (at + 1) ≡ []
-  line-stops = rw alone at (end-stops text at)
+  pub last-line : (next : ℕ) → m ≡ Last next → GotLine letter text at old (Next next) out
+  last-line next g = both (Last next) g .0
 
-module _ (letter : ℕ) (text : List ℕ) (at : ℕ) (old : List ℕ) (r : Bool) (e : r ≡ eqb (lineAt text at .letter) letter) where
-  module _ (t : not r ≡ true) where
-    pub other-line : GotLine letter text at old Malformed old
-    other-line =
-        let o = other-letter letter (length old) text at (sym e ∙ not-true r t) in
-        record { told = sym (o .0); holds = sym (rw (o .2) (over-none old)) }
+  pub more-line : m ≡ More → GotLine letter text at old Malformed out
+  more-line g = both More g .0
 
-    pub other-head : GotHead letter text at old false old
-    other-head =
-        let o = other-letter letter (length old) text at (sym e ∙ not-true r t) in
-        record { told = sym (o .1); holds = sym (rw (o .2) (over-none old)) }
+  pub missing-line : m ≡ Missing → GotLine letter text at old Malformed out
+  missing-line g = both Missing g .0
 
-  module _ (t : not r ≡ false) (l : letter < noLetter) (out : List ℕ) (m : Numbers) (got : GotNumbers text (at + 1) old m out) where
-    own : (v : Numbers) → m ≡ v → GotLine letter text at old (toLine v) out × GotHead letter text at old (toHead v) out
-    own v g =
-        let o = own-letter letter (length old) text at (sym e ∙ not-false r t) in
-        let start = rw (alone letter text at r e t l) at (start-reads text at (length old)) in
-        let told : v ≡ numbersAt (length old) text at = sym g ∙ got .told ∙ sym (start .1) in
-        let holds = got .holds ∙ sym (ap (λ (vs : List ℕ). over vs old) (o .2 ∙ start .0)) in (
-          record { told = ap toLine told ∙ sym (o .0); holds = holds },
-          record { told = ap toHead told ∙ sym (o .1); holds = holds },
-        )
+  pub last-head : (next : ℕ) → m ≡ Last next → GotHead letter text at old true out
+  last-head next g = both (Last next) g .1
 
-    pub last-line : (next : ℕ) → m ≡ Last next → GotLine letter text at old (Next next) out
-    last-line next g = own (Last next) g .0
+  pub more-head : m ≡ More → GotHead letter text at old true out
+  more-head g = both More g .1
 
-    pub more-line : m ≡ More → GotLine letter text at old Malformed out
-    more-line g = own More g .0
-
-    pub missing-line : m ≡ Missing → GotLine letter text at old Malformed out
-    missing-line g = own Missing g .0
-
-    pub last-head : (next : ℕ) → m ≡ Last next → GotHead letter text at old true out
-    last-head next g = own (Last next) g .1
-
-    pub more-head : m ≡ More → GotHead letter text at old true out
-    more-head g = own More g .1
-
-    pub missing-head : m ≡ Missing → GotHead letter text at old false out
-    missing-head g = own Missing g .1
+  pub missing-head : m ≡ Missing → GotHead letter text at old false out
+  missing-head g = both Missing g .1

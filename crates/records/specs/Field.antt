@@ -1,9 +1,9 @@
 -- A field that says a number, by its bytes. Assumes nothing.
 use Prim.Native.Nat.{ℕ, _+_, _-_, _*_}
 use mathlib.Core.List.{List, [], _∷_, foldl}
-use mathlib.Core.Bool.{Bool, true, cond, not, _&&_}
-use lib.ListN.{length, getD}
-use lib.Dec.{leb, ltb, eqb}
+use mathlib.Core.Bool.{Bool, true, cond, _&&_}
+use lib.ListN.{length}
+use lib.Dec.{leb}
 use Rattle.records.specs.declared.Field.{Field}
 use Rattle.records.specs.declared.Field.the-variants.{Number, NoNumber}
 
@@ -28,13 +28,9 @@ decimal bs = foldl shift 0 bs
 abbrev pub largest : ℕ
 largest = 4_294_967_295
 
--- a zero with more after it
-unfoldable pub leadingZero : List ℕ → Bool
-leadingZero bs = ltb 1 (length bs) && eqb (getD bs 0 0) 48
-
--- the grammar of a number: one to ten digits with no leading zero, at most the largest
+-- the grammar of a number: one to ten digits, at most the largest
 unfoldable pub isNumeral : List ℕ → Bool
-isNumeral bs = leb 1 (length bs) && leb (length bs) 10 && not (leadingZero bs) && digits bs && leb (decimal bs) largest
+isNumeral bs = leb 1 (length bs) && leb (length bs) 10 && digits bs && leb (decimal bs) largest
 
 -- what a field says
 unfoldable pub fieldOf : List ℕ → Field

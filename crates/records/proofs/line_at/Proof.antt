@@ -1,21 +1,11 @@
 -- `records::line_at` meets its contract. Assumes nothing.
-use native.Mathlib.Omega.{arith}
-use Rattle.records.proofs.Turns.{line-within, line-stops, other-line, last-line, more-line, missing-line}
 use borrow.Author.Needs.{needs}
+use Rattle.records.proofs.Turns.{last-line, more-line, missing-line}
 use Rattle.records.proofs.line_at.Statement.{statement}
 use Rattle.records.proofs.line_at.Tie as tie
 
-letter-at-requires : tie.Need-letter-at-requires
-letter-at-requires c κs = search needs
-
-returns : tie.Need-returns
-returns c = search other-line
-
-add-end : tie.Need-add-end
-add-end c = omega (arith, line-within _ _ _ _ (c .before .letter-at .ensures) (c .if1 .left) (omega arith))
-
 numbers-at-requires : tie.Need-numbers-at-requires
-numbers-at-requires c κs = search (line-stops, needs)
+numbers-at-requires c κs = search needs
 
 enum-known-next : tie.Need-enum-known-next
 enum-known-next c = search needs
@@ -29,35 +19,22 @@ enum-told-2 c = search needs
 same-length : tie.Need-same-length
 same-length c = search needs
 
-returns-2 : tie.Need-returns-2
-returns-2 c = search (last-line, needs)
+returns : tie.Need-returns
+returns c = search last-line
 
 same-length-2 : tie.Need-same-length-2
 same-length-2 c = search needs
 
-returns-3 : tie.Need-returns-3
-returns-3 c = search (more-line, needs)
+returns-2 : tie.Need-returns-2
+returns-2 c = search more-line
 
 same-length-3 : tie.Need-same-length-3
 same-length-3 c = search needs
 
-returns-4 : tie.Need-returns-4
-returns-4 c = search (missing-line, needs)
+returns-3 : tie.Need-returns-3
+returns-3 c = search missing-line
 
 pub line-at-spec : {M : Type 1} → statement M
 line-at-spec =
     tie.close
-    (tie.spec
-    letter-at-requires
-    returns
-    add-end
-    numbers-at-requires
-    enum-known-next
-    enum-told
-    enum-told-2
-    same-length
-    returns-2
-    same-length-2
-    returns-3
-    same-length-3
-    returns-4)
+    (tie.spec numbers-at-requires enum-known-next enum-told enum-told-2 same-length returns same-length-2 returns-2 same-length-3 returns-3)

@@ -1,97 +1,60 @@
--- `records::numbers_at` meets its contract. The invariant: k numbers are stored, and the next would be read from i. Assumes nothing.
-use Prim.Native.Nat.{_-_}
+-- `records::numbers_at` meets its contract. Assumes nothing.
 use native.Mathlib.Omega.{arith}
-use lib.ListN.{length, length-set}
-use Rattle.records.proofs.Turns.{Stored, stored-none, stored-more, stored-stop, all-past, all-feed, all-other}
 use borrow.Author.Needs.{needs}
+use Rattle.records.proofs.Turns.{starts-within, as-other, as-long, as-stops, as-guarded}
+use Rattle.records.proofs.Sentinel.{sentinel-tab, sentinel-last, sentinel-stops, as-sentinel}
 use Rattle.records.proofs.numbers_at.Statement.{statement}
 use Rattle.records.proofs.numbers_at.Tie as tie
 
-abbrev Inv-loop : tie.InvT-loop
-Inv-loop text at out₀ i₀ k₀ out i k = Stored text at out₀ out i k
+starts-with-requires : tie.Need-starts-with-requires
+starts-with-requires c κs = search needs
 
-abbrev μ-loop : tie.MeasureT-loop
-μ-loop text at out₀ i₀ k₀ out i k = length out - k
+returns : tie.Need-returns
+returns c = search (as-other, needs)
 
-loop-holds : tie.Need-loop-holds Inv-loop μ-loop
-loop-holds c = search stored-none
+add-end : tie.Need-add-end
+add-end c = omega (arith, starts-within _ _ _ _ (c .before .starts-with .ensures) (c .if1 .left))
 
-tabbed-at-requires : tie.Need-tabbed-at-requires Inv-loop μ-loop
-tabbed-at-requires c κs = search needs
+tab-before-sentinel-requires : tie.Need-tab-before-sentinel-requires
+tab-before-sentinel-requires c κs = search needs
 
-enum-known-value : tie.Need-enum-known-value Inv-loop μ-loop
-enum-known-value c = search needs
+sentinel-numbers-at-requires : tie.Need-sentinel-numbers-at-requires
+sentinel-numbers-at-requires c κs = (search sentinel-stops, (search sentinel-tab, search sentinel-last))
 
-mul-out : tie.Need-mul-out Inv-loop μ-loop
-mul-out c = search needs
-
-slice-write-out : tie.Need-slice-write-out Inv-loop μ-loop
-slice-write-out c = search needs
-
-enum-told : tie.Need-enum-told Inv-loop μ-loop
-enum-told c = search needs
-
-same-length : tie.Need-same-length Inv-loop μ-loop
+same-length : tie.Need-same-length
 same-length c = search needs
 
-returns : tie.Need-returns Inv-loop μ-loop
-returns c = search stored-stop
+returns-2 : tie.Need-returns-2
+returns-2 c = search (as-sentinel, needs)
 
-add-k : tie.Need-add-k Inv-loop μ-loop
-add-k c = search needs
+ends-at-requires : tie.Need-ends-at-requires
+ends-at-requires c κs = search needs
 
-loop-less : tie.Need-loop-less Inv-loop μ-loop
-loop-less c = simp length-set (omega arith)
+returns-3 : tie.Need-returns-3
+returns-3 c = search (as-long, needs)
 
-loop-again : tie.Need-loop-again Inv-loop μ-loop
-loop-again c = search stored-more
+guarded-numbers-at-requires : tie.Need-guarded-numbers-at-requires
+guarded-numbers-at-requires c κs = search as-stops
 
-same-length-2 : tie.Need-same-length-2 Inv-loop μ-loop
+same-length-2 : tie.Need-same-length-2
 same-length-2 c = search needs
 
-returns-2 : tie.Need-returns-2 Inv-loop μ-loop
-returns-2 c = search all-past
-
-shared-slice-read-if2 : tie.Need-shared-slice-read-if2 Inv-loop μ-loop
-shared-slice-read-if2 c = search needs
-
-add-t17 : tie.Need-add-t17 Inv-loop μ-loop
-add-t17 c = search needs
-
-same-length-3 : tie.Need-same-length-3 Inv-loop μ-loop
-same-length-3 c = search needs
-
-returns-3 : tie.Need-returns-3 Inv-loop μ-loop
-returns-3 c = search all-feed
-
-same-length-4 : tie.Need-same-length-4 Inv-loop μ-loop
-same-length-4 c = search needs
-
-returns-4 : tie.Need-returns-4 Inv-loop μ-loop
-returns-4 c = search all-other
+returns-4 : tie.Need-returns-4
+returns-4 c = search (as-guarded, needs)
 
 pub numbers-at-spec : {M : Type 1} → statement M
 numbers-at-spec =
     tie.close
     (tie.spec
-    Inv-loop
-    μ-loop
-    loop-holds
-    tabbed-at-requires
-    enum-known-value
-    mul-out
-    slice-write-out
-    enum-told
-    same-length
+    starts-with-requires
     returns
-    add-k
-    loop-less
-    loop-again
-    same-length-2
+    add-end
+    tab-before-sentinel-requires
+    sentinel-numbers-at-requires
+    same-length
     returns-2
-    shared-slice-read-if2
-    add-t17
-    same-length-3
+    ends-at-requires
     returns-3
-    same-length-4
+    guarded-numbers-at-requires
+    same-length-2
     returns-4)
