@@ -1,3 +1,4 @@
 pub mod Ready
 pub mod Calls
 pub mod Cases
+pub mod Padding

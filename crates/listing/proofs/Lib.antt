@@ -11,3 +11,4 @@ mod ReadBack
 pub mod Theorem
 mod Call
 mod Examples
+pub mod Padding

@@ -3,3 +3,4 @@ pub mod ReadsBack
 pub mod Tables
 pub mod Numbers
 pub mod Writing
+pub mod Padding

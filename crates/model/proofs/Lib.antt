@@ -24,3 +24,4 @@ pub mod Shut
 pub mod Red
 pub mod Once
 pub mod Promises
+pub mod Padding

@@ -8,3 +8,4 @@ pub mod Table
 pub mod Calls
 pub mod Report
 pub mod Guarantees
+pub mod Padding

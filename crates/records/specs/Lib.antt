@@ -1,3 +1,4 @@
 pub mod Field
 pub mod Lines
+pub mod Padding
 pub mod Reading
