@@ -105,6 +105,12 @@ def plan_text(plan):
     return "".join(record("P", step.masks + step.admitted + step.let_out + step.moved) for step in plan.steps)
 
 
+def padded(text):
+    """A text with every number padded to ten digits."""
+    lines = [line.split("\t") for line in text.splitlines()]
+    return "".join(record(letter, [number.zfill(10) for number in numbers]) for letter, *numbers in lines)
+
+
 def read_network(text):
     """A network text that is known to be valid."""
     network = Network([], [], [], [])
@@ -266,11 +272,15 @@ def widest_network():
     return Network(signals, links, movements, [Step(60, [600000] * 24) for _ in range(120)])
 
 
-def write_folder(folder, network, plan):
+def write_texts(folder, network, plan):
     os.makedirs(folder, exist_ok=True)
-    for name, text in [("network.tsv", network_text(network)), ("plan.tsv", plan_text(plan))]:
+    for name, text in [("network.tsv", network), ("plan.tsv", plan)]:
         with open(os.path.join(folder, name), "w", newline="\n") as file:
             file.write(text)
+
+
+def write_folder(folder, network, plan):
+    write_texts(folder, network_text(network), plan_text(plan))
 
 
 def main():

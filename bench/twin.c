@@ -56,7 +56,7 @@ static struct refusal refuse(uint32_t number, uint32_t line, uint32_t item)
     return (struct refusal){number, line, item};
 }
 
-/* Reads a tab and a number of 1 to 10 digits without leading zeros. */
+/* Reads a tab and a number of 1 to 10 digits. */
 static bool read_number(struct text *text, uint32_t *number)
 {
     size_t at = text->at;
@@ -75,7 +75,7 @@ static bool read_number(struct text *text, uint32_t *number)
         at++;
     }
     size_t digits = at - start;
-    if (digits == 0 || (digits > 1 && text->bytes[start] == '0'))
+    if (digits == 0 || digits > 10)
         return false;
     *number = (uint32_t)value;
     text->at = at;

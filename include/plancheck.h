@@ -25,8 +25,9 @@
  *
  * TEXTS
  * Both texts are records: one a line, each line ended by a line feed (byte 10), fields parted by one tab (byte 9). The
- * first field is a letter, the others are decimal numbers of 1 to 10 digits, at most 4294967295, without sign and
- * without leading zeros. There is no byte after the last line feed, and no terminating zero.
+ * first field is a letter, the others are decimal numbers of 1 to 10 digits, at most 4294967295, without sign. Leading
+ * zeros may stand within the 10 digits: texts that differ only in them get the same answer. There is no byte after the
+ * last line feed, and no terminating zero.
  *
  * The network text, for L links, R signals, M movements and K steps, in this order:
  *     N  L, R, M, K                                                                                       one line
@@ -45,7 +46,7 @@
  *     p_l_k_n       signal l shows phase k in step n: 0 or 1
  *     i_i_n, o_i_n  rate at which link i admits, and lets out, in step n, in vehicles a second
  *     m_j_n         rate of movement j in step n
- * Indices have no leading zeros. A rate times the length of its step must be a whole volume.
+ * Indices have no leading zeros; decimals may have them. A rate times the length of its step must be a whole volume.
  *
  * The corridor text of plancheck_run_cells, for 1 to 64 cells and 1 to 120 steps, in this order:
  *     C  flow limit, holding limit, wave ratio in thousandths (1 to 1000), volume at the start            a line a cell
@@ -123,11 +124,11 @@ extern "C" {
 #define PLANCHECK_LEDGER_MAX (2 * (PLANCHECK_MAX_STEPS + 1) * PLANCHECK_MAX_LINKS)
 
 /*
- * The library takes texts of any length. No valid network text and no accepted plan text is longer than this, in bytes:
- * a longer one may be turned down unread.
+ * The library takes texts of any length. No valid network text and no accepted plan text is longer than this, in bytes,
+ * every number padded to 10 digits: a longer one may be turned down unread.
  */
-#define PLANCHECK_NETWORK_TEXT_MAX 23822
-#define PLANCHECK_PLAN_TEXT_MAX 98160
+#define PLANCHECK_NETWORK_TEXT_MAX 39814
+#define PLANCHECK_PLAN_TEXT_MAX 158640
 
 /* No plan text that plancheck_plan_from_listing writes is longer than this, in bytes. */
 #define PLANCHECK_WRITTEN_PLAN_MAX 151920

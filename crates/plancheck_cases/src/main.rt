@@ -6,9 +6,14 @@ fn case(name: &[u8], network: &[u8], plan: &[u8]) {
     plancheck_files::run(network, plan);
 }
 
-// c1 to c11, c9 once with a capacity of 5000 and once with 4999.
+// c1 to c11, c1 also with every number padded to ten digits, c9 once with a capacity of 5000 and once with 4999.
 fn paper_cases() {
     case(b"c1\n", b"c1/network.tsv", b"c1/plan.tsv");
+    case(
+        b"c1 padded\n",
+        b"c1_padded/network.tsv",
+        b"c1_padded/plan.tsv",
+    );
     case(b"c2\n", b"c2/network.tsv", b"c2/plan.tsv");
     case(b"c3\n", b"c3/network.tsv", b"c3/plan.tsv");
     case(b"c4\n", b"c4/network.tsv", b"c4/plan.tsv");
