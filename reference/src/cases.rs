@@ -6,6 +6,7 @@ mod form;
 mod limits;
 mod listings;
 mod network_values;
+mod padding;
 mod paper;
 mod plan_breaches;
 mod random;
@@ -152,6 +153,7 @@ impl Case {
 }
 
 /// A case before it is judged.
+#[derive(Clone)]
 struct Draft {
     name: String,
     question: Question,
@@ -393,6 +395,7 @@ pub fn accepted_cases(maker: &mut Maker, scenario: &Scenario) {
 
 /// Every family of cases for one scenario.
 pub fn all_families(maker: &mut Maker, scenario: &Scenario) {
+    let before = maker.drafts.len();
     accepted_cases(maker, scenario);
     state_calls::short_ledgers(maker, scenario);
     form::network_form(maker, scenario);
@@ -417,6 +420,7 @@ pub fn all_families(maker: &mut Maker, scenario: &Scenario) {
     listings::volumes(maker, scenario);
     listings::buffers(maker, scenario);
     damage::damaged_listings(maker, scenario, 8);
+    padding::padded_copies(maker, before, 40);
 }
 
 /// Some cases of all families for one small random scenario.
@@ -470,6 +474,7 @@ fn draw_traffic(random: &mut Random) -> Traffic {
 pub fn stored_cases(seed: u64) -> Vec<Case> {
     let mut maker = Maker::new(seed);
     paper::cases(&mut maker);
+    padding::padded_copies(&mut maker, 0, 40);
     paper::extreme_numbers(&mut maker);
     paper::cuts(&mut maker);
     special::share_times_sum(&mut maker);
@@ -484,12 +489,14 @@ pub fn stored_cases(seed: u64) -> Vec<Case> {
         };
         let traffic = draw_traffic(&mut maker.random);
         let scenario = Scenario::make(&mut maker.random, size, traffic);
+        let before = maker.drafts.len();
         accepted_cases(&mut maker, &scenario);
         if round % 10 == 0 {
             state_calls::short_ledgers(&mut maker, &scenario);
         }
         state_calls::states(&mut maker, &scenario, 2);
         limits::exact_limits(&mut maker, &scenario);
+        padding::padded_copies(&mut maker, before, 3);
     }
 
     // Everything, on small scenarios that have something of every kind.

@@ -97,16 +97,13 @@ pub fn write_record(output: &mut Vec<u8>, letter: u8, numbers: &[u64]) {
     output.push(LINE_FEED);
 }
 
-/// A decimal number of 1 to 10 digits, at most 4,294,967,295, without sign and
-/// without leading zeros.
+/// A decimal number of 1 to 10 digits, at most 4,294,967,295, without sign.
+/// Zeros may stand in front, within the 10 digits.
 fn number(field: &[u8]) -> Option<u64> {
     if field.is_empty() || field.len() > 10 {
         return None;
     }
     if !field.iter().all(u8::is_ascii_digit) {
-        return None;
-    }
-    if field.len() > 1 && field[0] == b'0' {
         return None;
     }
     // Ten digits are below 10^10, so this cannot overflow.
@@ -131,15 +128,19 @@ mod tests {
         assert_eq!(number(b"10"), Some(10));
         assert_eq!(number(b"999999999"), Some(999_999_999));
         assert_eq!(number(b"4294967295"), Some(4_294_967_295));
+        assert_eq!(number(b"00"), Some(0));
+        assert_eq!(number(b"0000000000"), Some(0));
+        assert_eq!(number(b"01"), Some(1));
+        assert_eq!(number(b"0000000001"), Some(1));
+        assert_eq!(number(b"0999999999"), Some(999_999_999));
         for bad in [
             &b""[..],
-            b"00",
-            b"01",
-            b"0000000001",
             b"4294967296",
             b"9999999999",
             b"10000000000",
             b"00000000000",
+            b"00000000001",
+            b"04294967295",
             b"-1",
             b"+1",
             b" 1",

@@ -210,9 +210,18 @@ fn the_stored_cases_leave_nothing_out() {
         "buffer just long enough",
         "4: before the listing",
         "damaged listing",
+        "1: eleven digits",
+        "9: eleven digits",
+        "padded: plan passes",
+        "padded: network passes",
+        "padded: state of a link",
     ] {
         let named = count(&|case| case.name == name);
         assert!(named >= 3, "{name}: {named} cases");
+    }
+    for call in [Call::CheckNetwork, Call::CheckPlan, Call::PlanFromListing] {
+        let padded = count(&|case| case.question.call == call && case.name.starts_with("padded: "));
+        assert!(padded >= 30, "{call:?}: {padded} padded cases");
     }
     let largest = count(&|case| case.question.network.starts_with(b"N\t24\t8\t64\t120\n"));
     assert!(largest > 10);

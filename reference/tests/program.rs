@@ -58,6 +58,14 @@ fn files_that_cannot_be_read() {
     assert_eq!(printed(&folder), "L\t1\n");
 }
 
+/// 24 links and 120 steps; each demand is written in the given way.
+fn long_network(demand: fn(String) -> String) -> String {
+    let mut text = "N\t24\t0\t0\t120\n".to_string();
+    text += &"Q\t5\t1\t3\t0\t0\t4\n".repeat(24);
+    let demands = format!("\t{}", demand("0".to_string())).repeat(24);
+    text + &format!("S\t1{demands}\n").repeat(120)
+}
+
 #[test]
 fn files_at_and_above_their_limits() {
     let folder = folder("long");
@@ -72,6 +80,20 @@ fn files_at_and_above_their_limits() {
     write(16_384, 24_577);
     assert_eq!(printed(&folder), "L\t2\n");
     write(16_385, 24_577);
+    assert_eq!(printed(&folder), "L\t1\n");
+    // Zeros in front count as bytes of the file.
+    let padded = format!("N\t{:010}\t0\t0\t1\nQ\t5\t1\t3\t0\t0\t4\nS\t1\t1\n", 1);
+    fs::write(folder.join("network.tsv"), padded).unwrap();
+    fs::write(folder.join("plan.tsv"), "P\t0000000001\t03\n").unwrap();
+    assert_eq!(printed(&folder), ACCEPTED);
+    fs::write(folder.join("network.tsv"), long_network(|length| length)).unwrap();
+    fs::write(folder.join("plan.tsv"), "").unwrap();
+    assert_eq!(printed(&folder), "R\t9\t1\t0\n");
+    fs::write(
+        folder.join("network.tsv"),
+        long_network(|length| format!("{length:0>10}")),
+    )
+    .unwrap();
     assert_eq!(printed(&folder), "L\t1\n");
     write(0, 0);
     assert_eq!(printed(&folder), "R\t1\t1\t0\n");

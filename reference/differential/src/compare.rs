@@ -20,6 +20,7 @@ pub enum Given {
 }
 
 /// What the library gave for an input, and what it left in ledger and buffer.
+#[derive(PartialEq, Eq)]
 pub struct Asked {
     pub given: Given,
     pub ledger: Vec<u32>,

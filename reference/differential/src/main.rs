@@ -11,8 +11,8 @@ mod declarations;
 mod inputs;
 mod library;
 
-use compare::{compare, Compared};
-use plancheck_reference::cases::{Answer, Call, Question};
+use compare::{compare, Asked, Compared};
+use plancheck_reference::cases::{Answer, Call, Question, Random};
 use std::collections::BTreeMap;
 use std::fmt::Display;
 use std::process::ExitCode;
@@ -58,8 +58,15 @@ fn run(count: u64, first_seed: u64) -> Counts {
     let mut seed = first_seed;
     let mut shown = 0;
     while counts.inputs < count && counts.differences < MOST_DIFFERENCES {
+        let mut random = Random::new(seed);
         for (index, question) in inputs::round(seed).iter().enumerate() {
-            judge(&mut counts, seed, index, question);
+            let plain = judge(&mut counts, seed, index, question);
+            let twin = question.padded(&mut random);
+            let padded = judge(&mut counts, seed, index, &twin);
+            if plain != padded {
+                counts.differences += 1;
+                println!("difference: seed {seed}, input {index}, padded otherwise than not");
+            }
         }
         seed = seed.wrapping_add(1);
         if counts.inputs >= shown + count / 10 {
@@ -71,10 +78,11 @@ fn run(count: u64, first_seed: u64) -> Counts {
     counts
 }
 
-fn judge(counts: &mut Counts, seed: u64, index: usize, question: &Question) {
+/// What the library gave, if it has such a call.
+fn judge(counts: &mut Counts, seed: u64, index: usize, question: &Question) -> Option<Asked> {
     let Some(compared) = compare(question) else {
         counts.passed_over += 1;
-        return;
+        return None;
     };
     counts.inputs += 1;
     let number = match compared.outcome.answer {
@@ -87,6 +95,7 @@ fn judge(counts: &mut Counts, seed: u64, index: usize, question: &Question) {
         counts.differences += 1;
         tell_difference(seed, index, question, &compared);
     }
+    Some(compared.asked)
 }
 
 fn name_of(call: Call) -> &'static str {

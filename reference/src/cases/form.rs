@@ -5,9 +5,9 @@ use crate::Refusal;
 
 const BAD_NUMBERS: [&[u8]; 18] = [
     b"",
-    b"00",
-    b"01",
-    b"0000000001",
+    b"00000000000",
+    b"00000000001",
+    b"04294967295",
     b"4294967296",
     b"9999999999",
     b"10000000000",
@@ -66,11 +66,12 @@ fn broken_forms(maker: &mut Maker, sheet: &Sheet, line: usize) -> Vec<(&'static 
         let mut changed = sheet.clone();
         changed.set(line, fields - 1, maker.random.pick(&BAD_NUMBERS));
         texts.push(("bad last number", changed.text()));
-        // Leading zeros before a number as it stands.
+        // Leading zeros before a number as it stands, to one digit too many.
         let field = 1 + maker.random.index(fields - 1);
         let mut changed = sheet.clone();
-        changed.lines[line][field].insert(0, b'0');
-        texts.push(("leading zero", changed.text()));
+        let digits = changed.lines[line][field].len();
+        changed.lines[line][field].splice(..0, vec![b'0'; 11 - digits]);
+        texts.push(("eleven digits", changed.text()));
         let mut changed = sheet.clone();
         changed.lines[line].pop();
         texts.push(("field too few", changed.text()));
@@ -156,7 +157,7 @@ pub fn phase_count_form(maker: &mut Maker, scenario: &Scenario) {
         form,
     );
 
-    let bad_counts: [&[u8]; 5] = [b"0", b"1", b"9", b"10", b"4294967295"];
+    let bad_counts: [&[u8]; 7] = [b"0", b"1", b"9", b"10", b"4294967295", b"0000000009", b"00"];
     for bad in bad_counts {
         let mut changed = sheet.clone();
         changed.set(line, 3, bad);

@@ -44,6 +44,16 @@ impl Sheet {
         self
     }
 
+    /// Every number with zeros in front, up to ten digits.
+    pub fn pad(mut self) -> Sheet {
+        for fields in &mut self.0 {
+            for field in &mut fields[1..] {
+                *field = format!("{field:0>10}");
+            }
+        }
+        self
+    }
+
     /// Only the first lines.
     pub fn keep(mut self, lines: usize) -> Sheet {
         self.0.truncate(lines);

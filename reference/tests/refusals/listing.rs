@@ -269,6 +269,14 @@ fn r22_and_r23_line_by_line() {
 }
 
 #[test]
+fn a_padded_network_gives_the_same_plan_without_leading_zeros() {
+    let plan = plan().text();
+    let (answer, buffer) = written(&network().pad().text(), LISTING.as_bytes(), plan.len());
+    assert_eq!(answer, Ok(plan.len()));
+    assert_eq!(buffer, plan);
+}
+
+#[test]
 fn the_networks_own_come_first() {
     let broken = network().set(4, 3, 0).text();
     for listing in [&b""[..], b"\n", b"i_1_1 0.000001\n"] {

@@ -83,8 +83,9 @@ fn r1_wrong_letter() {
 fn r1_bad_number() {
     let bad = [
         "",
-        "00",
-        "01",
+        "00000000000",
+        "00000000001",
+        "04294967295",
         "-1",
         "+1",
         " 1",
@@ -99,7 +100,6 @@ fn r1_bad_number() {
         "4294967296",
         "9999999999",
         "10000000000",
-        "00000000010",
     ];
     for line in 1..=network().line_count() {
         for field in 2..=network().field_count(line) {
@@ -109,6 +109,24 @@ fn r1_bad_number() {
             }
         }
     }
+}
+
+#[test]
+fn padded_numbers() {
+    assert_network_accepted(&network().pad().text());
+    for line in 1..=network().line_count() {
+        for field in 2..=network().field_count(line) {
+            let number: u64 = network().field(line, field).parse().unwrap();
+            for width in 1..=10 {
+                let padded = network().set(line, field, format!("{number:0width$}"));
+                assert_network_accepted(&padded.text());
+            }
+            let padded = network().pad().set(line, field, format!("{number:011}"));
+            assert_network_refused(&padded.text(), 1, line as u64, 0);
+        }
+    }
+    assert_network_refused(&network().set(2, 4, 9).pad().text(), 3, 2, 1);
+    assert_network_refused(&network().set(4, 3, 15).pad().text(), 7, 11, 1);
 }
 
 #[test]
@@ -242,7 +260,7 @@ fn r3_number_of_phases() {
 #[test]
 fn r3_bad_number_of_phases_comes_before_anything_later_in_the_line() {
     let start = "N\t1\t1\t0\t1\n";
-    for count in ["0", "1", "9", "4294967295"] {
+    for count in ["0", "1", "9", "4294967295", "0000000009", "01"] {
         let head = format!("{start}G\t20\t60\t{count}\t2\t10\t20");
         for tail in [
             "",
@@ -265,7 +283,7 @@ fn r3_bad_number_of_phases_comes_before_anything_later_in_the_line() {
             format!("G\t20\t60\t{count}\t2\t10\n"),
             format!("G\t20\t60\t{count}\n"),
             format!("G\t20\t60\t{count}\t2\t10\t20x\t1\n"),
-            format!("G\t20\t60\t{count}\t2\t10\t020\t1\n"),
+            format!("G\t20\t60\t{count}\t2\t10\t00000000020\t1\n"),
             format!("G\t20\t60\t{count}\t2\tx\t20\t1\n"),
             format!("G\tx\t60\t{count}\t2\t10\t20\t1\n"),
             format!("G\t20\t4294967296\t{count}\t2\t10\t20\t1\n"),

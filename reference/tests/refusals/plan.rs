@@ -12,6 +12,22 @@ fn the_junction_passes() {
     assert_eq!(ledger[NEED..], [FILL, FILL]);
 }
 
+#[test]
+fn padded_numbers() {
+    for (network, plan) in [
+        (network().pad(), plan()),
+        (network(), plan().pad()),
+        (network().pad(), plan().pad()),
+    ] {
+        let mut ledger = [FILL; NEED + 2];
+        let answer = check_plan(&network.text(), &plan.text(), &mut ledger);
+        assert_eq!(answer, Ok(TOTALS));
+        assert_eq!(ledger[..NEED], ROWS.concat());
+    }
+    let text = plan().set(2, 10, 5001).pad().text();
+    assert_plan_refused(&network().pad().text(), &text, 26, 2, 1);
+}
+
 // Refusal 8.
 
 #[test]
@@ -104,8 +120,9 @@ fn r9_bad_number_in_every_field() {
         for field in 2..=12 {
             for number in [
                 "",
-                "00",
-                "01",
+                "00000000000",
+                "00000000001",
+                "04294967295",
                 "-1",
                 "+1",
                 " 1",
