@@ -18,6 +18,7 @@ mod stored;
 
 pub use damage::damage;
 pub use listings::shuffled_listing;
+pub use padding::pad;
 pub use random::Random;
 pub use scenario::{Scenario, Size, Traffic};
 pub use stored::{decode, encode, Stored};

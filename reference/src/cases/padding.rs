@@ -23,7 +23,7 @@ impl Question {
 
 /// Zeros before every number, before some or before one in a while. Whatever
 /// else the text holds stays as it is, the first field of a line too.
-fn pad(random: &mut Random, text: &[u8]) -> Vec<u8> {
+pub fn pad(random: &mut Random, text: &[u8]) -> Vec<u8> {
     let percent = random.pick(&[100, 40, 5]);
     let is_full_width = random.chance(50);
     let mut padded = Vec::new();

@@ -1,7 +1,7 @@
 //! Compares runs of corridors in cells with the other implementation: the answer, the totals and every volume.
 //!
 //! `cells COUNT SEED`: COUNT texts, of the seeds SEED, SEED + 1, .., so that a difference can be found again by itself: `cells 1 SEED` with the seed
-//! that is told.
+//! that is told. Of each seed there is a text and one with zeros before some of its numbers, which must get the same from the library.
 
 // Each of the comparing programs calls a part of the library.
 #[allow(dead_code)]
@@ -9,7 +9,7 @@
 mod declarations;
 
 use declarations::{plancheck_run_cells, CellsResult};
-use plancheck_reference::cases::{damage, Random};
+use plancheck_reference::cases::{damage, pad, Random};
 use plancheck_reference::cells;
 use std::collections::BTreeMap;
 use std::process::ExitCode;
@@ -38,9 +38,17 @@ fn main() -> ExitCode {
         return ExitCode::FAILURE;
     };
     let mut counts = Counts::default();
+    let mut seed = *seed;
     while counts.texts < *count && counts.differences < MOST_DIFFERENCES {
-        let seed = seed.wrapping_add(counts.texts);
-        judge(&mut counts, seed, &draw_text(&mut Random::new(seed)));
+        let mut random = Random::new(seed);
+        let text = draw_text(&mut random);
+        let plain = judge(&mut counts, seed, &text);
+        let padded = judge(&mut counts, seed, &pad(&mut random, &text));
+        if plain != padded {
+            counts.differences += 1;
+            println!("difference: seed {seed}, padded otherwise than not");
+        }
+        seed = seed.wrapping_add(1);
     }
     report(&counts);
     if counts.differences == 0 {
@@ -50,7 +58,8 @@ fn main() -> ExitCode {
     }
 }
 
-fn judge(counts: &mut Counts, seed: u64, text: &[u8]) {
+/// What the library gave.
+fn judge(counts: &mut Counts, seed: u64, text: &[u8]) -> CellsResult {
     let expected = in_numbers(text);
     // SAFETY: a slice gives a pointer that is not null, readable for its length. The header asks for no more.
     let given = unsafe { plancheck_run_cells(text.as_ptr(), text.len()) };
@@ -64,6 +73,7 @@ fn judge(counts: &mut Counts, seed: u64, text: &[u8]) {
         println!("reference {expected:?}");
         println!("library   {given:?}");
     }
+    given
 }
 
 /// The answer as the header puts it: 0 in each member that it does not name.
@@ -118,10 +128,10 @@ fn draw_text(random: &mut Random) -> Vec<u8> {
         text += &format!("C\t{flow}\t{holding}\t{ratio}\t{start}\n");
     }
     if random.chance(100 - bad) {
-        text += &format!("X\t{}\n", draw_volume(random, scale, bad));
+        text += &format!("X\t{}\n", draw_field(random, scale, bad));
     }
     for _ in 0..demands {
-        text += &format!("D\t{}\n", draw_volume(random, scale, bad));
+        text += &format!("D\t{}\n", draw_field(random, scale, bad));
     }
     if random.chance(80) {
         text.into_bytes()
@@ -143,6 +153,15 @@ fn draw_volume(random: &mut Random, scale: u64, bad: u64) -> u64 {
         return random.pick(&[0, LARGEST, LARGEST + 1, 4_294_967_295, 4_294_967_296]);
     }
     random.between(0, scale)
+}
+
+/// A volume as it is written: a bad one has eleven digits.
+fn draw_field(random: &mut Random, scale: u64, bad: u64) -> String {
+    let volume = draw_volume(random, scale, bad);
+    if random.chance(bad) {
+        return format!("{volume:011}");
+    }
+    volume.to_string()
 }
 
 fn draw_ratio(random: &mut Random, bad: u64) -> u64 {
