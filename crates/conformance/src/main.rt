@@ -7,10 +7,10 @@ mod tally;
 use crate::tally::COUNTERS;
 use conformance_cases::stored::CaseCount;
 
-// Compares the cases of a file, and prints how many it has.
+// Compares the cases of a file, and prints how many it has. There is room for the longest texts whose numbers are padded.
 fn compare_file(path: &[u8], counts: &mut [u64; COUNTERS]) {
-    let mut network = [0u8; 24576];
-    let mut plan = [0u8; 98304];
+    let mut network = [0u8; 40960];
+    let mut plan = [0u8; 163840];
     let mut start = [0u32; 5888];
     let mut ledger = [0u32; 5888];
     let mut buffer = [0u8; 102400];
