@@ -7,10 +7,10 @@ use native.Mathlib.Omega.{arith}
 use Rattle.search.specs.Checks.{Hold, table}
 use Rattle.records.specs.Lines.{Line}
 use Rattle.model.specs.Network.{linkCount, signalCount, movementCount, stepCount, signal}
-use Rattle.model.specs.Rules.{validPhases, validSignal, validCounts, validLink, validMovement, validShares, validStep, meetsBoundary, rule10, rule11, rule12, rule13, rule14, rule15, rule16, rule17, rule18, rule25, rule26, rule27}
-use Rattle.model.specs.Table.{countChecks, signalChecks, linkChecks, movementChecks, shareChecks, stepChecks, boundaryChecks, networkChecks, signalRules, limitRules, sumRules, lineChecks, planLineChecks, planChecks}
+use Rattle.model.specs.Rules.{validPhases, validSignal, validCounts, validLink, validMovement, validShares, validStep, rule10, rule11, rule12, rule13, rule14, rule15, rule16, rule17, rule18, rule25, rule26, rule27}
+use Rattle.model.specs.Table.{countChecks, signalChecks, linkChecks, movementChecks, shareChecks, stepChecks, networkChecks, signalRules, limitRules, sumRules, lineChecks, planLineChecks, planChecks}
 
--- refusals 2 to 7 do not arise
+-- refusals 2 to 6 do not arise
 pub record ValidNetwork (network : List Line) : Type 0 where
   pub counts : validCounts network ≡ true
   pub phases : (r : ℕ) → r < signalCount network → validPhases (signal network r) ≡ true
@@ -19,7 +19,6 @@ pub record ValidNetwork (network : List Line) : Type 0 where
   pub movements : (j : ℕ) → j < movementCount network → validMovement network j ≡ true
   pub shares : (i : ℕ) → i < linkCount network → validShares network i ≡ true
   pub steps : (n : ℕ) → n < stepCount network → validStep network n ≡ true
-  pub boundaries : (n : ℕ) → n < stepCount network → (i : ℕ) → i < linkCount network → meetsBoundary network (suc n) i ≡ true
 
 -- step n keeps rules 10 to 18 and 25 to 27
 pub record LawfulStep (network plan : List Line) (n : ℕ) : Type 0 where
@@ -42,8 +41,8 @@ pub record AcceptedPlan (network plan : List Line) : Type 0 where
   pub lawful : (n : ℕ) → n < stepCount network → LawfulStep network plan n
 
 pub valid-network : (network : List Line) → Hold (networkChecks network) → ValidNetwork network
-unfolding Hold networkChecks countChecks signalChecks linkChecks movementChecks shareChecks stepChecks boundaryChecks
-valid-network network (counts, (signals, (links, (movements, (shares, (steps, (ended, boundaries))))))) =
+unfolding Hold networkChecks countChecks signalChecks linkChecks movementChecks shareChecks stepChecks
+valid-network network (counts, (signals, (links, (movements, (shares, (steps, ended)))))) =
     record {
       counts = counts .1;
       phases = λ r l. signals r l .1 .0;
@@ -52,7 +51,6 @@ valid-network network (counts, (signals, (links, (movements, (shares, (steps, (e
       movements = λ j l. movements j l .1;
       shares = shares;
       steps = λ n l. steps n l .1;
-      boundaries = boundaries;
     }
 
 pub lawful-step : (network plan : List Line) (n : ℕ) → Hold (lineChecks network plan n) → LawfulStep network plan n

@@ -17,7 +17,7 @@ cases =
     ∷ record { network = theNetwork; plan = planWith "1" "1" "2" "3000" "3000"; prints = "R\t17\t1\t1\n" }  -- c8
     ∷ record { network = corridor "10" "20" "5000" "10"; plan = thePlan; prints = theReport }  -- c9, passes
     ∷ record { network = corridor "10" "20" "4999" "10"; plan = thePlan; prints = "R\t18\t1\t1\n" }  -- c9
-    ∷ record { network = corridor "10" "20" "60000" "15"; plan = thePlan; prints = "R\t7\t7\t1\n" }  -- c10
+    ∷ record { network = corridor "10" "20" "60000" "15"; plan = thePlan; prints = "R\t17\t2\t1\n" }  -- c10
     ∷ record { network = theNetwork; plan = ""; prints = "R\t9\t1\t0\n" }  -- c11
     ∷ []
 

@@ -7,7 +7,7 @@ use lib.Dec.{leb}
 use borrow.Author.Tests.{leb-true}
 use Rattle.records.specs.Lines.{Line}
 use Rattle.model.specs.Test.{within, every}
-use Rattle.model.specs.Network.{linkCount, signalCount, movementCount, stepCount, capacity, exitRate, signalOf, standing, fromLink, toLink, rate, share, stepLength, demand}
+use Rattle.model.specs.Network.{linkCount, signalCount, movementCount, stepCount, capacity, travelTime, exitRate, signalOf, standing, fromLink, toLink, rate, share, stepLength, demand}
 use Rattle.model.specs.Rules.{validCounts, validLink, validMovement, validStep}
 use Rattle.model.proofs.Tests.{and-left, and-right, every-at}
 use Rattle.model.proofs.Accepted.{ValidNetwork}
@@ -22,6 +22,7 @@ pub record Counts (network : List Line) : Type 0 where
 
 pub record LinkLimits (network : List Line) (i : ℕ) : Type 0 where
   pub capacity-limit : capacity network i ≤ 2_000_000_000
+  pub some-travel : 1 ≤ travelTime network i
   pub exit-limit : exitRate network i ≤ 10_000
   pub signal-last : signalOf network i ≤ signalCount network
   pub standing-limit : standing network i ≤ capacity network i

@@ -20,7 +20,7 @@ use Rattle.model.proofs.Written.{ledger-promises}
 use Rattle.model.proofs.Numbers.{refused-number, plan-numbered}
 use Rattle.model.proofs.Accepted.{AcceptedPlan, accepted-plan}
 use Rattle.model.proofs.Integers.{signed-sum}
-use Rattle.model.proofs.Flow.{left-early, left-entered, within-capacity, balance}
+use Rattle.model.proofs.Flow.{left-over, left-entered, within-capacity, balance}
 use Rattle.model.proofs.TravelTime.{travel-time}
 use Rattle.model.proofs.Shut.{shut-passes-nothing}
 use Rattle.model.proofs.Red.{red-greens, red-least, red-greatest}
@@ -37,7 +37,7 @@ module _ (network plan : List Line) (accepted : AcceptedPlan network plan) where
         balanced = balance network plan accepted;
         left-entered = left-entered network plan accepted;
         holds-capacity = within-capacity network plan accepted;
-        left-arrived = left-early network plan accepted;
+        left-arrived = left-over network plan accepted;
         shut-passes-nothing = shut-passes-nothing network plan accepted;
         reported-time = signed-sum _ _ (allAdmitted network plan) (allLetOut network plan) (weight network) (stepCount network) (travel-time network plan accepted);
         reported-balance = travel-time network plan accepted;

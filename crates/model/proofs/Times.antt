@@ -1,17 +1,15 @@
--- Laws of the boundaries' times and of the boundary from which entries have arrived. Assumes nothing.
+-- Laws of the boundaries' times and of the step in which a travel time ends. Assumes nothing.
 use mathlib.Core.Path.{_≡_, refl}
 use mathlib.Core.Bool.{Bool, true, false, cond}
-use mathlib.Core.Logic.{_⊎_, inl, inr}
 use mathlib.Core.List.{List}
 use Prim.Native.Nat.{ℕ, zero, suc, _+_, _-_, _≤_, _<_}
-use native.Mathlib.Nat.{eq-or-lt-of-le}
 use native.Mathlib.Decide.{decLe}
 use native.Mathlib.Omega.{arith}
-use lib.Dec.{leb, ltb}
-use borrow.Author.Tests.{le-leb, lt-leb, lt-ltb, le-ltb}
+use lib.Dec.{leb}
+use borrow.Author.Tests.{le-leb, lt-leb}
 use Rattle.records.specs.Lines.{Line}
 use Rattle.model.specs.Sum.{sum}
-use Rattle.model.specs.Network.{stepLength, travelTime, time, lastBoundary, arrivalBoundary}
+use Rattle.model.specs.Network.{stepLength, travelTime, time, stepAt, arrivalStep, elapsed}
 use Rattle.model.specs.Guarantees.{between}
 use Rattle.model.proofs.Sums.{sum-more}
 
@@ -34,65 +32,70 @@ module _ (network : List Line) where
   unfolding between
   time-between b c h = let e : b + (c - b) ≡ c = omega arith in rw e at (time-from b (c - b))
 
-  -- the last boundary by a time is one of those asked for, and its time is not past it
-  pub last-boundary-le : (n x : ℕ) → lastBoundary network n x ≤ n
-  unfolding lastBoundary
-  last-boundary-le zero x = omega arith
-  last-boundary-le (suc n) x = go (leb (time network (suc n)) x) (last-boundary-le n x)
+  -- the step found is one of those asked for ..
+  pub step-at-lt : (n x : ℕ) → 1 ≤ n → stepAt network n x < n
+  unfolding stepAt
+  step-at-lt zero x h = absurd (omega arith)
+  step-at-lt (suc zero) x h = go (leb (time network 0) x)
     where
-      go : (b : Bool) → lastBoundary network n x ≤ n → cond b (suc n) (lastBoundary network n x) ≤ suc n
-      go true h = omega arith
-      go false h = omega arith
-
-  pub last-boundary-time : (n x : ℕ) → time network (lastBoundary network n x) ≤ x
-  unfolding lastBoundary
-  last-boundary-time zero x = unfold time sum in omega arith
-  last-boundary-time (suc n) x = elim (decLe (time network (suc n)) x) [ yes h ↦ rw (le-leb _ _ h) h | no h ↦ rw (lt-leb (time network (suc n)) x (omega arith)) (last-boundary-time n x) ]
-
-  -- every boundary by that time is at most it ..
-  pub last-boundary-above : (n x m : ℕ) → m ≤ n → time network m ≤ x → m ≤ lastBoundary network n x
-  unfolding lastBoundary
-  last-boundary-above zero x m h l = h
-  last-boundary-above (suc n) x m h l = elim (decLe (time network (suc n)) x) [
-    | yes u ↦ rw (le-leb _ _ u) h
-    | no u ↦ rw (lt-leb (time network (suc n)) x (omega arith)) (last-boundary-above n x m (before u (eq-or-lt-of-le h)) l)
-  ]
+      go : (b : Bool) → cond b 0 0 < 1
+      go true = omega arith
+      go false = omega arith
+  step-at-lt (suc (suc n)) x h = go (leb (time network (suc n)) x) (step-at-lt (suc n) x (omega arith))
     where
-      before : ¬ (time network (suc n) ≤ x) → (m ≡ suc n) ⊎ (m < suc n) → m ≤ n
-      before u (inl e) = absurd (u (rw e at l))
-      before u (inr v) = omega arith
+      go : (b : Bool) {m : ℕ} → m < suc n → cond b (suc n) m < suc (suc n)
+      go true l = omega arith
+      go false l = omega arith
 
-  -- a boundary that is by that time, and whose next is not, is it
-  pub last-boundary-is : (n x m : ℕ) → m ≤ n → time network m ≤ x → (m ≡ n) ⊎ (x < time network (suc m)) → lastBoundary network n x ≡ m
-  last-boundary-is n x m h l (inl e) = omega (arith, last-boundary-above n x m h l, last-boundary-le n x)
-  last-boundary-is n x m h l (inr u) = elim (decLe (suc m) (lastBoundary network n x)) [
-    | yes v ↦ absurd (omega (arith, time-mono (suc m) (lastBoundary network n x) v, last-boundary-time n x))
-    | no v ↦ omega (arith, last-boundary-above n x m h l)
+  pub step-at-le : (n x : ℕ) → stepAt network n x ≤ n
+  step-at-le zero x = unfold stepAt in omega arith
+  step-at-le (suc n) x = omega (arith, step-at-lt (suc n) x (omega arith))
+
+  -- .. it has started by that time ..
+  pub step-at-time : (n x : ℕ) → time network (stepAt network n x) ≤ x
+  unfolding stepAt
+  step-at-time zero x = unfold time sum in omega arith
+  step-at-time (suc n) x = elim (decLe (time network n) x) [ yes h ↦ rw (le-leb _ _ h) h | no h ↦ rw (lt-leb (time network n) x (omega arith)) (step-at-time n x) ]
+
+  -- .. and has not ended
+  pub step-at-next : (n x : ℕ) → x < time network n → x < time network (suc (stepAt network n x))
+  unfolding stepAt
+  step-at-next zero x h = let z : time network 0 ≡ 0 = unfold time sum in refl in absurd (omega arith)
+  step-at-next (suc n) x h = elim (decLe (time network n) x) [
+    | yes u ↦ rw (le-leb (time network n) x u) h
+    | no u ↦ rw (lt-leb (time network n) x (omega arith)) (step-at-next n x (omega arith))
   ]
 
-  pub arrival-boundary-le : (n i : ℕ) → arrivalBoundary network n i ≤ n
-  unfolding arrivalBoundary
-  arrival-boundary-le n i = go (ltb (time network n) (travelTime network i)) (last-boundary-le n (time network n - travelTime network i))
-    where
-      go : (b : Bool) {m : ℕ} → m ≤ n → cond b 0 m ≤ n
-      go true h = omega arith
-      go false h = h
+  -- a step that has started by that time and has not ended is it
+  pub step-at-is : (n x m : ℕ) → m < n → time network m ≤ x → x < time network (suc m) → stepAt network n x ≡ m
+  step-at-is n x m h l u =
+      let s = stepAt network n x in
+      let next = step-at-next n x (omega (arith, time-mono (suc m) n h)) in
+      elim (decLe (suc m) s) [
+        | yes v ↦ absurd (omega (arith, time-mono (suc m) s v, step-at-time n x))
+        | no v ↦ elim (decLe m s) [ yes w ↦ omega arith | no w ↦ absurd (omega (arith, time-mono (suc s) m (omega arith))) ]
+      ]
 
-  -- where it is not boundary 0, its entries have had the travel time
-  pub arrival-boundary-time : (n i : ℕ) → 1 ≤ arrivalBoundary network n i → time network (arrivalBoundary network n i) + travelTime network i ≤ time network n
-  unfolding arrivalBoundary
-  arrival-boundary-time n i = elim (decLe (travelTime network i) (time network n)) [
-    | yes h ↦ rw (le-ltb _ _ h) (λ p. omega (arith, last-boundary-time n (time network n - travelTime network i)))
-    | no h ↦ rw (lt-ltb (time network n) (travelTime network i) (omega arith)) (λ p. absurd (omega arith))
-  ]
+  -- ---- the step in which the travel time ends
+  pub arrival-step-le : (n i : ℕ) → arrivalStep network n i ≤ n
+  unfolding arrivalStep
+  arrival-step-le n i = step-at-le n (time network n - travelTime network i)
 
-  -- the boundary that a cursor comes to
-  pub arrival-boundary-is : (n i m : ℕ) → m ≤ n → time network m + travelTime network i ≤ time network n
-      → (m ≡ n) ⊎ (time network n < time network (suc m) + travelTime network i) → arrivalBoundary network n i ≡ m
-  unfolding arrivalBoundary
-  arrival-boundary-is n i m h l next =
-      rw (le-ltb (time network n) (travelTime network i) (omega arith)) (last-boundary-is n (time network n - travelTime network i) m h (omega arith) (past next))
-    where
-      past : (m ≡ n) ⊎ (time network n < time network (suc m) + travelTime network i) → (m ≡ n) ⊎ (time network n - travelTime network i < time network (suc m))
-      past (inl e) = inl e
-      past (inr u) = inr (omega arith)
+  pub arrival-step-lt : (n i : ℕ) → 1 ≤ n → arrivalStep network n i < n
+  unfolding arrivalStep
+  arrival-step-lt n i h = step-at-lt n (time network n - travelTime network i) h
+
+  pub elapsed-is : (n i : ℕ) → time network (arrivalStep network n i) + elapsed network n i ≡ time network n - travelTime network i
+  unfolding elapsed arrivalStep
+  elapsed-is n i = omega (arith, step-at-time n (time network n - travelTime network i))
+
+  -- where there is time for the travel time, it has not ended
+  pub elapsed-lt : (n i : ℕ) → 1 ≤ travelTime network i → travelTime network i ≤ time network n → elapsed network n i < stepLength network (arrivalStep network n i)
+  elapsed-lt n i h l =
+      let next : time network n - travelTime network i < time network (suc (arrivalStep network n i)) =
+      unfold arrivalStep in step-at-next n (time network n - travelTime network i) (omega arith) in
+      omega (arith, elapsed-is n i, time-suc (arrivalStep network n i))
+
+  -- before the travel time it is the first step, at its start
+  pub elapsed-early : (n i : ℕ) → time network n < travelTime network i → elapsed network n i ≡ 0
+  elapsed-early n i h = omega (arith, elapsed-is n i)

@@ -1,8 +1,8 @@
 -- The calls: their answers, and the ledger after a plan's check. Assumes nothing.
-use Prim.Native.Nat.{ℕ, suc, _+_, _*_, _-_}
+use Prim.Native.Nat.{ℕ, suc, _+_, _*_, _-_, _/_}
 use mathlib.Core.Bool.{Bool, true, false, cond}
 use mathlib.Core.List.{List, _++_}
-use lib.Dec.{leb, ltb}
+use lib.Dec.{leb, ltb, eqb}
 use lib.ListN.{length, getD, drop}
 use Rattle.search.specs.declared.Verdict.{Verdict}
 use Rattle.search.specs.declared.Verdict.the-variants.{Passes, Refused}
@@ -12,9 +12,9 @@ use Rattle.model.specs.declared.PlanAnswer.{PlanAnswer}
 use Rattle.model.specs.declared.PlanAnswer.the-variants as plan-answer
 use Rattle.model.specs.declared.LinkAnswer.{LinkAnswer}
 use Rattle.model.specs.declared.LinkAnswer.the-variants as link-answer
-use Rattle.model.specs.Test.{_and_, within}
+use Rattle.model.specs.Test.{_and_, _or_, within}
 use Rattle.model.specs.Sum.{sum, only, joined}
-use Rattle.model.specs.Network.{linkCount, stepCount, travelTime, standing, time, arrivalBoundary}
+use Rattle.model.specs.Network.{linkCount, stepCount, travelTime, standing, stepLength, time, arrivalStep, elapsed}
 use Rattle.model.specs.Flows.{totals, row}
 use Rattle.model.specs.Table.{networkChecks, ledgerChecks, lineChecks, planChecks}
 
@@ -61,11 +61,29 @@ module _ (network : List Line) (ledger : List ℕ) (boundary link : ℕ) where
   unfoldable pub ledgerLeft : ℕ
   ledgerLeft = getD ledger (2 * boundary * linkCount network + 2 * (link - 1) + 1) 0
 
-  -- arrived, read from the ledger and, before the travel time, from the `Q` line
+  -- the step in which the travel time ends, its length, and the seconds of it that have elapsed by then
+  unfoldable pub endStep : ℕ
+  endStep = arrivalStep network boundary (link - 1)
+
+  unfoldable pub endLength : ℕ
+  endLength = stepLength network endStep
+
+  unfoldable pub endElapsed : ℕ
+  endElapsed = elapsed network boundary (link - 1)
+
+  -- arrived × that step's length, so that nothing is rounded: read from the ledger and, before the travel time, from the `Q` line
+  unfoldable pub scaledArrived : ℕ
+  scaledArrived =
+      cond (ltb (time network boundary) (travelTime network (link - 1))) (standing network (link - 1) * endLength)
+      (ledgerEntered endStep * endLength + (ledgerEntered (suc endStep) - ledgerEntered endStep) * endElapsed)
+
+  -- the entered count does not fall over a step inside which the travel time ends
+  unfoldable pub risesInside : Bool
+  risesInside = eqb endElapsed 0 or leb (ledgerEntered endStep) (ledgerEntered (suc endStep))
+
+  -- arrived, rounded down
   unfoldable pub ledgerArrived : ℕ
-  ledgerArrived =
-      cond (ltb (time network boundary) (travelTime network (link - 1))) (standing network (link - 1))
-      (ledgerEntered (arrivalBoundary network boundary (link - 1)))
+  ledgerArrived = scaledArrived / endLength
 
   unfoldable pub stateChecks : Checks
   stateChecks =
@@ -73,9 +91,9 @@ module _ (network : List Line) (ledger : List ℕ) (boundary link : ℕ) where
       then ledgerChecks network (length ledger)
       then check 19 0 0 (leb boundary (stepCount network))
       then check 20 0 0 (within 1 link (linkCount network))
-      then check 21 0 0 (leb ledgerLeft ledgerArrived and leb ledgerArrived (ledgerEntered boundary))
+      then check 21 0 0 (risesInside and leb (ledgerLeft * endLength) scaledArrived and leb scaledArrived (ledgerEntered boundary * endLength))
 
-  -- queued (the paper's standing) and in transit (its moving)
+  -- queued (the paper's standing), rounded down, and the rest in transit (its moving)
   unfoldable pub linkAnswer : Verdict → LinkAnswer
   linkAnswer Passes = link-answer.State (ledgerArrived - ledgerLeft) (ledgerEntered boundary - ledgerArrived)
   linkAnswer (Refused r) = link-answer.Refused r

@@ -1,14 +1,14 @@
 -- What the lines of a plan text say on a network, and the traffic reckoned from them. Step n leads from boundary n to boundary n + 1. Assumes nothing.
 use Prim.Native.Nat.{ℕ, zero, suc, _+_, _*_, _-_}
 use mathlib.Core.List.{List, [], _∷_, _++_}
-use mathlib.Core.Bool.{Bool}
-use lib.Dec.{eqb}
+use mathlib.Core.Bool.{Bool, cond}
+use lib.Dec.{leb, ltb, eqb}
 use Rattle.records.specs.Lines.{Line}
 use Rattle.model.specs.declared.Signal.{Signal}
 use Rattle.model.specs.declared.Totals.{Totals}
 use Rattle.model.specs.Test.{_or_}
 use Rattle.model.specs.Sum.{sum, only}
-use Rattle.model.specs.Network.{entry, linkCount, signalCount, movementCount, signal, signalOf, phaseMask, standing, fromLink, toLink, stepLength, arrivalBoundary}
+use Rattle.model.specs.Network.{entry, linkCount, signalCount, movementCount, signal, travelTime, signalOf, phaseMask, standing, fromLink, toLink, stepLength, time, arrivalStep, elapsed}
 use Rattle.model.specs.Signals.{phaseOf, opens, after}
 
 module _ (network plan : List Line) where
@@ -60,9 +60,13 @@ module _ (network plan : List Line) where
   unfoldable pub left : ℕ → ℕ → ℕ
   left n i = sum n (λ m. outflow m i)
 
-  -- arrived(n): entered(m), where t(m) is t(n) minus the travel time; the standing start before that time
-  unfoldable pub arrived : ℕ → ℕ → ℕ
-  arrived n i = entered (arrivalBoundary network n i) i
+  -- Whether a volume is at most arrived(n): what entered by the start of the step in which the travel time ends, plus the elapsed part of that step's volume,
+  -- taken evenly. Both sides are multiplied by that step's length, so that nothing is rounded. Before the travel time: the standing start.
+  unfoldable pub hasArrived : ℕ → ℕ → ℕ → Bool
+  hasArrived volume n i =
+      let a = arrivalStep network n i in
+      cond (ltb (time network n) (travelTime network i)) (leb volume (standing network i))
+      (leb (volume * stepLength network a) (entered a i * stepLength network a + inflow a i * elapsed network n i))
 
   -- what link i holds at boundary n, and all links: the vehicles in the network
   unfoldable pub held : ℕ → ℕ → ℕ

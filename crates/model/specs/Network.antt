@@ -3,7 +3,7 @@
 use Prim.Native.Nat.{ℕ, zero, suc, _+_, _*_, _-_}
 use mathlib.Core.List.{List}
 use mathlib.Core.Bool.{cond}
-use lib.Dec.{leb, ltb}
+use lib.Dec.{leb}
 use lib.ListN.{getD}
 use Rattle.records.specs.Lines.{Line, noLine, number}
 use Rattle.model.specs.declared.Signal.{Signal}
@@ -111,11 +111,14 @@ module _ (network : List Line) where
   unfoldable pub time : ℕ → ℕ
   time n = sum n stepLength
 
-  -- the last of the boundaries 0 to n whose time is at most x
-  unfoldable pub lastBoundary : ℕ → ℕ → ℕ
-  lastBoundary zero x = zero
-  lastBoundary (suc n) x = cond (leb (time (suc n)) x) (suc n) (lastBoundary n x)
+  -- the last of the first n steps that starts by time x
+  unfoldable pub stepAt : ℕ → ℕ → ℕ
+  stepAt zero x = zero
+  stepAt (suc n) x = cond (leb (time n) x) n (stepAt n x)
 
-  -- the boundary whose entries have travelled link i by boundary n: that at t(n) minus the travel time; 0 before the travel time
-  unfoldable pub arrivalBoundary : ℕ → ℕ → ℕ
-  arrivalBoundary n i = cond (ltb (time n) (travelTime i)) 0 (lastBoundary n (time n - travelTime i))
+  -- the step in which t(n) minus the travel time of link i lies, and the seconds of it that have elapsed by then; 0 before the travel time
+  unfoldable pub arrivalStep : ℕ → ℕ → ℕ
+  arrivalStep n i = stepAt n (time n - travelTime i)
+
+  unfoldable pub elapsed : ℕ → ℕ → ℕ
+  elapsed n i = time n - travelTime i - time (arrivalStep n i)

@@ -1,4 +1,4 @@
--- The rules, each a test: refusals 2 to 7 of a network's values, and rules 10 to 18 and 25 to 27 of step n. Assumes nothing.
+-- The rules, each a test: refusals 2 to 6 of a network's values, and rules 10 to 18 and 25 to 27 of step n. Assumes nothing.
 use Prim.Native.Nat.{ℕ, zero, suc, _+_, _*_, _-_, _^_}
 use mathlib.Core.Bool.{Bool, true, not, cond}
 use mathlib.Core.List.{List}
@@ -8,9 +8,9 @@ use Rattle.records.specs.Lines.{Line}
 use Rattle.model.specs.declared.Signal.{Signal}
 use Rattle.model.specs.Test.{_and_, _or_, within, every}
 use Rattle.model.specs.Sum.{sum, only}
-use Rattle.model.specs.Network.{maxLinks, maxSignals, maxMovements, maxSteps, linkCount, signalCount, movementCount, stepCount, signal, capacity, travelTime, exitRate, signalOf, phaseMask, standing, fromLink, toLink, rate, share, stepLength, demand, time, lastBoundary}
+use Rattle.model.specs.Network.{maxLinks, maxSignals, maxMovements, maxSteps, linkCount, signalCount, movementCount, stepCount, signal, capacity, travelTime, exitRate, signalOf, phaseMask, standing, fromLink, toLink, rate, share, stepLength, demand}
 use Rattle.model.specs.Signals.{greatestTime, showsOnePhase, keepsOrder, keepsLeastTime, keepsGreatestTime, keepsCycle}
-use Rattle.model.specs.Flows.{admitted, letOut, moved, shownIn, signalAt, isOpen, movedFrom, entered, left, arrived}
+use Rattle.model.specs.Flows.{admitted, letOut, moved, shownIn, signalAt, isOpen, movedFrom, entered, left, hasArrived}
 
 -- 3, P: 2 to 8 phases
 unfoldable pub validPhases : Signal → Bool
@@ -77,12 +77,6 @@ module _ (network : List Line) where
       and every (signalCount network) (λ r. every (signal network r .phases) (λ k. leb (stepLength network n) (getD (signal network r .greatest) k 0)))
       and every (linkCount network) (λ i. leb (demand network n i) 600_000)
 
-  -- 7, link i at boundary n: t(n) is below the travel time, or t(n) minus it is a boundary
-  unfoldable pub meetsBoundary : ℕ → ℕ → Bool
-  meetsBoundary n i =
-      ltb (time network n) (travelTime network i)
-      or eqb (time network (lastBoundary network n (time network n - travelTime network i)) + travelTime network i) (time network n)
-
 module _ (network plan : List Line) (n : ℕ) where
   -- 10 to 14 of signal r: as `Signals` has them, for the signal at the step's start
   unfoldable pub rule10 : ℕ → Bool
@@ -120,9 +114,9 @@ module _ (network plan : List Line) (n : ℕ) where
   unfoldable pub rule16 : ℕ → Bool
   rule16 j = leb (1000 * moved network plan n j) (share network j * movedFrom network plan n (fromLink network j - 1))
 
-  -- 17 (C5), link i: left(n) ≤ arrived(n)
+  -- 17 (C5), link i: left(n) ≤ arrived(n), unrounded
   unfoldable pub rule17 : ℕ → Bool
-  rule17 i = leb (left network plan (suc n) i) (arrived network plan (suc n) i)
+  rule17 i = hasArrived network plan (left network plan (suc n) i) (suc n) i
 
   -- 18 (C6), link i: entered(n) − left(n−1) ≤ capacity. Space freed in a step counts from the next.
   unfoldable pub rule18 : ℕ → Bool

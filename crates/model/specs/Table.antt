@@ -8,7 +8,7 @@ use lib.ListN.{length, getD}
 use Rattle.search.specs.Checks.{Checks, check, each, _then_, Rule, table}
 use Rattle.records.specs.Lines.{Line, noLine, isRecord, startsAs}
 use Rattle.model.specs.Network.{linkCount, signalCount, movementCount, stepCount, signalLine, linkLine, movementLine, stepLine, signal}
-use Rattle.model.specs.Rules.{validPhases, validSignal, validCounts, validLink, validMovement, lastMovement, validShares, validStep, meetsBoundary, rule10, rule11, rule12, rule13, rule14, rule15, rule16, rule17, rule18, rule25, rule26, rule27}
+use Rattle.model.specs.Rules.{validPhases, validSignal, validCounts, validLink, validMovement, lastMovement, validShares, validStep, rule10, rule11, rule12, rule13, rule14, rule15, rule16, rule17, rule18, rule25, rule26, rule27}
 
 -- line i is there, is ended, and has the letter and k numbers
 unfoldable pub isForm : List Line → ℕ → ℕ → ℕ → Bool
@@ -68,10 +68,6 @@ module _ (network : List Line) where
   unfoldable pub stepChecks : ℕ → Checks
   stepChecks n = recordChecks network (stepLine network n) letterS (1 + linkCount network) 6 (suc n) (validStep network n)
 
-  -- 7, at the end of step n, by rising link
-  unfoldable pub boundaryChecks : ℕ → Checks
-  boundaryChecks n = each (linkCount network) (λ i. check 7 (suc (stepLine network n)) (suc i) (meetsBoundary network (suc n) i))
-
   -- Check a network
   unfoldable pub networkChecks : Checks
   networkChecks =
@@ -82,7 +78,6 @@ module _ (network : List Line) where
       then each (linkCount network) shareChecks
       then each (stepCount network) stepChecks
       then check 1 (suc (stepLine network (stepCount network))) 0 (eqb (length network) (stepLine network (stepCount network)))
-      then each (stepCount network) boundaryChecks
 
   -- 8: the ledger has 2 × (K+1) × L numbers
   unfoldable pub ledgerChecks : ℕ → Checks
