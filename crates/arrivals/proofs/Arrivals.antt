@@ -1,54 +1,60 @@
--- Laws of the boundaries by a table of times: the arrival boundary is found by going up, and moves on from one boundary to the next. Assumes nothing.
-use Prim.Native.Nat.{ℕ, zero, suc, _+_, _-_, _≤_, _<_}
+-- Laws of the steps by a table of times: the step in which a travel time ends is found by going up, and moves on from one boundary to the next. Assumes nothing.
+use Prim.Native.Nat.{ℕ, zero, suc, _+_, _*_, _-_, _≤_, _<_}
 use mathlib.Core.Path.{_≡_}
 use mathlib.Core.Bool.{Bool, true, false, cond}
 use mathlib.Core.Logic.{_⊎_, inl, inr}
 use mathlib.Core.List.{List}
-use native.Mathlib.Nat.{eq-or-lt-of-le}
+use native.Mathlib.Nat.{eq-or-lt-of-le, mul-le-mul}
 use native.Mathlib.Numerals.{add-one}
 use native.Mathlib.Decide.{decLe}
 use native.Mathlib.Omega.{arith}
-use borrow.Author.Tests.{le-leb, lt-leb, lt-ltb, le-ltb}
-use lib.Dec.{leb, ltb}
+use borrow.Author.Tests.{le-leb, lt-leb}
+use lib.Dec.{leb}
 use lib.ListN.{getD}
-use Rattle.arrivals.specs.Arrivals.{lastBoundaryIn, arrivalIn, Rising, Cursor}
-
--- the times of fewer boundaries
-pub rising-part : {times : List ℕ} {n : ℕ} → Rising times n → (m : ℕ) → m ≤ n → Rising times m
-rising-part r m h = record { room = omega (arith, r .room); rises = λ k l. r .rises k (omega arith) }
+use mir.Syntax.{w64}
+use mir.Val.{Fits}
+use Rattle.arrivals.specs.Arrivals.{stepAtIn, arrivalStepIn, Rising, Cursor}
 
 module _ (times : List ℕ) where
-  pub last-le : (n x : ℕ) → lastBoundaryIn times n x ≤ n
-  unfolding lastBoundaryIn
-  last-le zero x = omega arith
-  last-le (suc n) x = go (leb (getD times (suc n) 0) x) (last-le n x)
+  -- it is one of the steps asked for
+  step-lt : (n x : ℕ) → stepAtIn times (suc n) x ≤ n
+  unfolding stepAtIn
+  step-lt zero x = go (leb (getD times 0 0) x)
     where
-      go : (b : Bool) → lastBoundaryIn times n x ≤ n → cond b (suc n) (lastBoundaryIn times n x) ≤ suc n
+      go : (b : Bool) → cond b 0 0 ≤ 0
+      go true = omega arith
+      go false = omega arith
+  step-lt (suc n) x = go (leb (getD times (suc n) 0) x) (step-lt n x)
+    where
+      go : (b : Bool) {m : ℕ} → m ≤ n → cond b (suc n) m ≤ suc n
       go true h = omega arith
       go false h = omega arith
 
-  -- past boundary 0 its time is at most the one asked for
-  last-time : (n x : ℕ) → 1 ≤ lastBoundaryIn times n x → getD times (lastBoundaryIn times n x) 0 ≤ x
-  unfolding lastBoundaryIn
-  last-time zero x = λ h. absurd (omega arith)
-  last-time (suc n) x = elim (decLe (getD times (suc n) 0) x) [
+  -- past step 0 it has started by the time asked for
+  step-time : (n x : ℕ) → 1 ≤ stepAtIn times n x → getD times (stepAtIn times n x) 0 ≤ x
+  unfolding stepAtIn
+  step-time zero x = λ h. absurd (omega arith)
+  step-time (suc n) x = elim (decLe (getD times n 0) x) [
     | yes l ↦ rw (le-leb _ _ l) (λ h. l)
-    | no l ↦ rw (lt-leb (getD times (suc n) 0) x (omega arith)) (last-time n x)
+    | no l ↦ rw (lt-leb (getD times n 0) x (omega arith)) (step-time n x)
   ]
 
-  -- a boundary whose time is at most the one asked for is not past the last of them
-  last-above : (n x m : ℕ) → m ≤ n → (1 ≤ m → getD times m 0 ≤ x) → m ≤ lastBoundaryIn times n x
-  unfolding lastBoundaryIn
-  last-above zero x m h l = omega arith
-  last-above (suc n) x m h l = go (eq-or-lt-of-le h) (last-above n x m)
+  -- a step that has started by then is not past it
+  step-above : (n x m : ℕ) → m < n → (1 ≤ m → getD times m 0 ≤ x) → m ≤ stepAtIn times n x
+  unfolding stepAtIn
+  step-above zero x m h l = absurd (omega arith)
+  step-above (suc n) x m h l = go (let h′ : m ≤ n = omega arith in eq-or-lt-of-le h′) (step-above n x m)
     where
-      go : (m ≡ suc n) ⊎ (m < suc n) → (m ≤ n → (1 ≤ m → getD times m 0 ≤ x) → m ≤ lastBoundaryIn times n x) → m ≤ cond (leb (getD times (suc n) 0) x) (suc n) (lastBoundaryIn times n x)
-      go (inl e) ih = let t : leb (getD times (suc n) 0) x ≡ true = le-leb _ _ (rw e at (l (omega arith))) in rw t (omega arith)
-      go (inr q) ih = by (leb (getD times (suc n) 0) x)
+      go : (m ≡ n) ⊎ (m < n) → (m < n → (1 ≤ m → getD times m 0 ≤ x) → m ≤ stepAtIn times n x) → m ≤ cond (leb (getD times n 0) x) n (stepAtIn times n x)
+      go (inl e) ih = elim (decLe 1 m) [
+        | yes u ↦ let t : leb (getD times n 0) x ≡ true = le-leb _ _ (rw e at (l u)) in rw t (omega arith)
+        | no u ↦ omega arith
+      ]
+      go (inr q) ih = by (leb (getD times n 0) x)
         where
-          by : (b : Bool) → m ≤ cond b (suc n) (lastBoundaryIn times n x)
+          by : (b : Bool) → m ≤ cond b n (stepAtIn times n x)
           by true = omega arith
-          by false = ih (omega arith) l
+          by false = ih q l
 
   -- the times of rising boundaries
   rising-le : (n k m : ℕ) → Rising times n → k ≤ m → m ≤ n → getD times k 0 ≤ getD times m 0
@@ -59,48 +65,51 @@ module _ (times : List ℕ) where
       go (inl e) ih q = rw e (omega arith)
       go (inr u) ih q = omega (arith, ih (omega arith) (omega arith))
 
-module _ (times : List ℕ) (boundary travel : ℕ) where
-  pub arrival-le : arrivalIn times boundary travel ≤ boundary
-  unfolding arrivalIn
-  arrival-le = go (ltb (getD times boundary 0) travel) (last-le times boundary (getD times boundary 0 - travel))
-    where
-      go : (b : Bool) {m : ℕ} → m ≤ boundary → cond b 0 m ≤ boundary
-      go true h = omega arith
-      go false h = h
+pub arrival-lt : (times : List ℕ) (boundary travel : ℕ) → 1 ≤ boundary → arrivalStepIn times boundary travel < boundary
+unfolding arrivalStepIn
+arrival-lt times zero travel h = absurd (omega arith)
+arrival-lt times (suc n) travel h = omega (arith, step-lt times n (getD times (suc n) 0 - travel))
 
-  pub arrival-before : getD times boundary 0 < travel → 0 ≡ arrivalIn times boundary travel
-  unfolding arrivalIn
-  arrival-before h = rw (lt-ltb (getD times boundary 0) travel h)
+pub arrival-le : (times : List ℕ) (boundary travel : ℕ) → arrivalStepIn times boundary travel ≤ boundary
+arrival-le times zero travel = unfold arrivalStepIn stepAtIn in omega arith
+arrival-le times (suc n) travel = omega (arith, arrival-lt times (suc n) travel (omega arith))
 
-  module _ (h : travel ≤ getD times boundary 0) where
-    pub arrival-last : arrivalIn times boundary travel ≡ lastBoundaryIn times boundary (getD times boundary 0 - travel)
-    unfolding arrivalIn
-    arrival-last = rw (le-ltb (getD times boundary 0) travel h)
+pub cursor-le : {times : List ℕ} {m boundary travel : ℕ} → Cursor times m boundary travel → m ≤ boundary
+cursor-le {times} {m} {boundary} {travel} c = omega (arith, c .behind, arrival-le times boundary travel)
 
-    -- the time of the boundary after m is too late
-    pub arrival-here : (m : ℕ) → Cursor times m boundary travel → m < boundary → getD times boundary 0 - travel < getD times (m + 1) 0 → m ≡ arrivalIn times boundary travel
-    arrival-here m c l q = elim (decLe (arrivalIn times boundary travel) m) [
-      | yes u ↦ omega (arith, c .behind)
-      | no u ↦
-          let a = lastBoundaryIn times boundary (getD times boundary 0 - travel) in
-          let b = last-le times boundary (getD times boundary 0 - travel) in
-          absurd (omega (arith, arrival-last, last-time times boundary (getD times boundary 0 - travel) (omega (arith, arrival-last)), rising-le times boundary (m + 1) a (c .rising) (omega (arith, arrival-last)) b))
-    ]
+module _ (times : List ℕ) (boundary travel : ℕ) {latest : ℕ} (e : latest ≡ getD times boundary 0 - travel) (m : ℕ) (c : Cursor times m boundary travel) where
+  -- the step after m starts too late
+  pub arrival-here : m + 1 < boundary → latest < getD times (m + 1) 0 → m ≡ arrivalStepIn times boundary travel
+  unfolding arrivalStepIn
+  arrival-here l q =
+      let a = stepAtIn times boundary (getD times boundary 0 - travel) in
+      elim (decLe a m) [
+        | yes u ↦ omega (arith, c .behind)
+        | no u ↦
+            absurd (omega (arith, step-time times boundary (getD times boundary 0 - travel) (omega arith), rising-le times boundary (m + 1) a (c .rising) (omega arith) (arrival-le times boundary travel)))
+      ]
 
-    -- it is not
-    pub arrival-on : (m : ℕ) → Cursor times m boundary travel → m < boundary → getD times (m + 1) 0 ≤ getD times boundary 0 - travel → Cursor times (m + 1) boundary travel
-    arrival-on m c l q = record { rising = c .rising; behind = rw arrival-last (last-above times boundary (getD times boundary 0 - travel) (m + 1) (omega arith) (λ p. q)) }
+  -- it does not
+  pub arrival-on : m + 1 < boundary → getD times (m + 1) 0 ≤ latest → Cursor times (m + 1) boundary travel
+  unfolding arrivalStepIn
+  arrival-on l q = record { rising = c .rising; behind = step-above times boundary (getD times boundary 0 - travel) (m + 1) l (λ p. omega arith) }
 
-  pub arrival-end : (m : ℕ) → Cursor times m boundary travel → boundary ≤ m → m ≡ arrivalIn times boundary travel
-  arrival-end m c h = omega (arith, c .behind, arrival-le)
+  pub arrival-end : boundary ≤ m + 1 → m ≡ arrivalStepIn times boundary travel
+  arrival-end h = elim (decLe 1 boundary) [
+    | yes u ↦ omega (arith, c .behind, arrival-lt times boundary travel u)
+    | no u ↦ omega (arith, c .behind, arrival-le times boundary travel)
+  ]
 
 -- from one boundary to the next it only moves on
-pub arrival-rises : (times : List ℕ) (n travel : ℕ) → Rising times (n + 1) → arrivalIn times n travel ≤ arrivalIn times (n + 1) travel
-arrival-rises times n travel r = elim (decLe travel (getD times n 0)) [
+pub arrival-rises : (times : List ℕ) (n travel : ℕ) → Rising times (n + 1) → arrivalStepIn times n travel ≤ arrivalStepIn times (n + 1) travel
+unfolding arrivalStepIn
+arrival-rises times n travel r = elim (decLe 1 n) [
   | yes h ↦
-      let a = lastBoundaryIn times n (getD times n 0 - travel) in
-      let up = r .rises n (omega arith) in
-      rw (arrival-last times n travel h, arrival-last times (n + 1) travel (omega arith))
-      (last-above times (n + 1) (getD times (n + 1) 0 - travel) a (omega (arith, last-le times n (getD times n 0 - travel))) (λ p. omega (arith, last-time times n (getD times n 0 - travel) p)))
-  | no h ↦ rw (← arrival-before times n travel (omega arith)) (omega arith)
+      let a = stepAtIn times n (getD times n 0 - travel) in
+      step-above times (n + 1) (getD times (n + 1) 0 - travel) a (omega (arith, arrival-le times n travel)) (λ p. omega (arith, step-time times n (getD times n 0 - travel) p, r .rises n (omega arith)))
+  | no h ↦ omega (arith, arrival-le times n travel)
 ]
+
+-- the sum of two products of an arrival fits 64 bits
+pub scaled-fits : {a b s e x y : ℕ} → x ≡ a * s → y ≡ b * e → a ≤ 4294967295 → b ≤ 4294967295 → s ≤ 7200 → e ≤ 7200 → Fits w64 (x + y)
+scaled-fits p q h l u v = record { fits = omega (arith, mul-le-mul h u, mul-le-mul l v) }

@@ -1,4 +1,4 @@
--- The arrival boundary of each link, moved on one link after another. Assumes nothing.
+-- The arrival step of each link, moved on one link after another. Assumes nothing.
 use Prim.Native.Nat.{ℕ, _+_, _≤_, _<_}
 use mathlib.Core.Path.{_≡_, refl, ap, _∙_}
 use mathlib.Core.Logic.{_⊎_, inl, inr}
@@ -8,7 +8,7 @@ use native.Mathlib.Omega.{arith}
 use lib.ListN.{getD, set, length-set}
 use lib.Seq.{getD-set-same, getD-set-other}
 use Rattle.tables.specs.Fields.{travelTimeIn}
-use Rattle.arrivals.specs.Arrivals.{arrivalIn, Cursor, ArrivalsAsked, Arrived}
+use Rattle.arrivals.specs.Arrivals.{arrivalStepIn, Cursor, ArrivalsAsked, Arrived}
 
 -- the cursors while they are moved on: those of the first n links are there, the others stand where they stood
 pub record Moving (times links : List ℕ) (count boundary : ℕ) (before arrivals : List ℕ) (n : ℕ) : Type 0 where
@@ -31,7 +31,7 @@ module _ (times links : List ℕ) (count boundary : ℕ) (before : List ℕ) whe
     pub moving-cursor : (travel : ℕ) → n < count → travel ≡ travelTimeIn links n → Cursor times (getD arrivals n 0) boundary travel
     moving-cursor travel h t = rw (t, m .rest n (omega arith)) (m .asked .cursors n h)
 
-    pub moving-more : (v travel : ℕ) → n < count → travel ≡ travelTimeIn links n → v ≡ arrivalIn times boundary travel
+    pub moving-more : (v travel : ℕ) → n < count → travel ≡ travelTimeIn links n → v ≡ arrivalStepIn times boundary travel
         → Moving times links count boundary before (set arrivals n v) (n + 1)
     moving-more v travel h t e =
         record {
@@ -41,9 +41,9 @@ module _ (times links : List ℕ) (count boundary : ℕ) (before : List ℕ) whe
           rest = λ i l. getD-set-other arrivals n i v 0 (λ q. omega arith) ∙ m .rest i (omega arith);
         }
       where
-        at : (i : ℕ) → (i ≡ n) ⊎ (i < n) → getD (set arrivals n v) i 0 ≡ arrivalIn times boundary (travelTimeIn links i)
+        at : (i : ℕ) → (i ≡ n) ⊎ (i < n) → getD (set arrivals n v) i 0 ≡ arrivalStepIn times boundary (travelTimeIn links i)
         at i (inl q) =
-            rw q (getD-set-same arrivals n v 0 (omega (arith, m .moved .size, m .asked .few)) ∙ e ∙ ap (arrivalIn times boundary) t)
+            rw q (getD-set-same arrivals n v 0 (omega (arith, m .moved .size, m .asked .few)) ∙ e ∙ ap (arrivalStepIn times boundary) t)
         at i (inr q) = getD-set-other arrivals n i v 0 (λ o. omega arith) ∙ m .moved .arrived i q
 
     pub moving-all : count ≤ n → Arrived times links count boundary arrivals

@@ -1,20 +1,26 @@
-// When what entered a link has gone its travel time: its arrival boundary at each boundary, by a table of the boundaries' times.
+// When what entered a link has gone its travel time: the step in which the travel time before a boundary ends, by a table of the boundaries' times, and what has
+// arrived by then.
 ghost use mathlib.Core.Path.{_≡_};
-ghost use Rattle.arrivals.specs.Arrivals.{arrivalIn, Cursor, ArrivalsAsked, Arrived};
+ghost use Prim.Native.Nat.{_+_, _-_, _<_, _≤_};
+ghost use lib.ListN.{length, getD};
+ghost use Rattle.arrivals.specs.Arrivals.{arrivalStepIn, secondsIn, elapsedIn, scaledIn, Cursor, ArrivalsAsked, Arrived};
 
-// The boundary whose entries have gone the travel time by `boundary`: the cursor of one link, which starts at a boundary that was found before and only moves
-// on, so that the work over all steps is linear.
-pub fn arrival_boundary(times: &[u32], from: usize, boundary: usize, travel: u32) -> usize
-    requires { ⌜ Cursor (now times) from boundary travel ⌝ }
-    ensures { λ r. ⌜ r ≡ arrivalIn (now (times .entry)) boundary travel ⌝ }
+// a − b, cut off at 0.
+fn minus(a: u32, b: u32) -> u32
+    ensures { λ r. ⌜ r ≡ a - b ⌝ }
 {
-    let time = times[boundary];
-    if time < travel {
-        return 0;
-    }
-    let latest = time - travel;
+    if a < b { 0 } else { a - b }
+}
+
+// The step in which `boundary`'s time minus the travel time lies: the cursor of one link, which starts at a step that was found before and only moves on, so
+// that the work over all steps is linear.
+pub fn arrival_step(times: &[u32], from: usize, boundary: usize, travel: u32) -> usize
+    requires { ⌜ Cursor (now times) from boundary travel ⌝ }
+    ensures { λ r. ⌜ r ≡ arrivalStepIn (now (times .entry)) boundary travel ⌝ }
+{
+    let latest = minus(times[boundary], travel);
     let mut m = from;
-    while m < boundary {
+    while m + 1 < boundary {
         if latest < times[m + 1] {
             return m;
         }
@@ -23,7 +29,31 @@ pub fn arrival_boundary(times: &[u32], from: usize, boundary: usize, travel: u32
     m
 }
 
-// Moves the arrival boundary of each link on to a boundary.
+// The length of a step.
+pub fn seconds(times: &[u32], step: usize) -> u32
+    requires { ⌜ step + 1 < length (now times) ⌝ }
+    ensures { λ r. ⌜ r ≡ secondsIn (now (times .entry)) step ⌝ }
+{
+    minus(times[step + 1], times[step])
+}
+
+// The seconds of a step that have elapsed when the travel time before `boundary` ends.
+pub fn elapsed(times: &[u32], step: usize, boundary: usize, travel: u32) -> u32
+    requires { ⌜ (step < length (now times)) × (boundary < length (now times)) ⌝ }
+    ensures { λ r. ⌜ r ≡ elapsedIn (now (times .entry)) step boundary travel ⌝ }
+{
+    minus(minus(times[boundary], travel), times[step])
+}
+
+// What has arrived × the length of the step in which the travel time ends, so that nothing is rounded: `start` had entered by the step's start, `end` by its end.
+pub fn scaled_arrived(start: u32, end: u32, seconds: u32, elapsed: u32) -> u64
+    requires { ⌜ (seconds ≤ 7200) × (elapsed ≤ 7200) ⌝ }
+    ensures { λ r. ⌜ r ≡ scaledIn start end seconds elapsed ⌝ }
+{
+    tables::times(start, seconds) + tables::times(minus(end, start), elapsed)
+}
+
+// Moves the arrival step of each link on to a boundary.
 pub fn next_arrivals(
     times: &[u32],
     links: &[u32],
@@ -37,7 +67,7 @@ pub fn next_arrivals(
     let mut i = 0;
     while i < count {
         let travel = tables::travel_time(links, i);
-        arrivals[i] = arrival_boundary(times, arrivals[i], boundary, travel);
+        arrivals[i] = arrival_step(times, arrivals[i], boundary, travel);
         i += 1;
     }
 }

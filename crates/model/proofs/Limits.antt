@@ -2,12 +2,14 @@
 use mathlib.Core.Path.{_≡_}
 use mathlib.Core.Bool.{true}
 use mathlib.Core.List.{List}
-use Prim.Native.Nat.{ℕ, _≤_, _<_}
+use Prim.Native.Nat.{ℕ, zero, suc, _+_, _*_, _≤_, _<_}
+use native.Mathlib.Omega.{arith}
 use lib.Dec.{leb}
 use borrow.Author.Tests.{leb-true}
 use Rattle.records.specs.Lines.{Line}
+use Rattle.model.specs.Sum.{sum}
 use Rattle.model.specs.Test.{within, every}
-use Rattle.model.specs.Network.{linkCount, signalCount, movementCount, stepCount, capacity, travelTime, exitRate, signalOf, standing, fromLink, toLink, rate, share, stepLength, demand}
+use Rattle.model.specs.Network.{linkCount, signalCount, movementCount, stepCount, capacity, travelTime, exitRate, signalOf, standing, fromLink, toLink, rate, share, stepLength, demand, time}
 use Rattle.model.specs.Rules.{validCounts, validLink, validMovement, validStep}
 use Rattle.model.proofs.Tests.{and-left, and-right, every-at}
 use Rattle.model.proofs.Accepted.{ValidNetwork}
@@ -63,3 +65,12 @@ module _ (network : List Line) (valid : ValidNetwork network) where
         length-limit = search (leb-true, and-left, and-right) depth 9;
         demand-limit = λ i k. leb-true _ _ (every-at (linkCount network) (λ i. leb (demand network n i) 600_000) d i k);
       }
+
+  time-fits : (n : ℕ) → n ≤ stepCount network → time network n ≤ 60 * n
+  unfolding time sum
+  time-fits zero h = omega arith
+  time-fits (suc n) h = omega (arith, time-fits n (omega arith), step-limits n h .length-limit)
+
+  -- the time of a boundary is at most 120 × 60 seconds
+  pub time-small : (n : ℕ) → n ≤ stepCount network → time network n ≤ 7200
+  time-small n h = omega (arith, time-fits n h, counts .steps)

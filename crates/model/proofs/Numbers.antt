@@ -18,7 +18,7 @@ use Rattle.records.specs.Lines.{Line}
 use Rattle.model.specs.declared.LinkAnswer.the-variants as link-answer
 use Rattle.model.specs.Test.{_and_, every}
 use Rattle.model.specs.Table.{countChecks, signalChecks, linkChecks, movementChecks, shareChecks, stepChecks, networkChecks, ledgerChecks, signalRules, limitRules, sumRules, lineChecks, planLineChecks, planChecks}
-use Rattle.model.specs.Guarantees.{CanArise}
+use Rattle.model.specs.Guarantees.{CanArise, NetworkPromises, StatePromises}
 use Rattle.model.specs.Calls.{checkNetwork, stateChecks, linkAnswer, linkState}
 use Rattle.model.proofs.Tests.{and-left, and-right, every-at}
 
@@ -75,11 +75,13 @@ unfolding linkAnswer
 of-link network ledger boundary link Passes r h = cc
 of-link network ledger boundary link (Refused q) r h = cc
 
-pub network-number : (network : List Line) (r : Refusal) → checkNetwork network ≡ Refused r → CanArise (r .number)
+pub network-promises : (network : List Line) → NetworkPromises (checkNetwork network)
 unfolding checkNetwork
-network-number network r h = refused-number (networkChecks network) r (network-numbered network) h
+network-promises network = record { refused-number = λ r h. refused-number (networkChecks network) r (network-numbered network) h }
 
-pub state-number : (network : List Line) (ledger : List ℕ) (boundary link : ℕ) (r : Refusal) → linkState network ledger boundary link ≡ link-answer.Refused r → CanArise (r .number)
+pub state-promises : (network : List Line) (ledger : List ℕ) (boundary link : ℕ) → StatePromises (linkState network ledger boundary link)
 unfolding linkState
-state-number network ledger boundary link r h =
-    refused-number (stateChecks network ledger boundary link) r (state-numbered network ledger boundary link) (of-link network ledger boundary link _ r h)
+state-promises network ledger boundary link =
+    record {
+      refused-number = λ r h. refused-number (stateChecks network ledger boundary link) r (state-numbered network ledger boundary link) (of-link network ledger boundary link _ r h);
+    }

@@ -5,13 +5,16 @@ use mathlib.Core.List.{List}
 use native.Mathlib.Omega.{arith}
 use lib.ListN.{length}
 use Rattle.search.specs.declared.Refusal.{Refusal}
+use Rattle.search.specs.declared.Verdict.{Verdict}
 use Rattle.search.specs.declared.Verdict.the-variants as verdicts
 use Rattle.search.specs.Checks.{Checks, each, _then_, verdict}
 use Rattle.search.proofs.Laws.{or-else-passes, or-else-refused, hold-of-passes}
 use Rattle.records.specs.Lines.{lines}
 use Rattle.model.specs.Network.{maxSignals, linkCount, stepCount}
-use Rattle.model.specs.Table.{countChecks, shareChecks, boundaryChecks, networkChecks}
+use Rattle.model.specs.Table.{countChecks, shareChecks, networkChecks}
 use Rattle.model.specs.Calls.{checkNetwork}
+use Rattle.model.specs.Guarantees.{NetworkPromises}
+use Rattle.model.proofs.Numbers.{network-promises}
 use Rattle.tables.specs.declared.Reading.{Reading}
 use Rattle.tables.specs.declared.Stage.{Stage}
 use Rattle.tables.specs.declared.Stage.the-variants.{Passed, Refused}
@@ -24,8 +27,6 @@ use Rattle.network_links.specs.Movements.{shareChecksIn}
 use Rattle.network_links.specs.Stages.{LinksAsked, LinksHeld, MovementsAsked, MovementsHeld, SharesAsked}
 use Rattle.network_links.proofs.Movements.{shares-asked, shares-checked}
 use Rattle.network_steps.specs.Steps.{StepsAsked, StepsHeld}
-use Rattle.network_steps.specs.Boundaries.{boundaryChecksIn, BoundariesAsked}
-use Rattle.network_steps.proofs.Boundaries.{boundaries-ready, boundaries-are}
 use Rattle.network.specs.Loading.{endChecks, EndAsked, Rooms, Loaded}
 use Rattle.network.proofs.End.{lines-within}
 
@@ -44,11 +45,8 @@ module _ (text : List ℕ) (first rest : Checks) (l : Left text (first then rest
 
 -- the checks from each stage on
 module _ (text : List ℕ) where
-  abbrev last : Checks
-  last = each (stepCount (lines text)) (boundaryChecks (lines text))
-
   abbrev fromEnd : Checks
-  fromEnd = endChecks (lines text) then last
+  fromEnd = endChecks (lines text)
 
   abbrev fromSteps : Checks
   fromSteps = blockChecks (stepBlock (lines text)) then fromEnd
@@ -145,45 +143,31 @@ module _ {text links₀ movements₀ times₀ : List ℕ} (rooms : Rooms links�
                         left₆ = on text _ (fromEnd text) left₅ (verdict-passed j₅ e₆)
 
                         module _ {ended : Stage} (j₆ : Judged (endChecks (lines text)) (λ after. after ≡ atEnd) ended) where
-                          pub end-stop : {Held : Reading → Type 0} {r : Refusal} → ended ≡ Refused r → Judged (networkChecks (lines text)) Held ended
-                          end-stop e = stop text _ (last text) left₆ e (verdict-refused j₆ e)
-
-                          module _ {reading : Reading} (e₇ : ended ≡ Passed reading) where
-                            held : StepsHeld text times reading
-                            held = rw (j₆ .held _ e₇) (j₅ .held _ e₆)
-
-                            pub boundaries-asked : BoundariesAsked times links (reading .counts)
-                            boundaries-asked = boundaries-ready (held .reached .counted) (held .table) (j₂ .held _ e₃ .table)
-
-                            met : verdict (networkChecks (lines text)) ≡ verdict (each (reading .counts .steps) (boundaryChecksIn times links (reading .counts)))
-                            met =
-                                on text _ (last text) left₆ (verdict-passed j₆ e₇)
-                                ∙ sym (boundaries-are (held .reached .counted) (held .table) (j₂ .held _ e₃ .table))
-
-                            module _ {stage : Stage} (j₇ : Judged (each (reading .counts .steps) (boundaryChecksIn times links (reading .counts))) (λ after. after ≡ reading) stage) where
-                              pub network-judged : Judged (networkChecks (lines text)) (Loaded text links movements times) stage
-                              network-judged =
-                                  record {
-                                    told = j₇ .told ∙ sym met;
-                                    held = λ after e.
-                                        rw (j₇ .held after e)
-                                        (record {
-                                          counted = held .reached .counted;
-                                          signals-start = held .reached .signals-start;
-                                          steps-start = held .steps-start;
-                                          link-table = j₂ .held _ e₃ .table;
-                                          movement-table = j₃ .held _ e₄ .table;
-                                          time-table = held .table;
-                                          holds = hold-of-passes (networkChecks (lines text)) (met ∙ verdict-passed j₇ e);
-                                        });
-                                  }
+                          pub network-judged : Judged (networkChecks (lines text)) (Loaded text links movements times) ended
+                          network-judged =
+                              record {
+                                told = j₆ .told ∙ sym left₆;
+                                held = λ after e.
+                                    let held = j₅ .held _ e₆ in
+                                    rw (j₆ .held after e)
+                                    (record {
+                                      counted = held .reached .counted;
+                                      signals-start = held .reached .signals-start;
+                                      steps-start = held .steps-start;
+                                      link-table = j₂ .held _ e₃ .table;
+                                      movement-table = j₃ .held _ e₄ .table;
+                                      time-table = held .table;
+                                      holds = hold-of-passes (networkChecks (lines text)) (left₆ ∙ verdict-passed j₆ e);
+                                    });
+                              }
 
 -- ---- the answer
 module _ {text : List ℕ} {stage : Stage} {links movements times : List ℕ} (got : Judged (networkChecks (lines text)) (Loaded text links movements times) stage) where
-  pub answer-passes : {reading : Reading} → stage ≡ Passed reading → verdicts.Passes ≡ checkNetwork (lines text)
-  unfolding checkNetwork
-  answer-passes e = sym (verdict-passed got e)
+  promised : {v : Verdict} → v ≡ checkNetwork (lines text) → (v ≡ checkNetwork (lines text)) × NetworkPromises v
+  promised e = (e, rw e (network-promises (lines text)))
 
-  pub answer-refused : {r : Refusal} → stage ≡ Refused r → verdicts.Refused r ≡ checkNetwork (lines text)
-  unfolding checkNetwork
-  answer-refused e = sym (verdict-refused got e)
+  pub answer-passes : {reading : Reading} → stage ≡ Passed reading → (verdicts.Passes ≡ checkNetwork (lines text)) × NetworkPromises verdicts.Passes
+  answer-passes e = promised (unfold checkNetwork in sym (verdict-passed got e))
+
+  pub answer-refused : {r : Refusal} → stage ≡ Refused r → (verdicts.Refused r ≡ checkNetwork (lines text)) × NetworkPromises (verdicts.Refused r)
+  answer-refused e = promised (unfold checkNetwork in sym (verdict-refused got e))

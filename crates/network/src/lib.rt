@@ -1,8 +1,9 @@
-// Reads a whole network text into tables and judges it: refusals 1 to 7.
+// Reads a whole network text into tables and judges it: refusals 1 to 6.
 ghost use mathlib.Core.Path.{_≡_};
 ghost use Rattle.records.specs.Lines.{lines};
 ghost use Rattle.model.specs.Table.{networkChecks};
 ghost use Rattle.model.specs.Calls.{checkNetwork};
+ghost use Rattle.model.specs.Guarantees.{NetworkPromises};
 ghost use Rattle.tables.specs.Tables.{Judged};
 ghost use Rattle.network.specs.Loading.{endChecks, EndAsked, Rooms, Loaded};
 use search::Refusal;
@@ -26,7 +27,7 @@ fn check_end(text: &[u8], reading: Reading) -> Stage
     Stage::Refused(Refusal::new(1, counts.step_line(counts.steps) + 1, 0))
 }
 
-// Reads a network into tables of its links, its movements and the time of each boundary, and judges it: refusals 1 to 7.
+// Reads a network into tables of its links, its movements and the time of each boundary, and judges it: refusals 1 to 6.
 pub fn load_network(
     text: &[u8],
     links: &mut [u32],
@@ -61,16 +62,13 @@ pub fn load_network(
     let Stage::Passed(reading) = stage else {
         return stage;
     };
-    let stage = check_end(text, reading);
-    let Stage::Passed(reading) = stage else {
-        return stage;
-    };
-    network_steps::check_boundaries(times, links, reading)
+    check_end(text, reading)
 }
 
-// Check a network: refusals 1 to 7.
+// Check a network: refusals 1 to 6.
 pub fn check_network(text: &[u8]) -> Verdict
     ensures { λ r. ⌜ r ≡ checkNetwork (lines (now (text .entry))) ⌝ }
+    ensures { λ r. ⌜ NetworkPromises r ⌝ }
 {
     let mut links = [0u32; LINK_TABLE_SIZE];
     let mut movements = [0u32; MOVEMENT_TABLE_SIZE];

@@ -1,5 +1,2 @@
 mod Values
-pub mod Boundaries
-mod Meets
 pub mod Steps
-mod Unmet

@@ -1,19 +1,15 @@
-// The `S` lines of a network text: their form and values (refusals 1 and 6), the time of each boundary, and the boundaries that each link's travel time has to meet (refusal 7).
+// The `S` lines of a network text: their form and values (refusals 1 and 6), and the time of each boundary.
 ghost use mathlib.Core.Path.{_≡_};
-ghost use Prim.Native.Nat.{_≤_, _<_};
+ghost use Prim.Native.Nat.{_≤_};
 ghost use lib.ListN.{length};
-ghost use Rattle.search.specs.Checks.{each};
 ghost use Rattle.records.specs.Lines.{lines};
 ghost use Rattle.model.specs.Network.{maxLinks};
 ghost use Rattle.tables.specs.Fields.{stepSize};
 ghost use Rattle.tables.specs.Tables.{Judged};
 ghost use Rattle.tables.specs.Blocks.{blockChecks, stepBlock};
-ghost use Rattle.arrivals.specs.Arrivals.{arrivalIn};
-ghost use Rattle.network_steps.specs.Boundaries.{meetsBoundaryIn, boundaryChecksIn, BoundariesAsked};
 ghost use Rattle.network_steps.specs.Steps.{validDemandsIn, validStepIn, LoadAsked, Loaded, StepsAsked, StepsHeld};
 use records::LineRead;
 use search::Refusal;
-use tables::MAX_LINKS;
 use tables::Reading;
 use tables::STEP_SIZE;
 use tables::Stage;
@@ -84,41 +80,4 @@ pub fn read_steps(text: &[u8], reading: Reading, times: &mut [u32]) -> Stage
         steps_at: reading.next,
         shortest: reading.shortest,
     })
-}
-
-// Refusal 7 of one link at one boundary, where `arrival` is the boundary whose entries have gone the travel time by then.
-fn meets_boundary(times: &[u32], arrival: usize, boundary: usize, travel: u32) -> bool
-    requires { ⌜ arrival ≡ arrivalIn (now times) boundary travel ⌝ }
-    requires { ⌜ boundary < length (now times) ⌝ }
-    ensures { λ r. ⌜ r ≡ meetsBoundaryIn (now (times .entry)) boundary travel ⌝ }
-{
-    let time = times[boundary];
-    if time < travel {
-        return true;
-    }
-    times[arrival] == time - travel
-}
-
-// Refusal 7, after all lines: by rising step, then link. Each link has a cursor, which stands at the boundary that it met last.
-pub fn check_boundaries(times: &[u32], links: &[u32], reading: Reading) -> Stage
-    requires { ⌜ BoundariesAsked (now times) (now links) (reading .counts) ⌝ }
-    ensures { λ r. ⌜ Judged (each (reading .counts .steps) (boundaryChecksIn (now (times .entry)) (now (links .entry)) (reading .counts))) (λ after. after ≡ reading) r ⌝ }
-{
-    let counts = reading.counts;
-    let steps = counts.steps;
-    let count = counts.links;
-    let mut cursors = [0usize; MAX_LINKS];
-    let mut stage = Stage::Passed(reading);
-    'search: for n in 0..steps {
-        for i in 0..count {
-            let travel = tables::travel_time(links, i);
-            let arrival = arrivals::arrival_boundary(times, cursors[i], n + 1, travel);
-            if !meets_boundary(times, arrival, n + 1, travel) {
-                stage = Stage::Refused(Refusal::new(7, counts.step_line(n) + 1, i + 1));
-                break 'search;
-            }
-            cursors[i] = arrival;
-        }
-    }
-    stage
 }

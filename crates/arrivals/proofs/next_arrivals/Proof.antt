@@ -17,14 +17,14 @@ loop-holds c = search moving-first
 travel-time-requires : tie.Need-travel-time-requires Inv-loop μ-loop
 travel-time-requires c κs = search needs
 
-mul-arrival-boundary : tie.Need-mul-arrival-boundary Inv-loop μ-loop
-mul-arrival-boundary c = search needs
+mul-arrival-step : tie.Need-mul-arrival-step Inv-loop μ-loop
+mul-arrival-step c = search needs
 
-slice-read-arrival-boundary : tie.Need-slice-read-arrival-boundary Inv-loop μ-loop
-slice-read-arrival-boundary c = search needs
+slice-read-arrival-step : tie.Need-slice-read-arrival-step Inv-loop μ-loop
+slice-read-arrival-step c = search needs
 
-arrival-boundary-requires : tie.Need-arrival-boundary-requires Inv-loop μ-loop
-arrival-boundary-requires c κs = search moving-cursor
+arrival-step-requires : tie.Need-arrival-step-requires Inv-loop μ-loop
+arrival-step-requires c κs = search moving-cursor
 
 mul-arrivals : tie.Need-mul-arrivals Inv-loop μ-loop
 mul-arrivals c = search needs
@@ -55,9 +55,9 @@ next-arrivals-spec =
     μ-loop
     loop-holds
     travel-time-requires
-    mul-arrival-boundary
-    slice-read-arrival-boundary
-    arrival-boundary-requires
+    mul-arrival-step
+    slice-read-arrival-step
+    arrival-step-requires
     mul-arrivals
     slice-write-arrivals
     add-i

@@ -23,10 +23,10 @@ enum-known-refusal : tie.Need-enum-known-refusal
 enum-known-refusal c = search needs
 
 returns : tie.Need-returns
-returns c = search (answer-passes, needs)
+returns c = answer-passes (c .before .before .before .before .before .load-network .ensures) (c .enum-told .given .1)
 
 returns-2 : tie.Need-returns-2
-returns-2 c = search (answer-refused, needs)
+returns-2 c = answer-refused (c .before .before .before .before .before .before .load-network .ensures) (c .before .refusal .given .1)
 
 pub check-network-spec : {M : Type 1} → statement M
 check-network-spec =

@@ -1,6 +1,6 @@
 -- `network::load_network` meets its contract. Assumes nothing.
 use borrow.Author.Needs.{needs}
-use Rattle.network.proofs.Chain.{counts-stop, signals-asked, signals-stop, links-asked, links-stop, movements-asked, movements-stop, shares-ready, shares-stop, steps-asked, steps-stop, end-asked, end-stop, boundaries-asked, network-judged}
+use Rattle.network.proofs.Chain.{counts-stop, signals-asked, signals-stop, links-asked, links-stop, movements-asked, movements-stop, shares-ready, shares-stop, steps-asked, steps-stop, end-asked, network-judged}
 use Rattle.network.proofs.load_network.Statement.{statement}
 use Rattle.network.proofs.load_network.Tie as tie
 
@@ -211,24 +211,18 @@ check-end-requires c κs =
     let s = r1 .before .before .before .before .before in
     end-asked (s .pre) (r1 .read-counts .ensures) (p1 .stage .given .1) (r2 .read-signals .ensures) (p2 .stage2 .given .1) (r3 .read-links .ensures) (p3 .stage3 .given .1) (r4 .read-movements .ensures) (p4 .stage4 .given .1) (r5 .check-shares .ensures) (p5 .stage5 .given .1) (r6 .read-steps .ensures) (p6 .stage6 .given .1)
 
-enum-known-stage-7 : tie.Need-enum-known-stage-7
-enum-known-stage-7 c = search needs
-
-enum-told-7 : tie.Need-enum-told-7
-enum-told-7 c = search needs
-
 same-length-9 : tie.Need-same-length-9
-same-length-9 c = c .before .before .before .before .before .before .before .before .before .before .before .before .before .before .before .before .before .before .before .before .before .before .before .before .before .before .before .read-links .kept .1 .1 .1 .0
+same-length-9 c = c .before .before .before .before .before .before .before .before .before .before .before .before .before .before .before .before .before .before .before .before .before .before .before .before .before .read-links .kept .1 .1 .1 .0
 
 same-length-10 : tie.Need-same-length-10
-same-length-10 c = c .before .before .before .before .before .before .before .before .before .before .before .before .before .before .before .before .before .before .before .before .read-movements .kept .1 .1 .0
+same-length-10 c = c .before .before .before .before .before .before .before .before .before .before .before .before .before .before .before .before .before .before .read-movements .kept .1 .1 .0
 
 same-length-11 : tie.Need-same-length-11
 same-length-11 c = search needs
 
 returns-7 : tie.Need-returns-7
 returns-7 c =
-    let r7 = c .before .before in
+    let r7 = c in
     let p6 = r7 .before .before in
     let r6 = p6 .before .before .before .before in
     let p5 = r6 .before .before .before in
@@ -242,55 +236,7 @@ returns-7 c =
     let p1 = r2 .before .before .before in
     let r1 = p1 .before .before in
     let s = r1 .before .before .before .before .before in
-    end-stop (s .pre) (r1 .read-counts .ensures) (p1 .stage .given .1) (r2 .read-signals .ensures) (p2 .stage2 .given .1) (r3 .read-links .ensures) (p3 .stage3 .given .1) (r4 .read-movements .ensures) (p4 .stage4 .given .1) (r5 .check-shares .ensures) (p5 .stage5 .given .1) (r6 .read-steps .ensures) (p6 .stage6 .given .1) (r7 .check-end .ensures) (c .enum-told7 .given .1)
-
-check-boundaries-requires : tie.Need-check-boundaries-requires
-check-boundaries-requires c κs =
-    let p7 = c .before .before .before in
-    let r7 = p7 .before .before in
-    let p6 = r7 .before .before in
-    let r6 = p6 .before .before .before .before in
-    let p5 = r6 .before .before .before in
-    let r5 = p5 .before .before in
-    let p4 = r5 .before .before .before in
-    let r4 = p4 .before .before .before .before in
-    let p3 = r4 .before .before .before in
-    let r3 = p3 .before .before .before .before in
-    let p2 = r3 .before .before .before .before in
-    let r2 = p2 .before .before .before in
-    let p1 = r2 .before .before .before in
-    let r1 = p1 .before .before in
-    let s = r1 .before .before .before .before .before in
-    boundaries-asked (s .pre) (r1 .read-counts .ensures) (p1 .stage .given .1) (r2 .read-signals .ensures) (p2 .stage2 .given .1) (r3 .read-links .ensures) (p3 .stage3 .given .1) (r4 .read-movements .ensures) (p4 .stage4 .given .1) (r5 .check-shares .ensures) (p5 .stage5 .given .1) (r6 .read-steps .ensures) (p6 .stage6 .given .1) (r7 .check-end .ensures) (p7 .stage7 .given .1)
-
-same-length-12 : tie.Need-same-length-12
-same-length-12 c = c .before .before .before .before .before .before .before .before .before .before .before .before .before .before .before .before .before .before .before .before .before .before .before .before .before .before .before .before .before .before .before .read-links .kept .1 .1 .1 .0
-
-same-length-13 : tie.Need-same-length-13
-same-length-13 c = c .before .before .before .before .before .before .before .before .before .before .before .before .before .before .before .before .before .before .before .before .before .before .before .before .read-movements .kept .1 .1 .0
-
-same-length-14 : tie.Need-same-length-14
-same-length-14 c = search needs
-
-returns-8 : tie.Need-returns-8
-returns-8 c =
-    let r8 = c in
-    let p7 = r8 .before .before .before .before in
-    let r7 = p7 .before .before in
-    let p6 = r7 .before .before in
-    let r6 = p6 .before .before .before .before in
-    let p5 = r6 .before .before .before in
-    let r5 = p5 .before .before in
-    let p4 = r5 .before .before .before in
-    let r4 = p4 .before .before .before .before in
-    let p3 = r4 .before .before .before in
-    let r3 = p3 .before .before .before .before in
-    let p2 = r3 .before .before .before .before in
-    let r2 = p2 .before .before .before in
-    let p1 = r2 .before .before .before in
-    let r1 = p1 .before .before in
-    let s = r1 .before .before .before .before .before in
-    network-judged (s .pre) (r1 .read-counts .ensures) (p1 .stage .given .1) (r2 .read-signals .ensures) (p2 .stage2 .given .1) (r3 .read-links .ensures) (p3 .stage3 .given .1) (r4 .read-movements .ensures) (p4 .stage4 .given .1) (r5 .check-shares .ensures) (p5 .stage5 .given .1) (r6 .read-steps .ensures) (p6 .stage6 .given .1) (r7 .check-end .ensures) (p7 .stage7 .given .1) (r8 .check-boundaries .ensures)
+    network-judged (s .pre) (r1 .read-counts .ensures) (p1 .stage .given .1) (r2 .read-signals .ensures) (p2 .stage2 .given .1) (r3 .read-links .ensures) (p3 .stage3 .given .1) (r4 .read-movements .ensures) (p4 .stage4 .given .1) (r5 .check-shares .ensures) (p5 .stage5 .given .1) (r6 .read-steps .ensures) (p6 .stage6 .given .1) (r7 .check-end .ensures)
 
 pub load-network-spec : {M : Type 1} → statement M
 load-network-spec =
@@ -331,14 +277,7 @@ load-network-spec =
     same-length-8
     returns-6
     check-end-requires
-    enum-known-stage-7
-    enum-told-7
     same-length-9
     same-length-10
     same-length-11
-    returns-7
-    check-boundaries-requires
-    same-length-12
-    same-length-13
-    same-length-14
-    returns-8)
+    returns-7)
