@@ -1,15 +1,18 @@
 -- What the tests of the code say of rules 16 to 18. Assumes nothing.
 use mathlib.Core.Path.{_≡_, ap, ap₂, sym, _∙_}
+use mathlib.Core.Logic.{_⊎_, inl, inr}
 use mathlib.Core.List.{List}
-use Prim.Native.Nat.{ℕ, _+_, _*_, _-_, _≤_, _<_}
+use Prim.Native.Nat.{ℕ, suc, _+_, _*_, _-_, _≤_, _<_}
+use native.Mathlib.Nat.{eq-or-lt-of-le, mul-le-mul-right}
 use native.Mathlib.Decide.{decLe}
 use native.Mathlib.Omega.{arith}
-use borrow.Author.Tests.{le-leb, lt-leb}
+use borrow.Author.Tests.{le-leb, lt-leb, eq-eqb, ne-eqb}
 use lib.Dec.{leb}
 use Rattle.tables.specs.declared.Counts.{Counts}
-use Rattle.tables.specs.Fields.{linkIn, shareIn, letOutIn, movedIn, leftIn}
+use Rattle.tables.specs.Fields.{linkIn, shareIn, letOutIn, movedIn, enteredIn, leftIn, enteredAt, RowHeld}
+use Rattle.arrivals.specs.Arrivals.{secondsIn, elapsedIn, Rising}
 use Rattle.step_rows.specs.Rows.{movedBy, nextLeft}
-use Rattle.step_sums.specs.Sums.{keepsShare, ShareTables}
+use Rattle.step_sums.specs.Sums.{keepsShare, enteredAfter, ShareTables, ArrivalRows}
 
 -- a sum in place of a difference
 pub leb-over : (a b c : ℕ) → leb a (c + b) ≡ leb (a - b) c
@@ -17,6 +20,39 @@ leb-over a b c = elim (decLe a (c + b)) [
   | yes h ↦ le-leb a (c + b) h ∙ sym (le-leb (a - b) c (omega arith))
   | no h ↦ lt-leb a (c + b) (omega arith) ∙ sym (lt-leb (a - b) c (omega arith))
 ]
+
+-- ---- rule 17
+-- the ledger has the rows before the boundary
+pub row-before : {counts : Counts} {row ledger : List ℕ} {boundary m i : ℕ} → ArrivalRows counts row ledger boundary → m < boundary → i < counts .links
+    → RowHeld ledger (counts .links) m i
+row-before {counts} r h l =
+    record { few-boundaries = omega (arith, r .last); few-links = r .few-links; within = l; rows = omega (arith, r .rows, mul-le-mul-right (2 * counts .links) h) }
+
+pub row-after : {counts : Counts} {row ledger : List ℕ} {boundary step i : ℕ} → ArrivalRows counts row ledger boundary → step < boundary → (step + 1 ≡ boundary → ⊥) → i < counts .links
+    → RowHeld ledger (counts .links) (step + 1) i
+row-after {boundary = boundary} {step} r h n l = row-before r (go (eq-or-lt-of-le h)) l
+  where
+    go : (suc step ≡ boundary) ⊎ (suc step < boundary) → step + 1 < boundary
+    go (inl e) = absurd (n (omega arith))
+    go (inr u) = omega arith
+
+-- entered at the end of the last step, and of an earlier one
+module _ (counts : Counts) (row ledger : List ℕ) (boundary step i : ℕ) {r : ℕ} where
+  pub after-last : step + 1 ≡ boundary → r ≡ enteredIn row i → r ≡ enteredAfter counts row ledger boundary step i
+  unfolding enteredAfter
+  after-last e q = rw (eq-eqb (step + 1) boundary e) q
+
+  pub after-earlier : (step + 1 ≡ boundary → ⊥) → r ≡ enteredAt ledger (counts .links) (step + 1) i → r ≡ enteredAfter counts row ledger boundary step i
+  unfolding enteredAfter
+  after-earlier e q = rw (ne-eqb (step + 1) boundary e) q
+
+-- no time is past two hours, so neither is a difference
+module _ {times : List ℕ} {boundary : ℕ} (r : Rising times boundary) (step : ℕ) where
+  pub seconds-small : step < boundary → {s : ℕ} → s ≡ secondsIn times step → s ≤ 7200
+  seconds-small h e = omega (arith, r .small (step + 1) (omega arith))
+
+  pub elapsed-small : (travel : ℕ) {e : ℕ} → e ≡ elapsedIn times step boundary travel → e ≤ 7200
+  elapsed-small travel e = omega (arith, r .small boundary (omega arith))
 
 -- what left in the row holds beside what had left before and what was let out
 module _ {counts : Counts} {line movements previous row : List ℕ} (tables : ShareTables counts line movements previous row) where

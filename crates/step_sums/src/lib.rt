@@ -1,22 +1,23 @@
 // Rules 16 to 18 of the plan check, by sums of volumes: shares, arrivals and capacities, once the row after the step is formed.
 ghost use mathlib.Core.Path.{_≡_};
 ghost use Prim.Native.Nat.{_+_, _*_, _<_, _≤_};
-ghost use lib.ListN.{length, getD};
+ghost use lib.ListN.{length};
 ghost use Rattle.search.specs.Checks.{verdict, table};
-ghost use Rattle.model.specs.Network.{maxLinks, maxSteps};
+ghost use Rattle.model.specs.Network.{maxLinks};
 ghost use Rattle.tables.specs.Places.{Few};
 ghost use Rattle.tables.specs.Fields.{linkTableSize, lineSize, rowSize, letOutIn, leftIn};
-ghost use Rattle.step_sums.specs.Sums.{keepsShare, leavesArrived, fitsCapacity, sumItems, sumTest, sumRulesIn, ShareTables, SumTables};
+ghost use Rattle.step_sums.specs.Sums.{keepsShare, enteredAfter, leavesArrived, fitsCapacity, sumItems, sumTest, sumRulesIn, ShareTables, ArrivalRows, ArrivalTables, SumTables};
 use search::Refusal;
 use search::Verdict;
 use tables::Counts;
 use tables::capacity;
 use tables::entered;
+use tables::entered_at;
 use tables::left;
 use tables::let_out;
 use tables::moved;
 use tables::share;
-use tables::times;
+use tables::travel_time;
 use tables::wide;
 
 // The sum of all movements from link i: what has left it in the step, without what was let out.
@@ -44,18 +45,51 @@ fn keeps_share(
 {
     let from = step_rows::from_link(movements, counts, j);
     let all = moved_from(line, previous, row, counts, from);
-    times(1000, moved(line, counts, j)) <= times(share(movements, j), all)
+    tables::times(1000, moved(line, counts, j)) <= tables::times(share(movements, j), all)
 }
 
-// Rule 17, link i: what has left it is at most what has arrived at its end.
-fn leaves_arrived(row: &[u32], ledger: &[u32], arrivals: &[usize], counts: Counts, i: usize) -> bool
-    requires { ⌜ (i < counts .links) × (counts .links ≤ maxLinks) × (length (now row) ≡ rowSize) × (length (now arrivals) ≡ maxLinks) ⌝ }
-    requires { ⌜ (getD (now arrivals) i 0 ≤ maxSteps) × (2 * getD (now arrivals) i 0 * counts .links + 2 * i < length (now ledger)) ⌝ }
-    ensures { λ r. ⌜ r ≡ leavesArrived counts (now (row .entry)) (now (ledger .entry)) (now (arrivals .entry)) i ⌝ }
+// Entered of link i at the end of a step that is at most the last: of the row after the last step, or of the ledger, which has the rows before that.
+fn entered_after(
+    row: &[u32],
+    ledger: &[u32],
+    counts: Counts,
+    boundary: usize,
+    step: usize,
+    i: usize,
+) -> u32
+    requires { ⌜ ArrivalRows counts (now row) (now ledger) boundary ⌝ }
+    requires { ⌜ (step < boundary) × (i < counts .links) ⌝ }
+    ensures { λ r. ⌜ r ≡ enteredAfter counts (now (row .entry)) (now (ledger .entry)) boundary step i ⌝ }
 {
-    let boundary = arrivals[i];
-    let at = 2 * boundary * counts.links + 2 * i;
-    left(row, i) <= ledger[at]
+    let after = step + 1;
+    if after == boundary {
+        return entered(row, i);
+    }
+    entered_at(ledger, counts.links, after, i)
+}
+
+// Rule 17, link i: what has left it is at most what has arrived at its end, both × the length of the step in which the travel time ends, so that nothing is
+// rounded.
+fn leaves_arrived(
+    links: &[u32],
+    row: &[u32],
+    ledger: &[u32],
+    times: &[u32],
+    arrivals: &[usize],
+    counts: Counts,
+    boundary: usize,
+    i: usize,
+) -> bool
+    requires { ⌜ ArrivalTables counts (now links) (now row) (now ledger) (now times) (now arrivals) boundary ⌝ }
+    requires { ⌜ i < counts .links ⌝ }
+    ensures { λ r. ⌜ r ≡ leavesArrived counts (now (links .entry)) (now (row .entry)) (now (ledger .entry)) (now (times .entry)) (now (arrivals .entry)) boundary i ⌝ }
+{
+    let step = arrivals[i];
+    let start = entered_at(ledger, counts.links, step, i);
+    let end = entered_after(row, ledger, counts, boundary, step, i);
+    let seconds = arrivals::seconds(times, step);
+    let elapsed = arrivals::elapsed(times, step, boundary, travel_time(links, i));
+    tables::times(left(row, i), seconds) <= arrivals::scaled_arrived(start, end, seconds, elapsed)
 }
 
 // Rule 18, link i: entered − left before the step is at most capacity, said without the difference.
@@ -85,22 +119,24 @@ fn sum_test(
     previous: &[u32],
     row: &[u32],
     ledger: &[u32],
+    times: &[u32],
     arrivals: &[usize],
     counts: Counts,
+    boundary: usize,
 ) -> bool
-    requires { ⌜ SumTables counts (now line) (now links) (now movements) (now previous) (now row) (now ledger) (now arrivals) ⌝ }
+    requires { ⌜ SumTables counts (now line) (now links) (now movements) (now previous) (now row) (now ledger) (now times) (now arrivals) boundary ⌝ }
     requires { ⌜ item < sumItems counts k ⌝ }
-    ensures { λ r. ⌜ r ≡ sumTest counts (now (line .entry)) (now (links .entry)) (now (movements .entry)) (now (previous .entry)) (now (row .entry)) (now (ledger .entry)) (now (arrivals .entry)) k item ⌝ }
+    ensures { λ r. ⌜ r ≡ sumTest counts (now (line .entry)) (now (links .entry)) (now (movements .entry)) (now (previous .entry)) (now (row .entry)) (now (ledger .entry)) (now (times .entry)) (now (arrivals .entry)) boundary k item ⌝ }
 {
     match k {
         0 => keeps_share(line, movements, previous, row, counts, item),
-        1 => leaves_arrived(row, ledger, arrivals, counts, item),
+        1 => leaves_arrived(links, row, ledger, times, arrivals, counts, boundary, item),
         2 => fits_capacity(links, previous, row, item),
         _ => true,
     }
 }
 
-// The first of rules 16 to 18 that a step breaks, each over rising items; `number` is the plan's line that tells it.
+// The first of rules 16 to 18 that the step to a boundary breaks, each over rising items; the plan's line that tells it has the boundary's number.
 pub fn first_sum_break(
     line: &[u32],
     links: &[u32],
@@ -108,12 +144,13 @@ pub fn first_sum_break(
     previous: &[u32],
     row: &[u32],
     ledger: &[u32],
+    times: &[u32],
     arrivals: &[usize],
     counts: Counts,
-    number: u32,
+    boundary: usize,
 ) -> Verdict
-    requires { ⌜ SumTables counts (now line) (now links) (now movements) (now previous) (now row) (now ledger) (now arrivals) ⌝ }
-    ensures { λ r. ⌜ r ≡ verdict (table number (sumRulesIn counts (now (line .entry)) (now (links .entry)) (now (movements .entry)) (now (previous .entry)) (now (row .entry)) (now (ledger .entry)) (now (arrivals .entry)))) ⌝ }
+    requires { ⌜ SumTables counts (now line) (now links) (now movements) (now previous) (now row) (now ledger) (now times) (now arrivals) boundary ⌝ }
+    ensures { λ r. ⌜ r ≡ verdict (table boundary (sumRulesIn counts (now (line .entry)) (now (links .entry)) (now (movements .entry)) (now (previous .entry)) (now (row .entry)) (now (ledger .entry)) (now (times .entry)) (now (arrivals .entry)) boundary)) ⌝ }
 {
     let mut found = Verdict::Passes;
     'judge: for k in 0..3 {
@@ -128,12 +165,14 @@ pub fn first_sum_break(
                 previous,
                 row,
                 ledger,
+                times,
                 arrivals,
                 counts,
+                boundary,
             ) {
                 found = Verdict::Refused(Refusal {
                     number: 16 + k as u32,
-                    line: number,
+                    line: boundary as u32,
                     item: (item + 1) as u32,
                 });
                 break 'judge;

@@ -1,8 +1,8 @@
 -- The numbers of the program's tables by their names in the paper. Links, movements and signals are counted from 0; a link's signal and a movement's links are
 -- named from 1. Assumes nothing.
-use Prim.Native.Nat.{ℕ, _+_, _*_}
+use Prim.Native.Nat.{ℕ, suc, _+_, _*_, _≤_, _<_}
 use mathlib.Core.List.{List}
-use lib.ListN.{getD}
+use lib.ListN.{length, getD}
 use Rattle.model.specs.Network.{maxLinks, maxSignals, maxMovements, maxSteps}
 use Rattle.tables.specs.declared.Counts.{Counts}
 use Rattle.tables.specs.Places.{admittedPlace, letOutPlace, movedPlace}
@@ -84,3 +84,17 @@ enteredIn row i = getD row (2 * i) 0
 
 abbrev pub leftIn : List ℕ → ℕ → ℕ
 leftIn row i = getD row (2 * i + 1) 0
+
+-- entered and left of link i at boundary n in a ledger of so many links
+abbrev pub enteredAt : List ℕ → ℕ → ℕ → ℕ → ℕ
+enteredAt ledger count n i = getD ledger (2 * n * count + 2 * i) 0
+
+abbrev pub leftAt : List ℕ → ℕ → ℕ → ℕ → ℕ
+leftAt ledger count n i = getD ledger (2 * n * count + 2 * i + 1) 0
+
+-- a ledger has the rows up to boundary n, of so many links, and i is one of these
+pub record RowHeld (ledger : List ℕ) (count n i : ℕ) : Type 0 where
+  pub few-boundaries : n ≤ maxSteps
+  pub few-links : count ≤ maxLinks
+  pub within : i < count
+  pub rows : 2 * suc n * count ≤ length ledger

@@ -5,7 +5,7 @@ ghost use Prim.Native.Nat.{_+_, _*_, _<_, _≤_};
 ghost use lib.ListN.{length};
 ghost use Rattle.model.specs.Network.{maxLinks, maxSignals, maxMovements, maxSteps};
 ghost use Rattle.tables.specs.Places.{signalLineIn, linkLineIn, movementLineIn, stepLineIn, planWidth, Few};
-ghost use Rattle.tables.specs.Fields.{linkTableSize, movementTableSize, stepSize, lineSize, capacityIn, travelTimeIn, exitRateIn, signalIn, phaseMaskIn, standingIn, linkIn, rateIn, shareIn, lengthIn, demandIn, admittedIn, letOutIn, movedIn, enteredIn, leftIn};
+ghost use Rattle.tables.specs.Fields.{linkTableSize, movementTableSize, stepSize, lineSize, capacityIn, travelTimeIn, exitRateIn, signalIn, phaseMaskIn, standingIn, linkIn, rateIn, shareIn, lengthIn, demandIn, admittedIn, letOutIn, movedIn, enteredIn, leftIn, enteredAt, leftAt, RowHeld};
 ghost use Rattle.tables.specs.Rows.{RowRead, HeadRead};
 ghost use Rattle.tables.specs.Tables.{movedTo};
 use records::LineRead;
@@ -276,4 +276,29 @@ pub fn left(row: &[u32], i: usize) -> u32
     ensures { λ r. ⌜ r ≡ leftIn (now (row .entry)) i ⌝ }
 {
     row[2 * i + 1]
+}
+
+// Where row `n` of a ledger of so many links starts.
+pub fn row_start(n: usize, count: usize) -> usize
+    requires { ⌜ (n ≤ maxSteps + 1) × (count ≤ maxLinks) ⌝ }
+    ensures { λ r. ⌜ r ≡ 2 * n * count ⌝ }
+{
+    2 * n * count
+}
+
+// Entered and left of link i at boundary `n`, as a ledger has them.
+pub fn entered_at(ledger: &[u32], count: usize, n: usize, i: usize) -> u32
+    requires { ⌜ RowHeld (now ledger) count n i ⌝ }
+    ensures { λ r. ⌜ r ≡ enteredAt (now (ledger .entry)) count n i ⌝ }
+{
+    let start = row_start(n, count);
+    ledger[start + 2 * i]
+}
+
+pub fn left_at(ledger: &[u32], count: usize, n: usize, i: usize) -> u32
+    requires { ⌜ RowHeld (now ledger) count n i ⌝ }
+    ensures { λ r. ⌜ r ≡ leftAt (now (ledger .entry)) count n i ⌝ }
+{
+    let start = row_start(n, count);
+    ledger[start + 2 * i + 1]
 }

@@ -1,7 +1,7 @@
--- `link_state::entered_in` meets its contract. Assumes nothing.
+-- `tables::entered_at` meets its contract. Assumes nothing.
 use borrow.Author.Needs.{needs}
-use Rattle.link_state.proofs.entered_in.Statement.{statement}
-use Rattle.link_state.proofs.entered_in.Tie as tie
+use Rattle.tables.proofs.entered_at.Statement.{statement}
+use Rattle.tables.proofs.entered_at.Tie as tie
 
 row-start-requires : tie.Need-row-start-requires
 row-start-requires c κs = search needs
@@ -19,11 +19,10 @@ shared-slice-read-result : tie.Need-shared-slice-read-result
 shared-slice-read-result c = search needs
 
 returns : tie.Need-returns
-returns c =
-    cc
+returns c = cc
 
-pub entered-in-spec : {M : Type 1} → statement M
-entered-in-spec =
+pub entered-at-spec : {M : Type 1} → statement M
+entered-at-spec =
     tie.close
     (tie.spec
     row-start-requires

@@ -1,7 +1,7 @@
--- `link_state::left_in` meets its contract. Assumes nothing.
+-- `tables::left_at` meets its contract. Assumes nothing.
 use borrow.Author.Needs.{needs}
-use Rattle.link_state.proofs.left_in.Statement.{statement}
-use Rattle.link_state.proofs.left_in.Tie as tie
+use Rattle.tables.proofs.left_at.Statement.{statement}
+use Rattle.tables.proofs.left_at.Tie as tie
 
 row-start-requires : tie.Need-row-start-requires
 row-start-requires c κs = search needs
@@ -22,11 +22,10 @@ shared-slice-read-result : tie.Need-shared-slice-read-result
 shared-slice-read-result c = search needs
 
 returns : tie.Need-returns
-returns c =
-    cc
+returns c = cc
 
-pub left-in-spec : {M : Type 1} → statement M
-left-in-spec =
+pub left-at-spec : {M : Type 1} → statement M
+left-at-spec =
     tie.close
     (tie.spec
     row-start-requires
