@@ -14,13 +14,14 @@ pub fn judge_step(
     movements: &[u32],
     phases: &[u32],
     ledger: &[u32],
+    times: &[u32],
     arrivals: &[usize],
     row: &mut [u32],
     counts: Counts,
     n: usize,
 ) -> Verdict
-    requires { ⌜ JudgeAsked counts signals (now line) (now step) (now links) (now movements) (now phases) (now ledger) (now arrivals) (now row) n ⌝ }
-    ensures { λ r. ⌜ Judged counts signals (now (line .entry)) (now (step .entry)) (now (links .entry)) (now (movements .entry)) (now (phases .entry)) (now (ledger .entry)) (now (arrivals .entry)) (now (row .entry)) n r (now (row .exit)) ⌝ }
+    requires { ⌜ JudgeAsked counts signals (now line) (now step) (now links) (now movements) (now phases) (now ledger) (now times) (now arrivals) (now row) n ⌝ }
+    ensures { λ r. ⌜ Judged counts signals (now (line .entry)) (now (step .entry)) (now (links .entry)) (now (movements .entry)) (now (phases .entry)) (now (ledger .entry)) (now (times .entry)) (now (arrivals .entry)) (now (row .entry)) n r (now (row .exit)) ⌝ }
 {
     let number = (n + 1) as u32;
     let found = step_signals::first_signal_break(signals, counts.signals, phases, step[0], number);
@@ -49,8 +50,9 @@ pub fn judge_step(
         previous,
         row,
         ledger,
+        times,
         arrivals,
         counts,
-        number,
+        n + 1,
     )
 }

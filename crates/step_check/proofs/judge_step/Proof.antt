@@ -1,5 +1,6 @@
 -- `step_check::judge_step` meets its contract: one law for each way out. Assumes nothing.
-use Rattle.step_check.proofs.Judge.{judged-signals, judged-limits, judge-fits, judge-sums, judged-sums}
+use Rattle.step_check.proofs.Judge.{place-small, judged-signals, judged-limits, judge-fits, judge-sums, judged-sums}
+use native.Mathlib.Omega.{arith}
 use borrow.Author.Needs.{needs}
 use Rattle.step_check.proofs.judge_step.Statement.{statement}
 use Rattle.step_check.proofs.judge_step.Tie as tie
@@ -23,7 +24,7 @@ enum-told-2 : tie.Need-enum-told-2
 enum-told-2 c = search needs
 
 returns : tie.Need-returns
-returns c = judged-signals _ _ _ _ _ _ _ _ _ _ _ (c .before .before .first-signal-break .ensures) (c .enum-told2 .given .1)
+returns c = judged-signals _ _ _ _ _ _ _ _ _ _ _ _ (c .before .before .first-signal-break .ensures) (c .enum-told2 .given .1)
 
 first-limit-break-requires : tie.Need-first-limit-break-requires
 first-limit-break-requires c κs = search needs
@@ -35,16 +36,16 @@ enum-told-4 : tie.Need-enum-told-4
 enum-told-4 c = search needs
 
 returns-2 : tie.Need-returns-2
-returns-2 c = judged-limits _ _ _ _ _ _ _ _ _ _ _ (c .before .before .before .before .before .first-signal-break .ensures) (c .before .before .before .enum-told .given .1) (c .before .before .first-limit-break .ensures) (c .enum-told4 .given .1)
+returns-2 c = judged-limits _ _ _ _ _ _ _ _ _ _ _ _ (c .before .before .before .before .before .first-signal-break .ensures) (c .before .before .before .enum-told .given .1) (c .before .before .first-limit-break .ensures) (c .enum-told4 .given .1)
 
 mul-at : tie.Need-mul-at
 mul-at c = search needs
 
 mul-at-2 : tie.Need-mul-at-2
-mul-at-2 c = search needs
+mul-at-2 c = omega (arith, place-small (c .before .before .before .before .before .before .before .before .before .before .before .before .before .before .before .before .before .pre))
 
 mul-previous : tie.Need-mul-previous
-mul-previous c = search needs
+mul-previous c = omega (arith, place-small (c .before .before .before .before .before .before .before .before .before .before .before .before .before .before .before .before .before .pre))
 
 sub-previous : tie.Need-sub-previous
 sub-previous c = search needs
@@ -57,19 +58,22 @@ part-previous-end c = search needs
 
 next-row-requires : tie.Need-next-row-requires
 next-row-requires c κs =
-    judge-fits _ _ _ _ _ _ _ _ _ _ _ (c .before .before .before .before .before .before .before .before .first-signal-break .ensures) (c .before .before .before .before .before .before .enum-told .given .1) (c .before .before .before .before .before .first-limit-break .ensures) (c .before .before .before .enum-told3 .given .1) (c .before .before .before .before .before .before .before .before .before .before .before .before .before .before .before .before .before .before .pre)
+    judge-fits _ _ _ _ _ _ _ _ _ _ _ _ (c .before .before .before .before .before .before .before .before .first-signal-break .ensures) (c .before .before .before .before .before .before .enum-told .given .1) (c .before .before .before .before .before .first-limit-break .ensures) (c .before .before .before .enum-told3 .given .1) (c .before .before .before .before .before .before .before .before .before .before .before .before .before .before .before .before .before .before .before .pre)
+
+add-first-sum-break : tie.Need-add-first-sum-break
+add-first-sum-break c = let h = c .before .before .before .before .before .before .before .before .before .before .before .before .before .before .before .before .before .before .before .before .before .before .before .pre .few-steps in search needs
 
 first-sum-break-requires : tie.Need-first-sum-break-requires
 first-sum-break-requires c κs =
-    judge-sums _ _ _ _ _ _ _ _ _ _ _ (c .before .before .before .before .before .before .before .before .before .before .before .before .first-signal-break .ensures) (c .before .before .before .before .before .before .before .before .before .before .enum-told .given .1) (c .before .before .before .before .before .before .before .before .before .first-limit-break .ensures) (c .before .before .before .before .before .before .before .enum-told3 .given .1)
-    (c .before .before .before .next-row .ensures) (c .before .before .before .before .before .before .before .before .before .before .before .before .before .before .before .before .before .before .before .before .before .before .pre)
+    judge-sums _ _ _ _ _ _ _ _ _ _ _ _ (c .before .before .before .before .before .before .before .before .before .before .before .before .first-signal-break .ensures) (c .before .before .before .before .before .before .before .before .before .before .enum-told .given .1) (c .before .before .before .before .before .before .before .before .before .first-limit-break .ensures) (c .before .before .before .before .before .before .before .enum-told3 .given .1)
+    (c .before .before .before .next-row .ensures) (c .before .before .before .before .before .before .before .before .before .before .before .before .before .before .before .before .before .before .before .before .before .before .before .pre)
 
 same-length : tie.Need-same-length
 same-length c = search needs
 
 returns-3 : tie.Need-returns-3
 returns-3 c =
-    judged-sums _ _ _ _ _ _ _ _ _ _ _ (c .before .before .before .before .before .before .before .before .before .before .before .before .before .first-signal-break .ensures) (c .before .before .before .before .before .before .before .before .before .before .before .enum-told .given .1) (c .before .before .before .before .before .before .before .before .before .before .first-limit-break .ensures) (c .before .before .before .before .before .before .before .before .enum-told3 .given .1)
+    judged-sums _ _ _ _ _ _ _ _ _ _ _ _ (c .before .before .before .before .before .before .before .before .before .before .before .before .before .first-signal-break .ensures) (c .before .before .before .before .before .before .before .before .before .before .before .enum-told .given .1) (c .before .before .before .before .before .before .before .before .before .before .first-limit-break .ensures) (c .before .before .before .before .before .before .before .before .enum-told3 .given .1)
     (c .before .before .before .before .next-row .ensures) (c .first-sum-break .ensures)
 
 pub judge-step-spec : {M : Type 1} → statement M
@@ -94,6 +98,7 @@ judge-step-spec =
     part-previous-start
     part-previous-end
     next-row-requires
+    add-first-sum-break
     first-sum-break-requires
     same-length
     returns-3)
