@@ -29,7 +29,7 @@ use Rattle.model.specs.Calls.{planAnswer, written, ledgerAfter}
 use Rattle.model.specs.Guarantees.{RowDue}
 use Rattle.model.proofs.Accepted.{ValidNetwork, valid-network}
 use Rattle.model.proofs.Rows.{length-written}
-use Rattle.model.proofs.Times.{arrival-boundary-le}
+use Rattle.model.proofs.Times.{arrival-step-le}
 use Rattle.model.proofs.Written.{refused-fails, due-written, rows-until}
 use Rattle.tables.specs.declared.Counts.{Counts}
 use Rattle.tables.specs.Tables.{SignalTable}
@@ -111,7 +111,7 @@ running-first {networkText} {planText} {counts} {signals} {old = old} a held e a
         totals-at = totals-first net pln (a .tables .holds) counts (a .tables .counted) old (begins net pln old (a .rows)) held e;
         arrivals-at = record {
           size = rw zeros (length-replicate {A = ℕ} maxLinks 0);
-          holds = λ i l. rw zeros (getD-replicate {A = ℕ} maxLinks i 0 0 (omega (arith, a .tables .counted .links, a .tables .counted .few .links)) ∙ omega (arith, arrival-boundary-le net 0 i));
+          holds = λ i l. rw zeros (getD-replicate {A = ℕ} maxLinks i 0 0 (omega (arith, a .tables .counted .links, a .tables .counted .few .links)) ∙ omega (arith, arrival-step-le net 0 i));
         };
         rows = a .rows;
         room = a .room;

@@ -20,7 +20,7 @@ use Rattle.records.specs.declared.LineRead.the-variants.{Next, Malformed}
 use Rattle.records.specs.Lines.{Line, lines}
 use Rattle.model.specs.declared.Signal.{Signal}
 use Rattle.model.specs.Signals.{phaseOf}
-use Rattle.model.specs.Network.{maxSignals, arrivalBoundary, linkCount, signalCount, movementCount, stepCount, stepLine, stepLength, signal, maxSteps}
+use Rattle.model.specs.Network.{maxSignals, arrivalStep, linkCount, signalCount, movementCount, stepCount, stepLine, stepLength, signal, maxSteps}
 use Rattle.model.specs.Flows.{shownMask, shownIn, signalAt}
 use Rattle.model.specs.Rules.{rule10, rule13, rule14}
 use Rattle.model.specs.Table.{isForm, letterS, letterP, networkChecks, stepChecks, limitRules, lineChecks}
@@ -37,7 +37,7 @@ use Rattle.tables.specs.Fields.{lineSize, stepSize, rowSize, lengthIn}
 use Rattle.tables.specs.Rows.{RowRead}
 use Rattle.tables.specs.Tables.{noSignal, CountsHold, StepNumbers, PlanNumbers}
 use Rattle.tables.proofs.Tables.{travel-time-at, step-length-at, shown-mask-at}
-use Rattle.arrivals.specs.Arrivals.{arrivalIn, ArrivalsAsked, Arrived, ArrivalTable}
+use Rattle.arrivals.specs.Arrivals.{arrivalStepIn, ArrivalsAsked, Arrived, ArrivalTable}
 use Rattle.arrivals.proofs.Boundaries.{arrival-is, cursor-ready}
 use Rattle.network_steps.specs.Steps.{LoadAsked, Loaded}
 use Rattle.network_steps.proofs.Steps.{load-ready, loaded-numbers, loaded-next}
@@ -187,7 +187,7 @@ module _ {networkText planText : List ℕ} {counts : Counts} {links movements ti
               link-size = asked .tables .link-table .size;
               size = asked .state-at .arrivals-at .size;
               cursors = λ i l. let l′ : i < linkCount net = omega (arith, counted .links) in
-                  cursor-ready (asked .tables .time-table) n i (asked .more) step-few (asked .state-at .arrivals-at .holds i l′) (travel-time-at (asked .tables .link-table) i l′);
+                  cursor-ready (asked .tables .holds) (asked .tables .time-table) n i (asked .more) step-few (asked .state-at .arrivals-at .holds i l′) (travel-time-at (asked .tables .link-table) i l′);
             }
 
         module _ {phases₀ phases : List ℕ} (showing : ShownPhases (state .signals) (counts .signals) line phases₀ phases) where
@@ -206,16 +206,16 @@ module _ {networkText planText : List ℕ} {counts : Counts} {links movements ti
                 record {
                   size = moved .size;
                   holds = λ i l. moved .arrived i (omega (arith, counted .links))
-                      ∙ ap (arrivalIn times (n + 1)) (travel-time-at (asked .tables .link-table) i l)
-                      ∙ arrival-is (asked .tables .time-table) (n + 1) i (omega (arith, asked .more)) ∙ ap (λ x. arrivalBoundary net x i) (add-one n);
+                      ∙ ap (arrivalStepIn times (n + 1)) (travel-time-at (asked .tables .link-table) i l)
+                      ∙ arrival-is (asked .tables .holds) (asked .tables .time-table) (n + 1) i (omega (arith, asked .more)) ∙ ap (λ x. arrivalStep net x i) (add-one n);
                 }
 
             module _ (row : List ℕ) (row-size : length row ≡ rowSize) where
-              limits-are : limitVerdict counts (state .signals) line step links movements phases ledger arrivals′ row n ≡ verdict (table (suc n) (limitRules net pln n))
+              limits-are : limitVerdict counts (state .signals) line step links movements phases ledger times arrivals′ row n ≡ verdict (table (suc n) (limitRules net pln n))
               unfolding limitVerdict
               limits-are = limit-rules-are valid counted plan-numbers (asked .tables .link-table) (asked .tables .movement-table) step-numbers shown (suc n)
 
-              keeps : limitVerdict counts (state .signals) line step links movements phases ledger arrivals′ row n ≡ Passes → (m : ℕ) → m < suc n → KeepsLimits net pln m
+              keeps : limitVerdict counts (state .signals) line step links movements phases ledger times arrivals′ row n ≡ Passes → (m : ℕ) → m < suc n → KeepsLimits net pln m
               keeps v m l = go (let l′ : m ≤ n = omega arith in eq-or-lt-of-le l′)
                 where
                   go : (m ≡ n) ⊎ (m < n) → KeepsLimits net pln m
@@ -230,7 +230,7 @@ module _ {networkText planText : List ℕ} {counts : Counts} {links movements ti
                   length-append (nextRow counts line movements (rowFrom counts ledger n)) _
                   ∙ omega (arith, length-next counts line movements (rowFrom counts ledger n), length-drop (2 * counts .links) row, row-size, counted .few .links)
 
-              pub judge-asked : JudgeAsked counts (state .signals) line step links movements phases ledger arrivals′ row n
+              pub judge-asked : JudgeAsked counts (state .signals) line step links movements phases ledger times arrivals′ row n
               judge-asked =
                   let tables = line-tables valid counted plan-numbers (asked .tables .link-table) (asked .tables .movement-table) step-numbers shown in
                   record {
@@ -248,11 +248,11 @@ module _ {networkText planText : List ℕ} {counts : Counts} {links movements ti
                         next-row-fits counted plan-numbers (asked .tables .movement-table) before (movements-named counted (asked .tables .movement-table) valid) previous-size row-size
                         (entered-word net pln (asked .tables .holds) (suc n) (asked .more) (keeps v)) (left-word net pln (asked .tables .holds) (suc n) (asked .more) (keeps v));
                     sums = λ v.
-                        sum-tables valid counted plan-numbers (asked .tables .link-table) (asked .tables .movement-table) before after ledger (asked .state-at .rows) arrivals-at
-                        (drop (2 * counts .links) row) refl made-size (asked .more) previous-size (omega (arith, room-after));
+                        sum-tables (asked .tables .holds) counted plan-numbers (asked .tables .link-table) (asked .tables .movement-table) before after ledger (asked .state-at .rows) (asked .tables .time-table) arrivals-at (asked .more)
+                        (drop (2 * counts .links) row) refl made-size previous-size (omega (arith, room-after));
                   }
 
-              module _ {v : Verdict} {row′ : List ℕ} (got : Judged counts (state .signals) line step links movements phases ledger arrivals′ row n v row′) where
+              module _ {v : Verdict} {row′ : List ℕ} (got : Judged counts (state .signals) line step links movements phases ledger times arrivals′ row n v row′) where
                 -- the judgement is the paper's verdict on the line
                 line-judged : v ≡ verdict (lineChecks net pln n)
                 unfolding signalVerdict sumVerdict
@@ -260,7 +260,7 @@ module _ {networkText planText : List ℕ} {counts : Counts} {links movements ti
                     got .told
                     ∙ ap₂ orElse (signal-rules-are (counted .signals) (asked .state-at .signals-at) shown (step-length-at step-numbers) (suc n))
                     (ap₂ orElse limits-are
-                    (sum-rules-are valid counted plan-numbers (asked .tables .link-table) (asked .tables .movement-table) before after ledger (asked .state-at .rows) arrivals-at (suc n)))
+                    (sum-rules-are (asked .tables .holds) counted plan-numbers (asked .tables .link-table) (asked .tables .movement-table) before after ledger (asked .state-at .rows) (asked .tables .time-table) arrivals-at (asked .more)))
                     ∙ sym (line-formed net pln n is-formed)
 
                 pub step-refused : {r : Refusal} → v ≡ Refused r → StepGot networkText planText ledger state (record { verdict = v; state = state }) arrivals′ ledger

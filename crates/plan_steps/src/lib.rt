@@ -119,6 +119,7 @@ fn take_step(
         movements,
         &phases,
         ledger,
+        times,
         arrivals,
         &mut row,
         counts,
