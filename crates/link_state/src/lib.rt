@@ -1,12 +1,12 @@
 // The call that tells the state of one link by a network text and a ledger.
 ghost use mathlib.Core.Path.{_≡_};
-ghost use Prim.Native.Nat.{_+_, _*_, _≤_};
+ghost use Prim.Native.Nat.{_≤_};
 ghost use Rattle.records.specs.Lines.{lines};
 ghost use Rattle.search.specs.Checks.{refusal};
 ghost use Rattle.model.specs.declared.LinkAnswer.the-variants.{Refused};
-ghost use Rattle.model.specs.Network.{maxLinks, maxSteps};
 ghost use Rattle.model.specs.Calls.{linkState};
-ghost use Rattle.link_state.specs.State.{RowHeld, enteredIn, leftIn, arrivedIn, ArrivedAsked, stateFrom, StateAsked, StateTold};
+ghost use Rattle.model.specs.Guarantees.{StatePromises};
+ghost use Rattle.link_state.specs.State.{enteredBy, EnteredAsked, arrivalIn, ArrivalAsked, stateFrom, StateAsked, StateTold};
 use model::LinkAnswer;
 use search::Refusal;
 use tables::Counts;
@@ -15,55 +15,76 @@ use tables::MOVEMENT_TABLE_SIZE;
 use tables::Stage;
 use tables::TIME_TABLE_SIZE;
 
-// Where row `n` of a ledger starts.
-fn row_start(n: usize, count: usize) -> usize
-    requires { ⌜ (n ≤ maxSteps + 1) × (count ≤ maxLinks) ⌝ }
-    ensures { λ r. ⌜ r ≡ 2 * n * count ⌝ }
-{
-    2 * n * count
+// What has arrived at a link's end × the length of the step in which the travel time ends; that length; and whether the entered count does not fall over a step
+// inside which it ends.
+struct Arrival {
+    scaled: u64,
+    seconds: u32,
+    rises: bool,
 }
 
-// Entered of link `i` at boundary `n`, as the ledger has it.
-fn entered_in(ledger: &[u32], count: usize, n: usize, i: usize) -> u32
-    requires { ⌜ RowHeld (now ledger) count n i ⌝ }
-    ensures { λ r. ⌜ r ≡ enteredIn (now (ledger .entry)) count n i ⌝ }
+// What had entered link `i` by the start of the step in which its travel time before boundary `n` ends: as the ledger has it, and before the travel time what
+// stood on the link at the start.
+fn entered_by(
+    links: &[u32],
+    times: &[u32],
+    ledger: &[u32],
+    count: usize,
+    n: usize,
+    i: usize,
+    step: usize,
+) -> u32
+    requires { ⌜ EnteredAsked (now links) (now times) (now ledger) count n i step ⌝ }
+    ensures { λ r. ⌜ r ≡ enteredBy (now (links .entry)) (now (times .entry)) (now (ledger .entry)) count n i step ⌝ }
 {
-    let start = row_start(n, count);
-    ledger[start + 2 * i]
-}
-
-// Left of link `i` at boundary `n`, as the ledger has it.
-fn left_in(ledger: &[u32], count: usize, n: usize, i: usize) -> u32
-    requires { ⌜ RowHeld (now ledger) count n i ⌝ }
-    ensures { λ r. ⌜ r ≡ leftIn (now (ledger .entry)) count n i ⌝ }
-{
-    let start = row_start(n, count);
-    ledger[start + 2 * i + 1]
-}
-
-// Arrived of link `i` at boundary `n`: entered at the boundary that the travel time leads back to, and before the travel time what stood on it at the start.
-fn arrived_in(links: &[u32], times: &[u32], ledger: &[u32], count: usize, n: usize, i: usize) -> u32
-    requires { ⌜ ArrivedAsked (now links) (now times) (now ledger) count n i ⌝ }
-    ensures { λ r. ⌜ r ≡ arrivedIn (now (links .entry)) (now (times .entry)) (now (ledger .entry)) count n i ⌝ }
-{
-    let travel = tables::travel_time(links, i);
-    if times[n] < travel {
+    if times[n] < tables::travel_time(links, i) {
         return tables::standing(links, i);
     }
-    let arrival = arrivals::arrival_boundary(times, 0, n, travel);
-    entered_in(ledger, count, arrival, i)
+    tables::entered_at(ledger, count, step, i)
 }
 
-// Refusal 21, or the vehicles queued and in transit.
-fn state_from(entered: u32, left: u32, arrived: u32) -> LinkAnswer
-    ensures { λ r. ⌜ r ≡ stateFrom entered left arrived ⌝ }
+// What has arrived at the end of link `i` by boundary `n`.
+fn arrival_in(
+    links: &[u32],
+    times: &[u32],
+    ledger: &[u32],
+    count: usize,
+    n: usize,
+    i: usize,
+) -> Arrival
+    requires { ⌜ ArrivalAsked (now links) (now times) (now ledger) count n i ⌝ }
+    ensures { λ r. ⌜ r ≡ arrivalIn (now (links .entry)) (now (times .entry)) (now (ledger .entry)) count n i ⌝ }
 {
-    if arrived < left {
+    let travel = tables::travel_time(links, i);
+    let step = arrivals::arrival_step(times, 0, n, travel);
+    let start = entered_by(links, times, ledger, count, n, i, step);
+    let end = tables::entered_at(ledger, count, step + 1, i);
+    let seconds = arrivals::seconds(times, step);
+    let elapsed = arrivals::elapsed(times, step, n, travel);
+    Arrival {
+        scaled: arrivals::scaled_arrived(start, end, seconds, elapsed),
+        seconds,
+        rises: (elapsed == 0) | (start <= end),
+    }
+}
+
+// Refusal 21, by what has arrived unrounded; or the vehicles queued, rounded down, and in transit.
+fn state_from(entered: u32, left: u32, arrival: Arrival) -> LinkAnswer
+    requires { ⌜ 1 ≤ arrival .seconds ⌝ }
+    ensures { λ r. ⌜ r ≡ stateFrom entered left arrival ⌝ }
+{
+    let scaled = arrival.scaled;
+    let seconds = arrival.seconds;
+    if !arrival.rises {
         return refused(21);
     }
-    if entered < arrived {
+    if scaled < tables::times(left, seconds) {
         return refused(21);
     }
+    if tables::times(entered, seconds) < scaled {
+        return refused(21);
+    }
+    let arrived = (scaled / tables::wide(seconds)) as u32;
     LinkAnswer::State {
         queued: arrived - left,
         in_transit: entered - arrived,
@@ -91,7 +112,7 @@ fn state_by(
 {
     let count = counts.links;
     let steps = counts.steps;
-    if ledger.len() < row_start(steps + 1, count) {
+    if ledger.len() < tables::row_start(steps + 1, count) {
         return refused(8);
     }
     let n = boundary as usize;
@@ -106,14 +127,15 @@ fn state_by(
         return refused(20);
     }
     let i = number - 1;
-    let entered = entered_in(ledger, count, n, i);
-    let left = left_in(ledger, count, n, i);
-    state_from(entered, left, arrived_in(links, times, ledger, count, n, i))
+    let entered = tables::entered_at(ledger, count, n, i);
+    let left = tables::left_at(ledger, count, n, i);
+    state_from(entered, left, arrival_in(links, times, ledger, count, n, i))
 }
 
-// State of one link at a boundary: refusals 1 to 8 of the network and the ledger, then 19, 20 and 21.
+// State of one link at a boundary: refusals 1 to 6 of the network, 8 of the ledger, then 19, 20 and 21.
 pub fn link_state(network: &[u8], ledger: &[u32], boundary: u32, link: u32) -> LinkAnswer
     ensures { λ r. ⌜ r ≡ linkState (lines (now (network .entry))) (now (ledger .entry)) boundary link ⌝ }
+    ensures { λ r. ⌜ StatePromises r ⌝ }
 {
     let mut links = [0u32; LINK_TABLE_SIZE];
     let mut movements = [0u32; MOVEMENT_TABLE_SIZE];

@@ -26,7 +26,7 @@ leb-times x y s h = elim (decLe x y) [
 ]
 
 -- before the travel time it is the first step
-arrival-first : (network : List Line) → ValidNetwork network → (n i : ℕ) → time network n < travelTime network i → arrivalStep network n i ≡ 0
+pub arrival-first : (network : List Line) → ValidNetwork network → (n i : ℕ) → time network n < travelTime network i → arrivalStep network n i ≡ 0
 arrival-first network valid n i early =
     let a = arrivalStep network n i in
     let some = step-limits network valid 0 (counts network valid .some-step) .some-time in

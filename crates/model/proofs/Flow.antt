@@ -1,13 +1,13 @@
 -- What an accepted plan keeps of the traffic. Assumes nothing.
-use mathlib.Core.Path.{_≡_, refl, ap, _∙_}
+use mathlib.Core.Path.{_≡_, refl, sym, ap, _∙_}
 use mathlib.Core.Bool.{true}
 use mathlib.Core.List.{List}
 use Prim.Native.Nat.{ℕ, zero, suc, _+_, _*_, _-_, _/_, _≤_, _<_, min}
-use native.Mathlib.Nat.{le-refl, le-of-mul-le-mul-right, mul-le-mul-left, mul-div-cancel, le-div-iff-mul-le}
+use native.Mathlib.Nat.{le-refl, le-trans, le-of-mul-le-mul-right, mul-le-mul-left, mul-le-mul-right, mul-div-cancel, le-div-iff-mul-le}
 use native.Mathlib.Decide.{decLe}
 use native.Mathlib.Omega.{arith}
 use lib.Dec.{eqb}
-use borrow.Author.Tests.{leb-true, le-ltb, lt-ltb}
+use borrow.Author.Tests.{leb-true}
 use Rattle.records.specs.Lines.{Line}
 use Rattle.model.specs.Sum.{sum, only}
 use Rattle.model.specs.Network.{linkCount, movementCount, stepCount, capacity, travelTime, standing, fromLink, toLink, stepLength, time, arrivalStep, elapsed}
@@ -15,9 +15,10 @@ use Rattle.model.specs.Flows.{admitted, letOut, moved, movedInto, movedF
 use Rattle.model.specs.Rules.{rule17, rule18}
 use Rattle.model.specs.Guarantees.{between, secondsOver}
 use Rattle.model.proofs.Sums.{sum-ext, sum-le, sum-add, sum-sub, sum-swap, sum-more, sum-place}
-use Rattle.model.proofs.Times.{time-suc, time-mono, arrival-step-lt, elapsed-is, elapsed-lt}
+use Rattle.model.proofs.Times.{time-suc, time-mono, arrival-step-le, arrival-step-lt, elapsed-is, elapsed-lt}
+use Rattle.model.proofs.Arrived.{arrived-by-step}
 use Rattle.model.proofs.Accepted.{ValidNetwork, AcceptedPlan}
-use Rattle.model.proofs.Limits.{link-limits, movement-limits, step-limits}
+use Rattle.model.proofs.Limits.{counts, link-limits, movement-limits, step-limits}
 
 module _ (network plan : List Line) where
   pub entered-suc : (n i : ℕ) → entered network plan (suc n) i ≡ entered network plan n i + inflow network plan n i
@@ -33,61 +34,74 @@ module _ (network plan : List Line) where
   over n i m = inflow network plan m i * secondsOver network n i m / stepLength network m
 
   module _ (valid : ValidNetwork network) where
-    -- the volume that has arrived, by the step in which the travel time ends
-    module _ (volume n i : ℕ) (h : n ≤ stepCount network) (l : i < linkCount network) where
+    -- the step in which the travel time ends
+    module _ (n i : ℕ) (h : n ≤ stepCount network) (l : i < linkCount network) where
       abbrev a : ℕ
       a = arrivalStep network n i
 
       abbrev s : ℕ
       s = stepLength network a
 
-      travel : 1 ≤ travelTime network i
-      travel = link-limits network valid i l .some-travel
+      within : a < stepCount network
+      within = elim (decLe 1 n) [
+        | yes u ↦ omega (arith, arrival-step-lt network n i u)
+        | no u ↦ omega (arith, arrival-step-le network n i, counts network valid .some-step)
+      ]
 
-      module _ (late : travelTime network i ≤ time network n) where
-        before : a < n
-        before = arrival-step-lt network n i (some n (omega (arith, travel)))
-          where
-            some : (m : ℕ) → 1 ≤ time network m → 1 ≤ m
-            some zero e = let z : time network 0 ≡ 0 = unfold time sum in refl in absurd (omega arith)
-            some (suc m) e = omega arith
+      pub lasts : 1 ≤ s
+      lasts = step-limits network valid a within .some-time
 
-        lasts : 1 ≤ s
-        lasts = step-limits network valid a (omega (arith, before)) .some-time
+      elapsed-within : elapsed network n i ≤ s
+      elapsed-within = elim (decLe (travelTime network i) (time network n)) [
+        | yes u ↦ omega (arith, elapsed-lt network n i (link-limits network valid i l .some-travel) u)
+        | no u ↦ omega (arith, elapsed-is network n i)
+      ]
 
-        of-late : hasArrived network plan volume n i ≡ true → volume * s ≤ entered network plan a i * s + inflow network plan a i * elapsed network n i
-        unfolding hasArrived
-        of-late = rw (le-ltb (time network n) (travelTime network i) late) (λ e. leb-true _ _ e)
+      -- no more has arrived than entered ..
+      pub scaled-entered : entered network plan a i * s + inflow network plan a i * elapsed network n i ≤ entered network plan n i * s
+      scaled-entered = elim (decLe 1 n) [
+        | yes u ↦
+            omega (
+              arith,
+              mul-le-mul-left (inflow network plan a i) elapsed-within,
+              mul-le-mul-right s (entered-more (suc a) n i (arrival-step-lt network n i u)),
+              ap (λ x. x * s) (entered-suc a i),
+            )
+        | no u ↦
+            let z : elapsed network n i ≡ 0 = omega (arith, elapsed-is network n i, time-mono network n 0 (omega arith), start) in
+            rw z (omega (arith, mul-le-mul-right s (entered-more a n i (arrival-step-le network n i))))
+      ]
+        where
+          start : time network 0 ≡ 0
+          start = unfold time sum in refl
 
-        part-entered : hasArrived network plan volume n i ≡ true → volume ≤ entered network plan n i
-        part-entered e =
-            let f : inflow network plan a i * elapsed network n i ≤ inflow network plan a i * s =
-            mul-le-mul-left (inflow network plan a i) (omega (arith, elapsed-lt network n i travel late)) in
-            let k : volume * s ≤ (entered network plan a i + inflow network plan a i) * s = omega (arith, of-late e, f) in
-            omega (arith, le-of-mul-le-mul-right k lasts, entered-suc a i, entered-more (suc a) n i before)
+      -- .. nor than stood there at the start and the parts that are over: all of the steps before, and of the step itself the elapsed part
+      whole-over : (m : ℕ) → m < a → inflow network plan m i ≤ over n i m
+      unfolding secondsOver
+      whole-over m u =
+          let some = step-limits network valid m (omega (arith, within)) .some-time in
+          let all : min (stepLength network m) (time network n - (time network m + travelTime network i)) ≡ stepLength network m =
+          omega (arith, time-suc network m, time-mono network (suc m) a u, elapsed-is network n i) in
+          rw (all, mul-div-cancel (inflow network plan m i) some) (le-refl _)
 
-        -- of a step before it all is over ..
-        whole-over : (m : ℕ) → m < a → inflow network plan m i ≤ over n i m
-        unfolding secondsOver
-        whole-over m u =
-            let some = step-limits network valid m (omega (arith, before)) .some-time in
-            let e : min (stepLength network m) (time network n - (time network m + travelTime network i)) ≡ stepLength network m =
-            omega (arith, time-suc network m, time-mono network (suc m) a u, elapsed-is network n i) in
-            rw (e, mul-div-cancel (inflow network plan m i) some) (le-refl _)
+      elapsed-over : secondsOver network n i a ≡ elapsed network n i
+      unfolding secondsOver
+      elapsed-over = omega (arith, elapsed-is network n i, elapsed-within)
 
-        -- .. of the step itself the elapsed part
-        elapsed-over : secondsOver network n i a ≡ elapsed network n i
-        unfolding secondsOver
-        elapsed-over = omega (arith, elapsed-is network n i, elapsed-lt network n i travel late)
+      module _ (volume : ℕ) (e : hasArrived network plan volume n i ≡ true) where
+        scaled : volume * s ≤ entered network plan a i * s + inflow network plan a i * elapsed network n i
+        scaled = leb-true _ _ (sym (arrived-by-step network plan valid volume n i) ∙ e)
 
-        part-over : hasArrived network plan volume n i ≡ true → volume ≤ standing network i + sum n (over n i)
-        part-over e =
-            let b = of-late e in
-            let k : (volume - entered network plan a i) * s ≤ inflow network plan a i * secondsOver network n i a = rw elapsed-over (sub-part volume (entered network plan a i) s _ b) in
-            let d : volume - entered network plan a i ≤ over n i a = le-div-iff-mul-le lasts .1 k in
-            let w : entered network plan a i ≤ standing network i + sum a (over n i) = unfold entered in omega (arith, sum-le a (λ m. inflow network plan m i) (over n i) whole-over) in
-            let t : sum (suc a) (over n i) ≡ sum a (over n i) + over n i a = unfold sum in refl in
-            omega (arith, sum-more (over n i) (suc a) n before)
+        arrived-entered : volume ≤ entered network plan n i
+        arrived-entered = le-of-mul-le-mul-right (le-trans scaled scaled-entered) lasts
+
+        arrived-over : 1 ≤ n → volume ≤ standing network i + sum n (over n i)
+        arrived-over u =
+            let k : (volume - entered network plan a i) * s ≤ inflow network plan a i * secondsOver network n i a = rw elapsed-over (sub-part volume (entered network plan a i) s _ scaled) in
+            let part : volume - entered network plan a i ≤ over n i a = le-div-iff-mul-le lasts .1 k in
+            let before : entered network plan a i ≤ standing network i + sum a (over n i) = unfold entered in omega (arith, sum-le a (λ m. inflow network plan m i) (over n i) whole-over) in
+            let more : sum (suc a) (over n i) ≡ sum a (over n i) + over n i a = unfold sum in refl in
+            omega (arith, sum-more (over n i) (suc a) n (arrival-step-lt network n i u))
           where
             sub-part : (v e s x : ℕ) → v * s ≤ e * s + x → (v - e) * s ≤ x
             sub-part v e s x b = elim (decLe e v) [
@@ -95,28 +109,10 @@ module _ (network plan : List Line) where
               | no u ↦ let q : v - e ≡ 0 = omega arith in rw q (omega arith)
             ]
 
-      of-early : time network n < travelTime network i → hasArrived network plan volume n i ≡ true → volume ≤ standing network i
-      unfolding hasArrived
-      of-early u = rw (lt-ltb (time network n) (travelTime network i) u) (λ e. leb-true _ _ e)
-
-      -- what has arrived has entered
-      pub arrived-entered : hasArrived network plan volume n i ≡ true → volume ≤ entered network plan n i
-      arrived-entered e = elim (decLe (travelTime network i) (time network n)) [
-        | yes u ↦ part-entered u e
-        | no u ↦ let q = of-early (omega arith) e in unfold entered in omega arith
-      ]
-
-      -- and stood there at the start, or is of the parts that are over
-      arrived-over : hasArrived network plan volume n i ≡ true → volume ≤ standing network i + sum n (over n i)
-      arrived-over e = elim (decLe (travelTime network i) (time network n)) [
-        | yes u ↦ part-over u e
-        | no u ↦ omega (arith, of-early (omega arith) e)
-      ]
-
     -- rule 17 keeps what a link holds from being less than nothing
     pub left-entered-next : (n i : ℕ) → n < stepCount network → i < linkCount network → rule17 network plan n i ≡ true → left network plan (suc n) i ≤ entered network plan (suc n) i
     unfolding rule17
-    left-entered-next n i h l e = arrived-entered (left network plan (suc n) i) (suc n) i h l e
+    left-entered-next n i h l e = arrived-entered (suc n) i h l (left network plan (suc n) i) e
 
     -- what the movements bring to all links, and take from them, is what moves
     into-all : (n : ℕ) → sum (linkCount network) (movedInto network plan n) ≡ sum (movementCount network) (moved network plan n)
@@ -162,7 +158,7 @@ module _ (network plan : List Line) where
   module _ (accepted : AcceptedPlan network plan) where
     pub left-over : (n i : ℕ) → n ≤ stepCount network → i < linkCount network → left network plan n i ≤ standing network i + sum n (over n i)
     left-over zero i h l = unfold left sum in omega arith
-    left-over (suc n) i h l = unfold rule17 in arrived-over (accepted .valid) (left network plan (suc n) i) (suc n) i h l (accepted .lawful n h .keeps17 i l)
+    left-over (suc n) i h l = unfold rule17 in arrived-over (accepted .valid) (suc n) i h l (left network plan (suc n) i) (accepted .lawful n h .keeps17 i l) (omega arith)
 
     pub left-entered : (n i : ℕ) → n ≤ stepCount network → i < linkCount network → left network plan n i ≤ entered network plan n i
     left-entered zero i h l = unfold left sum in omega arith

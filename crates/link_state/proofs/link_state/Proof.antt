@@ -32,10 +32,10 @@ enum-known-refusal : tie.Need-enum-known-refusal
 enum-known-refusal c = search needs
 
 returns : tie.Need-returns
-returns c = search (told-by, needs)
+returns c = told-by (c .before .before .before .before .before .before .before .before .before .load-network .ensures) _ _ _ (c .before .before .before .before .reading .given .1) (c .state-by .ensures)
 
 returns-2 : tie.Need-returns-2
-returns-2 c = search (refused-told, needs)
+returns-2 c = refused-told (c .before .before .before .before .before .before .load-network .ensures) _ _ _ (c .before .refusal .given .1)
 
 pub link-state-spec : {M : Type 1} → statement M
 link-state-spec =

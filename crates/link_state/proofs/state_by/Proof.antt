@@ -1,6 +1,6 @@
 -- `link_state::state_by` meets its contract: one law for each way out, of any network whose tables these are. Assumes nothing.
 use borrow.Author.Needs.{needs}
-use Rattle.link_state.proofs.Ledger.{row-held, arrived-asked}
+use Rattle.link_state.proofs.Ledger.{row-held, arrival-asked, arrival-lasts}
 use Rattle.link_state.proofs.State.{short-told, past-told, below-told, above-told, found-told}
 use Rattle.link_state.proofs.state_by.Statement.{statement}
 use Rattle.link_state.proofs.state_by.Tie as tie
@@ -39,20 +39,21 @@ returns-4 : tie.Need-returns-4
 returns-4 c =
     record { told = λ network t. above-told t _ _ _ (c .before .before .before .before .before .row-start .ensures) (c .before .before .before .before .if1 .left) (c .before .before .before .if2 .left) (c .before .before .if3 .left) (c .before .if4 .taken) (c .refused4 .ensures) }
 
-entered-in-requires : tie.Need-entered-in-requires
-entered-in-requires c κs =
+entered-at-requires : tie.Need-entered-at-requires
+entered-at-requires c κs =
     row-held (c .before .before .before .before .before .before .before .before .pre) (c .before .before .before .before .row-start .ensures) (c .before .before .before .if1 .left) (c .before .before .if2 .left) (c .before .if3 .left) (c .if4 .left)
 
-left-in-requires : tie.Need-left-in-requires
-left-in-requires c κs =
+left-at-requires : tie.Need-left-at-requires
+left-at-requires c κs =
     row-held (c .before .before .before .before .before .before .before .before .before .pre) (c .before .before .before .before .before .row-start .ensures) (c .before .before .before .before .if1 .left) (c .before .before .before .if2 .left) (c .before .before .if3 .left) (c .before .if4 .left)
 
-arrived-in-requires : tie.Need-arrived-in-requires
-arrived-in-requires c κs =
-    arrived-asked (c .before .before .before .before .before .before .before .before .before .before .pre) (c .before .before .before .before .before .before .row-start .ensures) (c .before .before .before .before .before .if1 .left) (c .before .before .before .before .if2 .left) (c .before .before .before .if3 .left) (c .before .before .if4 .left)
+arrival-in-requires : tie.Need-arrival-in-requires
+arrival-in-requires c κs =
+    arrival-asked (c .before .before .before .before .before .before .before .before .before .before .pre) (c .before .before .before .before .before .before .row-start .ensures) (c .before .before .before .before .before .if1 .left) (c .before .before .before .before .if2 .left) (c .before .before .before .if3 .left) (c .before .before .if4 .left)
 
 state-from-requires : tie.Need-state-from-requires
-state-from-requires c κs = search needs
+state-from-requires c κs =
+    arrival-lasts (c .before .before .before .before .before .before .before .before .before .before .before .pre) _ _ (c .before .before .before .before .before .if2 .left) _ (c .arrival-in .ensures)
 
 returns-5 : tie.Need-returns-5
 returns-5 c =
@@ -60,7 +61,7 @@ returns-5 c =
     record {
       told = λ network t.
           found-told t _ _ _ (s .before .before .before .before .row-start .ensures) (s .before .before .before .if1 .left) (s .before .before .if2 .left) (s .before .if3 .left) (s .if4 .left)
-          (c .before .before .before .entered-in .ensures) (c .before .before .left-in .ensures) (c .before .arrived-in .ensures) (c .state-from .ensures);
+          (c .before .before .before .entered-at .ensures) (c .before .before .left-at .ensures) (c .before .arrival-in .ensures) (c .state-from .ensures);
     }
 
 pub state-by-spec : {M : Type 1} → statement M
@@ -77,8 +78,8 @@ state-by-spec =
     returns-3
     refused-requires-4
     returns-4
-    entered-in-requires
-    left-in-requires
-    arrived-in-requires
+    entered-at-requires
+    left-at-requires
+    arrival-in-requires
     state-from-requires
     returns-5)
