@@ -21,6 +21,7 @@ use Rattle.record_writer.specs.Writing.{putAt, Wrote}
 use Rattle.model.specs.Sum.{sum}
 use Rattle.model.specs.Network.{stepLength, time}
 use Rattle.model.specs.Table.{networkChecks}
+use Rattle.model.specs.Guarantees.{CanArise}
 use Rattle.model.proofs.Accepted.{valid-network}
 use Rattle.model.proofs.Limits.{step-limits}
 use Rattle.model.proofs.Numbers.{Numbered, refused-number, network-numbered}
@@ -199,7 +200,7 @@ unfolding writtenAnswer
 of-answer network listing verdicts.Passes r h = cc
 of-answer network listing (verdicts.Refused q) r h = cc
 
-answer-number : (network : List Line) (listing : List Entry) (size : ℕ) (r : Refusal) → planFromListing network listing size ≡ Refused r → 1 ≤ r .number
+answer-number : (network : List Line) (listing : List Entry) (size : ℕ) (r : Refusal) → planFromListing network listing size ≡ Refused r → CanArise (r .number)
 unfolding planFromListing
 answer-number network listing size r h =
     refused-number (writeChecks network listing size) r (write-numbered network listing size) (of-answer network listing _ r h)

@@ -9,6 +9,7 @@ use Rattle.records.specs.Lines.{Line, lines}
 use Rattle.model.specs.Network.{linkCount, signalCount, movementCount, stepCount, signal, stepLength}
 use Rattle.model.specs.Flows.{shownMask, admitted, letOut, moved}
 use Rattle.model.specs.Table.{letterP, isForm}
+use Rattle.model.specs.Guarantees.{CanArise}
 use Rattle.listing_lines.specs.declared.Variable.{Variable}
 use Rattle.listing_lines.specs.declared.Variable.the-variants.{Shown, Admitted, LetOut, Moved}
 use Rattle.listing_lines.specs.declared.Entry.{Entry}
@@ -46,9 +47,9 @@ pub record ReadsBack (network : List Line) (listing : List Entry) (plan : List L
   -- and so is every bit past the phases of a signal
   pub past : (n r k : ℕ) → n < stepCount network → r < signalCount network → signal network r .phases ≤ k → bitOf (shownMask network plan n r) k ≡ 0
 
--- the answer and the whole buffer are those of the definitions, a plan that was written reads back, and no refusal has the number 0
+-- the answer and the whole buffer are those of the definitions, a plan that was written reads back, and a refusal's number is one that can arise
 pub record PlanGot (network : List Line) (listing : List Entry) (old : List ℕ) (answer : ListingAnswer) (new : List ℕ) : Type 0 where
   pub told : answer ≡ planFromListing network listing (length old)
   pub holds : new ≡ bufferAfter network listing old
   pub reads-back : (end : ℕ) → answer ≡ Written end → ReadsBack network listing (lines (take end new))
-  pub refused-number : (r : Refusal) → answer ≡ Refused r → 1 ≤ r .number
+  pub refused-number : (r : Refusal) → answer ≡ Refused r → CanArise (r .number)

@@ -462,7 +462,7 @@ fn write_on_network(
     }
 }
 
-// The plan text of a solver's listing: refusals 1 to 7, then 22 and 23 line by line, then 24.
+// The plan text of a solver's listing: refusals 1 to 6, then 22 and 23 line by line, then 24.
 pub fn plan_from_listing(network: &[u8], listing: &[u8], out: &mut [u8]) -> ListingAnswer
     ensures { λ r. ⌜ PlanGot (lines (now (network .entry))) (entries (now (listing .entry))) (now (out .entry)) r (now (out .exit)) ⌝ }
 {

@@ -47,7 +47,7 @@ fn judge_plan(
     )
 }
 
-// Check a plan: refusals 1 to 18 and 25 to 27. A refusal writes only row 0 and the rows of steps that had passed.
+// Check a plan: refusals 1 to 6, 8 to 18, and 25 to 27. A refusal writes only row 0 and the rows of steps that had passed.
 pub fn check_plan(network: &[u8], plan: &[u8], ledger: &mut [u32]) -> PlanAnswer
     ensures { λ r. ⌜ r ≡ checkPlan (lines (now (network .entry))) (lines (now (plan .entry))) (length (now (ledger .entry))) ⌝ }
     ensures { λ r. ⌜ now (ledger .exit) ≡ ledgerAfter (lines (now (network .entry))) (lines (now (plan .entry))) (now (ledger .entry)) ⌝ }

@@ -1,5 +1,6 @@
 // The C library: the calls over slices, each a pointer and a length, with answers by value. include/plancheck.h declares them.
 ghost use mathlib.Core.Path.{_≡_};
+ghost use mathlib.Core.Logic.{_≢_};
 ghost use lib.ListN.{length};
 ghost use Rattle.records.specs.Lines.{lines};
 ghost use Rattle.model.specs.Calls.{checkNetwork, checkPlan, ledgerAfter, linkState};
@@ -70,6 +71,7 @@ pub struct CellsResult {
 #[no_mangle]
 pub extern "C" fn plancheck_check_network(network: &[u8]) -> NetworkResult
     ensures { λ r. ⌜ r ≡ verdictResult (checkNetwork (lines (now (network .entry)))) ⌝ }
+    ensures { λ r. ⌜ r .number ≢ 7 ⌝ }
 {
     verdict_result(network::check_network(network))
 }
@@ -131,6 +133,7 @@ pub extern "C" fn plancheck_link_state(
     link: u32,
 ) -> LinkResult
     ensures { λ r. ⌜ r ≡ linkResult (linkState (lines (now (network .entry))) (now (ledger .entry)) boundary link) ⌝ }
+    ensures { λ r. ⌜ r .number ≢ 7 ⌝ }
 {
     match link_state::link_state(network, ledger, boundary, link) {
         LinkAnswer::State { queued, in_transit } => LinkResult {

@@ -17,7 +17,7 @@ use Rattle.plan_check_c.proofs.plancheck_check_plan.Tie as tie
 promised : (network plan : List Line) (before after : List ℕ) (a : PlanAnswer) → Promises network plan before after a
     → Promises network plan before after (planAnswerOf (planResult a))
 promised network plan before after (plan-answer.Accepted t) p = p
-promised network plan before after (plan-answer.Refused r) p = rw (ne-eqb (r .number) 0 (λ e. omega (arith, p .refused-number r refl))) p
+promised network plan before after (plan-answer.Refused r) p = rw (ne-eqb (r .number) 0 (λ e. omega (arith, p .refused-number r refl .not-0))) p
 
 check-plan-requires : tie.Need-check-plan-requires
 check-plan-requires c κs = search needs

@@ -1,5 +1,6 @@
 -- `plan_check_c::plancheck_link_state` meets its contract. Assumes nothing.
 use mathlib.Core.Path.{sym, ap, _∙_}
+use native.Mathlib.Omega.{arith}
 use Rattle.plan_check_c.specs.Results.{linkResult}
 use borrow.Author.Needs.{needs}
 use Rattle.plan_check_c.proofs.plancheck_link_state.Statement.{statement}
@@ -15,10 +16,14 @@ enum-known-r : tie.Need-enum-known-r
 enum-known-r c = search needs
 
 returns : tie.Need-returns
-returns c = sym (ap linkResult (sym (c .before .before .before .link-state .ensures) ∙ c .before .queued .given .1))
+returns c =
+    let got = c .before .before .before .link-state .ensures in
+    (sym (ap linkResult (sym (got .0) ∙ c .before .queued .given .1)), λ e. omega arith)
 
 returns-2 : tie.Need-returns-2
-returns-2 c = sym (ap linkResult (sym (c .before .before .before .link-state .ensures) ∙ c .before .r .given .1))
+returns-2 c =
+    let got = c .before .before .before .link-state .ensures in
+    (sym (ap linkResult (sym (got .0) ∙ c .before .r .given .1)), got .1 .refused-number _ (c .before .r .given .1) .never-7)
 
 pub plancheck-link-state-spec : {M : Type 1} → statement M
 plancheck-link-state-spec =

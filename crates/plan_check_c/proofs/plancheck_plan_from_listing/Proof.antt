@@ -18,7 +18,7 @@ use Rattle.plan_check_c.proofs.plancheck_plan_from_listing.Tie as tie
 read-off : (network : List Line) (listing : List Entry) (before after : List ℕ) (a : ListingAnswer) → PlanGot network listing before a after
     → PlanGot network listing before (listingAnswerOf (textResult a)) after
 read-off network listing before after (listing-answer.Written end) g = g
-read-off network listing before after (listing-answer.Refused r) g = rw (ne-eqb (r .number) 0 (λ e. omega (arith, g .refused-number r refl))) g
+read-off network listing before after (listing-answer.Refused r) g = rw (ne-eqb (r .number) 0 (λ e. omega (arith, g .refused-number r refl .not-0))) g
 
 plan-from-listing-requires : tie.Need-plan-from-listing-requires
 plan-from-listing-requires c κs = search needs
