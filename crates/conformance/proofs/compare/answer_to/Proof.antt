@@ -11,7 +11,7 @@ of-network-requires : tie.Need-of-network-requires
 of-network-requires c κs = search needs
 
 returns : tie.Need-returns
-returns c = answered-network _ _ _ _ _ _ (c .before .before .if1 .taken) (c .before .check-network .ensures) (c .of-network .ensures)
+returns c = answered-network _ _ _ _ _ _ (c .before .before .if1 .taken) (c .before .check-network .ensures .0) (c .of-network .ensures)
 
 check-plan-requires : tie.Need-check-plan-requires
 check-plan-requires c κs = search needs
@@ -55,7 +55,7 @@ same-length-3 : tie.Need-same-length-3
 same-length-3 c = search needs
 
 returns-4 : tie.Need-returns-4
-returns-4 c = answered-link _ _ _ _ _ _ (c .before .before .before .before .before .before .before .before .before .if1 .left) (c .before .before .before .before .before .before .before .if2 .left) (c .before .before .before .before .before .if3 .left) (c .before .link-state .ensures) (c .of-link .ensures)
+returns-4 c = answered-link _ _ _ _ _ _ (c .before .before .before .before .before .before .before .before .before .if1 .left) (c .before .before .before .before .before .before .before .if2 .left) (c .before .before .before .before .before .if3 .left) (c .before .link-state .ensures .0) (c .of-link .ensures)
 
 pub answer-to-spec : {M : Type 1} → statement M
 answer-to-spec =
