@@ -24,7 +24,7 @@ pub place-small : {counts : Counts} {signals : List Signal} {line step links mov
     → JudgeAsked counts signals line step links movements phases ledger times arrivals row n → 2 * n * counts .links ≤ 5760
 place-small {counts} {n = n} asked =
     let h : 2 * n ≤ 240 = omega (arith, asked .few-steps) in
-    omega (arith, mul-le-mul-right (counts .links) h, asked .line-tables .few .links)
+    omega (arith, mul-le-mul-right (counts .links) h, asked .line-tables .tables .few .links)
 
 module _ (counts : Counts) (signals : List Signal) (line step links movements phases ledger times arrivals row : List ℕ) (n : ℕ) where
   module _ {v : Verdict} (signals-told : v ≡ verdict (table (n + 1) (signalRulesIn signals (counts .signals) phases (lengthIn step)))) where
