@@ -230,24 +230,6 @@ static struct refusal read_step(struct text *text, struct network *network, uint
     return passed;
 }
 
-/* Every arrival falls on a boundary. As steps rise, so does the boundary at which what arrives has entered. */
-static struct refusal judge_travel_times(const struct network *network, uint32_t first_line)
-{
-    uint8_t entry[PLANCHECK_MAX_LINKS] = {0};
-    for (uint32_t n = 1; n <= network->steps; n++) {
-        for (uint32_t i = 0; i < network->links; i++) {
-            if (network->time[n] < network->link[i].travel_time)
-                continue;
-            uint32_t entry_time = network->time[n] - network->link[i].travel_time;
-            while (network->time[entry[i]] < entry_time)
-                entry[i]++;
-            if (network->time[entry[i]] != entry_time)
-                return refuse(7, first_line + n - 1, i + 1);
-        }
-    }
-    return passed;
-}
-
 /* Reads and judges a network text. */
 static struct refusal read_network(struct network *network, const uint8_t *bytes, size_t length)
 {
@@ -291,9 +273,7 @@ static struct refusal read_network(struct network *network, const uint8_t *bytes
         if (refusal.number != 0)
             return refusal;
     }
-    if (text.at != text.length)
-        return refuse(1, line, 0);
-    return judge_travel_times(network, line - network->steps);
+    return text.at == text.length ? passed : refuse(1, line, 0);
 }
 
 /* One step of a plan, and what it does to the links. */
@@ -392,28 +372,43 @@ static struct refusal judge_flows(const struct network *network, struct step *st
     return passed;
 }
 
-/* Rules 17 and 18. entry: the boundary at which what arrives at a link by now has entered it. */
-static struct refusal judge_links(const struct network *network, struct step *step, const uint32_t *ledger, uint32_t n,
-                                  uint8_t *entry)
+/* Where a link's travel time before a boundary ends: the step, from 0, and the seconds of it that have elapsed. The search
+ * goes on from a step that was found before. */
+struct end {
+    uint32_t step, length, elapsed;
+};
+
+static struct end find_end(const struct network *network, uint32_t from, uint32_t boundary, uint32_t travel_time)
 {
-    const uint32_t *row_before = ledger + 2 * (size_t)(n - 1) * network->links;
-    for (uint32_t i = 0; i < network->links; i++) {
-        const struct link *link = &network->link[i];
-        uint32_t arrived = link->standing;
-        if (network->time[n] >= link->travel_time) {
-            while (network->time[entry[i]] < network->time[n] - link->travel_time)
-                entry[i]++;
-            arrived = ledger[2 * ((size_t)entry[i] * network->links + i)];
-        }
-        step->left[i] = row_before[2 * i + 1] + step->let_out[i] + step->moved_from[i];
-        if (step->left[i] > arrived)
-            return refuse(17, n, i + 1);
-    }
+    const uint32_t *time = network->time;
+    uint32_t latest = time[boundary] < travel_time ? 0 : time[boundary] - travel_time;
+    uint32_t step = from;
+    while (step + 1 < boundary && time[step + 1] <= latest)
+        step++;
+    return (struct end){step, time[step + 1] - time[step], latest - time[step]};
+}
+
+/* Rules 17 and 18. ends: the step in which the travel time of each link ends; of what enters in it the elapsed part has arrived,
+ * so that both sides are multiplied by its length. */
+static struct refusal judge_links(const struct network *network, struct step *step, const uint32_t *ledger, uint32_t n,
+                                  uint8_t *ends)
+{
+    size_t row_length = 2 * (size_t)network->links;
+    const uint32_t *row_before = ledger + (n - 1) * row_length;
     for (uint32_t i = 0; i < network->links; i++) {
         step->entered[i] = row_before[2 * i] + step->admitted[i] + step->moved_to[i];
+        step->left[i] = row_before[2 * i + 1] + step->let_out[i] + step->moved_from[i];
+        struct end end = find_end(network, ends[i], n, network->link[i].travel_time);
+        ends[i] = (uint8_t)end.step;
+        uint32_t before = ledger[end.step * row_length + 2 * i];
+        uint32_t after = end.step + 1 == n ? step->entered[i] : ledger[(end.step + 1) * row_length + 2 * i];
+        uint64_t arrived = (uint64_t)before * end.length + (uint64_t)(after - before) * end.elapsed;
+        if ((uint64_t)step->left[i] * end.length > arrived)
+            return refuse(17, n, i + 1);
+    }
+    for (uint32_t i = 0; i < network->links; i++)
         if (step->entered[i] - row_before[2 * i + 1] > network->link[i].capacity)
             return refuse(18, n, i + 1);
-    }
     return passed;
 }
 
@@ -447,7 +442,7 @@ plancheck_plan_result twin_check_plan(const uint8_t *network_text, size_t networ
     }
     struct text demands = {network_text, network_len, network.first_step};
     struct text plan = {plan_text, plan_len, 0};
-    uint8_t entry[PLANCHECK_MAX_LINKS] = {0};
+    uint8_t ends[PLANCHECK_MAX_LINKS] = {0};
     uint32_t numbers[MAX_PLAN_NUMBERS], step_numbers[1 + PLANCHECK_MAX_LINKS];
     struct step step;
     step.mask = numbers;
@@ -466,7 +461,7 @@ plancheck_plan_result twin_check_plan(const uint8_t *network_text, size_t networ
         if (refusal.number == 0)
             refusal = judge_flows(&network, &step, n);
         if (refusal.number == 0)
-            refusal = judge_links(&network, &step, ledger, n, entry);
+            refusal = judge_links(&network, &step, ledger, n, ends);
         if (refusal.number != 0)
             return plan_refused(refusal);
 
@@ -510,14 +505,18 @@ plancheck_link_result twin_link_state(const uint8_t *network_text, size_t networ
     uint32_t entered = ledger[boundary * row_length + place];
     uint32_t left = ledger[boundary * row_length + place + 1];
     uint32_t travel_time = network.link[link - 1].travel_time;
-    uint32_t arrived = network.link[link - 1].standing;
-    if (network.time[boundary] >= travel_time) {
-        uint32_t entry = 0;
-        while (network.time[entry] < network.time[boundary] - travel_time)
-            entry++;
-        arrived = ledger[entry * row_length + place];
-    }
-    if (left > arrived || arrived > entered)
+    struct end end = find_end(&network, 0, boundary, travel_time);
+    uint32_t before = network.link[link - 1].standing;
+    uint32_t after = ledger[(end.step + 1) * row_length + place];
+    if (network.time[boundary] >= travel_time)
+        before = ledger[end.step * row_length + place];
+    if (end.elapsed != 0 && after < before)
         return link_refused(refuse(21, 0, 0));
-    return (plancheck_link_result){0, 0, 0, arrived - left, entered - arrived};
+    uint64_t arrived = (uint64_t)before * end.length;
+    if (end.elapsed != 0)
+        arrived += (uint64_t)(after - before) * end.elapsed;
+    if ((uint64_t)left * end.length > arrived || arrived > (uint64_t)entered * end.length)
+        return link_refused(refuse(21, 0, 0));
+    uint32_t whole = (uint32_t)(arrived / end.length);
+    return (plancheck_link_result){0, 0, 0, whole - left, entered - whole};
 }
