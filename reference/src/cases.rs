@@ -521,7 +521,7 @@ pub fn stored_cases(seed: u64) -> Vec<Case> {
     }
 
     // What the plan itself breaks, on traffic of all kinds.
-    for _ in 0..16 {
+    for _ in 0..12 {
         let size = draw_full_size(&mut maker.random);
         let traffic = maker.random.pick(&[Traffic::Free, Traffic::Full]);
         let scenario = Scenario::make(&mut maker.random, size, traffic);

@@ -52,18 +52,18 @@ pub struct State {
     pub in_transit: u64,
 }
 
-/// Refusals 1 to 7.
+/// Refusals 1 to 6.
 pub fn check_network(network: &[u8]) -> Result<(), Refusal> {
     Network::read(network).map(|_| ())
 }
 
-/// Refusals 1 to 18 and 25 to 27; row 0 is written once the ledger's length has passed, row
-/// n once step n has.
+/// Refusals 1 to 6, 8 to 18 and 25 to 27; row 0 is written once the ledger's
+/// length has passed, row n once step n has.
 pub fn check_plan(network: &[u8], plan: &[u8], ledger: &mut [u32]) -> Result<Totals, Refusal> {
     plan::check(network, plan, ledger)
 }
 
-/// Refusals 1 to 7 and 22 to 24. Writes the plan text of a solver's listing at
+/// Refusals 1 to 6 and 22 to 24. Writes the plan text of a solver's listing at
 /// the start of the buffer and gives its length.
 pub fn plan_from_listing(
     network: &[u8],
@@ -73,7 +73,7 @@ pub fn plan_from_listing(
     listing::write_plan(network, listing, buffer)
 }
 
-/// Refusals 1 to 8 and 19 to 21; nothing is written.
+/// Refusals 1 to 6, 8 and 19 to 21; nothing is written.
 pub fn link_state(
     network: &[u8],
     ledger: &[u32],

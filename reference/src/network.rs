@@ -1,4 +1,4 @@
-//! The network text: what it holds and refusals 1 to 7.
+//! The network text: what it holds and refusals 1 to 6.
 
 use crate::text::{Line, Lines};
 use crate::Refusal;
@@ -55,6 +55,40 @@ pub struct Step {
     pub demand: Vec<u64>,
 }
 
+/// A volume, exactly: what entered by a step's start plus the elapsed part of
+/// the step's volume, in parts of a thousandth of a vehicle of which the step's
+/// length makes up a whole one. The parts are below 2^32 x 60.
+#[derive(Clone, Copy)]
+pub struct Arrived {
+    parts: u64,
+    length: u64,
+}
+
+/// The entered count falls over the step that the travel time ends in.
+#[derive(Debug)]
+pub struct EnteredFalls;
+
+impl Arrived {
+    fn whole(volume: u64) -> Arrived {
+        Arrived {
+            parts: volume,
+            length: 1,
+        }
+    }
+
+    pub fn is_below(self, volume: u64) -> bool {
+        self.parts < volume * self.length
+    }
+
+    pub fn is_above(self, volume: u64) -> bool {
+        self.parts > volume * self.length
+    }
+
+    pub fn rounded_down(self) -> u64 {
+        self.parts / self.length
+    }
+}
+
 /// A whole network text.
 #[derive(Clone, Debug, PartialEq, Eq)]
 pub struct Network {
@@ -66,8 +100,7 @@ pub struct Network {
 
 impl Network {
     /// Reads and judges a network text: line by line, form before values, the
-    /// share sums after the last `M` line, surplus text after the last line,
-    /// and refusal 7 at the very end.
+    /// share sums after the last `M` line, surplus text after the last line.
     pub fn read(text: &[u8]) -> Result<Network, Refusal> {
         let mut lines = Lines::new(text);
         let counts = Counts::read(&lines.take())?;
@@ -98,7 +131,6 @@ impl Network {
         if let Some(line) = lines.surplus() {
             return Err(malformed(line));
         }
-        network.judge_travel_times()?;
         Ok(network)
     }
 
@@ -123,33 +155,8 @@ impl Network {
         Ok(())
     }
 
-    /// Refusal 7, by rising step, then link: time t(n) is at least the travel
-    /// time, but t(n) minus it is no boundary.
-    fn judge_travel_times(&self) -> Result<(), Refusal> {
-        let times = self.times();
-        for step in 1..=self.steps.len() {
-            for (index, link) in self.links.iter().enumerate() {
-                if times[step] < link.travel_time {
-                    continue;
-                }
-                if !times.contains(&(times[step] - link.travel_time)) {
-                    return Err(Refusal::new(
-                        7,
-                        self.lines_before_steps() + step as u64,
-                        index as u64 + 1,
-                    ));
-                }
-            }
-        }
-        Ok(())
-    }
-
     fn lines_before_movements(&self) -> u64 {
         1 + self.signals.len() as u64 + self.links.len() as u64
-    }
-
-    fn lines_before_steps(&self) -> u64 {
-        self.lines_before_movements() + self.movements.len() as u64
     }
 
     /// The times t(0) to t(K) of all boundaries; they rise, since every length
@@ -164,15 +171,33 @@ impl Network {
         times
     }
 
-    /// The boundary m with t(m) = t(n) - travel time, and none if t(n) is
-    /// smaller than the travel time. Refusal 7 sees to it that m exists.
-    pub fn arrival_boundary(&self, boundary: usize, link: &Link) -> Option<usize> {
+    /// What has arrived on a link at boundary n, by what had entered at each
+    /// boundary up to n: that of the time t(n) - travel time, and the standing
+    /// start if t(n) is smaller than the travel time.
+    pub fn arrived(
+        &self,
+        boundary: usize,
+        link: &Link,
+        entered: impl Fn(usize) -> u64,
+    ) -> Result<Arrived, EnteredFalls> {
         let times = self.times();
         if times[boundary] < link.travel_time {
-            return None;
+            return Ok(Arrived::whole(link.standing));
         }
         let entry_time = times[boundary] - link.travel_time;
-        times.iter().position(|&time| time == entry_time)
+        let later = times.iter().position(|&time| time > entry_time);
+        let end = later.expect("a travel time is at least 1");
+        let start = end - 1;
+        if times[start] == entry_time {
+            return Ok(Arrived::whole(entered(start)));
+        }
+        let volume = entered(end).checked_sub(entered(start));
+        let length = times[end] - times[start];
+        let elapsed = entry_time - times[start];
+        Ok(Arrived {
+            parts: entered(start) * length + volume.ok_or(EnteredFalls)? * elapsed,
+            length,
+        })
     }
 
     /// Numbers that a ledger needs: 2 x (K+1) x L.

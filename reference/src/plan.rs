@@ -1,6 +1,6 @@
 //! The plan text and refusals 8 to 18 and 25 to 27.
 
-use crate::network::{Link, Movement, Network};
+use crate::network::{Arrived, Link, Movement, Network};
 use crate::text::{write_record, Line, Lines};
 use crate::{Refusal, Totals};
 use std::ops::Range;
@@ -295,7 +295,7 @@ impl Attempt<'_> {
     /// Rule 17: left(n) <= arrived(n).
     fn link_left_before_arrival(&self) -> Option<usize> {
         self.links()
-            .find(|&link| self.left(link) > self.arrived(link))
+            .find(|&link| self.arrived(link).is_below(self.left(link)))
     }
 
     /// Rule 18: entered(n) - left(n-1) <= capacity.
@@ -397,14 +397,19 @@ impl Attempt<'_> {
             + self.moved_from(link)
     }
 
-    /// arrived(n), n being this step's number. The travel time is at least 1,
-    /// so what arrives by now has entered by an earlier boundary.
-    fn arrived(&self, link: usize) -> u64 {
+    /// arrived(n), n being this step's number. A part of what enters in this
+    /// very step arrives in it if the travel time is below the step's length.
+    fn arrived(&self, link: usize) -> Arrived {
+        let entered = |boundary: usize| {
+            if boundary == self.number {
+                self.entered(link)
+            } else {
+                self.passed.curves.entered[boundary][link]
+            }
+        };
         let limits = &self.network.links[link];
-        match self.network.arrival_boundary(self.number, limits) {
-            Some(boundary) => self.passed.curves.entered[boundary][link],
-            None => limits.standing,
-        }
+        let arrived = self.network.arrived(self.number, limits, entered);
+        arrived.expect("a plan's entered count never falls")
     }
 
     /// What the signals show after this step.

@@ -27,13 +27,13 @@ pub fn link_state(
     let left = |row: usize| u64::from(ledger[2 * row * link_count + 2 * index + 1]);
 
     let link = &network.links[index];
-    let arrived = match network.arrival_boundary(boundary, link) {
-        Some(entry_boundary) => entered(entry_boundary),
-        None => link.standing,
-    };
-    if left(boundary) > arrived || arrived > entered(boundary) {
+    let arrived = network.arrived(boundary, link, entered);
+    let arrived = arrived.map_err(|_| refusal(21))?;
+    if arrived.is_below(left(boundary)) || arrived.is_above(entered(boundary)) {
         return Err(refusal(21));
     }
+    // Standing is rounded down, the rest of what the link holds is moving.
+    let arrived = arrived.rounded_down();
     Ok(State {
         queued: arrived - left(boundary),
         in_transit: entered(boundary) - arrived,

@@ -1,6 +1,6 @@
 //! The worked corridor of the paper and its one-change cases c1 to c11.
 
-use plancheck_reference::{check_network, check_plan, report, Refusal, Totals};
+use plancheck_reference::{check_network, check_plan, report, Totals};
 
 const NETWORK: [&str; 9] = [
     "N\t2\t1\t1\t4",
@@ -137,15 +137,13 @@ fn c9_full_link() {
 #[test]
 fn c10_travel_time_between_boundaries() {
     let network = network_with(3, "Q\t60000\t15\t0\t1\t1\t0");
-    assert_prints(&network, &text(&PLAN), "R\t7\t7\t1\n");
-    assert_eq!(
-        check_network(network.as_bytes()),
-        Err(Refusal {
-            number: 7,
-            line: 7,
-            item: 1
-        })
-    );
+    assert_prints(&network, &text(&PLAN), "R\t17\t2\t1\n");
+    assert_eq!(check_network(network.as_bytes()), Ok(()));
+    // Half of the 5000 has arrived after step 2: no more may leave by then.
+    let plan = plan_with(2, "P\t1\t0\t0\t0\t0\t2500");
+    let plan = plan.replace("\t3000\t2000", "\t2500\t2500");
+    let plan = plan.replace("P\t2\t0\t0\t0\t2000", "P\t2\t0\t0\t0\t2500");
+    assert!(report(network.as_bytes(), plan.as_bytes()).starts_with(b"A\t5000\t5000\t0\t"));
 }
 
 #[test]

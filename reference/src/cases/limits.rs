@@ -52,6 +52,7 @@ pub fn exact_limits(maker: &mut Maker, scenario: &Scenario) {
     capacity(maker, scenario, link);
     exit_rate(maker, scenario, link);
     demand(maker, scenario, link);
+    travel_time(maker, scenario, link);
     if !scenario.network.movements.is_empty() {
         let movement = maker.random.index(scenario.network.movements.len());
         rate(maker, scenario, movement);
@@ -290,6 +291,33 @@ fn demand(maker: &mut Maker, scenario: &Scenario, link: usize) {
     maker.broken(scenario, "15: demand one below", refusal, |network| {
         network.steps[step].demand[link] = admitted - 1;
     });
+}
+
+/// Rule 17: the longest travel time with which nothing leaves too early.
+fn travel_time(maker: &mut Maker, scenario: &Scenario, link: usize) {
+    let early = |travel_time: u64| {
+        scenario.first_early_departure(link, travel_time, |row| scenario.entered[row][link])
+    };
+    let mut kept = scenario.network.links[link].travel_time;
+    let mut above = 3601;
+    while above - kept > 1 {
+        let middle = (kept + above) / 2;
+        if early(middle).is_none() {
+            kept = middle;
+        } else {
+            above = middle;
+        }
+    }
+    maker.kept(scenario, "travel time just kept", |network| {
+        network.links[link].travel_time = kept;
+    });
+    if let Some(step) = early(kept + 1) {
+        let refusal = refused(17, step + 1, link + 1);
+        let name = "17: travel time one second above";
+        maker.broken(scenario, name, refusal, |network| {
+            network.links[link].travel_time = kept + 1;
+        });
+    }
 }
 
 /// The network with every limit at what the plan needs.

@@ -1,7 +1,6 @@
-//! Refusals 2 to 7: every condition broken by itself, and the near misses that
+//! Refusals 2 to 6: every condition broken by itself, and the near misses that
 //! pass.
 
-use super::scenario::fitting_travel_times;
 use super::{refused, Answer, Maker, Scenario, Sheet, Texts};
 use crate::{Network, Phase, Refusal};
 
@@ -333,14 +332,15 @@ pub fn links(maker: &mut Maker, scenario: &Scenario) {
             network.links[link].travel_time = travel_time;
         });
     }
-    let fitting = fitting_travel_times(&scenario.times());
     for travel_time in [1, 3600] {
-        if fitting.contains(&travel_time) {
-            maker.near_miss(scenario, "travel time at its limit", |network| {
-                network.links[link].travel_time = travel_time;
-            });
-        }
+        maker.near_miss(scenario, "travel time at its limit", |network| {
+            network.links[link].travel_time = travel_time;
+        });
     }
+    let any = maker.random.between(1, 3600);
+    maker.near_miss(scenario, "any travel time", |network| {
+        network.links[link].travel_time = any;
+    });
 
     for exit_rate in [10_001, MOST] {
         maker.breach(scenario, "4: exit rate", &place, |network| {
@@ -582,7 +582,7 @@ fn last_of_wrong_sum(network: &Network) -> usize {
     same_link.count() - 1
 }
 
-/// Refusals 6 and 7.
+/// Refusal 6.
 pub fn steps(maker: &mut Maker, scenario: &Scenario) {
     let network = &scenario.network;
     let lines_before = 1 + network.signals.len() + network.links.len() + network.movements.len();
@@ -605,9 +605,6 @@ pub fn steps(maker: &mut Maker, scenario: &Scenario) {
             let_phases_last(network);
             for step in &mut network.steps {
                 step.length = length;
-            }
-            for link in &mut network.links {
-                link.travel_time = 3600;
             }
         });
     }
@@ -655,8 +652,6 @@ pub fn steps(maker: &mut Maker, scenario: &Scenario) {
         let name = "length equal to a phase's greatest time";
         maker.near_miss(scenario, name, shorten(longest));
     }
-
-    travel_times(maker, scenario, lines_before);
 }
 
 /// All phases may last for a minute and more.
@@ -664,73 +659,6 @@ fn let_phases_last(network: &mut Network) {
     let signals = network.signals.iter_mut();
     for phase in signals.flat_map(|signal| &mut signal.phases) {
         phase.greatest = 3600;
-    }
-}
-
-/// Refusal 7.
-fn travel_times(maker: &mut Maker, scenario: &Scenario, lines_before: usize) {
-    let times = scenario.times();
-    let fitting = fitting_travel_times(&times);
-    let link_count = scenario.network.links.len();
-    let horizon = times[times.len() - 1];
-
-    // One link, then two links with travel times of their own.
-    for count in [1, 1, 1, 2, 2] {
-        let mut travel_times: Vec<u64> = scenario
-            .network
-            .links
-            .iter()
-            .map(|link| link.travel_time)
-            .collect();
-        for _ in 0..count {
-            let link = maker.random.index(link_count);
-            travel_times[link] = maker.random.between(1, horizon.min(3600));
-        }
-        // By rising step, then link.
-        let first_breach = (1..times.len())
-            .flat_map(|step| (0..link_count).map(move |link| (step, link)))
-            .find(|&(step, link)| {
-                let entry_time = times[step].checked_sub(travel_times[link]);
-                entry_time.is_some_and(|time| !times.contains(&time))
-            });
-        let change = |network: &mut Network| {
-            for (link, travel_time) in network.links.iter_mut().zip(travel_times) {
-                link.travel_time = travel_time;
-            }
-        };
-        match first_breach {
-            Some((step, link)) => {
-                let refusal = refused(7, lines_before + step, link + 1);
-                maker.refused_change(scenario, "7: travel time", refusal, change);
-            }
-            None => maker.near_miss(scenario, "travel times fit", change),
-        }
-    }
-
-    // A travel time that reaches to a boundary, or one second beyond it.
-    let boundary = maker.random.index(times.len() - 1) + 1;
-    for travel_time in [times[boundary], times[boundary] + 1] {
-        if (1..=3600).contains(&travel_time) && fitting.contains(&travel_time) {
-            let name = "travel time at or above a boundary";
-            maker.near_miss(scenario, name, |network| {
-                network.links[0].travel_time = travel_time;
-            });
-        }
-    }
-
-    // Surplus text comes before refusal 7.
-    let misfit = (1..=3600).find(|time| !fitting.contains(time));
-    if let Some(travel_time) = misfit {
-        let mut network = scenario.network.clone();
-        network.links[link_count - 1].travel_time = travel_time;
-        let mut texts = Texts::new(&network, &scenario.plan);
-        texts.network.push(b'\n');
-        maker.ask_refused_network(
-            "1: surplus before a travel time",
-            texts,
-            scenario.ledger_need(),
-            refused(1, lines_before + scenario.network.steps.len() + 1, 0),
-        );
     }
 }
 

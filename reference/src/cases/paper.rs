@@ -1,7 +1,7 @@
 //! The corridor of the paper and its one-change cases.
 
 use super::{refused, Answer, Maker, Texts};
-use crate::{Refusal, Totals};
+use crate::Totals;
 
 const NETWORK: &str = "N\t2\t1\t1\t4\n\
     G\t20\t60\t2\t2\t10\t20\t10\t30\t10\t30\n\
@@ -35,11 +35,7 @@ pub fn cases(maker: &mut Maker) {
             texts.network = NETWORK.replacen(old, new, 1).into();
             texts.plan = PLAN.replacen(old, new, 1).into();
         }
-        let network_refusal = match intended {
-            Some(Answer::Refused(Refusal { number: 7, .. })) => intended,
-            _ => Some(Answer::NetworkAccepted),
-        };
-        maker.ask_network(name, texts.clone(), network_refusal);
+        maker.ask_network(name, texts.clone(), Some(Answer::NetworkAccepted));
         maker.ask_plan(name, texts, 20, intended);
     };
     ask("c1", None, accepted);
@@ -87,7 +83,7 @@ pub fn cases(maker: &mut Maker) {
     ask(
         "c10",
         Some(("Q\t60000\t10\t0", "Q\t60000\t15\t0")),
-        refused_plan(7, 7, 1),
+        refused_plan(17, 2, 1),
     );
     let empty = Texts {
         network: NETWORK.into(),

@@ -65,6 +65,15 @@ impl Breach {
         )
     }
 
+    /// A departure that is too early by what enters in the very same step.
+    fn is_about_own_step(&self, scenario: &Scenario) -> bool {
+        let arrives_at_once = || {
+            let entry = scenario.entry(self.broken_in + 1, self.item - 1);
+            entry.is_some_and(|entry| entry.boundary == self.broken_in && entry.elapsed > 0)
+        };
+        self.rule == 17 && arrives_at_once()
+    }
+
     fn refusal(&self) -> Refusal {
         refused(self.rule, self.broken_in + 1, self.item)
     }
@@ -327,16 +336,13 @@ fn too_little_entered(scenario: &Scenario, step: usize, breaches: &mut Vec<Breac
         if admitted == 0 {
             continue;
         }
-        // The first boundary at which all that had entered is gone.
-        let first_short = (step + 2..=scenario.step_count()).find(|&boundary| {
-            let entry = scenario.entry_boundary(boundary, link);
-            entry.is_some_and(|entry| entry > step)
-                && scenario.left[boundary][link] == scenario.arrived[boundary][link]
-        });
-        if let Some(boundary) = first_short {
+        let entered = |row: usize| scenario.entered[row][link] - u64::from(row > step);
+        let travel_time = scenario.network.links[link].travel_time;
+        let broken_in = scenario.first_early_departure(link, travel_time, entered);
+        if let Some(broken_in) = broken_in {
             let field = Field::Admitted(link);
             breaches.push(Breach {
-                broken_in: boundary - 1,
+                broken_in,
                 ..Breach::at_once(
                     17,
                     "17: one that left was not admitted before",
@@ -422,8 +428,12 @@ pub fn two_breaches(maker: &mut Maker, scenario: &Scenario) {
         let mut plan = scenario.plan.clone();
         first.apply(&mut plan);
         second.apply(&mut plan);
-        // Two breaches of shares may mend each other.
-        let independent = first.step != second.step || first.rule != 16 || second.rule != 16;
+        // Two breaches of shares may mend each other, and so may another volume
+        // that enters in a step and one that arrives in the same step.
+        let may_mend = first.rule == 16 && second.rule == 16
+            || first.is_about_own_step(scenario)
+            || second.is_about_own_step(scenario);
+        let independent = first.step != second.step || !may_mend;
         let intended = independent.then(|| Answer::Refused(told.refusal()));
         let name = format!("two breaches: {} / {}", first.name, second.name);
         let changed = Texts::new(&scenario.network, &plan);

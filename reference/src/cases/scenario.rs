@@ -46,12 +46,21 @@ pub struct Scenario {
     pub shown: Vec<Vec<Shown>>,
     pub entered: Vec<Vec<u64>>,
     pub left: Vec<Vec<u64>>,
+    /// Rounded down.
     pub arrived: Vec<Vec<u64>>,
+}
+
+/// A time on or after a boundary.
+#[derive(Clone, Copy, PartialEq, Eq)]
+pub struct Moment {
+    pub boundary: usize,
+    /// Seconds into the step after the boundary, fewer than its length.
+    pub elapsed: u64,
 }
 
 impl Scenario {
     pub fn make(random: &mut Random, size: Size, traffic: Traffic) -> Scenario {
-        let (lengths, travel_times) = draw_lengths(random, size.steps, traffic);
+        let lengths = draw_lengths(random, size.steps, traffic);
         let mut signals = Vec::new();
         let mut schedules = Vec::new();
         for _ in 0..size.signals {
@@ -59,15 +68,15 @@ impl Scenario {
             signals.push(signal);
             schedules.push(schedule);
         }
-        let horizon = lengths.iter().sum();
+        let times = boundary_times(lengths.iter().copied());
         let mut links: Vec<Link> = (0..size.links)
-            .map(|_| draw_link(random, traffic, &signals, &travel_times, horizon))
+            .map(|_| draw_link(random, traffic, &signals, &times))
             .collect();
         if traffic == Traffic::Extreme {
-            // The first link is full and always open.
+            // The first link is full or empty and always open.
             links[0].signal = 0;
             links[0].phase_mask = 0;
-            links[0].standing = links[0].capacity;
+            links[0].standing = random.pick(&[0, links[0].capacity]);
         }
         let movements = draw_movements(random, traffic, size);
         let steps = lengths
@@ -151,11 +160,29 @@ impl Scenario {
         }
     }
 
-    /// The boundary at which what has arrived at a boundary had entered.
-    pub fn entry_boundary(&self, boundary: usize, link: usize) -> Option<usize> {
+    /// When what has arrived at a boundary had entered.
+    pub fn entry(&self, boundary: usize, link: usize) -> Option<Moment> {
         let times = self.times();
         let entry_time = times[boundary].checked_sub(self.network.links[link].travel_time)?;
-        times.iter().position(|&time| time == entry_time)
+        let boundary = times.iter().rposition(|&time| time <= entry_time)?;
+        Some(Moment {
+            boundary,
+            elapsed: entry_time - times[boundary],
+        })
+    }
+
+    /// The first step (from index 0) after which more has left a link than has
+    /// arrived, with another travel time or with another number of entries.
+    pub fn first_early_departure(
+        &self,
+        link: usize,
+        travel_time: u64,
+        entered: impl Fn(usize) -> u64,
+    ) -> Option<usize> {
+        let times = self.times();
+        (0..self.step_count()).find(|&step| {
+            self.left[step + 1][link] > arrived(&times[..=step + 1], travel_time, &entered)
+        })
     }
 
     /// Whether a link's movements may go in a step (both from index 0).
@@ -177,9 +204,23 @@ fn boundary_times(lengths: impl Iterator<Item = u64>) -> Vec<u64> {
     times
 }
 
+/// What has arrived at the last of these boundaries, rounded down: of each
+/// step's volume the part whose time, spread evenly, lies at least the travel
+/// time before. At most one step counts in part.
+fn arrived(times: &[u64], travel_time: u64, entered: impl Fn(usize) -> u64) -> u64 {
+    let last = times.len() - 1;
+    let entry_time = times[last].saturating_sub(travel_time);
+    let over = |step: usize| {
+        let (start, end) = (times[step - 1], times[step]);
+        let volume = entered(step) - entered(step - 1);
+        volume * (entry_time.clamp(start, end) - start) / (end - start)
+    };
+    entered(0) + (1..=last).map(over).sum::<u64>()
+}
+
 /// The travel times that fit these steps: whenever a boundary is late enough,
 /// the time before it by the travel time is a boundary too.
-pub fn fitting_travel_times(times: &[u64]) -> Vec<u64> {
+fn fitting_travel_times(times: &[u64]) -> Vec<u64> {
     let boundaries: HashSet<u64> = times.iter().copied().collect();
     (1..=3600)
         .filter(|travel_time| {
@@ -191,50 +232,56 @@ pub fn fitting_travel_times(times: &[u64]) -> Vec<u64> {
         .collect()
 }
 
-/// Step lengths and the travel times that fit them.
-fn draw_lengths(random: &mut Random, steps: usize, traffic: Traffic) -> (Vec<u64>, Vec<u64>) {
+fn draw_lengths(random: &mut Random, steps: usize, traffic: Traffic) -> Vec<u64> {
     if traffic == Traffic::Extreme {
-        let lengths = vec![60; steps];
-        return (lengths, vec![60, 120, 3600]);
+        return vec![60; steps];
     }
-    loop {
-        let lengths: Vec<u64> = match random.between(0, 9) {
-            0..=5 => {
-                let lengths = [1, 2, 5, 10, 15, 30, 59, 60];
-                vec![random.pick(&lengths); steps]
-            }
-            6 | 7 => {
-                // A pattern that repeats.
-                let pattern = [random.between(1, 20), random.between(1, 20)];
-                pattern.iter().copied().cycle().take(steps).collect()
-            }
-            8 => (0..steps).map(|_| 5 * random.between(1, 3)).collect(),
-            _ => (0..steps).map(|_| random.between(1, 60)).collect(),
-        };
-        let travel_times = fitting_travel_times(&boundary_times(lengths.iter().copied()));
-        if !travel_times.is_empty() {
-            return (lengths, travel_times);
+    match random.between(0, 9) {
+        0..=4 => {
+            let lengths = [1, 2, 5, 10, 15, 30, 59, 60];
+            vec![random.pick(&lengths); steps]
+        }
+        5 | 6 => {
+            // A pattern that repeats.
+            let pattern = [random.between(1, 20), random.between(1, 20)];
+            pattern.iter().copied().cycle().take(steps).collect()
+        }
+        7 => {
+            // Late steps are wide.
+            let narrow = random.between(1, 20);
+            let wide = random.between(narrow, 60);
+            let first_wide = random.index(steps + 1);
+            let is_wide = |step: usize| step >= first_wide;
+            let length = |step| if is_wide(step) { wide } else { narrow };
+            (0..steps).map(length).collect()
+        }
+        8 => (0..steps).map(|_| 5 * random.between(1, 3)).collect(),
+        _ => (0..steps).map(|_| random.between(1, 60)).collect(),
+    }
+}
+
+/// A short one mostly, so that there is traffic within the horizon; one that
+/// ends on boundaries in about every second case.
+fn draw_travel_time(random: &mut Random, times: &[u64]) -> u64 {
+    let horizon = times[times.len() - 1];
+    if random.chance(50) {
+        let fitting = fitting_travel_times(times);
+        let short = fitting.iter().filter(|&&time| time < horizon).count();
+        if short > 0 {
+            return fitting[random.index(short.min(3))];
         }
     }
-}
-
-fn draw_travel_time(random: &mut Random, fitting: &[u64], horizon: u64) -> u64 {
-    // A short one mostly, so that there is traffic within the horizon.
-    let short = fitting.iter().filter(|&&time| time < horizon).count();
-    if short > 0 && random.chance(90) {
-        fitting[random.index(short.min(3))]
-    } else {
-        random.pick(fitting)
+    let first = times[1];
+    let middle = (horizon / 2).clamp(1, 3600);
+    match random.between(0, 9) {
+        0..=2 => random.between(1, first),
+        3..=5 => random.between(1, (2 * first).min(3600)),
+        6..=8 => random.between(1, middle),
+        _ => random.between(1, 3600),
     }
 }
 
-fn draw_link(
-    random: &mut Random,
-    traffic: Traffic,
-    signals: &[Signal],
-    travel_times: &[u64],
-    horizon: u64,
-) -> Link {
+fn draw_link(random: &mut Random, traffic: Traffic, signals: &[Signal], times: &[u64]) -> Link {
     let (signal, phase_mask) = if signals.is_empty() || random.chance(35) {
         (0, 0)
     } else {
@@ -262,7 +309,7 @@ fn draw_link(
     };
     Link {
         capacity,
-        travel_time: draw_travel_time(random, travel_times, horizon),
+        travel_time: draw_travel_time(random, times),
         exit_rate,
         signal,
         phase_mask,
@@ -635,118 +682,149 @@ fn simulate(
     traffic: Traffic,
     schedules: &[Vec<u64>],
 ) -> Scenario {
-    let link_count = network.links.len();
-    let times = boundary_times(network.steps.iter().map(|step| step.length));
     let standing: Vec<u64> = network.links.iter().map(|link| link.standing).collect();
-    let mut plan = Vec::new();
-    let mut shown = vec![network.signals.iter().map(shown_before_plan).collect()];
-    let mut entered = vec![standing.clone()];
-    let mut left = vec![vec![0; link_count]];
-    let mut arrived = vec![standing.clone()];
-
-    for (index, step) in network.steps.iter().enumerate() {
-        let boundary = index + 1;
-        let shown_now: Vec<Shown> = schedules
-            .iter()
-            .enumerate()
-            .map(|(signal, schedule)| {
-                let before: &Vec<Shown> = &shown[index];
-                advance(before[signal], schedule[index], step.length)
-            })
-            .collect();
-        let arrived_now: Vec<u64> = (0..link_count)
-            .map(|link| {
-                let travel_time = network.links[link].travel_time;
-                if times[boundary] < travel_time {
-                    return standing[link];
-                }
-                let entry_time = times[boundary] - travel_time;
-                let entry = times.iter().position(|&time| time == entry_time);
-                entered[entry.expect("travel times fit")][link]
-            })
-            .collect();
-
-        // What is left to go from each link and the room left on it.
-        let mut waiting: Vec<u64> = (0..link_count)
-            .map(|link| arrived_now[link] - left[index][link])
-            .collect();
-        let mut room: Vec<u64> = (0..link_count)
-            .map(|link| network.links[link].capacity + left[index][link] - entered[index][link])
-            .collect();
-
-        let mut now = PlanStep {
-            masks: shown_now
-                .iter()
-                .map(|shown| 1 << (shown.phase - 1))
-                .collect(),
-            admitted: vec![0; link_count],
-            let_out: vec![0; link_count],
-            moved: vec![0; network.movements.len()],
-        };
-        let mut entered_now = entered[index].clone();
-        let mut left_now = left[index].clone();
-        let mut flows: Vec<Flow> = (0..link_count)
-            .flat_map(|link| [Flow::Admit(link), Flow::LetOut(link), Flow::Move(link)])
-            .collect();
-        random.shuffle(&mut flows);
-        for flow in flows {
-            match flow {
-                Flow::Admit(link) => {
-                    let limit = step.demand[link].min(room[link]);
-                    let volume = draw_volume(random, limit, traffic);
-                    now.admitted[link] = volume;
-                    entered_now[link] += volume;
-                    room[link] -= volume;
-                }
-                Flow::LetOut(link) => {
-                    let limit = waiting[link].min(network.links[link].exit_rate * step.length);
-                    let volume = draw_volume(random, limit, traffic);
-                    now.let_out[link] = volume;
-                    left_now[link] += volume;
-                    waiting[link] -= volume;
-                }
-                Flow::Move(link) => {
-                    if !is_open(&network.links[link], &shown_now) {
-                        continue;
-                    }
-                    let from = movements_from(&network, link);
-                    let mut limit = waiting[link];
-                    let mut divisor = 1000;
-                    for &movement in &from {
-                        let Movement {
-                            to, rate, share, ..
-                        } = network.movements[movement];
-                        let most = (rate * step.length).min(room[to as usize - 1]);
-                        limit = limit.min(1000 * most / share);
-                        divisor = greatest_common_divisor(divisor, share);
-                    }
-                    // The least sum that all shares part exactly.
-                    let grain = 1000 / divisor;
-                    let sum = grain * draw_volume(random, limit / grain, traffic);
-                    for &movement in &from {
-                        let Movement { to, share, .. } = network.movements[movement];
-                        let volume = sum * share / 1000;
-                        now.moved[movement] = volume;
-                        entered_now[to as usize - 1] += volume;
-                        left_now[link] += volume;
-                        room[to as usize - 1] -= volume;
-                        waiting[link] -= volume;
-                    }
-                }
-            }
-        }
-        plan.push(now);
-        shown.push(shown_now);
-        entered.push(entered_now);
-        left.push(left_now);
-        arrived.push(arrived_now);
-    }
-    Scenario {
+    let mut scenario = Scenario {
+        plan: Vec::new(),
+        shown: vec![network.signals.iter().map(shown_before_plan).collect()],
+        left: vec![vec![0; network.links.len()]],
+        arrived: vec![standing.clone()],
+        entered: vec![standing],
         network,
-        plan,
-        shown,
+    };
+    for index in 0..scenario.network.steps.len() {
+        let length = scenario.network.steps[index].length;
+        let before = scenario.shown[index].iter().zip(schedules);
+        let shown = before
+            .map(|(&before, schedule)| advance(before, schedule[index], length))
+            .collect();
+        scenario.shown.push(shown);
+        simulate_step(random, &mut scenario, traffic);
+    }
+    scenario
+}
+
+/// One step, whose phases are known: its flows come in any order.
+fn simulate_step(random: &mut Random, scenario: &mut Scenario, traffic: Traffic) {
+    let links = scenario.network.links.len();
+    let times = scenario.times();
+    let mut flows: Vec<Flow> = (0..links)
+        .flat_map(|link| [Flow::Admit(link), Flow::LetOut(link), Flow::Move(link)])
+        .collect();
+    random.shuffle(&mut flows);
+    let mut step = SimulatedStep {
+        planned: PlanStep::of_zeros(&scenario.network),
+        entered: scenario.entered[scenario.plan.len()].clone(),
+        left: scenario.left[scenario.plan.len()].clone(),
+        times: &times[..scenario.plan.len() + 2],
+        scenario,
+    };
+    for flow in flows {
+        match flow {
+            Flow::Admit(link) => step.admit(random, traffic, link),
+            Flow::LetOut(link) => step.let_out(random, traffic, link),
+            Flow::Move(link) => step.move_on(random, traffic, link),
+        }
+    }
+    let arrived = (0..links).map(|link| step.arrived(link)).collect();
+    let SimulatedStep {
+        mut planned,
         entered,
         left,
-        arrived,
+        ..
+    } = step;
+    let shown = scenario.shown.last().expect("the phases are known");
+    planned.masks = shown.iter().map(|shown| 1 << (shown.phase - 1)).collect();
+    scenario.plan.push(planned);
+    scenario.entered.push(entered);
+    scenario.left.push(left);
+    scenario.arrived.push(arrived);
+}
+
+/// A step that is being filled.
+struct SimulatedStep<'a> {
+    /// The steps before it, and the phases of this one.
+    scenario: &'a Scenario,
+    /// The times of all boundaries up to its end.
+    times: &'a [u64],
+    planned: PlanStep,
+    entered: Vec<u64>,
+    left: Vec<u64>,
+}
+
+impl SimulatedStep<'_> {
+    /// From index 0.
+    fn index(&self) -> usize {
+        self.scenario.plan.len()
+    }
+
+    fn length(&self) -> u64 {
+        self.scenario.network.steps[self.index()].length
+    }
+
+    /// By what has entered so far, which may still grow.
+    fn arrived(&self, link: usize) -> u64 {
+        let entered = |boundary: usize| {
+            if boundary > self.index() {
+                self.entered[link]
+            } else {
+                self.scenario.entered[boundary][link]
+            }
+        };
+        let travel_time = self.scenario.network.links[link].travel_time;
+        arrived(self.times, travel_time, entered)
+    }
+
+    /// What is left to go from a link.
+    fn waiting(&self, link: usize) -> u64 {
+        self.arrived(link) - self.left[link]
+    }
+
+    /// The room left on a link: space freed in a step counts from the next.
+    fn room(&self, link: usize) -> u64 {
+        let left_before = self.scenario.left[self.index()][link];
+        self.scenario.network.links[link].capacity + left_before - self.entered[link]
+    }
+
+    fn admit(&mut self, random: &mut Random, traffic: Traffic, link: usize) {
+        let demand = self.scenario.network.steps[self.index()].demand[link];
+        let volume = draw_volume(random, demand.min(self.room(link)), traffic);
+        self.planned.admitted[link] = volume;
+        self.entered[link] += volume;
+    }
+
+    fn let_out(&mut self, random: &mut Random, traffic: Traffic, link: usize) {
+        let most = self.scenario.network.links[link].exit_rate * self.length();
+        let volume = draw_volume(random, most.min(self.waiting(link)), traffic);
+        self.planned.let_out[link] = volume;
+        self.left[link] += volume;
+    }
+
+    /// All movements from a link.
+    fn move_on(&mut self, random: &mut Random, traffic: Traffic, link: usize) {
+        let network = &self.scenario.network;
+        if !is_open(&network.links[link], &self.scenario.shown[self.index() + 1]) {
+            return;
+        }
+        let from = movements_from(network, link);
+        let mut limit = self.waiting(link);
+        let mut divisor = 1000;
+        for &movement in &from {
+            let Movement {
+                to, rate, share, ..
+            } = network.movements[movement];
+            let most = (rate * self.length()).min(self.room(to as usize - 1));
+            limit = limit.min(1000 * most / share);
+            divisor = greatest_common_divisor(divisor, share);
+        }
+        // The least sum that all shares part exactly.
+        let grain = 1000 / divisor;
+        let sum = grain * draw_volume(random, limit / grain, traffic);
+        for &movement in &from {
+            let Movement { to, share, .. } = network.movements[movement];
+            let volume = sum * share / 1000;
+            self.planned.moved[movement] = volume;
+            self.entered[to as usize - 1] += volume;
+            self.left[link] += volume;
+        }
     }
 }

@@ -1,5 +1,6 @@
 //! The state of one link, refusals 8 and 19 to 21.
 
+use super::scenario::Moment;
 use super::{refused, Answer, Call, Ledger, Maker, Scenario, Texts};
 use crate::State;
 
@@ -116,95 +117,250 @@ pub fn outside(maker: &mut Maker, scenario: &Scenario) {
 
 /// Refusal 21: ledgers that no plan has written.
 pub fn contradictions(maker: &mut Maker, scenario: &Scenario) {
-    let link_count = scenario.network.links.len();
     for round in 0..4 {
-        let link = maker.random.index(link_count);
-        let at_travel_time = (0..=scenario.step_count())
-            .find(|&boundary| scenario.entry_boundary(boundary, link) == Some(0));
+        let link = maker.random.index(scenario.network.links.len());
+        let at_travel_time =
+            (0..=scenario.step_count()).find(|&boundary| scenario.entry(boundary, link).is_some());
         let boundary = match round {
             0 => scenario.step_count(),
             1 => maker.random.index(scenario.step_count() + 1),
             2 => at_travel_time.unwrap_or(0),
             _ => 0,
         };
-        let entered = scenario.entered[boundary][link];
-        let left = scenario.left[boundary][link];
-        let arrived = scenario.arrived[boundary][link];
-        let place = |row: usize| 2 * row * link_count + 2 * link;
-        let mut ask = |name: &str, row: usize, is_left: bool, value: u64, passes: bool| {
-            let Ok(value) = u32::try_from(value) else {
-                return;
-            };
-            let mut ledger = scenario.ledger();
-            ledger[place(row) + usize::from(is_left)] = value;
-            let value = u64::from(value);
-            let (entered, left, arrived) = if row == boundary && is_left {
-                (entered, value, arrived)
-            } else if row == boundary {
-                (value, left, arrived)
-            } else {
-                (entered, left, value)
-            };
-            let intended = if passes {
-                Answer::State(State {
-                    queued: arrived - left,
-                    in_transit: entered - arrived,
-                })
-            } else {
-                Answer::Refused(refused(21, 0, 0))
-            };
-            let (boundary, link) = (boundary as u64, link as u64 + 1);
-            maker.ask_state(scenario, name, ledger, boundary, link, Some(intended));
-        };
-        ask("left equal to arrived", boundary, true, arrived, true);
-        ask("21: left above arrived", boundary, true, arrived + 1, false);
-        ask("entered equal to arrived", boundary, false, arrived, true);
-        if arrived > 0 {
-            ask(
-                "21: entered below arrived",
-                boundary,
-                false,
-                arrived - 1,
-                false,
-            );
+        match scenario.entry(boundary, link) {
+            Some(entry) if entry.elapsed > 0 => {
+                let inside = Inside {
+                    boundary,
+                    link,
+                    entry,
+                    length: scenario.network.steps[entry.boundary].length,
+                };
+                contradictions_inside_a_step(maker, scenario, &inside);
+            }
+            _ => contradictions_on_a_boundary(maker, scenario, boundary, link),
         }
+    }
+}
+
+/// Ledgers where the travel time ends on a boundary or before time 0.
+fn contradictions_on_a_boundary(
+    maker: &mut Maker,
+    scenario: &Scenario,
+    boundary: usize,
+    link: usize,
+) {
+    let link_count = scenario.network.links.len();
+    let entered = scenario.entered[boundary][link];
+    let left = scenario.left[boundary][link];
+    let arrived = scenario.arrived[boundary][link];
+    let place = |row: usize| 2 * row * link_count + 2 * link;
+    let mut ask = |name: &str, row: usize, is_left: bool, value: u64, passes: bool| {
+        let Ok(value) = u32::try_from(value) else {
+            return;
+        };
+        let mut ledger = scenario.ledger();
+        ledger[place(row) + usize::from(is_left)] = value;
+        let value = u64::from(value);
+        let (entered, left, arrived) = if row == boundary && is_left {
+            (entered, value, arrived)
+        } else if row == boundary {
+            (value, left, arrived)
+        } else {
+            (entered, left, value)
+        };
+        let intended = if passes {
+            Answer::State(State {
+                queued: arrived - left,
+                in_transit: entered - arrived,
+            })
+        } else {
+            Answer::Refused(refused(21, 0, 0))
+        };
+        let (boundary, link) = (boundary as u64, link as u64 + 1);
+        maker.ask_state(scenario, name, ledger, boundary, link, Some(intended));
+    };
+    ask("left equal to arrived", boundary, true, arrived, true);
+    ask("21: left above arrived", boundary, true, arrived + 1, false);
+    ask("entered equal to arrived", boundary, false, arrived, true);
+    if arrived > 0 {
         ask(
-            "entered at most of 32 bits",
+            "21: entered below arrived",
             boundary,
             false,
-            u64::from(u32::MAX),
-            true,
+            arrived - 1,
+            false,
         );
-        if let Some(row) = scenario.entry_boundary(boundary, link) {
-            ask("arrived equal to left", row, false, left, true);
-            if left > 0 {
-                ask("21: arrived below left", row, false, left - 1, false);
-            }
-            ask("arrived equal to entered", row, false, entered, true);
-            ask("21: arrived above entered", row, false, entered + 1, false);
-        } else if boundary > 0 {
-            // Before the travel time row 0 has no say.
-            let mut ledger = scenario.ledger();
-            ledger[place(0)] = u32::MAX;
-            ledger[place(0) + 1] = u32::MAX;
-            maker.ask_state(
-                scenario,
-                "row 0 has no say before the travel time",
-                ledger,
-                boundary as u64,
-                link as u64 + 1,
-                Some(Answer::State(scenario.state(boundary, link))),
-            );
+    }
+    ask(
+        "entered at most of 32 bits",
+        boundary,
+        false,
+        u64::from(u32::MAX),
+        true,
+    );
+    if let Some(Moment { boundary: row, .. }) = scenario.entry(boundary, link) {
+        ask("arrived equal to left", row, false, left, true);
+        if left > 0 {
+            ask("21: arrived below left", row, false, left - 1, false);
         }
-        // Nothing but one number everywhere.
-        let fill = maker.random.pick(&[0, 1, u32::MAX]);
+        ask("arrived equal to entered", row, false, entered, true);
+        ask("21: arrived above entered", row, false, entered + 1, false);
+    } else if boundary > 0 {
+        // Before the travel time row 0 has no say.
+        let mut ledger = scenario.ledger();
+        ledger[place(0)] = u32::MAX;
+        ledger[place(0) + 1] = u32::MAX;
         maker.ask_state(
             scenario,
-            "one number everywhere",
-            vec![fill; scenario.ledger_need()],
+            "row 0 has no say before the travel time",
+            ledger,
             boundary as u64,
             link as u64 + 1,
-            None,
+            Some(Answer::State(scenario.state(boundary, link))),
         );
+    }
+    // Nothing but one number everywhere.
+    let fill = maker.random.pick(&[0, 1, u32::MAX]);
+    maker.ask_state(
+        scenario,
+        "one number everywhere",
+        vec![fill; scenario.ledger_need()],
+        boundary as u64,
+        link as u64 + 1,
+        None,
+    );
+}
+
+/// A link's state at a boundary whose arrivals entered inside a step: the last
+/// one before the boundary has its end and the boundary in one row.
+struct Inside {
+    boundary: usize,
+    /// From index 0.
+    link: usize,
+    entry: Moment,
+    /// Of the step.
+    length: u64,
+}
+
+/// The numbers of a ledger that such a state is read from.
+#[derive(Clone, Copy)]
+struct Read {
+    /// Entered by the step's start and by its end.
+    start: u64,
+    end: u64,
+    /// Entered and left by the boundary.
+    entered: u64,
+    left: u64,
+}
+
+impl Inside {
+    fn read(&self, scenario: &Scenario) -> Read {
+        Read {
+            start: scenario.entered[self.entry.boundary][self.link],
+            end: scenario.entered[self.entry.boundary + 1][self.link],
+            entered: scenario.entered[self.boundary][self.link],
+            left: scenario.left[self.boundary][self.link],
+        }
+    }
+
+    /// What has arrived in parts of the step's length: the mean of start and
+    /// end by the seconds after and before.
+    fn arrived_parts(&self, read: Read) -> u64 {
+        read.start * (self.length - self.entry.elapsed) + read.end * self.entry.elapsed
+    }
+
+    fn intended(&self, read: Read) -> Answer {
+        let parts = self.arrived_parts(read);
+        let is_early = read.left * self.length > parts;
+        if read.end < read.start || is_early || parts > read.entered * self.length {
+            return Answer::Refused(refused(21, 0, 0));
+        }
+        Answer::State(State {
+            queued: parts / self.length - read.left,
+            in_transit: read.entered - parts / self.length,
+        })
+    }
+
+    /// A ledger with these numbers at their places; none if one is too large.
+    fn ledger(&self, read: Read, mut ledger: Vec<u32>, link_count: usize) -> Option<Vec<u32>> {
+        let place = |row: usize| 2 * row * link_count + 2 * self.link;
+        for (place, value) in [
+            (place(self.entry.boundary), read.start),
+            (place(self.entry.boundary + 1), read.end),
+            (place(self.boundary), read.entered),
+            (place(self.boundary) + 1, read.left),
+        ] {
+            ledger[place] = u32::try_from(value).ok()?;
+        }
+        Some(ledger)
+    }
+
+    fn ask(
+        &self,
+        maker: &mut Maker,
+        scenario: &Scenario,
+        name: &str,
+        mut read: Read,
+        others: Vec<u32>,
+    ) {
+        if self.entry.boundary + 1 == self.boundary {
+            read.entered = read.end;
+        }
+        let Some(ledger) = self.ledger(read, others, scenario.network.links.len()) else {
+            return;
+        };
+        let intended = Some(self.intended(read));
+        let (boundary, link) = (self.boundary as u64, self.link as u64 + 1);
+        maker.ask_state(scenario, name, ledger, boundary, link, intended);
+    }
+}
+
+/// Ledgers where the travel time ends inside a step.
+fn contradictions_inside_a_step(maker: &mut Maker, scenario: &Scenario, inside: &Inside) {
+    let kept = scenario.ledger();
+    // What other rows and links hold has no say, falling or not.
+    let falling: Vec<u32> = (0..scenario.ledger_need() as u32).rev().collect();
+    let mut ask = |name: &str, read: Read, others: &[u32]| {
+        inside.ask(maker, scenario, name, read, others.to_vec());
+    };
+    let read = inside.read(scenario);
+    let parts = inside.arrived_parts(read);
+    let down = parts / inside.length;
+    let up = parts.div_ceil(inside.length);
+    ask("a part has arrived", read, &kept);
+    ask("a part has arrived, other rows differ", read, &falling);
+    for left in [down, down + 1] {
+        let name = "left at or above the part that has arrived";
+        ask(name, Read { left, ..read }, &kept);
+    }
+    for entered in [up, up.saturating_sub(1)] {
+        let name = "entered at or below the part that has arrived";
+        ask(name, Read { entered, ..read }, &kept);
+    }
+    let name = "entered falls over the step or stays";
+    for end in [read.start, read.start.saturating_sub(1)] {
+        ask(name, Read { end, ..read }, &kept);
+    }
+    for start in [read.end, read.end + 1, 0] {
+        ask(name, Read { start, ..read }, &kept);
+    }
+    let most = u64::from(u32::MAX);
+    for (start, end, entered) in [
+        (0, 1, 0),
+        (0, 1, 1),
+        (most - 1, most, most),
+        (0, most, most),
+    ] {
+        let read = Read {
+            start,
+            end,
+            entered,
+            left: 0,
+        };
+        let down = inside.arrived_parts(read) / inside.length;
+        for left in [0, down, down + 1] {
+            let name = "ends of 32 bits inside a step";
+            ask(name, Read { left, ..read }, &falling);
+        }
     }
 }

@@ -1,4 +1,4 @@
-//! Refusals 1 to 7.
+//! Refusals 1 to 6.
 
 use crate::fixture::*;
 use plancheck_reference::check_network;
@@ -126,7 +126,7 @@ fn padded_numbers() {
         }
     }
     assert_network_refused(&network().set(2, 4, 9).pad().text(), 3, 2, 1);
-    assert_network_refused(&network().set(4, 3, 15).pad().text(), 7, 11, 1);
+    assert_network_refused(&network().set(4, 3, 0).pad().text(), 4, 4, 1);
 }
 
 #[test]
@@ -413,9 +413,7 @@ fn r4_travel_time() {
             assert_network_refused(&network().set(line, 3, time).text(), 4, line as u64, link);
         }
         assert_network_accepted(&network().set(line, 3, 3600).text());
-        // One second is a good travel time, but no boundary is one second
-        // before another here.
-        assert_network_refused(&network().set(line, 3, 1).text(), 7, 10, link);
+        assert_network_accepted(&network().set(line, 3, 1).text());
     }
 }
 
@@ -620,49 +618,12 @@ fn r6_demand() {
     }
 }
 
-// Refusal 7.
-
 #[test]
-fn r7_travel_time_between_boundaries() {
-    // Boundaries at 10, 20, 30, 40.
-    for time in [1, 9, 10, 11, 15, 19, 20, 21, 29, 30, 31, 39, 40, 41, 3600] {
-        let text = network().set(5, 3, time).text();
-        let first_step = (1..=4).find(|step| 10 * step >= time);
-        match first_step {
-            Some(step) if time % 10 != 0 => {
-                assert_network_refused(&text, 7, 9 + step, 2);
-            }
-            _ => assert_network_accepted(&text),
-        }
+fn every_travel_time_from_1_to_3600_passes() {
+    // Boundaries at 10, 20, 30, 35.
+    for time in 1..=3600 {
+        assert_network_accepted(&network().set(5, 3, time).set(13, 2, 5).text());
     }
-}
-
-#[test]
-fn r7_by_rising_step_then_link() {
-    // Link 3 breaks at step 1, link 1 at step 2.
-    let text = network().set(4, 3, 15).set(6, 3, 5).text();
-    assert_network_refused(&text, 7, 10, 3);
-    // Both break at step 2.
-    let text = network().set(5, 3, 15).set(6, 3, 15).text();
-    assert_network_refused(&text, 7, 11, 2);
-    // Only a later step breaks: boundaries at 10, 20, 30, 35.
-    let text = network().set(13, 2, 5);
-    assert_network_refused(&text.text(), 7, 13, 1);
-    // Fine for links whose travel time fits none of the later boundaries.
-    let text = text.set(4, 3, 35).set(5, 3, 36).set(6, 3, 3600);
-    assert_network_accepted(&text.text());
-}
-
-#[test]
-fn r7_comes_after_all_lines_and_surplus() {
-    let broken = network().set(4, 3, 15);
-    assert_network_refused(&broken.clone().set(13, 5, 600_001).text(), 6, 13, 4);
-    assert_network_refused(&broken.clone().keep(12).text(), 1, 13, 0);
-    assert_network_refused(&broken.unfinished(), 1, 13, 0);
-    let mut text = broken.text();
-    assert_network_refused(&text, 7, 11, 1);
-    text.push(b'\n');
-    assert_network_refused(&text, 1, 14, 0);
 }
 
 #[test]

@@ -52,8 +52,8 @@ fn r8_comes_after_the_network_and_before_the_plan() {
     let mut ledger = [FILL; NEED - 1];
     let answer = check_plan(&network().text(), b"", &mut ledger);
     assert_eq!(answer, Err(refusal(8, 0, 0)));
-    let answer = check_plan(&network().set(4, 3, 15).text(), b"", &mut ledger);
-    assert_eq!(answer, Err(refusal(7, 11, 1)));
+    let answer = check_plan(&network().set(4, 3, 0).text(), b"", &mut ledger);
+    assert_eq!(answer, Err(refusal(4, 4, 1)));
     let answer = check_plan(b"", b"", &mut []);
     assert_eq!(answer, Err(refusal(1, 1, 0)));
     assert_eq!(ledger, [FILL; NEED - 1]);
@@ -470,6 +470,43 @@ fn r17_standing_start_before_the_travel_time() {
         let plan = plan().set(2, 10, 0).set(2, 11, 0).text();
         // Then link 2 lets 400 + 100 + 1000 out of 1000 that entered.
         assert_plan_refused(&text, &plan, 17, 3, 2);
+    }
+}
+
+/// One link, a step of ten seconds in which 7 enter, one of twenty in which 13
+/// enter, and what leaves in each.
+fn early_departure(travel_time: u64, let_out: [u64; 2]) -> Option<(u64, u64, u64)> {
+    let network =
+        format!("N\t1\t0\t0\t2\nQ\t60000\t{travel_time}\t1000\t0\t0\t5\nS\t10\t7\nS\t20\t13\n");
+    let plan = format!("P\t7\t{}\nP\t13\t{}\n", let_out[0], let_out[1]);
+    let mut ledger = [FILL; 6];
+    let answer = check_plan(network.as_bytes(), plan.as_bytes(), &mut ledger);
+    answer.err().map(|r| (r.number, r.line, r.item))
+}
+
+#[test]
+fn r17_travel_time_that_ends_inside_a_step() {
+    // Travel time, and what may leave by each boundary, rounded down: 5 stand
+    // at the start, then 7 enter by 10 seconds and 13 more by 30.
+    for (travel_time, by_first, by_second) in [
+        (1, 5 + 7 * 9 / 10, 12 + 13 * 19 / 20),
+        (4, 5 + 7 * 6 / 10, 12 + 13 * 16 / 20),
+        (9, 5 + 7 / 10, 12 + 13 * 11 / 20),
+        (10, 5, 12 + 13 * 10 / 20),
+        (19, 5, 12 + 13 / 20),
+        (20, 5, 12),
+        (21, 5, 5 + 7 * 9 / 10),
+        (29, 5, 5 + 7 / 10),
+        (30, 5, 5),
+        (31, 5, 5),
+    ] {
+        assert_eq!(early_departure(travel_time, [by_first, 0]), None);
+        let one_more = [by_first + 1, 0];
+        assert_eq!(early_departure(travel_time, one_more), Some((17, 1, 1)));
+        let both = [by_first, by_second - by_first];
+        assert_eq!(early_departure(travel_time, both), None);
+        let one_more = [by_first, by_second - by_first + 1];
+        assert_eq!(early_departure(travel_time, one_more), Some((17, 2, 1)));
     }
 }
 

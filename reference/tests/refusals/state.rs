@@ -37,8 +37,8 @@ fn states_of_the_junction() {
 
 #[test]
 fn network_and_ledger_length_come_first() {
-    let broken = network().set(4, 3, 15).text();
-    assert_eq!(link_state(&broken, &[], 99, 99), Err(refusal(7, 11, 1)));
+    let broken = network().set(4, 3, 0).text();
+    assert_eq!(link_state(&broken, &[], 99, 99), Err(refusal(4, 4, 1)));
     assert_eq!(link_state(b"", &[], 99, 99), Err(refusal(1, 1, 0)));
     for length in [0, 1, 29] {
         assert_eq!(state(&ledger()[..length], 99, 99), Err(refusal(8, 0, 0)));
@@ -152,4 +152,84 @@ fn r21_other_links_and_rows_have_no_say() {
     other = vec![u32::MAX; NEED];
     assert_eq!(state(&other, 3, 3), Ok((0, 0)));
     assert_eq!(state(&other, 1, 3), Err(refusal(21, 0, 0)));
+}
+
+/// One link that takes 14 seconds, its boundaries at 10, 20 and 40: at 20 four
+/// tenths of the first step's volume have not arrived, at 40 three tenths of
+/// the last step's have.
+fn state_inside_a_step(ledger: [u32; 8], boundary: u64) -> Result<(u64, u64), Refusal> {
+    let network = b"N\t1\t0\t0\t3\nQ\t60000\t14\t0\t0\t0\t0\nS\t10\t0\nS\t10\t0\nS\t20\t0\n";
+    link_state(network, &ledger, boundary, 1)
+        .map(|State { queued, in_transit }| (queued, in_transit))
+}
+
+#[test]
+fn standing_is_rounded_down_and_the_rest_is_moving() {
+    // 3 x 6 / 10 have arrived at 20 seconds.
+    for (left, expected) in [(0, (1, 4)), (1, (0, 4))] {
+        let ledger = [0, 0, 3, 0, 5, left, 5, left];
+        assert_eq!(state_inside_a_step(ledger, 2), Ok(expected));
+    }
+    let ledger = [0, 0, 3, 0, 5, 2, 5, 2];
+    assert_eq!(state_inside_a_step(ledger, 2), Err(refusal(21, 0, 0)));
+    // 5 + 9 x 6 / 20 = 7.7 have arrived at 40 seconds: the last step's own.
+    for (left, expected) in [
+        (0, Ok((7, 7))),
+        (7, Ok((0, 7))),
+        (8, Err(refusal(21, 0, 0))),
+    ] {
+        let ledger = [0, 0, 3, 0, 5, 0, 14, left];
+        assert_eq!(state_inside_a_step(ledger, 3), expected);
+    }
+    // A whole number where the parts make one.
+    let ledger = [0, 0, 5, 0, 5, 3, 5, 3];
+    assert_eq!(state_inside_a_step(ledger, 2), Ok((0, 2)));
+}
+
+#[test]
+fn r21_compares_what_has_arrived_before_rounding() {
+    // 0.6 have arrived and nothing has entered.
+    let ledger = [0, 0, 1, 0, 0, 0, 0, 0];
+    assert_eq!(state_inside_a_step(ledger, 2), Err(refusal(21, 0, 0)));
+    let ledger = [0, 0, 1, 0, 1, 0, 0, 0];
+    assert_eq!(state_inside_a_step(ledger, 2), Ok((0, 1)));
+    // 1.8 have arrived.
+    let ledger = [0, 0, 3, 0, 1, 0, 0, 0];
+    assert_eq!(state_inside_a_step(ledger, 2), Err(refusal(21, 0, 0)));
+    let ledger = [0, 0, 3, 0, 2, 1, 0, 0];
+    assert_eq!(state_inside_a_step(ledger, 2), Ok((0, 1)));
+}
+
+#[test]
+fn r21_entered_falls_over_the_step() {
+    // Over step 1 from 3 to 2, though between them enough has entered.
+    let ledger = [3, 0, 2, 0, 9, 0, 0, 0];
+    assert_eq!(state_inside_a_step(ledger, 2), Err(refusal(21, 0, 0)));
+    let ledger = [3, 0, 3, 0, 9, 0, 0, 0];
+    assert_eq!(state_inside_a_step(ledger, 2), Ok((3, 6)));
+    // Over another step it is no matter: at 40 seconds rows 2 and 3 are read.
+    let ledger = [9, 0, 3, 0, 5, 0, 14, 0];
+    assert_eq!(state_inside_a_step(ledger, 3), Ok((7, 7)));
+    let ledger = [9, 0, 3, 0, 15, 0, 14, 0];
+    assert_eq!(state_inside_a_step(ledger, 3), Err(refusal(21, 0, 0)));
+    // On a boundary no step is looked at: link 3 at boundary 3 is read from
+    // boundary 1.
+    let mut falling = ledger_with(2, 3, false, 0);
+    falling[4] = u32::MAX;
+    assert_eq!(state(&falling, 3, 3), Ok((100, 2500)));
+}
+
+#[test]
+fn parts_above_32_bits() {
+    let most = u32::MAX;
+    let ledger = [0, 0, most, 0, most, 0, 0, 0];
+    let arrived = u64::from(most) * 6 / 10;
+    let moving = u64::from(most) - arrived;
+    assert_eq!(state_inside_a_step(ledger, 2), Ok((arrived, moving)));
+    let ledger = [0, 0, most, 0, most, arrived as u32, 0, 0];
+    assert_eq!(state_inside_a_step(ledger, 2), Ok((0, moving)));
+    let ledger = [0, 0, most, 0, most, arrived as u32 + 1, 0, 0];
+    assert_eq!(state_inside_a_step(ledger, 2), Err(refusal(21, 0, 0)));
+    let ledger = [most - 1, 0, most, 0, most, most - 1, 0, 0];
+    assert_eq!(state_inside_a_step(ledger, 2), Ok((0, 1)));
 }
