@@ -89,7 +89,7 @@
  * ERRORS
  * A result has number 0 (PLANCHECK_OK), or the number of the first refusal in the order of judging, with the line and
  * the item that it names, 0 where it names none. Nothing else is reported: when number is not 0, every other member but
- * line and item is 0. Numbers 1 to 7 name a line of the network text, 9 to 18 and 25 to 27 a line of the plan text, 22 and
+ * line and item is 0. Numbers 1 to 6 name a line of the network text, 9 to 18 and 25 to 27 a line of the plan text, 22 and
  * 23 a line of the listing, 36 and 37 a line of the corridor text.
  * docs/REFUSALS.md says what to do about each.
  */
@@ -160,9 +160,6 @@ enum plancheck_number {
     PLANCHECK_MOVEMENT_VALUES = 5,
     /* Length not 1 to 60, or above the greatest time of some phase; a demand above 600000. Item: step. */
     PLANCHECK_STEP_VALUES = 6,
-    /* Volume that has travelled through the link arrives between two boundaries: the time of the named step's end is at
-       least the travel time, but that time minus the travel time is no boundary. Item: link. */
-    PLANCHECK_TRAVEL_TIME = 7,
 
     /* Ledger. */
 
@@ -193,7 +190,8 @@ enum plancheck_number {
     PLANCHECK_SHUT_LINK = 27,
     /* A movement is above its share of all movements from its link. Item: movement. */
     PLANCHECK_TURNING_SHARE = 16,
-    /* More has left the link than has arrived at its end. Item: link. */
+    /* More has left the link than has arrived at its end; of a step inside which the travel time ends, the elapsed part
+       of what entered has arrived. Item: link. */
     PLANCHECK_EARLY_DEPARTURE = 17,
     /* The link would hold more than its capacity; space freed in a step counts from the next. Item: link. */
     PLANCHECK_OVER_CAPACITY = 18,
@@ -204,7 +202,8 @@ enum plancheck_number {
     PLANCHECK_NO_SUCH_BOUNDARY = 19,
     /* The link is not 1 to L. */
     PLANCHECK_NO_SUCH_LINK = 20,
-    /* The ledger has left above arrived, or arrived above entered: it is not one of this network. */
+    /* The ledger has left above arrived, or arrived above entered, or its entered count falls over the step inside which
+       the travel time ends: it is not one of this network. */
     PLANCHECK_LEDGER_CONTRADICTION = 21,
 
     /* Listing. No item. 22, then 23, line by line; 24 last, without a line. */
@@ -282,14 +281,14 @@ typedef struct {
 } plancheck_cells_result;
 
 /*
- * Checks a network text. Refusals 1 to 7.
+ * Checks a network text. Refusals 1 to 6.
  *
  * Reads network[0 .. network_len - 1]. Writes nothing.
  */
 plancheck_network_result plancheck_check_network(const uint8_t *network, size_t network_len);
 
 /*
- * Checks a plan on a network, and fills the ledger. Refusals 1 to 18 and 25 to 27: first those of the network (1 to 7),
+ * Checks a plan on a network, and fills the ledger. Refusals 1 to 18 and 25 to 27: first those of the network (1 to 6),
  * then the ledger's length (8), then the plan line by line: the form of the line (9), then rules 10 to 15, 25 to 27 and
  * 16 to 18 in this order, each over rising items.
  *
@@ -303,17 +302,18 @@ plancheck_plan_result plancheck_check_plan(const uint8_t *network, size_t networ
                                            size_t plan_len, uint32_t *ledger, size_t ledger_len);
 
 /*
- * Tells what stands on one link at one boundary, from the ledger of an accepted plan. Refusals 1 to 7 of the network,
- * then 8, 19, 20 and 21.
+ * Tells what stands on one link at one boundary, from the ledger of an accepted plan. Refusals 1 to 6 of the network,
+ * then 8, 19, 20 and 21. Where the travel time ends inside a step, the elapsed part of what entered in it has arrived,
+ * taken evenly; what is queued is rounded down, and the rest is in transit.
  *
- * Reads the network text and the ledger: of the rows, at most those of the boundary and of the boundary one travel time
+ * Reads the network text and the ledger: of the rows, at most those of the boundary and of the step one travel time
  * before. Writes nothing. A ledger of a refused plan is answered for the rows that were written.
  */
 plancheck_link_result plancheck_link_state(const uint8_t *network, size_t network_len, const uint32_t *ledger,
                                            size_t ledger_len, uint32_t boundary, uint32_t link);
 
 /*
- * Writes the plan text of a solver's listing: a line for each step, all that no line names 0. Refusals 1 to 7 of the
+ * Writes the plan text of a solver's listing: a line for each step, all that no line names 0. Refusals 1 to 6 of the
  * network, then 22 and 23 line by line, then 24. The plan itself is not judged: plancheck_check_plan does that.
  *
  * Reads both texts. Writes plan[0 .. length - 1], no leading zeros in it; the bytes past the text keep what they held,

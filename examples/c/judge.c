@@ -29,7 +29,6 @@ static const struct {
                                    "a value of the movement is outside its limits, the pairs of links do not rise, or "
                                    "the link's shares do not sum to 1000"},
     [PLANCHECK_STEP_VALUES] = {"network", "step", "the step's length or a demand is outside its limits"},
-    [PLANCHECK_TRAVEL_TIME] = {"network", "link", "the link's travel time does not end at a boundary"},
     [PLANCHECK_LEDGER_TOO_SHORT] = {NULL, NULL, "the ledger is too short"},
     [PLANCHECK_PLAN_FORM] = {"plan", NULL, bad_form},
     [PLANCHECK_SIGNAL_MASK] = {"plan", "signal", "the mask shows none of the signal's phases, or several"},

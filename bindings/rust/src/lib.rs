@@ -63,7 +63,7 @@ pub struct LinkState {
 ///
 /// # Errors
 ///
-/// Refusals 1 to 7.
+/// Refusals 1 to 6.
 ///
 /// # Examples
 ///
@@ -89,7 +89,7 @@ pub fn check_network(network: &[u8]) -> Result<(), Refusal> {
 ///
 /// # Errors
 ///
-/// Refusals 1 to 7 of the network, 8 for a ledger shorter than [`required_ledger_len`], 9 to 18 and 25 to 27
+/// Refusals 1 to 6 of the network, 8 for a ledger shorter than [`required_ledger_len`], 9 to 18 and 25 to 27
 /// of the plan.
 ///
 /// # Examples
@@ -130,11 +130,12 @@ pub fn check_plan(network: &[u8], plan: &[u8], ledger: &mut [u32]) -> Result<Tot
 }
 
 /// Tells what stands on one link at one boundary, from the ledger of an accepted plan. Boundaries are counted from 0,
-/// links from 1.
+/// links from 1. Where the travel time ends inside a step, the elapsed part of what entered in it has arrived; what is
+/// queued is rounded down, and the rest is in transit.
 ///
 /// # Errors
 ///
-/// Refusals 1 to 7 of the network, 8 for a ledger shorter than [`required_ledger_len`], 19 for a boundary above K, 20
+/// Refusals 1 to 6 of the network, 8 for a ledger shorter than [`required_ledger_len`], 19 for a boundary above K, 20
 /// for a link that is not 1 to L, 21 for a ledger that is not one of this network.
 ///
 /// # Examples

@@ -15,7 +15,7 @@ pub const MAX_WRITTEN_PLAN_LEN: usize = 151_920;
 ///
 /// # Errors
 ///
-/// Refusals 1 to 7 of the network, 22 for a line that is malformed, repeated or names what the network does not have, 23
+/// Refusals 1 to 6 of the network, 22 for a line that is malformed, repeated or names what the network does not have, 23
 /// for a volume that is not whole or too large, 24 for a buffer shorter than the plan text.
 ///
 /// # Examples

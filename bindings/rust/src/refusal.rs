@@ -4,7 +4,7 @@ use core::fmt;
 
 /// Why a call declined: the number of the refusal, and the line and the item that it names.
 ///
-/// Lines and items are counted from 1; 0 where none is named. Numbers 1 to 7 name a line of the network text, 9 to 18
+/// Lines and items are counted from 1; 0 where none is named. Numbers 1 to 6 name a line of the network text, 9 to 18
 /// and 25 to 27 a line of the plan text, 22 and 23 a line of the listing, 36 and 37 a line of the corridor text, the
 /// others none.
 /// What the item is depends on the number: see [`Refusal::item_kind`].
@@ -61,7 +61,7 @@ impl Refusal {
     #[must_use]
     pub const fn text(&self) -> Option<Text> {
         match self.number {
-            1..=7 => Some(Text::Network),
+            1..=6 => Some(Text::Network),
             9..=18 | 25..=27 => Some(Text::Plan),
             22 | 23 => Some(Text::Listing),
             36 | 37 => Some(Text::Corridor),
@@ -74,7 +74,7 @@ impl Refusal {
     pub const fn item_kind(&self) -> Option<ItemKind> {
         match self.number {
             3 | 10..=14 => Some(ItemKind::Signal),
-            4 | 7 | 15 | 17 | 18 | 25 => Some(ItemKind::Link),
+            4 | 15 | 17 | 18 | 25 => Some(ItemKind::Link),
             5 | 16 | 26 | 27 => Some(ItemKind::Movement),
             6 => Some(ItemKind::Step),
             _ => None,
@@ -97,7 +97,6 @@ impl Refusal {
                  or the link's shares do not sum to 1000"
             }
             6 => "the step's length or a demand is outside its limits",
-            7 => "the link's travel time does not end at a boundary",
             8 => "the ledger is too short",
             10 => "the mask shows none of the signal's phases, or several",
             11 => "the phase is neither that of the step before nor the next",

@@ -102,15 +102,16 @@ fn a_refusal_in_words() {
         refusal(27, 2, 1).to_string(),
         "refusal 27, plan line 2, movement 1: the movement leaves a link that its signal shuts"
     );
-    for number in 1..=27 {
+    for number in (1..=27).filter(|&number| number != 7) {
         let refusal = refusal(number, 0, 0);
         assert_ne!(refusal.meaning(), self::refusal(0, 0, 0).meaning());
         let names_line = !matches!(number, 8 | 19..=21 | 24);
         assert_eq!(refusal.text().is_some(), names_line);
-        let names_item = matches!(number, 3..=7 | 10..=18 | 25..=27);
+        let names_item = matches!(number, 3..=6 | 10..=18 | 25..=27);
         assert_eq!(refusal.item_kind().is_some(), names_item);
     }
-    assert_eq!(refusal(7, 7, 1).text(), Some(Text::Network));
+    assert_eq!(refusal(7, 0, 0).meaning(), refusal(0, 0, 0).meaning());
+    assert_eq!(refusal(6, 7, 1).text(), Some(Text::Network));
     assert_eq!(refusal(17, 1, 1).item_kind(), Some(ItemKind::Link));
 }
 

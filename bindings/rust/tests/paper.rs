@@ -97,17 +97,10 @@ fn c9_a_link_is_full_or_overfull() {
 }
 
 #[test]
-fn c10_a_travel_time_misses_the_boundaries() {
+fn c10_a_travel_time_ends_inside_a_step() {
     let network = with(NETWORK, 3, 3, "15");
-    assert_eq!(judge(&network, PLAN, 0), refused(7, 7, 1));
-    assert_eq!(
-        check_network(network.as_bytes()),
-        Err(Refusal {
-            number: 7,
-            line: 7,
-            item: 1
-        })
-    );
+    assert_eq!(judge(&network, PLAN, 2), refused(17, 2, 1));
+    assert_eq!(check_network(network.as_bytes()), Ok(()));
 }
 
 #[test]
