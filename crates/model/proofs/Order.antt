@@ -1,19 +1,18 @@
 -- The order of the phases of a signal: from a phase through all others back to it. Assumes nothing.
 use mathlib.Core.Path.{_≡_, refl, sym, ap, _∙_}
-use mathlib.Core.Bool.{cond}
-use mathlib.Core.Logic.{_⊎_, inl, inr, _≢_}
+use mathlib.Core.Logic.{_⊎_, inl, inr, ⊎-elim, _≢_}
 use mathlib.Core.List.{List, [], _∷_, _++_, append-nil}
 use Prim.Native.Nat.{ℕ, zero, suc, _+_, _-_, _≤_, _<_}
-use native.Mathlib.Nat.{eq-or-lt-of-le}
+use native.Mathlib.Nat.{eq-or-lt-of-le, le-refl}
 use native.Mathlib.Omega.{arith}
-use lib.Dec.{eqb}
 use borrow.Author.Tests.{eq-eqb, ne-eqb}
+use Rattle.model.specs.Signals.{phaseAfter, nthNext, PhaseOrder}
 use Rattle.model.specs.Guarantees.{rising, others}
 
 module _ (P : ℕ) where
-  -- the phase after x: after P comes 1
+  -- the phase after x, shut
   unfoldable pub next : ℕ → ℕ
-  next x = cond (eqb x P) 1 (x + 1)
+  next = phaseAfter P
 
   next-last : (x : ℕ) → x ≡ P → next x ≡ 1
   unfolding next
@@ -66,3 +65,27 @@ module _ (P : ℕ) where
       go : (x ≡ P) ⊎ (x < P) → (next x ≢ q) × Turns q (next x) m
       go (inl i) = let e = next-last x i in ((λ f. omega arith), inl (omega arith))
       go (inr i) = let e = next-more x i in ((λ f. omega arith), inr (omega arith))
+
+-- x is the d-th next of phase k: k + d, or that less P
+abbrev Reached : ℕ → ℕ → ℕ → ℕ → Type 0
+Reached P k d x = ((x ≡ k + d) × (k + d ≤ P)) ⊎ ((x + P ≡ k + d) × (P < k + d))
+
+reached-next : (P k d x : ℕ) → k ≤ P → d < P → Reached P k d x → Reached P k (suc d) (next P x)
+reached-next P k d x l h (inr i) = inr (omega (arith, next-more P x (omega arith)))
+reached-next P k d x l h (inl i) = go (eq-or-lt-of-le (i .1))
+  where
+    go : (k + d ≡ P) ⊎ (k + d < P) → Reached P k (suc d) (next P x)
+    go (inl e) = inr (omega (arith, next-last P x (omega arith)))
+    go (inr e) = inl (omega (arith, next-more P x (omega arith)))
+
+reached : (P k d : ℕ) → k ≤ P → d ≤ P → Reached P k d (nthNext P d k)
+unfolding nthNext next
+reached P k zero l h = inl (omega arith)
+reached P k (suc d) l h = reached-next P k d (nthNext P d k) l h (reached P k d l (omega arith))
+
+pub phase-order : PhaseOrder
+phase-order =
+    record {
+      comes-again = λ P k h l. ⊎-elim (λ i. absurd (omega arith)) (λ i. omega arith) (reached P k P l (le-refl _));
+      no-earlier = λ P k d h l m u e. ⊎-elim (λ i. omega arith) (λ i. omega arith) (reached P k d l (omega arith));
+    }

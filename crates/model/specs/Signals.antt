@@ -1,5 +1,7 @@
 -- A signal through a step: rules 10 to 14 of one signal, and what it shows afterwards. Assumes nothing.
-use Prim.Native.Nat.{ℕ, zero, suc, _+_, _-_, _/_, _%_, _^_}
+use Prim.Native.Nat.{ℕ, zero, suc, _+_, _-_, _/_, _%_, _^_, _≤_, _<_}
+use mathlib.Core.Path.{_≡_}
+use mathlib.Core.Logic.{_≢_}
 use mathlib.Core.Bool.{Bool, cond, not, _&&_, _||_}
 use lib.Dec.{leb, eqb}
 use lib.ListN.{getD}
@@ -21,9 +23,23 @@ leastTime s q = getD (s .least) (q - 1) 0
 abbrev pub greatestTime : Signal → ℕ → ℕ
 greatestTime s q = getD (s .greatest) (q - 1) 0
 
--- the phase after the shown one: after P comes 1
+-- the phase after phase k of P, by cases (C8): after P comes 1, after any other k comes k + 1
+abbrev pub phaseAfter : ℕ → ℕ → ℕ
+phaseAfter P k = cond (eqb k P) 1 (k + 1)
+
+-- the phase after the shown one
 abbrev pub nextPhase : Signal → ℕ
-nextPhase s = cond (eqb (s .shown) (s .phases)) 1 (s .shown + 1)
+nextPhase s = phaseAfter (s .phases) (s .shown)
+
+-- the d-th next of phase k of P
+unfoldable pub nthNext : ℕ → ℕ → ℕ → ℕ
+nthNext P zero k = k
+nthNext P (suc d) k = phaseAfter P (nthNext P d k)
+
+-- What the order of the phases keeps, for every number of phases: from any phase the P-th next is that phase again, and no earlier one is.
+pub record PhaseOrder : Type 0 where
+  pub comes-again : (P k : ℕ) → 1 ≤ k → k ≤ P → nthNext P P k ≡ k
+  pub no-earlier : (P k d : ℕ) → 1 ≤ k → k ≤ P → 0 < d → d < P → nthNext P d k ≢ k
 
 -- phase 1 begins again: q is 1, and was not shown before
 abbrev pub beginsCycle : Signal → ℕ → Bool
