@@ -50,12 +50,25 @@ fn choose(condition: bool, a: u32, b: u32) -> u32
     if condition { a } else { b }
 }
 
-// The phase after the shown one: after the last comes 1.
+// The phase after the shown one, by cases (C8): after P comes 1, after any other k comes k + 1. Where none is shown, it is 1.
 fn next_phase(signal: Signal) -> u32
     requires { ⌜ Ready signal ⌝ }
     ensures { λ r. ⌜ r ≡ nextPhase signal ⌝ }
 {
-    choose(signal.shown == signal.phases, 1, signal.shown + 1)
+    if signal.shown == signal.phases {
+        return 1;
+    }
+    let shown = signal.shown;
+    match shown {
+        1 => 2,
+        2 => 3,
+        3 => 4,
+        4 => 5,
+        5 => 6,
+        6 => 7,
+        7 => 8,
+        _ => 1,
+    }
 }
 
 // Whether phase 1 begins again, which it does on a change to it only.
