@@ -1,26 +1,29 @@
 -- How large the sums of a plan can be, for a program that forms them in words of 32 and 64 bits: right after the limits of its volumes have passed at a step.
--- At most L movements lead into a link, and from one, since (from, to) rises. Assumes nothing.
-use mathlib.Core.Path.{_≡_, refl, ap}
-use mathlib.Core.Bool.{Bool, true, false}
-use mathlib.Core.Logic.{_⊎_, inl, inr, ⊎-elim}
+-- At most 23 movements lead into a link, and from one, since (from, to) rises and from is not to. One step may admit all that waits, so what has entered is
+-- bounded by all demand so far. Assumes nothing.
+use mathlib.Core.Path.{_≡_, refl, sym, ap, _∙_}
+use mathlib.Core.Bool.{Bool, true, false, cond}
+use mathlib.Core.Logic.{_⊎_, inl, inr, ⊎-elim, _≢_}
 use mathlib.Core.List.{List}
 use Prim.Native.Nat.{ℕ, zero, suc, _+_, _*_, _-_, _≤_, _<_}
 use native.Mathlib.Nat.{eq-or-lt-of-le, le-trans, mul-le-mul, mul-le-mul-right}
 use native.Mathlib.Omega.{arith}
-use lib.Dec.{eqb}
-use borrow.Author.Tests.{leb-true, ltb-true, eqb-true}
+use native.Mathlib.Decide.{decLe}
+use lib.Dec.{eqb, ltb}
+use borrow.Author.Tests.{leb-true, ltb-true, eqb-true, eqb-false, not-true, lt-ltb, le-ltb}
 use Rattle.search.specs.Checks.{Hold}
 use Rattle.records.specs.Lines.{Line}
 use Rattle.model.specs.Sum.{sum, only}
 use Rattle.model.specs.Network.{linkCount, movementCount, stepCount, exitRate, fromLink, toLink, rate, stepLength, demand}
-use Rattle.model.specs.Flows.{admitted, letOut, moved, movedInto, movedFrom, inflow, outflow, entered, left, held, vehicles, allAdmitted, allLetOut, doubledTime}
+use Rattle.model.specs.Flows.{offered, admitted, letOut, moved, movedInto, movedFrom, inflow, outflow, entered, left, held, vehicles, taken, waits, outside, underWay, allAdmitted, allLetOut, doubledTime}
 use Rattle.model.specs.Rules.{pairRises, validMovement, rule15, rule18, rule25, rule26}
 use Rattle.model.specs.Table.{networkChecks}
 use Rattle.model.proofs.Tests.{and-left, and-right, or-cases}
-use Rattle.model.proofs.Sums.{sum-bound}
+use Rattle.model.proofs.Sums.{sum-bound, sum-add, sum-swap}
 use Rattle.model.proofs.Accepted.{ValidNetwork, LawfulStep, valid-network}
 use Rattle.model.proofs.Limits.{counts, link-limits, movement-limits, step-limits}
 use Rattle.model.proofs.Flow.{held-capacity}
+use Rattle.model.proofs.Waiting.{taken-offered}
 
 -- numbers at the places of a test, each at most b, whose ranks rise and lie between 1 and c: there are at most c of them
 ranked-sum : (test : ℕ → Bool) (rank f : ℕ → ℕ) (b m c : ℕ)
@@ -41,6 +44,29 @@ ranked-sum test rank f b (suc m) c rises ranked small =
         let before = ih (rank m - 1) (λ j u t. (ranked j (omega arith) t .0, omega (arith, rises j m u (omega arith) t e))) in
         omega (arith, small m (omega arith), ap (λ x. x * b) one, mul-le-mul-right b (here .1))
     go false e ih = omega (arith, ih c (λ j u. ranked j (omega arith)))
+
+-- the numbers other than x, counted on without it
+unfoldable skip : ℕ → ℕ → ℕ
+skip x k = cond (ltb k x) k (k - 1)
+
+skips : (x k : ℕ) → k ≢ x → ((k < x) × (skip x k ≡ k)) ⊎ ((x < k) × (skip x k ≡ k - 1))
+unfolding skip
+skips x k d = elim (decLe x k) [
+  | yes h ↦ inr (⊎-elim (λ e. absurd (d (sym e))) (λ l. l) (eq-or-lt-of-le h), rw (le-ltb k x h))
+  | no h ↦ inl (omega arith, rw (lt-ltb k x (omega arith)))
+]
+
+skip-rises : (x j k : ℕ) → j ≢ x → k ≢ x → j < k → skip x j < skip x k
+skip-rises x j k d e h = go (skips x j d) (skips x k e)
+  where
+    go : ((j < x) × (skip x j ≡ j)) ⊎ ((x < j) × (skip x j ≡ j - 1)) → ((k < x) × (skip x k ≡ k)) ⊎ ((x < k) × (skip x k ≡ k - 1)) → skip x j < skip x k
+    go (inl a) (inl b) = omega arith
+    go (inl a) (inr b) = omega arith
+    go (inr a) (inl b) = omega arith
+    go (inr a) (inr b) = omega arith
+
+skip-within : (x k : ℕ) → k ≢ x → 1 ≤ x → x ≤ 24 → 1 ≤ k → k ≤ 24 → (1 ≤ skip x k) × (skip x k ≤ 23)
+skip-within x k d a b h l = ⊎-elim (λ e. (omega arith, omega arith)) (λ e. (omega arith, omega arith)) (skips x k d)
 
 -- step n keeps rules 15, 25 and 26, which bound its volumes
 pub record KeepsLimits (network plan : List Line) (n : ℕ) : Type 0 where
@@ -77,6 +103,10 @@ module _ (network plan : List Line) (holds : Hold (networkChecks network)) where
       go (inl e) ih = let i : j ≡ k = omega arith in rw i last
       go (inr u) ih = both (ih (omega arith) (omega arith)) last
 
+  differs : (j : ℕ) → j < movementCount network → fromLink network j ≢ toLink network j
+  unfolding validMovement
+  differs j l = eqb-false _ _ (not-true _ (and-right _ _ (and-left _ _ (and-left _ _ (and-left _ _ (valid .movements j l))))))
+
   -- ---- one step that keeps the limits
   module _ (n : ℕ) (h : n < stepCount network) (keeps : KeepsLimits network plan n) where
     pub moved-small : (j : ℕ) → j < movementCount network → moved network plan n j ≤ 600_000
@@ -85,33 +115,35 @@ module _ (network plan : List Line) (holds : Hold (networkChecks network)) where
         le-trans (leb-true (moved network plan n j) (rate network j * stepLength network n) (keeps .movements j l))
         (mul-le-mul (movement-limits network valid j l .rate-limit) (step-limits network valid n h .length-limit))
 
-    pub moved-into-small : (i : ℕ) → movedInto network plan n i ≤ 14_400_000
-    unfolding movedInto
-    moved-into-small i =
-        ranked-sum (λ j. eqb (toLink network j) (suc i)) (fromLink network) (moved network plan n) 600_000 (movementCount network) 24
-        (λ j k u v e f. rise j k (eqb-true _ _ e) (eqb-true _ _ f) (pair-rises j k u v))
-        (λ j u e. omega (arith, movement-limits network valid j u, counts network valid .links))
+    -- movements at one side of link i, by the links at their other side, which rise and are others
+    few-moved : (i : ℕ) (here there : ℕ → ℕ)
+        → ((j k : ℕ) → here j ≡ suc i → here k ≡ suc i → Above network j k → there j < there k)
+        → ((j : ℕ) → j < movementCount network → (there j ≢ here j) × (here j ≤ 24) × (1 ≤ there j) × (there j ≤ 24))
+        → sum (movementCount network) (λ j. only (eqb (here j) (suc i)) (moved network plan n j)) ≤ 13_800_000
+    few-moved i here there rise sides =
+        ranked-sum (λ j. eqb (here j) (suc i)) (λ j. skip (suc i) (there j)) (moved network plan n) 600_000 (movementCount network) 23
+        (λ j k u v e f. skip-rises (suc i) (there j) (there k) (other j (omega arith) (eqb-true _ _ e)) (other k v (eqb-true _ _ f)) (rise j k (eqb-true _ _ e) (eqb-true _ _ f) (pair-rises j k u v)))
+        (λ j u e. let s = sides j u in let h = eqb-true (here j) (suc i) e in skip-within (suc i) (there j) (other j u h) (omega arith) (omega arith) (s .2) (s .3))
         moved-small
+      where
+        other : (j : ℕ) → j < movementCount network → here j ≡ suc i → there j ≢ suc i
+        other j u e f = sides j u .0 (f ∙ sym e)
+
+    pub moved-into-small : (i : ℕ) → movedInto network plan n i ≤ 13_800_000
+    unfolding movedInto
+    moved-into-small i = few-moved i (toLink network) (fromLink network) rise (λ j u. let m = movement-limits network valid j u in let c = counts network valid in (differs j u, omega arith, m .from-first, omega arith))
       where
         rise : (j k : ℕ) → toLink network j ≡ suc i → toLink network k ≡ suc i → Above network j k → fromLink network j < fromLink network k
         rise j k e f (inl a) = a
         rise j k e f (inr a) = absurd (omega arith)
 
-    pub moved-from-small : (i : ℕ) → movedFrom network plan n i ≤ 14_400_000
+    pub moved-from-small : (i : ℕ) → movedFrom network plan n i ≤ 13_800_000
     unfolding movedFrom
-    moved-from-small i =
-        ranked-sum (λ j. eqb (fromLink network j) (suc i)) (toLink network) (moved network plan n) 600_000 (movementCount network) 24
-        (λ j k u v e f. rise j k (eqb-true _ _ e) (eqb-true _ _ f) (pair-rises j k u v))
-        (λ j u e. omega (arith, movement-limits network valid j u, counts network valid .links))
-        moved-small
+    moved-from-small i = few-moved i (fromLink network) (toLink network) rise (λ j u. let m = movement-limits network valid j u in let c = counts network valid in ((λ e. differs j u (sym e)), omega arith, m .to-first, omega arith))
       where
         rise : (j k : ℕ) → fromLink network j ≡ suc i → fromLink network k ≡ suc i → Above network j k → toLink network j < toLink network k
         rise j k e f (inl a) = absurd (omega arith)
         rise j k e f (inr a) = a .1
-
-    admitted-small : (i : ℕ) → i < linkCount network → admitted network plan n i ≤ 600_000
-    unfolding rule15
-    admitted-small i l = le-trans (leb-true (admitted network plan n i) (demand network n i) (keeps .admissions i l)) (step-limits network valid n h .demand-limit i l)
 
     let-out-small : (i : ℕ) → i < linkCount network → letOut network plan n i ≤ 600_000
     unfolding rule25
@@ -119,34 +151,52 @@ module _ (network plan : List Line) (holds : Hold (networkChecks network)) where
         le-trans (leb-true (letOut network plan n i) (exitRate network i * stepLength network n) (keeps .exits i l))
         (mul-le-mul (link-limits network valid i l .exit-limit) (step-limits network valid n h .length-limit))
 
-    pub inflow-small : (i : ℕ) → i < linkCount network → inflow network plan n i ≤ 15_000_000
-    unfolding inflow
-    inflow-small i l = omega (arith, admitted-small i l, moved-into-small i)
-
-    pub outflow-small : (i : ℕ) → i < linkCount network → outflow network plan n i ≤ 15_000_000
+    outflow-small : (i : ℕ) → i < linkCount network → outflow network plan n i ≤ 14_400_000
     unfolding outflow
     outflow-small i l = omega (arith, let-out-small i l, moved-from-small i)
-
-    all-admitted-small : allAdmitted network plan n ≤ 14_400_000
-    unfolding allAdmitted
-    all-admitted-small = omega (arith, sum-bound (linkCount network) 600_000 (admitted network plan n) admitted-small, counts network valid .links)
 
     all-let-out-small : allLetOut network plan n ≤ 14_400_000
     unfolding allLetOut
     all-let-out-small = omega (arith, sum-bound (linkCount network) 600_000 (letOut network plan n) let-out-small, counts network valid .links)
+
+  -- ---- what has been offered in n steps, and what of it can wait
+  offered-small : (n : ℕ) → n ≤ stepCount network → (i : ℕ) → i < linkCount network → offered network n i ≤ n * 600_000
+  unfolding offered
+  offered-small n h i l = sum-bound n 600_000 (λ m. demand network m i) (λ m u. step-limits network valid m (omega arith) .demand-limit i l)
+
+  pub outside-small : (n : ℕ) → n ≤ stepCount network → outside network plan n ≤ 1_728_000_000
+  unfolding outside waits
+  outside-small n h =
+      omega (
+        arith,
+        sum-bound (linkCount network) 72_000_000 (λ i. offered network n i - taken network plan n i)
+            (λ i l. omega (arith, offered-small n h i l, counts network valid .steps)),
+        counts network valid .links,
+      )
 
   -- ---- n steps that keep the limits
   module _ (n : ℕ) (h : n ≤ stepCount network) (keeps : (m : ℕ) → m < n → KeepsLimits network plan m) where
     each-step : (f : ℕ → ℕ) (c : ℕ) → ((m : ℕ) → m < stepCount network → KeepsLimits network plan m → f m ≤ c) → sum n f ≤ n * c
     each-step f c small = sum-bound n c f (λ m l. small m (omega arith) (keeps m l))
 
-    pub entered-fits : (i : ℕ) → i < linkCount network → entered network plan n i ≤ 2_000_000_000 + n * 15_000_000
-    unfolding entered
-    entered-fits i l = omega (arith, each-step (λ m. inflow network plan m i) 15_000_000 (λ m u k. inflow-small m u k i l), link-limits network valid i l)
+    -- one step may admit all that waits, but no more is taken than was offered
+    taken-fits : (i : ℕ) → i < linkCount network → taken network plan n i ≤ n * 600_000
+    taken-fits i l = omega (arith, taken-offered network plan n i (λ m u. keeps m u .admissions i l), offered-small n h i l)
 
-    pub left-fits : (i : ℕ) → i < linkCount network → left network plan n i ≤ n * 15_000_000
+    pub entered-fits : (i : ℕ) → i < linkCount network → entered network plan n i ≤ 2_000_000_000 + n * 14_400_000
+    unfolding entered inflow taken
+    entered-fits i l =
+        omega (
+          arith,
+          sum-add n (λ m. admitted network plan m i) (λ m. movedInto network plan m i),
+          taken-fits i l,
+          each-step (λ m. movedInto network plan m i) 13_800_000 (λ m u k. moved-into-small m u k i),
+          link-limits network valid i l,
+        )
+
+    pub left-fits : (i : ℕ) → i < linkCount network → left network plan n i ≤ n * 14_400_000
     unfolding left
-    left-fits i l = each-step (λ m. outflow network plan m i) 15_000_000 (λ m u k. outflow-small m u k i l)
+    left-fits i l = each-step (λ m. outflow network plan m i) 14_400_000 (λ m u k. outflow-small m u k i l)
 
     -- numbers of 32 bits
     pub entered-word : (i : ℕ) → i < linkCount network → entered network plan n i < 4_294_967_296
@@ -156,7 +206,14 @@ module _ (network plan : List Line) (holds : Hold (networkChecks network)) where
     left-word i l = omega (arith, left-fits i l, counts network valid .steps)
 
     pub admitted-total-small : sum n (allAdmitted network plan) ≤ n * 14_400_000
-    admitted-total-small = each-step (allAdmitted network plan) 14_400_000 all-admitted-small
+    unfolding allAdmitted taken
+    admitted-total-small =
+        omega (
+          arith,
+          sum-swap n (linkCount network) (λ m i. admitted network plan m i),
+          sum-bound (linkCount network) (n * 600_000) (λ i. sum n (λ m. admitted network plan m i)) taken-fits,
+          mul-le-mul-right (n * 600_000) (counts network valid .links),
+        )
 
     pub let-out-total-small : sum n (allLetOut network plan) ≤ n * 14_400_000
     let-out-total-small = each-step (allLetOut network plan) 14_400_000 all-let-out-small
@@ -169,12 +226,17 @@ module _ (network plan : List Line) (holds : Hold (networkChecks network)) where
         sum-bound (linkCount network) 2_000_000_000 (λ i. entered network plan n i - left network plan n i)
         (λ i l. omega (arith, held-capacity network plan valid n i l (λ m k. keeps m k i l), link-limits network valid i l .capacity-limit))
 
+  pub under-way-small : (n : ℕ) → n ≤ stepCount network → ((m : ℕ) → m < n → (i : ℕ) → i < linkCount network → rule18 network plan m i ≡ true)
+      → underWay network plan n ≤ 49_728_000_000
+  unfolding underWay
+  under-way-small n h keeps = omega (arith, vehicles-small n keeps, outside-small n h, counts network valid .links)
+
   pub doubled-small : (n : ℕ) → n ≤ stepCount network → ((m : ℕ) → m < n → (i : ℕ) → i < linkCount network → rule18 network plan m i ≡ true)
-      → doubledTime network plan n ≤ n * 5_760_000_000_000
+      → doubledTime network plan n ≤ n * 5_967_360_000_000
   unfolding doubledTime
   doubled-small n h keeps =
-      sum-bound n 5_760_000_000_000 (λ m. stepLength network m * (vehicles network plan m + vehicles network plan (suc m)))
+      sum-bound n 5_967_360_000_000 (λ m. stepLength network m * (underWay network plan m + underWay network plan (suc m)))
       (λ m l. le-trans (mul-le-mul (step-limits network valid m (omega arith) .length-limit) (both m l)) (omega arith))
     where
-      both : (m : ℕ) → m < n → vehicles network plan m + vehicles network plan (suc m) ≤ 96_000_000_000
-      both m l = omega (arith, vehicles-small m (λ k u. keeps k (omega arith)), vehicles-small (suc m) (λ k u. keeps k (omega arith)), counts network valid .links)
+      both : (m : ℕ) → m < n → underWay network plan m + underWay network plan (suc m) ≤ 99_456_000_000
+      both m l = omega (arith, under-way-small m (omega arith) (λ k u. keeps k (omega arith)), under-way-small (suc m) (omega arith) (λ k u. keeps k (omega arith)))

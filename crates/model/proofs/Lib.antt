@@ -11,6 +11,7 @@ pub mod Sums
 pub mod Times
 pub mod Arrived
 pub mod Flow
+pub mod Waiting
 pub mod Bounds
 pub mod Rows
 pub mod Written

@@ -12,7 +12,7 @@ use Rattle.records.specs.Lines.{Line}
 use Rattle.model.specs.declared.Totals.{Totals}
 use Rattle.model.specs.declared.PlanAnswer.the-variants as plan-answer
 use Rattle.model.specs.Network.{stepCount}
-use Rattle.model.specs.Flows.{allAdmitted, allLetOut, doubledTime, totals}
+use Rattle.model.specs.Flows.{offered, allDemand, taken, allLetOut, doubledTime, totals}
 use Rattle.model.specs.Table.{planChecks}
 use Rattle.model.specs.Calls.{planAnswer, checkPlan, ledgerAfter}
 use Rattle.model.specs.Guarantees.{weight, Guarantees, Promises}
@@ -21,7 +21,7 @@ use Rattle.model.proofs.Numbers.{refused-number, plan-numbered}
 use Rattle.model.proofs.Accepted.{AcceptedPlan, accepted-plan}
 use Rattle.model.proofs.Integers.{signed-sum}
 use Rattle.model.proofs.Flow.{left-over, left-entered, within-capacity, balance}
-use Rattle.model.proofs.TravelTime.{travel-time}
+use Rattle.model.proofs.TravelTime.{admitted-demand, travel-time}
 use Rattle.model.proofs.Shut.{shut-passes-nothing}
 use Rattle.model.proofs.Red.{red-greens, red-least, red-greatest}
 use Rattle.model.proofs.Once.{exactly-once}
@@ -39,7 +39,8 @@ module _ (network plan : List Line) (accepted : AcceptedPlan network plan) where
         holds-capacity = within-capacity network plan accepted;
         left-arrived = left-over network plan accepted;
         shut-passes-nothing = shut-passes-nothing network plan accepted;
-        reported-time = signed-sum _ _ (allAdmitted network plan) (allLetOut network plan) (weight network) (stepCount network) (travel-time network plan accepted);
+        admitted-demand = unfold taken offered in admitted-demand network plan accepted;
+        reported-time = signed-sum _ _ (allDemand network) (allLetOut network plan) (weight network) (stepCount network) (travel-time network plan accepted);
         reported-balance = travel-time network plan accepted;
       }
 

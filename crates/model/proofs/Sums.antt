@@ -28,7 +28,7 @@ unfolding sum
 sum-bound zero c f h = omega arith
 sum-bound (suc n) c f h = omega (arith, sum-bound n c f (λ i l. h i (omega arith)), h n (omega arith))
 
-sum-zero : (n : ℕ) → sum n (λ k. 0) ≡ 0
+pub sum-zero : (n : ℕ) → sum n (λ k. 0) ≡ 0
 unfolding sum
 sum-zero zero = refl
 sum-zero (suc n) = omega (arith, sum-zero n)

@@ -1,17 +1,18 @@
 -- The doubled travel time of an accepted plan. Assumes nothing.
-use mathlib.Core.Path.{_≡_, refl, ap}
+use mathlib.Core.Path.{_≡_, ap}
 use mathlib.Core.List.{List}
-use Prim.Native.Nat.{ℕ, zero, suc, _+_, _*_, _-_, _≤_}
+use Prim.Native.Nat.{ℕ, zero, suc, _+_, _*_, _-_, _≤_, _<_}
 use native.Mathlib.Nat.{le-refl}
 use native.Mathlib.Omega.{arith}
 use Rattle.records.specs.Lines.{Line}
 use Rattle.model.specs.Sum.{sum}
-use Rattle.model.specs.Network.{stepCount, stepLength, time}
-use Rattle.model.specs.Flows.{vehicles, allAdmitted, allLetOut, doubledTime}
+use Rattle.model.specs.Network.{linkCount, stepCount, stepLength, time}
+use Rattle.model.specs.Flows.{offered, allDemand, taken, waits, vehicles, outside, underWay, allLetOut, doubledTime}
 use Rattle.model.specs.Guarantees.{weight}
-use Rattle.model.proofs.Sums.{sum-ext, sum-weight}
+use Rattle.model.proofs.Sums.{sum-ext, sum-zero, sum-weight}
 use Rattle.model.proofs.Times.{time-suc, time-mono}
 use Rattle.model.proofs.Accepted.{AcceptedPlan}
+use Rattle.model.proofs.Waiting.{taken-offered, outside-step}
 use Rattle.model.proofs.Flow.{balance-step}
 
 module _ (network : List Line) where
@@ -34,16 +35,28 @@ module _ (network : List Line) where
       )
 
 module _ (network plan : List Line) (accepted : AcceptedPlan network plan) where
-  balance-start : (m : ℕ) → m ≤ stepCount network
-      → vehicles network plan m + sum m (allLetOut network plan) ≡ vehicles network plan 0 + sum m (allAdmitted network plan)
+  pub admitted-demand : (n i : ℕ) → n ≤ stepCount network → i < linkCount network → taken network plan n i ≤ offered network n i
+  admitted-demand n i h l = taken-offered network plan n i (λ m u. accepted .lawful m (omega arith) .keeps15 i l)
+
+  -- those under way after a step: its demand has come, what it lets out has gone
+  under-way-step : (n : ℕ) → n < stepCount network → underWay network plan (suc n) + allLetOut network plan n ≡ underWay network plan n + allDemand network n
+  unfolding underWay
+  under-way-step n h = omega (arith, balance-step network plan accepted n h, outside-step network plan n (λ m i u. admitted-demand m i (omega arith)))
+
+  -- nobody waits at the start
+  under-way-start : underWay network plan 0 ≡ vehicles network plan 0
+  unfolding underWay outside waits offered taken sum
+  under-way-start = omega (arith, sum-zero (linkCount network))
+
+  under-way-by : (m : ℕ) → m ≤ stepCount network → underWay network plan m + sum m (allLetOut network plan) ≡ vehicles network plan 0 + sum m (allDemand network)
   unfolding sum
-  balance-start zero h = refl
-  balance-start (suc m) h = omega (arith, balance-start m (omega arith), balance-step network plan accepted m h)
+  under-way-by zero h = omega (arith, under-way-start)
+  under-way-by (suc m) h = omega (arith, under-way-by m (omega arith), under-way-step m h)
 
   -- of the first m steps
   travel-time-by : (m : ℕ) → m ≤ stepCount network
       → doubledTime network plan m + sum m (λ n. allLetOut network plan n * weightBy network m n)
-      ≡ 2 * time network m * vehicles network plan 0 + sum m (λ n. allAdmitted network plan n * weightBy network m n)
+      ≡ 2 * time network m * vehicles network plan 0 + sum m (λ n. allDemand network n * weightBy network m n)
   unfolding doubledTime sum
   travel-time-by zero h = unfold time in omega arith
   travel-time-by (suc m) h =
@@ -51,13 +64,13 @@ module _ (network plan : List Line) (accepted : AcceptedPlan network plan) where
         arith,
         travel-time-by m (omega arith),
         weigh-more network (allLetOut network plan) m,
-        weigh-more network (allAdmitted network plan) m,
+        weigh-more network (allDemand network) m,
         ap (λ x. 2 * x * vehicles network plan 0) (time-suc network m),
-        ap (λ x. stepLength network m * x) (balance-start m (omega arith)),
-        ap (λ x. stepLength network m * x) (balance-step network plan accepted m h),
+        ap (λ x. stepLength network m * x) (under-way-by m (omega arith)),
+        ap (λ x. stepLength network m * x) (under-way-step m h),
       )
 
   pub travel-time : doubledTime network plan (stepCount network) + sum (stepCount network) (λ n. allLetOut network plan n * weight network n)
-      ≡ 2 * time network (stepCount network) * vehicles network plan 0 + sum (stepCount network) (λ n. allAdmitted network plan n * weight network n)
+      ≡ 2 * time network (stepCount network) * vehicles network plan 0 + sum (stepCount network) (λ n. allDemand network n * weight network n)
   unfolding weight weightBy
   travel-time = travel-time-by (stepCount network) (le-refl _)

@@ -8,8 +8,15 @@ use Rattle.model.specs.declared.Signal.{Signal}
 use Rattle.model.specs.declared.Totals.{Totals}
 use Rattle.model.specs.Test.{_or_}
 use Rattle.model.specs.Sum.{sum, only}
-use Rattle.model.specs.Network.{entry, linkCount, signalCount, movementCount, signal, travelTime, signalOf, phaseMask, standing, fromLink, toLink, stepLength, time, arrivalStep, elapsed}
+use Rattle.model.specs.Network.{entry, linkCount, signalCount, movementCount, signal, travelTime, signalOf, phaseMask, standing, fromLink, toLink, stepLength, time, arrivalStep, elapsed, demand}
 use Rattle.model.specs.Signals.{phaseOf, opens, after}
+
+-- the demand of link i in the first n steps, and of all links in step n
+unfoldable pub offered : List Line → ℕ → ℕ → ℕ
+offered network n i = sum n (λ m. demand network m i)
+
+unfoldable pub allDemand : List Line → ℕ → ℕ
+allDemand network n = sum (linkCount network) (demand network n)
 
 module _ (network plan : List Line) where
   -- the `P` line of step n: the mask that signal r shows, the volume admitted on link i, let out from link i, and of movement j
@@ -75,6 +82,20 @@ module _ (network plan : List Line) where
   unfoldable pub vehicles : ℕ → ℕ
   vehicles n = sum (linkCount network) (held n)
 
+  -- what was admitted on link i in the first n steps; what waits outside at boundary n, with demand as its arrival; and all that do
+  unfoldable pub taken : ℕ → ℕ → ℕ
+  taken n i = sum n (λ m. admitted m i)
+
+  unfoldable pub waits : ℕ → ℕ → ℕ
+  waits n i = offered network n i - taken n i
+
+  unfoldable pub outside : ℕ → ℕ
+  outside n = sum (linkCount network) (waits n)
+
+  -- the vehicles under way at boundary n: those in the network and those that wait outside
+  unfoldable pub underWay : ℕ → ℕ
+  underWay n = vehicles n + outside n
+
   -- admitted and let out in step n over all links
   unfoldable pub allAdmitted : ℕ → ℕ
   allAdmitted n = sum (linkCount network) (admitted n)
@@ -82,9 +103,9 @@ module _ (network plan : List Line) where
   unfoldable pub allLetOut : ℕ → ℕ
   allLetOut n = sum (linkCount network) (letOut n)
 
-  -- the doubled travel time of the first n steps: length × (vehicles at its start + vehicles at its end), over the steps
+  -- the doubled travel time of the first n steps: length × (vehicles under way at its start + at its end), over the steps
   unfoldable pub doubledTime : ℕ → ℕ
-  doubledTime n = sum n (λ m. stepLength network m * (vehicles m + vehicles (suc m)))
+  doubledTime n = sum n (λ m. stepLength network m * (underWay m + underWay (suc m)))
 
   -- the four totals of the first n steps: admitted, let out, vehicles in the network at their end, doubled travel time
   unfoldable pub totals : ℕ → Totals

@@ -10,7 +10,7 @@ use Rattle.model.specs.Test.{_and_, _or_, within, every}
 use Rattle.model.specs.Sum.{sum, only}
 use Rattle.model.specs.Network.{maxLinks, maxSignals, maxMovements, maxSteps, linkCount, signalCount, movementCount, stepCount, signal, capacity, travelTime, exitRate, signalOf, phaseMask, standing, fromLink, toLink, rate, share, stepLength, demand}
 use Rattle.model.specs.Signals.{greatestTime, showsOnePhase, keepsOrder, keepsLeastTime, keepsGreatestTime, keepsCycle}
-use Rattle.model.specs.Flows.{admitted, letOut, moved, shownIn, signalAt, isOpen, movedFrom, entered, left, hasArrived}
+use Rattle.model.specs.Flows.{offered, taken, letOut, moved, shownIn, signalAt, isOpen, movedFrom, entered, left, hasArrived}
 
 -- 3, P: 2 to 8 phases
 unfoldable pub validPhases : Signal → Bool
@@ -94,9 +94,9 @@ module _ (network plan : List Line) (n : ℕ) where
   unfoldable pub rule14 : ℕ → Bool
   rule14 r = keepsCycle (signalAt network plan n r) (shownIn network plan n r) (stepLength network n)
 
-  -- 15 (C2), link i: admitted is at most demand
+  -- 15 (C2), link i: admitted by the step's end is at most demand by then
   unfoldable pub rule15 : ℕ → Bool
-  rule15 i = leb (admitted network plan n i) (demand network n i)
+  rule15 i = leb (taken network plan (suc n) i) (offered network (suc n) i)
 
   -- 25 (C2), link i: let out is at most exit rate × length
   unfoldable pub rule25 : ℕ → Bool
