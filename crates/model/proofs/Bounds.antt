@@ -160,7 +160,7 @@ module _ (network plan : List Line) (holds : Hold (networkChecks network)) where
     all-let-out-small = omega (arith, sum-bound (linkCount network) 600_000 (letOut network plan n) let-out-small, counts network valid .links)
 
   -- ---- what has been offered in n steps, and what of it can wait
-  offered-small : (n : ℕ) → n ≤ stepCount network → (i : ℕ) → i < linkCount network → offered network n i ≤ n * 600_000
+  pub offered-small : (n : ℕ) → n ≤ stepCount network → (i : ℕ) → i < linkCount network → offered network n i ≤ n * 600_000
   unfolding offered
   offered-small n h i l = sum-bound n 600_000 (λ m. demand network m i) (λ m u. step-limits network valid m (omega arith) .demand-limit i l)
 
