@@ -9,14 +9,14 @@ use Rattle.search.specs.Checks.{ruleAt}
 use Rattle.model.specs.Network.{maxMovements}
 use Rattle.tables.specs.declared.Counts.{Counts}
 use Rattle.tables.specs.Places.{Few}
-use Rattle.step_limits.specs.Limits.{admitsDemand, letsOutRate, movesRate, movesOpen, limitItems, limitTest, limitRuleIn, limitRulesIn}
+use Rattle.step_limits.specs.Limits.{admitsOffer, letsOutRate, movesRate, movesOpen, limitItems, limitTest, limitRuleIn, limitRulesIn}
 
 module _ (counts : Counts) (line step links movements phases : List ℕ) where
   -- past the four tests there is none to break
   pub no-limit-test : (k item : ℕ) → 4 ≤ k → true ≡ limitTest counts line step links movements phases k item
   unfolding limitTest
   no-limit-test k item h =
-      sym (List·getD-eq-default (admitsDemand counts line step item ∷ letsOutRate counts line step links item ∷ movesRate counts line step movements item ∷ movesOpen counts line links movements phases item ∷ []) true h)
+      sym (List·getD-eq-default (admitsOffer counts line step item ∷ letsOutRate counts line step links item ∷ movesRate counts line step movements item ∷ movesOpen counts line links movements phases item ∷ []) true h)
 
   pub limit-rule-is : (k : ℕ) → k < 4 → ruleAt (limitRulesIn counts line step links movements phases) k ≡ limitRuleIn counts line step links movements phases k
   unfolding limitRulesIn

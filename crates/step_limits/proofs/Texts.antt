@@ -21,22 +21,24 @@ use Rattle.model.proofs.Phases.{phase-of-le}
 use Rattle.model.proofs.Accepted.{ValidNetwork}
 use Rattle.model.proofs.Limits.{link-limits, movement-limits}
 use Rattle.tables.specs.declared.Counts.{Counts}
-use Rattle.tables.specs.Tables.{CountsHold, LinkTable, MovementTable, StepNumbers, PlanNumbers}
-use Rattle.tables.proofs.Tables.{exit-rate-at, signal-of-at, phase-mask-at, from-link-at, rate-at, step-length-at, demand-at}
+use Rattle.tables.specs.Tables.{CountsHold, LinkTable, MovementTable, PlanNumbers}
+use Rattle.tables.proofs.Tables.{exit-rate-at, signal-of-at, phase-mask-at, from-link-at, rate-at}
+use Rattle.waiting.specs.Waiting.{StepOffers}
+use Rattle.waiting.proofs.Texts.{offer-is}
 use Rattle.step_signals.specs.Step.{ShownTable}
-use Rattle.step_rows.proofs.Texts.{movements-named, admitted-is, let-out-is, moved-is}
-use Rattle.step_limits.specs.Limits.{admitsDemand, letsOutRate, isOpenIn, movesRate, movesOpen, limitTest, limitRulesIn, LineTables}
+use Rattle.step_rows.proofs.Texts.{movements-named, let-out-is, moved-is}
+use Rattle.step_limits.specs.Limits.{admitsOffer, letsOutRate, isOpenIn, movesRate, movesOpen, limitTest, limitRulesIn, LineTables}
 
 module _ {network plan : List Line} {n : ℕ} {counts : Counts} {line step links movements phases : List ℕ} (valid : ValidNetwork network) (counted : CountsHold network counts)
     (numbers : PlanNumbers network plan n line) (link-table : LinkTable network links) (movement-table : MovementTable network movements)
-    (step-numbers : StepNumbers network n step) (shown : ShownTable network plan n phases) where
-  admits-demand-is : (i : ℕ) → i < linkCount network → admitsDemand counts line step i ≡ rule15 network plan n i
-  unfolding admitsDemand rule15
-  admits-demand-is i h = ap₂ leb (admitted-is counted numbers i h) (demand-at step-numbers i h)
+    (offers : StepOffers network plan n step) (shown : ShownTable network plan n phases) where
+  admits-offer-is : (i : ℕ) → i < linkCount network → admitsOffer counts line step i ≡ rule15 network plan n i
+  unfolding admitsOffer
+  admits-offer-is i h = offer-is counted numbers offers i h
 
   lets-out-rate-is : (i : ℕ) → i < linkCount network → letsOutRate counts line step links i ≡ rule25 network plan n i
   unfolding letsOutRate rule25
-  lets-out-rate-is i h = ap₂ leb (let-out-is counted numbers i h) (ap₂ (λ x y. x * y) (exit-rate-at link-table i h) (step-length-at step-numbers))
+  lets-out-rate-is i h = ap₂ leb (let-out-is counted numbers i h) (ap₂ (λ x y. x * y) (exit-rate-at link-table i h) (offers .lasts))
 
   is-open-is : (i : ℕ) → i < linkCount network → isOpenIn links phases i ≡ isOpen network plan n i
   unfolding isOpenIn isOpen _or_
@@ -49,7 +51,7 @@ module _ {network plan : List Line} {n : ℕ} {counts : Counts} {line step links
 
   moves-rate-is : (j : ℕ) → j < movementCount network → movesRate counts line step movements j ≡ rule26 network plan n j
   unfolding movesRate rule26
-  moves-rate-is j h = ap₂ leb (moved-is counted numbers j h) (ap₂ (λ x y. x * y) (rate-at movement-table j h) (step-length-at step-numbers))
+  moves-rate-is j h = ap₂ leb (moved-is counted numbers j h) (ap₂ (λ x y. x * y) (rate-at movement-table j h) (offers .lasts))
 
   moves-open-is : (j : ℕ) → j < movementCount network → movesOpen counts line links movements phases j ≡ rule27 network plan n j
   unfolding movesOpen rule27
@@ -59,7 +61,7 @@ module _ {network plan : List Line} {n : ℕ} {counts : Counts} {line step links
 
   limit-rule-same : (k : ℕ) → k < 4 → SameRule (ruleAt (limitRulesIn counts line step links movements phases) k) (ruleAt (limitRules network plan n) k)
   unfolding limitRulesIn limitTest limitRules
-  limit-rule-same zero h = record { number = refl; items = counted .links; holds = admits-demand-is }
+  limit-rule-same zero h = record { number = refl; items = counted .links; holds = admits-offer-is }
   limit-rule-same (suc zero) h = record { number = refl; items = counted .links; holds = lets-out-rate-is }
   limit-rule-same (suc (suc zero)) h = record { number = refl; items = counted .movements; holds = moves-rate-is }
   limit-rule-same (suc (suc (suc zero))) h = record { number = refl; items = counted .movements; holds = moves-open-is }
@@ -87,5 +89,5 @@ module _ {network plan : List Line} {n : ℕ} {counts : Counts} {line step links
           signal-last = λ i h. omega (arith, signal-of-at link-table i (omega arith), link-limits network valid i (omega arith), counted .signals);
           phase-last = λ r h. phase-small r (omega (arith, counted .signals));
         };
-        step-size = step-numbers .size;
+        step-size = offers .size;
       }

@@ -1,5 +1,5 @@
--- Rules 15 and 25 to 27 at one step, as tests of the program's tables: the numbers of the step's `P` and `S` lines, the links and movements of the network, and the phase that
--- each signal shows in the step. Links, movements and signals are counted from 0, a link's signal and a movement's links from 1. Assumes nothing.
+-- Rules 15 and 25 to 27 at one step, as tests of the program's tables: the numbers of the step's `P` line, its length and who is at each entry in it, the links and movements
+-- of the network, and the phase that each signal shows in the step. Links, movements and signals are counted from 0, a link's signal and a movement's links from 1. Assumes nothing.
 use mathlib.Core.Path.{_≡_}
 use mathlib.Core.Bool.{Bool, true}
 use mathlib.Core.List.{List, [], _∷_}
@@ -12,12 +12,13 @@ use Rattle.model.specs.Network.{maxSignals}
 use Rattle.model.specs.Signals.{opens}
 use Rattle.tables.specs.declared.Counts.{Counts}
 use Rattle.tables.specs.Places.{Few}
-use Rattle.tables.specs.Fields.{linkTableSize, stepSize, lineSize, exitRateIn, signalIn, phaseMaskIn, linkIn, rateIn, lengthIn, demandIn, admittedIn, letOutIn, movedIn}
+use Rattle.tables.specs.Fields.{linkTableSize, stepSize, lineSize, exitRateIn, signalIn, phaseMaskIn, linkIn, rateIn, lengthIn, admittedIn, letOutIn, movedIn}
+use Rattle.waiting.specs.Waiting.{offerIn}
 use Rattle.step_rows.specs.Rows.{Named}
 
--- 15, link i: admitted is at most demand
-unfoldable pub admitsDemand : Counts → List ℕ → List ℕ → ℕ → Bool
-admitsDemand counts line step i = leb (admittedIn counts line i) (demandIn step i)
+-- 15, link i: admitted is at most who is at its entry
+unfoldable pub admitsOffer : Counts → List ℕ → List ℕ → ℕ → Bool
+admitsOffer counts line step i = leb (admittedIn counts line i) (offerIn step i)
 
 -- 25, link i: let out is at most exit rate × length
 unfoldable pub letsOutRate : Counts → List ℕ → List ℕ → List ℕ → ℕ → Bool
@@ -45,7 +46,7 @@ limitItems counts k = getD (counts .links ∷ counts .links ∷ counts .movement
 unfoldable pub limitTest : Counts → List ℕ → List ℕ → List ℕ → List ℕ → List ℕ → ℕ → ℕ → Bool
 limitTest counts line step links movements phases k item =
     getD
-    (admitsDemand counts line step item
+    (admitsOffer counts line step item
     ∷ letsOutRate counts line step links item
     ∷ movesRate counts line step movements item
     ∷ movesOpen counts line links movements phases item

@@ -7,7 +7,7 @@ ghost use Rattle.search.specs.Checks.{verdict, table};
 ghost use Rattle.model.specs.Network.{maxLinks, maxSignals};
 ghost use Rattle.tables.specs.Places.{Few};
 ghost use Rattle.tables.specs.Fields.{linkTableSize, movementTableSize, stepSize, lineSize, signalIn};
-ghost use Rattle.step_limits.specs.Limits.{admitsDemand, letsOutRate, isOpenIn, movesRate, movesOpen, limitNumber, limitItems, limitTest, limitRulesIn, OpenTables, LineTables};
+ghost use Rattle.step_limits.specs.Limits.{admitsOffer, letsOutRate, isOpenIn, movesRate, movesOpen, limitNumber, limitItems, limitTest, limitRulesIn, OpenTables, LineTables};
 use search::Refusal;
 use search::Verdict;
 use tables::Counts;
@@ -29,10 +29,10 @@ fn within_rate(volume: u32, rate: u32, seconds: u32) -> bool
     wide(volume) <= times(rate, seconds)
 }
 
-// 15, link i: admitted is at most demand.
-fn admits_demand(line: &[u32], step: &[u32], counts: Counts, i: usize) -> bool
+// 15, link i: admitted is at most who is at its entry, those who wait and the step's demand.
+fn admits_offer(line: &[u32], step: &[u32], counts: Counts, i: usize) -> bool
     requires { ⌜ (i < counts .links) × Few counts × (length (now line) ≡ lineSize) × (length (now step) ≡ stepSize) ⌝ }
-    ensures { λ r. ⌜ r ≡ admitsDemand counts (now (line .entry)) (now (step .entry)) i ⌝ }
+    ensures { λ r. ⌜ r ≡ admitsOffer counts (now (line .entry)) (now (step .entry)) i ⌝ }
 {
     admitted(line, counts, i) <= step[1 + i]
 }
@@ -122,7 +122,7 @@ fn limit_test(
     ensures { λ r. ⌜ r ≡ limitTest counts (now (line .entry)) (now (step .entry)) (now (links .entry)) (now (movements .entry)) (now (phases .entry)) k item ⌝ }
 {
     match k {
-        0 => admits_demand(line, step, counts, item),
+        0 => admits_offer(line, step, counts, item),
         1 => lets_out_rate(line, step, links, counts, item),
         2 => moves_rate(line, step, movements, counts, item),
         3 => moves_open(line, links, movements, phases, counts, item),

@@ -7,8 +7,8 @@ use borrow.Author.Needs.{needs}
 use Rattle.step_limits.proofs.limit_test.Statement.{statement}
 use Rattle.step_limits.proofs.limit_test.Tie as tie
 
-admits-demand-requires : tie.Need-admits-demand-requires
-admits-demand-requires c κs =
+admits-offer-requires : tie.Need-admits-offer-requires
+admits-offer-requires c κs =
     let asked = c .before .before .before .before .before .before .pre .0 in
     let h : c .before .before .before .before .before .before .args .item < c .before .before .before .before .before .before .args .counts .links = rw (c .match .keys1) at (c .before .before .before .before .before .before .pre .1) in
     search needs
@@ -30,7 +30,7 @@ moves-open-requires c κs = (c .before .before .before .before .before .before .
 
 returns : tie.Need-returns
 unfolding limitTest
-returns c = rw (c .before .match .keys1) (c .admits-demand .ensures)
+returns c = rw (c .before .match .keys1) (c .admits-offer .ensures)
 
 returns-2 : tie.Need-returns-2
 unfolding limitTest
@@ -51,7 +51,7 @@ pub limit-test-spec : {M : Type 1} → statement M
 limit-test-spec =
     tie.close
     (tie.spec
-    admits-demand-requires
+    admits-offer-requires
     lets-out-rate-requires
     moves-rate-requires
     moves-open-requires
