@@ -13,27 +13,31 @@ use Rattle.records.specs.Lines.{Line}
 use Rattle.model.specs.declared.Totals.{Totals}
 use Rattle.model.specs.Sum.{sum}
 use Rattle.model.specs.Network.{maxSteps, linkCount, stepCount}
-use Rattle.model.specs.Flows.{doubledTime, totals}
+use Rattle.model.specs.Flows.{outside, underWay, doubledTime, totals}
 use Rattle.model.specs.Rules.{rule18}
 use Rattle.model.specs.Table.{networkChecks, lineChecks}
 use Rattle.model.proofs.Sums.{sum-ext}
 use Rattle.model.proofs.Accepted.{valid-network, lawful-step, LawfulStep}
 use Rattle.model.proofs.Limits.{step-limits}
-use Rattle.model.proofs.Bounds.{KeepsLimits, lawful-limits, admitted-total-small, let-out-total-small, vehicles-small, doubled-small}
+use Rattle.model.proofs.Bounds.{KeepsLimits, lawful-limits, admitted-total-small, let-out-total-small, vehicles-small, outside-small, doubled-small}
 use Rattle.tables.specs.declared.Counts.{Counts}
 use Rattle.tables.specs.Fields.{lineSize, rowSize, lengthIn, admittedIn, letOutIn}
-use Rattle.tables.specs.Tables.{CountsHold, StepNumbers, PlanNumbers}
-use Rattle.tables.proofs.Tables.{step-length-at}
+use Rattle.tables.specs.Tables.{CountsHold, PlanNumbers}
+use Rattle.waiting.specs.Waiting.{waitingIn, StepOffers}
 use Rattle.step_rows.specs.Rows.{RowHolds}
 use Rattle.step_rows.proofs.Texts.{all-admitted-is, all-let-out-is, vehicles-is}
 use Rattle.plan_steps.specs.Totals.{heldIn, totalsAfter, TotalsAsked}
 
+-- the sum of a table from its start
+pub outside-sum : (links : ℕ) (waiting : List ℕ) {total : ℕ} → total ≡ sum links (λ i. getD waiting (0 + i) 0) → total ≡ sum links (waitingIn waiting)
+outside-sum links waiting e = e ∙ sum-ext links _ _ (λ i l. ap (λ k. getD waiting k 0) (omega arith))
+
 -- what `add_step` returns
-pub totals-made : (t : Totals) (counts : Counts) (line step row : List ℕ) (a l h w : ℕ)
+pub totals-made : (t : Totals) (before after : ℕ) (counts : Counts) (line step row : List ℕ) (a l h w : ℕ)
     → a ≡ sum (counts .links) (admittedIn counts line) → l ≡ sum (counts .links) (λ i. getD line (counts .signals + counts .links + i) 0)
-    → h ≡ heldIn counts row → w ≡ lengthIn step * (t .inside + h)
-    → _≡_ {A = Totals} (record { admitted = t .admitted + a; «let_out» = t .«let_out» + l; inside = h; «doubled_time» = t .«doubled_time» + w }) (totalsAfter t counts line step row)
-totals-made t counts line step row a l h w ea el eh ew =
+    → h ≡ heldIn counts row → w ≡ lengthIn step * (t .inside + before + (h + after))
+    → _≡_ {A = Totals} (record { admitted = t .admitted + a; «let_out» = t .«let_out» + l; inside = h; «doubled_time» = t .«doubled_time» + w }) (totalsAfter t before after counts line step row)
+totals-made t before after counts line step row a l h w ea el eh ew =
     let out : l ≡ sum (counts .links) (letOutIn counts line) = el ∙ sum-ext (counts .links) _ _ (λ i u. ap (λ k. getD line k 0) (omega arith)) in
     rw (ew, eh, out, ea)
 
@@ -54,20 +58,23 @@ module _ (network plan : List Line) (holds : Hold (networkChecks network)) (coun
     keeps-18 : (m : ℕ) → m < n → (i : ℕ) → i < linkCount network → rule18 network plan m i ≡ true
     keeps-18 m l = passed-lawful network plan m (passed m l) .keeps18
 
-    pub totals-asked : (line step row : List ℕ) → n < stepCount network → length line ≡ lineSize → StepNumbers network n step → length row ≡ rowSize → TotalsAsked t counts line step row
+    pub totals-asked : (before after : ℕ) (line step row : List ℕ) → before ≡ outside network plan n → after ≡ outside network plan (suc n) → n < stepCount network → length line ≡ lineSize
+        → StepOffers network plan n step → length row ≡ rowSize → TotalsAsked t before after counts line step row
     unfolding totals
-    totals-asked line step row more ls sn rs =
+    totals-asked before after line step row eb ea more ls so rs =
         let valid = valid-network network holds in
         record {
           few = counted .few;
           line-size = ls;
-          step-size = sn .size;
+          step-size = so .size;
           row-size = rs;
-          short = omega (arith, step-length-at sn, step-limits network valid n more .length-limit);
+          short = omega (arith, so .lasts, step-limits network valid n more .length-limit);
           few-admitted = rw at (omega (arith, admitted-total-small network plan holds n h keeps-limits, mul-le-mul-right 14_400_000 few-steps));
           few-let-out = rw at (omega (arith, let-out-total-small network plan holds n h keeps-limits, mul-le-mul-right 14_400_000 few-steps));
           few-inside = rw at (omega (arith, vehicles-small network plan holds n keeps-18, mul-le-mul-right 2_000_000_000 few-links));
-          little-time = rw at (omega (arith, doubled-small network plan holds n h keeps-18, mul-le-mul-right 5_760_000_000_000 few-steps));
+          few-before = rw eb (outside-small network plan holds n h);
+          few-after = rw ea (outside-small network plan holds (suc n) more);
+          little-time = rw at (omega (arith, doubled-small network plan holds n h keeps-18, mul-le-mul-right 5_967_360_000_000 few-steps));
         }
       where
         few-steps : n ≤ maxSteps
@@ -76,8 +83,8 @@ module _ (network plan : List Line) (holds : Hold (networkChecks network)) (coun
         few-links : linkCount network ≤ 24
         few-links = omega (arith, counted .links, counted .few .links)
 
-    pub totals-next : (line step row : List ℕ) → PlanNumbers network plan n line → StepNumbers network n step → RowHolds network plan (suc n) row
-        → totalsAfter t counts line step row ≡ totals network plan (suc n)
-    unfolding totals sum doubledTime
-    totals-next line step row pn sn r =
-        rw (at, all-admitted-is counted pn, all-let-out-is counted pn, vehicles-is counted r, step-length-at sn)
+    pub totals-next : (before after : ℕ) (line step row : List ℕ) → before ≡ outside network plan n → after ≡ outside network plan (suc n) → PlanNumbers network plan n line
+        → StepOffers network plan n step → RowHolds network plan (suc n) row → totalsAfter t before after counts line step row ≡ totals network plan (suc n)
+    unfolding totals sum doubledTime underWay
+    totals-next before after line step row eb ea pn so r =
+        rw (at, eb, ea, all-admitted-is counted pn, all-let-out-is counted pn, vehicles-is counted r, so .lasts)

@@ -21,18 +21,20 @@ use Rattle.model.specs.declared.Signal.{Signal}
 use Rattle.model.specs.declared.Totals.{Totals}
 use Rattle.model.specs.declared.PlanAnswer.{PlanAnswer}
 use Rattle.model.specs.declared.PlanAnswer.the-variants as plan-answer
-use Rattle.model.specs.Sum.{joined}
+use Rattle.model.specs.Sum.{sum, joined}
 use Rattle.model.specs.Network.{maxLinks, linkCount, stepCount, signal}
-use Rattle.model.specs.Flows.{signalAt, totals}
+use Rattle.model.specs.Flows.{offered, taken, waits, outside, signalAt, totals}
 use Rattle.model.specs.Table.{isForm, letterP, ledgerChecks, lineChecks}
 use Rattle.model.specs.Calls.{planAnswer, written, ledgerAfter}
 use Rattle.model.specs.Guarantees.{RowDue}
 use Rattle.model.proofs.Accepted.{ValidNetwork, valid-network}
 use Rattle.model.proofs.Rows.{length-written}
+use Rattle.model.proofs.Sums.{sum-zero}
 use Rattle.model.proofs.Times.{arrival-step-le}
 use Rattle.model.proofs.Written.{refused-fails, due-written, rows-until}
 use Rattle.tables.specs.declared.Counts.{Counts}
 use Rattle.tables.specs.Tables.{SignalTable}
+use Rattle.waiting.proofs.Texts.{waiting-first}
 use Rattle.step_signals.specs.Step.{SignalsAt}
 use Rattle.step_signals.proofs.Rules.{ready-first}
 use Rattle.step_rows.specs.Rows.{RowHolds}
@@ -58,6 +60,11 @@ signals-first network plan signals valid t =
       holds = t .holds;
       ready = λ r l. rw (t .holds r l) (ready-first (signal network r) (valid .phases r l) (valid .signals r l));
     }
+
+-- nobody waits before the plan
+outside-first : (network plan : List Line) → 0 ≡ outside network plan 0
+unfolding outside waits offered taken sum
+outside-first network plan = omega (arith, sum-zero (linkCount network))
 
 -- a line that has passed is there
 lines-within : (network plan : List Line) (n : ℕ) → ((m : ℕ) → m < n → verdict (lineChecks network plan m) ≡ Passes) → n ≤ length plan
@@ -94,12 +101,13 @@ held-asked {networkText} a =
     (a .tables .counted .few .links, omega (arith, a .tables .counted .links, a .room, mul-le-mul-right (2 * linkCount (lines networkText)) m))
 
 pub running-first : {networkText planText : List ℕ} {counts : Counts} {signals : List Signal} {links movements times old : List ℕ} {stepsAt : ℕ}
-    → RunAsked networkText planText counts signals links movements times old stepsAt → (held : ℕ) → held ≡ heldIn counts old → (arrivals : List ℕ) → arrivals ≡ replicate maxLinks 0
+    → RunAsked networkText planText counts signals links movements times old stepsAt → (held : ℕ) → held ≡ heldIn counts old → (arrivals waiting : List ℕ) → arrivals ≡ replicate maxLinks 0 → waiting ≡ replicate maxLinks 0
     → Running networkText planText counts links movements times old
-    (record { boundary = 0; «step_at» = stepsAt; «plan_at» = 0; signals = signals; totals = record { admitted = 0; «let_out» = 0; inside = held; «doubled_time» = 0 } }) arrivals old
-running-first {networkText} {planText} {counts} {signals} {old = old} a held e arrivals zeros =
+    (record { boundary = 0; «step_at» = stepsAt; «plan_at» = 0; signals = signals; totals = record { admitted = 0; «let_out» = 0; inside = held; «doubled_time» = 0 }; outside = 0 }) arrivals waiting old
+running-first {networkText} {planText} {counts} {signals} {old = old} a held e arrivals waiting zeros none =
     let net = lines networkText in
     let pln = lines planText in
+    let few : linkCount net ≤ maxLinks = omega (arith, a .tables .counted .links, a .tables .counted .few .links) in
     record {
       tables = a .tables;
       state-at = record {
@@ -109,9 +117,11 @@ running-first {networkText} {planText} {counts} {signals} {old = old} a held e a
         plan-starts = starts-first planText;
         signals-at = signals-first net pln signals (valid-network net (a .tables .holds)) (a .signal-table);
         totals-at = totals-first net pln (a .tables .holds) counts (a .tables .counted) old (begins net pln old (a .rows)) held e;
+        outside-at = outside-first net pln;
+        waiting-at = waiting-first net pln waiting none few;
         arrivals-at = record {
           size = rw zeros (length-replicate {A = ℕ} maxLinks 0);
-          holds = λ i l. rw zeros (getD-replicate {A = ℕ} maxLinks i 0 0 (omega (arith, a .tables .counted .links, a .tables .counted .few .links)) ∙ omega (arith, arrival-step-le net 0 i));
+          holds = λ i l. rw zeros (getD-replicate {A = ℕ} maxLinks i 0 0 (omega arith) ∙ omega (arith, arrival-step-le net 0 i));
         };
         rows = a .rows;
         room = a .room;
@@ -120,8 +130,8 @@ running-first {networkText} {planText} {counts} {signals} {old = old} a held e a
       long = refl;
     }
 
-module _ {networkText planText : List ℕ} {counts : Counts} {links movements times old : List ℕ} {state : State} {arrivals ledger : List ℕ}
-    (r : Running networkText planText counts links movements times old state arrivals ledger) where
+module _ {networkText planText : List ℕ} {counts : Counts} {links movements times old : List ℕ} {state : State} {arrivals waiting ledger : List ℕ}
+    (r : Running networkText planText counts links movements times old state arrivals waiting ledger) where
   abbrev net : List Line
   net = lines networkText
 
@@ -131,7 +141,7 @@ module _ {networkText planText : List ℕ} {counts : Counts} {links movements ti
   abbrev n : ℕ
   n = state .boundary
 
-  pub running-asked : n < counts .steps → StepAsked networkText planText counts links movements times arrivals ledger state
+  pub running-asked : n < counts .steps → StepAsked networkText planText counts links movements times arrivals waiting ledger state
   running-asked h = record { tables = r .tables; state-at = r .state-at; more = omega (arith, r .tables .counted .steps) }
 
   -- row n is due, and all that are due are written where the next is not
@@ -148,7 +158,7 @@ module _ {networkText planText : List ℕ} {counts : Counts} {links movements ti
   unfolding ledgerAfter
   rows-are h = r .since ∙ ap (written net pln old) (sym (rows-until net pln (length old) n due h))
 
-  module _ {taken : Taken} {arrivals′ ledger′ : List ℕ} (got : StepGot networkText planText ledger state taken arrivals′ ledger′) (h : n < counts .steps) where
+  module _ {taken : Taken} {arrivals′ waiting′ ledger′ : List ℕ} (got : StepGot networkText planText ledger state taken arrivals′ waiting′ ledger′) (h : n < counts .steps) where
     more : n < stepCount net
     more = omega (arith, r .tables .counted .steps)
 
@@ -164,7 +174,7 @@ module _ {networkText planText : List ℕ} {counts : Counts} {links movements ti
         }
 
     -- it passes
-    pub running-next : taken .verdict ≡ Passes → Running networkText planText counts links movements times old (taken .state) arrivals′ ledger′
+    pub running-next : taken .verdict ≡ Passes → Running networkText planText counts links movements times old (taken .state) arrivals′ waiting′ ledger′
     running-next e =
         let m : taken .state .boundary ≡ suc n = got .boundary e ∙ add-one n in
         let w = got .row-more e in
@@ -175,7 +185,7 @@ module _ {networkText planText : List ℕ} {counts : Counts} {links movements ti
           long = ap length w ∙ length-written net pln ledger (suc (suc n)) (room-next (got .reached e) m w) ∙ r .long;
         }
       where
-        room-next : StateAt networkText planText (taken .state) arrivals′ ledger′ → taken .state .boundary ≡ suc n → ledger′ ≡ written net pln ledger (suc (suc n)) → 2 * suc (suc n) * linkCount net ≤ length ledger
+        room-next : StateAt networkText planText (taken .state) arrivals′ waiting′ ledger′ → taken .state .boundary ≡ suc n → ledger′ ≡ written net pln ledger (suc (suc n)) → 2 * suc (suc n) * linkCount net ≤ length ledger
         room-next at m w = let k : suc (suc n) ≤ suc (stepCount net) = omega (arith, more) in omega (arith, r .state-at .room, mul-le-mul-right (2 * linkCount net) k)
 
     pub running-less : taken .verdict ≡ Passes → counts .steps - taken .state .boundary < counts .steps - n

@@ -21,7 +21,7 @@ use Rattle.records.specs.Lines.{Line, lines}
 use Rattle.model.specs.declared.Signal.{Signal}
 use Rattle.model.specs.Signals.{phaseOf}
 use Rattle.model.specs.Network.{maxSignals, arrivalStep, linkCount, signalCount, movementCount, stepCount, stepLine, stepLength, signal, maxSteps}
-use Rattle.model.specs.Flows.{shownMask, shownIn, signalAt}
+use Rattle.model.specs.Flows.{shownMask, shownIn, signalAt, outside}
 use Rattle.model.specs.Rules.{rule10, rule13, rule14}
 use Rattle.model.specs.Table.{isForm, letterS, letterP, networkChecks, stepChecks, limitRules, lineChecks}
 use Rattle.model.specs.Calls.{written}
@@ -36,9 +36,11 @@ use Rattle.tables.specs.Places.{planWidth}
 use Rattle.tables.specs.Fields.{lineSize, stepSize, rowSize, lengthIn}
 use Rattle.tables.specs.Rows.{RowRead}
 use Rattle.tables.specs.Tables.{noSignal, CountsHold, StepNumbers, PlanNumbers}
-use Rattle.tables.proofs.Tables.{travel-time-at, step-length-at, shown-mask-at}
+use Rattle.tables.proofs.Tables.{travel-time-at, shown-mask-at}
 use Rattle.arrivals.specs.Arrivals.{arrivalStepIn, ArrivalsAsked, Arrived, ArrivalTable}
 use Rattle.arrivals.proofs.Boundaries.{arrival-is, cursor-ready}
+use Rattle.waiting.specs.Waiting.{AddAsked, Offers, WaitsAsked, Waits, WaitingTable, StepOffers}
+use Rattle.waiting.proofs.Texts.{add-ready, step-offers, outside-is, next-ready, waiting-next}
 use Rattle.network_steps.specs.Steps.{LoadAsked, Loaded}
 use Rattle.network_steps.proofs.Steps.{load-ready, loaded-numbers, loaded-next}
 use Rattle.step_signals.specs.Ready.{Ready}
@@ -96,8 +98,8 @@ module _ (network plan : List Line) (n : ℕ) (signals signals′ : List Signal)
   signals-next : SignalsAt network plan (suc n) signals′
   signals-next = record { size = moved .size; holds = stepped; ready = λ r l. rw (stepped r l) (ready-next r l) }
 
-module _ {networkText planText : List ℕ} {counts : Counts} {links movements times arrivals ledger : List ℕ} {state : State}
-    (asked : StepAsked networkText planText counts links movements times arrivals ledger state) where
+module _ {networkText planText : List ℕ} {counts : Counts} {links movements times arrivals waiting ledger : List ℕ} {state : State}
+    (asked : StepAsked networkText planText counts links movements times arrivals waiting ledger state) where
   abbrev net : List Line
   net = lines networkText
 
@@ -145,17 +147,23 @@ module _ {networkText planText : List ℕ} {counts : Counts} {links movements ti
       let a = 2 * n * counts .links in
       omega (arith, row-room, length-take-le (length ledger - a) (drop a ledger) (omega (arith, length-drop a ledger)))
 
-  module _ {stepEnd : ℕ} {step : List ℕ} (loaded : Loaded networkText (state .«step_at») (counts .links) stepEnd step) where
-    step-numbers : StepNumbers net n step
-    step-numbers = loaded-numbers networkText (state .«step_at») n (counts .links) (asked .state-at .step-starts) (counted .links) loaded
+  step-numbers : {stepEnd : ℕ} {step : List ℕ} → Loaded networkText (state .«step_at») (counts .links) stepEnd step → StepNumbers net n step
+  step-numbers loaded = loaded-numbers networkText (state .«step_at») n (counts .links) (asked .state-at .step-starts) (counted .links) loaded
+
+  pub add-asked : {stepEnd : ℕ} {step : List ℕ} → Loaded networkText (state .«step_at») (counts .links) stepEnd step → AddAsked (counts .links) waiting step
+  add-asked loaded = add-ready counted (asked .tables .holds) (asked .more) (asked .state-at .waiting-at) (step-numbers loaded)
+
+  module _ {stepEnd : ℕ} {step₀ step : List ℕ} (loaded : Loaded networkText (state .«step_at») (counts .links) stepEnd step₀) (added : Offers (counts .links) waiting step₀ step) where
+    offers : StepOffers net pln n step
+    offers = step-offers counted (asked .state-at .waiting-at) (step-numbers loaded) added
 
     short : lengthIn step ≤ 60
-    short = omega (arith, step-length-at step-numbers, step-limits net valid n (asked .more) .length-limit)
+    short = omega (arith, offers .lasts, step-limits net valid n (asked .more) .length-limit)
 
     module _ {width : ℕ} (is-width : width ≡ planWidth counts) {result : LineRead} {line₀ line : List ℕ}
         (read : RowRead letterP width planText (state .«plan_at») 0 line₀ result line) where
       -- the line has not the form of a `P` line
-      pub step-malformed : result ≡ Malformed → StepGot networkText planText ledger state (record { verdict = Refused (refusal 9 (n + 1) 0); state = state }) arrivals ledger
+      pub step-malformed : result ≡ Malformed → StepGot networkText planText ledger state (record { verdict = Refused (refusal 9 (n + 1) 0); state = state }) arrivals waiting ledger
       step-malformed e =
           let v = line-malformed net pln n (rw (is-width, width-is) at (read .malformed e n (asked .state-at .plan-starts))) in
           record {
@@ -176,9 +184,6 @@ module _ {networkText planText : List ℕ} {counts : Counts} {links movements ti
 
         is-formed : formed net pln n ≡ true
         is-formed = rw (is-width, width-is) at (read .held planEnd e n (asked .state-at .plan-starts) .form)
-
-        pub shown-asked : (phases : List ℕ) → length phases ≡ maxSignals → (counts .signals ≤ maxSignals) × (counts .signals ≤ length line) × (length phases ≡ maxSignals)
-        shown-asked phases q = (counted .few .signals, omega (arith, counted .few .signals, plan-numbers .size), q)
 
         pub arrivals-asked : ArrivalsAsked times links (counts .links) (n + 1) arrivals
         arrivals-asked =
@@ -213,7 +218,7 @@ module _ {networkText planText : List ℕ} {counts : Counts} {links movements ti
             module _ (row : List ℕ) (row-size : length row ≡ rowSize) where
               limits-are : limitVerdict counts (state .signals) line step links movements phases ledger times arrivals′ row n ≡ verdict (table (suc n) (limitRules net pln n))
               unfolding limitVerdict
-              limits-are = limit-rules-are valid counted plan-numbers (asked .tables .link-table) (asked .tables .movement-table) step-numbers shown (suc n)
+              limits-are = limit-rules-are valid counted plan-numbers (asked .tables .link-table) (asked .tables .movement-table) offers shown (suc n)
 
               keeps : limitVerdict counts (state .signals) line step links movements phases ledger times arrivals′ row n ≡ Passes → (m : ℕ) → m < suc n → KeepsLimits net pln m
               keeps v m l = go (let l′ : m ≤ n = omega arith in eq-or-lt-of-le l′)
@@ -232,7 +237,7 @@ module _ {networkText planText : List ℕ} {counts : Counts} {links movements ti
 
               pub judge-asked : JudgeAsked counts (state .signals) line step links movements phases ledger times arrivals′ row n
               judge-asked =
-                  let tables = line-tables valid counted plan-numbers (asked .tables .link-table) (asked .tables .movement-table) step-numbers shown in
+                  let tables = line-tables valid counted plan-numbers (asked .tables .link-table) (asked .tables .movement-table) offers shown in
                   record {
                     signal-tables = record {
                       few = counted .few .signals;
@@ -258,12 +263,12 @@ module _ {networkText planText : List ℕ} {counts : Counts} {links movements ti
                 unfolding signalVerdict sumVerdict
                 line-judged =
                     got .told
-                    ∙ ap₂ orElse (signal-rules-are (counted .signals) (asked .state-at .signals-at) shown (step-length-at step-numbers) (suc n))
+                    ∙ ap₂ orElse (signal-rules-are (counted .signals) (asked .state-at .signals-at) shown (offers .lasts) (suc n))
                     (ap₂ orElse limits-are
                     (sum-rules-are (asked .tables .holds) counted plan-numbers (asked .tables .link-table) (asked .tables .movement-table) before after ledger (asked .state-at .rows) (asked .tables .time-table) arrivals-at (asked .more)))
                     ∙ sym (line-formed net pln n is-formed)
 
-                pub step-refused : {r : Refusal} → v ≡ Refused r → StepGot networkText planText ledger state (record { verdict = v; state = state }) arrivals′ ledger
+                pub step-refused : {r : Refusal} → v ≡ Refused r → StepGot networkText planText ledger state (record { verdict = v; state = state }) arrivals′ waiting ledger
                 step-refused q =
                     record {
                       told = line-judged;
@@ -283,23 +288,33 @@ module _ {networkText planText : List ℕ} {counts : Counts} {links movements ti
                   pub write-asked : (2 * counts .links ≤ length row′) × (2 * (n + 1) * counts .links + 2 * counts .links ≤ length ledger)
                   write-asked = (omega (arith, same, row-size, counted .few .links), rw (counted .links) (omega (arith, room-after)))
 
+                  lawful : LawfulStep net pln n
+                  lawful = passed-lawful net pln n passed-line
+
+                  pub waits-asked : WaitsAsked counts step line waiting
+                  waits-asked = next-ready counted plan-numbers offers (lawful .keeps15) (asked .state-at .waiting-at .size)
+
                   -- the state with the places of the next lines
                   abbrev placed : State
-                  placed = record { boundary = n; «step_at» = stepEnd; «plan_at» = planEnd; signals = state .signals; totals = state .totals }
+                  placed = record { boundary = n; «step_at» = stepEnd; «plan_at» = planEnd; signals = state .signals; totals = state .totals; outside = state .outside }
 
-                  pub next-asked : NextAsked placed counts step line phases row′
-                  next-asked =
+                  waiting-at : {waiting′ : List ℕ} → Waits counts step line (counts .links) waiting′ → WaitingTable net pln (suc n) waiting′
+                  waiting-at stay = waiting-next counted plan-numbers offers (lawful .keeps15) stay
+
+                  pub next-asked : {waiting′ : List ℕ} → Waits counts step line (counts .links) waiting′ → NextAsked placed counts step line phases row′ waiting′
+                  next-asked stay =
                       record {
                         few-steps = step-few;
                         ready = λ r l. asked .state-at .signals-at .ready r (omega (arith, counted .signals));
                         phases-size = shown .size;
-                        totals-asked = totals-asked net pln (asked .tables .holds) counts counted n (asked .state-at .within) (state .totals) (asked .state-at .totals-at) (asked .state-at .passed) line step row′
-                            (asked .more) (plan-numbers .size) step-numbers (same ∙ row-size);
+                        waiting-size = stay .size;
+                        totals-asked = totals-asked net pln (asked .tables .holds) counts counted n (asked .state-at .within) (state .totals) (asked .state-at .totals-at) (asked .state-at .passed) _ _ line step row′
+                            (asked .state-at .outside-at) (outside-is counted (waiting-at stay)) (asked .more) (plan-numbers .size) offers (same ∙ row-size);
                       }
 
-                  module _ {ledger′ : List ℕ}
+                  module _ {waiting′ ledger′ : List ℕ} (stay : Waits counts step line (counts .links) waiting′)
                       (wrote : ledger′ ≡ take (2 * (n + 1) * counts .links) ledger ++ (take (2 * counts .links) row′ ++ drop (2 * (n + 1) * counts .links + 2 * counts .links) ledger))
-                      {next : State} (on : NextGot placed counts step line phases row′ next) where
+                      {next : State} (on : NextGot placed counts step line phases row′ waiting′ next) where
                     rows-written : ledger′ ≡ written net pln ledger (suc (suc n))
                     rows-written =
                         next-written net pln ledger row′ (suc n) (asked .state-at .rows) (next-row-front counted plan-numbers (asked .tables .movement-table) before (drop (2 * counts .links) row) made)
@@ -311,10 +326,13 @@ module _ {networkText planText : List ℕ} {counts : Counts} {links movements ti
                       | no u ↦ asked .state-at .passed m (omega arith)
                     ]
 
+                    outside-next : next .outside ≡ outside net pln (suc n)
+                    outside-next = on .outside ∙ outside-is counted (waiting-at stay)
+
                     is-next : next .boundary ≡ suc n
                     is-next = on .boundary ∙ add-one n
 
-                    state-next : StateAt networkText planText next arrivals′ ledger′
+                    state-next : StateAt networkText planText next arrivals′ waiting′ ledger′
                     state-next =
                         record {
                           within = rw is-next (omega (arith, asked .more));
@@ -322,18 +340,20 @@ module _ {networkText planText : List ℕ} {counts : Counts} {links movements ti
                           step-starts = rw (is-next, on .step-place) (loaded-next networkText (state .«step_at») n (counts .links) (asked .state-at .step-starts) (counted .links) loaded);
                           plan-starts = rw (is-next, on .plan-place) (read .held planEnd e n (asked .state-at .plan-starts) .starts);
                           signals-at = rw is-next
-                              (signals-next net pln n (state .signals) (next .signals) phases (lengthIn step) (counts .signals) (asked .state-at .signals-at) shown (passed-lawful net pln n passed-line) (counted .signals)
-                              (step-length-at step-numbers) (on .signals));
+                              (signals-next net pln n (state .signals) (next .signals) phases (lengthIn step) (counts .signals) (asked .state-at .signals-at) shown lawful (counted .signals)
+                              (offers .lasts) (on .signals));
                           totals-at = rw is-next
-                              (on .totals ∙ totals-next net pln (asked .tables .holds) counts counted n (asked .state-at .within) (state .totals) (asked .state-at .totals-at) (asked .state-at .passed) line step row′ plan-numbers step-numbers
+                              (on .totals ∙ totals-next net pln (asked .tables .holds) counts counted n (asked .state-at .within) (state .totals) (asked .state-at .totals-at) (asked .state-at .passed) _ _ line step row′ (asked .state-at .outside-at) outside-next plan-numbers offers
                               (rw made after));
+                          outside-at = rw is-next outside-next;
                           arrivals-at = rw is-next arrivals-at;
+                          waiting-at = rw is-next (waiting-at stay);
                           rows = rw is-next
                               (rows-written ∙ sym (written-again net pln ledger (suc (suc n)) (suc (suc n)) (omega arith)) ∙ ap (λ x. written net pln x (suc (suc n))) (sym rows-written));
                           room = rw (ap length rows-written ∙ length-written net pln ledger (suc (suc n)) room-after) (asked .state-at .room);
                         }
 
-                    pub step-kept : StepGot networkText planText ledger state (record { verdict = v; state = next }) arrivals′ ledger′
+                    pub step-kept : StepGot networkText planText ledger state (record { verdict = v; state = next }) arrivals′ waiting′ ledger′
                     step-kept =
                         record {
                           told = line-judged;

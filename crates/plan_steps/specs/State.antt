@@ -13,14 +13,16 @@ use Rattle.model.specs.declared.Signal.{Signal}
 use Rattle.model.specs.declared.Totals.{Totals}
 use Rattle.model.specs.declared.PlanAnswer.{PlanAnswer}
 use Rattle.model.specs.declared.PlanAnswer.the-variants as plan-answer
-use Rattle.model.specs.Network.{maxSignals, maxSteps, linkCount, stepCount, stepLine}
-use Rattle.model.specs.Flows.{totals}
+use Rattle.model.specs.Sum.{sum}
+use Rattle.model.specs.Network.{maxLinks, maxSignals, maxSteps, linkCount, stepCount, stepLine}
+use Rattle.model.specs.Flows.{outside, totals}
 use Rattle.model.specs.Table.{networkChecks, lineChecks, planLineChecks}
 use Rattle.model.specs.Calls.{planAnswer, rowsWritten, written, ledgerAfter}
 use Rattle.tables.specs.declared.Counts.{Counts}
 use Rattle.tables.specs.Fields.{lengthIn}
 use Rattle.tables.specs.Tables.{CountsHold, SignalTable, LinkTable, MovementTable, TimeTable}
 use Rattle.arrivals.specs.Arrivals.{ArrivalTable}
+use Rattle.waiting.specs.Waiting.{waitingIn, WaitingTable}
 use Rattle.step_signals.specs.Ready.{AllReady}
 use Rattle.step_signals.specs.Step.{Advanced, SignalsAt}
 use Rattle.plan_steps.specs.declared.State.{State}
@@ -35,47 +37,51 @@ pub record Tables (networkText : List ℕ) (counts : Counts) (links movements ti
   pub movement-table : MovementTable (lines networkText) movements
   pub time-table : TimeTable (lines networkText) times
 
--- The state at a boundary: the steps before it have passed, the lines of the next start at its places, its signals and totals are the paper's, and the ledger
--- has the rows up to the boundary.
-pub record StateAt (networkText planText : List ℕ) (state : State) (arrivals ledger : List ℕ) : Type 0 where
+-- The state at a boundary: the steps before it have passed, the lines of the next start at its places, its signals and totals and those who wait are the paper's, and
+-- the ledger has the rows up to the boundary.
+pub record StateAt (networkText planText : List ℕ) (state : State) (arrivals waiting ledger : List ℕ) : Type 0 where
   pub within : state .boundary ≤ stepCount (lines networkText)
   pub passed : (m : ℕ) → m < state .boundary → verdict (lineChecks (lines networkText) (lines planText) m) ≡ Passes
   pub step-starts : Starts networkText (state .«step_at») (stepLine (lines networkText) (state .boundary))
   pub plan-starts : Starts planText (state .«plan_at») (state .boundary)
   pub signals-at : SignalsAt (lines networkText) (lines planText) (state .boundary) (state .signals)
   pub totals-at : state .totals ≡ totals (lines networkText) (lines planText) (state .boundary)
+  pub outside-at : state .outside ≡ outside (lines networkText) (lines planText) (state .boundary)
   pub arrivals-at : ArrivalTable (lines networkText) (state .boundary) arrivals
+  pub waiting-at : WaitingTable (lines networkText) (lines planText) (state .boundary) waiting
   pub rows : ledger ≡ written (lines networkText) (lines planText) ledger (suc (state .boundary))
   pub room : 2 * suc (stepCount (lines networkText)) * linkCount (lines networkText) ≤ length ledger
 
 -- what the state after a step that is kept asks, by the step's tables ..
-pub record NextAsked (state : State) (counts : Counts) (step line phases row : List ℕ) : Type 0 where
+pub record NextAsked (state : State) (counts : Counts) (step line phases row waiting : List ℕ) : Type 0 where
   pub few-steps : state .boundary < maxSteps
   pub ready : AllReady (state .signals) (counts .signals)
   pub phases-size : length phases ≡ maxSignals
-  pub totals-asked : TotalsAsked (state .totals) counts line step row
+  pub waiting-size : length waiting ≡ maxLinks
+  pub totals-asked : TotalsAsked (state .totals) (state .outside) (sum (counts .links) (waitingIn waiting)) counts line step row
 
 -- .. and is: it has the state's places, which are those of the next lines already
-pub record NextGot (state : State) (counts : Counts) (step line phases row : List ℕ) (next : State) : Type 0 where
+pub record NextGot (state : State) (counts : Counts) (step line phases row waiting : List ℕ) (next : State) : Type 0 where
   pub boundary : next .boundary ≡ state .boundary + 1
   pub step-place : next .«step_at» ≡ state .«step_at»
   pub plan-place : next .«plan_at» ≡ state .«plan_at»
   pub signals : Advanced (state .signals) (counts .signals) phases (lengthIn step) (next .signals)
-  pub totals : next .totals ≡ totalsAfter (state .totals) counts line step row
+  pub totals : next .totals ≡ totalsAfter (state .totals) (state .outside) (next .outside) counts line step row
+  pub outside : next .outside ≡ sum (counts .links) (waitingIn waiting)
 
 -- what taking the next step asks ..
-pub record StepAsked (networkText planText : List ℕ) (counts : Counts) (links movements times arrivals ledger : List ℕ) (state : State) : Type 0 where
+pub record StepAsked (networkText planText : List ℕ) (counts : Counts) (links movements times arrivals waiting ledger : List ℕ) (state : State) : Type 0 where
   pub tables : Tables networkText counts links movements times
-  pub state-at : StateAt networkText planText state arrivals ledger
+  pub state-at : StateAt networkText planText state arrivals waiting ledger
   pub more : state .boundary < stepCount (lines networkText)
 
 -- .. and promises: the verdict on the step's line; where it is refused, the ledger is what it was, and where it passes, the next state is reached and the ledger
 -- has one row more
-pub record StepGot (networkText planText old : List ℕ) (state : State) (taken : Taken) (arrivals ledger : List ℕ) : Type 0 where
+pub record StepGot (networkText planText old : List ℕ) (state : State) (taken : Taken) (arrivals waiting ledger : List ℕ) : Type 0 where
   pub told : taken .verdict ≡ verdict (lineChecks (lines networkText) (lines planText) (state .boundary))
   pub kept : (r : Refusal) → taken .verdict ≡ Refused r → ledger ≡ old
   pub boundary : taken .verdict ≡ Passes → taken .state .boundary ≡ state .boundary + 1
-  pub reached : taken .verdict ≡ Passes → StateAt networkText planText (taken .state) arrivals ledger
+  pub reached : taken .verdict ≡ Passes → StateAt networkText planText (taken .state) arrivals waiting ledger
   pub row-more : taken .verdict ≡ Passes → ledger ≡ written (lines networkText) (lines planText) old (suc (suc (state .boundary)))
 
 -- the answer once all steps have passed: the plan's text is at its end, or one line more is refused
@@ -97,8 +103,8 @@ pub record RunGot (networkText planText old : List ℕ) (answer : PlanAnswer) (l
   pub some-row : 1 ≤ rowsWritten (lines networkText) (lines planText) (length old)
 
 -- the state while the steps are taken, since the ledger was `old`
-pub record Running (networkText planText : List ℕ) (counts : Counts) (links movements times old : List ℕ) (state : State) (arrivals ledger : List ℕ) : Type 0 where
+pub record Running (networkText planText : List ℕ) (counts : Counts) (links movements times old : List ℕ) (state : State) (arrivals waiting ledger : List ℕ) : Type 0 where
   pub tables : Tables networkText counts links movements times
-  pub state-at : StateAt networkText planText state arrivals ledger
+  pub state-at : StateAt networkText planText state arrivals waiting ledger
   pub since : ledger ≡ written (lines networkText) (lines planText) old (suc (state .boundary))
   pub long : length ledger ≡ length old

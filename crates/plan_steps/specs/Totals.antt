@@ -13,18 +13,18 @@ use Rattle.tables.specs.Fields.{lineSize, stepSize, rowSize, lengthIn, admitted
 abbrev pub heldIn : Counts → List ℕ → ℕ
 heldIn counts row = sum (counts .links) (λ i. enteredIn row i - leftIn row i)
 
--- the totals with the step that these lines and this row are of
-abbrev pub totalsAfter : Totals → Counts → List ℕ → List ℕ → List ℕ → Totals
-totalsAfter t counts line step row =
+-- the totals with the step that these lines and this row are of; so many wait outside before it, and after it
+abbrev pub totalsAfter : Totals → ℕ → ℕ → Counts → List ℕ → List ℕ → List ℕ → Totals
+totalsAfter t before after counts line step row =
     record {
       admitted = t .admitted + sum (counts .links) (admittedIn counts line);
       «let_out» = t .«let_out» + sum (counts .links) (letOutIn counts line);
       inside = heldIn counts row;
-      «doubled_time» = t .«doubled_time» + lengthIn step * (t .inside + heldIn counts row);
+      «doubled_time» = t .«doubled_time» + lengthIn step * (t .inside + before + (heldIn counts row + after));
     }
 
 -- what adding a step to the totals asks: their sums fit 64 bits
-pub record TotalsAsked (t : Totals) (counts : Counts) (line step row : List ℕ) : Type 0 where
+pub record TotalsAsked (t : Totals) (before after : ℕ) (counts : Counts) (line step row : List ℕ) : Type 0 where
   pub few : Few counts
   pub line-size : length line ≡ lineSize
   pub step-size : length step ≡ stepSize
@@ -33,4 +33,6 @@ pub record TotalsAsked (t : Totals) (counts : Counts) (line step row : List ℕ)
   pub few-admitted : t .admitted ≤ 1_728_000_000
   pub few-let-out : t .«let_out» ≤ 1_728_000_000
   pub few-inside : t .inside ≤ 48_000_000_000
-  pub little-time : t .«doubled_time» ≤ 691_200_000_000_000
+  pub few-before : before ≤ 1_728_000_000
+  pub few-after : after ≤ 1_728_000_000
+  pub little-time : t .«doubled_time» ≤ 716_083_200_000_000

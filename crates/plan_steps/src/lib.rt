@@ -18,13 +18,14 @@ use tables::ROW_SIZE;
 use tables::STEP_SIZE;
 use tables::wide;
 
-// The state at a boundary: where the `S` and the `P` line of the next step start, the signals, and the totals so far.
+// The state at a boundary: where the `S` and the `P` line of the next step start, the signals, the totals so far, and how many wait outside.
 pub struct State {
     pub boundary: usize,
     pub step_at: usize,
     pub plan_at: usize,
     pub signals: [Signal; 8],
     pub totals: Totals,
+    pub outside: u64,
 }
 
 // What a step comes to: the verdict on it, and where it passes the state after it. (An enum can't hold the signals, since they hold arrays.)
@@ -33,23 +34,31 @@ pub struct Taken {
     pub state: State,
 }
 
-// Length × (vehicles at the step's start + vehicles at its end).
+// Length × (vehicles under way at the step's start + at its end).
 fn travel_time(seconds: u32, start: u64, end: u64) -> u64
-    requires { ⌜ (seconds ≤ 60) × (start ≤ 103079215080) × (end ≤ 103079215080) ⌝ }
-    ensures { λ r. ⌜ (r ≡ seconds * (start + end)) × (r ≤ 12369505809600) ⌝ }
+    requires { ⌜ (seconds ≤ 60) × (start ≤ 104807215080) × (end ≤ 104807215080) ⌝ }
+    ensures { λ r. ⌜ (r ≡ seconds * (start + end)) × (r ≤ 12576865809600) ⌝ }
 {
     wide(seconds) * (start + end)
 }
 
-// The totals with one step more.
-fn add_step(totals: Totals, line: &[u32], step: &[u32], row: &[u32], counts: Counts) -> Totals
-    requires { ⌜ TotalsAsked totals counts (now line) (now step) (now row) ⌝ }
-    ensures { λ r. ⌜ r ≡ totalsAfter totals counts (now (line .entry)) (now (step .entry)) (now (row .entry)) ⌝ }
+// The totals with one step more. Those who wait outside, so many before the step and after it, are in its travel time alone.
+fn add_step(
+    totals: Totals,
+    before: u64,
+    after: u64,
+    line: &[u32],
+    step: &[u32],
+    row: &[u32],
+    counts: Counts,
+) -> Totals
+    requires { ⌜ TotalsAsked totals before after counts (now line) (now step) (now row) ⌝ }
+    ensures { λ r. ⌜ r ≡ totalsAfter totals before after counts (now (line .entry)) (now (step .entry)) (now (row .entry)) ⌝ }
 {
     let admitted = step_rows::sum_of(line, counts.signals, counts.links);
     let let_out = step_rows::sum_of(line, counts.signals + counts.links, counts.links);
     let inside = step_rows::held_in(row, counts.links);
-    let time = travel_time(step[0], totals.inside, inside);
+    let time = travel_time(step[0], totals.inside + before, inside + after);
     Totals {
         admitted: totals.admitted + admitted,
         let_out: totals.let_out + let_out,
@@ -58,27 +67,38 @@ fn add_step(totals: Totals, line: &[u32], step: &[u32], row: &[u32], counts: Cou
     }
 }
 
-// The state after a step that is kept: `row` is the row after it, and the state has the places of the next lines already.
+// The state after a step that is kept: `row` is the row after it, `waiting` has those who wait after it, and the state has the places of the next lines already.
 fn next_state(
     state: State,
     step: &[u32],
     line: &[u32],
     phases: &[u32],
     row: &[u32],
+    waiting: &[u32],
     counts: Counts,
 ) -> State
-    requires { ⌜ NextAsked state counts (now step) (now line) (now phases) (now row) ⌝ }
-    ensures { λ r. ⌜ NextGot state counts (now (step .entry)) (now (line .entry)) (now (phases .entry)) (now (row .entry)) r ⌝ }
+    requires { ⌜ NextAsked state counts (now step) (now line) (now phases) (now row) (now waiting) ⌝ }
+    ensures { λ r. ⌜ NextGot state counts (now (step .entry)) (now (line .entry)) (now (phases .entry)) (now (row .entry)) (now (waiting .entry)) r ⌝ }
 {
     let shown = state.signals;
     let signals = step_signals::advance(shown, counts.signals, phases, step[0]);
-    let totals = add_step(state.totals, line, step, row, counts);
+    let outside = step_rows::sum_of(waiting, 0, counts.links);
+    let totals = add_step(
+        state.totals,
+        state.outside,
+        outside,
+        line,
+        step,
+        row,
+        counts,
+    );
     State {
         boundary: state.boundary + 1,
         step_at: state.step_at,
         plan_at: state.plan_at,
         signals,
         totals,
+        outside,
     }
 }
 
@@ -91,11 +111,12 @@ fn take_step(
     movements: &[u32],
     times: &[u32],
     arrivals: &mut [usize],
+    waiting: &mut [u32],
     ledger: &mut [u32],
     mut state: State,
 ) -> Taken
-    requires { ⌜ StepAsked (now network) (now plan) counts (now links) (now movements) (now times) (now arrivals) (now ledger) state ⌝ }
-    ensures { λ r. ⌜ StepGot (now (network .entry)) (now (plan .entry)) (now (ledger .entry)) state r (now (arrivals .exit)) (now (ledger .exit)) ⌝ }
+    requires { ⌜ StepAsked (now network) (now plan) counts (now links) (now movements) (now times) (now arrivals) (now waiting) (now ledger) state ⌝ }
+    ensures { λ r. ⌜ StepGot (now (network .entry)) (now (plan .entry)) (now (ledger .entry)) state r (now (arrivals .exit)) (now (waiting .exit)) (now (ledger .exit)) ⌝ }
 {
     let mut step = [0u32; STEP_SIZE];
     let mut line = [0u32; LINE_SIZE];
@@ -104,6 +125,7 @@ fn take_step(
     let n = state.boundary;
     let signals = state.signals;
     let step_end = network_steps::load_step(network, state.step_at, counts.links, &mut step);
+    waiting::add_waiting(waiting, counts.links, &mut step);
     let read = tables::read_row(plan, state.plan_at, b'P', &mut line, 0, counts.plan_width());
     let LineRead::Next(plan_end) = read else {
         let verdict = Verdict::Refused(Refusal::new(9, n + 1, 0));
@@ -129,9 +151,10 @@ fn take_step(
         return Taken { verdict, state };
     };
     step_rows::write_row(ledger, 2 * (n + 1) * counts.links, &row, 2 * counts.links);
+    waiting::next_waiting(&step, &line, counts, waiting);
     state.step_at = step_end;
     state.plan_at = plan_end;
-    let next = next_state(state, &step, &line, &phases, &row, counts);
+    let next = next_state(state, &step, &line, &phases, &row, waiting, counts);
     Taken {
         verdict,
         state: next,
@@ -166,6 +189,7 @@ pub fn run_steps(
     ensures { λ r. ⌜ RunGot (now (network .entry)) (now (plan .entry)) (now (ledger .entry)) r (now (ledger .exit)) ⌝ }
 {
     let mut arrivals = [0usize; MAX_LINKS];
+    let mut waiting = [0u32; MAX_LINKS];
     let totals = Totals {
         admitted: 0,
         let_out: 0,
@@ -178,6 +202,7 @@ pub fn run_steps(
         plan_at: 0,
         signals,
         totals,
+        outside: 0,
     };
     let mut taken = Taken {
         verdict: Verdict::Passes,
@@ -193,6 +218,7 @@ pub fn run_steps(
             movements,
             times,
             &mut arrivals,
+            &mut waiting,
             ledger,
             state,
         );

@@ -22,7 +22,7 @@ use Rattle.tables.specs.declared.Counts.{Counts}
 use Rattle.tables.specs.Fields.{admittedIn}
 use Rattle.tables.specs.Tables.{CountsHold, StepNumbers, PlanNumbers}
 use Rattle.tables.proofs.Tables.{step-length-at, demand-at, admitted-at}
-use Rattle.waiting.specs.Waiting.{waitingIn, offerIn, AddAsked, Offers, NextAsked, Waits, WaitingTable, StepOffers}
+use Rattle.waiting.specs.Waiting.{waitingIn, offerIn, AddAsked, Offers, WaitsAsked, Waits, WaitingTable, StepOffers}
 
 -- the same added to both sides
 leb-plus : (a b c : ℕ) → leb a b ≡ leb (c + a) (b + c)
@@ -84,7 +84,7 @@ module _ {network plan : List Line} {n : ℕ} {counts : Counts} (counted : Count
       enough : (i : ℕ) → i < linkCount network → admittedIn counts line i ≤ offerIn step i
       enough i l = leb-true _ _ (offer-is i l ∙ keeps i l)
 
-      pub next-ready : {waiting : List ℕ} → length waiting ≡ maxLinks → NextAsked counts step line waiting
+      pub next-ready : {waiting : List ℕ} → length waiting ≡ maxLinks → WaitsAsked counts step line waiting
       next-ready size =
           record {
             few = counted .few;

@@ -9,7 +9,7 @@ use lib.ListN.{getD, set, length-set}
 use lib.Seq.{getD-set-same, getD-set-other}
 use Rattle.tables.specs.declared.Counts.{Counts}
 use Rattle.tables.specs.Fields.{demandIn, admittedIn}
-use Rattle.waiting.specs.Waiting.{waitingIn, offerIn, AddAsked, Offers, NextAsked, Waits}
+use Rattle.waiting.specs.Waiting.{waitingIn, offerIn, AddAsked, Offers, WaitsAsked, Waits}
 
 -- those who wait have been added to the demand of the first n links
 pub record Adding (links : ℕ) (waiting before step : List ℕ) (n : ℕ) : Type 0 where
@@ -58,12 +58,12 @@ module _ (links : ℕ) (waiting before : List ℕ) where
 
 -- the first n links have who waits after the step
 pub record Keeping (counts : Counts) (step line before waiting : List ℕ) (n : ℕ) : Type 0 where
-  pub asked : NextAsked counts step line before
+  pub asked : WaitsAsked counts step line before
   pub within : n ≤ counts .links
   pub kept : Waits counts step line n waiting
 
 module _ (counts : Counts) (step line before : List ℕ) where
-  pub keeping-first : NextAsked counts step line before → Keeping counts step line before before 0
+  pub keeping-first : WaitsAsked counts step line before → Keeping counts step line before before 0
   keeping-first a = record { asked = a; within = omega arith; kept = record { size = a .size; rest = λ i l. absurd (omega arith) } }
 
   module _ (waiting : List ℕ) (n : ℕ) (m : Keeping counts step line before waiting n) where

@@ -32,7 +32,7 @@ pub record Offers (links : ℕ) (waiting step result : List ℕ) : Type 0 where
   pub offers : (i : ℕ) → i < links → offerIn result i ≡ demandIn step i + waitingIn waiting i
 
 -- what the table after a step asks: no link admits more than is at its entry
-pub record NextAsked (counts : Counts) (step line waiting : List ℕ) : Type 0 where
+pub record WaitsAsked (counts : Counts) (step line waiting : List ℕ) : Type 0 where
   pub few : Few counts
   pub step-size : length step ≡ stepSize
   pub line-size : length line ≡ lineSize

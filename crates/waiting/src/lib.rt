@@ -1,5 +1,5 @@
 // The vehicles that wait at the entries: on each link the demand of the steps so far that was not admitted. The table of those who wait has one number a link.
-ghost use Rattle.waiting.specs.Waiting.{AddAsked, Offers, NextAsked, Waits};
+ghost use Rattle.waiting.specs.Waiting.{AddAsked, Offers, WaitsAsked, Waits};
 use tables::Counts;
 use tables::admitted;
 
@@ -17,7 +17,7 @@ pub fn add_waiting(waiting: &[u32], links: usize, step: &mut [u32])
 
 // Who waits after a step that is kept: who was at the entry in the step and was not admitted.
 pub fn next_waiting(step: &[u32], line: &[u32], counts: Counts, waiting: &mut [u32])
-    requires { ⌜ NextAsked counts (now step) (now line) (now waiting) ⌝ }
+    requires { ⌜ WaitsAsked counts (now step) (now line) (now waiting) ⌝ }
     ensures { λ _. ⌜ Waits counts (now (step .entry)) (now (line .entry)) (counts .links) (now (waiting .exit)) ⌝ }
 {
     let mut i: usize = 0;

@@ -9,24 +9,27 @@ use Rattle.plan_steps.proofs.run_steps.Statement.{statement}
 use Rattle.plan_steps.proofs.run_steps.Tie as tie
 
 abbrev Inv-loop : tie.InvT-loop
-Inv-loop network plan counts links movements times ledger₀ steps-at arrivals₀ taken₀ ledger arrivals taken =
-    Running network plan counts links movements times ledger₀ (taken .state) arrivals ledger
+Inv-loop network plan counts links movements times ledger₀ steps-at arrivals₀ waiting₀ taken₀ ledger arrivals waiting taken =
+    Running network plan counts links movements times ledger₀ (taken .state) arrivals waiting ledger
 
 abbrev μ-loop : tie.MeasureT-loop
-μ-loop network plan counts links movements times ledger₀ steps-at arrivals₀ taken₀ ledger arrivals taken =
+μ-loop network plan counts links movements times ledger₀ steps-at arrivals₀ waiting₀ taken₀ ledger arrivals waiting taken =
     counts .steps - taken .state .boundary
 
 held-in-requires : tie.Need-held-in-requires Inv-loop μ-loop
 held-in-requires c κs = held-asked (c .before .before .before .before .before .before .before .pre)
 
 loop-holds : tie.Need-loop-holds Inv-loop μ-loop
-loop-holds c = running-first (c .before .before .before .before .before .before .before .before .pre) _ (c .held-in .ensures .0) _ refl
+loop-holds c = running-first (c .before .before .before .before .before .before .before .before .pre) _ (c .held-in .ensures .0) _ _ refl refl
 
 slice-aggregate-take-step : tie.Need-slice-aggregate-take-step Inv-loop μ-loop
 slice-aggregate-take-step c = sym (c .before .before .before .before .before .loop .inv .state-at .arrivals-at .size)
 
+slice-aggregate-take-step-2 : tie.Need-slice-aggregate-take-step-2 Inv-loop μ-loop
+slice-aggregate-take-step-2 c = sym (c .before .before .before .before .before .before .loop .inv .state-at .waiting-at .size)
+
 take-step-requires : tie.Need-take-step-requires Inv-loop μ-loop
-take-step-requires c κs = running-asked (c .before .before .before .before .before .before .loop .inv) (omega arith)
+take-step-requires c κs = running-asked (c .before .before .before .before .before .before .before .loop .inv) (omega arith)
 
 enum-known-verdict : tie.Need-enum-known-verdict Inv-loop μ-loop
 enum-known-verdict c = search needs
@@ -35,16 +38,16 @@ same-length : tie.Need-same-length Inv-loop μ-loop
 same-length c = search needs
 
 returns : tie.Need-returns Inv-loop μ-loop
-returns c = run-refused (c .before .before .before .before .before .before .before .before .before .before .before .before .before .loop .inv) (c .before .before .before .before .before .before .take-step .ensures) (omega arith) (c .before .verdict .given .1)
+returns c = run-refused (c .before .before .before .before .before .before .before .before .before .before .before .before .before .before .before .loop .inv) (c .before .before .before .before .before .before .before .take-step .ensures) (omega arith) (c .before .verdict .given .1)
 
 enum-told : tie.Need-enum-told Inv-loop μ-loop
 enum-told c = search needs
 
 loop-less : tie.Need-loop-less Inv-loop μ-loop
-loop-less c = running-less (c .before .before .before .before .before .before .before .before .before .before .before .before .loop .inv) (c .before .before .before .before .before .take-step .ensures) (omega arith) (c .enum-told .given .1)
+loop-less c = running-less (c .before .before .before .before .before .before .before .before .before .before .before .before .before .before .loop .inv) (c .before .before .before .before .before .before .take-step .ensures) (omega arith) (c .enum-told .given .1)
 
 loop-again : tie.Need-loop-again Inv-loop μ-loop
-loop-again c = running-next (c .before .before .before .before .before .before .before .before .before .before .before .before .loop .inv) (c .before .before .before .before .before .take-step .ensures) (omega arith) (c .enum-told .given .1)
+loop-again c = running-next (c .before .before .before .before .before .before .before .before .before .before .before .before .before .before .loop .inv) (c .before .before .before .before .before .before .take-step .ensures) (omega arith) (c .enum-told .given .1)
 
 finish-requires : tie.Need-finish-requires Inv-loop μ-loop
 finish-requires c κs = c .before .before .before .before .loop .inv .tables .counted .few .steps
@@ -64,6 +67,7 @@ run-steps-spec =
     held-in-requires
     loop-holds
     slice-aggregate-take-step
+    slice-aggregate-take-step-2
     take-step-requires
     enum-known-verdict
     same-length

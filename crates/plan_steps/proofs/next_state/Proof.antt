@@ -1,0 +1,46 @@
+-- `plan_steps::next_state` meets its contract: what it calls gives the parts of the state. Assumes nothing.
+use mathlib.Core.Path.{refl}
+use Rattle.plan_steps.proofs.Adding.{outside-sum}
+use borrow.Author.Needs.{needs}
+use Rattle.plan_steps.proofs.next_state.Statement.{statement}
+use Rattle.plan_steps.proofs.next_state.Tie as tie
+
+shared-slice-read-advance : tie.Need-shared-slice-read-advance
+shared-slice-read-advance c = search needs
+
+advance-requires : tie.Need-advance-requires
+advance-requires c κs = search needs
+
+sum-of-requires : tie.Need-sum-of-requires
+sum-of-requires c κs = search needs
+
+add-step-requires : tie.Need-add-step-requires
+add-step-requires c κs =
+    let a = c .before .before .before .before .before .before .before .before .before .args in
+    rw (outside-sum (a .counts .links) (a .waiting .now) (c .sum-of .ensures .0)) (c .before .before .before .before .before .before .before .before .before .pre .totals-asked)
+
+add-t14 : tie.Need-add-t14
+add-t14 c = search needs
+
+returns : tie.Need-returns
+returns c =
+    let a = c .before .before .before .before .before .before .before .before .before .before .before .args in
+    record {
+      boundary = refl;
+      step-place = refl;
+      plan-place = refl;
+      signals = c .before .before .before .advance .ensures;
+      totals = c .before .add-step .ensures;
+      outside = outside-sum (a .counts .links) (a .waiting .now) (c .before .before .sum-of .ensures .0);
+    }
+
+pub next-state-spec : {M : Type 1} → statement M
+next-state-spec =
+    tie.close
+    (tie.spec
+    shared-slice-read-advance
+    advance-requires
+    sum-of-requires
+    add-step-requires
+    add-t14
+    returns)
