@@ -279,7 +279,7 @@ static struct refusal read_network(struct network *network, const uint8_t *bytes
 /* One step of a plan, and what it does to the links. */
 struct step {
     uint32_t length;
-    uint32_t demand[PLANCHECK_MAX_LINKS];
+    uint32_t at_entry[PLANCHECK_MAX_LINKS]; /* who waits there, and the step's demand */
     const uint32_t *mask, *admitted, *let_out, *moved;
     uint32_t moved_from[PLANCHECK_MAX_LINKS], moved_to[PLANCHECK_MAX_LINKS];
     uint32_t entered[PLANCHECK_MAX_LINKS], left[PLANCHECK_MAX_LINKS];
@@ -343,7 +343,7 @@ static struct refusal judge_flows(const struct network *network, struct step *st
 {
     bool is_open[PLANCHECK_MAX_LINKS];
     for (uint32_t i = 0; i < network->links; i++)
-        if (step->admitted[i] > step->demand[i])
+        if (step->admitted[i] > step->at_entry[i])
             return refuse(15, line, i + 1);
     for (uint32_t i = 0; i < network->links; i++)
         if (step->let_out[i] > network->link[i].exit_rate * step->length)
@@ -443,6 +443,8 @@ plancheck_plan_result twin_check_plan(const uint8_t *network_text, size_t networ
     struct text demands = {network_text, network_len, network.first_step};
     struct text plan = {plan_text, plan_len, 0};
     uint8_t ends[PLANCHECK_MAX_LINKS] = {0};
+    uint32_t waiting[PLANCHECK_MAX_LINKS] = {0};
+    uint64_t under_way = result.inside; /* in the network or waiting outside */
     uint32_t numbers[MAX_PLAN_NUMBERS], step_numbers[1 + PLANCHECK_MAX_LINKS];
     struct step step;
     step.mask = numbers;
@@ -455,7 +457,7 @@ plancheck_plan_result twin_check_plan(const uint8_t *network_text, size_t networ
         read_line(&demands, 'S', step_numbers, 1 + network.links);
         step.length = step_numbers[0];
         for (uint32_t i = 0; i < network.links; i++)
-            step.demand[i] = step_numbers[1 + i];
+            step.at_entry[i] = waiting[i] + step_numbers[1 + i];
 
         refusal = judge_signals(&network, &step, n);
         if (refusal.number == 0)
@@ -465,7 +467,7 @@ plancheck_plan_result twin_check_plan(const uint8_t *network_text, size_t networ
         if (refusal.number != 0)
             return plan_refused(refusal);
 
-        uint64_t inside_before = result.inside;
+        uint64_t under_way_before = under_way;
         uint32_t *row = ledger + 2 * (size_t)n * network.links;
         for (uint32_t i = 0; i < network.links; i++) {
             row[2 * i] = step.entered[i];
@@ -474,8 +476,11 @@ plancheck_plan_result twin_check_plan(const uint8_t *network_text, size_t networ
             result.let_out += step.let_out[i];
             result.inside += step.admitted[i];
             result.inside -= step.let_out[i];
+            under_way += step_numbers[1 + i];
+            under_way -= step.let_out[i];
+            waiting[i] = step.at_entry[i] - step.admitted[i];
         }
-        result.doubled_time += step.length * (inside_before + result.inside);
+        result.doubled_time += step.length * (under_way_before + under_way);
     }
     if (plan.at != plan.length)
         return plan_refused(refuse(9, network.steps + 1, 0));

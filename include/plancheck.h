@@ -180,7 +180,7 @@ enum plancheck_number {
     PLANCHECK_PHASE_TOO_LONG = 13,
     /* Phase 1 begins again before the least cycle, or the cycle is longer than the greatest. Item: signal. */
     PLANCHECK_CYCLE_TIME = 14,
-    /* Admitted above demand. Item: link. */
+    /* Admitted by the step's end above demand by then: more than wait at the entry and come to it. Item: link. */
     PLANCHECK_ABOVE_DEMAND = 15,
     /* Let out above exit rate * length. Judged after 15. Item: link. */
     PLANCHECK_ABOVE_EXIT_LIMIT = 25,
@@ -249,7 +249,8 @@ typedef struct {
     uint64_t let_out;      /* volume let out of the network from all links in all steps */
     uint64_t inside;       /* volume in the network at the end */
     uint64_t doubled_time; /* twice the travel time, in thousandths of a vehicle times seconds: the sum over the steps
-                              of length * (volume in the network at the step's start + at its end) */
+                              of length * (volume under way at the step's start + at its end), which is in the network
+                              or waits outside: demand of the steps so far that was not admitted */
 } plancheck_plan_result;
 
 /* Answer of plancheck_link_state. 20 bytes. */

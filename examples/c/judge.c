@@ -36,7 +36,7 @@ static const struct {
     [PLANCHECK_PHASE_TOO_SHORT] = {"plan", "signal", "a phase is left before its least time"},
     [PLANCHECK_PHASE_TOO_LONG] = {"plan", "signal", "a phase shows longer than its greatest time"},
     [PLANCHECK_CYCLE_TIME] = {"plan", "signal", "the cycle is shorter than its least or longer than its greatest time"},
-    [PLANCHECK_ABOVE_DEMAND] = {"plan", "link", "more is admitted than the step's demand"},
+    [PLANCHECK_ABOVE_DEMAND] = {"plan", "link", "more is admitted than has come by then"},
     [PLANCHECK_TURNING_SHARE] = {"plan", "movement", "the movement is above its share of the movements from its link"},
     [PLANCHECK_EARLY_DEPARTURE] = {"plan", "link", "more has left than has arrived"},
     [PLANCHECK_OVER_CAPACITY] = {"plan", "link", "the link would hold more than its capacity"},

@@ -46,7 +46,8 @@ pub struct Totals {
     /// Volume in the network at the end.
     pub inside: u64,
     /// Twice the travel time, in thousandths of a vehicle times seconds: the sum over the steps of length × (volume
-    /// in the network at the step's start + at its end).
+    /// under way at the step's start + at its end), which is in the network or waits outside: demand of the steps so
+    /// far that was not admitted.
     pub doubled_time: u64,
 }
 

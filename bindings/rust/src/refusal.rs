@@ -103,7 +103,7 @@ impl Refusal {
             12 => "a phase is left before its least time",
             13 => "a phase shows longer than its greatest time",
             14 => "the cycle is shorter than its least or longer than its greatest time",
-            15 => "more is admitted than the step's demand",
+            15 => "more is admitted than has come by then",
             16 => "the movement is above its share of the movements from its link",
             17 => "more has left than has arrived",
             18 => "the link would hold more than its capacity",
