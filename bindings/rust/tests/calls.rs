@@ -96,7 +96,7 @@ fn a_refusal_in_words() {
     );
     assert_eq!(
         refusal(15, 2, 1).to_string(),
-        "refusal 15, plan line 2, link 1: more is admitted than the step's demand"
+        "refusal 15, plan line 2, link 1: more is admitted than has come by then"
     );
     assert_eq!(
         refusal(27, 2, 1).to_string(),
