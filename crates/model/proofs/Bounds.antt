@@ -183,7 +183,7 @@ module _ (network plan : List Line) (holds : Hold (networkChecks network)) where
     taken-fits : (i : ℕ) → i < linkCount network → taken network plan n i ≤ n * 600_000
     taken-fits i l = omega (arith, taken-offered network plan n i (λ m u. keeps m u .admissions i l), offered-small n h i l)
 
-    pub entered-fits : (i : ℕ) → i < linkCount network → entered network plan n i ≤ 2_000_000_000 + n * 14_400_000
+    entered-fits : (i : ℕ) → i < linkCount network → entered network plan n i ≤ 2_000_000_000 + n * 14_400_000
     unfolding entered inflow taken
     entered-fits i l =
         omega (
@@ -194,7 +194,7 @@ module _ (network plan : List Line) (holds : Hold (networkChecks network)) where
           link-limits network valid i l,
         )
 
-    pub left-fits : (i : ℕ) → i < linkCount network → left network plan n i ≤ n * 14_400_000
+    left-fits : (i : ℕ) → i < linkCount network → left network plan n i ≤ n * 14_400_000
     unfolding left
     left-fits i l = each-step (λ m. outflow network plan m i) 14_400_000 (λ m u k. outflow-small m u k i l)
 
@@ -226,7 +226,7 @@ module _ (network plan : List Line) (holds : Hold (networkChecks network)) where
         sum-bound (linkCount network) 2_000_000_000 (λ i. entered network plan n i - left network plan n i)
         (λ i l. omega (arith, held-capacity network plan valid n i l (λ m k. keeps m k i l), link-limits network valid i l .capacity-limit))
 
-  pub under-way-small : (n : ℕ) → n ≤ stepCount network → ((m : ℕ) → m < n → (i : ℕ) → i < linkCount network → rule18 network plan m i ≡ true)
+  under-way-small : (n : ℕ) → n ≤ stepCount network → ((m : ℕ) → m < n → (i : ℕ) → i < linkCount network → rule18 network plan m i ≡ true)
       → underWay network plan n ≤ 49_728_000_000
   unfolding underWay
   under-way-small n h keeps = omega (arith, vehicles-small n keeps, outside-small n h, counts network valid .links)

@@ -7,12 +7,12 @@ use native.Mathlib.Omega.{arith}
 use Rattle.records.specs.Lines.{Line}
 use Rattle.model.specs.Sum.{sum}
 use Rattle.model.specs.Network.{linkCount, stepCount, stepLength, time}
-use Rattle.model.specs.Flows.{offered, allDemand, taken, waits, vehicles, outside, underWay, allLetOut, doubledTime}
+use Rattle.model.specs.Flows.{offered, allDemand, taken, vehicles, underWay, allLetOut, doubledTime}
 use Rattle.model.specs.Guarantees.{weight}
-use Rattle.model.proofs.Sums.{sum-ext, sum-zero, sum-weight}
+use Rattle.model.proofs.Sums.{sum-ext, sum-weight}
 use Rattle.model.proofs.Times.{time-suc, time-mono}
 use Rattle.model.proofs.Accepted.{AcceptedPlan}
-use Rattle.model.proofs.Waiting.{taken-offered, outside-step}
+use Rattle.model.proofs.Waiting.{taken-offered, outside-start, outside-step}
 use Rattle.model.proofs.Flow.{balance-step}
 
 module _ (network : List Line) where
@@ -43,14 +43,9 @@ module _ (network plan : List Line) (accepted : AcceptedPlan network plan) where
   unfolding underWay
   under-way-step n h = omega (arith, balance-step network plan accepted n h, outside-step network plan n (λ m i u. admitted-demand m i (omega arith)))
 
-  -- nobody waits at the start
-  under-way-start : underWay network plan 0 ≡ vehicles network plan 0
-  unfolding underWay outside waits offered taken sum
-  under-way-start = omega (arith, sum-zero (linkCount network))
-
   under-way-by : (m : ℕ) → m ≤ stepCount network → underWay network plan m + sum m (allLetOut network plan) ≡ vehicles network plan 0 + sum m (allDemand network)
-  unfolding sum
-  under-way-by zero h = omega (arith, under-way-start)
+  unfolding underWay sum
+  under-way-by zero h = omega (arith, outside-start network plan)
   under-way-by (suc m) h = omega (arith, under-way-by m (omega arith), under-way-step m h)
 
   -- of the first m steps

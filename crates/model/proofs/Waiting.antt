@@ -2,7 +2,7 @@
 use mathlib.Core.Path.{_≡_, refl}
 use mathlib.Core.Bool.{true}
 use mathlib.Core.List.{List}
-use Prim.Native.Nat.{ℕ, zero, suc, _+_, _*_, _≤_, _<_}
+use Prim.Native.Nat.{ℕ, zero, suc, _+_, _≤_, _<_}
 use native.Mathlib.Omega.{arith}
 use borrow.Author.Tests.{leb-true}
 use Rattle.records.specs.Lines.{Line}
@@ -10,7 +10,7 @@ use Rattle.model.specs.Sum.{sum}
 use Rattle.model.specs.Network.{linkCount, demand}
 use Rattle.model.specs.Flows.{offered, allDemand, admitted, taken, waits, outside, allAdmitted}
 use Rattle.model.specs.Rules.{rule15}
-use Rattle.model.proofs.Sums.{sum-ext, sum-add}
+use Rattle.model.proofs.Sums.{sum-ext, sum-zero, sum-add}
 
 module _ (network plan : List Line) where
   pub offered-suc : (n i : ℕ) → offered network (suc n) i ≡ offered network n i + demand network n i
@@ -31,6 +31,11 @@ module _ (network plan : List Line) where
   pub waits-rest : (n i : ℕ) → taken network plan n i ≤ offered network n i → waits network plan n i + taken network plan n i ≡ offered network n i
   unfolding waits
   waits-rest n i h = omega arith
+
+  -- nobody waits at the start
+  pub outside-start : outside network plan 0 ≡ 0
+  unfolding outside waits offered taken sum
+  outside-start = sum-zero (linkCount network)
 
   -- those outside after a step: its demand has come, what it admits has gone in
   pub outside-step : (n : ℕ) → ((m i : ℕ) → m ≤ suc n → i < linkCount network → taken network plan m i ≤ offered network m i)

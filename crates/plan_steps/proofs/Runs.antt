@@ -21,15 +21,15 @@ use Rattle.model.specs.declared.Signal.{Signal}
 use Rattle.model.specs.declared.Totals.{Totals}
 use Rattle.model.specs.declared.PlanAnswer.{PlanAnswer}
 use Rattle.model.specs.declared.PlanAnswer.the-variants as plan-answer
-use Rattle.model.specs.Sum.{sum, joined}
+use Rattle.model.specs.Sum.{joined}
 use Rattle.model.specs.Network.{maxLinks, linkCount, stepCount, signal}
-use Rattle.model.specs.Flows.{offered, taken, waits, outside, signalAt, totals}
+use Rattle.model.specs.Flows.{signalAt, totals}
 use Rattle.model.specs.Table.{isForm, letterP, ledgerChecks, lineChecks}
 use Rattle.model.specs.Calls.{planAnswer, written, ledgerAfter}
 use Rattle.model.specs.Guarantees.{RowDue}
 use Rattle.model.proofs.Accepted.{ValidNetwork, valid-network}
 use Rattle.model.proofs.Rows.{length-written}
-use Rattle.model.proofs.Sums.{sum-zero}
+use Rattle.model.proofs.Waiting.{outside-start}
 use Rattle.model.proofs.Times.{arrival-step-le}
 use Rattle.model.proofs.Written.{refused-fails, due-written, rows-until}
 use Rattle.tables.specs.declared.Counts.{Counts}
@@ -60,11 +60,6 @@ signals-first network plan signals valid t =
       holds = t .holds;
       ready = λ r l. rw (t .holds r l) (ready-first (signal network r) (valid .phases r l) (valid .signals r l));
     }
-
--- nobody waits before the plan
-outside-first : (network plan : List Line) → 0 ≡ outside network plan 0
-unfolding outside waits offered taken sum
-outside-first network plan = omega (arith, sum-zero (linkCount network))
 
 -- a line that has passed is there
 lines-within : (network plan : List Line) (n : ℕ) → ((m : ℕ) → m < n → verdict (lineChecks network plan m) ≡ Passes) → n ≤ length plan
@@ -117,7 +112,7 @@ running-first {networkText} {planText} {counts} {signals} {old = old} a held e a
         plan-starts = starts-first planText;
         signals-at = signals-first net pln signals (valid-network net (a .tables .holds)) (a .signal-table);
         totals-at = totals-first net pln (a .tables .holds) counts (a .tables .counted) old (begins net pln old (a .rows)) held e;
-        outside-at = outside-first net pln;
+        outside-at = sym (outside-start net pln);
         waiting-at = waiting-first net pln waiting none few;
         arrivals-at = record {
           size = rw zeros (length-replicate {A = ℕ} maxLinks 0);

@@ -20,7 +20,7 @@ use Rattle.records.specs.declared.LineRead.the-variants.{Next, Malformed}
 use Rattle.records.specs.Lines.{Line, lines}
 use Rattle.model.specs.declared.Signal.{Signal}
 use Rattle.model.specs.Signals.{phaseOf}
-use Rattle.model.specs.Network.{maxSignals, arrivalStep, linkCount, signalCount, movementCount, stepCount, stepLine, stepLength, signal, maxSteps}
+use Rattle.model.specs.Network.{arrivalStep, linkCount, signalCount, movementCount, stepCount, stepLine, stepLength, signal, maxSteps}
 use Rattle.model.specs.Flows.{shownMask, shownIn, signalAt, outside}
 use Rattle.model.specs.Rules.{rule10, rule13, rule14}
 use Rattle.model.specs.Table.{isForm, letterS, letterP, networkChecks, stepChecks, limitRules, lineChecks}
