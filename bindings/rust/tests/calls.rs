@@ -52,6 +52,22 @@ fn counts_that_would_overflow_are_refused() {
 }
 
 #[test]
+fn who_waits_outside_may_be_admitted_later() {
+    let network = b"N\t1\t0\t0\t2\nQ\t60000\t10\t500\t0\t0\t0\nS\t10\t5000\nS\t10\t0\n";
+    let mut ledger = [7; required_ledger_len(1, 2)];
+    let totals = check_plan(network, b"P\t0\t0\nP\t4000\t0\n", &mut ledger).unwrap();
+    assert_eq!(
+        [totals.admitted, totals.inside, totals.doubled_time],
+        [4000, 4000, 150_000]
+    );
+    assert_eq!(ledger, [0, 0, 0, 0, 4000, 0]);
+    assert_eq!(
+        check_plan(network, b"P\t0\t0\nP\t5001\t0\n", &mut ledger),
+        Err(refusal(15, 2, 1))
+    );
+}
+
+#[test]
 fn states_of_the_corridor() {
     let ledger = ledger_of_corridor();
     let state = |boundary, link| link_state(NETWORK, &ledger, boundary, link);
