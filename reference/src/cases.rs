@@ -480,9 +480,10 @@ pub fn stored_cases(seed: u64) -> Vec<Case> {
     paper::cuts(&mut maker);
     special::share_times_sum(&mut maker);
     special::highest_curves(&mut maker);
+    special::all_demand_at_once(&mut maker);
 
     // Accepted plans of many small and middle sizes, and their limits.
-    for round in 0..90 {
+    for round in 0..80 {
         let size = if round % 8 == 7 {
             draw_middle_size(&mut maker.random)
         } else {

@@ -79,6 +79,8 @@ fn judge_step(
     let showing = attempt.showing();
     let entered = attempt.links().map(|link| attempt.entered(link)).collect();
     let left = attempt.links().map(|link| attempt.left(link)).collect();
+    let admitted = attempt.links().map(|link| attempt.admitted(link)).collect();
+    passed.admitted = admitted;
     passed.showing = showing;
     passed.curves.entered.push(entered);
     passed.curves.left.push(left);
@@ -129,6 +131,8 @@ struct Curves {
 struct Passed {
     showing: Vec<Showing>,
     curves: Curves,
+    /// All that has been admitted on each link.
+    admitted: Vec<u64>,
 }
 
 impl Passed {
@@ -149,13 +153,14 @@ impl Passed {
                 entered: vec![standing],
                 left: vec![vec![0; network.links.len()]],
             },
+            admitted: vec![0; network.links.len()],
         }
     }
 
     /// Row n holds entered and left of each link in link order and starts at
     /// index 2 x n x L. Judged volumes stay below 2^32: a link starts with at
-    /// most 2,000,000,000 and gains, in each of 120 steps, at most 600,000 from
-    /// outside and from each of 23 other links.
+    /// most 2,000,000,000, gains at most 120 x 600,000 from outside and, in each
+    /// of 120 steps, at most 600,000 from each of 23 other links.
     fn write_row(&self, boundary: usize, ledger: &mut [u32]) {
         let entered = &self.curves.entered[boundary];
         let left = &self.curves.left[boundary];
@@ -254,11 +259,13 @@ impl Attempt<'_> {
         })
     }
 
-    /// Rule 15: admitted is at most demand.
+    /// Rule 15: admitted by the end of this step is at most demand by then.
     fn link_above_demand(&self) -> Option<usize> {
-        let demand = &self.network.steps[self.number - 1].demand;
-        self.links()
-            .find(|&link| self.step.admitted[link] > demand[link])
+        let steps = &self.network.steps[..self.number];
+        self.links().find(|&link| {
+            let demand: u64 = steps.iter().map(|step| step.demand[link]).sum();
+            self.admitted(link) > demand
+        })
     }
 
     /// Rule 25: let out is at most exit rate x length.
@@ -383,6 +390,11 @@ impl Attempt<'_> {
             .sum()
     }
 
+    /// All that is admitted on a link in this step and those before.
+    fn admitted(&self, link: usize) -> u64 {
+        self.passed.admitted[link] + self.step.admitted[link]
+    }
+
     /// entered(n), n being this step's number.
     fn entered(&self, link: usize) -> u64 {
         self.passed.curves.entered[self.number - 1][link]
@@ -452,10 +464,16 @@ fn totals(network: &Network, steps: &[PlanStep], curves: &Curves) -> Totals {
         inside: inside(network.steps.len()),
         doubled_time: 0,
     };
+    // Vehicles that are inside or wait outside, where demand brings them.
+    let mut demand = 0;
+    let mut counted_before = inside(0);
     for (index, step) in steps.iter().enumerate() {
         totals.admitted += step.admitted.iter().sum::<u64>();
         totals.let_out += step.let_out.iter().sum::<u64>();
-        totals.doubled_time += network.steps[index].length * (inside(index) + inside(index + 1));
+        demand += network.steps[index].demand.iter().sum::<u64>();
+        let counted = inside(index + 1) + (demand - totals.admitted);
+        totals.doubled_time += network.steps[index].length * (counted_before + counted);
+        counted_before = counted;
     }
     totals
 }

@@ -5,10 +5,12 @@ use super::{refused, Answer, Maker, Scenario, Texts};
 use crate::{Network, Refusal};
 
 impl Maker {
-    /// The plan still passes with the same totals.
+    /// The plan still passes.
     fn kept(&mut self, scenario: &Scenario, name: &str, change: impl FnOnce(&mut Network)) {
-        let intended = Some(Answer::PlanAccepted(scenario.totals()));
-        self.limit(scenario, name, intended, change);
+        let mut changed = scenario.clone();
+        change(&mut changed.network);
+        let intended = Some(Answer::PlanAccepted(changed.totals()));
+        self.ask_plan(name, Texts::of(&changed), scenario.ledger_need(), intended);
     }
 
     fn broken(
@@ -18,19 +20,10 @@ impl Maker {
         refusal: Refusal,
         change: impl FnOnce(&mut Network),
     ) {
-        self.limit(scenario, name, Some(Answer::Refused(refusal)), change);
-    }
-
-    fn limit(
-        &mut self,
-        scenario: &Scenario,
-        name: &str,
-        intended: Option<Answer>,
-        change: impl FnOnce(&mut Network),
-    ) {
         let mut network = scenario.network.clone();
         change(&mut network);
         let texts = Texts::new(&network, &scenario.plan);
+        let intended = Some(Answer::Refused(refusal));
         self.ask_plan(name, texts, scenario.ledger_need(), intended);
     }
 }
@@ -274,23 +267,23 @@ fn rate(maker: &mut Maker, scenario: &Scenario, movement: usize) {
     }
 }
 
-/// Rule 15.
+/// Rule 15: a step's demand lowered by as much as no later step needs.
 fn demand(maker: &mut Maker, scenario: &Scenario, link: usize) {
-    let steps: Vec<usize> = (0..scenario.step_count())
-        .filter(|&step| scenario.plan[step].admitted[link] > 0)
+    let step = maker.random.index(scenario.step_count());
+    let values: Vec<(usize, u64)> = (step..scenario.step_count())
+        .map(|later| (later, scenario.outside(later + 1, link)))
         .collect();
-    if steps.is_empty() {
-        return;
-    }
-    let step = steps[maker.random.index(steps.len())];
-    let admitted = scenario.plan[step].admitted[link];
+    let spare = least(&values).expect("there is a step");
+    let demand = scenario.network.steps[step].demand[link];
     maker.kept(scenario, "demand just kept", |network| {
-        network.steps[step].demand[link] = admitted;
+        network.steps[step].demand[link] = demand.saturating_sub(spare);
     });
-    let refusal = refused(15, step + 1, link + 1);
-    maker.broken(scenario, "15: demand one below", refusal, |network| {
-        network.steps[step].demand[link] = admitted - 1;
-    });
+    if demand > spare {
+        let refusal = refused(15, first_step(&values, spare), link + 1);
+        maker.broken(scenario, "15: demand one below", refusal, |network| {
+            network.steps[step].demand[link] = demand - spare - 1;
+        });
+    }
 }
 
 /// Rule 17: the longest travel time with which nothing leaves too early.
@@ -350,8 +343,15 @@ fn tightened(scenario: &Scenario) -> Network {
         let rates = rates_needed(scenario, |step| scenario.plan[step].moved[index]);
         movement.rate = greatest(&rates).unwrap_or(0).max(1);
     }
-    for (step, planned) in network.steps.iter_mut().zip(&scenario.plan) {
-        step.demand = planned.admitted.clone();
+    for link in 0..network.links.len() {
+        // What no later step needs, from the last step on.
+        let mut spare = u64::MAX;
+        for (index, step) in network.steps.iter_mut().enumerate().rev() {
+            spare = spare.min(scenario.outside(index + 1, link));
+            let lowered = step.demand[link].min(spare);
+            step.demand[link] -= lowered;
+            spare -= lowered;
+        }
     }
     network
 }

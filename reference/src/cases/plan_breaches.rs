@@ -191,8 +191,9 @@ fn other_choices(scenario: &Scenario, step: usize, rule: u64, breaches: &mut Vec
 }
 
 fn above_demand(scenario: &Scenario, step: usize, breaches: &mut Vec<Breach>) {
-    for (link, &demand) in scenario.network.steps[step].demand.iter().enumerate() {
-        for value in [demand + 1, u64::from(u32::MAX)] {
+    for link in 0..scenario.network.links.len() {
+        let most = scenario.plan[step].admitted[link] + scenario.outside(step + 1, link);
+        for value in [most + 1, u64::from(u32::MAX)] {
             let field = Field::Admitted(link);
             breaches.push(Breach::at_once(
                 15,
@@ -359,7 +360,7 @@ fn above_capacity(scenario: &Scenario, step: usize, breaches: &mut Vec<Breach>) 
     for (link, limits) in scenario.network.links.iter().enumerate() {
         let room = limits.capacity + scenario.left[step][link] - scenario.entered[step + 1][link];
         let value = scenario.plan[step].admitted[link] + room + 1;
-        if value <= scenario.network.steps[step].demand[link] {
+        if room < scenario.outside(step + 1, link) {
             let field = Field::Admitted(link);
             breaches.push(Breach::at_once(
                 18,

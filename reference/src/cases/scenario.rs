@@ -131,25 +131,37 @@ impl Scenario {
         ledger
     }
 
-    /// The totals of the plan, from its volumes and the vehicles on all links.
+    /// The totals of the plan, from its volumes: the time is 2 x horizon x the
+    /// starting vehicles, and for each step (demand - let out) x the same weight.
     pub fn totals(&self) -> Totals {
         let volume =
             |part: fn(&PlanStep) -> &Vec<u64>| -> u64 { self.plan.iter().flat_map(part).sum() };
-        let inside: Vec<u64> = (0..self.entered.len())
-            .map(|boundary| {
-                let links = self.entered[boundary].iter().zip(&self.left[boundary]);
-                links.map(|(entered, left)| entered - left).sum()
-            })
-            .collect();
-        let doubled_time = (0..self.step_count())
-            .map(|index| self.network.steps[index].length * (inside[index] + inside[index + 1]))
-            .sum();
-        Totals {
-            admitted: volume(|step| &step.admitted),
-            let_out: volume(|step| &step.let_out),
-            inside: inside[self.step_count()],
-            doubled_time,
+        let admitted = volume(|step| &step.admitted);
+        let let_out = volume(|step| &step.let_out);
+        let start: u64 = self.network.links.iter().map(|link| link.standing).sum();
+        let times = self.times();
+        let horizon = times[self.step_count()];
+        let mut added = 2 * horizon * start;
+        let mut taken = 0;
+        for (index, step) in self.network.steps.iter().enumerate() {
+            let weight = 2 * (horizon - times[index + 1]) + step.length;
+            added += weight * step.demand.iter().sum::<u64>();
+            taken += weight * self.plan[index].let_out.iter().sum::<u64>();
         }
+        Totals {
+            admitted,
+            let_out,
+            inside: start + admitted - let_out,
+            doubled_time: added - taken,
+        }
+    }
+
+    /// What waits outside a link after some steps: demand not yet admitted.
+    pub fn outside(&self, steps: usize, link: usize) -> u64 {
+        let network_steps = self.network.steps[..steps].iter();
+        let demand: u64 = network_steps.map(|step| step.demand[link]).sum();
+        let planned = self.plan[..steps].iter();
+        demand - planned.map(|step| step.admitted[link]).sum::<u64>()
     }
 
     /// The state of a link (from index 0) at a boundary.
@@ -787,7 +799,8 @@ impl SimulatedStep<'_> {
 
     fn admit(&mut self, random: &mut Random, traffic: Traffic, link: usize) {
         let demand = self.scenario.network.steps[self.index()].demand[link];
-        let volume = draw_volume(random, demand.min(self.room(link)), traffic);
+        let waiting = self.scenario.outside(self.index(), link) + demand;
+        let volume = draw_volume(random, waiting.min(self.room(link)), traffic);
         self.planned.admitted[link] = volume;
         self.entered[link] += volume;
     }

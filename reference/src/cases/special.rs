@@ -6,6 +6,8 @@ use crate::{Link, Movement, Network, PlanStep, Step, Totals};
 
 const LINKS: usize = 24;
 const CAPACITY: u64 = 2_000_000_000;
+/// Of all links in one step.
+const DEMAND: u64 = 600_000 * LINKS as u64;
 
 /// The first link is full, the others are half full; movements go from the
 /// first link to the others with these shares, and from each of the others
@@ -79,7 +81,7 @@ pub fn share_times_sum(maker: &mut Maker) {
         admitted: 0,
         let_out: 0,
         inside,
-        doubled_time: 60 * 2 * inside,
+        doubled_time: 60 * (2 * inside + DEMAND),
     }));
     maker.ask_plan(
         "movements at their shares and a rate",
@@ -121,12 +123,16 @@ pub fn highest_curves(maker: &mut Maker) {
         let start = CAPACITY + 23 * CAPACITY / 2;
         start + admitted * boundary.saturating_sub(1) - 600_000 * boundary
     };
+    let counted = |boundary: u64| {
+        let outside = DEMAND * boundary - admitted * boundary.saturating_sub(1);
+        inside(boundary) + outside
+    };
     let totals = Totals {
         admitted: admitted * (STEPS - 1),
         let_out: 600_000 * STEPS,
         inside: inside(STEPS),
         doubled_time: (1..=STEPS)
-            .map(|boundary| 60 * (inside(boundary - 1) + inside(boundary)))
+            .map(|boundary| 60 * (counted(boundary - 1) + counted(boundary)))
             .sum(),
     };
     let need = 2 * (STEPS as usize + 1) * LINKS;
@@ -138,4 +144,45 @@ pub fn highest_curves(maker: &mut Maker) {
     let intended = Some(Answer::Refused(refused(18, STEPS as usize, 1)));
     let texts = Texts::new(&network, &plan);
     maker.ask_plan("18: one more at the highest curves", texts, need, intended);
+}
+
+/// All demand of 120 steps is admitted in the last one, in which as much as can
+/// be is moved into the same link too, and leaves it within the step: the
+/// volume that enters times the seconds of the step are above 32 bits.
+pub fn all_demand_at_once(maker: &mut Maker) {
+    const STEPS: u64 = 120;
+    let mut shares = [43; LINKS - 1];
+    for share in &mut shares[..11] {
+        *share = 44;
+    }
+    let mut network = hub(shares, true, STEPS as usize);
+    network.links[0].standing = 0;
+    network.links[0].travel_time = 1;
+    let from_hub = 13_636_000;
+    let mut plan = vec![PlanStep::of_zeros(&network); STEPS as usize];
+    let last = &mut plan[STEPS as usize - 1];
+    last.admitted[0] = 600_000 * STEPS;
+    last.let_out[0] = 600_000;
+    for (moved, share) in last.moved.iter_mut().zip(shares) {
+        *moved = share * from_hub / 1000;
+    }
+    last.moved[LINKS - 1..].fill(600_000);
+
+    let start = 23 * CAPACITY / 2;
+    let counted = |boundary: u64| start + DEMAND * boundary;
+    let steps = (1..=STEPS).map(|boundary| 60 * (counted(boundary - 1) + counted(boundary)));
+    let totals = Totals {
+        admitted: 600_000 * STEPS,
+        let_out: 600_000,
+        inside: start + 600_000 * STEPS - 600_000,
+        doubled_time: steps.sum::<u64>() - 60 * 600_000,
+    };
+    let need = 2 * (STEPS as usize + 1) * LINKS;
+    let intended = Some(Answer::PlanAccepted(totals));
+    let texts = Texts::new(&network, &plan);
+    maker.ask_plan("all demand at once", texts, need, intended);
+    plan[STEPS as usize - 1].admitted[0] += 1;
+    let intended = Some(Answer::Refused(refused(15, STEPS as usize, 1)));
+    let texts = Texts::new(&network, &plan);
+    maker.ask_plan("15: one more than all demand", texts, need, intended);
 }

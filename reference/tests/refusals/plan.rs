@@ -344,6 +344,62 @@ fn r15_admitted() {
     assert_plan_refused(&network().set(10, 3, 4999).text(), &plan().text(), 15, 1, 1);
 }
 
+/// In the last step link 3 keeps 100, so that nobody leaves too early if they
+/// are admitted late.
+fn fewer_let_out() -> Sheet {
+    plan().set(4, 9, 1500)
+}
+
+#[test]
+fn r15_what_was_not_admitted_waits() {
+    let text = network().text();
+    // Link 3 may have its 100 in any later step, link 1 has had its 5000.
+    let plan = fewer_let_out;
+    let late = |step: usize, volume: u64| plan().set(1, 6, 0).set(step, 6, volume).text();
+    for step in 2..=4 {
+        assert_plan_accepted(&text, &late(step, 100));
+        assert_plan_accepted(&text, &late(step, 99));
+        assert_plan_refused(&text, &late(step, 101), 15, step as u64, 3);
+        assert_plan_refused(&text, &plan().set(step, 4, 1).text(), 15, step as u64, 1);
+    }
+    // In two parts.
+    let parts = plan().set(1, 6, 40).set(2, 6, 60);
+    assert_plan_accepted(&text, &parts.clone().text());
+    assert_plan_refused(&text, &parts.set(3, 6, 1).text(), 15, 3, 3);
+    // Demand of a later step can't be had before: link 2's 200 of step 3.
+    assert_plan_refused(&text, &plan().set(2, 5, 1).text(), 15, 2, 2);
+    // No link has another's demand, and the lowest link is told.
+    let text_of = |first: u64, third: u64| plan().set(1, 4, first).set(1, 6, third).text();
+    assert_plan_refused(&text, &text_of(4000, 101), 15, 1, 3);
+    assert_plan_refused(&text, &text_of(5001, 101), 15, 1, 1);
+}
+
+#[test]
+fn vehicles_outside_count_in_the_time_alone() {
+    // 100 of link 3 wait for one step or for three: inside or outside, they
+    // are counted alike.
+    let judged = |network: Sheet, plan: Sheet| {
+        let mut ledger = [FILL; NEED];
+        let totals = check_plan(&network.text(), &plan.text(), &mut ledger).unwrap();
+        (totals, ledger)
+    };
+    let (at_once, _) = judged(network(), fewer_let_out());
+    assert_eq!(at_once.doubled_time, TOTALS.doubled_time + 10 * 100);
+    for step in [2, 4] {
+        let late = fewer_let_out().set(1, 6, 0).set(step, 6, 100);
+        assert_eq!(judged(network(), late).0, at_once);
+    }
+    let (never, ledger) = judged(network(), fewer_let_out().set(1, 6, 0));
+    assert_eq!(never.admitted, at_once.admitted - 100);
+    assert_eq!(never.inside, at_once.inside - 100);
+    assert_eq!(never.doubled_time, at_once.doubled_time);
+    assert_eq!(ledger[10], ROWS[1][4] - 100);
+    // Demand that nobody admits counts from the end of its step.
+    let (totals, _) = judged(network().set(12, 3, 7), plan());
+    assert_eq!(totals.doubled_time, TOTALS.doubled_time + 7 * (10 + 2 * 10));
+    assert_eq!(totals.inside, TOTALS.inside);
+}
+
 #[test]
 fn r25_let_out() {
     // Link 3 lets 3000 out in step 3: 300 thousandths a second are enough.
@@ -657,10 +713,8 @@ fn volumes_above_half_of_32_bits() {
     assert_eq!(totals.admitted, 119 * 600_000);
     assert_eq!(totals.let_out, 120 * 600_000);
     assert_eq!(totals.inside, 2_000_000_000 - 600_000);
-    // Full at the start, 600,000 short at every other boundary.
-    assert_eq!(
-        totals.doubled_time,
-        60 * (2 * 120 * 2_000_000_000 - 239 * 600_000)
-    );
+    // Full at the start, 600,000 short at every other boundary, at which as
+    // much waits outside.
+    assert_eq!(totals.doubled_time, 60 * 2 * 120 * 2_000_000_000);
     assert_eq!(ledger[240..], [2_000_000_000 + 119 * 600_000, 72_000_000]);
 }
