@@ -18,7 +18,7 @@ cases =
     ∷ record { network = corridor "10" "20" "5000" "10"; plan = thePlan; prints = theReport }  -- c9, passes
     ∷ record { network = corridor "10" "20" "4999" "10"; plan = thePlan; prints = "R\t18\t1\t1\n" }  -- c9
     ∷ record { network = corridor "10" "20" "60000" "15"; plan = thePlan; prints = "R\t17\t2\t1\n" }  -- c10
-    ∷ record { network = theNetwork; plan = ""; prints = "R\t9\t1\t0\n" }  -- c11
+    ∷ record { network = theNetwork; plan = ""; prints = "R\t13\t3\t1\n" }  -- c11
     ∷ []
 
 pub the-cases : map (λ (c : Case). report (bytes (c .network)) (bytes (c .plan))) cases ≡ map (λ (c : Case). bytes (c .prints)) cases

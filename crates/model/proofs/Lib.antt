@@ -24,5 +24,6 @@ pub mod Shown
 pub mod Shut
 pub mod Red
 pub mod Once
+pub mod Hold
 pub mod Promises
 pub mod Padding

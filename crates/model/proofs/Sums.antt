@@ -81,7 +81,7 @@ unfolding sum
 sum-weight zero c f w = omega arith
 sum-weight (suc n) c f w = omega (arith, sum-weight n c f w)
 
-list-length : (n : ℕ) (f : ℕ → ℕ) → length (list n f) ≡ n
+pub list-length : (n : ℕ) (f : ℕ → ℕ) → length (list n f) ≡ n
 unfolding list
 list-length zero f = refl
 list-length (suc n) f = length-append (list n f) (f n ∷ []) ∙ omega (arith, list-length n f)

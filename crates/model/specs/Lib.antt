@@ -6,6 +6,7 @@ pub mod Flows
 pub mod Rules
 pub mod Table
 pub mod Calls
+pub mod Hold
 pub mod Report
 pub mod Guarantees
 pub mod Padding

@@ -1,0 +1,34 @@
+-- What a plan text stands for (T-07): an empty one means that the network holds. Assumes nothing.
+use Prim.Native.Nat.{ℕ, _+_, _*_, _-_, _^_}
+use mathlib.Core.Path.{_≡_}
+use mathlib.Core.List.{List, [], _∷_}
+use lib.Dec.{ltb}
+use Rattle.records.specs.Lines.{Line, lines}
+use Rattle.record_writer.specs.Records.{recordTexts, recordLines}
+use Rattle.model.specs.Sum.{only, list}
+use Rattle.model.specs.Network.{linkCount, signalCount, movementCount, stepCount, signal}
+use Rattle.model.specs.Table.{letterP}
+use Rattle.model.specs.Calls.{checkPlan, ledgerAfter}
+
+module _ (network : List Line) where
+  -- the numbers of a line in which each signal keeps its shown phase and every volume is 0
+  unfoldable pub holdNumbers : List ℕ
+  holdNumbers =
+      list (signalCount network + (2 * linkCount network + movementCount network)) (λ k. only (ltb k (signalCount network)) (2 ^ (signal network k .shown - 1)))
+
+  -- the plan that holds: K such lines, and its text as it is written
+  unfoldable pub holdLines : List Line
+  holdLines = recordLines letterP (stepCount network) (λ n. holdNumbers)
+
+  unfoldable pub holdText : List ℕ
+  holdText = recordTexts letterP (stepCount network) (λ n. holdNumbers)
+
+  -- the lines that a plan text of these lines stands for: a text of no lines has no bytes, and stands for the plan that holds
+  unfoldable pub meant : List Line → List Line
+  meant [] = holdLines
+  meant (line ∷ more) = line ∷ more
+
+-- The theorem of T-07: on every network the empty text gets the answer and the ledger of the plan that holds, written out.
+pub record EmptyHolds (network : List Line) : Type 0 where
+  pub answered : (size : ℕ) → checkPlan network (meant network (lines [])) size ≡ checkPlan network (meant network (lines (holdText network))) size
+  pub rows : (old : List ℕ) → ledgerAfter network (meant network (lines [])) old ≡ ledgerAfter network (meant network (lines (holdText network))) old
