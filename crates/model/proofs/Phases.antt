@@ -1,8 +1,8 @@
 -- The phase that a mask shows. Assumes nothing.
 use mathlib.Core.Path.{_≡_, sym, ap, _∙_}
 use mathlib.Core.Logic.{_⊎_, inl, inr}
-use Prim.Native.Nat.{ℕ, zero, suc, _-_, _^_, _≤_, _<_}
-use native.Mathlib.Nat.{eq-or-lt-of-le}
+use Prim.Native.Nat.{ℕ, zero, suc, _-_, _*_, _%_, _^_, _≤_, _<_}
+use native.Mathlib.Nat.{eq-or-lt-of-le, mod-eq-of-lt, pow-le-pow-right}
 use native.Mathlib.Decide.{ℕ-discrete}
 use native.Mathlib.Omega.{arith}
 use lib.Pow.{pow-lt}
@@ -35,3 +35,10 @@ bit-of-phase mask (suc k) q h = elim (ℕ-discrete mask (2 ^ k)) [
   | yes e ↦ rw (eq-eqb mask (2 ^ k) e) (λ f. let g : k ≡ q - 1 = omega arith in e ∙ ap (λ x. 2 ^ x) g)
   | no d ↦ rw (ne-eqb mask (2 ^ k) d) (bit-of-phase mask k q h)
 ]
+
+-- a bit of a mask, as code of 32 bits shifts it there
+pub bit-shifted : (p : ℕ) → p ≤ 8 → 1 * 2 ^ p % 4_294_967_296 ≡ 2 ^ p
+bit-shifted p h =
+    let b : 2 ^ p ≤ 2 ^ 8 = pow-le-pow-right {n = 2} (omega arith) h in
+    let e : 1 * 2 ^ p ≡ 2 ^ p = omega arith in
+    rw e (mod-eq-of-lt (omega arith))

@@ -3,7 +3,6 @@ use Prim.Native.Nat.{ℕ, suc, _+_, _-_, _*_, _%_, _^_, _≤_, _<_}
 use mathlib.Core.Path.{_≡_, refl, sym, _∙_}
 use mathlib.Core.Bool.{Bool, true, false, cond, not, _&&_, and-true, and-false}
 use mathlib.Core.List.{List}
-use native.Mathlib.Nat.{mod-eq-of-lt, pow-le-pow-right}
 use native.Mathlib.Numerals.{add-one}
 use native.Mathlib.Omega.{arith}
 use borrow.Author.Tests.{le-leb, lt-leb, eqb-false, leb-true, ne-eqb, not-true, not-false}
@@ -18,6 +17,7 @@ use Rattle.model.specs.Test.{_and_, within}
 use Rattle.model.specs.Network.{entry, linkCount, signalCount, linkLine, signal, capacity, travelTime, exitRate, signalOf, phaseMask, standing}
 use Rattle.model.specs.Rules.{validMask, validLink}
 use Rattle.model.specs.Table.{letterQ, linkChecks}
+use Rattle.model.proofs.Phases.{bit-shifted}
 use Rattle.tables.specs.declared.Reading.{Reading}
 use Rattle.tables.specs.declared.Stage.the-variants.{Passed, Refused}
 use Rattle.tables.specs.Places.{linkLineIn}
@@ -35,13 +35,6 @@ pub fewer-known : {m n : ℕ} {phases : List ℕ} → PhasesKnown n phases → m
 fewer-known k h = record { room = omega (arith, k .room); few = λ r l. k .few r (omega arith) }
 
 -- ---- the turns of `valid_mask`
--- 2 to at most 8 stays below 2 to 32
-shifted : (p : ℕ) → p ≤ 8 → 1 * 2 ^ p % 4_294_967_296 ≡ 2 ^ p
-shifted p h =
-    let b : 2 ^ p ≤ 2 ^ 8 = pow-le-pow-right {n = 2} (omega arith) h in
-    let e : 1 * 2 ^ p ≡ 2 ^ p = omega arith in
-    rw e (mod-eq-of-lt (omega arith))
-
 module _ (mask signal : ℕ) (phases : List ℕ) where
   pub mask-none : signal ≡ 0 → eqb mask 0 ≡ validMaskIn mask signal phases
   unfolding validMaskIn
@@ -50,7 +43,7 @@ module _ (mask signal : ℕ) (phases : List ℕ) where
   pub mask-some : PhasesKnown signal phases → (signal ≡ 0 → ⊥)
       → (leb 1 mask && ltb mask (1 * 2 ^ getD phases (signal - 1) 0 % 4_294_967_296)) ≡ validMaskIn mask signal phases
   unfolding validMaskIn _and_
-  mask-some k n = rw (ne-eqb signal 0 n, shifted (getD phases (signal - 1) 0) (k .few (signal - 1) (omega arith)))
+  mask-some k n = rw (ne-eqb signal 0 n, bit-shifted (getD phases (signal - 1) 0) (k .few (signal - 1) (omega arith)))
 
 -- ---- the turns of `valid_link`
 module _ (links : List ℕ) (i signals : ℕ) (phases : List ℕ) {number signal : ℕ} (f : number ≡ signalIn links i) (e : signal ≡ number) where

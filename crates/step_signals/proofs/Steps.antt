@@ -1,5 +1,5 @@
 -- All signals through a step, one after the other. Assumes nothing.
-use Prim.Native.Nat.{ℕ, _+_, _<_}
+use Prim.Native.Nat.{ℕ, _+_, _-_, _^_, _<_}
 use mathlib.Core.Path.{_≡_, refl, ap, _∙_}
 use mathlib.Core.List.{List}
 use native.Mathlib.Nat.{le-refl}
@@ -10,7 +10,7 @@ use borrow.Author.Count.{below-more}
 use Rattle.model.specs.declared.Signal.{Signal}
 use Rattle.tables.specs.Tables.{noSignal}
 use Rattle.model.specs.Signals.{phaseOf, after}
-use Rattle.step_signals.specs.Step.{ShownPhases, Advanced}
+use Rattle.step_signals.specs.Step.{ShownPhases, HeldMasks, Advanced}
 
 module _ {A : Type 0} (l : List A) (i : ℕ) (x d : A) (h : i < length l) where
   -- what is said of every place below i, and of what is laid at i, is said of every place up to it
@@ -29,6 +29,19 @@ shown-more signals masks before i phases q h s e = record {
   size = length-set phases i q ∙ s .size;
   shown = laid phases i q 0 (omega arith) _ (s .shown) e;
   kept = λ r l. getD-set-other phases i r q 0 (λ x. omega arith) ∙ s .kept r (omega arith);
+}
+
+-- no mask is written yet
+pub held-none : (signals : List Signal) (before : List ℕ) → HeldMasks signals 0 before before
+held-none signals before = record { size = refl; held = λ r l. absurd (omega arith); kept = λ r l. refl }
+
+-- one more is
+pub held-more : (signals : List Signal) (before : List ℕ) (i : ℕ) (line : List ℕ) (mask : ℕ) → i < length before → HeldMasks signals i before line
+    → mask ≡ 2 ^ (getD signals i noSignal .shown - 1) → HeldMasks signals (i + 1) before (set line i mask)
+held-more signals before i line mask h s e = record {
+  size = length-set line i mask ∙ s .size;
+  held = laid line i mask 0 (omega (arith, s .size)) _ (s .held) e;
+  kept = λ r l. getD-set-other line i r mask 0 (λ x. omega arith) ∙ s .kept r (omega arith);
 }
 
 -- no signal is a step on yet

@@ -1,5 +1,5 @@
 -- Rules 10 to 14 by the program's tables, and all signals through a step. Assumes nothing.
-use Prim.Native.Nat.{ℕ, _+_, _≤_, _<_}
+use Prim.Native.Nat.{ℕ, _+_, _-_, _^_, _≤_, _<_}
 use mathlib.Core.Path.{_≡_}
 use mathlib.Core.Bool.{Bool, true}
 use mathlib.Core.List.{List, [], _∷_}
@@ -44,6 +44,12 @@ pub record ShownPhases (signals : List Signal) (n : ℕ) (masks before phases : 
   pub size : length phases ≡ maxSignals
   pub shown : (r : ℕ) → r < n → getD phases r 0 ≡ phaseOf (getD masks r 0) (getD signals r noSignal .phases)
   pub kept : (r : ℕ) → n ≤ r → getD phases r 0 ≡ getD before r 0
+
+-- the masks by which the first n signals keep their phases; what stands past them is kept
+pub record HeldMasks (signals : List Signal) (n : ℕ) (before line : List ℕ) : Type 0 where
+  pub size : length line ≡ length before
+  pub held : (r : ℕ) → r < n → getD line r 0 ≡ 2 ^ (getD signals r noSignal .shown - 1)
+  pub kept : (r : ℕ) → n ≤ r → getD line r 0 ≡ getD before r 0
 
 -- the first n signals are one step on, in which they show these phases; the others are as they were
 pub record Advanced (signals : List Signal) (n : ℕ) (phases : List ℕ) (seconds : ℕ) (result : List Signal) : Type 0 where

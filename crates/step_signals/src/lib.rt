@@ -2,13 +2,13 @@
 // The definitions stand in specs/ of crate model.
 ghost use mathlib.Core.Path.{_≡_};
 ghost use mathlib.Core.Bool.{cond};
-ghost use Prim.Native.Nat.{_-_, _≤_};
+ghost use Prim.Native.Nat.{_-_, _^_, _≤_};
 ghost use lib.ListN.{length};
 ghost use Rattle.model.specs.Network.{maxSignals};
 ghost use Rattle.model.specs.Signals.{phaseOf, opens, nextPhase, beginsCycle, shownForAfter, clockAfter, keepsOrder, keepsLeastTime, keepsGreatestTime, keepsCycle, after};
 ghost use Rattle.step_signals.specs.Ready.{Ready, AllReady};
 ghost use Rattle.search.specs.Checks.{verdict, table};
-ghost use Rattle.step_signals.specs.Step.{signalTest, signalRulesIn, SignalTables, ShownPhases, Advanced};
+ghost use Rattle.step_signals.specs.Step.{signalTest, signalRulesIn, SignalTables, ShownPhases, HeldMasks, Advanced};
 use model::Signal;
 use search::Refusal;
 use search::Verdict;
@@ -32,6 +32,14 @@ pub fn place_of(phase: u32) -> usize
     ensures { λ r. ⌜ r ≡ phase - 1 ⌝ }
 {
     if phase == 0 { 0 } else { (phase - 1) as usize }
+}
+
+// The mask that shows one phase: its bit.
+fn mask_of(phase: u32) -> u32
+    requires { ⌜ phase ≤ 8 ⌝ }
+    ensures { λ r. ⌜ r ≡ 2 ^ (phase - 1) ⌝ }
+{
+    1 << place_of(phase)
 }
 
 // Whether a link's mask has the phase's bit.
@@ -203,6 +211,17 @@ pub fn shown_phases(signals: [Signal; 8], count: usize, masks: &[u32], phases: &
 {
     for i in 0..count {
         phases[i] = phase_of(masks[i], signals[i].phases);
+    }
+}
+
+// The masks by which each signal keeps its phase, in front of a line's numbers.
+pub fn hold_masks(signals: [Signal; 8], count: usize, line: &mut [u32])
+    requires { ⌜ (count ≤ maxSignals) × (count ≤ length (now line)) ⌝ }
+    requires { ⌜ AllReady signals count ⌝ }
+    ensures { λ _. ⌜ HeldMasks signals count (now (line .entry)) (now (line .exit)) ⌝ }
+{
+    for i in 0..count {
+        line[i] = mask_of(signals[i].shown);
     }
 }
 

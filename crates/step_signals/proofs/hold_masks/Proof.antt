@@ -1,0 +1,71 @@
+-- `step_signals::hold_masks` meets its contract. The loop's invariant: the masks of the first i signals are written. Assumes nothing.
+use mathlib.Core.Path.{_≡_}
+use Prim.Native.Nat.{_-_, _≤_}
+use native.Mathlib.Omega.{arith}
+use Rattle.step_signals.specs.Step.{HeldMasks}
+use Rattle.step_signals.proofs.Steps.{held-none, held-more}
+use borrow.Author.Needs.{needs}
+use Rattle.step_signals.proofs.hold_masks.Statement.{statement}
+use Rattle.step_signals.proofs.hold_masks.Tie as tie
+
+abbrev Inv-loop : tie.InvT-loop
+Inv-loop count line₀ signals i₀ line i = (i ≤ count) × HeldMasks signals i line₀ line
+
+abbrev μ-loop : tie.MeasureT-loop
+μ-loop count line₀ signals i₀ line i = count - i
+
+loop-holds : tie.Need-loop-holds Inv-loop μ-loop
+loop-holds c = (search needs, held-none _ _)
+
+mul-mask-of : tie.Need-mul-mask-of Inv-loop μ-loop
+mul-mask-of c = search needs
+
+element-copy-out-mask-of : tie.Need-element-copy-out-mask-of Inv-loop μ-loop
+element-copy-out-mask-of c = search needs
+
+mask-of-requires : tie.Need-mask-of-requires Inv-loop μ-loop
+mask-of-requires c κs = omega (arith, c .before .before .before .pre .1 (c .before .loop .i) (omega arith))
+
+mul-line : tie.Need-mul-line Inv-loop μ-loop
+mul-line c = search needs
+
+slice-write-line : tie.Need-slice-write-line Inv-loop μ-loop
+slice-write-line c = search needs
+
+add-i : tie.Need-add-i Inv-loop μ-loop
+add-i c = search needs
+
+loop-less : tie.Need-loop-less Inv-loop μ-loop
+loop-less c = search needs
+
+loop-again : tie.Need-loop-again Inv-loop μ-loop
+loop-again c =
+    let w = c .before .before .loop in
+    (search needs, held-more _ _ (w .i) (w .line) (c .mask-of .result) (omega arith) (w .inv .1) (c .mask-of .ensures))
+
+same-length : tie.Need-same-length Inv-loop μ-loop
+same-length c = search needs
+
+returns : tie.Need-returns Inv-loop μ-loop
+returns c =
+    let w = c .before .loop in
+    let e : w .i ≡ c .before .before .before .args .count = omega arith in
+    rw e at (w .inv .1)
+
+pub hold-masks-spec : {M : Type 1} → statement M
+hold-masks-spec =
+    tie.close
+    (tie.spec
+    Inv-loop
+    μ-loop
+    loop-holds
+    mul-mask-of
+    element-copy-out-mask-of
+    mask-of-requires
+    mul-line
+    slice-write-line
+    add-i
+    loop-less
+    loop-again
+    same-length
+    returns)
