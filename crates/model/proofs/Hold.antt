@@ -16,6 +16,7 @@ use Rattle.search.specs.Checks.{verdict}
 use Rattle.search.proofs.Laws.{or-else-refused, hold-of-passes}
 use Rattle.records.specs.Field.{largest}
 use Rattle.records.specs.Lines.{Line, split, linesOf, lines}
+use Rattle.records.proofs.Laws.{some-lines}
 use Rattle.record_writer.proofs.Records.{Small, text-back, lines-count, entry-back, form-back}
 use Rattle.model.specs.Test.{within}
 use Rattle.model.specs.Sum.{only, list}
@@ -25,7 +26,7 @@ use Rattle.model.specs.Rules.{validPhases, validSignal}
 use Rattle.model.specs.declared.PlanAnswer.the-variants as plan-answer
 use Rattle.model.specs.Table.{letterP, isForm, networkChecks, planChecks}
 use Rattle.model.specs.Calls.{planAnswer, checkPlan, ledgerAfter}
-use Rattle.model.specs.Hold.{holdNumbers, holdLines, holdText, meant, EmptyHolds}
+use Rattle.model.specs.Hold.{holdNumbers, holdLines, holdText, meant, planOf, EmptyHolds}
 use Rattle.model.proofs.Tests.{and-left, and-right}
 use Rattle.model.proofs.Sums.{list-at, list-length}
 use Rattle.model.proofs.Phases.{phase-of-bit}
@@ -34,11 +35,22 @@ use Rattle.model.proofs.Rows.{written-none}
 use Rattle.model.proofs.Written.{refused-fails, rows-none}
 use Rattle.model.proofs.Limits.{counts}
 
+no-bytes : (text : List ℕ) → length text ≡ 0 → text ≡ []
+no-bytes [] h = refl
+no-bytes (b ∷ bs) h = absurd (omega arith)
+
 -- a text that has lines stands for them
 pub meant-lines : (network plan : List Line) → 0 < length plan → meant network plan ≡ plan
 unfolding meant
 meant-lines network [] h = absurd (omega arith)
 meant-lines network (line ∷ more) h = refl
+
+module _ (networkText planText : List ℕ) where
+  pub plan-of-text : 0 < length planText → planOf networkText planText ≡ lines planText
+  plan-of-text h = meant-lines (lines networkText) (lines planText) (some-lines planText h)
+
+  pub plan-of-empty : length planText ≡ 0 → planOf networkText planText ≡ holdLines (lines networkText)
+  plan-of-empty h = rw (no-bytes planText h) (unfold meant lines split linesOf in refl)
 
 module _ (network : List Line) where
   hold-length : length (holdNumbers network) ≡ signalCount network + (2 * linkCount network + movementCount network)

@@ -28,6 +28,10 @@ module _ (network : List Line) where
   meant [] = holdLines
   meant (line ∷ more) = line ∷ more
 
+-- the plan that a text means on a network's text
+abbrev pub planOf : List ℕ → List ℕ → List Line
+planOf networkText planText = meant (lines networkText) (lines planText)
+
 -- The theorem of T-07: on every network the empty text gets the answer and the ledger of the plan that holds, written out.
 pub record EmptyHolds (network : List Line) : Type 0 where
   pub answered : (size : ℕ) → checkPlan network (meant network (lines [])) size ≡ checkPlan network (meant network (lines (holdText network))) size

@@ -10,7 +10,7 @@ use Rattle.model.specs.Sum.{sum}
 use Rattle.model.specs.Network.{stepCount, time}
 use Rattle.model.specs.Flows.{vehicles, allAdmitted, allLetOut, doubledTime, row}
 use Rattle.model.specs.Table.{networkChecks, planLineChecks}
-use Rattle.model.specs.Hold.{meant}
+use Rattle.model.specs.Hold.{planOf}
 
 -- boundary n, its time, and its row
 unfoldable pub boundaryNumbers : List Line → List Line → ℕ → List ℕ
@@ -29,7 +29,7 @@ reportText network plan (Refused r) = recordText 82 (r .number ∷ r .line ∷ r
 unfoldable pub report : List ℕ → List ℕ → List ℕ
 report networkText planText =
     let network : List Line = lines networkText in
-    let plan : List Line = meant network (lines planText) in
+    let plan : List Line = planOf networkText planText in
     reportText network plan (verdict (networkChecks network then planLineChecks network plan))
 
 -- `L`: the network (1) or the plan (2) is longer than the program takes, or not to be opened or read

@@ -16,7 +16,7 @@ use Rattle.records.specs.declared.LineRead.{LineRead}
 use Rattle.records.specs.declared.LineRead.the-variants.{Next, Malformed}
 use Rattle.records.specs.Lines.{Line, lines, noLine, isNumber, allNumbers, isRecord, startsAs, numberOf, number}
 use Rattle.records.specs.Reading.{lineAt, nextLine, leading, leadingAs, over, recordAt, atEnd, Starts, Got}
-use Rattle.records.proofs.Bytes.{piece, lines-next, piece-within}
+use Rattle.records.proofs.Bytes.{piece, lines-next, lines-some, piece-within}
 use Rattle.records.proofs.Places.{line-ended, next-piece}
 
 -- ---- the numbers of a line
@@ -174,3 +174,8 @@ module _ (text : List ℕ) (at i : ℕ) (s : Starts text at i) where
 
     pub starts-next : Starts text next (suc i)
     starts-next = rw add-one at starts-plus
+
+-- a text that has bytes has lines
+pub some-lines : (text : List ℕ) → 0 < length text → 0 < length (lines text)
+some-lines [] h = absurd (omega arith)
+some-lines (b ∷ bs) h = lines-some b bs
