@@ -2,6 +2,7 @@
 ghost use mathlib.Core.Path.{_≡_};
 ghost use Prim.Native.Nat.{_+_, _*_, _≤_};
 ghost use Rattle.plan_steps.specs.State.{NextAsked, NextGot, StepAsked, StepGot, RunAsked, RunGot, finished};
+ghost use Rattle.plan_steps.specs.PlanLine.{LineAsked, LineGot};
 ghost use Rattle.plan_steps.specs.Totals.{totalsAfter, TotalsAsked};
 ghost use Rattle.model.specs.Network.{maxSteps};
 use model::PlanAnswer;
@@ -100,6 +101,24 @@ fn next_state(
         totals,
         outside,
     }
+}
+
+// Reads the numbers of a step's `P` line. An empty text means hold: each signal keeps its phase, and every volume is 0, as `line` has it.
+fn read_line(
+    plan: &[u8],
+    at: usize,
+    signals: [Signal; 8],
+    counts: Counts,
+    line: &mut [u32],
+) -> LineRead
+    requires { ⌜ LineAsked signals counts (now line) ⌝ }
+    ensures { λ r. ⌜ LineGot (now (plan .entry)) at signals counts (now (line .entry)) r (now (line .exit)) ⌝ }
+{
+    if plan.len() == 0 {
+        step_signals::hold_masks(signals, counts.signals, line);
+        return LineRead::Next(at);
+    }
+    tables::read_row(plan, at, b'P', line, 0, counts.plan_width())
 }
 
 // Takes the next step: reads its `S` and `P` lines, judges it and, where every rule is kept, writes the row after it into the ledger.

@@ -1,0 +1,85 @@
+-- The `P` line of a step that was read, or made where the plan's text is empty, is that of the plan which the text means. Assumes nothing.
+use Prim.Native.Nat.{ℕ, suc, _+_, _*_, _-_, _^_, _≤_, _<_}
+use mathlib.Core.Path.{_≡_, refl, sym, ap, _∙_}
+use mathlib.Core.Bool.{true, false}
+use mathlib.Core.List.{List}
+use native.Mathlib.Decide.{decLt}
+use native.Mathlib.Omega.{arith}
+use lib.ListN.{length, getD}
+use Rattle.records.specs.declared.LineRead.{LineRead}
+use Rattle.records.specs.declared.LineRead.the-variants.{Next, Malformed}
+use Rattle.records.specs.Lines.{Line, lines}
+use Rattle.records.specs.Reading.{Starts}
+use Rattle.model.specs.declared.Signal.{Signal}
+use Rattle.model.specs.Network.{entry, linkCount, signalCount, movementCount, stepCount, signal}
+use Rattle.model.specs.Flows.{signalAt}
+use Rattle.model.specs.Hold.{holdLines, planOf}
+use Rattle.model.proofs.Accepted.{ValidNetwork}
+use Rattle.model.proofs.Hold.{plan-of-text, plan-of-empty, hold-mask, hold-volume, hold-form, hold-shown}
+use Rattle.tables.specs.declared.Counts.{Counts}
+use Rattle.tables.specs.Places.{planWidth}
+use Rattle.tables.specs.Fields.{lineSize}
+use Rattle.tables.specs.Tables.{CountsHold, PlanNumbers}
+use Rattle.step_signals.specs.Step.{SignalsAt}
+use Rattle.plan_steps.specs.PlanLine.{LineGot}
+use Rattle.plan_steps.proofs.Verdicts.{formed}
+
+module _ (networkText planText : List ℕ) {counts : Counts} (valid : ValidNetwork (lines networkText)) (counted : CountsHold (lines networkText) counts) {n at : ℕ} {signals : List Signal}
+    (more : n < stepCount (lines networkText)) (starts : 0 < length planText → Starts planText at n) (signals-at : SignalsAt (lines networkText) (planOf networkText planText) n signals)
+    {before line : List ℕ} {result : LineRead} (zeros : (k : ℕ) → getD before k 0 ≡ 0) (size : length before ≡ lineSize) (got : LineGot planText at signals counts before result line) where
+  abbrev net : List Line
+  net = lines networkText
+
+  abbrev pln : List Line
+  pln = planOf networkText planText
+
+  width-is : planWidth counts ≡ signalCount net + (2 * linkCount net + movementCount net)
+  width-is = omega (arith, counted .links, counted .signals, counted .movements)
+
+  -- ---- an empty text holds
+  module _ (empty : length planText ≡ 0) where
+    is-hold : pln ≡ holdLines net
+    is-hold = plan-of-empty networkText planText empty
+
+    -- each signal still shows the phase of its `G` line
+    shown-is : (r : ℕ) → r < signalCount net → signalAt net pln n r .shown ≡ signal net r .shown
+    shown-is r l = rw is-hold (hold-shown net valid n r (omega arith) l)
+
+    held-numbers : PlanNumbers net pln n line
+    held-numbers =
+        record {
+          size = got .held empty .size ∙ size;
+          holds = λ k l. elim (decLt k (signalCount net)) [
+            | yes u ↦ got .held empty .held k (omega (arith, counted .signals)) ∙ ap (λ (s : Signal). 2 ^ (s .shown - 1)) (signals-at .holds k u) ∙ ap (λ x. 2 ^ (x - 1)) (shown-is k u) ∙ rw is-hold (sym (hold-mask net n k more u))
+            | no u ↦ got .held empty .kept k (omega (arith, counted .signals)) ∙ zeros k ∙ rw is-hold (sym (hold-volume net n k more (omega arith) l))
+          ];
+        }
+
+    held-formed : formed net pln n ≡ true
+    held-formed = rw is-hold (hold-form net n more)
+
+  -- ---- whatever the text
+  pub line-bad : result ≡ Malformed → formed net pln n ≡ false
+  line-bad e = elim (decLt 0 (length planText)) [
+    | yes h ↦ rw (plan-of-text networkText planText h) (rw width-is at (got .read h .malformed e n (starts h)))
+    | no h ↦ let z : _≡_ {A = ℕ} 0 1 = (let q = got .next (omega arith) in cc) in absurd (omega arith)
+  ]
+
+  module _ {next : ℕ} (e : result ≡ Next next) where
+    pub line-numbers : PlanNumbers net pln n line
+    line-numbers = elim (decLt 0 (length planText)) [
+      | yes h ↦ rw (plan-of-text networkText planText h) (record {
+        size = got .read h .size ∙ size;
+        holds = λ k l. let z : 0 + k ≡ k = omega arith in rw z at (got .read h .held next e n (starts h) .numbers k (omega (arith, width-is)));
+      })
+      | no h ↦ held-numbers (omega arith)
+    ]
+
+    pub line-good : formed net pln n ≡ true
+    line-good = elim (decLt 0 (length planText)) [
+      | yes h ↦ rw (plan-of-text networkText planText h) (rw width-is at (got .read h .held next e n (starts h) .form))
+      | no h ↦ held-formed (omega arith)
+    ]
+
+    pub next-starts : 0 < length planText → Starts planText next (suc n)
+    next-starts h = got .read h .held next e n (starts h) .starts
