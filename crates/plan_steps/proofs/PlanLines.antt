@@ -5,17 +5,20 @@ use mathlib.Core.Bool.{true, false}
 use mathlib.Core.List.{List}
 use native.Mathlib.Decide.{decLt}
 use native.Mathlib.Omega.{arith}
+use borrow.Author.Tests.{eq-eqb}
+use lib.Dec.{eqb}
 use lib.ListN.{length, getD}
 use Rattle.records.specs.declared.LineRead.{LineRead}
 use Rattle.records.specs.declared.LineRead.the-variants.{Next, Malformed}
 use Rattle.records.specs.Lines.{Line, lines}
-use Rattle.records.specs.Reading.{Starts}
+use Rattle.records.specs.Reading.{Starts, atEnd}
+use Rattle.records.proofs.Laws.{starts-end, end-of-none}
 use Rattle.model.specs.declared.Signal.{Signal}
 use Rattle.model.specs.Network.{entry, linkCount, signalCount, movementCount, stepCount, signal}
 use Rattle.model.specs.Flows.{signalAt}
 use Rattle.model.specs.Hold.{holdLines, planOf}
 use Rattle.model.proofs.Accepted.{ValidNetwork}
-use Rattle.model.proofs.Hold.{plan-of-text, plan-of-empty, hold-mask, hold-volume, hold-form, hold-shown}
+use Rattle.model.proofs.Hold.{plan-of-text, plan-of-empty, hold-mask, hold-volume, hold-form, hold-count, hold-shown}
 use Rattle.tables.specs.declared.Counts.{Counts}
 use Rattle.tables.specs.Places.{planWidth}
 use Rattle.tables.specs.Fields.{lineSize}
@@ -83,3 +86,12 @@ module _ (networkText planText : List ℕ) {counts : Counts} (valid : ValidNetwo
 
     pub next-starts : 0 < length planText → Starts planText next (suc n)
     next-starts h = got .read h .held next e n (starts h) .starts
+
+-- after the last step a text is at its end just where the plan has no more lines
+pub plan-ends : (networkText planText : List ℕ) (at n : ℕ) → (0 < length planText → Starts planText at n) → n ≤ length (planOf networkText planText) → n ≡ stepCount (lines networkText)
+    → atEnd planText at ≡ eqb (length (planOf networkText planText)) n
+plan-ends networkText planText at n starts within all = elim (decLt 0 (length planText)) [
+  | yes h ↦ let e = plan-of-text networkText planText h in rw e (starts-end planText at n (starts h) (rw e at within))
+  | no h ↦ let e = plan-of-empty networkText planText (omega arith) in
+      end-of-none planText at (omega arith) ∙ rw e (sym (eq-eqb _ _ (hold-count (lines networkText) ∙ sym all)))
+]

@@ -16,7 +16,7 @@ use Rattle.search.specs.Checks.{refusal, verdict, Hold}
 use Rattle.search.proofs.Laws.{hold-of-passes}
 use Rattle.records.specs.Lines.{Line, noLine, lines, isRecord}
 use Rattle.records.specs.Reading.{atEnd}
-use Rattle.records.proofs.Laws.{starts-first, starts-end}
+use Rattle.records.proofs.Laws.{starts-first}
 use Rattle.model.specs.declared.Signal.{Signal}
 use Rattle.model.specs.declared.Totals.{Totals}
 use Rattle.model.specs.declared.PlanAnswer.{PlanAnswer}
@@ -25,6 +25,7 @@ use Rattle.model.specs.Sum.{joined}
 use Rattle.model.specs.Network.{maxLinks, linkCount, stepCount, signal}
 use Rattle.model.specs.Flows.{signalAt, totals}
 use Rattle.model.specs.Table.{isForm, letterP, ledgerChecks, lineChecks}
+use Rattle.model.specs.Hold.{planOf}
 use Rattle.model.specs.Calls.{planAnswer, written, ledgerAfter}
 use Rattle.model.specs.Guarantees.{RowDue}
 use Rattle.model.proofs.Accepted.{ValidNetwork, valid-network}
@@ -44,6 +45,7 @@ use Rattle.plan_steps.specs.declared.Taken.{Taken}
 use Rattle.plan_steps.specs.Totals.{heldIn}
 use Rattle.plan_steps.specs.State.{StateAt, StepAsked, StepGot, finished, RunAsked, RunGot, Running}
 use Rattle.plan_steps.proofs.Verdicts.{formed, plan-stops, plan-surplus, plan-passes}
+use Rattle.plan_steps.proofs.PlanLines.{plan-ends}
 use Rattle.plan_steps.proofs.Ledger.{written-again}
 use Rattle.plan_steps.proofs.Adding.{totals-first}
 
@@ -101,7 +103,7 @@ pub running-first : {networkText planText : List ℕ} {counts : Counts} {signals
     (record { boundary = 0; «step_at» = stepsAt; «plan_at» = 0; signals = signals; totals = record { admitted = 0; «let_out» = 0; inside = held; «doubled_time» = 0 }; outside = 0 }) arrivals waiting old
 running-first {networkText} {planText} {counts} {signals} {old = old} a held e arrivals waiting zeros none =
     let net = lines networkText in
-    let pln = lines planText in
+    let pln = planOf networkText planText in
     let few : linkCount net ≤ maxLinks = omega (arith, a .tables .counted .links, a .tables .counted .few .links) in
     record {
       tables = a .tables;
@@ -109,7 +111,7 @@ running-first {networkText} {planText} {counts} {signals} {old = old} a held e a
         within = omega arith;
         passed = λ m l. absurd (omega arith);
         step-starts = a .steps-start;
-        plan-starts = starts-first planText;
+        plan-starts = λ h. starts-first planText;
         signals-at = signals-first net pln signals (valid-network net (a .tables .holds)) (a .signal-table);
         totals-at = totals-first net pln (a .tables .holds) counts (a .tables .counted) old (begins net pln old (a .rows)) held e;
         outside-at = sym (outside-start net pln);
@@ -131,7 +133,7 @@ module _ {networkText planText : List ℕ} {counts : Counts} {links movements ti
   net = lines networkText
 
   abbrev pln : List Line
-  pln = lines planText
+  pln = planOf networkText planText
 
   abbrev n : ℕ
   n = state .boundary
@@ -197,7 +199,7 @@ module _ {networkText planText : List ℕ} {counts : Counts} {links movements ti
   run-finished {answer} h f = go (eqb (length pln) (stepCount net)) refl
     where
       at-end : (b : Bool) → eqb (length pln) (stepCount net) ≡ b → atEnd planText (state .«plan_at») ≡ b
-      at-end b e = starts-end planText (state .«plan_at») n (r .state-at .plan-starts) (lines-within net pln n (r .state-at .passed)) ∙ ap (eqb (length pln)) (is-all h) ∙ e
+      at-end b e = plan-ends networkText planText (state .«plan_at») n (r .state-at .plan-starts) (lines-within net pln n (r .state-at .passed)) (is-all h) ∙ ap (eqb (length pln)) (is-all h) ∙ e
 
       made : (b : Bool) → eqb (length pln) (stepCount net) ≡ b → answer ≡ cond b (plan-answer.Accepted (state .totals)) (plan-answer.Refused (refusal 9 (counts .steps + 1) 0))
       made b e = f ∙ (unfold finished in ap (λ x. cond x (plan-answer.Accepted (state .totals)) (plan-answer.Refused (refusal 9 (counts .steps + 1) 0))) (at-end b e))

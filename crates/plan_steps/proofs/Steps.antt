@@ -6,9 +6,9 @@ use mathlib.Core.Logic.{_⊎_, inl, inr}
 use mathlib.Core.List.{List, _++_}
 use native.Mathlib.Numerals.{add-one}
 use native.Mathlib.Nat.{eq-or-lt-of-le, mul-le-mul-right}
-use native.Mathlib.Decide.{decLe}
+use native.Mathlib.Decide.{decLe, decLt}
 use native.Mathlib.Omega.{arith}
-use lib.ListN.{length, getD, take, drop, length-append, length-drop}
+use lib.ListN.{length, getD, take, drop, length-append, length-drop, replicate, length-replicate, getD-replicate, List·getD-eq-default}
 use lib.Seq.{length-take-le}
 use Rattle.search.specs.declared.Refusal.{Refusal}
 use Rattle.search.specs.declared.Verdict.{Verdict}
@@ -24,6 +24,7 @@ use Rattle.model.specs.Network.{arrivalStep, linkCount, signalCount, movementCo
 use Rattle.model.specs.Flows.{shownMask, shownIn, signalAt, outside}
 use Rattle.model.specs.Rules.{rule10, rule13, rule14}
 use Rattle.model.specs.Table.{isForm, letterS, letterP, networkChecks, stepChecks, limitRules, lineChecks}
+use Rattle.model.specs.Hold.{planOf}
 use Rattle.model.specs.Calls.{written}
 use borrow.Author.Tests.{leb-true}
 use Rattle.model.proofs.Accepted.{ValidNetwork, valid-network, LawfulStep}
@@ -32,9 +33,7 @@ use Rattle.model.proofs.Bounds.{KeepsLimits, lawful-limits, entered-word, left-
 use Rattle.model.proofs.Phases.{phase-of-le}
 use Rattle.model.proofs.Rows.{length-written}
 use Rattle.tables.specs.declared.Counts.{Counts}
-use Rattle.tables.specs.Places.{planWidth}
 use Rattle.tables.specs.Fields.{lineSize, stepSize, rowSize, lengthIn}
-use Rattle.tables.specs.Rows.{RowRead}
 use Rattle.tables.specs.Tables.{noSignal, CountsHold, StepNumbers, PlanNumbers}
 use Rattle.tables.proofs.Tables.{travel-time-at, shown-mask-at}
 use Rattle.arrivals.specs.Arrivals.{arrivalStepIn, ArrivalsAsked, Arrived, ArrivalTable}
@@ -55,8 +54,10 @@ use Rattle.step_limits.proofs.Texts.{limit-rules-are, line-tables}
 use Rattle.step_sums.proofs.Texts.{sum-rules-are, sum-tables}
 use Rattle.step_check.specs.Step.{rowFrom, madeRow, signalVerdict, limitVerdict, sumVerdict, JudgeAsked, Judged}
 use Rattle.plan_steps.specs.declared.State.{State}
+use Rattle.plan_steps.specs.PlanLine.{LineAsked, LineGot}
 use Rattle.plan_steps.specs.State.{StateAt, NextAsked, NextGot, StepAsked, StepGot}
 use Rattle.plan_steps.proofs.Adding.{passed-lawful, totals-asked, totals-next}
+use Rattle.plan_steps.proofs.PlanLines.{line-bad, line-numbers, line-good, next-starts}
 use Rattle.plan_steps.proofs.Ledger.{written-again}
 use Rattle.plan_steps.proofs.Verdicts.{formed, line-malformed, line-formed}
 
@@ -104,7 +105,7 @@ module _ {networkText planText : List ℕ} {counts : Counts} {links movements ti
   net = lines networkText
 
   abbrev pln : List Line
-  pln = lines planText
+  pln = planOf networkText planText
 
   abbrev n : ℕ
   n = state .boundary
@@ -118,14 +119,14 @@ module _ {networkText planText : List ℕ} {counts : Counts} {links movements ti
   pub step-few : n < maxSteps
   step-few = omega (arith, asked .more, counted .steps, counted .few .steps)
 
+  pub line-asked : {line : List ℕ} → length line ≡ lineSize → LineAsked (state .signals) counts line
+  line-asked size = record { few = counted .few; ready = λ r l. asked .state-at .signals-at .ready r (omega (arith, counted .signals)); size = size }
+
   pub load-asked : {step : List ℕ} → length step ≡ stepSize → LoadAsked networkText (state .«step_at») (counts .links) step
   load-asked size = load-ready networkText (state .«step_at») n (counts .links) (asked .state-at .step-starts) (counted .links) (step-form net (asked .tables .holds) n (asked .more)) (counted .few .links) size
 
   pub place-small : 2 * (n + 1) * counts .links ≤ 5760
   place-small = let m : 2 * (n + 1) ≤ 240 = omega (arith, step-few) in omega (arith, mul-le-mul-right (counts .links) m, counted .few .links)
-
-  width-is : planWidth counts ≡ signalCount net + (2 * linkCount net + movementCount net)
-  width-is = omega (arith, counted .links, counted .signals, counted .movements)
 
   room-after : 2 * suc (suc n) * linkCount net ≤ length ledger
   room-after = let m : suc (suc n) ≤ suc (stepCount net) = omega (arith, asked .more) in omega (arith, asked .state-at .room, mul-le-mul-right (2 * linkCount net) m)
@@ -160,12 +161,21 @@ module _ {networkText planText : List ℕ} {counts : Counts} {links movements ti
     short : lengthIn step ≤ 60
     short = omega (arith, offers .lasts, step-limits net valid n (asked .more) .length-limit)
 
-    module _ {width : ℕ} (is-width : width ≡ planWidth counts) {result : LineRead} {line₀ line : List ℕ}
-        (read : RowRead letterP width planText (state .«plan_at») 0 line₀ result line) where
+    module _ {result : LineRead} {line₀ line : List ℕ} (zeros : line₀ ≡ replicate lineSize 0)
+        (read : LineGot planText (state .«plan_at») (state .signals) counts line₀ result line) where
+      no-number : (k : ℕ) → getD line₀ k 0 ≡ 0
+      no-number k = elim (decLt k lineSize) [
+        | yes h ↦ ap (λ l. getD l k 0) zeros ∙ getD-replicate {A = ℕ} lineSize k 0 0 h
+        | no h ↦ List·getD-eq-default line₀ 0 (omega (arith, ap length zeros, length-replicate {A = ℕ} lineSize 0))
+      ]
+
+      size : length line₀ ≡ lineSize
+      size = ap length zeros ∙ length-replicate {A = ℕ} lineSize 0
+
       -- the line has not the form of a `P` line
       pub step-malformed : result ≡ Malformed → StepGot networkText planText ledger state (record { verdict = Refused (refusal 9 (n + 1) 0); state = state }) arrivals waiting ledger
       step-malformed e =
-          let v = line-malformed net pln n (rw (is-width, width-is) at (read .malformed e n (asked .state-at .plan-starts))) in
+          let v = line-malformed net pln n (line-bad networkText planText valid counted (asked .more) (asked .state-at .plan-starts) (asked .state-at .signals-at) no-number size read e) in
           record {
             told = rw (add-one n) (sym v);
             kept = λ r q. refl;
@@ -174,16 +184,12 @@ module _ {networkText planText : List ℕ} {counts : Counts} {links movements ti
             row-more = λ p. let z : _≡_ {A = ℕ} 0 1 = cc in absurd (omega arith);
           }
 
-      module _ (size : length line₀ ≡ lineSize) {planEnd : ℕ} (e : result ≡ Next planEnd) where
+      module _ {planEnd : ℕ} (e : result ≡ Next planEnd) where
         plan-numbers : PlanNumbers net pln n line
-        plan-numbers =
-            record {
-              size = read .size ∙ size;
-              holds = λ k l. let z : 0 + k ≡ k = omega arith in rw z at (read .held planEnd e n (asked .state-at .plan-starts) .numbers k (omega (arith, is-width, width-is)));
-            }
+        plan-numbers = line-numbers networkText planText valid counted (asked .more) (asked .state-at .plan-starts) (asked .state-at .signals-at) no-number size read e
 
         is-formed : formed net pln n ≡ true
-        is-formed = rw (is-width, width-is) at (read .held planEnd e n (asked .state-at .plan-starts) .form)
+        is-formed = line-good networkText planText valid counted (asked .more) (asked .state-at .plan-starts) (asked .state-at .signals-at) no-number size read e
 
         pub arrivals-asked : ArrivalsAsked times links (counts .links) (n + 1) arrivals
         arrivals-asked =
@@ -338,7 +344,7 @@ module _ {networkText planText : List ℕ} {counts : Counts} {links movements ti
                           within = rw is-next (omega (arith, asked .more));
                           passed = rw is-next passed-more;
                           step-starts = rw (is-next, on .step-place) (loaded-next networkText (state .«step_at») n (counts .links) (asked .state-at .step-starts) (counted .links) loaded);
-                          plan-starts = rw (is-next, on .plan-place) (read .held planEnd e n (asked .state-at .plan-starts) .starts);
+                          plan-starts = rw (is-next, on .plan-place) (next-starts networkText planText valid counted (asked .more) (asked .state-at .plan-starts) (asked .state-at .signals-at) no-number size read e);
                           signals-at = rw is-next
                               (signals-next net pln n (state .signals) (next .signals) phases (lengthIn step) (counts .signals) (asked .state-at .signals-at) shown lawful (counted .signals)
                               (offers .lasts) (on .signals));

@@ -22,6 +22,7 @@ pub record LineAsked (signals : List Signal) (counts : Counts) (line : List ℕ)
 
 -- .. and promises: a text that has bytes is read; an empty one has the signals keep their phases, and leaves the volumes as they were
 pub record LineGot (planText : List ℕ) (at : ℕ) (signals : List Signal) (counts : Counts) (before : List ℕ) (result : LineRead) (line : List ℕ) : Type 0 where
+  pub size : length line ≡ length before
   pub read : 0 < length planText → RowRead letterP (planWidth counts) planText at 0 before result line
   pub next : length planText ≡ 0 → result ≡ Next at
   pub held : length planText ≡ 0 → HeldMasks signals (counts .signals) before line

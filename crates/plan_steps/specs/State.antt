@@ -17,6 +17,7 @@ use Rattle.model.specs.Sum.{sum}
 use Rattle.model.specs.Network.{maxLinks, maxSignals, maxSteps, linkCount, stepCount, stepLine}
 use Rattle.model.specs.Flows.{outside, totals}
 use Rattle.model.specs.Table.{networkChecks, lineChecks, planLineChecks}
+use Rattle.model.specs.Hold.{planOf}
 use Rattle.model.specs.Calls.{planAnswer, rowsWritten, written, ledgerAfter}
 use Rattle.tables.specs.declared.Counts.{Counts}
 use Rattle.tables.specs.Fields.{lengthIn}
@@ -37,19 +38,19 @@ pub record Tables (networkText : List ℕ) (counts : Counts) (links movements ti
   pub movement-table : MovementTable (lines networkText) movements
   pub time-table : TimeTable (lines networkText) times
 
--- The state at a boundary: the steps before it have passed, the lines of the next start at its places, its signals and totals and those who wait are the paper's, and
+-- The state at a boundary: the steps before it have passed, the lines of the next start at its places (an empty plan text has none), its signals and totals and those who wait are the paper's, and
 -- the ledger has the rows up to the boundary.
 pub record StateAt (networkText planText : List ℕ) (state : State) (arrivals waiting ledger : List ℕ) : Type 0 where
   pub within : state .boundary ≤ stepCount (lines networkText)
-  pub passed : (m : ℕ) → m < state .boundary → verdict (lineChecks (lines networkText) (lines planText) m) ≡ Passes
+  pub passed : (m : ℕ) → m < state .boundary → verdict (lineChecks (lines networkText) (planOf networkText planText) m) ≡ Passes
   pub step-starts : Starts networkText (state .«step_at») (stepLine (lines networkText) (state .boundary))
-  pub plan-starts : Starts planText (state .«plan_at») (state .boundary)
-  pub signals-at : SignalsAt (lines networkText) (lines planText) (state .boundary) (state .signals)
-  pub totals-at : state .totals ≡ totals (lines networkText) (lines planText) (state .boundary)
-  pub outside-at : state .outside ≡ outside (lines networkText) (lines planText) (state .boundary)
+  pub plan-starts : 0 < length planText → Starts planText (state .«plan_at») (state .boundary)
+  pub signals-at : SignalsAt (lines networkText) (planOf networkText planText) (state .boundary) (state .signals)
+  pub totals-at : state .totals ≡ totals (lines networkText) (planOf networkText planText) (state .boundary)
+  pub outside-at : state .outside ≡ outside (lines networkText) (planOf networkText planText) (state .boundary)
   pub arrivals-at : ArrivalTable (lines networkText) (state .boundary) arrivals
-  pub waiting-at : WaitingTable (lines networkText) (lines planText) (state .boundary) waiting
-  pub rows : ledger ≡ written (lines networkText) (lines planText) ledger (suc (state .boundary))
+  pub waiting-at : WaitingTable (lines networkText) (planOf networkText planText) (state .boundary) waiting
+  pub rows : ledger ≡ written (lines networkText) (planOf networkText planText) ledger (suc (state .boundary))
   pub room : 2 * suc (stepCount (lines networkText)) * linkCount (lines networkText) ≤ length ledger
 
 -- what the state after a step that is kept asks, by the step's tables ..
@@ -78,11 +79,11 @@ pub record StepAsked (networkText planText : List ℕ) (counts : Counts) (links 
 -- .. and promises: the verdict on the step's line; where it is refused, the ledger is what it was, and where it passes, the next state is reached and the ledger
 -- has one row more
 pub record StepGot (networkText planText old : List ℕ) (state : State) (taken : Taken) (arrivals waiting ledger : List ℕ) : Type 0 where
-  pub told : taken .verdict ≡ verdict (lineChecks (lines networkText) (lines planText) (state .boundary))
+  pub told : taken .verdict ≡ verdict (lineChecks (lines networkText) (planOf networkText planText) (state .boundary))
   pub kept : (r : Refusal) → taken .verdict ≡ Refused r → ledger ≡ old
   pub boundary : taken .verdict ≡ Passes → taken .state .boundary ≡ state .boundary + 1
   pub reached : taken .verdict ≡ Passes → StateAt networkText planText (taken .state) arrivals waiting ledger
-  pub row-more : taken .verdict ≡ Passes → ledger ≡ written (lines networkText) (lines planText) old (suc (suc (state .boundary)))
+  pub row-more : taken .verdict ≡ Passes → ledger ≡ written (lines networkText) (planOf networkText planText) old (suc (suc (state .boundary)))
 
 -- the answer once all steps have passed: the plan's text is at its end, or one line more is refused
 unfoldable pub finished : List ℕ → ℕ → ℕ → Totals → PlanAnswer
@@ -93,18 +94,18 @@ pub record RunAsked (networkText planText : List ℕ) (counts : Counts) (signals
   pub tables : Tables networkText counts links movements times
   pub steps-start : Starts networkText stepsAt (stepLine (lines networkText) 0)
   pub signal-table : SignalTable (lines networkText) signals
-  pub rows : ledger ≡ written (lines networkText) (lines planText) ledger 1
+  pub rows : ledger ≡ written (lines networkText) (planOf networkText planText) ledger 1
   pub room : 2 * suc (stepCount (lines networkText)) * linkCount (lines networkText) ≤ length ledger
 
 -- .. and promises: the answer, and the ledger with the rows of the steps that have passed
 pub record RunGot (networkText planText old : List ℕ) (answer : PlanAnswer) (ledger : List ℕ) : Type 0 where
-  pub answered : answer ≡ planAnswer (lines networkText) (lines planText) (verdict (planLineChecks (lines networkText) (lines planText)))
-  pub rows : ledger ≡ ledgerAfter (lines networkText) (lines planText) old
-  pub some-row : 1 ≤ rowsWritten (lines networkText) (lines planText) (length old)
+  pub answered : answer ≡ planAnswer (lines networkText) (planOf networkText planText) (verdict (planLineChecks (lines networkText) (planOf networkText planText)))
+  pub rows : ledger ≡ ledgerAfter (lines networkText) (planOf networkText planText) old
+  pub some-row : 1 ≤ rowsWritten (lines networkText) (planOf networkText planText) (length old)
 
 -- the state while the steps are taken, since the ledger was `old`
 pub record Running (networkText planText : List ℕ) (counts : Counts) (links movements times old : List ℕ) (state : State) (arrivals waiting ledger : List ℕ) : Type 0 where
   pub tables : Tables networkText counts links movements times
   pub state-at : StateAt networkText planText state arrivals waiting ledger
-  pub since : ledger ≡ written (lines networkText) (lines planText) old (suc (state .boundary))
+  pub since : ledger ≡ written (lines networkText) (planOf networkText planText) old (suc (state .boundary))
   pub long : length ledger ≡ length old

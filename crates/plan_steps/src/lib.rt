@@ -145,7 +145,7 @@ fn take_step(
     let signals = state.signals;
     let step_end = network_steps::load_step(network, state.step_at, counts.links, &mut step);
     waiting::add_waiting(waiting, counts.links, &mut step);
-    let read = tables::read_row(plan, state.plan_at, b'P', &mut line, 0, counts.plan_width());
+    let read = read_line(plan, state.plan_at, signals, counts, &mut line);
     let LineRead::Next(plan_end) = read else {
         let verdict = Verdict::Refused(Refusal::new(9, n + 1, 0));
         return Taken { verdict, state };

@@ -14,7 +14,7 @@ use Rattle.records.specs.declared.Field.{Field}
 use Rattle.records.specs.declared.Field.the-variants.{Number, NoNumber}
 use Rattle.records.specs.declared.LineRead.{LineRead}
 use Rattle.records.specs.declared.LineRead.the-variants.{Next, Malformed}
-use Rattle.records.specs.Lines.{Line, lines, noLine, isNumber, allNumbers, isRecord, startsAs, numberOf, number}
+use Rattle.records.specs.Lines.{Line, split, linesOf, lines, noLine, isNumber, allNumbers, isRecord, startsAs, numberOf, number}
 use Rattle.records.specs.Reading.{lineAt, nextLine, leading, leadingAs, over, recordAt, atEnd, Starts, Got}
 use Rattle.records.proofs.Bytes.{piece, lines-next, lines-some, piece-within}
 use Rattle.records.proofs.Places.{line-ended, next-piece}
@@ -179,3 +179,8 @@ module _ (text : List ℕ) (at i : ℕ) (s : Starts text at i) where
 pub some-lines : (text : List ℕ) → 0 < length text → 0 < length (lines text)
 some-lines [] h = absurd (omega arith)
 some-lines (b ∷ bs) h = lines-some b bs
+
+-- an empty text is at its end everywhere
+pub end-of-none : (text : List ℕ) (at : ℕ) → length text ≡ 0 → atEnd text at ≡ true
+unfolding atEnd lines split linesOf
+end-of-none text at h = let few : length text ≤ at = omega arith in rw (drop-of-length-le text few) refl

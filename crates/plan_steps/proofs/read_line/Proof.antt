@@ -13,7 +13,7 @@ same-length : tie.Need-same-length
 same-length c = search needs
 
 returns : tie.Need-returns
-returns c = record { read = λ h. absurd (omega arith); next = λ e. refl; held = λ e. c .before .before .hold-masks .ensures }
+returns c = record { size = c .before .before .hold-masks .ensures .size; read = λ h. absurd (omega arith); next = λ e. refl; held = λ e. c .before .before .hold-masks .ensures }
 
 plan-width-requires : tie.Need-plan-width-requires
 plan-width-requires c κs = search needs
@@ -27,6 +27,7 @@ same-length-2 c = search needs
 returns-2 : tie.Need-returns-2
 returns-2 c =
     record {
+      size = c .before .before .read-row .ensures .size;
       read = λ h. rw (c .before .before .before .plan-width .ensures) at (c .before .before .read-row .ensures);
       next = λ e. absurd (omega arith);
       held = λ e. absurd (omega arith);
