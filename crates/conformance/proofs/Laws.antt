@@ -13,6 +13,7 @@ use lib.Seq.{getD-set-same, getD-set-other}
 use Rattle.records.specs.Lines.{lines}
 use Rattle.model.specs.Test.{within}
 use Rattle.model.proofs.Tests.{and-left, and-right}
+use Rattle.model.specs.Hold.{planOf}
 use Rattle.model.specs.Calls.{checkNetwork, checkPlan, ledgerAfter, linkState}
 use Rattle.search.specs.declared.Verdict.{Verdict}
 use Rattle.model.specs.declared.PlanAnswer.{PlanAnswer}
@@ -75,7 +76,7 @@ module _ (network plan ledger buffer : List ℕ) (question : Question) where
 
   pub answered-plan :
       (r : Outcome) {answer : PlanAnswer} (after : List ℕ) → (question .call ≡ 1 → ⊥) → question .call ≡ 2
-      → answer ≡ checkPlan (lines network) (lines plan) (length ledger) → after ≡ ledgerAfter (lines network) (lines plan) ledger
+      → answer ≡ checkPlan (lines network) (planOf network plan) (length ledger) → after ≡ ledgerAfter (lines network) (planOf network plan) ledger
       → r ≡ planOutcome answer → Answered r after buffer
   unfolding answerTo ledgerTo bufferTo
   answered-plan r after n h a l e = (rw (ne-eqb _ _ n, eq-eqb _ _ h) (e ∙ ap planOutcome a), (rw (eq-eqb _ _ h) l, rw h))

@@ -8,6 +8,7 @@ use lib.Dec.{ltb, leb, eqb}
 use lib.ListN.{length, getD, replicate}
 use Rattle.records.specs.Lines.{lines}
 use Rattle.model.specs.Test.{_and_, within}
+use Rattle.model.specs.Hold.{planOf}
 use Rattle.model.specs.Calls.{checkNetwork, checkPlan, ledgerAfter, linkState}
 use Rattle.listing_lines.specs.Entry.{entries}
 use Rattle.listing.specs.Listing.{planFromListing, bufferAfter}
@@ -39,14 +40,14 @@ bufferBefore question = replicate (question .«buffer_size») (question .«buffe
 unfoldable pub answerTo : List ℕ → List ℕ → List ℕ → List ℕ → Question → Outcome
 answerTo network plan ledger buffer question =
     cond (eqb (question .call) 1) (networkOutcome (checkNetwork (lines network)))
-    (cond (eqb (question .call) 2) (planOutcome (checkPlan (lines network) (lines plan) (length ledger)))
+    (cond (eqb (question .call) 2) (planOutcome (checkPlan (lines network) (planOf network plan) (length ledger)))
     (cond (eqb (question .call) 4) (listingOutcome (planFromListing (lines network) (entries plan) (length buffer)))
     (linkOutcome (linkState (lines network) ledger (question .boundary) (question .link)))))
 
 -- the ledger after the call
 unfoldable pub ledgerTo : List ℕ → List ℕ → List ℕ → Question → List ℕ
 ledgerTo network plan ledger question =
-    cond (eqb (question .call) 2) (ledgerAfter (lines network) (lines plan) ledger) ledger
+    cond (eqb (question .call) 2) (ledgerAfter (lines network) (planOf network plan) ledger) ledger
 
 -- the buffer after the call
 unfoldable pub bufferTo : List ℕ → List ℕ → List ℕ → Question → List ℕ

@@ -23,6 +23,7 @@ use Rattle.model.specs.Sum.{only, list}
 use Rattle.model.specs.Network.{entry, linkCount, signalCount, movementCount, stepCount, signal}
 use Rattle.model.specs.Flows.{shownMask, shownIn, signalAt}
 use Rattle.model.specs.Rules.{validPhases, validSignal}
+use Rattle.model.specs.declared.PlanAnswer.{PlanAnswer}
 use Rattle.model.specs.declared.PlanAnswer.the-variants as plan-answer
 use Rattle.model.specs.Table.{letterP, isForm, networkChecks, planChecks}
 use Rattle.model.specs.Calls.{planAnswer, checkPlan, ledgerAfter}
@@ -130,15 +131,22 @@ module _ (network : List Line) (r : Refusal) (refused : verdict (networkChecks n
   unfolding ledgerAfter
   refused-rows plan old = rw (rows-none network plan (length old) (λ d. refused-fails (networkChecks network) r refused (d .network-holds))) (written-none network plan old)
 
-pub empty-holds : (network : List Line) → EmptyHolds network
-empty-holds network = go (verdict (networkChecks network)) refl
+-- the two texts are told the same, whatever the network
+same-told : {A : Type 0} (network : List Line) (f : List Line → A) → ((r : Refusal) → verdict (networkChecks network) ≡ Refused r → (plan other : List Line) → f plan ≡ f other)
+    → f (meant network (lines [])) ≡ f (meant network (lines (holdText network)))
+same-told network f refused = go (verdict (networkChecks network)) refl
   where
-    go : (v : Verdict) → verdict (networkChecks network) ≡ v → EmptyHolds network
-    go Passes e =
-        let same = same-meant network (valid-network network (hold-of-passes (networkChecks network) e)) in
-        record { answered = λ size. ap (λ (plan : List Line). checkPlan network plan size) same; rows = λ old. ap (λ (plan : List Line). ledgerAfter network plan old) same }
-    go (Refused r) e =
-        record {
-          answered = λ size. refused-answer network r e _ size ∙ sym (refused-answer network r e _ size);
-          rows = λ old. refused-rows network r e _ old ∙ sym (refused-rows network r e _ old);
-        }
+    go : (v : Verdict) → verdict (networkChecks network) ≡ v → f (meant network (lines [])) ≡ f (meant network (lines (holdText network)))
+    go Passes e = ap f (same-meant network (valid-network network (hold-of-passes (networkChecks network) e)))
+    go (Refused r) e = refused r e _ _
+
+pub empty-holds : (networkText planText before : List ℕ) {after : List ℕ} {answer : PlanAnswer} → answer ≡ checkPlan (lines networkText) (planOf networkText planText) (length before)
+    → after ≡ ledgerAfter (lines networkText) (planOf networkText planText) before → EmptyHolds networkText planText before after answer
+empty-holds networkText planText before told wrote =
+    let network = lines networkText in
+    record {
+      answered = λ e. told ∙ rw (no-bytes planText e)
+          (same-told network (λ plan. checkPlan network plan (length before)) (λ r v plan other. refused-answer network r v plan _ ∙ sym (refused-answer network r v other _)));
+      rows = λ e. wrote ∙ rw (no-bytes planText e)
+          (same-told network (λ plan. ledgerAfter network plan before) (λ r v plan other. refused-rows network r v plan before ∙ sym (refused-rows network r v other before)));
+    }

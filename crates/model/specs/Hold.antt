@@ -3,8 +3,10 @@ use Prim.Native.Nat.{ℕ, _+_, _*_, _-_, _^_}
 use mathlib.Core.Path.{_≡_}
 use mathlib.Core.List.{List, [], _∷_}
 use lib.Dec.{ltb}
+use lib.ListN.{length}
 use Rattle.records.specs.Lines.{Line, lines}
 use Rattle.record_writer.specs.Records.{recordTexts, recordLines}
+use Rattle.model.specs.declared.PlanAnswer.{PlanAnswer}
 use Rattle.model.specs.Sum.{only, list}
 use Rattle.model.specs.Network.{linkCount, signalCount, movementCount, stepCount, signal}
 use Rattle.model.specs.Table.{letterP}
@@ -32,7 +34,7 @@ module _ (network : List Line) where
 abbrev pub planOf : List ℕ → List ℕ → List Line
 planOf networkText planText = meant (lines networkText) (lines planText)
 
--- The theorem of T-07: on every network the empty text gets the answer and the ledger of the plan that holds, written out.
-pub record EmptyHolds (network : List Line) : Type 0 where
-  pub answered : (size : ℕ) → checkPlan network (meant network (lines [])) size ≡ checkPlan network (meant network (lines (holdText network))) size
-  pub rows : (old : List ℕ) → ledgerAfter network (meant network (lines [])) old ≡ ledgerAfter network (meant network (lines (holdText network))) old
+-- The theorem of T-07, of a plan's check with the ledger before and after it: an empty text gets the answer and the ledger of the plan that holds, written out.
+pub record EmptyHolds (networkText planText before after : List ℕ) (answer : PlanAnswer) : Type 0 where
+  pub answered : length planText ≡ 0 → answer ≡ checkPlan (lines networkText) (planOf networkText (holdText (lines networkText))) (length before)
+  pub rows : length planText ≡ 0 → after ≡ ledgerAfter (lines networkText) (planOf networkText (holdText (lines networkText))) before

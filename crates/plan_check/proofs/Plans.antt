@@ -19,11 +19,13 @@ use Rattle.model.specs.declared.PlanAnswer.{PlanAnswer}
 use Rattle.model.specs.declared.PlanAnswer.the-variants as plan-answer
 use Rattle.model.specs.Network.{maxLinks, linkCount, stepCount}
 use Rattle.model.specs.Table.{networkChecks, ledgerChecks, planLineChecks, planChecks}
+use Rattle.model.specs.Hold.{planOf, EmptyHolds}
 use Rattle.model.specs.Calls.{planAnswer, checkPlan, rowsWritten, written, ledgerAfter}
 use Rattle.model.specs.Guarantees.{RowDue, Promises}
 use Rattle.model.proofs.Rows.{written-none, length-written}
 use Rattle.model.proofs.Written.{refused-fails, rows-none}
 use Rattle.model.proofs.Promises.{promises}
+use Rattle.model.proofs.Hold.{empty-holds}
 use Rattle.tables.specs.declared.Reading.{Reading}
 use Rattle.tables.specs.declared.Stage.{Stage}
 use Rattle.tables.specs.declared.Stage.the-variants as stages
@@ -66,7 +68,7 @@ module _ (networkText planText links movements times old : List ℕ) (reading : 
   net = lines networkText
 
   abbrev pln : List Line
-  pln = lines planText
+  pln = planOf networkText planText
 
   valid : verdict (networkChecks net) ≡ verdicts.Passes
   valid = passes-of-hold (networkChecks net) (loaded .holds)
@@ -146,9 +148,11 @@ pub plan-refused : (networkText planText old : List ℕ) {stage : Stage} {Held :
 plan-refused networkText planText old {r = r} got e =
     let net = lines networkText in
     let v = verdict-refused got e in
-    let p = early net (lines planText) old r (λ d. refused-fails (networkChecks net) r v (d .network-holds)) (planned net (lines planText) (length old) r v) in
+    let p = early net (planOf networkText planText) old r (λ d. refused-fails (networkChecks net) r v (d .network-holds)) (planned net (planOf networkText planText) (length old) r v) in
     record { answered = p .0; written-rows = p .1 }
 
 pub plan-promised : {networkText planText old : List ℕ} {answer : PlanAnswer} {ledger : List ℕ} → PlanGot networkText planText old answer ledger
-    → (answer ≡ checkPlan (lines networkText) (lines planText) (length old)) × ((ledger ≡ ledgerAfter (lines networkText) (lines planText) old) × Promises (lines networkText) (lines planText) old ledger answer)
-plan-promised {networkText} {planText} {old} got = (got .answered, (got .written-rows, rw (got .answered, got .written-rows) (promises (lines networkText) (lines planText) old)))
+    → (answer ≡ checkPlan (lines networkText) (planOf networkText planText) (length old)) × ((ledger ≡ ledgerAfter (lines networkText) (planOf networkText planText) old)
+    × (Promises (lines networkText) (planOf networkText planText) old ledger answer × EmptyHolds networkText planText old ledger answer))
+plan-promised {networkText} {planText} {old} got =
+    (got .answered, (got .written-rows, (rw (got .answered, got .written-rows) (promises (lines networkText) (planOf networkText planText) old), empty-holds networkText planText old (got .answered) (got .written-rows))))

@@ -2,6 +2,7 @@
 ghost use mathlib.Core.Path.{_≡_};
 ghost use lib.ListN.{length};
 ghost use Rattle.records.specs.Lines.{lines};
+ghost use Rattle.model.specs.Hold.{planOf, EmptyHolds};
 ghost use Rattle.model.specs.Calls.{checkPlan, ledgerAfter};
 ghost use Rattle.model.specs.Guarantees.{Promises};
 ghost use Rattle.network.specs.Loading.{Loaded};
@@ -49,9 +50,10 @@ fn judge_plan(
 
 // Check a plan: refusals 1 to 6, 8 to 18, and 25 to 27. A refusal writes only row 0 and the rows of steps that had passed.
 pub fn check_plan(network: &[u8], plan: &[u8], ledger: &mut [u32]) -> PlanAnswer
-    ensures { λ r. ⌜ r ≡ checkPlan (lines (now (network .entry))) (lines (now (plan .entry))) (length (now (ledger .entry))) ⌝ }
-    ensures { λ r. ⌜ now (ledger .exit) ≡ ledgerAfter (lines (now (network .entry))) (lines (now (plan .entry))) (now (ledger .entry)) ⌝ }
-    ensures { λ r. ⌜ Promises (lines (now (network .entry))) (lines (now (plan .entry))) (now (ledger .entry)) (now (ledger .exit)) r ⌝ }
+    ensures { λ r. ⌜ r ≡ checkPlan (lines (now (network .entry))) (planOf (now (network .entry)) (now (plan .entry))) (length (now (ledger .entry))) ⌝ }
+    ensures { λ r. ⌜ now (ledger .exit) ≡ ledgerAfter (lines (now (network .entry))) (planOf (now (network .entry)) (now (plan .entry))) (now (ledger .entry)) ⌝ }
+    ensures { λ r. ⌜ Promises (lines (now (network .entry))) (planOf (now (network .entry)) (now (plan .entry))) (now (ledger .entry)) (now (ledger .exit)) r ⌝ }
+    ensures { λ r. ⌜ EmptyHolds (now (network .entry)) (now (plan .entry)) (now (ledger .entry)) (now (ledger .exit)) r ⌝ }
 {
     let mut links = [0u32; LINK_TABLE_SIZE];
     let mut movements = [0u32; MOVEMENT_TABLE_SIZE];

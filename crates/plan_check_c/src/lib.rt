@@ -3,6 +3,7 @@ ghost use mathlib.Core.Path.{_≡_};
 ghost use mathlib.Core.Logic.{_≢_};
 ghost use lib.ListN.{length};
 ghost use Rattle.records.specs.Lines.{lines};
+ghost use Rattle.model.specs.Hold.{planOf, EmptyHolds};
 ghost use Rattle.model.specs.Calls.{checkNetwork, checkPlan, ledgerAfter, linkState};
 ghost use Rattle.model.specs.Guarantees.{Promises};
 ghost use Rattle.traces.specs.Call.{stepVehicles, placesAfter};
@@ -99,9 +100,10 @@ pub extern "C" fn plancheck_check_plan(
     plan: &[u8],
     ledger: &mut [u32],
 ) -> PlanResult
-    ensures { λ r. ⌜ r ≡ planResult (checkPlan (lines (now (network .entry))) (lines (now (plan .entry))) (length (now (ledger .entry)))) ⌝ }
-    ensures { λ r. ⌜ now (ledger .exit) ≡ ledgerAfter (lines (now (network .entry))) (lines (now (plan .entry))) (now (ledger .entry)) ⌝ }
-    ensures { λ r. ⌜ Promises (lines (now (network .entry))) (lines (now (plan .entry))) (now (ledger .entry)) (now (ledger .exit)) (planAnswerOf r) ⌝ }
+    ensures { λ r. ⌜ r ≡ planResult (checkPlan (lines (now (network .entry))) (planOf (now (network .entry)) (now (plan .entry))) (length (now (ledger .entry)))) ⌝ }
+    ensures { λ r. ⌜ now (ledger .exit) ≡ ledgerAfter (lines (now (network .entry))) (planOf (now (network .entry)) (now (plan .entry))) (now (ledger .entry)) ⌝ }
+    ensures { λ r. ⌜ Promises (lines (now (network .entry))) (planOf (now (network .entry)) (now (plan .entry))) (now (ledger .entry)) (now (ledger .exit)) (planAnswerOf r) ⌝ }
+    ensures { λ r. ⌜ EmptyHolds (now (network .entry)) (now (plan .entry)) (now (ledger .entry)) (now (ledger .exit)) (planAnswerOf r) ⌝ }
 {
     match plan_check::check_plan(network, plan, ledger) {
         PlanAnswer::Accepted(totals) => PlanResult {

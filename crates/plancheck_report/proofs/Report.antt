@@ -18,6 +18,7 @@ use Rattle.model.specs.declared.PlanAnswer.the-variants.{Accepted}
 use Rattle.model.specs.Network.{linkCount, stepCount}
 use Rattle.model.specs.Flows.{totals}
 use Rattle.model.specs.Table.{networkChecks, ledgerChecks, planLineChecks, planChecks}
+use Rattle.model.specs.Hold.{planOf}
 use Rattle.model.specs.Calls.{planAnswer, checkPlan, rowsWritten, written, ledgerAfter}
 use Rattle.model.specs.Report.{reportText, report}
 use Rattle.model.proofs.Accepted.{valid-network}
@@ -66,13 +67,13 @@ accepted-passes network plan Passes t e = refl
 accepted-passes network plan (Refused r) t e = cc
 
 module _ (networkText planText old : List ℕ) {ledger : List ℕ} {answer : PlanAnswer} (size : length old ≡ ledgerSize)
-    (told : answer ≡ checkPlan (lines networkText) (lines planText) (length old))
-    (rows : ledger ≡ ledgerAfter (lines networkText) (lines planText) old) where
-  of-verdict : answer ≡ planAnswer (lines networkText) (lines planText) (verdict (planChecks (lines networkText) (lines planText) ledgerSize))
+    (told : answer ≡ checkPlan (lines networkText) (planOf networkText planText) (length old))
+    (rows : ledger ≡ ledgerAfter (lines networkText) (planOf networkText planText) old) where
+  of-verdict : answer ≡ planAnswer (lines networkText) (planOf networkText planText) (verdict (planChecks (lines networkText) (planOf networkText planText) ledgerSize))
   unfolding checkPlan
   of-verdict = rw size at told
 
-  after-verdict : ledger ≡ written (lines networkText) (lines planText) old (rowsWritten (lines networkText) (lines planText) ledgerSize)
+  after-verdict : ledger ≡ written (lines networkText) (planOf networkText planText) old (rowsWritten (lines networkText) (planOf networkText planText) ledgerSize)
   unfolding ledgerAfter
   after-verdict = rw size at rows
 
@@ -82,7 +83,7 @@ module _ (networkText planText old : List ℕ) {ledger : List ℕ} {answer : Pla
         room = omega arith;
         accepted = λ t e.
             let network = lines networkText in
-            let plan = lines planText in
+            let plan = planOf networkText planText in
             let p = accepted-passes network plan (verdict (planChecks network plan ledgerSize)) t (sym of-verdict ∙ e) in
             let f = ledger-fits network (network-holds network plan p) in
             let l : ledger ≡ written network plan old (suc (stepCount network)) = rw (rows-all network plan ledgerSize (hold-of-passes (planChecks network plan ledgerSize) p)) at after-verdict in
@@ -94,7 +95,7 @@ module _ (networkText planText old : List ℕ) {ledger : List ℕ} {answer : Pla
   unfolding report
   report-wrote {out} {new} {r} w =
       let network = lines networkText in
-      let plan = lines planText in
+      let plan = planOf networkText planText in
       let t : answerText network answer ledger ≡ reportText network plan (verdict (networkChecks network then planLineChecks network plan)) =
       ap₂ (answerText network) of-verdict after-verdict ∙ verdict-told network plan old size (verdict (planChecks network plan ledgerSize)) refl ∙ ap (reportText network plan) (same-verdict network plan) in
       rw t at w
