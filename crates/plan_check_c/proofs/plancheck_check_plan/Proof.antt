@@ -6,6 +6,7 @@ use Rattle.records.specs.Lines.{Line}
 use Rattle.model.specs.declared.PlanAnswer.{PlanAnswer}
 use Rattle.model.specs.declared.PlanAnswer.the-variants as plan-answer
 use Rattle.model.specs.Guarantees.{Promises}
+use Rattle.model.specs.Hold.{EmptyHolds}
 use Rattle.plan_check_c.specs.Results.{planResult, planAnswerOf}
 use native.Mathlib.Omega.{arith}
 use borrow.Author.Tests.{ne-eqb}
@@ -14,10 +15,10 @@ use Rattle.plan_check_c.proofs.plancheck_check_plan.Statement.{statemen
 use Rattle.plan_check_c.proofs.plancheck_check_plan.Tie as tie
 
 -- what is promised of an answer is promised of the answer that its result is read as, since no refusal has the number 0
-promised : (network plan : List Line) (before after : List ℕ) (a : PlanAnswer) → Promises network plan before after a
-    → Promises network plan before after (planAnswerOf (planResult a))
-promised network plan before after (plan-answer.Accepted t) p = p
-promised network plan before after (plan-answer.Refused r) p = rw (ne-eqb (r .number) 0 (λ e. omega (arith, p .refused-number r refl .not-0))) p
+promised : (network plan : List Line) (networkText planText before after : List ℕ) (a : PlanAnswer) → Promises network plan before after a × EmptyHolds networkText planText before after a
+    → Promises network plan before after (planAnswerOf (planResult a)) × EmptyHolds networkText planText before after (planAnswerOf (planResult a))
+promised network plan networkText planText before after (plan-answer.Accepted t) p = p
+promised network plan networkText planText before after (plan-answer.Refused r) p = rw (ne-eqb (r .number) 0 (λ e. omega (arith, p .0 .refused-number r refl .not-0))) p
 
 check-plan-requires : tie.Need-check-plan-requires
 check-plan-requires c κs = search needs
@@ -35,7 +36,7 @@ returns : tie.Need-returns
 returns c =
     let e = c .before .before .before .before .before .check-plan .ensures in
     let told = c .before .totals .given .1 in
-    (sym (ap planResult (sym (e .0) ∙ told)), (e .1 .0, rw told at (promised _ _ _ _ _ (e .1 .1))))
+    (sym (ap planResult (sym (e .0) ∙ told)), (e .1 .0, rw told at (promised _ _ _ _ _ _ _ (e .1 .1))))
 
 same-length-2 : tie.Need-same-length-2
 same-length-2 c = search needs
@@ -44,7 +45,7 @@ returns-2 : tie.Need-returns-2
 returns-2 c =
     let e = c .before .before .before .before .before .check-plan .ensures in
     let told = c .before .r .given .1 in
-    (sym (ap planResult (sym (e .0) ∙ told)), (e .1 .0, rw told at (promised _ _ _ _ _ (e .1 .1))))
+    (sym (ap planResult (sym (e .0) ∙ told)), (e .1 .0, rw told at (promised _ _ _ _ _ _ _ (e .1 .1))))
 
 pub plancheck-check-plan-spec : {M : Type 1} → statement M
 plancheck-check-plan-spec =
