@@ -3,6 +3,7 @@
 
 mod damage;
 mod form;
+mod hold;
 mod limits;
 mod listings;
 mod network_values;
@@ -408,6 +409,7 @@ pub fn all_families(maker: &mut Maker, scenario: &Scenario) {
     network_values::counts(maker, scenario);
     network_values::two_breaches(maker, scenario);
     form::plan_form(maker, scenario);
+    hold::empty_plans(maker, scenario);
     plan_breaches::single_breaches(maker, scenario);
     plan_breaches::two_breaches(maker, scenario);
     limits::exact_limits(maker, scenario);
@@ -498,6 +500,9 @@ pub fn stored_cases(seed: u64) -> Vec<Case> {
         }
         state_calls::states(&mut maker, &scenario, 2);
         limits::exact_limits(&mut maker, &scenario);
+        if round % 4 == 0 {
+            hold::empty_plans(&mut maker, &scenario);
+        }
         padding::padded_copies(&mut maker, before, 3);
     }
 

@@ -27,6 +27,17 @@ impl PlanStep {
             moved: vec![0; network.movements.len()],
         }
     }
+
+    /// Each signal keeps its shown phase and every volume is 0.
+    fn of_hold(network: &Network) -> PlanStep {
+        let signals = network.signals.iter();
+        PlanStep {
+            masks: signals
+                .map(|signal| 1 << (signal.shown_phase - 1))
+                .collect(),
+            ..PlanStep::of_zeros(network)
+        }
+    }
 }
 
 /// The plan text of these steps.
@@ -48,7 +59,14 @@ pub fn check(network_text: &[u8], plan_text: &[u8], ledger: &mut [u32]) -> Resul
     let mut passed = Passed::before_step_1(&network);
     passed.write_row(0, ledger);
 
-    let mut lines = Lines::new(plan_text);
+    // An empty plan text stands for one that holds.
+    let hold = text(&vec![PlanStep::of_hold(&network); network.steps.len()]);
+    let meant = if plan_text.is_empty() {
+        &hold
+    } else {
+        plan_text
+    };
+    let mut lines = Lines::new(meant);
     let mut steps = Vec::new();
     for number in 1..=network.steps.len() {
         let step = read_step(&lines.take(), &network)?;

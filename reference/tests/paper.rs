@@ -148,5 +148,5 @@ fn c10_travel_time_between_boundaries() {
 
 #[test]
 fn c11_empty_plan() {
-    assert_prints(&text(&NETWORK), "", "R\t9\t1\t0\n");
+    assert_prints(&text(&NETWORK), "", "R\t13\t3\t1\n");
 }

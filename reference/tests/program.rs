@@ -87,7 +87,7 @@ fn files_at_and_above_their_limits() {
     fs::write(folder.join("plan.tsv"), "P\t0000000001\t03\n").unwrap();
     assert_eq!(printed(&folder), ACCEPTED);
     fs::write(folder.join("network.tsv"), long_network(|length| length)).unwrap();
-    fs::write(folder.join("plan.tsv"), "").unwrap();
+    fs::write(folder.join("plan.tsv"), "\n").unwrap();
     assert_eq!(printed(&folder), "R\t9\t1\t0\n");
     fs::write(
         folder.join("network.tsv"),
@@ -97,6 +97,10 @@ fn files_at_and_above_their_limits() {
     assert_eq!(printed(&folder), "L\t1\n");
     write(0, 0);
     assert_eq!(printed(&folder), "R\t1\t1\t0\n");
+    // An empty file is a plan that holds; a missing one is none.
     fs::write(folder.join("network.tsv"), NETWORK).unwrap();
-    assert_eq!(printed(&folder), "R\t9\t1\t0\n");
+    let held = "A\t0\t0\t4\t9\nB\t0\t0\t4\t0\nB\t1\t1\t4\t0\n";
+    assert_eq!(printed(&folder), held);
+    fs::remove_file(folder.join("plan.tsv")).unwrap();
+    assert_eq!(printed(&folder), "L\t2\n");
 }

@@ -32,6 +32,9 @@ fn mutate(random: &mut Random, question: &Question) -> Question {
     if random.chance(45) {
         mutated.plan = damage(random, &question.plan);
     }
+    if random.chance(3) {
+        mutated.plan.clear();
+    }
     if random.chance(30) {
         mutated.ledger = mutate_ledger(random, &question.ledger);
     }

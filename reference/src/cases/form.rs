@@ -32,9 +32,12 @@ fn broken_forms(maker: &mut Maker, sheet: &Sheet, line: usize) -> Vec<(&'static 
     let fields = sheet.lines[line].len();
     let mut texts = Vec::new();
 
-    let mut cut = sheet.clone();
-    cut.lines.truncate(line);
-    texts.push(("line is missing", cut.text()));
+    // An empty plan lacks nothing.
+    if line > 0 || sheet.lines[0][0] != b"P" {
+        let mut cut = sheet.clone();
+        cut.lines.truncate(line);
+        texts.push(("line is missing", cut.text()));
+    }
     let mut cut = sheet.clone();
     cut.lines.truncate(line + 1);
     texts.push(("line is unfinished", cut.unfinished_text()));
@@ -265,7 +268,6 @@ pub fn plan_form(maker: &mut Maker, scenario: &Scenario) {
     text.extend(Sheet::of_plan(&scenario.plan[steps - 1..]).text());
     maker.ask_plan("9: last step twice", texts.with_plan(text), need, intended);
     let intended = Some(Answer::Refused(refused(9, 1, 0)));
-    maker.ask_plan("9: empty plan", texts.with_plan(Vec::new()), need, intended);
     let network_as_plan = texts.with_plan(texts.network.clone());
     maker.ask_plan(
         "9: network in place of the plan",

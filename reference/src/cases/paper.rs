@@ -89,7 +89,7 @@ pub fn cases(maker: &mut Maker) {
         network: NETWORK.into(),
         plan: Vec::new(),
     };
-    maker.ask_plan("c11", empty, 20, refused_plan(9, 1, 0));
+    maker.ask_plan("c11", empty, 20, refused_plan(13, 3, 1));
 }
 
 /// Every number of the corridor at the ends of what a number may be.

@@ -67,7 +67,7 @@ fn assert_form_refused(plan: &[u8], line: u64) {
 
 #[test]
 fn r9_missing_line() {
-    for lines in 0..4 {
+    for lines in 1..4 {
         assert_form_refused(&plan().keep(lines).text(), lines as u64 + 1);
     }
 }
@@ -75,10 +75,34 @@ fn r9_missing_line() {
 #[test]
 fn r9_every_cut_of_the_text() {
     let text = plan().text();
-    for length in 0..text.len() {
+    for length in 1..text.len() {
         let line_feeds = text[..length].iter().filter(|&&byte| byte == b'\n').count();
         assert_form_refused(&text[..length], line_feeds as u64 + 1);
     }
+}
+
+#[test]
+fn an_empty_plan_holds() {
+    // Signal 1 shows phase 2 for 10 seconds and may for 30, signal 2 phase 1
+    // for 5 and may for 30.
+    assert_plan_refused(&network().text(), b"", 13, 3, 1);
+    assert_plan_refused(&network().set(2, 11, 50).text(), b"", 13, 3, 2);
+    let wide = network().set(2, 11, 50).set(3, 9, 45);
+    assert_plan_accepted(&wide.clone().text(), b"");
+    assert_plan_refused(&wide.clone().set(2, 11, 49).text(), b"", 13, 4, 1);
+    assert_plan_refused(&wide.clone().set(3, 9, 44).text(), b"", 13, 4, 2);
+    assert_plan_refused(&wide.clone().set(2, 3, 59).text(), b"", 14, 4, 1);
+    // As the same plan written out.
+    let written = Sheet::new(&["P 2 1 0 0 0 0 0 0 0 0 0"; 4].join("\n"));
+    for network in [network(), wide] {
+        let mut ledgers = [[FILL; NEED + 2]; 2];
+        let empty = check_plan(&network.text(), b"", &mut ledgers[0]);
+        let whole = check_plan(&network.text(), &written.text(), &mut ledgers[1]);
+        assert_eq!(empty, whole);
+        assert_eq!(ledgers[0], ledgers[1]);
+    }
+    // A line feed is a line.
+    assert_form_refused(b"\n", 1);
 }
 
 #[test]
