@@ -424,6 +424,17 @@ static plancheck_plan_result plan_refused(struct refusal refusal)
     return (plancheck_plan_result){refusal.number, refusal.line, refusal.item, 0, 0, 0, 0};
 }
 
+/* The numbers of the next `P` line. An empty plan text means hold: each signal keeps its phase, and every volume is 0. */
+static bool read_plan_line(const struct network *network, struct text *plan, uint32_t *numbers)
+{
+    uint32_t count = network->signals + 2 * network->links + network->movements;
+    if (plan->length != 0)
+        return read_line(plan, 'P', numbers, count);
+    for (uint32_t k = 0; k < count; k++)
+        numbers[k] = k < network->signals ? 1u << network->signal[k].phase : 0;
+    return true;
+}
+
 plancheck_plan_result twin_check_plan(const uint8_t *network_text, size_t network_len, const uint8_t *plan_text,
                                       size_t plan_len, uint32_t *ledger, size_t ledger_len)
 {
@@ -452,7 +463,7 @@ plancheck_plan_result twin_check_plan(const uint8_t *network_text, size_t networ
     step.let_out = step.admitted + network.links;
     step.moved = step.let_out + network.links;
     for (uint32_t n = 1; n <= network.steps; n++) {
-        if (!read_line(&plan, 'P', numbers, network.signals + 2 * network.links + network.movements))
+        if (!read_plan_line(&network, &plan, numbers))
             return plan_refused(refuse(9, n, 0));
         read_line(&demands, 'S', step_numbers, 1 + network.links);
         step.length = step_numbers[0];
