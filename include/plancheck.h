@@ -293,6 +293,9 @@ plancheck_network_result plancheck_check_network(const uint8_t *network, size_t 
  * then the ledger's length (8), then the plan line by line: the form of the line (9), then rules 10 to 15, 25 to 27 and
  * 16 to 18 in this order, each over rising items.
  *
+ * A plan text of no bytes means hold: it stands for K lines in which each signal keeps its shown phase and every volume
+ * is 0, and gets that plan's answer and ledger.
+ *
  * Reads both texts. Writes rows of the ledger, as far as the plan passes:
  *     accepted, or refused with 9 for text after the last line     rows 0 to K
  *     refused at line n of the plan, n from 1 to K                 rows 0 to n - 1

@@ -88,6 +88,8 @@ pub fn check_network(network: &[u8]) -> Result<(), Refusal> {
 /// standing start included, and what has left by then. A refusal at line n of the plan leaves rows 0 to n − 1
 /// written; refusals 1 to 8 leave the ledger as it was. All other numbers of the ledger keep what they held.
 ///
+/// An empty plan text means hold: each signal keeps its shown phase and every volume is 0 in all K steps.
+///
 /// # Errors
 ///
 /// Refusals 1 to 6 of the network, 8 for a ledger shorter than [`required_ledger_len`], 9 to 18 and 25 to 27
