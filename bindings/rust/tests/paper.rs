@@ -104,6 +104,12 @@ fn c10_a_travel_time_ends_inside_a_step() {
 }
 
 #[test]
-fn c11_an_empty_plan() {
-    assert_eq!(judge(NETWORK, "", 1), refused(9, 1, 0));
+fn c11_an_empty_plan_holds() {
+    let mut ledger = [UNTOUCHED; LEDGER_LEN + 3];
+    let answer = check_plan(NETWORK.as_bytes(), b"", &mut ledger);
+    assert_eq!(answer, refused(13, 3, 1));
+    let (written, kept) = ledger.split_at(ROW_LEN * 3);
+    assert!(written.iter().all(|&number| number == 0));
+    assert!(kept.iter().all(|&number| number == UNTOUCHED));
+    assert_eq!(judge(NETWORK, "\n", 1), refused(9, 1, 0));
 }
