@@ -82,9 +82,9 @@
  * The library needs memcpy and memset from the C library, at most.
  *
  * STACK
- * On x86-64, plancheck_check_plan takes at most 8,064 bytes, plancheck_check_network and plancheck_link_state each at
- * most 3,920 (docs/MEASUREMENTS.md; bench/run measures it). plancheck_plan_from_listing is for an engineer's machine, not
- * for a box: its tables take 65,424 bytes of stack.
+ * On x86-64, plancheck_check_plan takes at most 8,048 bytes, plancheck_check_network and plancheck_link_state each at
+ * most 3,760 (docs/MEASUREMENTS.md; bench/run measures it). plancheck_plan_from_listing is for an engineer's machine, not
+ * for a box: its tables take 65,312 bytes of stack.
  *
  * ERRORS
  * A result has number 0 (PLANCHECK_OK), or the number of the first refusal in the order of judging, with the line and
