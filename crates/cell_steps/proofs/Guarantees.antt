@@ -10,7 +10,7 @@ use Rattle.cell_steps.specs.Steps.{Chain, flow, volumeAfter, after, volu
 use Rattle.cell_steps.specs.Guarantees.{total, Keeps}
 use Rattle.cell_steps.proofs.Flows.{outflow-has, length-after, after-ready}
 
-total-last : (volumes : List ℕ) (v : ℕ) → total (volumes ++ (v ∷ [])) ≡ total volumes + v
+pub total-last : (volumes : List ℕ) (v : ℕ) → total (volumes ++ (v ∷ [])) ≡ total volumes + v
 unfolding total
 total-last [] v = omega arith
 total-last (x ∷ volumes) v = omega (arith, total-last volumes v)

@@ -12,7 +12,6 @@ use Rattle.lists.proofs.Laws.{length-list, get-list}
 use Rattle.cell_steps.specs.declared.Totals.{Totals}
 use Rattle.cell_steps.specs.Steps.{chainOf, volumesAfter, totalIn, totalOut, Ready}
 use Rattle.cell_steps.specs.Results.{Ran}
-use Rattle.cell_steps.proofs.Guarantees.{keeps, length-all-after}
 use Rattle.cell_lines.specs.declared.CorridorRead.{CorridorRead}
 use Rattle.cell_lines.specs.declared.CorridorRead.the-variants as read
 use Rattle.cell_lines.specs.Corridor.{corridorChecks, chain, starts, demands}
@@ -20,7 +19,8 @@ use Rattle.cell_lines.specs.Reading.{corridorVerdict, CorridorGot}
 use Rattle.cells.specs.declared.CellsAnswer.the-variants as answer
 use Rattle.cells.specs.declared.CellsRun.{CellsRun}
 use Rattle.cells.specs.Call.{answerOf, runCells, zeros, padded, volumesOf, finalVolumes, RunKeeps}
-use Rattle.cells.proofs.Ready.{starts-length, corridor-ready}
+use Rattle.cells.proofs.Ready.{corridor-ready}
+use Rattle.cells.proofs.Guarantees.{all-after, run-keeps}
 
 drop-zeros : (n m : ℕ) → n ≤ m → drop n (zeros m) ≡ zeros (m - n)
 drop-zeros n m h =
@@ -32,15 +32,14 @@ drop-zeros n m h =
 pub part-length : (n : ℕ) (xs : List ℕ) → n ≤ length xs → n ≡ length (take n xs)
 part-length n xs h = sym (length-take-le n xs h)
 
--- all that the call promises of its result
+-- what the code shows of the call's result; that it keeps what it promises follows from the definitions
 pub record Done (text : List Line) (run : CellsRun) : Type 0 where
   pub is-answer : run .answer ≡ runCells text
   pub are-volumes : run .volumes ≡ finalVolumes text
-  pub kept : RunKeeps text (run .answer)
 
 pub promised : (text : List Line) (run : CellsRun) → Done text run
-    → (run .answer ≡ runCells text) × ((run .volumes ≡ finalVolumes text) × RunKeeps text (run .answer))
-promised text run d = (d .is-answer, (d .are-volumes, d .kept))
+    → (run .answer ≡ runCells text) × ((run .volumes ≡ finalVolumes text) × RunKeeps text (run .answer) (run .volumes))
+promised text run d = (d .is-answer, (d .are-volumes, rw (d .is-answer, d .are-volumes) (run-keeps text)))
 
 module _ (text : List ℕ) (result : CorridorRead) (volumes₀ flows holdings ratios volumes table : List ℕ)
     (got : CorridorGot text result volumes₀ flows holdings ratios volumes table) where
@@ -48,14 +47,7 @@ module _ (text : List ℕ) (result : CorridorRead) (volumes₀ flows holdings ra
   unfolding runCells answerOf finalVolumes volumesOf corridorVerdict
   run-refused x y e run p =
       let v : verdict (corridorChecks (lines text)) ≡ Refused (refusal x y 0) = sym (got .told) ∙ rw e in
-      record {
-        is-answer = p .0 ∙ rw v;
-        are-volumes = p .1 ∙ rw v;
-        kept = record { ran = λ n entered left q. none (sym (p .0) ∙ q) };
-      }
-    where
-      none : {A : Type 0} {n entered left : ℕ} → answer.Refused (refusal x y 0) ≡ answer.Ran n entered left → A
-      none q = let z : _≡_ {A = ℕ} 0 1 = cc in absurd (omega arith)
+      record { is-answer = p .0 ∙ rw v; are-volumes = p .1 ∙ rw v }
 
   module _ (cells exit steps : ℕ) (e : result ≡ read.Loaded cells exit steps) where
     pub few-cells : cells ≤ 64
@@ -88,11 +80,8 @@ module _ (text : List ℕ) (result : CorridorRead) (volumes₀ flows holdings ra
         let after : new ≡ volumesAfter (chain (lines text)) (demands (lines text)) (starts (lines text)) = r .new-volumes ∙ rw (held .limits, held .steps-are, held .first) in
         let entered : totals .«flow_in» ≡ totalIn (chain (lines text)) (demands (lines text)) (starts (lines text)) = r .flows-in ∙ rw (held .limits, held .steps-are, held .first) in
         let left : totals .«flow_out» ≡ totalOut (chain (lines text)) (demands (lines text)) (starts (lines text)) = r .flows-out ∙ rw (held .limits, held .steps-are, held .first) in
-        let count : length (volumesAfter (chain (lines text)) (demands (lines text)) (starts (lines text))) ≡ cells =
-        length-all-after (chain (lines text)) (demands (lines text)) (starts (lines text)) ∙ starts-length (lines text) ∙ sym (held .cells-are)
-        in
+        let count : length (volumesAfter (chain (lines text)) (demands (lines text)) (starts (lines text))) ≡ cells = all-after (lines text) ∙ sym (held .cells-are) in
         record {
           is-answer = p .0 ∙ rw (entered, left, held .cells-are, accepted);
           are-volumes = p .1 ∙ rw (after, held .rest, z, drop-zeros cells 64 few-cells, accepted, count);
-          kept = record { ran = λ _ _ _ _. keeps (chain (lines text)) (starts (lines text)) (corridor-ready (lines text) accepted) };
         }

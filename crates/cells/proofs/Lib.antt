@@ -1,4 +1,5 @@
 pub mod Ready
+pub mod Guarantees
 pub mod Calls
 pub mod Cases
 pub mod Padding

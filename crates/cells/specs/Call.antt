@@ -1,15 +1,16 @@
 -- The call `run_cells` (T-12): its answer, the final volumes, and what it keeps. Assumes nothing.
-use Prim.Native.Nat.{ℕ, _-_}
+use Prim.Native.Nat.{ℕ, _+_, _-_, _≤_, _<_}
 use mathlib.Core.Path.{_≡_}
 use mathlib.Core.List.{List, [], _++_}
-use lib.ListN.{length}
+use lib.ListN.{length, getD}
+use Rattle.search.specs.declared.Refusal.{Refusal}
 use Rattle.search.specs.declared.Verdict.{Verdict}
 use Rattle.search.specs.declared.Verdict.the-variants.{Passes, Refused}
 use Rattle.search.specs.Checks.{verdict}
 use Rattle.records.specs.Lines.{Line}
 use Rattle.lists.specs.Indexed.{list}
 use Rattle.cell_steps.specs.Steps.{volumesAfter, totalIn, totalOut}
-use Rattle.cell_steps.specs.Guarantees.{Keeps}
+use Rattle.cell_steps.specs.Guarantees.{total, Keeps}
 use Rattle.cell_lines.specs.Corridor.{cellCount, corridorChecks, chain, starts, demands}
 use Rattle.cells.specs.declared.CellsAnswer.{CellsAnswer}
 use Rattle.cells.specs.declared.CellsAnswer.the-variants as cells-answer
@@ -37,6 +38,15 @@ volumesOf (Refused r) text = []
 unfoldable pub finalVolumes : List Line → List ℕ
 finalVolumes text = padded (volumesOf (verdict (corridorChecks text)) text)
 
--- the chain of a text that is not refused keeps its limits and loses nothing, for every list of demands
-pub record RunKeeps (text : List Line) (answer : CellsAnswer) : Type 0 where
-  pub ran : (cells entered left : ℕ) → answer ≡ cells-answer.Ran cells entered left → Keeps (chain text) (starts text)
+-- what a run that is not refused keeps: its chain for every list of demands, and what it gives back for those of the text
+pub record Kept (text : List Line) (cells entered left : ℕ) (volumes : List ℕ) : Type 0 where
+  pub always : Keeps (chain text) (starts text)
+  -- no cell has passed its holding limit
+  pub held : (i : ℕ) → i < cells → getD volumes i 0 ≤ getD (chain text .holdingLimits) i 0
+  -- the total is start plus in minus out
+  pub balanced : total volumes + left ≡ total (starts text) + entered
+
+-- the same of an answer with its volumes, and no refusal has the number 0
+pub record RunKeeps (text : List Line) (answer : CellsAnswer) (volumes : List ℕ) : Type 0 where
+  pub ran : (cells entered left : ℕ) → answer ≡ cells-answer.Ran cells entered left → Kept text cells entered left volumes
+  pub refused-number : (r : Refusal) → answer ≡ cells-answer.Refused r → 1 ≤ r .number

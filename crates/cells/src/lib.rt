@@ -29,7 +29,7 @@ pub struct CellsRun {
 pub fn run_cells(text: &[u8]) -> CellsRun
     ensures { λ r. ⌜ r .answer ≡ runCells (lines (now (text .entry))) ⌝ }
     ensures { λ r. ⌜ r .volumes ≡ finalVolumes (lines (now (text .entry))) ⌝ }
-    ensures { λ r. ⌜ RunKeeps (lines (now (text .entry))) (r .answer) ⌝ }
+    ensures { λ r. ⌜ RunKeeps (lines (now (text .entry))) (r .answer) (r .volumes) ⌝ }
 {
     let mut flow_limits = [0u32; 64];
     let mut holding_limits = [0u32; 64];

@@ -24,6 +24,10 @@ abbrev pub verdictResult : Verdict → NetworkResult
 verdictResult Passes = record { number = 0; line = 0; item = 0 }
 verdictResult (Refused r) = record { number = r .number; line = r .line; item = r .item }
 
+-- the verdict that a C caller reads off: number 0 passes, any other is a refusal
+abbrev pub verdictOf : NetworkResult → Verdict
+verdictOf r = cond (eqb (r .number) 0) Passes (Refused (refusal (r .number) (r .line) (r .item)))
+
 abbrev pub planResult : PlanAnswer → PlanResult
 planResult (plan-answer.Accepted t) =
     record { number = 0; line = 0; item = 0; admitted = t .admitted; «let_out» = t .«let_out»; inside = t .inside; «doubled_time» = t .«doubled_time» }
@@ -54,3 +58,8 @@ cellsResult (cells-answer.Ran cells flowIn flowOut) volumes =
     record { number = 0; line = 0; item = 0; cells = cells; «flow_in» = flowIn; «flow_out» = flowOut; volumes = volumes }
 cellsResult (cells-answer.Refused r) volumes =
     record { number = r .number; line = r .line; item = r .item; cells = 0; «flow_in» = 0; «flow_out» = 0; volumes = volumes }
+
+-- the answer that a C caller reads off: number 0 is a corridor that was run, any other a refusal
+abbrev pub cellsAnswerOf : CellsResult → CellsAnswer
+cellsAnswerOf r =
+    cond (eqb (r .number) 0) (cells-answer.Ran (r .cells) (r .«flow_in») (r .«flow_out»)) (cells-answer.Refused (refusal (r .number) (r .line) (r .item)))

@@ -7,11 +7,12 @@ ghost use Rattle.model.specs.Hold.{planOf, EmptyHolds};
 ghost use Rattle.model.specs.Calls.{checkNetwork, checkPlan, ledgerAfter, linkState};
 ghost use Rattle.model.specs.Guarantees.{Promises};
 ghost use Rattle.traces.specs.Call.{stepVehicles, placesAfter};
-ghost use Rattle.cells.specs.Call.{runCells, finalVolumes};
+ghost use Rattle.traces.specs.Guarantees.{StepKeeps};
+ghost use Rattle.cells.specs.Call.{runCells, finalVolumes, RunKeeps};
 ghost use Rattle.listing_lines.specs.Entry.{entries};
 ghost use Rattle.listing.specs.Listing.{planFromListing};
 ghost use Rattle.listing.specs.ReadsBack.{PlanGot};
-ghost use Rattle.plan_check_c.specs.Results.{verdictResult, planResult, planAnswerOf, linkResult, textResult, listingAnswerOf, cellsResult};
+ghost use Rattle.plan_check_c.specs.Results.{verdictResult, verdictOf, planResult, planAnswerOf, linkResult, textResult, listingAnswerOf, cellsResult, cellsAnswerOf};
 use cells::CellsAnswer;
 use listing::ListingAnswer;
 use model::LinkAnswer;
@@ -189,6 +190,7 @@ pub extern "C" fn plancheck_step_vehicles(
 ) -> NetworkResult
     ensures { λ r. ⌜ r ≡ verdictResult (stepVehicles (now (places .entry)) (now (advances .entry)) (now («red_lines» .entry)) spacing) ⌝ }
     ensures { λ _. ⌜ now (places .exit) ≡ placesAfter (now (places .entry)) (now (advances .entry)) (now («red_lines» .entry)) spacing ⌝ }
+    ensures { λ r. ⌜ StepKeeps (now (places .entry)) (now (advances .entry)) (now («red_lines» .entry)) spacing (verdictOf r) (now (places .exit)) ⌝ }
 {
     verdict_result(traces::step_vehicles(places, advances, red_lines, spacing))
 }
@@ -196,6 +198,7 @@ pub extern "C" fn plancheck_step_vehicles(
 #[no_mangle]
 pub extern "C" fn plancheck_run_cells(corridor: &[u8]) -> CellsResult
     ensures { λ r. ⌜ r ≡ cellsResult (runCells (lines (now (corridor .entry)))) (finalVolumes (lines (now (corridor .entry)))) ⌝ }
+    ensures { λ r. ⌜ RunKeeps (lines (now (corridor .entry))) (cellsAnswerOf r) (r .volumes) ⌝ }
 {
     let run = cells::run_cells(corridor);
     let answer = run.answer;

@@ -1,5 +1,5 @@
 -- What a call gives, one law for each way through it. Assumes nothing.
-use mathlib.Core.Path.{_≡_, _∙_, sym}
+use mathlib.Core.Path.{_≡_, refl, _∙_, sym}
 use mathlib.Core.Bool.{Bool, true, false, not, _&&_}
 use mathlib.Core.List.{List}
 use native.Mathlib.Omega.{arith}
@@ -7,7 +7,8 @@ use borrow.Author.Tests.{not-true, not-false, eqb-true}
 use lib.Dec.{leb}
 use lib.ListN.{length}
 use lib.Ieee.{Float}
-use Prim.Native.Nat.{ℕ}
+use Prim.Native.Nat.{ℕ, _≤_}
+use Rattle.search.specs.declared.Refusal.{Refusal}
 use Rattle.search.specs.declared.Verdict.{Verdict}
 use Rattle.search.specs.declared.Verdict.the-variants.{Passes, Refused}
 use Rattle.search.specs.Checks.{refusal, verdict, checked, orElse}
@@ -35,14 +36,20 @@ module _ (places advances lines : List Float) (spacing : Float) where
       × ((after ≡ placesAfter places advances lines spacing) × StepKeeps places advances lines spacing answer after)
   promised answer after d = (d .is-answer, (d .are-places, d .kept))
 
-  no-step : {X : Type 0} (answer : Verdict) (number : ℕ) → answer ≡ Refused (refusal number 0 0) → answer ≡ Passes → X
-  no-step answer number e s = let z : _≡_ {A = ℕ} 0 1 = cc in absurd (omega arith)
+  -- a refused step: no vehicle has moved
+  refused-keeps : (answer : Verdict) (number : ℕ) → 1 ≤ number → answer ≡ Refused (refusal number 0 0) → StepKeeps places advances lines spacing answer places
+  refused-keeps answer number l e =
+      record {
+        stepped = λ s. let z : _≡_ {A = ℕ} 0 1 = cc in absurd (omega arith);
+        unchanged = λ r f. refl;
+        refused-number = λ r f. let q : number ≡ r .number = cc in omega arith;
+      }
 
   pub counts-refused : (v : Bool) (answer : Verdict) → v ≡ validCounts places advances lines → not v ≡ true → answer ≡ Refused (refusal 39 0 0) → Done places advances lines spacing answer places
   unfolding stepVehicles placesAfter placesBy stepChecks verdict checked orElse
   counts-refused v answer p n e =
       let c = sym p ∙ not-true v n in
-      record { is-answer = e ∙ rw c; are-places = rw c; kept = record { stepped = no-step answer 39 e } }
+      record { is-answer = e ∙ rw c; are-places = rw c; kept = refused-keeps answer 39 (omega arith) e }
 
   module _ (u : Bool) (p : u ≡ validCounts places advances lines) (n : not u ≡ false) where
     pub values-refused : (v : Bool) (answer : Verdict) → v ≡ validValues places advances lines spacing → not v ≡ true → answer ≡ Refused (refusal 38 0 0) → Done places advances lines spacing answer places
@@ -50,7 +57,7 @@ module _ (places advances lines : List Float) (spacing : Float) where
     values-refused v answer q m e =
         let c = sym p ∙ not-false u n in
         let d = sym q ∙ not-true v m in
-        record { is-answer = e ∙ rw (c, d); are-places = rw (c, d); kept = record { stepped = no-step answer 38 e } }
+        record { is-answer = e ∙ rw (c, d); are-places = rw (c, d); kept = refused-keeps answer 38 (omega arith) e }
 
     pub all-stepped : (v : Bool) (after : List Float) → v ≡ validValues places advances lines spacing → not v ≡ false
         → after ≡ list (length places) (placeAfter places advances lines spacing) → Done places advances lines spacing Passes after
@@ -61,5 +68,13 @@ module _ (places advances lines : List Float) (spacing : Float) where
         record {
           is-answer = rw (c, d);
           are-places = e ∙ rw (c, d);
-          kept = record { stepped = λ _. rw e (keeps places advances lines spacing (valid-of places advances lines spacing c d)) };
+          kept =
+              record {
+                stepped = λ _. rw e (keeps places advances lines spacing (valid-of places advances lines spacing c d));
+                unchanged = λ r f. none f;
+                refused-number = λ r f. none f;
+              };
         }
+      where
+        none : {X : Type 0} {r : Refusal} → Passes ≡ Refused r → X
+        none f = let z : _≡_ {A = ℕ} 0 1 = cc in absurd (omega arith)
