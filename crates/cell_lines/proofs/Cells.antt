@@ -2,16 +2,17 @@
 use Prim.Native.Nat.{ℕ, suc, _+_, _≤_, _<_}
 use mathlib.Core.Path.{_≡_, refl, sym, ap, _∙_}
 use mathlib.Core.Bool.{Bool, true, false, cond, _&&_}
-use mathlib.Core.Logic.{inl, inr}
 use mathlib.Core.List.{List, [], _∷_}
-use native.Mathlib.Nat.{eq-or-lt-of-le, le-of-suc-le-suc, add-zero}
+use native.Mathlib.Nat.{add-zero}
 use native.Mathlib.Numerals.{add-one}
 use native.Mathlib.Decide.{decLt}
 use native.Mathlib.Omega.{arith}
+use borrow.Author.Count.{below-none, below-more}
 use borrow.Author.Tests.{lt-ltb, le-ltb, eqb-true}
 use lib.Dec.{eqb}
 use lib.ListN.{length, getD, set, drop, length-set, List·getD-eq-default}
 use lib.Seq.{getD-drop, drop-cons}
+use Rattle.search.specs.declared.Verdict.{Verdict}
 use Rattle.search.specs.declared.Verdict.the-variants.{Passes, Refused}
 use Rattle.search.specs.Checks.{refusal, verdict, checked, orElse}
 use Rattle.search.proofs.Laws.{first-stop, first-passes}
@@ -20,6 +21,7 @@ use Rattle.records.specs.Lines.{Line, lines, noLine, isRecord, number}
 use Rattle.records.specs.Reading.{lineAt, nextLine, recordAt, Starts}
 use Rattle.records.proofs.Laws.{starts-first, starts-line, starts-plus}
 use Rattle.lists.specs.Indexed.{filled}
+use Rattle.lists.proofs.Tests.{zero-one}
 use Rattle.lists.proofs.Laws.{filled-none, filled-more}
 use Rattle.cell_lines.specs.declared.CellRead.{CellRead}
 use Rattle.cell_lines.specs.declared.CellRead.the-variants as cell
@@ -49,26 +51,19 @@ count-none [] e = refl
 count-none (line ∷ text) e = rw e
 
 -- ---- what a `C` line says, and its checks
-module _ (text : List Line) (i next : ℕ) (few : i < 64) where
-  line-refused : (x : ℕ) → cell.Refused x ≡ cellOf (getD text i noLine) next → verdict (cellChecks text i) ≡ Refused (refusal x (suc i) 0)
-  unfolding cellOf cellChecks verdict checked orElse
-  line-refused x e = rw (lt-ltb i 64 few) (go (cellForm (getD text i noLine)) (startHeld (getD text i noLine)) e)
-    where
-      go : (form held : Bool) → cell.Refused x ≡ cond form (cond held (cell.Passed next) (cell.Refused 37)) (cell.Refused 36)
-          → orElse (checked form 36 (suc i) 0) (checked held 37 (suc i) 0) ≡ Refused (refusal x (suc i) 0)
-      go false held e = cc
-      go true false e = cc
-      go true true e = cc
+abbrev verdictOf : ℕ → CellRead → Verdict
+verdictOf line (cell.Passed next) = Passes
+verdictOf line (cell.Refused number) = Refused (refusal number line 0)
 
-  line-passes : (at : ℕ) → cell.Passed at ≡ cellOf (getD text i noLine) next → verdict (cellChecks text i) ≡ Passes
-  unfolding cellOf cellChecks verdict checked orElse
-  line-passes at e = rw (lt-ltb i 64 few) (go (cellForm (getD text i noLine)) (startHeld (getD text i noLine)) e)
-    where
-      go : (form held : Bool) → cell.Passed at ≡ cond form (cond held (cell.Passed next) (cell.Refused 37)) (cell.Refused 36)
-          → orElse (checked form 36 (suc i) 0) (checked held 37 (suc i) 0) ≡ Passes
-      go false held e = cc
-      go true false e = cc
-      go true true e = refl
+line-verdict : (text : List Line) (i next : ℕ) → i < 64 → verdict (cellChecks text i) ≡ verdictOf (suc i) (cellOf (getD text i noLine) next)
+unfolding cellOf cellChecks verdict checked orElse
+line-verdict text i next few = rw (lt-ltb i 64 few) (go (cellForm (getD text i noLine)) (startHeld (getD text i noLine)))
+  where
+    go : (form held : Bool) → orElse (checked form 36 (suc i) 0) (checked held 37 (suc i) 0)
+        ≡ verdictOf (suc i) (cond form (cond held (cell.Passed next) (cell.Refused 37)) (cell.Refused 36))
+    go false held = refl
+    go true false = refl
+    go true true = refl
 
 passed-record : (text : List ℕ) (at next : ℕ) → cell.Passed next ≡ cellOf (lineAt text at) (nextLine text at) → recordAt letterC 4 text at ≡ Next next
 unfolding cellOf cellForm recordAt
@@ -100,7 +95,7 @@ module _ (text flows₀ holdings₀ ratios₀ volumes₀ : List ℕ) (sizes : Ce
         sizes = sizes;
         begins = starts-first text;
         counted = omega arith;
-        passed = λ k h. absurd (omega arith);
+        passed = below-none _;
         held =
             record {
               flows-held = filled-none _ flows₀;
@@ -142,25 +137,22 @@ module _ (text flows₀ holdings₀ ratios₀ volumes₀ : List ℕ) (sizes : Ce
       stopped x y v =
           record {
             told = sym (first-stop (λ i. verdict (cellChecks (lines text) i)) (cellCount (lines text)) n (refusal x y 0) (g .passed) (omega (arith, more)) v);
-            counted = λ a b p. none p;
-            few = λ a b p. none p;
-            begins = λ a b p. none p;
-            held = λ a b p. none p;
+            counted = λ a b p. zero-one (cc);
+            few = λ a b p. zero-one (cc);
+            begins = λ a b p. zero-one (cc);
+            held = λ a b p. zero-one (cc);
           }
-        where
-          none : {A : Type 0} {a b : ℕ} → cells.Stopped x y ≡ cells.Passed a b → A
-          none p = let z : _≡_ {A = ℕ} 0 1 = cc in absurd (omega arith)
 
       pub cells-too-many : 64 ≤ n → CellsGot text (cells.Stopped 36 (n + 1)) flows₀ holdings₀ ratios₀ volumes₀ flows holdings ratios volumes
       unfolding cellChecks verdict checked orElse
       cells-too-many h = rw add-one (stopped 36 (suc n) (rw (le-ltb n 64 h)))
 
       module _ (h : n < 64) (result : CellRead) (new : List ℕ) (got : CellGot text place result new) where
-        told-is : result ≡ cellOf (getD (lines text) n noLine) (nextLine text place)
-        told-is = got .told ∙ ap (λ line. cellOf line (nextLine text place)) line-is
+        checked-as : verdict (cellChecks (lines text) n) ≡ verdictOf (suc n) result
+        checked-as = line-verdict (lines text) n (nextLine text place) h ∙ rw (got .told, line-is)
 
         pub cells-refused : (x : ℕ) → result ≡ cell.Refused x → CellsGot text (cells.Stopped x (n + 1)) flows₀ holdings₀ ratios₀ volumes₀ flows holdings ratios volumes
-        cells-refused x e = rw add-one (stopped x (suc n) (line-refused (lines text) n (nextLine text place) h x (sym e ∙ told-is)))
+        cells-refused x e = rw add-one (stopped x (suc n) (checked-as ∙ rw e))
 
         module _ (next : ℕ) (e : result ≡ cell.Passed next) where
           -- number k of the row goes to place n of a table
@@ -172,7 +164,7 @@ module _ (text flows₀ holdings₀ ratios₀ volumes₀ : List ℕ) (sizes : Ce
 
           pub cells-more : CellsReading text flows₀ holdings₀ ratios₀ volumes₀ (set flows n (getD new 0 0)) (set holdings n (getD new 1 0)) (set ratios n (getD new 2 0)) (set volumes n (getD new 3 0)) new next (n + 1)
           cells-more =
-              let here = line-passes (lines text) n (nextLine text place) h next (sym e ∙ told-is) in
+              let here : verdict (cellChecks (lines text) n) ≡ Passes = checked-as ∙ rw e in
               record {
                 few = omega arith;
                 four = got .four next e;
@@ -185,7 +177,7 @@ module _ (text flows₀ holdings₀ ratios₀ volumes₀ : List ℕ) (sizes : Ce
                     };
                 begins = starts-plus text place n (g .begins) letterC 4 next (passed-record text place next (sym e ∙ got .told));
                 counted = rw (add-one n) more;
-                passed = λ k l. elim (eq-or-lt-of-le (le-of-suc-le-suc (rw (add-one n) at l))) [ inl w ↦ rw w here | inr w ↦ g .passed k w ];
+                passed = below-more _ n (g .passed) here;
                 held =
                     record {
                       flows-held = put 0 flows₀ flows (sizes .flows-64) (omega arith) (g .held .flows-held);

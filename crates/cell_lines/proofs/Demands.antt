@@ -2,11 +2,10 @@
 use Prim.Native.Nat.{ℕ, suc, _+_, _-_, _≤_, _<_}
 use mathlib.Core.Path.{_≡_, sym, ap, _∙_}
 use mathlib.Core.Bool.{Bool, true, false, cond, not, _&&_}
-use mathlib.Core.Logic.{inl, inr, _≢_}
+use mathlib.Core.Logic.{_≢_}
 use mathlib.Core.List.{List}
-use native.Mathlib.Nat.{eq-or-lt-of-le, le-of-suc-le-suc}
-use native.Mathlib.Numerals.{add-one}
 use native.Mathlib.Omega.{arith}
+use borrow.Author.Count.{below-none, below-more}
 use borrow.Author.Tests.{lt-ltb, le-ltb, le-leb, lt-leb, eqb-true, eqb-false, not-true, not-false}
 use lib.Dec.{eqb}
 use lib.ListN.{length, getD, set, length-set}
@@ -18,6 +17,7 @@ use Rattle.records.specs.Lines.{lines, noLine, isRecord, number}
 use Rattle.records.specs.Reading.{lineAt, nextLine, recordAt, atEnd, Starts}
 use Rattle.records.proofs.Laws.{starts-line, starts-end, starts-plus}
 use Rattle.lists.specs.Indexed.{filled}
+use Rattle.lists.proofs.Tests.{zero-one}
 use Rattle.lists.proofs.Laws.{filled-none, filled-more}
 use Rattle.cell_lines.specs.declared.VolumeRead.{VolumeRead}
 use Rattle.cell_lines.specs.declared.VolumeRead.the-variants as volume
@@ -26,6 +26,11 @@ use Rattle.cell_lines.specs.Corridor.{letterD, isVolume, volumeForm, cel
 use Rattle.cell_lines.specs.Reading.{volumeOf, volumeAt, demandsVerdict, demandOf, DemandsAsked, DemandsGot}
 
 -- ---- what a line of one volume says
+pub record VolumeIs (letter : ℕ) (text : List ℕ) (at v next : ℕ) : Type 0 where
+  pub form : volumeForm letter (lineAt text at) ≡ true
+  pub value : v ≡ number (lineAt text at) 0
+  pub is-record : recordAt letter 1 text at ≡ Next next
+
 module _ (letter : ℕ) (text : List ℕ) (at : ℕ) where
   pub volume-refused : volume.Malformed ≡ volumeAt letter text at → volumeForm letter (lineAt text at) ≡ false
   unfolding volumeAt volumeOf
@@ -35,32 +40,17 @@ module _ (letter : ℕ) (text : List ℕ) (at : ℕ) where
       go true e = cc
       go false e = cc
 
-  module _ (v next : ℕ) (e : volume.Passed v next ≡ volumeAt letter text at) where
-    pub volume-form : volumeForm letter (lineAt text at) ≡ true
-    unfolding volumeAt volumeOf
-    volume-form = go (volumeForm letter (lineAt text at)) e
-      where
-        go : (form : Bool) → volume.Passed v next ≡ cond form (volume.Passed (number (lineAt text at) 0) (nextLine text at)) volume.Malformed → form ≡ true
-        go true e = cc
-        go false e = cc
-
-    pub volume-is : v ≡ number (lineAt text at) 0
-    unfolding volumeAt volumeOf
-    volume-is = go (volumeForm letter (lineAt text at)) e
-      where
-        go : (form : Bool) → volume.Passed v next ≡ cond form (volume.Passed (number (lineAt text at) 0) (nextLine text at)) volume.Malformed → v ≡ number (lineAt text at) 0
-        go true e = cc
-        go false e = cc
-
-    pub volume-record : recordAt letter 1 text at ≡ Next next
-    unfolding volumeAt volumeOf volumeForm recordAt
-    volume-record = go (isRecord letter 1 (lineAt text at)) (isVolume (number (lineAt text at) 0)) e
-      where
-        go : (form small : Bool) → volume.Passed v next ≡ cond (form && small) (volume.Passed (number (lineAt text at) 0) (nextLine text at)) volume.Malformed
-            → cond form (Next (nextLine text at)) Malformed ≡ Next next
-        go true true e = cc
-        go true false e = cc
-        go false small e = cc
+  pub volume-read : (v next : ℕ) → volume.Passed v next ≡ volumeAt letter text at → VolumeIs letter text at v next
+  unfolding volumeAt volumeOf volumeForm recordAt
+  volume-read v next e =
+      let p = go (isRecord letter 1 (lineAt text at)) (isVolume (number (lineAt text at) 0)) e in
+      record { form = p .0; value = p .1; is-record = p .2 }
+    where
+      go : (form small : Bool) → volume.Passed v next ≡ cond (form && small) (volume.Passed (number (lineAt text at) 0) (nextLine text at)) volume.Malformed
+          → ((form && small) ≡ true) × (v ≡ number (lineAt text at) 0) × (cond form (Next (nextLine text at)) Malformed ≡ Next next)
+      go true true e = (cc, cc, cc)
+      go true false e = zero-one (cc)
+      go false small e = zero-one (cc)
 
 -- ---- the loop: k lines have passed
 pub record DemandsReading (text : List ℕ) (cells : ℕ) (table₀ table : List ℕ) (place k : ℕ) : Type 0 where
@@ -80,7 +70,7 @@ module _ (text : List ℕ) (cells at : ℕ) (table₀ : List ℕ) (asked : Deman
         size = asked .size;
         begins = rw e at (asked .begins);
         inside = omega (arith, asked .inside);
-        passed = λ j h. absurd (omega arith);
+        passed = below-none _;
         held = filled-none (demandOf (lines text)) table₀;
       }
 
@@ -102,10 +92,7 @@ module _ (text : List ℕ) (cells at : ℕ) (table₀ : List ℕ) (asked : Deman
 
     stopped : (line : ℕ) → verdict (demandChecks (lines text)) ≡ Refused (refusal 36 line 0) → DemandsGot text (demand.Stopped line) table₀ table
     unfolding demandsVerdict
-    stopped line e = record { told = sym e; counted = λ n p. none p; few = λ n p. none p; held = λ n p. none p }
-      where
-        none : {A : Type 0} {n : ℕ} → demand.Stopped line ≡ demand.Passed n → A
-        none p = let z : _≡_ {A = ℕ} 0 1 = cc in absurd (omega arith)
+    stopped line e = record { told = sym e; counted = λ n p. zero-one (cc); few = λ n p. zero-one (cc); held = λ n p. zero-one (cc) }
 
     -- ---- a line is left
     module _ (more : not t ≡ true) where
@@ -137,16 +124,16 @@ module _ (text : List ℕ) (cells at : ℕ) (table₀ : List ℕ) (asked : Deman
         pub demands-more : (v next : ℕ) → read ≡ volume.Passed v next → DemandsReading text cells table₀ (set table k v) next (k + 1)
         unfolding demandCheck verdict checked
         demands-more v next e =
-            let p = sym e ∙ told in
+            let is = volume-read letterD text place v next (sym e ∙ told) in
             let same : cells + 1 + k + 1 ≡ cells + 1 + (k + 1) = omega arith in
-            let here : verdict (demandCheck (lines text) k) ≡ Passes = rw (lt-ltb k 120 h, ← line-is, volume-form letterD text place v next p) in
-            let value : v ≡ demandOf (lines text) k = volume-is letterD text place v next p ∙ ap (λ line. number line 0) line-is in
+            let here : verdict (demandCheck (lines text) k) ≡ Passes = rw (lt-ltb k 120 h, ← line-is, is .form) in
+            let value : v ≡ demandOf (lines text) k = is .value ∙ ap (λ line. number line 0) line-is in
             record {
               few = omega arith;
               size = length-set table k v ∙ g .size;
-              begins = rw same at (starts-plus text place (cells + 1 + k) (g .begins) letterD 1 next (volume-record letterD text place v next p));
+              begins = rw same at (starts-plus text place (cells + 1 + k) (g .begins) letterD 1 next (is .is-record));
               inside = omega (arith, within, count-is);
-              passed = λ j l. elim (eq-or-lt-of-le (le-of-suc-le-suc (rw (add-one k) at l))) [ inl w ↦ rw w here | inr w ↦ g .passed j w ];
+              passed = below-more _ k (g .passed) here;
               held = ap (λ list. set list k v) (g .held) ∙ filled-more (demandOf (lines text)) table₀ k v (omega (arith, asked .size)) value;
             }
 

@@ -12,6 +12,7 @@ use Rattle.records.specs.declared.LineRead.the-variants.{Next, Malformed}
 use Rattle.records.specs.Lines.{Line, isRecord, startsAs, allNumbers, number}
 use Rattle.records.specs.Reading.{lineAt, nextLine, recordAt, leadingAs, Got}
 use Rattle.records.proofs.Laws.{record-read, record-malformed, got-record}
+use Rattle.lists.proofs.Tests.{zero-one}
 use Rattle.cell_lines.specs.declared.CellRead.the-variants as cell
 use Rattle.cell_lines.specs.declared.VolumeRead.the-variants as volume
 use Rattle.cell_lines.specs.Corridor.{letterC, validCell, cellForm, startHeld, volumeForm}
@@ -48,10 +49,7 @@ module _ (letter n : ℕ) (text : List ℕ) (at : ℕ) (row₀ : List ℕ) (size
 module _ (text : List ℕ) (at : ℕ) (row₀ : List ℕ) (four : length row₀ ≡ 4) (read : LineRead) (row : List ℕ)
     (got : Got (recordAt letterC (length row₀) text at) (leadingAs letterC (length row₀) (lineAt text at)) row₀ read row) where
   refused : (number : ℕ) → cell.Refused number ≡ cellOf (lineAt text at) (nextLine text at) → CellGot text at (cell.Refused number) row
-  refused number e = record { told = e; four = λ next q. none q; numbers = λ next q. none q }
-    where
-      none : {A : Type 0} {next : ℕ} → cell.Refused number ≡ cell.Passed next → A
-      none q = let z : _≡_ {A = ℕ} 0 1 = cc in absurd (omega arith)
+  refused number e = record { told = e; four = λ next q. zero-one (cc); numbers = λ next q. zero-one (cc) }
 
   pub cell-malformed : read ≡ Malformed → CellGot text at (cell.Refused 36) row
   unfolding cellOf cellForm

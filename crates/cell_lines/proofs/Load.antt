@@ -15,7 +15,7 @@ use Rattle.records.specs.Lines.{Line, lines, noLine, isRecord, number}
 use Rattle.records.specs.Reading.{lineAt}
 use Rattle.records.proofs.Laws.{record-read, starts-line, starts-plus}
 use Rattle.lists.specs.Indexed.{list, filled}
-use Rattle.lists.proofs.Tests.{and-left, and-right}
+use Rattle.lists.proofs.Tests.{and-left, and-right, zero-one}
 use Rattle.lists.proofs.Laws.{take-filled, drop-filled}
 use Rattle.cell_lines.specs.declared.CellsRead.{CellsRead}
 use Rattle.cell_lines.specs.declared.CellsRead.the-variants as cells
@@ -28,7 +28,7 @@ use Rattle.cell_lines.specs.declared.CorridorRead.the-variants as corrid
 use Rattle.cell_lines.specs.Corridor.{letterX, cellCount, exitCheck, demandChecks, corridorChecks, column, chain, starts, demands}
 use Rattle.cell_lines.specs.Reading.{volumeAt, cellsVerdict, CellsGot, demandsVerdict, demandOf, DemandsAsked, DemandsGot, corridorVerdict, RestAsked, RestHeld, RestGot, CorridorHeld, CorridorGot}
 use Rattle.cell_lines.proofs.Cells.{letter-inside}
-use Rattle.cell_lines.proofs.Demands.{volume-refused, volume-form, volume-is, volume-record}
+use Rattle.cell_lines.proofs.Demands.{VolumeIs, volume-refused, volume-read}
 
 record-letter : (letter n : ℕ) (line : Line) → isRecord letter n line ≡ true → eqb (line .letter) letter ≡ true
 unfolding isRecord
@@ -41,10 +41,7 @@ module _ (text : List ℕ) (cells at : ℕ) (table₀ : List ℕ) (asked : RestA
 
   rest-stopped : (line : ℕ) (table : List ℕ) → verdict (exitCheck (lines text) then demandChecks (lines text)) ≡ Refused (refusal 36 line 0) → RestGot text cells (corridor.Refused 36 line) table₀ table
   unfolding corridorVerdict
-  rest-stopped line table e = record { told = sym e; loaded = λ n exit steps q. none q }
-    where
-      none : {A : Type 0} {n exit steps : ℕ} → corridor.Refused 36 line ≡ corridor.Loaded n exit steps → A
-      none q = let z : _≡_ {A = ℕ} 0 1 = cc in absurd (omega arith)
+  rest-stopped line table e = record { told = sym e; loaded = λ n exit steps q. zero-one (cc) }
 
   line-told : suc (cellCount (lines text)) ≡ cells + 1
   line-told = omega (arith, asked .counted)
@@ -64,21 +61,23 @@ module _ (text : List ℕ) (cells at : ℕ) (table₀ : List ℕ) (asked : RestA
         (or-else-refused _ _ (refusal 36 (cells + 1) 0) (rw (le-leb 1 (cellCount (lines text)) (omega (arith, asked .counted, some)), ← line-is, form, line-told)))
 
     module _ (exit next : ℕ) (e : read ≡ volume.Passed exit next) where
+      is : VolumeIs letterX text at exit next
+      is = volume-read letterX text at exit next (sym e ∙ told)
+
       pub rest-asked : DemandsAsked text next cells table₀
       rest-asked =
-          let read-x = volume-record letterX text at exit next (sym e ∙ told) in
-          let letter = record-letter letterX 1 (lineAt text at) (record-read letterX 1 text at next read-x .is-record) in
+          let letter = record-letter letterX 1 (lineAt text at) (record-read letterX 1 text at next (is .is-record) .is-record) in
           record {
             counted = asked .counted;
             few = asked .few;
-            begins = starts-plus text at cells (asked .begins) letterX 1 next read-x;
+            begins = starts-plus text at cells (asked .begins) letterX 1 next (is .is-record);
             inside = letter-inside (lines text) cells letterX (omega arith) (ap (λ (line : Line). eqb (line .letter) letterX) (sym (starts-line text at cells (asked .begins))) ∙ letter);
             size = asked .size;
           }
 
       exit-passes : verdict (exitCheck (lines text)) ≡ Passes
       unfolding exitCheck verdict checked
-      exit-passes = rw (le-leb 1 (cellCount (lines text)) (omega (arith, asked .counted, some)), ← line-is, volume-form letterX text at exit next (sym e ∙ told))
+      exit-passes = rw (le-leb 1 (cellCount (lines text)) (omega (arith, asked .counted, some)), ← line-is, is .form)
 
       module _ (result : DemandsRead) (table : List ℕ) (got : DemandsGot text result table₀ table) where
         pub rest-refused : (line : ℕ) → result ≡ demand.Stopped line → RestGot text cells (corridor.Refused 36 line) table₀ table
@@ -90,7 +89,7 @@ module _ (text : List ℕ) (cells at : ℕ) (table₀ : List ℕ) (asked : RestA
         rest-loaded steps q =
             let held : RestHeld (lines text) exit steps table₀ table =
             record {
-              exit-is = volume-is letterX text at exit next (sym e ∙ told) ∙ ap (λ line. number line 0) line-is;
+              exit-is = is .value ∙ ap (λ line. number line 0) line-is;
               steps-are = got .counted steps q;
               few = got .few steps q;
               held = got .held steps q;
@@ -113,11 +112,8 @@ module _ (text : List ℕ) (read : CellsRead) (flows₀ holdings₀ ratios₀ vo
   corridor-stopped table x y e =
       record {
         told = sym (or-else-refused _ _ (refusal x y 0) (sym (got .told) ∙ rw e));
-        loaded = λ n exit steps q. none q;
+        loaded = λ n exit steps q. zero-one (cc);
       }
-    where
-      none : {A : Type 0} {n exit steps : ℕ} → corridor.Refused x y ≡ corridor.Loaded n exit steps → A
-      none q = let z : _≡_ {A = ℕ} 0 1 = cc in absurd (omega arith)
 
   module _ (n next : ℕ) (e : read ≡ cells.Passed n next) (table₀ : List ℕ) where
     pub corridor-asked : length table₀ ≡ 120 → RestAsked text next n table₀

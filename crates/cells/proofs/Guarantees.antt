@@ -1,5 +1,5 @@
 -- What a run keeps, by its definitions. Assumes nothing.
-use Prim.Native.Nat.{ℕ, zero, suc, _+_, _≤_, _<_}
+use Prim.Native.Nat.{ℕ, zero, suc, _≤_}
 use mathlib.Core.Path.{_≡_, refl, _∙_}
 use mathlib.Core.Logic.{inl, inr}
 use mathlib.Core.List.{List, [], _∷_, _++_, append-assoc, append-nil}
@@ -12,11 +12,11 @@ use Rattle.search.specs.Checks.{verdict, FirstBroken}
 use Rattle.search.proofs.Laws.{refused-first}
 use Rattle.records.specs.Lines.{Line}
 use Rattle.lists.specs.Indexed.{list}
+use Rattle.lists.proofs.Tests.{zero-one}
 use Rattle.cell_steps.specs.Steps.{volumesAfter, totalIn, totalOut}
 use Rattle.cell_steps.specs.Guarantees.{total}
 use Rattle.cell_steps.proofs.Guarantees.{total-last, keeps, length-all-after}
 use Rattle.cell_lines.specs.Corridor.{cellCount, cellChecks, exitCheck, demandCheck, demandChecks, corridorChecks, chain, starts, demands}
-use Rattle.cells.specs.declared.CellsAnswer.the-variants as answer
 use Rattle.cells.specs.Call.{answerOf, runCells, zeros, padded, volumesOf, finalVolumes, Kept, RunKeeps}
 use Rattle.cells.proofs.Ready.{starts-length, corridor-ready}
 
@@ -63,10 +63,10 @@ module _ (text : List Line) where
                 let b : totalIn (chain text) (demands text) (starts text) ≡ entered = cc in
                 let c : totalOut (chain text) (demands text) (starts text) ≡ left = cc in
                 rw (a, b, c) at (kept e);
-            refused-number = λ r q. let z : _≡_ {A = ℕ} 0 1 = cc in absurd (omega arith);
+            refused-number = λ r q. zero-one (cc);
           }
       go (Refused r) e =
           record {
-            ran = λ cells entered left q. let z : _≡_ {A = ℕ} 0 1 = cc in absurd (omega arith);
+            ran = λ cells entered left q. zero-one (cc);
             refused-number = λ s q. let same : r ≡ s = cc in rw (← same) (broken-number r (refused-first (corridorChecks text) r e));
           }

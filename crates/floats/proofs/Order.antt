@@ -33,30 +33,17 @@ Under (fin s m e) (inf false) = Unit
 Under (fin s m e) (inf true) = ⊥
 Under (fin s m e) (fin t n d) = Signed s (m * up e) (down e) t (n * up d) (down d)
 
--- ---- from and to `le`
-le-or : (a b : ℕ) → (ltb a b || (eqb a b && true)) ≡ true → a ≤ b
-le-or a b h = elim (or-cases (ltb a b) (eqb a b && true) h) [
+-- ---- from and to `le`, where e says whether the two are equal, either way round
+le-or : (a b : ℕ) (e : Bool) → (e ≡ true → a ≡ b) → (ltb a b || (e && true)) ≡ true → a ≤ b
+le-or a b e same h = elim (or-cases (ltb a b) (e && true) h) [
   | inl l ↦ le-of-lt (ltb-true a b l)
-  | inr q ↦ le-of-eq (eqb-true a b (and-left (eqb a b) true q))
+  | inr q ↦ le-of-eq (same (and-left e true q))
 ]
 
-or-le : (a b : ℕ) → a ≤ b → (ltb a b || (eqb a b && true)) ≡ true
-or-le a b h = elim (eq-or-lt-of-le h) [
-  | inl q ↦ or-right (ltb a b) (eqb a b && true) (and-both (eqb a b) true (eq-eqb a b q) refl)
-  | inr l ↦ or-left (ltb a b) (eqb a b && true) (lt-ltb a b l)
-]
-
--- as `or-le`, with the equation the other way round
-or-ge : (a b : ℕ) → b ≤ a → (ltb b a || (eqb a b && true)) ≡ true
-or-ge a b h = elim (eq-or-lt-of-le h) [
-  | inl q ↦ or-right (ltb b a) (eqb a b && true) (and-both (eqb a b) true (eq-eqb a b (sym q)) refl)
-  | inr l ↦ or-left (ltb b a) (eqb a b && true) (lt-ltb b a l)
-]
-
-ge-or : (a b : ℕ) → (ltb b a || (eqb a b && true)) ≡ true → b ≤ a
-ge-or a b h = elim (or-cases (ltb b a) (eqb a b && true) h) [
-  | inl l ↦ le-of-lt (ltb-true b a l)
-  | inr q ↦ le-of-eq (sym (eqb-true a b (and-left (eqb a b) true q)))
+or-le : (a b : ℕ) (e : Bool) → (a ≡ b → e ≡ true) → a ≤ b → (ltb a b || (e && true)) ≡ true
+or-le a b e same h = elim (eq-or-lt-of-le h) [
+  | inl q ↦ or-right (ltb a b) (e && true) (and-both e true (same q) refl)
+  | inr l ↦ or-left (ltb a b) (e && true) (lt-ltb a b l)
 ]
 
 -- a product with a factor above 0 is 0 only where the other is
@@ -65,17 +52,17 @@ none X Q h k = elim (eq-zero-or-pos X) [ inl z ↦ z | inr p ↦ let l : 0 < X *
 
 signed-of : (s : Bool) (X P : ℕ) (t : Bool) (Y Q : ℕ) → 0 < P → 0 < Q
     → (lib.Ieee.below s (X * Q) t (Y * P) || lib.Ieee.level s (X * Q) t (Y * P)) ≡ true → Signed s X P t Y Q
-signed-of false X P false Y Q hp hq h = le-or (X * Q) (Y * P) h
+signed-of false X P false Y Q hp hq h = le-or (X * Q) (Y * P) (eqb (X * Q) (Y * P)) (eqb-true (X * Q) (Y * P)) h
 signed-of false X P true Y Q hp hq h =
     let a : X * Q ≡ Y * P = eqb-true (X * Q) (Y * P) (and-left (eqb (X * Q) (Y * P)) (eqb (X * Q) 0) h) in
     let b : X * Q ≡ 0 = eqb-true (X * Q) 0 (and-right (eqb (X * Q) (Y * P)) (eqb (X * Q) 0) h) in
     (none X Q hq (omega arith), none Y P hp (omega arith))
 signed-of true X P false Y Q hp hq h = tt
-signed-of true X P true Y Q hp hq h = ge-or (X * Q) (Y * P) h
+signed-of true X P true Y Q hp hq h = le-or (Y * P) (X * Q) (eqb (X * Q) (Y * P)) (λ e. sym (eqb-true (X * Q) (Y * P) e)) h
 
 of-signed : (s : Bool) (X P : ℕ) (t : Bool) (Y Q : ℕ) → Signed s X P t Y Q
     → (lib.Ieee.below s (X * Q) t (Y * P) || lib.Ieee.level s (X * Q) t (Y * P)) ≡ true
-of-signed false X P false Y Q h = or-le (X * Q) (Y * P) h
+of-signed false X P false Y Q h = or-le (X * Q) (Y * P) (eqb (X * Q) (Y * P)) (eq-eqb (X * Q) (Y * P)) h
 of-signed false X P true Y Q h =
     let a : X * Q ≡ 0 = ap (λ z. z * Q) (h .0) ∙ zero-mul Q in
     let b : Y * P ≡ 0 = ap (λ z. z * P) (h .1) ∙ zero-mul P in
@@ -85,7 +72,7 @@ of-signed true X P false Y Q h = go (X * Q) (Y * P) (eq-zero-or-pos (X * Q + Y *
     go : (a b : ℕ) → ((a + b ≡ 0) ⊎ (0 < a + b)) → (ltb 0 (a + b) || (eqb a b && eqb a 0)) ≡ true
     go a b (inl z) = or-right (ltb 0 (a + b)) (eqb a b && eqb a 0) (and-both (eqb a b) (eqb a 0) (eq-eqb a b (omega arith)) (eq-eqb a 0 (omega arith)))
     go a b (inr p) = or-left (ltb 0 (a + b)) (eqb a b && eqb a 0) (lt-ltb 0 (a + b) p)
-of-signed true X P true Y Q h = or-ge (X * Q) (Y * P) h
+of-signed true X P true Y Q h = or-le (Y * P) (X * Q) (eqb (X * Q) (Y * P)) (λ e. eq-eqb (X * Q) (Y * P) (sym e)) h
 
 pub under : (x y : Float) → le x y ≡ true → Under x y
 unfolding le

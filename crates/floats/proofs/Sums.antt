@@ -20,33 +20,41 @@ finite-real nan h = no-truth h
 finite-real (inf s) h = refl
 finite-real (fin s m e) h = refl
 
-odd-real : (d : ℕ) (s : Bool) (q k l : ℕ) → isNan (odd d s q k l) ≡ false
-unfolding isNan odd
-odd-real d s zero k l = refl
-odd-real d s (suc q) k l = refl
+-- what holds of both arms of a test
+cond-has : (P : Float → Type 0) (b : Bool) (x y : Float) → P x → P y → P (cond b x y)
+cond-has P true x y p q = p
+cond-has P false x y p q = q
 
-cond-real : (b : Bool) (x y : Float) → isNan x ≡ false → isNan y ≡ false → isNan (cond b x y) ≡ false
-cond-real true x y p q = p
-cond-real false x y p q = q
+-- a sum is one of three fractions, rounded
+sum-has : (P : Float → Type 0) (f : Format) (s : Bool) (a : ℕ) (t : Bool) (b c : ℕ)
+    → P (round f s (a + b) c) → P (round f t (b - a) c) → P (round f (s && ltb b a) (a - b) c) → P (sum f s a t b c)
+unfolding sum
+sum-has P f s a t b c p q r = cond-has P (Bool·beq s t) (round f s (a + b) c) _ p (cond-has P (ltb a b) (round f t (b - a) c) _ q r)
 
-inf-real : (s : Bool) → isNan (inf s) ≡ false
+odd-finite : (d : ℕ) (s : Bool) (q k l : ℕ) → finite (odd d s q k l) ≡ true
+unfolding odd
+odd-finite d s zero k l = refl
+odd-finite d s (suc q) k l = refl
+
+-- no NaN
+abbrev Real : Float → Type 0
+Real x = isNan x ≡ false
+
+inf-real : (s : Bool) → Real (inf s)
 unfolding isNan
 inf-real s = refl
 
-units-real : (f : Format) (s : Bool) (q k : ℕ) → isNan (units f s q k) ≡ false
+units-real : (f : Format) (s : Bool) (q k : ℕ) → Real (units f s q k)
 unfolding units
 units-real f s q k =
-    cond-real (ltb (q * 2 ^ k) (2 ^ (low f + suc (emax f)))) (odd (suc (prec f)) s q k (low f)) (inf s) (odd-real (suc (prec f)) s q k (low f)) (inf-real s)
+    cond-has Real (ltb (q * 2 ^ k) (2 ^ (low f + suc (emax f)))) (odd (suc (prec f)) s q k (low f)) (inf s) (finite-real _ (odd-finite (suc (prec f)) s q k (low f))) (inf-real s)
 
-round-real : (f : Format) (s : Bool) (n c : ℕ) → isNan (round f s n c) ≡ false
+round-real : (f : Format) (s : Bool) (n c : ℕ) → Real (round f s n c)
 unfolding round
 round-real f s n c = units-real f s _ _
 
-sum-real : (f : Format) (s : Bool) (a : ℕ) (t : Bool) (b c : ℕ) → isNan (sum f s a t b c) ≡ false
-unfolding sum
-sum-real f s a t b c =
-    cond-real (Bool·beq s t) (round f s (a + b) c) _ (round-real f s (a + b) c)
-    (cond-real (ltb a b) (round f t (b - a) c) _ (round-real f t (b - a) c) (round-real f (s && ltb b a) (a - b) c))
+sum-real : (f : Format) (s : Bool) (a : ℕ) (t : Bool) (b c : ℕ) → Real (sum f s a t b c)
+sum-real f s a t b c = sum-has Real f s a t b c (round-real f s (a + b) c) (round-real f t (b - a) c) (round-real f (s && ltb b a) (a - b) c)
 
 pub add-real : (f : Format) (x y : Float) → finite x ≡ true → finite y ≡ true → isNan (add f x y) ≡ false
 unfolding add
@@ -81,11 +89,6 @@ between x y z p q g h = go x y z p q (under x y g) (under y z h)
     go (fin s m e) (fin t n d) z p q g h = refl
 
 -- ---- a fraction within a bound rounds to a finite value
-odd-finite : (d : ℕ) (s : Bool) (q k l : ℕ) → finite (odd d s q k l) ≡ true
-unfolding odd
-odd-finite d s zero k l = refl
-odd-finite d s (suc q) k l = refl
-
 units-sign : (f : Format) (s : Bool) (q k : ℕ) → finite (units f s q k) ≡ finite (units f false q k)
 unfolding units
 units-sign f s q k = go (ltb (q * 2 ^ k) (2 ^ (low f + suc (emax f))))
@@ -101,10 +104,6 @@ round-sign f s n c = units-sign f s _ _
 zero-finite : finite (round binary64 false 0 1) ≡ true
 unfolding round
 zero-finite = refl
-
-cond-finite : (b : Bool) (x y : Float) → finite x ≡ true → finite y ≡ true → finite (cond b x y) ≡ true
-cond-finite true x y p q = p
-cond-finite false x y p q = q
 
 -- a value whose size is at most a bound
 abbrev pub Within : ℕ → Float → Type 0
@@ -126,11 +125,9 @@ module _ (bound : ℕ) (top : finite (round binary64 false (2 * bound) 1) ≡ tr
       (is-true (le (round binary64 false n c) (round binary64 false (2 * bound) 1)) (round-mono binary64 n c (2 * bound) 1 h (omega arith) (omega arith)))
 
   sum-finite : (s : Bool) (a : ℕ) (t : Bool) (b c : ℕ) → 0 < c → a ≤ bound * c → b ≤ bound * c → finite (sum binary64 s a t b c) ≡ true
-  unfolding sum
   sum-finite s a t b c h p q =
       let twice : 2 * bound * c ≡ bound * c + bound * c = mul-assoc 2 bound c ∙ omega arith in
-      cond-finite (Bool·beq s t) (round binary64 s (a + b) c) _ (round-finite s (a + b) c h (omega arith))
-      (cond-finite (ltb a b) (round binary64 t (b - a) c) _ (round-finite t (b - a) c h (omega arith)) (round-finite (s && ltb b a) (a - b) c h (omega arith)))
+      sum-has (λ x. finite x ≡ true) binary64 s a t b c (round-finite s (a + b) c h (omega arith)) (round-finite t (b - a) c h (omega arith)) (round-finite (s && ltb b a) (a - b) c h (omega arith))
 
   scale : (X P Q : ℕ) → X ≤ bound * P → X * Q ≤ bound * (P * Q)
   scale X P Q h = let m : X * Q ≤ bound * P * Q = mul-le-mul-right Q h in omega (arith, mul-assoc bound P Q)

@@ -29,5 +29,9 @@ pub and-both : (a b : Bool) → a ≡ true → b ≡ true → (a && b) ≡ true
 and-both true b g h = h
 and-both false b g h = g
 
+-- what `cc` shows of two constructors that are said to be equal
+pub zero-one : {X : Type 0} → _≡_ {A = ℕ} 0 1 → X
+zero-one z = absurd (omega arith)
+
 pub no-truth : {X : Type 0} → false ≡ true → X
-no-truth h = let z : _≡_ {A = ℕ} 0 1 = cc in absurd (omega arith)
+no-truth h = zero-one (cc)

@@ -8,12 +8,11 @@ use lib.Dec.{leb}
 use lib.ListN.{length}
 use lib.Ieee.{Float}
 use Prim.Native.Nat.{ℕ, _≤_}
-use Rattle.search.specs.declared.Refusal.{Refusal}
 use Rattle.search.specs.declared.Verdict.{Verdict}
 use Rattle.search.specs.declared.Verdict.the-variants.{Passes, Refused}
 use Rattle.search.specs.Checks.{refusal, verdict, checked, orElse}
 use Rattle.lists.specs.Indexed.{list}
-use Rattle.lists.proofs.Tests.{and-right}
+use Rattle.lists.proofs.Tests.{and-right, zero-one}
 use Rattle.traces.specs.Step.{placeAfter}
 use Rattle.traces.specs.Call.{validCounts, validValues, stepChecks, stepVehicles, placesBy, placesAfter}
 use Rattle.traces.specs.Guarantees.{StepKeeps}
@@ -40,7 +39,7 @@ module _ (places advances lines : List Float) (spacing : Float) where
   refused-keeps : (answer : Verdict) (number : ℕ) → 1 ≤ number → answer ≡ Refused (refusal number 0 0) → StepKeeps places advances lines spacing answer places
   refused-keeps answer number l e =
       record {
-        stepped = λ s. let z : _≡_ {A = ℕ} 0 1 = cc in absurd (omega arith);
+        stepped = λ s. zero-one (cc);
         unchanged = λ r f. refl;
         refused-number = λ r f. let q : number ≡ r .number = cc in omega arith;
       }
@@ -71,10 +70,7 @@ module _ (places advances lines : List Float) (spacing : Float) where
           kept =
               record {
                 stepped = λ _. rw e (keeps places advances lines spacing (valid-of places advances lines spacing c d));
-                unchanged = λ r f. none f;
-                refused-number = λ r f. none f;
+                unchanged = λ r f. zero-one (cc);
+                refused-number = λ r f. zero-one (cc);
               };
         }
-      where
-        none : {X : Type 0} {r : Refusal} → Passes ≡ Refused r → X
-        none f = let z : _≡_ {A = ℕ} 0 1 = cc in absurd (omega arith)
