@@ -1,5 +1,5 @@
 -- Texts of corridors, judged and run by computation. Assumes nothing.
-use Prim.Native.Nat.{ℕ}
+use Prim.Native.Nat.{ℕ, zero, suc}
 use Prim.Native.Char.{code}
 use Prim.Native.String.{String, _++_}
 use mathlib.Core.Path.{_≡_, refl}
@@ -38,12 +38,31 @@ left text = volumesOf (verdict (corridorChecks (lines (bytes text)))) (lines (by
 abbrev cell : String
 cell = "C\t10\t100\t500\t20\n"
 
+-- a text n times
+abbrev times : ℕ → String → String
+times zero text = ""
+times (suc n) text = text ++ times n text
+
+-- the smallest cell and step: nothing flows
+abbrev still : String
+still = "C\t0\t0\t1\t0\n"
+
+abbrev idle : String
+idle = "D\t0\n"
+
 abbrev cases : List Case
 cases =
     -- two cells: of 7 and 100 flow in 7 and 10, nothing and then 5 flow out, and the first step's inflow does not flow on in it
     record { text = cell ++ "C\t8\t50\t1000\t0\nX\t5\nD\t7\nD\t100\n"; told = Ran 2 17 5; volumes = 21 ∷ 11 ∷ [] }
     -- one cell is first and last; what does not fit is gone
     ∷ record { text = "C\t9\t10\t1000\t3\nX\t2\nD\t100\nD\t0\n"; told = Ran 1 7 4; volumes = 6 ∷ [] }
+    -- totals above 32 bits
+    ∷ record { text = "C\t2000000000\t2000000000\t1000\t0\nX\t2000000000\n" ++ times 5 "D\t2000000000\n"; told = Ran 1 6000000000 4000000000; volumes = 2000000000 ∷ [] }
+    -- 64 cells and 120 demands, and one more of each
+    ∷ record { text = times 64 still ++ "X\t0\n" ++ idle; told = Ran 64 0 0; volumes = list 64 (λ i. 0) }
+    ∷ record { text = times 65 still ++ "X\t0\n" ++ idle; told = Refused (refusal 36 65 0); volumes = [] }
+    ∷ record { text = still ++ "X\t0\n" ++ times 120 idle; told = Ran 1 0 0; volumes = 0 ∷ [] }
+    ∷ record { text = still ++ "X\t0\n" ++ times 121 idle; told = Refused (refusal 36 123 0); volumes = [] }
     -- the room × 1/3 is rounded down
     ∷ record { text = "C\t9\t10\t333\t0\nX\t0\nD\t100\n"; told = Ran 1 3 0; volumes = 3 ∷ [] }
     -- a start at its holding limit, and limits of 0
@@ -60,6 +79,7 @@ cases =
     ∷ record { text = "C\t10\t100\t500\t101\nC\t10\nX\t5\nD\t7\n"; told = Refused (refusal 37 1 0); volumes = [] }
     ∷ record { text = "C\t10\t100\t1001\t20\nX\t5\nD\t7\n"; told = Refused (refusal 36 1 0); volumes = [] }
     ∷ record { text = "C\t10\t2000000001\t500\t20\nX\t5\nD\t7\n"; told = Refused (refusal 36 1 0); volumes = [] }
+    ∷ record { text = "C\t10\t100\t500\t2000000001\nX\t5\nD\t7\n"; told = Refused (refusal 36 1 0); volumes = [] }
     ∷ record { text = cell; told = Refused (refusal 36 2 0); volumes = [] }
     ∷ record { text = cell ++ "D\t7\n"; told = Refused (refusal 36 2 0); volumes = [] }
     ∷ record { text = cell ++ "X\t2000000001\nD\t7\n"; told = Refused (refusal 36 2 0); volumes = [] }
