@@ -4,7 +4,10 @@
  * beside call CALL FILE..     makes the call once and prints its answer (run it under callgrind)
  * beside stack CALL FILE..    prints the bytes of stack that the call uses
  *
- * CALL is plan_from_listing, with a network and a listing.
+ * CALL and its files:
+ *     plan_from_listing NETWORK LISTING
+ *     run_cells CORRIDOR
+ *     step_vehicles PLACES ADVANCES RED_LINES      doubles in the machine's order
  */
 #define _XOPEN_SOURCE 700
 #include "painted_stack.h"
@@ -12,9 +15,18 @@
 
 #include <inttypes.h>
 
-static struct text first, second;
+enum { MAX_FILES = 3 };
+
+static const double SPACING = 7.5;
+
+static struct text texts[MAX_FILES];
 static uint8_t plan[PLANCHECK_WRITTEN_PLAN_MAX];
+static double places[PLANCHECK_MAX_VEHICLES];
+static double advances[PLANCHECK_MAX_VEHICLES];
+static double red_lines[PLANCHECK_MAX_RED_LINES];
 static plancheck_text_result written;
+static plancheck_cells_result ran;
+static plancheck_network_result stepped;
 
 static void nothing(void)
 {
@@ -22,8 +34,41 @@ static void nothing(void)
 
 static void plan_from_listing(void)
 {
-    written = plancheck_plan_from_listing(first.bytes, first.length, second.bytes, second.length, plan, sizeof plan);
+    written = plancheck_plan_from_listing(texts[0].bytes, texts[0].length, texts[1].bytes, texts[1].length, plan,
+                                          sizeof plan);
 }
+
+static void run_cells(void)
+{
+    ran = plancheck_run_cells(texts[0].bytes, texts[0].length);
+}
+
+/* The numbers of a file; as many as there is room for. */
+static size_t doubles_of(const struct text *text, double *values, size_t size)
+{
+    size_t length = text->length < size ? text->length : size;
+    memcpy(values, text->bytes, length);
+    return length / sizeof *values;
+}
+
+static void step_vehicles(void)
+{
+    size_t vehicles = doubles_of(&texts[0], places, sizeof places);
+    size_t advancing = doubles_of(&texts[1], advances, sizeof advances);
+    size_t lines = doubles_of(&texts[2], red_lines, sizeof red_lines);
+    stepped = plancheck_step_vehicles(places, vehicles, advances, advancing, red_lines, lines, SPACING);
+}
+
+static const struct measured {
+    const char *name;
+    int files;
+    void (*call)(void);
+    const uint32_t *number, *line, *item;
+} CALLS[] = {
+    {"plan_from_listing", 2, plan_from_listing, &written.number, &written.line, &written.item},
+    {"run_cells", 1, run_cells, &ran.number, &ran.line, &ran.item},
+    {"step_vehicles", 3, step_vehicles, &stepped.number, &stepped.line, &stepped.item},
+};
 
 /* Bytes below the caller's stack pointer, the return address included: what the call takes beyond a function that does
    nothing. */
@@ -33,17 +78,25 @@ static size_t stack_of(void (*call)(void))
     return painted_stack_used(call) - painted_stack_used(nothing);
 }
 
+static const struct measured *measured_of(int count, char **arguments)
+{
+    for (size_t i = 0; i < sizeof CALLS / sizeof *CALLS; i++)
+        if (count == 3 + CALLS[i].files && strcmp(arguments[2], CALLS[i].name) == 0)
+            return &CALLS[i];
+    fail("usage: beside call|stack CALL FILE..");
+    return NULL;
+}
+
 int main(int count, char **arguments)
 {
-    if (count != 5 || strcmp(arguments[2], "plan_from_listing") != 0)
-        fail("usage: beside call|stack plan_from_listing NETWORK LISTING");
-    read_file(arguments[3], &first);
-    read_file(arguments[4], &second);
+    const struct measured *measured = measured_of(count, arguments);
+    for (int i = 0; i < measured->files; i++)
+        read_file(arguments[3 + i], &texts[i]);
     if (strcmp(arguments[1], "stack") == 0) {
-        printf("%zu\n", stack_of(plan_from_listing));
+        printf("%zu\n", stack_of(measured->call));
     } else {
-        plan_from_listing();
-        printf("%" PRIu32 " %" PRIu32 " %" PRIu32 "\n", written.number, written.line, written.item);
+        measured->call();
+        printf("%" PRIu32 " %" PRIu32 " %" PRIu32 "\n", *measured->number, *measured->line, *measured->item);
     }
     return 0;
 }

@@ -215,6 +215,19 @@ def make_plan(chance, network):
     return plan
 
 
+def corridor_text(cells, demands):
+    """A corridor in cells with numbers as long as the limits allow; every cell is half full, so that all flow."""
+    cell = record("C", [2000000000, 2000000000, 1000, 1000000000])
+    return cell * cells + record("X", [1000000000]) + record("D", [1000000000]) * demands
+
+
+def street(vehicles, lines):
+    """Places, advances and red lines: a queue of vehicles that all move, and lines that are all ahead of all of them,
+    the furthest first."""
+    places = [-10.0 * i for i in range(vehicles)]
+    return places, [12.5] * vehicles, [1000.0 - j for j in range(lines)]
+
+
 def draw_shares(chance, count):
     """Shares that sum to 1000, each a multiple of 20."""
     unit = 20
