@@ -104,6 +104,11 @@
 extern "C" {
 #endif
 
+/* The version of the calls, of their answers and of the texts (CHANGELOG.md). */
+#define PLANCHECK_VERSION_MAJOR 0
+#define PLANCHECK_VERSION_MINOR 1
+#define PLANCHECK_VERSION_PATCH 0
+
 /* Limits of a network. Links and steps are at least 1; there may be no signals and no movements. */
 #define PLANCHECK_MAX_LINKS 24
 #define PLANCHECK_MAX_SIGNALS 8
