@@ -295,7 +295,7 @@ typedef struct {
 plancheck_network_result plancheck_check_network(const uint8_t *network, size_t network_len);
 
 /*
- * Checks a plan on a network, and fills the ledger. Refusals 1 to 18 and 25 to 27: first those of the network (1 to 6),
+ * Checks a plan on a network, and fills the ledger. Refusals 1 to 6, 8 to 18 and 25 to 27: those of the network (1 to 6),
  * then the ledger's length (8), then the plan line by line: the form of the line (9), then rules 10 to 15, 25 to 27 and
  * 16 to 18 in this order, each over rising items.
  *
