@@ -87,7 +87,7 @@ def record(letter, numbers):
 
 
 def network_text(network):
-    text = record("N", [len(network.links), len(network.signals), len(network.movements), len(network.steps)])
+    text = record("N", [len(network.links), len(network.signals), len(network.movements), len(network.steps), 0])
     for signal in network.signals:
         spans = [time for pair in zip(signal.least, signal.greatest) for time in pair]
         head = [signal.least_cycle, signal.greatest_cycle, len(signal.least)]

@@ -35,8 +35,14 @@ struct movement {
     uint32_t from, to, rate, share;
 };
 
+/* A tram line, as its T line has it: signal, phase, first and last step, all counted from 1. */
+struct tram {
+    uint32_t signal, phase, first, last;
+};
+
 struct network {
-    uint32_t links, signals, movements, steps;
+    uint32_t links, signals, movements, steps, trams;
+    struct tram tram[PLANCHECK_MAX_TRAMS];
     uint32_t shortest_greatest_time; /* of all phases of all signals */
     struct signal signal[PLANCHECK_MAX_SIGNALS];
     struct link link[PLANCHECK_MAX_LINKS];
@@ -159,6 +165,34 @@ static struct refusal read_signal(struct text *text, struct network *network, ui
     return is_valid_signal(signal) ? passed : refuse(3, line, index + 1);
 }
 
+/* A T line, but for its phase. */
+static struct refusal read_tram(struct text *text, struct network *network, uint32_t line, uint32_t index)
+{
+    uint32_t numbers[4];
+    if (!read_line(text, 'T', numbers, 4))
+        return refuse(1, line, 0);
+    struct tram tram = {numbers[0], numbers[1], numbers[2], numbers[3]};
+    bool valid = 1 <= tram.signal && tram.signal <= network->signals && 1 <= tram.first && tram.first <= tram.last &&
+                 tram.last <= network->steps;
+    for (uint32_t k = 0; k < index; k++) {
+        const struct tram *before = &network->tram[k];
+        valid = valid && (before->signal != tram.signal || before->last < tram.first || tram.last < before->first);
+    }
+    network->tram[index] = tram;
+    return valid ? passed : refuse(28, line, 0);
+}
+
+/* The phases of the tram lines, the first of which is line 2, exist. */
+static struct refusal judge_tram_phases(const struct network *network)
+{
+    for (uint32_t k = 0; k < network->trams; k++) {
+        const struct tram *tram = &network->tram[k];
+        if (tram->phase < 1 || tram->phase > network->signal[tram->signal - 1].phases)
+            return refuse(28, 2 + k, 0);
+    }
+    return passed;
+}
+
 static bool is_valid_link(const struct network *network, const struct link *link)
 {
     if (link->capacity > 2000000000 || link->travel_time < 1 || link->travel_time > 3600 || link->exit_rate > 10000 ||
@@ -235,25 +269,35 @@ static struct refusal read_network(struct network *network, const uint8_t *bytes
 {
     struct text text = {bytes, length, 0};
     struct refusal refusal;
-    uint32_t counts[4];
-    if (!read_line(&text, 'N', counts, 4))
+    uint32_t counts[5];
+    if (!read_line(&text, 'N', counts, 5))
         return refuse(1, 1, 0);
     if (counts[0] < 1 || counts[0] > PLANCHECK_MAX_LINKS || counts[1] > PLANCHECK_MAX_SIGNALS ||
-        counts[2] > PLANCHECK_MAX_MOVEMENTS || counts[3] < 1 || counts[3] > PLANCHECK_MAX_STEPS)
+        counts[2] > PLANCHECK_MAX_MOVEMENTS || counts[3] < 1 || counts[3] > PLANCHECK_MAX_STEPS ||
+        counts[4] > PLANCHECK_MAX_TRAMS)
         return refuse(2, 1, 0);
     network->links = counts[0];
     network->signals = counts[1];
     network->movements = counts[2];
     network->steps = counts[3];
+    network->trams = counts[4];
     network->shortest_greatest_time = UINT32_MAX;
     network->time[0] = 0;
 
     uint32_t line = 2;
+    for (uint32_t i = 0; i < network->trams; i++, line++) {
+        refusal = read_tram(&text, network, line, i);
+        if (refusal.number != 0)
+            return refusal;
+    }
     for (uint32_t i = 0; i < network->signals; i++, line++) {
         refusal = read_signal(&text, network, line, i);
         if (refusal.number != 0)
             return refusal;
     }
+    refusal = judge_tram_phases(network);
+    if (refusal.number != 0)
+        return refusal;
     for (uint32_t i = 0; i < network->links; i++, line++) {
         refusal = read_link(&text, network, line, i);
         if (refusal.number != 0)
@@ -294,9 +338,23 @@ static uint32_t phase_of(uint32_t mask, uint32_t phases)
     return phases;
 }
 
-/* Rules 10 to 14, then the signals move on. */
+/* The phase that a tram asks of each signal in a step counted from 1, from 1; 0 where none does. */
+static void find_trams(const struct network *network, uint32_t step, uint32_t *asked)
+{
+    for (uint32_t i = 0; i < network->signals; i++)
+        asked[i] = 0;
+    for (uint32_t k = 0; k < network->trams; k++) {
+        const struct tram *tram = &network->tram[k];
+        if (tram->first <= step && step <= tram->last)
+            asked[tram->signal - 1] = tram->phase;
+    }
+}
+
+/* Rules 10, 29 and 11 to 14, then the signals move on; one that a tram claims stands still. */
 static struct refusal judge_signals(struct network *network, const struct step *step, uint32_t line)
 {
+    uint32_t asked[PLANCHECK_MAX_SIGNALS];
+    find_trams(network, line, asked);
     uint32_t phase[PLANCHECK_MAX_SIGNALS], shown_for[PLANCHECK_MAX_SIGNALS], cycle_clock[PLANCHECK_MAX_SIGNALS];
     for (uint32_t i = 0; i < network->signals; i++) {
         const struct signal *signal = &network->signal[i];
@@ -304,33 +362,38 @@ static struct refusal judge_signals(struct network *network, const struct step *
         if (phase[i] == signal->phases)
             return refuse(10, line, i + 1);
     }
+    for (uint32_t i = 0; i < network->signals; i++)
+        if (asked[i] != 0 && phase[i] + 1 != asked[i])
+            return refuse(29, line, i + 1);
     for (uint32_t i = 0; i < network->signals; i++) {
         const struct signal *signal = &network->signal[i];
         uint32_t next = signal->phase + 1 == signal->phases ? 0 : signal->phase + 1;
-        if (phase[i] != signal->phase && phase[i] != next)
+        if (asked[i] == 0 && phase[i] != signal->phase && phase[i] != next)
             return refuse(11, line, i + 1);
     }
     for (uint32_t i = 0; i < network->signals; i++) {
         const struct signal *signal = &network->signal[i];
-        if (phase[i] != signal->phase && signal->shown_for < signal->least[signal->phase])
+        if (asked[i] == 0 && phase[i] != signal->phase && signal->shown_for < signal->least[signal->phase])
             return refuse(12, line, i + 1);
     }
     for (uint32_t i = 0; i < network->signals; i++) {
         const struct signal *signal = &network->signal[i];
         shown_for[i] = (phase[i] == signal->phase ? signal->shown_for : 0) + step->length;
-        if (shown_for[i] > signal->greatest[phase[i]])
+        if (asked[i] == 0 && shown_for[i] > signal->greatest[phase[i]])
             return refuse(13, line, i + 1);
     }
     for (uint32_t i = 0; i < network->signals; i++) {
         const struct signal *signal = &network->signal[i];
         bool begins_cycle = phase[i] == 0 && signal->phase != 0;
-        if (begins_cycle && signal->cycle_clock < signal->least_cycle)
+        if (asked[i] == 0 && begins_cycle && signal->cycle_clock < signal->least_cycle)
             return refuse(14, line, i + 1);
         cycle_clock[i] = (begins_cycle ? 0 : signal->cycle_clock) + step->length;
-        if (cycle_clock[i] > signal->greatest_cycle)
+        if (asked[i] == 0 && cycle_clock[i] > signal->greatest_cycle)
             return refuse(14, line, i + 1);
     }
     for (uint32_t i = 0; i < network->signals; i++) {
+        if (asked[i] != 0)
+            continue;
         network->signal[i].phase = phase[i];
         network->signal[i].shown_for = shown_for[i];
         network->signal[i].cycle_clock = cycle_clock[i];

@@ -29,8 +29,9 @@
  * zeros may stand within the 10 digits: texts that differ only in them get the same answer. There is no byte after the
  * last line feed, and no terminating zero.
  *
- * The network text, for L links, R signals, M movements and K steps, in this order:
- *     N  L, R, M, K                                                                                       one line
+ * The network text, for L links, R signals, M movements, K steps and T tram lines, in this order:
+ *     N  L, R, M, K, T                                                                                    one line
+ *     T  signal, phase, first step, last step: in these steps a tram claims the signal                    T lines
  *     G  least cycle, greatest cycle, phases P, phase shown before the plan, seconds it has shown,
  *        seconds since phase 1 last began, then least and greatest time of each phase                     R lines
  *     Q  capacity, travel time, exit rate, signal (0: none), phase mask (bit k-1: phase k opens the link),
@@ -90,8 +91,8 @@
  * ERRORS
  * A result has number 0 (PLANCHECK_OK), or the number of the first refusal in the order of judging, with the line and
  * the item that it names, 0 where it names none. Nothing else is reported: when number is not 0, every other member but
- * line and item is 0. Numbers 1 to 6 name a line of the network text, 9 to 18 and 25 to 27 a line of the plan text, 22 and
- * 23 a line of the listing, 36 and 37 a line of the corridor text.
+ * line and item is 0. Numbers 1 to 6 and 28 name a line of the network text, 9 to 18, 25 to 27 and 29 a line of the plan
+ * text, 22 and 23 a line of the listing, 36 and 37 a line of the corridor text.
  * docs/REFUSALS.md says what to do about each.
  */
 #ifndef PLANCHECK_H
@@ -109,11 +110,12 @@ extern "C" {
 #define PLANCHECK_VERSION_MINOR 1
 #define PLANCHECK_VERSION_PATCH 0
 
-/* Limits of a network. Links and steps are at least 1; there may be no signals and no movements. */
+/* Limits of a network. Links and steps are at least 1; there may be no signals, no movements and no tram lines. */
 #define PLANCHECK_MAX_LINKS 24
 #define PLANCHECK_MAX_SIGNALS 8
 #define PLANCHECK_MAX_MOVEMENTS 64
 #define PLANCHECK_MAX_STEPS 120
+#define PLANCHECK_MAX_TRAMS 16
 
 /* Limits of a corridor in cells; both are at least 1. */
 #define PLANCHECK_MAX_CELLS 64
@@ -133,7 +135,7 @@ extern "C" {
  * The library takes texts of any length. No valid network text and no accepted plan text is longer than this, in bytes,
  * every number padded to 10 digits: a longer one may be turned down unread.
  */
-#define PLANCHECK_NETWORK_TEXT_MAX 39814
+#define PLANCHECK_NETWORK_TEXT_MAX 40561
 #define PLANCHECK_PLAN_TEXT_MAX 158640
 
 /* No plan text that plancheck_plan_from_listing writes is longer than this, in bytes. */
@@ -154,6 +156,9 @@ enum plancheck_number {
     PLANCHECK_NETWORK_FORM = 1,
     /* A count of the N line is outside its limits. No item. */
     PLANCHECK_NETWORK_COUNTS = 2,
+    /* A tram line whose signal or steps do not exist or run backwards, or that shares a step with an earlier one of its
+       signal; after the last G line, one whose phase does not exist. Judged after 2, at the T line. No item. */
+    PLANCHECK_TRAM_VALUES = 28,
     /* Phases not 2 to 8; shown phase not 1 to P; a phase or the cycle without 1 <= least <= greatest <= 3600; shown
        seconds above that phase's greatest time; cycle clock above the greatest cycle, below the shown seconds, or
        unequal to them when phase 1 is shown. Item: signal. */
@@ -178,7 +183,10 @@ enum plancheck_number {
     PLANCHECK_PLAN_FORM = 9,
     /* A mask does not have exactly one bit set, or names none of the signal's phases. Item: signal. */
     PLANCHECK_SIGNAL_MASK = 10,
-    /* The phase is neither that of the step before nor the next. Item: signal. */
+    /* A tram claims the signal in this step, and its phase is not shown. Judged after 10 and before 11. Item: signal. */
+    PLANCHECK_TRAM_PHASE = 29,
+    /* The phase is neither that of the step before nor the next. This and the next three are judged in steps that no tram
+       claims, by the signal's steps of that kind alone. Item: signal. */
     PLANCHECK_PHASE_ORDER = 11,
     /* A phase is left before its least time. Item: signal. */
     PLANCHECK_PHASE_TOO_SHORT = 12,
@@ -288,16 +296,16 @@ typedef struct {
 } plancheck_cells_result;
 
 /*
- * Checks a network text. Refusals 1 to 6.
+ * Checks a network text. Refusals 1 to 6 and 28.
  *
  * Reads network[0 .. network_len - 1]. Writes nothing.
  */
 plancheck_network_result plancheck_check_network(const uint8_t *network, size_t network_len);
 
 /*
- * Checks a plan on a network, and fills the ledger. Refusals 1 to 6, 8 to 18 and 25 to 27: those of the network (1 to 6),
- * then the ledger's length (8), then the plan line by line: the form of the line (9), then rules 10 to 15, 25 to 27 and
- * 16 to 18 in this order, each over rising items.
+ * Checks a plan on a network, and fills the ledger. Refusals 1 to 6, 8 to 18 and 25 to 29: those of the network (1 to 6 and
+ * 28), then the ledger's length (8), then the plan line by line: the form of the line (9), then rules 10, 29, 11 to 15,
+ * 25 to 27 and 16 to 18 in this order, each over rising items.
  *
  * A plan text of no bytes means hold: it stands for K lines in which each signal keeps its shown phase and every volume
  * is 0, and gets that plan's answer and ledger.
@@ -305,15 +313,15 @@ plancheck_network_result plancheck_check_network(const uint8_t *network, size_t 
  * Reads both texts. Writes rows of the ledger, as far as the plan passes:
  *     accepted, or refused with 9 for text after the last line     rows 0 to K
  *     refused at line n of the plan, n from 1 to K                 rows 0 to n - 1
- *     refused with 1 to 8                                          none
+ *     refused with 1 to 8 or 28                                    none
  * All other numbers of the ledger keep what they held. What the ledger held before has no influence on the answer.
  */
 plancheck_plan_result plancheck_check_plan(const uint8_t *network, size_t network_len, const uint8_t *plan,
                                            size_t plan_len, uint32_t *ledger, size_t ledger_len);
 
 /*
- * Tells what stands on one link at one boundary, from the ledger of an accepted plan. Refusals 1 to 6 of the network,
- * then 8, 19, 20 and 21. Where the travel time ends inside a step, the elapsed part of what entered in it has arrived,
+ * Tells what stands on one link at one boundary, from the ledger of an accepted plan. Refusals 1 to 6 and 28 of the
+ * network, then 8, 19, 20 and 21. Where the travel time ends inside a step, the elapsed part of what entered in it has arrived,
  * taken evenly; what is queued is rounded down, and the rest is in transit.
  *
  * Reads the network text and the ledger: of the rows, at most those of the boundary and of the step one travel time

@@ -46,6 +46,10 @@ static const struct {
     [PLANCHECK_ABOVE_EXIT_LIMIT] = {"plan", "link", "more is let out than the link's exit rate allows"},
     [PLANCHECK_ABOVE_RATE] = {"plan", "movement", "more is moved than the movement's rate allows"},
     [PLANCHECK_SHUT_LINK] = {"plan", "movement", "the movement leaves a link that its signal shuts"},
+    [PLANCHECK_TRAM_VALUES] = {"network", NULL,
+                               "the tram's signal, phase or steps do not exist, or another tram of the signal has a "
+                               "step of it"},
+    [PLANCHECK_TRAM_PHASE] = {"plan", "signal", "a tram claims the signal, and its phase is not shown"},
 };
 
 static void print_refusal(uint32_t number, uint32_t line, uint32_t item)

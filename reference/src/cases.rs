@@ -16,6 +16,7 @@ mod sheet;
 mod special;
 mod state_calls;
 mod stored;
+mod trams;
 
 pub use damage::damage;
 pub use listings::shuffled_listing;
@@ -408,6 +409,7 @@ pub fn all_families(maker: &mut Maker, scenario: &Scenario) {
     network_values::steps(maker, scenario);
     network_values::counts(maker, scenario);
     network_values::two_breaches(maker, scenario);
+    trams::tram_lines(maker, scenario);
     form::plan_form(maker, scenario);
     hold::empty_plans(maker, scenario);
     plan_breaches::single_breaches(maker, scenario);
@@ -485,7 +487,7 @@ pub fn stored_cases(seed: u64) -> Vec<Case> {
     special::all_demand_at_once(&mut maker);
 
     // Accepted plans of many small and middle sizes, and their limits.
-    for round in 0..80 {
+    for round in 0..64 {
         let size = if round % 8 == 7 {
             draw_middle_size(&mut maker.random)
         } else {
@@ -515,7 +517,7 @@ pub fn stored_cases(seed: u64) -> Vec<Case> {
     }
 
     // Some of everything on small and middle sizes.
-    for round in 0..40 {
+    for round in 0..36 {
         let size = if round % 8 == 7 {
             draw_middle_size(&mut maker.random)
         } else {
@@ -527,7 +529,7 @@ pub fn stored_cases(seed: u64) -> Vec<Case> {
     }
 
     // What the plan itself breaks, on traffic of all kinds.
-    for _ in 0..12 {
+    for _ in 0..15 {
         let size = draw_full_size(&mut maker.random);
         let traffic = maker.random.pick(&[Traffic::Free, Traffic::Full]);
         let scenario = Scenario::make(&mut maker.random, size, traffic);
@@ -568,7 +570,7 @@ fn largest_cases(maker: &mut Maker) {
         let scenario = Scenario::make(&mut maker.random, LARGEST, traffic);
         accepted_cases(maker, &scenario);
         state_calls::states(maker, &scenario, 2);
-        some_families(maker, &scenario, if index == 0 { 12 } else { 6 });
+        some_families(maker, &scenario, if index == 0 { 9 } else { 5 });
     }
     // Large in one way only.
     for size in [

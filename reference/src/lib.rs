@@ -15,7 +15,7 @@ mod state;
 mod text;
 pub mod traces;
 
-pub use network::{Link, Movement, Network, Phase, Signal, Step};
+pub use network::{Link, Movement, Network, Phase, Signal, Step, Tram};
 pub use plan::PlanStep;
 pub use report::{file_refusal, report, NETWORK_FILE_LIMIT, PLAN_FILE_LIMIT};
 
@@ -52,18 +52,18 @@ pub struct State {
     pub in_transit: u64,
 }
 
-/// Refusals 1 to 6.
+/// Refusals 1 to 6 and 28.
 pub fn check_network(network: &[u8]) -> Result<(), Refusal> {
     Network::read(network).map(|_| ())
 }
 
-/// Refusals 1 to 6, 8 to 18 and 25 to 27; row 0 is written once the ledger's
+/// Refusals 1 to 6, 8 to 18 and 25 to 29; row 0 is written once the ledger's
 /// length has passed, row n once step n has.
 pub fn check_plan(network: &[u8], plan: &[u8], ledger: &mut [u32]) -> Result<Totals, Refusal> {
     plan::check(network, plan, ledger)
 }
 
-/// Refusals 1 to 6 and 22 to 24. Writes the plan text of a solver's listing at
+/// Refusals 1 to 6, 22 to 24 and 28. Writes the plan text of a solver's listing at
 /// the start of the buffer and gives its length.
 pub fn plan_from_listing(
     network: &[u8],
@@ -73,7 +73,7 @@ pub fn plan_from_listing(
     listing::write_plan(network, listing, buffer)
 }
 
-/// Refusals 1 to 6, 8 and 19 to 21; nothing is written.
+/// Refusals 1 to 6, 8, 19 to 21 and 28; nothing is written.
 pub fn link_state(
     network: &[u8],
     ledger: &[u32],

@@ -1,4 +1,4 @@
-//! The network text: what it holds and refusals 1 to 6.
+//! The network text: what it holds and refusals 1 to 6 and 28.
 
 use crate::text::{Line, Lines};
 use crate::Refusal;
@@ -8,6 +8,23 @@ use crate::Refusal;
 pub struct Phase {
     pub least: u64,
     pub greatest: u64,
+}
+
+/// A `T` line: from the first to the last step a tram asks for a phase of a
+/// signal; all are counted from 1.
+#[derive(Clone, Debug, PartialEq, Eq)]
+pub struct Tram {
+    pub signal: u64,
+    pub phase: u64,
+    pub first: u64,
+    pub last: u64,
+}
+
+impl Tram {
+    /// Both ask something of one signal in one step.
+    fn overlaps(&self, other: &Tram) -> bool {
+        self.signal == other.signal && self.first <= other.last && other.first <= self.last
+    }
 }
 
 /// A `G` line: one traffic signal (the paper's light).
@@ -92,6 +109,7 @@ impl Arrived {
 /// A whole network text.
 #[derive(Clone, Debug, PartialEq, Eq)]
 pub struct Network {
+    pub trams: Vec<Tram>,
     pub signals: Vec<Signal>,
     pub links: Vec<Link>,
     pub movements: Vec<Movement>,
@@ -105,15 +123,21 @@ impl Network {
         let mut lines = Lines::new(text);
         let counts = Counts::read(&lines.take())?;
         let mut network = Network {
+            trams: Vec::new(),
             signals: Vec::new(),
             links: Vec::new(),
             movements: Vec::new(),
             steps: Vec::new(),
         };
+        for _ in 0..counts.trams {
+            let tram = read_tram(&lines.take(), &counts, &network.trams)?;
+            network.trams.push(tram);
+        }
         for item in 1..=counts.signals {
             let signal = read_signal(&lines.take(), item)?;
             network.signals.push(signal);
         }
+        network.judge_tram_phases()?;
         for item in 1..=counts.links {
             let link = read_link(&lines.take(), item, &network.signals)?;
             network.links.push(link);
@@ -132,6 +156,28 @@ impl Network {
             return Err(malformed(line));
         }
         Ok(network)
+    }
+
+    /// Refusal 28 after the last `G` line: a tram asks for a phase that its
+    /// signal hasn't; told at the tram's line.
+    fn judge_tram_phases(&self) -> Result<(), Refusal> {
+        for (index, tram) in self.trams.iter().enumerate() {
+            let phases = &self.signals[tram.signal as usize - 1].phases;
+            if !(1..=phases.len() as u64).contains(&tram.phase) {
+                return Err(Refusal::new(28, index as u64 + 2, 0));
+            }
+        }
+        Ok(())
+    }
+
+    /// The phase that a tram asks of a signal (from index 0) in a step (from 1).
+    pub fn tram_phase(&self, signal: usize, step: usize) -> Option<u64> {
+        let step = step as u64;
+        let mut trams = self.trams.iter();
+        let tram = trams.find(|tram| {
+            tram.signal == signal as u64 + 1 && tram.first <= step && step <= tram.last
+        });
+        tram.map(|tram| tram.phase)
     }
 
     /// Refusal 5 after all `M` lines: by rising link that has movements, the
@@ -156,7 +202,7 @@ impl Network {
     }
 
     fn lines_before_movements(&self) -> u64 {
-        1 + self.signals.len() as u64 + self.links.len() as u64
+        1 + self.trams.len() as u64 + self.signals.len() as u64 + self.links.len() as u64
     }
 
     /// The times t(0) to t(K) of all boundaries; they rise, since every length
@@ -225,26 +271,51 @@ struct Counts {
     signals: u64,
     movements: u64,
     steps: u64,
+    trams: u64,
 }
 
 impl Counts {
     fn read(line: &Line) -> Result<Counts, Refusal> {
-        let numbers = line.numbers(b'N', 4).ok_or(malformed(line.number))?;
+        let numbers = line.numbers(b'N', 5).ok_or(malformed(line.number))?;
         let counts = Counts {
             links: numbers[0],
             signals: numbers[1],
             movements: numbers[2],
             steps: numbers[3],
+            trams: numbers[4],
         };
         let within_limits = (1..=24).contains(&counts.links)
             && counts.signals <= 8
             && counts.movements <= 64
-            && (1..=120).contains(&counts.steps);
+            && (1..=120).contains(&counts.steps)
+            && counts.trams <= 16;
         if within_limits {
             Ok(counts)
         } else {
             Err(Refusal::new(2, line.number, 0))
         }
+    }
+}
+
+/// A `T` line; its phase is judged later, when the signal's phases are known.
+fn read_tram(line: &Line, counts: &Counts, before: &[Tram]) -> Result<Tram, Refusal> {
+    let numbers = line.numbers(b'T', 4).ok_or(malformed(line.number))?;
+    let tram = Tram {
+        signal: numbers[0],
+        phase: numbers[1],
+        first: numbers[2],
+        last: numbers[3],
+    };
+    let steps = 1..=counts.steps;
+    let is_acceptable = (1..=counts.signals).contains(&tram.signal)
+        && steps.contains(&tram.first)
+        && steps.contains(&tram.last)
+        && tram.first <= tram.last
+        && !before.iter().any(|other| tram.overlaps(other));
+    if is_acceptable {
+        Ok(tram)
+    } else {
+        Err(Refusal::new(28, line.number, 0))
     }
 }
 

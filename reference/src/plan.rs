@@ -1,4 +1,4 @@
-//! The plan text and refusals 8 to 18 and 25 to 27.
+//! The plan text and refusals 8 to 18, 25 to 27 and 29.
 
 use crate::network::{Arrived, Link, Movement, Network};
 use crate::text::{write_record, Line, Lines};
@@ -129,7 +129,9 @@ fn read_step(line: &Line, network: &Network) -> Result<PlanStep, Refusal> {
     })
 }
 
-/// What a signal shows after a step, with its two clocks.
+/// What a signal shows after an ordinary step, with its two clocks. Both stand
+/// still while a tram passes.
+#[derive(Clone, Copy)]
 struct Showing {
     /// Counted from 1.
     phase: u64,
@@ -206,8 +208,9 @@ type Rule = fn(&Attempt) -> Option<usize>;
 
 /// The rules in the order in which they are judged. Rule 10 comes first: the
 /// others may ask for the phase that a mask shows.
-const RULES: [(u64, Rule); 12] = [
+const RULES: [(u64, Rule); 13] = [
     (10, |attempt| attempt.signal_with_bad_mask()),
+    (29, |attempt| attempt.signal_without_tram_phase()),
     (11, |attempt| attempt.signal_out_of_order()),
     (12, |attempt| attempt.signal_below_least_time()),
     (13, |attempt| attempt.signal_above_greatest_time()),
@@ -238,9 +241,17 @@ impl Attempt<'_> {
         })
     }
 
+    /// Rule 29: in a tram's step its phase is shown.
+    fn signal_without_tram_phase(&self) -> Option<usize> {
+        self.signals().find(|&signal| {
+            let asked = self.network.tram_phase(signal, self.number);
+            asked.is_some_and(|phase| phase != self.phase(signal))
+        })
+    }
+
     /// Rule 11: the phase is that of the step before or the next.
     fn signal_out_of_order(&self) -> Option<usize> {
-        self.signals().find(|&signal| {
+        self.ordinary_signals().find(|&signal| {
             let before = self.passed.showing[signal].phase;
             let next = phase_after(before, self.phase_count(signal));
             let phase = self.phase(signal);
@@ -250,7 +261,7 @@ impl Attempt<'_> {
 
     /// Rule 12: a phase that is left has shown at least its least time.
     fn signal_below_least_time(&self) -> Option<usize> {
-        self.signals().find(|&signal| {
+        self.ordinary_signals().find(|&signal| {
             let before = &self.passed.showing[signal];
             let phase_left = &self.network.signals[signal].phases[before.phase as usize - 1];
             self.phase(signal) != before.phase && before.run < phase_left.least
@@ -260,7 +271,7 @@ impl Attempt<'_> {
     /// Rule 13: a run's seconds, this step included, are at most its greatest
     /// time.
     fn signal_above_greatest_time(&self) -> Option<usize> {
-        self.signals().find(|&signal| {
+        self.ordinary_signals().find(|&signal| {
             let phase = &self.network.signals[signal].phases[self.phase(signal) as usize - 1];
             self.run(signal) > phase.greatest
         })
@@ -269,7 +280,7 @@ impl Attempt<'_> {
     /// Rule 14: when phase 1 begins, the cycle clock is at least the least
     /// cycle; after the step it is at most the greatest cycle.
     fn signal_outside_cycle(&self) -> Option<usize> {
-        self.signals().find(|&signal| {
+        self.ordinary_signals().find(|&signal| {
             let limits = &self.network.signals[signal];
             let too_early =
                 self.begins_cycle(signal) && self.passed.showing[signal].cycle < limits.least_cycle;
@@ -333,6 +344,12 @@ impl Attempt<'_> {
 
     fn signals(&self) -> Range<usize> {
         0..self.network.signals.len()
+    }
+
+    /// The signals of which no tram asks anything in this step.
+    fn ordinary_signals(&self) -> impl Iterator<Item = usize> + '_ {
+        self.signals()
+            .filter(|&signal| self.network.tram_phase(signal, self.number).is_none())
     }
 
     fn links(&self) -> Range<usize> {
@@ -442,14 +459,19 @@ impl Attempt<'_> {
         arrived.expect("a plan's entered count never falls")
     }
 
-    /// What the signals show after this step.
+    /// What the signals have shown by the last ordinary step.
     fn showing(&self) -> Vec<Showing> {
         self.signals()
-            .map(|signal| Showing {
-                phase: self.phase(signal),
-                run: self.run(signal),
-                cycle: self.cycle(signal),
-            })
+            .map(
+                |signal| match self.network.tram_phase(signal, self.number) {
+                    Some(_) => self.passed.showing[signal],
+                    None => Showing {
+                        phase: self.phase(signal),
+                        run: self.run(signal),
+                        cycle: self.cycle(signal),
+                    },
+                },
+            )
             .collect()
     }
 }

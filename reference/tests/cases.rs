@@ -148,7 +148,7 @@ fn the_stored_cases_leave_nothing_out() {
         assert_as_intended(case);
     }
     let count = |matches: &dyn Fn(&Case) -> bool| cases.iter().filter(|case| matches(case)).count();
-    for wanted in (1..=6).chain(8..=27) {
+    for wanted in (1..=6).chain(8..=29) {
         let refused = count(
             &|case| matches!(case.outcome.answer, Answer::Refused(Refusal { number, .. }) if number == wanted),
         );
@@ -228,6 +228,16 @@ fn the_stored_cases_leave_nothing_out() {
         "buffer just long enough",
         "4: before the listing",
         "damaged listing",
+        "28: light",
+        "28: first step",
+        "28: last step",
+        "28: overlap",
+        "28: phase",
+        "28: phase before a link",
+        "28: phase before the form of the first link",
+        "3: last light before a tram's phase",
+        "tram of the first or last phase",
+        "29: not the tram's phase",
         "empty plan",
         "empty plan, phases may go on",
         "empty plan, phase one second too long",
@@ -246,7 +256,7 @@ fn the_stored_cases_leave_nothing_out() {
         let padded = count(&|case| case.question.call == call && case.name.starts_with("padded: "));
         assert!(padded >= 30, "{call:?}: {padded} padded cases");
     }
-    let largest = count(&|case| case.question.network.starts_with(b"N\t24\t8\t64\t120\n"));
+    let largest = count(&|case| case.question.network.starts_with(b"N\t24\t8\t64\t120\t"));
     assert!(largest > 10);
 }
 

@@ -3,7 +3,7 @@
 use plancheck_reference::{check_network, check_plan, report, Totals};
 
 const NETWORK: [&str; 9] = [
-    "N\t2\t1\t1\t4",
+    "N\t2\t1\t1\t4\t0",
     "G\t20\t60\t2\t2\t10\t20\t10\t30\t10\t30",
     "Q\t60000\t10\t0\t1\t1\t0",
     "Q\t60000\t10\t500\t0\t0\t0",

@@ -20,6 +20,8 @@ pub const MAX_LINKS: usize = 24;
 pub const MAX_SIGNALS: usize = 8;
 /// The greatest number of movements of a network; there may be none.
 pub const MAX_MOVEMENTS: usize = 64;
+/// The greatest number of tram lines of a network; there may be none.
+pub const MAX_TRAMS: usize = 16;
 /// The greatest number of steps of a network; there is at least one.
 pub const MAX_STEPS: usize = 120;
 /// A ledger length that is enough for every network.
@@ -70,10 +72,10 @@ pub struct LinkState {
 ///
 /// ```
 /// // One link without a signal, one step of ten seconds.
-/// let network = "N\t1\t0\t0\t1\nQ\t60000\t10\t500\t0\t0\t0\nS\t10\t0\n";
+/// let network = "N\t1\t0\t0\t1\t0\nQ\t60000\t10\t500\t0\t0\t0\nS\t10\t0\n";
 /// assert_eq!(plancheck::check_network(network.as_bytes()), Ok(()));
 ///
-/// let refusal = plancheck::check_network(b"N\t0\t0\t0\t1\n").unwrap_err();
+/// let refusal = plancheck::check_network(b"N\t0\t0\t0\t1\t0\n").unwrap_err();
 /// assert_eq!((refusal.number, refusal.line, refusal.item), (2, 1, 0));
 /// ```
 pub fn check_network(network: &[u8]) -> Result<(), Refusal> {
@@ -92,14 +94,14 @@ pub fn check_network(network: &[u8]) -> Result<(), Refusal> {
 ///
 /// # Errors
 ///
-/// Refusals 1 to 6 of the network, 8 for a ledger shorter than [`required_ledger_len`], 9 to 18 and 25 to 27
+/// Refusals 1 to 6 and 28 of the network, 8 for a ledger shorter than [`required_ledger_len`], 9 to 18, 25 to 27 and 29
 /// of the plan.
 ///
 /// # Examples
 ///
 /// ```
 /// // Five vehicles enter and leave one link without a signal.
-/// let network = "N\t1\t0\t0\t2\nQ\t60000\t10\t500\t0\t0\t0\nS\t10\t5000\nS\t10\t0\n";
+/// let network = "N\t1\t0\t0\t2\t0\nQ\t60000\t10\t500\t0\t0\t0\nS\t10\t5000\nS\t10\t0\n";
 /// let plan = "P\t5000\t0\nP\t0\t5000\n";
 /// let mut ledger = [0; plancheck::required_ledger_len(1, 2)];
 ///
@@ -144,7 +146,7 @@ pub fn check_plan(network: &[u8], plan: &[u8], ledger: &mut [u32]) -> Result<Tot
 /// # Examples
 ///
 /// ```
-/// let network = "N\t1\t0\t0\t2\nQ\t60000\t10\t500\t0\t0\t0\nS\t10\t5000\nS\t10\t0\n";
+/// let network = "N\t1\t0\t0\t2\t0\nQ\t60000\t10\t500\t0\t0\t0\nS\t10\t5000\nS\t10\t0\n";
 /// let ledger = [0, 0, 5000, 0, 5000, 2000];
 ///
 /// let state = plancheck::link_state(network.as_bytes(), &ledger, 1, 1)?;

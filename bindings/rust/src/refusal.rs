@@ -5,7 +5,7 @@ use core::fmt;
 /// Why a call declined: the number of the refusal, and the line and the item that it names.
 ///
 /// Lines and items are counted from 1; 0 where none is named. Numbers 1 to 6 name a line of the network text, 9 to 18
-/// and 25 to 27 a line of the plan text, 22 and 23 a line of the listing, 36 and 37 a line of the corridor text, the
+/// 25 to 27 and 29 a line of the plan text, 22 and 23 a line of the listing, 36 and 37 a line of the corridor text, the
 /// others none.
 /// What the item is depends on the number: see [`Refusal::item_kind`].
 ///
@@ -61,8 +61,8 @@ impl Refusal {
     #[must_use]
     pub const fn text(&self) -> Option<Text> {
         match self.number {
-            1..=6 => Some(Text::Network),
-            9..=18 | 25..=27 => Some(Text::Plan),
+            1..=6 | 28 => Some(Text::Network),
+            9..=18 | 25..=27 | 29 => Some(Text::Plan),
             22 | 23 => Some(Text::Listing),
             36 | 37 => Some(Text::Corridor),
             _ => None,
@@ -73,7 +73,7 @@ impl Refusal {
     #[must_use]
     pub const fn item_kind(&self) -> Option<ItemKind> {
         match self.number {
-            3 | 10..=14 => Some(ItemKind::Signal),
+            3 | 10..=14 | 29 => Some(ItemKind::Signal),
             4 | 15 | 17 | 18 | 25 => Some(ItemKind::Link),
             5 | 16 | 26 | 27 => Some(ItemKind::Movement),
             6 => Some(ItemKind::Step),
@@ -119,6 +119,8 @@ impl Refusal {
             25 => "more is let out than the link's exit rate allows",
             26 => "more is moved than the movement's rate allows",
             27 => "the movement leaves a link that its signal shuts",
+            28 => "the tram's signal, phase or steps do not exist, or another tram of the signal has a step of it",
+            29 => "a tram claims the signal, and its phase is not shown",
             36 => {
                 "a line is missing, unfinished or surplus, has a wrong letter, a bad number or a wrong number of fields, \
                  or is beyond its limits"

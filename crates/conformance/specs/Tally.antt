@@ -8,7 +8,7 @@ use Rattle.conformance_cases.specs.declared.outcome.Outcome.{Outcome}
 
 -- how many answers a call's cases are counted by: accepted, and each refusal's number
 abbrev pub answers : ℕ
-answers = 28
+answers = 30
 
 abbrev pub different : ℕ
 different = 4 * answers

@@ -7,7 +7,7 @@ use conformance_cases::stored::Question;
 use libc::STDOUT_FILENO;
 
 // How many answers a call's cases are counted by: accepted, and each refusal's number.
-const ANSWERS: usize = 28;
+const ANSWERS: usize = 30;
 
 // The counts: for each of four calls, the cases that agreed, by answer; then these two.
 pub const DIFFERENT: usize = 4 * ANSWERS;
@@ -40,7 +40,7 @@ fn refusal_of(outcome: Outcome) -> u64
     if outcome.kind == 3 { outcome.first } else { 0 }
 }
 
-// The place of the cases of a call that gave an outcome. A refusal number above 27 has none.
+// The place of the cases of a call that gave an outcome. A refusal number above 29 has none.
 pub fn place_of(call: u32, outcome: Outcome) -> usize
     requires { ⌜ (1 ≤ call) × (call ≤ 4) ⌝ }
     ensures { λ r. ⌜ (r ≡ placeOf call outcome) × (r < counters) ⌝ }

@@ -117,7 +117,7 @@ or-refused text old answer new r a b = record { answered = a; holds = b }
 
 signals-pass : (network : List Line) → Hold (networkChecks network) → verdict (blockChecks (signalBlock network)) ≡ verdicts.Passes
 unfolding networkChecks Hold
-signals-pass network (counts, (signals, rest)) = passes-of-hold (blockChecks (signalBlock network)) (unfold Hold in signals)
+signals-pass network (counts, (trams, (signals, rest))) = passes-of-hold (blockChecks (signalBlock network)) (unfold Hold in signals)
 
 time-next : (network : List Line) (n : ℕ) → time network (n + 1) ≡ time network n + stepLength network n
 unfolding time sum
@@ -125,7 +125,7 @@ time-next network n = rw add-one
 
 module _ (text : List ℕ) (reading : Reading) (times : List ℕ) (a : NetworkAsked text reading times) where
   pub signals-asked : (first : Reading) → first ≡ movedTo reading (reading .«signals_at») → (phases : List ℕ) → length phases ≡ 8 → SignalsAsked text first phases
-  signals-asked first e phases l = rw e (record { counted = a .counted; starts = a .signals-start; room = l })
+  signals-asked first e phases l = rw e (record { counted = a .counted; trams-start = a .trams-start; starts = a .signals-start; room = l })
 
   module _ (phases : List ℕ) (r : Stage) (g : Judged (blockChecks (signalBlock (lines text))) (SignalsHeld text phases) r) where
     pub signals-stopped : (listing : List Entry) (old : List ℕ) (q : Refusal) → r ≡ stages.Refused q → ListingWritten (lines text) listing old (Refused q) old
@@ -209,7 +209,7 @@ module _ (text : List ℕ) (r : Stage) (links movements times : List ℕ) (g : J
   pub plan-asked : (reading : Reading) → r ≡ stages.Passed reading → NetworkAsked text reading times
   plan-asked reading e =
       let l = g .held reading e in
-      record { counted = l .counted; signals-start = l .signals-start; time-table = l .time-table; holds = l .holds }
+      record { counted = l .counted; trams-start = l .trams-start; signals-start = l .signals-start; time-table = l .time-table; holds = l .holds }
 
   module _ (listing : List Entry) (old : List ℕ) where
     pub plan-refused : (q : Refusal) → r ≡ stages.Refused q → PlanGot (lines text) listing old (Refused q) old

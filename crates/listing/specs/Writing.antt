@@ -10,7 +10,7 @@ use Rattle.search.specs.declared.Verdict.the-variants as verdicts
 use Rattle.search.specs.Checks.{each, orElse, checked, verdict, Hold}
 use Rattle.records.specs.Lines.{Line, lines}
 use Rattle.records.specs.Reading.{Starts, over}
-use Rattle.model.specs.Network.{signalLine}
+use Rattle.model.specs.Network.{tramLine, signalLine}
 use Rattle.model.specs.Table.{networkChecks}
 use Rattle.tables.specs.declared.Counts.{Counts}
 use Rattle.tables.specs.declared.Reading.{Reading}
@@ -53,6 +53,7 @@ pub record WriteGot (counts : Counts) (phases times : List ℕ) (listing : List 
 -- a network that has passed
 pub record NetworkAsked (text : List ℕ) (reading : Reading) (times : List ℕ) : Type 0 where
   pub counted : CountsHold (lines text) (reading .counts)
+  pub trams-start : Starts text (reading .«trams_at») (tramLine (lines text) 0)
   pub signals-start : Starts text (reading .«signals_at») (signalLine (lines text) 0)
   pub time-table : TimeTable (lines text) times
   pub holds : Hold (networkChecks (lines text))

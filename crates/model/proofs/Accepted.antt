@@ -6,23 +6,26 @@ use Prim.Native.Nat.{ℕ, suc, _<_}
 use native.Mathlib.Omega.{arith}
 use Rattle.search.specs.Checks.{Hold, table}
 use Rattle.records.specs.Lines.{Line}
-use Rattle.model.specs.Network.{linkCount, signalCount, movementCount, stepCount, signal}
-use Rattle.model.specs.Rules.{validPhases, validSignal, validCounts, validLink, validMovement, validShares, validStep, rule10, rule11, rule12, rule13, rule14, rule15, rule16, rule17, rule18, rule25, rule26, rule27}
-use Rattle.model.specs.Table.{countChecks, signalChecks, linkChecks, movementChecks, shareChecks, stepChecks, networkChecks, signalRules, limitRules, sumRules, lineChecks, planLineChecks, planChecks}
+use Rattle.model.specs.Network.{linkCount, signalCount, movementCount, stepCount, tramCount, signal}
+use Rattle.model.specs.Rules.{validPhases, validSignal, validCounts, validTram, validTramPhase, validLink, validMovement, validShares, validStep, rule10, rule11, rule12, rule13, rule14, rule15, rule16, rule17, rule18, rule25, rule26, rule27, rule29}
+use Rattle.model.specs.Table.{countChecks, tramChecks, signalChecks, tramPhaseChecks, linkChecks, movementChecks, shareChecks, stepChecks, networkChecks, signalRules, limitRules, sumRules, lineChecks, planLineChecks, planChecks}
 
--- refusals 2 to 6 do not arise
+-- refusals 2 to 6 and 28 do not arise
 pub record ValidNetwork (network : List Line) : Type 0 where
   pub counts : validCounts network ≡ true
+  pub trams : (k : ℕ) → k < tramCount network → validTram network k ≡ true
   pub phases : (r : ℕ) → r < signalCount network → validPhases (signal network r) ≡ true
   pub signals : (r : ℕ) → r < signalCount network → validSignal (signal network r) ≡ true
+  pub tram-phases : (k : ℕ) → k < tramCount network → validTramPhase network k ≡ true
   pub links : (i : ℕ) → i < linkCount network → validLink network i ≡ true
   pub movements : (j : ℕ) → j < movementCount network → validMovement network j ≡ true
   pub shares : (i : ℕ) → i < linkCount network → validShares network i ≡ true
   pub steps : (n : ℕ) → n < stepCount network → validStep network n ≡ true
 
--- step n keeps rules 10 to 18 and 25 to 27
+-- step n keeps rules 10 to 18, 25 to 27 and 29
 pub record LawfulStep (network plan : List Line) (n : ℕ) : Type 0 where
   pub keeps10 : (r : ℕ) → r < signalCount network → rule10 network plan n r ≡ true
+  pub keeps29 : (r : ℕ) → r < signalCount network → rule29 network plan n r ≡ true
   pub keeps11 : (r : ℕ) → r < signalCount network → rule11 network plan n r ≡ true
   pub keeps12 : (r : ℕ) → r < signalCount network → rule12 network plan n r ≡ true
   pub keeps13 : (r : ℕ) → r < signalCount network → rule13 network plan n r ≡ true
@@ -41,12 +44,14 @@ pub record AcceptedPlan (network plan : List Line) : Type 0 where
   pub lawful : (n : ℕ) → n < stepCount network → LawfulStep network plan n
 
 pub valid-network : (network : List Line) → Hold (networkChecks network) → ValidNetwork network
-unfolding Hold networkChecks countChecks signalChecks linkChecks movementChecks shareChecks stepChecks
-valid-network network (counts, (signals, (links, (movements, (shares, (steps, ended)))))) =
+unfolding Hold networkChecks countChecks tramChecks signalChecks tramPhaseChecks linkChecks movementChecks shareChecks stepChecks
+valid-network network (counts, (trams, (signals, (tramPhases, (links, (movements, (shares, (steps, ended)))))))) =
     record {
       counts = counts .1;
+      trams = λ k l. trams k l .1;
       phases = λ r l. signals r l .1 .0;
       signals = λ r l. signals r l .1 .1 .1;
+      tram-phases = tramPhases;
       links = λ i l. links i l .1;
       movements = λ j l. movements j l .1;
       shares = shares;
@@ -58,10 +63,11 @@ unfolding Hold lineChecks table signalRules limitRules sumRules
 lawful-step network plan n (form, (signals, (limits, sums))) =
     record {
       keeps10 = signals 0 (omega arith);
-      keeps11 = signals 1 (omega arith);
-      keeps12 = signals 2 (omega arith);
-      keeps13 = signals 3 (omega arith);
-      keeps14 = signals 4 (omega arith);
+      keeps29 = signals 1 (omega arith);
+      keeps11 = signals 2 (omega arith);
+      keeps12 = signals 3 (omega arith);
+      keeps13 = signals 4 (omega arith);
+      keeps14 = signals 5 (omega arith);
       keeps15 = limits 0 (omega arith);
       keeps25 = limits 1 (omega arith);
       keeps26 = limits 2 (omega arith);

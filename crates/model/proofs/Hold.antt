@@ -1,7 +1,7 @@
 -- The plan that an empty text stands for (T-07): what its lines say, and that it is answered as its written text is. Assumes nothing.
 use Prim.Native.Nat.{ℕ, zero, suc, _+_, _*_, _-_, _^_, _≤_, _<_}
 use mathlib.Core.Path.{_≡_, refl, sym, ap, _∙_}
-use mathlib.Core.Bool.{Bool, true, false}
+use mathlib.Core.Bool.{Bool, true, false, cond}
 use mathlib.Core.List.{List, [], _∷_}
 use native.Mathlib.Nat.{le-trans, pow-le-pow-right}
 use native.Mathlib.Decide.{decLt}
@@ -20,7 +20,8 @@ use Rattle.records.proofs.Laws.{some-lines}
 use Rattle.record_writer.proofs.Records.{Small, text-back, lines-count, entry-back, form-back}
 use Rattle.model.specs.Test.{within}
 use Rattle.model.specs.Sum.{only, list}
-use Rattle.model.specs.Network.{entry, linkCount, signalCount, movementCount, stepCount, signal}
+use Rattle.model.specs.Network.{entry, linkCount, signalCount, movementCount, stepCount, signal, stepLength, ordinary}
+use Rattle.model.specs.Signals.{after}
 use Rattle.model.specs.Flows.{shownMask, shownIn, signalAt}
 use Rattle.model.specs.Rules.{validPhases, validSignal}
 use Rattle.model.specs.declared.PlanAnswer.{PlanAnswer}
@@ -110,9 +111,14 @@ module _ (network : List Line) where
     pub hold-shown : (n r : ℕ) → n ≤ stepCount network → r < signalCount network → signalAt network (holdLines network) n r .shown ≡ signal network r .shown
     unfolding signalAt shownIn shownMask
     hold-shown zero r h l = refl
-    hold-shown (suc n) r h l =
-        let s = shown-limits r l in
-        phase-of-bit (entry (holdLines network) n r) (signal network r .phases) (signal network r .shown) (s .0) (s .1) (hold-mask n r (omega arith) l)
+    hold-shown (suc n) r h l = go (ordinary network n r) (hold-shown n r (omega arith) l)
+      where
+        go : (b : Bool) → signalAt network (holdLines network) n r .shown ≡ signal network r .shown
+            → cond b (after (signalAt network (holdLines network) n r) (shownIn network (holdLines network) n r) (stepLength network n)) (signalAt network (holdLines network) n r) .shown ≡ signal network r .shown
+        go true before =
+            let s = shown-limits r l in
+            phase-of-bit (entry (holdLines network) n r) (signal network r .phases) (signal network r .shown) (s .0) (s .1) (hold-mask n r (omega arith) l)
+        go false before = before
 
 -- ---- the theorem of T-07
 same-meant : (network : List Line) → ValidNetwork network → meant network (lines []) ≡ meant network (lines (holdText network))

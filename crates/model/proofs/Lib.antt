@@ -2,6 +2,7 @@ pub mod Opened
 pub mod Texts
 pub mod Cases
 pub mod MoreCases
+pub mod TramCases
 pub mod LedgerCases
 pub mod Witness
 pub mod Tests
@@ -20,10 +21,12 @@ pub mod Integers
 pub mod TravelTime
 pub mod Phases
 pub mod Order
+pub mod Ordinary
 pub mod Shown
 pub mod Shut
 pub mod Red
 pub mod Once
 pub mod Hold
+pub mod Cycle
 pub mod Promises
 pub mod Padding

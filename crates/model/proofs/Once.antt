@@ -1,5 +1,6 @@
 -- Between a green of a phase and its next green every other phase has exactly one green. Assumes nothing.
 use mathlib.Core.Path.{_≡_, refl, sym, _∙_}
+use mathlib.Core.Bool.{true}
 use mathlib.Core.Logic.{_⊎_, inl, inr, ⊎-elim, _≢_}
 use mathlib.Core.List.{List, [], _∷_, _++_, List·Memᴰ, Memᴰ·append-left, Memᴰ·append-right, List·Memᴰ·append-cases, List·Memᴰ·cases-cons, List·Memᴰ·not-nil, List·Memᴰ·head, List·Memᴰ·tail}
 use Prim.Native.Nat.{ℕ, zero, suc, _+_, _-_, _≤_, _<_}
@@ -8,8 +9,9 @@ use native.Mathlib.Decide.{decLe}
 use native.Mathlib.Omega.{arith}
 use Rattle.records.specs.Lines.{Line}
 use Rattle.model.specs.Network.{signalCount, signal}
-use Rattle.model.specs.Guarantees.{Green, Greens, done, more, Red, rising, others}
+use Rattle.model.specs.Guarantees.{isOrdinary, NoneBetween, Green, Greens, done, more, Red, rising, others}
 use Rattle.model.proofs.Accepted.{AcceptedPlan}
+use Rattle.model.proofs.Ordinary.{not-between, last-ordinary, first-ordinary}
 use Rattle.model.proofs.Red.{green-phase, greens-rise, red-greens}
 
 -- no number stands twice in the list
@@ -67,14 +69,23 @@ module _ (network plan : List Line) (r : ℕ) where
   starts-same {a = zero} n g g′ h i j l = omega arith
   starts-same {a = suc a} {a′ = a′} n g g′ h i j l = elim (decLe (suc a) a′) [
     | yes u ↦ u
-    | no u ↦ absurd (g .starts a refl (g′ .shows a (omega arith) (omega arith)))
+    | no u ↦ go u (last-ordinary network r a)
   ]
+    where
+      go : ¬ (suc a ≤ a′) → (m : ℕ) × (m ≤ a) × (isOrdinary network r m ≡ true) × NoneBetween network r m (suc a) → suc a ≤ a′
+      go u (m, v, o, none) = elim (decLe a′ m) [
+        | yes w ↦ absurd (g .starts m (omega arith) o none (g′ .shows m w (omega arith) o))
+        | no w ↦ absurd (not-between network r none (omega arith) (omega arith) (g′ .first-ordinary))
+      ]
 
   ends-same : {q a b a′ b′ : ℕ} (n : ℕ) → Green network plan r q a b → Green network plan r q a′ b′ → a ≤ n → n ≤ b → a′ ≤ n → n ≤ b′ → b′ ≤ b
   ends-same {b = b} {b′ = b′} n g g′ h i j l = elim (decLe b′ b) [
     | yes u ↦ u
-    | no u ↦ absurd (g .ends (omega (arith, g′ .in-plan)) (g′ .shows (suc b) (omega arith) (omega arith)))
+    | no u ↦ go (first-ordinary network r b b′ (omega arith) (g′ .last-ordinary))
   ]
+    where
+      go : (m : ℕ) × (b ≤ m) × (m < b′) × (isOrdinary network r (suc m) ≡ true) × NoneBetween network r b (suc m) → b′ ≤ b
+      go (m, u, v, o, none) = absurd (g .ends (suc m) (omega arith) (omega (arith, g′ .in-plan)) o none (g′ .shows (suc m) (omega arith) (omega arith) o))
 
   same-green : {q a b a′ b′ : ℕ} (n : ℕ) → Green network plan r q a b → Green network plan r q a′ b′ → a ≤ n → n ≤ b → a′ ≤ n → n ≤ b′ → (a′ ≡ a) × (b′ ≡ b)
   same-green n g g′ h i j l = (
@@ -84,39 +95,43 @@ module _ (network plan : List Line) (r : ℕ) where
 
   -- a phase of the list has a green
   has : {b c q : ℕ} {qs : List ℕ} → Greens network plan r b c qs → List·Memᴰ q qs → (x : ℕ) × (y : ℕ) × Green network plan r q x y × (b < x) × (y ≤ c)
-  has done m = absurd (List·Memᴰ·not-nil m)
-  has {b = b} {c = c} {q = q} (more {e = e} {q = q₀} {qs = qs} g gs) m = go (List·Memᴰ·cases-cons m) (has gs)
+  has (done l none) m = absurd (List·Memᴰ·not-nil m)
+  has {b = b} {c = c} {q = q} (more {a = a} {e = e} {q = q₀} {qs = qs} l none g gs) m = go (List·Memᴰ·cases-cons m) (has gs)
     where
       go : (q ≡ q₀) ⊎ List·Memᴰ q qs → (List·Memᴰ q qs → (x : ℕ) × (y : ℕ) × Green network plan r q x y × (e < x) × (y ≤ c))
           → (x : ℕ) × (y : ℕ) × Green network plan r q x y × (b < x) × (y ≤ c)
-      go (inl i) ih = (suc b, e, rw i g, omega arith, greens-rise network plan r gs)
+      go (inl i) ih = (a, e, rw i g, l, greens-rise network plan r gs)
       go (inr i) ih = let R = ih i in (R .0, R .1, R .2, omega (arith, R .3, g .some-step), R .4)
 
   -- two greens of two phases that share a step are of one
   one-phase : {q q′ a b a′ b′ : ℕ} (n : ℕ) → Green network plan r q a b → Green network plan r q′ a′ b′ → a ≤ n → n ≤ b → a′ ≤ n → n ≤ b′ → q ≡ q′
   one-phase n g g′ h i j l = sym (green-phase network plan r g n h i) ∙ green-phase network plan r g′ n j l
 
+  -- an ordinary step after b is at or after the first
+  reached : {b a x : ℕ} → NoneBetween network r b a → b < x → isOrdinary network r x ≡ true → a ≤ x
+  reached {a = a} {x = x} none h o = elim (decLe a x) [ yes u ↦ u | no u ↦ absurd (not-between network r none h (omega arith) o) ]
+
   -- a green inside is of a phase of the list
   listed : {b c q x y : ℕ} {qs : List ℕ} → Greens network plan r b c qs → Green network plan r q x y → b < x → y ≤ c → List·Memᴰ q qs
-  listed done g h i = absurd (omega (arith, g .some-step))
-  listed {q = q} {x = x} (more {e = e} {q = q₀} {qs = qs} g gs) g′ h i = go (decLe x e) (λ u. listed gs g′ u i)
+  listed (done l none) g h i = absurd (not-between network r none h (omega (arith, g .some-step)) (g .first-ordinary))
+  listed {q = q} {x = x} (more {a = a} {e = e} {q = q₀} {qs = qs} l none g gs) g′ h i = go (decLe x e) (λ u. listed gs g′ u i)
     where
       go : Dec (x ≤ e) → (e < x → List·Memᴰ q qs) → List·Memᴰ q (q₀ ∷ qs)
-      go (yes u) ih = List·Memᴰ·head (one-phase x g′ g (le-refl _) (g′ .some-step) h u)
+      go (yes u) ih = List·Memᴰ·head (one-phase x g′ g (le-refl _) (g′ .some-step) (reached none h (g′ .first-ordinary)) u)
       go (no u) ih = List·Memᴰ·tail (ih (omega arith))
 
   -- two greens of one phase inside are one
   one : {b c q : ℕ} {qs : List ℕ} → Greens network plan r b c qs → Distinct qs → (x y x′ y′ : ℕ)
       → Green network plan r q x y → b < x → y ≤ c → Green network plan r q x′ y′ → b < x′ → y′ ≤ c → (x′ ≡ x) × (y′ ≡ y)
-  one done d x y x′ y′ g h i g′ h′ i′ = absurd (omega (arith, g .some-step))
-  one {b = b} {c = c} {q = q} (more {e = e} {q = q₀} {qs = qs} t ts) d x y x′ y′ g h i g′ h′ i′ =
+  one (done l none) d x y x′ y′ g h i g′ h′ i′ = absurd (not-between network r none h (omega (arith, g .some-step)) (g .first-ordinary))
+  one {b = b} {c = c} {q = q} (more {a = a} {e = e} {q = q₀} {qs = qs} l none t ts) d x y x′ y′ g h i g′ h′ i′ =
       go (decLe x e) (decLe x′ e) (λ u u′. one ts (d .1) x y x′ y′ g u i g′ u′ i′)
     where
       is : (x y : ℕ) → Green network plan r q x y → b < x → x ≤ e → q ≡ q₀
-      is x y g h u = one-phase x g t (le-refl _) (g .some-step) h u
+      is x y g h u = one-phase x g t (le-refl _) (g .some-step) (reached none h (g .first-ordinary)) u
 
-      tile : (x y : ℕ) (g : Green network plan r q x y) (h : b < x) → x ≤ e → (x ≡ suc b) × (y ≡ e)
-      tile x y g h u = same-green x t (rw (is x y g h u) at g) h u (le-refl _) (g .some-step)
+      tile : (x y : ℕ) (g : Green network plan r q x y) (h : b < x) → x ≤ e → (x ≡ a) × (y ≡ e)
+      tile x y g h u = same-green x t (rw (is x y g h u) at g) (reached none h (g .first-ordinary)) u (le-refl _) (g .some-step)
 
       go : Dec (x ≤ e) → Dec (x′ ≤ e) → (e < x → e < x′ → (x′ ≡ x) × (y′ ≡ y)) → (x′ ≡ x) × (y′ ≡ y)
       go (yes u) (yes u′) ih = let A = tile x y g h u in let B = tile x′ y′ g′ h′ u′ in omega arith

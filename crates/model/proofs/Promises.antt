@@ -25,6 +25,7 @@ use Rattle.model.proofs.TravelTime.{admitted-demand, travel-time}
 use Rattle.model.proofs.Shut.{shut-passes-nothing}
 use Rattle.model.proofs.Red.{red-greens, red-least, red-greatest}
 use Rattle.model.proofs.Once.{exactly-once}
+use Rattle.model.proofs.Cycle.{cycle-least, cycle-greatest}
 
 module _ (network plan : List Line) (accepted : AcceptedPlan network plan) where
   pub guarantees : Guarantees network plan (doubledTime network plan (stepCount network))
@@ -34,6 +35,8 @@ module _ (network plan : List Line) (accepted : AcceptedPlan network plan) where
         once = λ r l q b c red. exactly-once network plan r accepted l red;
         red-least = λ r l q b c red. red-least network plan r accepted l red;
         red-greatest = λ r l q b c red. red-greatest network plan r accepted l red;
+        cycle-least = λ r l a b c red s. cycle-least network plan r accepted l red s;
+        cycle-greatest = λ r l a b c red s. cycle-greatest network plan r accepted l red s;
         balanced = balance network plan accepted;
         left-entered = left-entered network plan accepted;
         holds-capacity = within-capacity network plan accepted;

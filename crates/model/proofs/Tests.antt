@@ -1,5 +1,5 @@
 -- The parts of a test that holds. Assumes nothing.
-use mathlib.Core.Path.{_≡_, refl}
+use mathlib.Core.Path.{_≡_, refl, ap₂}
 use mathlib.Core.Bool.{Bool, true, false}
 use mathlib.Core.Logic.{_⊎_, inl, inr}
 use Prim.Native.Nat.{ℕ, zero, suc, _<_}
@@ -27,3 +27,8 @@ pub every-at : (n : ℕ) (test : ℕ → Bool) → every n test ≡ true → (k 
 unfolding every
 every-at zero test h k l = absurd (omega arith)
 every-at (suc n) test h k l = below-more (λ k. test k ≡ true) n (every-at n test (and-left _ _ h)) (and-right _ _ h) k (omega arith)
+
+pub every-same : (n : ℕ) (f g : ℕ → Bool) → ((k : ℕ) → k < n → f k ≡ g k) → every n f ≡ every n g
+unfolding every
+every-same zero f g h = refl
+every-same (suc n) f g h = ap₂ _and_ (every-same n f g (λ k l. h k (omega arith))) (h n (omega arith))

@@ -10,7 +10,6 @@ use borrow.Author.Tests.{le-leb, lt-leb}
 use Rattle.records.specs.Lines.{Line}
 use Rattle.model.specs.Sum.{sum}
 use Rattle.model.specs.Network.{stepLength, travelTime, time, stepAt, arrivalStep, elapsed}
-use Rattle.model.specs.Guarantees.{between}
 use Rattle.model.proofs.Sums.{sum-more}
 
 module _ (network : List Line) where
@@ -21,16 +20,6 @@ module _ (network : List Line) where
   pub time-mono : (m n : ℕ) → m ≤ n → time network m ≤ time network n
   unfolding time
   time-mono m n h = sum-more (stepLength network) m n h
-
-  -- the lengths of the steps between two boundaries
-  time-from : (b d : ℕ) → sum d (λ k. stepLength network (b + k)) + time network b ≡ time network (b + d)
-  unfolding sum
-  time-from b zero = let e : b + 0 ≡ b = omega arith in rw e (omega arith)
-  time-from b (suc d) = let e : b + suc d ≡ suc (b + d) = omega arith in rw e (omega (arith, time-from b d, time-suc (b + d)))
-
-  pub time-between : (b c : ℕ) → b ≤ c → between b c (stepLength network) + time network b ≡ time network c
-  unfolding between
-  time-between b c h = let e : b + (c - b) ≡ c = omega arith in rw e at (time-from b (c - b))
 
   -- the step found is one of those asked for ..
   pub step-at-lt : (n x : ℕ) → 1 ≤ n → stepAt network n x < n

@@ -1,12 +1,14 @@
 -- The guarantees on reds are not empty: the paper's corridor has one. Signal 1 shows phase 2 before the plan and in step 4, and phase 1 between. Assumes nothing.
-use mathlib.Core.Path.{_≡_, refl}
+use mathlib.Core.Path.{_≡_, refl, sym, _∙_}
+use mathlib.Core.Bool.{true, true≢false}
 use mathlib.Core.List.{List}
 use Prim.Native.Nat.{ℕ, zero, suc, _≤_, _<_}
+use native.Mathlib.Decide.{decLe}
 use native.Mathlib.Omega.{arith}
 use Rattle.records.specs.Lines.{Line, lines}
 use Rattle.model.specs.Network.{signal, stepCount}
 use Rattle.model.specs.Flows.{shownMask}
-use Rattle.model.specs.Guarantees.{Shows, Green, Red}
+use Rattle.model.specs.Guarantees.{Shows, isOrdinary, Green, Red}
 use Rattle.model.proofs.Opened.{opened}
 use Rattle.model.proofs.Texts.{bytes, theNetwork, thePlan}
 
@@ -32,6 +34,11 @@ steps : stepCount network ≡ 4
 unfolding opened
 steps = refl
 
+no-trams : (n : ℕ) → isOrdinary network 0 n ≡ true
+unfolding opened isOrdinary
+no-trams zero = refl
+no-trams (suc n) = refl
+
 no-two : (n : ℕ) → 0 < n → n ≤ 3 → Shows network plan 0 2 n → ⊥
 unfolding Shows
 no-two zero a b s = absurd (omega arith)
@@ -48,9 +55,11 @@ first =
       last-phase = omega (arith, phases);
       some-step = omega arith;
       in-plan = omega arith;
-      shows = λ n a b. let e : n ≡ 0 = omega arith in rw e before;
-      starts = λ n e s. absurd (omega arith);
-      ends = λ l s. no-two 1 (omega arith) (omega arith) s;
+      first-ordinary = no-trams 0;
+      last-ordinary = no-trams 0;
+      shows = λ n a b o. let e : n ≡ 0 = omega arith in rw e before;
+      starts = λ n l o none s. absurd (omega arith);
+      ends = λ n l k o none s. elim (decLe n 3) [ yes u ↦ no-two n l u s | no u ↦ true≢false (sym (no-trams 1) ∙ none 1 (omega arith) (omega arith)) ];
     }
 
 second : Green network plan 0 2 4 4
@@ -61,11 +70,13 @@ second =
       last-phase = omega (arith, phases);
       some-step = omega arith;
       in-plan = omega (arith, steps);
-      shows = λ n a b. let e : n ≡ 4 = omega arith in rw e (masks .3);
-      starts = λ n e s. let d : n ≡ 3 = omega arith in no-two 3 (omega arith) (omega arith) (rw d at s);
-      ends = λ l s. absurd (omega (arith, steps));
+      first-ordinary = no-trams 4;
+      last-ordinary = no-trams 4;
+      shows = λ n a b o. let e : n ≡ 4 = omega arith in rw e (masks .3);
+      starts = λ n l o none s. elim (decLe n 2) [ yes u ↦ true≢false (sym (no-trams 3) ∙ none 3 (omega arith) (omega arith)) | no u ↦ no-two n (omega arith) (omega arith) s ];
+      ends = λ n l k o none s. absurd (omega (arith, steps));
     }
 
 pub corridor-red : Red network plan 0 2 0 3
 corridor-red =
-    record { start = 0; end = 4; green = first; next-green = second; in-order = omega arith; none-between = no-two }
+    record { start = 0; end = 4; green = first; next-green = second; in-order = omega arith; none-between = λ n a b o s. no-two n a b s }

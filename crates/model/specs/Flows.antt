@@ -8,7 +8,7 @@ use Rattle.model.specs.declared.Signal.{Signal}
 use Rattle.model.specs.declared.Totals.{Totals}
 use Rattle.model.specs.Test.{_or_}
 use Rattle.model.specs.Sum.{sum, only}
-use Rattle.model.specs.Network.{entry, linkCount, signalCount, movementCount, signal, travelTime, signalOf, phaseMask, standing, fromLink, toLink, stepLength, time, arrivalStep, elapsed, demand}
+use Rattle.model.specs.Network.{entry, linkCount, signalCount, movementCount, signal, travelTime, signalOf, phaseMask, standing, fromLink, toLink, stepLength, time, arrivalStep, elapsed, demand, ordinary}
 use Rattle.model.specs.Signals.{phaseOf, opens, after}
 
 -- the demand of link i in the first n steps, and of all links in step n
@@ -36,10 +36,10 @@ module _ (network plan : List Line) where
   unfoldable pub shownIn : ℕ → ℕ → ℕ
   shownIn n r = phaseOf (shownMask n r) (signal network r .phases)
 
-  -- signal r at boundary n
+  -- signal r at boundary n: it goes on in ordinary steps alone, and in a tram's step stands still
   unfoldable pub signalAt : ℕ → ℕ → Signal
   signalAt zero r = signal network r
-  signalAt (suc n) r = after (signalAt n r) (shownIn n r) (stepLength network n)
+  signalAt (suc n) r = cond (ordinary network n r) (after (signalAt n r) (shownIn n r) (stepLength network n)) (signalAt n r)
 
   -- a link without a signal is always open; another is open in step n if its signal shows a phase of the link's mask
   unfoldable pub isOpen : ℕ → ℕ → Bool

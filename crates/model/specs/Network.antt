@@ -1,15 +1,16 @@
 -- What the lines of a network text say ("The two texts"). Lines, signals, links, movements and steps are counted from 0 here, phases from 1.
 -- Assumes nothing.
 use Prim.Native.Nat.{ℕ, zero, suc, _+_, _*_, _-_}
-use mathlib.Core.List.{List}
-use mathlib.Core.Bool.{cond}
-use lib.Dec.{leb}
-use lib.ListN.{getD}
+use mathlib.Core.List.{List, [], _∷_}
+use mathlib.Core.Bool.{cond, Bool}
+use lib.Dec.{leb, eqb}
+use lib.ListN.{getD, take, drop}
 use Rattle.records.specs.Lines.{Line, noLine, number}
 use Rattle.model.specs.declared.Signal.{Signal}
+use Rattle.model.specs.Test.{_and_, within}
 use Rattle.model.specs.Sum.{sum, list}
 
--- the limits: links, signals, movements, steps
+-- the limits: links, signals, movements, steps, tram lines
 abbrev pub maxLinks : ℕ
 maxLinks = 24
 
@@ -22,12 +23,25 @@ maxMovements = 64
 abbrev pub maxSteps : ℕ
 maxSteps = 120
 
+abbrev pub maxTrams : ℕ
+maxTrams = 16
+
 -- number k of line i
 unfoldable pub entry : List Line → ℕ → ℕ → ℕ
 entry text i k = number (getD text i noLine) k
 
+-- ---- trams: the numbers of a `T` line are signal, phase, first step and last step, all from 1
+-- the line is for signal r in step n
+unfoldable pub covers : Line → ℕ → ℕ → Bool
+covers tram r n = eqb (number tram 0) (suc r) and within (number tram 2) (suc n) (number tram 3)
+
+-- the phase that a tram asks of signal r in step n (C17, C18); 0 in an ordinary step
+unfoldable pub tramPhase : List Line → ℕ → ℕ → ℕ
+tramPhase [] r n = 0
+tramPhase (tram ∷ more) r n = cond (covers tram r n) (number tram 1) (tramPhase more r n)
+
 module _ (network : List Line) where
-  -- the `N` line: L, R, M, K
+  -- the `N` line: L, R, M, K, and the count of `T` lines
   unfoldable pub linkCount : ℕ
   linkCount = entry network 0 0
 
@@ -40,18 +54,32 @@ module _ (network : List Line) where
   unfoldable pub stepCount : ℕ
   stepCount = entry network 0 3
 
-  -- the places of the `G`, `Q`, `M` and `S` lines
+  unfoldable pub tramCount : ℕ
+  tramCount = entry network 0 4
+
+  -- the places of the `T`, `G`, `Q`, `M` and `S` lines
+  unfoldable pub tramLine : ℕ → ℕ
+  tramLine k = 1 + k
+
   unfoldable pub signalLine : ℕ → ℕ
-  signalLine r = 1 + r
+  signalLine r = 1 + (tramCount + r)
 
   unfoldable pub linkLine : ℕ → ℕ
-  linkLine i = 1 + (signalCount + i)
+  linkLine i = 1 + (tramCount + (signalCount + i))
 
   unfoldable pub movementLine : ℕ → ℕ
-  movementLine j = 1 + (signalCount + (linkCount + j))
+  movementLine j = 1 + (tramCount + (signalCount + (linkCount + j)))
 
   unfoldable pub stepLine : ℕ → ℕ
-  stepLine n = 1 + (signalCount + (linkCount + (movementCount + n)))
+  stepLine n = 1 + (tramCount + (signalCount + (linkCount + (movementCount + n))))
+
+  -- the `T` lines
+  unfoldable pub trams : List Line
+  trams = take tramCount (drop 1 network)
+
+  -- no tram claims signal r in step n
+  unfoldable pub ordinary : ℕ → ℕ → Bool
+  ordinary n r = eqb (tramPhase trams r n) 0
 
   -- signal r before the plan, by its `G` line; the times of a phase past 8 are not kept
   unfoldable pub signal : ℕ → Signal

@@ -1,14 +1,14 @@
--- The rules, each a test: refusals 2 to 6 of a network's values, and rules 10 to 18 and 25 to 27 of step n. Assumes nothing.
+-- The rules, each a test: refusals 2 to 6 and 28 of a network's values, and rules 10 to 18, 25 to 27 and 29 of step n. Assumes nothing.
 use Prim.Native.Nat.{ℕ, zero, suc, _+_, _*_, _-_, _^_}
 use mathlib.Core.Bool.{Bool, true, not, cond}
 use mathlib.Core.List.{List}
 use lib.Dec.{leb, ltb, eqb}
 use lib.ListN.{getD}
-use Rattle.records.specs.Lines.{Line}
+use Rattle.records.specs.Lines.{Line, noLine, number}
 use Rattle.model.specs.declared.Signal.{Signal}
 use Rattle.model.specs.Test.{_and_, _or_, within, every}
 use Rattle.model.specs.Sum.{sum, only}
-use Rattle.model.specs.Network.{maxLinks, maxSignals, maxMovements, maxSteps, linkCount, signalCount, movementCount, stepCount, signal, capacity, travelTime, exitRate, signalOf, phaseMask, standing, fromLink, toLink, rate, share, stepLength, demand}
+use Rattle.model.specs.Network.{maxLinks, maxSignals, maxMovements, maxSteps, maxTrams, linkCount, signalCount, movementCount, stepCount, tramCount, tramLine, trams, tramPhase, ordinary, signal, capacity, travelTime, exitRate, signalOf, phaseMask, standing, fromLink, toLink, rate, share, stepLength, demand}
 use Rattle.model.specs.Signals.{greatestTime, showsOnePhase, keepsOrder, keepsLeastTime, keepsGreatestTime, keepsCycle}
 use Rattle.model.specs.Flows.{offered, taken, letOut, moved, shownIn, signalAt, isOpen, movedFrom, entered, left, hasArrived}
 
@@ -26,12 +26,32 @@ validSignal s =
     and within (s .«shown_for») (s .«cycle_clock») (s .«greatest_cycle»)
     and (not (eqb (s .shown) 1) or eqb (s .«cycle_clock») (s .«shown_for»))
 
+-- two tram lines that are not for one signal in one step
+unfoldable pub apart : Line → Line → Bool
+apart t u = not (eqb (number t 0) (number u 0)) or ltb (number t 3) (number u 2) or ltb (number u 3) (number t 2)
+
+-- 28, a tram line: its signal is 1 to R, its steps are 1 to K and do not run backwards
+unfoldable pub tramExists : ℕ → ℕ → Line → Bool
+tramExists R K t = within 1 (number t 0) R and leb 1 (number t 2) and within (number t 2) (number t 3) K
+
 module _ (network : List Line) where
-  -- 2: L 1 to 24, R 0 to 8, M 0 to 64, K 1 to 120
+  -- 2: L 1 to 24, R 0 to 8, M 0 to 64, K 1 to 120, 0 to 16 `T` lines
   unfoldable pub validCounts : Bool
   validCounts =
       within 1 (linkCount network) maxLinks and leb (signalCount network) maxSignals and leb (movementCount network) maxMovements
-      and within 1 (stepCount network) maxSteps
+      and within 1 (stepCount network) maxSteps and leb (tramCount network) maxTrams
+
+  -- `T` line k
+  abbrev pub tram : ℕ → Line
+  tram k = getD network (tramLine network k) noLine
+
+  -- 28, `T` line k: its signal and steps exist, and no earlier line is for its signal in one of them
+  unfoldable pub validTram : ℕ → Bool
+  validTram k = tramExists (signalCount network) (stepCount network) (tram k) and every k (λ j. apart (tram j) (tram k))
+
+  -- 28, after the last `G` line: the phase of `T` line k is one of its signal
+  unfoldable pub validTramPhase : ℕ → Bool
+  validTramPhase k = within 1 (number (tram k) 1) (signal network (number (tram k) 0 - 1) .phases)
 
   -- 4, the mask of link i: 0 without a signal; with one not 0, and no phase above its P
   unfoldable pub validMask : ℕ → Bool
@@ -78,21 +98,26 @@ module _ (network : List Line) where
       and every (linkCount network) (λ i. leb (demand network n i) 600_000)
 
 module _ (network plan : List Line) (n : ℕ) where
-  -- 10 to 14 of signal r: as `Signals` has them, for the signal at the step's start
+  -- 10 of signal r, in every step
   unfoldable pub rule10 : ℕ → Bool
   rule10 r = showsOnePhase (shownIn network plan n r)
 
+  -- 29 (C17): in a tram's step its phase is shown
+  unfoldable pub rule29 : ℕ → Bool
+  rule29 r = ordinary network n r or eqb (shownIn network plan n r) (tramPhase (trams network) r n)
+
+  -- 11 to 14 of signal r, in ordinary steps: as `Signals` has them, for the signal at the step's start
   unfoldable pub rule11 : ℕ → Bool
-  rule11 r = keepsOrder (signalAt network plan n r) (shownIn network plan n r)
+  rule11 r = not (ordinary network n r) or keepsOrder (signalAt network plan n r) (shownIn network plan n r)
 
   unfoldable pub rule12 : ℕ → Bool
-  rule12 r = keepsLeastTime (signalAt network plan n r) (shownIn network plan n r)
+  rule12 r = not (ordinary network n r) or keepsLeastTime (signalAt network plan n r) (shownIn network plan n r)
 
   unfoldable pub rule13 : ℕ → Bool
-  rule13 r = keepsGreatestTime (signalAt network plan n r) (shownIn network plan n r) (stepLength network n)
+  rule13 r = not (ordinary network n r) or keepsGreatestTime (signalAt network plan n r) (shownIn network plan n r) (stepLength network n)
 
   unfoldable pub rule14 : ℕ → Bool
-  rule14 r = keepsCycle (signalAt network plan n r) (shownIn network plan n r) (stepLength network n)
+  rule14 r = not (ordinary network n r) or keepsCycle (signalAt network plan n r) (shownIn network plan n r) (stepLength network n)
 
   -- 15 (C2), link i: admitted by the step's end is at most demand by then
   unfoldable pub rule15 : ℕ → Bool

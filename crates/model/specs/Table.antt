@@ -7,8 +7,8 @@ use lib.Dec.{leb, eqb}
 use lib.ListN.{length, getD}
 use Rattle.search.specs.Checks.{Checks, check, each, _then_, Rule, table}
 use Rattle.records.specs.Lines.{Line, noLine, isRecord, startsAs}
-use Rattle.model.specs.Network.{linkCount, signalCount, movementCount, stepCount, signalLine, linkLine, movementLine, stepLine, signal}
-use Rattle.model.specs.Rules.{validPhases, validSignal, validCounts, validLink, validMovement, lastMovement, validShares, validStep, rule10, rule11, rule12, rule13, rule14, rule15, rule16, rule17, rule18, rule25, rule26, rule27}
+use Rattle.model.specs.Network.{linkCount, signalCount, movementCount, stepCount, tramCount, tramLine, signalLine, linkLine, movementLine, stepLine, signal}
+use Rattle.model.specs.Rules.{validPhases, validSignal, validCounts, validTram, validTramPhase, validLink, validMovement, lastMovement, validShares, validStep, rule10, rule11, rule12, rule13, rule14, rule15, rule16, rule17, rule18, rule25, rule26, rule27, rule29}
 
 -- line i is there, is ended, and has the letter and k numbers
 unfoldable pub isForm : List Line → ℕ → ℕ → ℕ → Bool
@@ -22,6 +22,9 @@ recordChecks text line letter width number item valid =
 -- the letters of the records
 abbrev pub letterN : ℕ
 letterN = 78
+
+abbrev pub letterT : ℕ
+letterT = 84
 
 abbrev pub letterG : ℕ
 letterG = 71
@@ -41,7 +44,11 @@ letterP = 80
 module _ (network : List Line) where
   -- the `N` line
   unfoldable pub countChecks : Checks
-  countChecks = recordChecks network 0 letterN 4 2 0 (validCounts network)
+  countChecks = recordChecks network 0 letterN 5 2 0 (validCounts network)
+
+  -- `T` line k
+  unfoldable pub tramChecks : ℕ → Checks
+  tramChecks k = recordChecks network (tramLine network k) letterT 4 28 0 (validTram network k)
 
   -- `G` line r: a line whose first seven fields are good gets 3 for a bad P before 1 for anything later in it
   unfoldable pub signalChecks : ℕ → Checks
@@ -50,6 +57,10 @@ module _ (network : List Line) where
       then check 3 (suc (signalLine network r)) (suc r) (validPhases (signal network r))
       then check 1 (suc (signalLine network r)) 0 (isForm network (signalLine network r) letterG (6 + 2 * signal network r .phases))
       then check 3 (suc (signalLine network r)) (suc r) (validSignal (signal network r))
+
+  -- the phase of `T` line k, told at that line
+  unfoldable pub tramPhaseChecks : ℕ → Checks
+  tramPhaseChecks k = check 28 (suc (tramLine network k)) 0 (validTramPhase network k)
 
   -- `Q` line i
   unfoldable pub linkChecks : ℕ → Checks
@@ -72,7 +83,9 @@ module _ (network : List Line) where
   unfoldable pub networkChecks : Checks
   networkChecks =
       countChecks
+      then each (tramCount network) tramChecks
       then each (signalCount network) signalChecks
+      then each (tramCount network) tramPhaseChecks
       then each (linkCount network) linkChecks
       then each (movementCount network) movementChecks
       then each (linkCount network) shareChecks
@@ -84,10 +97,11 @@ module _ (network : List Line) where
   ledgerChecks size = check 8 0 0 (leb (2 * suc (stepCount network) * linkCount network) size)
 
 module _ (network plan : List Line) where
-  -- the rules at step n, in their order: 10 to 14 of the signals ..
+  -- the rules at step n, in their order: 10, 29 and 11 to 14 of the signals ..
   unfoldable pub signalRules : ℕ → List Rule
   signalRules n =
       record { number = 10; items = signalCount network; holds = rule10 network plan n }
+      ∷ record { number = 29; items = signalCount network; holds = rule29 network plan n }
       ∷ record { number = 11; items = signalCount network; holds = rule11 network plan n }
       ∷ record { number = 12; items = signalCount network; holds = rule12 network plan n }
       ∷ record { number = 13; items = signalCount network; holds = rule13 network plan n }

@@ -1,6 +1,6 @@
 -- The stages of a network's reading, one after another: where one is refused, so is the network; and what each asks of those before it. Assumes nothing.
 use Prim.Native.Nat.{ℕ}
-use mathlib.Core.Path.{_≡_, refl, sym, _∙_}
+use mathlib.Core.Path.{_≡_, sym, _∙_}
 use mathlib.Core.List.{List}
 use native.Mathlib.Omega.{arith}
 use lib.ListN.{length}
@@ -18,16 +18,17 @@ use Rattle.model.proofs.Numbers.{network-promises}
 use Rattle.tables.specs.declared.Reading.{Reading}
 use Rattle.tables.specs.declared.Stage.{Stage}
 use Rattle.tables.specs.declared.Stage.the-variants.{Passed, Refused}
-use Rattle.tables.specs.Blocks.{blockChecks, signalBlock, linkBlock, movementBlock, stepBlock}
+use Rattle.tables.specs.Blocks.{blockChecks, linkBlock, movementBlock, stepBlock}
 use Rattle.tables.specs.Tables.{Judged}
 use Rattle.tables.proofs.Stages.{judged-refused, verdict-passed, verdict-refused}
 use Rattle.network_signals.specs.Counts.{CountsHeld}
-use Rattle.network_signals.specs.Stages.{SignalsAsked, SignalsHeld}
+use Rattle.network_signals.specs.Stages.{SignalsHeld}
 use Rattle.network_links.specs.Movements.{shareChecksIn}
 use Rattle.network_links.specs.Stages.{LinksAsked, LinksHeld, MovementsAsked, MovementsHeld, SharesAsked}
 use Rattle.network_links.proofs.Movements.{shares-asked, shares-checked}
 use Rattle.network_steps.specs.Steps.{StepsAsked, StepsHeld}
-use Rattle.network.specs.Loading.{endChecks, EndAsked, Rooms, Loaded}
+use Rattle.network.specs.Loading.{firstChecks, FirstAsked, endChecks, EndAsked, Rooms, Loaded}
+use Rattle.network.proofs.First.{first-joined}
 use Rattle.network.proofs.End.{lines-within}
 
 -- ---- what is left to judge: the whole is refused where what is left of it is, and passes where nothing is left
@@ -61,11 +62,11 @@ module _ (text : List ℕ) where
   fromLinks = blockChecks (linkBlock (lines text)) then fromMovements
 
   abbrev fromSignals : Checks
-  fromSignals = blockChecks (signalBlock (lines text)) then fromLinks
+  fromSignals = firstChecks (lines text) then fromLinks
 
   whole : Left text (countChecks (lines text) then fromSignals)
   unfolding networkChecks endChecks
-  whole = refl
+  whole = first-joined (lines text) (countChecks (lines text)) (fromLinks)
 
 -- ---- the stages
 module _ {text links₀ movements₀ times₀ : List ℕ} (rooms : Rooms links₀ movements₀ times₀) {counts : Stage} (j : Judged (countChecks (lines text)) (CountsHeld text) counts) where
@@ -73,13 +74,14 @@ module _ {text links₀ movements₀ times₀ : List ℕ} (rooms : Rooms links�
   counts-stop e = stop text _ (fromSignals text) (whole text) e (verdict-refused j e)
 
   module _ {atSignals : Reading} (e₁ : counts ≡ Passed atSignals) where
-    pub signals-asked : {phases : List ℕ} → length phases ≡ maxSignals → SignalsAsked text atSignals phases
-    signals-asked room = record { counted = j .held _ e₁ .counted; starts = j .held _ e₁ .starts; room = room }
+    pub signals-asked : {phases : List ℕ} → length phases ≡ maxSignals → FirstAsked text atSignals phases
+    signals-asked room =
+        let held = j .held _ e₁ in record { counted = held .counted; starts = held .starts; trams-start = held .trams-start; room = room }
 
     left₁ : Left text (fromSignals text)
     left₁ = on text _ (fromSignals text) (whole text) (verdict-passed j e₁)
 
-    module _ {phases : List ℕ} {signals : Stage} (j₁ : Judged (blockChecks (signalBlock (lines text))) (SignalsHeld text phases) signals) where
+    module _ {phases : List ℕ} {signals : Stage} (j₁ : Judged (firstChecks (lines text)) (SignalsHeld text phases) signals) where
       pub signals-stop : {Held : Reading → Type 0} {r : Refusal} → signals ≡ Refused r → Judged (networkChecks (lines text)) Held signals
       signals-stop e = stop text _ (fromLinks text) left₁ e (verdict-refused j₁ e)
 
@@ -152,6 +154,7 @@ module _ {text links₀ movements₀ times₀ : List ℕ} (rooms : Rooms links�
                                     rw (j₆ .held after e)
                                     (record {
                                       counted = held .reached .counted;
+                                      trams-start = held .reached .trams-start;
                                       signals-start = held .reached .signals-start;
                                       steps-start = held .steps-start;
                                       link-table = j₂ .held _ e₃ .table;

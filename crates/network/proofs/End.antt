@@ -1,16 +1,15 @@
 -- What comes after the `S` lines: the end of the text. Assumes nothing.
-use Prim.Native.Nat.{ℕ, suc, _+_, _-_, _≤_, _<_}
+use Prim.Native.Nat.{ℕ, suc, _+_, _-_, _≤_}
 use mathlib.Core.Path.{_≡_, refl, sym, _∙_}
 use mathlib.Core.Bool.{Bool, true, false}
 use mathlib.Core.List.{List}
-use native.Mathlib.Decide.{decLe}
 use native.Mathlib.Omega.{arith}
-use lib.ListN.{length, getD, List·getD-eq-default}
+use lib.ListN.{length}
 use Rattle.search.specs.declared.Refusal.{Refusal}
 use Rattle.search.specs.declared.Verdict.the-variants.{Passes}
 use Rattle.search.specs.Checks.{refusal, Hold, verdict}
 use Rattle.search.proofs.Laws.{first-all, checked-passes, checked-refused, hold-of-passes}
-use Rattle.records.specs.Lines.{Line, lines, noLine, isRecord}
+use Rattle.records.specs.Lines.{Line, lines}
 use Rattle.records.specs.Reading.{atEnd}
 use Rattle.records.proofs.Laws.{starts-end}
 use Rattle.model.specs.Network.{linkCount, stepCount, stepLine}
@@ -20,17 +19,9 @@ use Rattle.tables.specs.declared.Stage.the-variants.{Passed, Refused}
 use Rattle.tables.specs.Places.{stepLineIn}
 use Rattle.tables.specs.Blocks.{blockChecks, stepBlock}
 use Rattle.tables.specs.Tables.{Judged}
-use Rattle.tables.proofs.Places.{step-line-is}
+use Rattle.tables.proofs.Places.{record-within, step-line-is}
 use Rattle.tables.proofs.Stages.{judged-refused, judged-passed}
 use Rattle.network.specs.Loading.{endChecks, EndAsked}
-
--- a record is one of the text's lines
-record-within : (letter n : ℕ) (text : List Line) (i : ℕ) → isRecord letter n (getD text i noLine) ≡ true → i < length text
-unfolding isRecord
-record-within letter n text i e = elim (decLe (length text) i) [
-  | yes h ↦ let z : _≡_ {A = Bool} false true = rw (List·getD-eq-default text noLine h) at e in let o : _≡_ {A = ℕ} 0 1 = cc in absurd (omega arith)
-  | no h ↦ omega arith
-]
 
 -- all lines of a network whose `S` lines pass are there
 pub lines-within : (network : List Line) → 1 ≤ stepCount network → verdict (blockChecks (stepBlock network)) ≡ Passes → stepLine network (stepCount network) ≤ length network

@@ -4,14 +4,26 @@ use mathlib.Core.Path.{_≡_}
 use mathlib.Core.List.{List}
 use lib.Dec.{eqb}
 use lib.ListN.{length}
-use Rattle.search.specs.Checks.{Checks, check, Hold}
+use Rattle.search.specs.Checks.{Checks, check, each, _then_, Hold}
 use Rattle.records.specs.Lines.{Line, lines}
 use Rattle.records.specs.Reading.{Starts}
-use Rattle.model.specs.Network.{stepCount, signalLine, stepLine}
-use Rattle.model.specs.Table.{networkChecks}
+use Rattle.model.specs.Network.{maxSignals, stepCount, tramCount, tramLine, signalLine, stepLine}
+use Rattle.model.specs.Table.{tramPhaseChecks, networkChecks}
 use Rattle.tables.specs.declared.Reading.{Reading}
+use Rattle.tables.specs.Blocks.{blockChecks, tramBlock, signalBlock}
 use Rattle.tables.specs.Fields.{linkTableSize, movementTableSize, timeTableSize}
 use Rattle.tables.specs.Tables.{Reached, CountsHold, LinkTable, MovementTable, TimeTable}
+
+-- the `T` and the `G` lines, and the phases of the `T` lines
+abbrev pub firstChecks : List Line → Checks
+firstChecks network = blockChecks (tramBlock network) then blockChecks (signalBlock network) then each (tramCount network) (tramPhaseChecks network)
+
+-- the text after the `N` line
+pub record FirstAsked (text : List ℕ) (reading : Reading) (phases : List ℕ) : Type 0 where
+  pub counted : CountsHold (lines text) (reading .counts)
+  pub starts : Starts text (reading .next) (tramLine (lines text) 0)
+  pub trams-start : Starts text (reading .«trams_at») (tramLine (lines text) 0)
+  pub room : length phases ≡ maxSignals
 
 -- 1 where a line is surplus
 unfoldable pub endChecks : List Line → Checks
@@ -28,9 +40,10 @@ pub record Rooms (links movements times : List ℕ) : Type 0 where
   pub movement-room : length movements ≡ movementTableSize
   pub time-room : length times ≡ timeTableSize
 
--- a network that has passed: its counts, the places where its `G` and its `S` lines start, and its tables
+-- a network that has passed: its counts, the places where its `T`, its `G` and its `S` lines start, and its tables
 pub record Loaded (text links movements times : List ℕ) (reading : Reading) : Type 0 where
   pub counted : CountsHold (lines text) (reading .counts)
+  pub trams-start : Starts text (reading .«trams_at») (tramLine (lines text) 0)
   pub signals-start : Starts text (reading .«signals_at») (signalLine (lines text) 0)
   pub steps-start : Starts text (reading .«steps_at») (stepLine (lines text) 0)
   pub link-table : LinkTable (lines text) links

@@ -1,11 +1,12 @@
-// Reads a whole network text into tables and judges it: refusals 1 to 6.
+// Reads a whole network text into tables and judges it: refusals 1 to 6 and 28.
 ghost use mathlib.Core.Path.{_≡_};
 ghost use Rattle.records.specs.Lines.{lines};
 ghost use Rattle.model.specs.Table.{networkChecks};
 ghost use Rattle.model.specs.Calls.{checkNetwork};
 ghost use Rattle.model.specs.Guarantees.{NetworkPromises};
 ghost use Rattle.tables.specs.Tables.{Judged};
-ghost use Rattle.network.specs.Loading.{endChecks, EndAsked, Rooms, Loaded};
+ghost use Rattle.network_signals.specs.Stages.{SignalsHeld};
+ghost use Rattle.network.specs.Loading.{firstChecks, FirstAsked, endChecks, EndAsked, Rooms, Loaded};
 use search::Refusal;
 use search::Verdict;
 use tables::LINK_TABLE_SIZE;
@@ -14,6 +15,7 @@ use tables::MOVEMENT_TABLE_SIZE;
 use tables::Reading;
 use tables::Stage;
 use tables::TIME_TABLE_SIZE;
+use tables::TRAM_TABLE_SIZE;
 
 // After the `S` lines: refusal 1 for a surplus line, told at the line after the last.
 fn check_end(text: &[u8], reading: Reading) -> Stage
@@ -27,7 +29,24 @@ fn check_end(text: &[u8], reading: Reading) -> Stage
     Stage::Refused(Refusal::new(1, counts.step_line(counts.steps) + 1, 0))
 }
 
-// Reads a network into tables of its links, its movements and the time of each boundary, and judges it: refusals 1 to 6.
+// The `T` and the `G` lines, then the trams' phases, which are told at their `T` lines: the table of these is needed no longer.
+fn read_trams_and_signals(text: &[u8], reading: Reading, phases: &mut [u32]) -> Stage
+    requires { ⌜ FirstAsked (now text) reading (now phases) ⌝ }
+    ensures { λ r. ⌜ Judged (firstChecks (lines (now (text .entry)))) (SignalsHeld (now (text .entry)) (now (phases .exit))) r ⌝ }
+{
+    let mut trams = [0u32; TRAM_TABLE_SIZE];
+    let stage = network_trams::read_trams(text, reading, &mut trams);
+    let Stage::Passed(reading) = stage else {
+        return stage;
+    };
+    let stage = network_signals::read_signals(text, reading, phases);
+    let Stage::Passed(reading) = stage else {
+        return stage;
+    };
+    network_trams::check_tram_phases(&trams, phases, reading)
+}
+
+// Reads a network into tables of its links, its movements and the time of each boundary, and judges it: refusals 1 to 6 and 28.
 pub fn load_network(
     text: &[u8],
     links: &mut [u32],
@@ -42,7 +61,7 @@ pub fn load_network(
         return stage;
     };
     let mut phases = [0u32; MAX_SIGNALS];
-    let stage = network_signals::read_signals(text, reading, &mut phases);
+    let stage = read_trams_and_signals(text, reading, &mut phases);
     let Stage::Passed(reading) = stage else {
         return stage;
     };
@@ -65,7 +84,7 @@ pub fn load_network(
     check_end(text, reading)
 }
 
-// Check a network: refusals 1 to 6.
+// Check a network: refusals 1 to 6 and 28.
 pub fn check_network(text: &[u8]) -> Verdict
     ensures { λ r. ⌜ r ≡ checkNetwork (lines (now (text .entry))) ⌝ }
     ensures { λ r. ⌜ NetworkPromises r ⌝ }

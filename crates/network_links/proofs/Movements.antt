@@ -195,4 +195,4 @@ module _ {network : List Line} {counts : Counts} {movements : List ℕ} (c : Cou
   shares-checked =
       rw (c .links)
       (ap (λ f. verdict (each (linkCount network) f))
-      (fun-ext (λ i. rw (c .signals, c .movements, last-is (movementCount network) i (omega arith), shares-are i))))
+      (fun-ext (λ i. rw (c .trams, c .signals, c .movements, last-is (movementCount network) i (omega arith), shares-are i))))

@@ -18,7 +18,7 @@ use Rattle.records.specs.Lines.{Line, lines, noLine, startsAs}
 use Rattle.records.proofs.Laws.{record-past}
 use Rattle.model.specs.declared.Signal.{Signal}
 use Rattle.model.specs.Test.{within}
-use Rattle.model.specs.Network.{entry, signalLine, signal}
+use Rattle.model.specs.Network.{entry, tramCount, signalLine, signal}
 use Rattle.model.specs.Rules.{validPhases, validSignal}
 use Rattle.model.specs.Table.{isForm, letterG, signalChecks}
 use Rattle.model.proofs.Tests.{and-right}
@@ -27,6 +27,7 @@ use Rattle.tables.specs.declared.Stage.the-variants.{Passed, Refused}
 use Rattle.tables.specs.Places.{signalLineIn}
 use Rattle.tables.specs.Rows.{RowRead, HeadRead}
 use Rattle.tables.specs.Tables.{Judged, movedTo}
+use Rattle.tables.proofs.Places.{signal-line-is}
 use Rattle.tables.proofs.Stages.{judged-refused, judged-passed}
 use Rattle.network_signals.specs.Signals.{headFields, signalFields, signalFrom}
 use Rattle.network_signals.specs.Stages.{SignalAsked, SignalHeld}
@@ -63,8 +64,8 @@ module _ {text : List ℕ} {reading : Reading} {r : ℕ} {old : List ℕ} (asked
     (read : HeadRead letterG headFields text (reading .next) 0 old flag head) {line : ℕ} (l : line ≡ signalLineIn (reading .counts) r) where
   refused : (number item : ℕ) {after : List ℕ} {q : Refusal} → q ≡ refusal number (line + 1) item → verdict (signalChecks (lines text) r) ≡ verdicts.Refused (refusal number (suc (signalLine (lines text) r)) item)
       → Judged (signalChecks (lines text) r) (SignalHeld text r after) (Refused q)
-  unfolding signalLine
-  refused number item t e = let told : line + 1 ≡ suc (1 + r) = omega arith in rw (t, told) (judged-refused e)
+  refused number item t e =
+      let told : line + 1 ≡ suc (signalLine (lines text) r) = omega (arith, signal-line-is (asked .counted) r) in rw (t, told) (judged-refused e)
 
   -- the first seven fields
   pub stop-head : not flag ≡ true → {after : List ℕ} {q : Refusal} → q ≡ refusal 1 (line + 1) 0 → Judged (signalChecks (lines text) r) (SignalHeld text r after) (Refused q)
@@ -150,5 +151,5 @@ module _ {text : List ℕ} {reading : Reading} {r : ℕ} {old : List ℕ} (asked
                   (judged-passed (all-values (lines text) r head-well phases-well (rw phases-read at form) (sym values ∙ not-false good b))
                   (record { size = size; signals = signal-here; few = few; starts = rw on (row .held next e (signalLine (lines text) r) (asked .starts) .starts) }))
                 where
-                  on : 1 + suc r ≡ suc (1 + r)
+                  on : 1 + (tramCount (lines text) + suc r) ≡ suc (1 + (tramCount (lines text) + r))
                   on = omega arith

@@ -85,7 +85,7 @@ module _ {text : List ℕ} {reading : Reading} {phases₀ : List ℕ} (asked : S
 
   module _ {phases : List ℕ} {at shortest r : ℕ} (inv : SignalsTo text phases at shortest r) where
     pub signals-done : reading .counts .signals ≤ r → Judged (blockChecks (signalBlock (lines text))) (SignalsHeld text phases)
-        (Passed (record { counts = reading .counts; next = at; «signals_at» = reading .next; «steps_at» = reading .«steps_at»; shortest = shortest }))
+        (Passed (record { counts = reading .counts; next = at; «trams_at» = reading .«trams_at»; «signals_at» = reading .next; «steps_at» = reading .«steps_at»; shortest = shortest }))
     signals-done h =
         let past : signalCount (lines text) ≤ r = omega (arith, asked .counted .signals) in
         let end : r ≡ signalCount (lines text) = omega (arith, inv .read .passed .within) in
@@ -95,6 +95,7 @@ module _ {text : List ℕ} {reading : Reading} {phases₀ : List ℕ} (asked : S
               record {
                 counted = asked .counted;
                 starts = rw links-after-signals at (block-end (inv .read) past);
+                trams-start = asked .trams-start;
                 signals-start = asked .starts;
                 shortest-time = record { least = rw end at (inv .least) };
               };
@@ -103,7 +104,7 @@ module _ {text : List ℕ} {reading : Reading} {phases₀ : List ℕ} (asked : S
 
     module _ (h : r < reading .counts .signals) where
       pub signal-asked : {moved : Reading} → moved ≡ movedTo reading at → SignalAsked text moved r (replicate signalFields 0)
-      signal-asked e = rw e (record { starts = inv .read .starts; few = omega (arith, asked .counted .few .signals); clear = zeros-clear })
+      signal-asked e = rw e (record { starts = inv .read .starts; counted = asked .counted; few = omega (arith, asked .counted .few .signals); clear = zeros-clear })
 
       module _ {fields : List ℕ} {stage : Stage} (got : Judged (signalChecks (lines text) r) (SignalHeld text r fields) stage) where
         below : r < signalCount (lines text)
@@ -145,30 +146,30 @@ module _ {text : List ℕ} {reading : Reading} (asked : LoadAsked text reading) 
   module _ {signals : List Signal} {at r : ℕ} (inv : LoadedTo text signals at r) where
     pub loaded-all : reading .counts .signals ≤ r → SignalTable (lines text) signals
     loaded-all h =
-        let end : r ≡ signalCount (lines text) = omega (arith, inv .within, asked .counted) in
+        let end : r ≡ signalCount (lines text) = omega (arith, inv .within, asked .counted .signals) in
         record { size = inv .size; holds = rw end at (inv .holds) }
 
     module _ (h : r < reading .counts .signals) where
       pub loaded-asked : {moved : Reading} → moved ≡ movedTo reading at → SignalAsked text moved r (replicate signalFields 0)
-      loaded-asked e = rw e (record { starts = inv .starts; few = omega (arith, asked .few); clear = zeros-clear })
+      loaded-asked e = rw e (record { starts = inv .starts; counted = asked .counted; few = omega (arith, asked .counted .few .signals); clear = zeros-clear })
 
       module _ {fields : List ℕ} {stage : Stage} (got : Judged (signalChecks (lines text) r) (SignalHeld text r fields) stage) where
         pub loaded-next : {passed : Reading} → stage ≡ Passed passed → {s : Signal} → s ≡ signalFrom fields → LoadedTo text (set signals r s) (passed .next) (r + 1)
         loaded-next {passed} e {s} q =
             record {
-              within = omega (arith, asked .counted);
+              within = omega (arith, asked .counted .signals);
               starts = rw add-one (got .held passed e .starts);
               size = length-set signals r s ∙ inv .size;
               holds = below-next (λ i. getD (set signals r s) i noSignal ≡ signal (lines text) i) r
                   (λ i j. getD-set-other signals r i s noSignal (λ z. omega arith) ∙ inv .holds i j)
-                  (getD-set-same signals r s noSignal (omega (arith, inv .size, asked .few)) ∙ line-signal got e q);
+                  (getD-set-same signals r s noSignal (omega (arith, inv .size, asked .counted .few .signals)) ∙ line-signal got e q);
             }
 
         -- lines that have passed are not refused
         pub loaded-stop : {q : Refusal} → stage ≡ Refused q → SignalTable (lines text) signals
         unfolding verdict
         loaded-stop e =
-            let one = first-all (λ i. verdict (signalChecks (lines text) i)) (signalCount (lines text)) (asked .passed) r (omega (arith, asked .counted)) in
+            let one = first-all (λ i. verdict (signalChecks (lines text) i)) (signalCount (lines text)) (asked .passed) r (omega (arith, asked .counted .signals)) in
             let other = verdict-refused got e in
             let z : _≡_ {A = ℕ} 0 1 = cc in
             absurd (omega arith)

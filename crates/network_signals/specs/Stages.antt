@@ -7,7 +7,7 @@ use Rattle.search.specs.declared.Verdict.the-variants.{Passes}
 use Rattle.search.specs.Checks.{verdict}
 use Rattle.records.specs.Lines.{lines}
 use Rattle.records.specs.Reading.{Starts}
-use Rattle.model.specs.Network.{maxSignals, signalCount, signalLine, linkLine, signal}
+use Rattle.model.specs.Network.{maxSignals, tramLine, signalLine, linkLine, signal}
 use Rattle.tables.specs.declared.Reading.{Reading}
 use Rattle.tables.specs.Blocks.{blockChecks, signalBlock}
 use Rattle.tables.specs.Tables.{CountsHold, PhaseTable, Reached}
@@ -21,6 +21,7 @@ pub record Clear (n : ℕ) (fields : List ℕ) : Type 0 where
 -- `G` line r is the next of the text
 pub record SignalAsked (text : List ℕ) (reading : Reading) (r : ℕ) (fields : List ℕ) : Type 0 where
   pub starts : Starts text (reading .next) (signalLine (lines text) r)
+  pub counted : CountsHold (lines text) (reading .counts)
   pub few : r < maxSignals
   pub clear : Clear headFields fields
 
@@ -34,6 +35,7 @@ pub record SignalHeld (text : List ℕ) (r : ℕ) (fields : List ℕ) (reading :
 -- all `G` lines
 pub record SignalsAsked (text : List ℕ) (reading : Reading) (phases : List ℕ) : Type 0 where
   pub counted : CountsHold (lines text) (reading .counts)
+  pub trams-start : Starts text (reading .«trams_at») (tramLine (lines text) 0)
   pub starts : Starts text (reading .next) (signalLine (lines text) 0)
   pub room : length phases ≡ maxSignals
 
@@ -44,6 +46,5 @@ pub record SignalsHeld (text phases : List ℕ) (reading : Reading) : Type 0 whe
 -- `G` lines that have passed are loaded again
 pub record LoadAsked (text : List ℕ) (reading : Reading) : Type 0 where
   pub starts : Starts text (reading .«signals_at») (signalLine (lines text) 0)
-  pub counted : reading .counts .signals ≡ signalCount (lines text)
-  pub few : reading .counts .signals ≤ maxSignals
+  pub counted : CountsHold (lines text) (reading .counts)
   pub passed : verdict (blockChecks (signalBlock (lines text))) ≡ Passes

@@ -19,11 +19,12 @@ use tables::MAX_LINKS;
 use tables::MAX_MOVEMENTS;
 use tables::MAX_SIGNALS;
 use tables::MAX_STEPS;
+use tables::MAX_TRAMS;
 use tables::Reading;
 use tables::Stage;
 
 // How many numbers an `N` line has, a `G` line before those of its phases, and a `G` line at most: eight phases.
-const COUNT_FIELDS: usize = 4;
+const COUNT_FIELDS: usize = 5;
 
 const HEAD_FIELDS: usize = 6;
 
@@ -37,6 +38,7 @@ fn valid_counts(counts: Counts) -> bool
         & (counts.signals <= MAX_SIGNALS)
         & (counts.movements <= MAX_MOVEMENTS)
         & ((1 <= counts.steps) & (counts.steps <= MAX_STEPS))
+        & (counts.trams <= MAX_TRAMS)
 }
 
 // The counts of an `N` line's numbers.
@@ -49,6 +51,7 @@ fn counts_from(fields: &[u32]) -> Counts
         signals: tables::index(fields[1]),
         movements: tables::index(fields[2]),
         steps: tables::index(fields[3]),
+        trams: tables::index(fields[4]),
     }
 }
 
@@ -68,6 +71,7 @@ pub fn read_counts(text: &[u8]) -> Stage
     Stage::Passed(Reading {
         counts,
         next,
+        trams_at: next,
         signals_at: next,
         steps_at: next,
         shortest: 0,
@@ -233,6 +237,7 @@ pub fn read_signals(text: &[u8], reading: Reading, phases: &mut [u32]) -> Stage
     Stage::Passed(Reading {
         counts,
         next: place,
+        trams_at: reading.trams_at,
         signals_at: reading.next,
         steps_at: reading.steps_at,
         shortest,

@@ -98,13 +98,13 @@ module _ {text : List ℕ} {reading : Reading} {times₀ : List ℕ} (asked : St
   module _ {times step : List ℕ} {at n : ℕ} (inv : StepsTo text times step at n) where
     pub steps-done : reading .counts .steps ≤ n
         → Judged (blockChecks (stepBlock (lines text))) (StepsHeld text times)
-        (Passed (record { counts = reading .counts; next = at; «signals_at» = reading .«signals_at»; «steps_at» = reading .next; shortest = reading .shortest }))
+        (Passed (record { counts = reading .counts; next = at; «trams_at» = reading .«trams_at»; «signals_at» = reading .«signals_at»; «steps_at» = reading .next; shortest = reading .shortest }))
     steps-done h =
         let past : stepCount (lines text) ≤ n = omega (arith, asked .reached .counted .steps) in
         let r = asked .reached in
         judged-passed (passed-all (inv .read .passed) past)
         (record {
-          reached = record { counted = r .counted; starts = block-end (inv .read) past; signals-start = r .signals-start; shortest-time = r .shortest-time };
+          reached = record { counted = r .counted; starts = block-end (inv .read) past; trams-start = r .trams-start; signals-start = r .signals-start; shortest-time = r .shortest-time };
           steps-start = r .starts;
           table = record { size = inv .room; holds = λ m l. inv .holds m (omega arith) };
         })

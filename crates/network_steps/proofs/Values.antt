@@ -13,7 +13,7 @@ use Rattle.records.specs.Lines.{Line}
 use Rattle.model.specs.Test.{_and_, within, every}
 use Rattle.model.specs.Network.{linkCount, stepLength}
 use Rattle.model.specs.Rules.{validStep}
-use Rattle.model.proofs.Tests.{and-left, and-right}
+use Rattle.model.proofs.Tests.{and-left, and-right, every-same}
 use Rattle.tables.specs.Fields.{demandIn}
 use Rattle.tables.specs.Tables.{Shortest, StepNumbers}
 use Rattle.tables.proofs.Tables.{step-length-at, demand-at}
@@ -48,11 +48,6 @@ module _ (step : List ℕ) (links i : ℕ) where
 
   pub demands-all : i ≤ links → links ≤ i → validDemandsIn step i ≡ true → true ≡ validDemandsIn step links
   demands-all u l h = let e : i ≡ links = omega arith in sym (rw e at h)
-
-every-same : (n : ℕ) (f g : ℕ → Bool) → ((k : ℕ) → k < n → f k ≡ g k) → every n f ≡ every n g
-unfolding every
-every-same zero f g h = refl
-every-same (suc n) f g h = ap₂ _and_ (every-same n f g (λ k l. h k (omega arith))) (h n (omega arith))
 
 within-high : (low x high : ℕ) → within low x high ≡ true → x ≤ high
 unfolding within

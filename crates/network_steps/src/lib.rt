@@ -76,6 +76,7 @@ pub fn read_steps(text: &[u8], reading: Reading, times: &mut [u32]) -> Stage
     Stage::Passed(Reading {
         counts,
         next: place,
+        trams_at: reading.trams_at,
         signals_at: reading.signals_at,
         steps_at: reading.next,
         shortest: reading.shortest,

@@ -101,10 +101,10 @@ module _ (networkText planText links movements times old : List ℕ) (reading : 
       same-length : length ledger ≡ length old
       same-length = ap length first ∙ length-written net pln old 1 (omega (arith, start-room))
 
-      pub run-asked : (signals : List Signal) → SignalTable net signals → RunAsked networkText planText (reading .counts) signals links movements times ledger (reading .«steps_at»)
+      pub run-asked : (signals : List Signal) → SignalTable net signals → RunAsked networkText planText (reading .counts) signals links movements times ledger (reading .«steps_at») (reading .«trams_at»)
       run-asked signals t =
           record {
-            tables = record { holds = loaded .holds; counted = loaded .counted; link-table = loaded .link-table; movement-table = loaded .movement-table; time-table = loaded .time-table };
+            tables = record { holds = loaded .holds; counted = loaded .counted; trams-start = loaded .trams-start; link-table = loaded .link-table; movement-table = loaded .movement-table; time-table = loaded .time-table };
             steps-start = loaded .steps-start;
             signal-table = t;
             rows = first ∙ sym (written-again net pln old 1 1 (omega arith)) ∙ ap (λ x. written net pln x 1) (sym first);
@@ -133,9 +133,8 @@ unfolding Hold networkChecks
 signals-asked {networkText} {reading = reading} loaded =
     record {
       starts = loaded .signals-start;
-      counted = loaded .counted .signals;
-      few = loaded .counted .few .signals;
-      passed = passes-of-hold _ (loaded .holds .1 .0);
+      counted = loaded .counted;
+      passed = passes-of-hold _ (loaded .holds .1 .1 .0);
     }
 
 -- a network's refusal

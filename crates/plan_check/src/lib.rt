@@ -35,6 +35,7 @@ fn judge_plan(
     step_rows::write_start(ledger, links, counts);
     let signals = network_signals::load_signals(network, reading);
     let steps_at = reading.steps_at;
+    let trams_at = reading.trams_at;
     plan_steps::run_steps(
         network,
         plan,
@@ -45,10 +46,11 @@ fn judge_plan(
         times,
         ledger,
         steps_at,
+        trams_at,
     )
 }
 
-// Check a plan: refusals 1 to 6, 8 to 18, and 25 to 27. A refusal writes only row 0 and the rows of steps that had passed.
+// Check a plan: refusals 1 to 6, 8 to 18, and 25 to 29. A refusal writes only row 0 and the rows of steps that had passed.
 pub fn check_plan(network: &[u8], plan: &[u8], ledger: &mut [u32]) -> PlanAnswer
     ensures { λ r. ⌜ r ≡ checkPlan (lines (now (network .entry))) (planOf (now (network .entry)) (now (plan .entry))) (length (now (ledger .entry))) ⌝ }
     ensures { λ r. ⌜ now (ledger .exit) ≡ ledgerAfter (lines (now (network .entry))) (planOf (now (network .entry)) (now (plan .entry))) (now (ledger .entry)) ⌝ }

@@ -91,15 +91,15 @@ module _ (plan : List ℕ) (at steps : ℕ) (t : Totals) (b : Bool) (e : b ≡ a
   finish-more h = rw (← e, h)
 
 -- ---- the loop
-pub held-asked : {networkText planText : List ℕ} {counts : Counts} {signals : List Signal} {links movements times old : List ℕ} {stepsAt : ℕ}
-    → RunAsked networkText planText counts signals links movements times old stepsAt → (counts .links ≤ maxLinks) × (2 * counts .links ≤ length old)
+pub held-asked : {networkText planText : List ℕ} {counts : Counts} {signals : List Signal} {links movements times old : List ℕ} {stepsAt tramsAt : ℕ}
+    → RunAsked networkText planText counts signals links movements times old stepsAt tramsAt → (counts .links ≤ maxLinks) × (2 * counts .links ≤ length old)
 held-asked {networkText} a =
     let m : 1 ≤ suc (stepCount (lines networkText)) = omega arith in
     (a .tables .counted .few .links, omega (arith, a .tables .counted .links, a .room, mul-le-mul-right (2 * linkCount (lines networkText)) m))
 
-pub running-first : {networkText planText : List ℕ} {counts : Counts} {signals : List Signal} {links movements times old : List ℕ} {stepsAt : ℕ}
-    → RunAsked networkText planText counts signals links movements times old stepsAt → (held : ℕ) → held ≡ heldIn counts old → (arrivals waiting : List ℕ) → arrivals ≡ replicate maxLinks 0 → waiting ≡ replicate maxLinks 0
-    → Running networkText planText counts links movements times old
+pub running-first : {networkText planText : List ℕ} {counts : Counts} {signals : List Signal} {links movements times old : List ℕ} {stepsAt tramsAt : ℕ}
+    → RunAsked networkText planText counts signals links movements times old stepsAt tramsAt → (held : ℕ) → held ≡ heldIn counts old → (arrivals waiting : List ℕ) → arrivals ≡ replicate maxLinks 0 → waiting ≡ replicate maxLinks 0
+    → Running networkText planText counts tramsAt links movements times old
     (record { boundary = 0; «step_at» = stepsAt; «plan_at» = 0; signals = signals; totals = record { admitted = 0; «let_out» = 0; inside = held; «doubled_time» = 0 }; outside = 0 }) arrivals waiting old
 running-first {networkText} {planText} {counts} {signals} {old = old} a held e arrivals waiting zeros none =
     let net = lines networkText in
@@ -127,8 +127,8 @@ running-first {networkText} {planText} {counts} {signals} {old = old} a held e a
       long = refl;
     }
 
-module _ {networkText planText : List ℕ} {counts : Counts} {links movements times old : List ℕ} {state : State} {arrivals waiting ledger : List ℕ}
-    (r : Running networkText planText counts links movements times old state arrivals waiting ledger) where
+module _ {networkText planText : List ℕ} {counts : Counts} {tramsAt : ℕ} {links movements times old : List ℕ} {state : State} {arrivals waiting ledger : List ℕ}
+    (r : Running networkText planText counts tramsAt links movements times old state arrivals waiting ledger) where
   abbrev net : List Line
   net = lines networkText
 
@@ -138,7 +138,7 @@ module _ {networkText planText : List ℕ} {counts : Counts} {links movements ti
   abbrev n : ℕ
   n = state .boundary
 
-  pub running-asked : n < counts .steps → StepAsked networkText planText counts links movements times arrivals waiting ledger state
+  pub running-asked : n < counts .steps → StepAsked networkText planText counts tramsAt links movements times arrivals waiting ledger state
   running-asked h = record { tables = r .tables; state-at = r .state-at; more = omega (arith, r .tables .counted .steps) }
 
   -- row n is due, and all that are due are written where the next is not
@@ -171,7 +171,7 @@ module _ {networkText planText : List ℕ} {counts : Counts} {links movements ti
         }
 
     -- it passes
-    pub running-next : taken .verdict ≡ Passes → Running networkText planText counts links movements times old (taken .state) arrivals′ waiting′ ledger′
+    pub running-next : taken .verdict ≡ Passes → Running networkText planText counts tramsAt links movements times old (taken .state) arrivals′ waiting′ ledger′
     running-next e =
         let m : taken .state .boundary ≡ suc n = got .boundary e ∙ add-one n in
         let w = got .row-more e in

@@ -1,14 +1,14 @@
 -- What is known between the calls of one step. Assumes nothing.
-use Prim.Native.Nat.{ℕ, zero, suc, _+_, _*_, _-_, _≤_, _<_}
+use Prim.Native.Nat.{ℕ, suc, _+_, _*_, _-_, _≤_, _<_}
 use mathlib.Core.Path.{_≡_, refl, sym, ap, ap₂, _∙_}
-use mathlib.Core.Bool.{true}
+use mathlib.Core.Bool.{Bool, true, false, cond}
 use mathlib.Core.Logic.{_⊎_, inl, inr}
 use mathlib.Core.List.{List, _++_}
 use native.Mathlib.Numerals.{add-one}
 use native.Mathlib.Nat.{eq-or-lt-of-le, mul-le-mul-right}
 use native.Mathlib.Decide.{decLe, decLt}
 use native.Mathlib.Omega.{arith}
-use lib.ListN.{length, getD, take, drop, length-append, length-drop, replicate, length-replicate, getD-replicate, List·getD-eq-default}
+use lib.ListN.{length, getD, take, drop, replicate, length-append, length-drop, replicate, length-replicate, getD-replicate, List·getD-eq-default, length-replicate, getD-replicate}
 use lib.Seq.{length-take-le}
 use Rattle.search.specs.declared.Refusal.{Refusal}
 use Rattle.search.specs.declared.Verdict.{Verdict}
@@ -19,11 +19,12 @@ use Rattle.records.specs.declared.LineRead.{LineRead}
 use Rattle.records.specs.declared.LineRead.the-variants.{Next, Malformed}
 use Rattle.records.specs.Lines.{Line, lines}
 use Rattle.model.specs.declared.Signal.{Signal}
-use Rattle.model.specs.Signals.{phaseOf}
-use Rattle.model.specs.Network.{arrivalStep, linkCount, signalCount, movementCount, stepCount, stepLine, stepLength, signal, maxSteps}
+use Rattle.model.specs.Test.{_or_}
+use Rattle.model.specs.Signals.{phaseOf, after as signalAfter}
+use Rattle.model.specs.Network.{maxSignals, arrivalStep, linkCount, signalCount, movementCount, stepCount, tramCount, tramLine, stepLine, stepLength, ordinary, signal, maxSteps}
 use Rattle.model.specs.Flows.{shownMask, shownIn, signalAt, outside}
 use Rattle.model.specs.Rules.{rule10, rule13, rule14}
-use Rattle.model.specs.Table.{isForm, letterS, letterP, networkChecks, stepChecks, limitRules, lineChecks}
+use Rattle.model.specs.Table.{isForm, letterT, letterS, letterP, tramChecks, networkChecks, stepChecks, limitRules, lineChecks}
 use Rattle.model.specs.Hold.{planOf}
 use Rattle.model.specs.Calls.{written}
 use borrow.Author.Tests.{leb-true}
@@ -31,19 +32,21 @@ use Rattle.model.proofs.Accepted.{ValidNetwork, valid-network, LawfulStep}
 use Rattle.model.proofs.Limits.{step-limits}
 use Rattle.model.proofs.Bounds.{KeepsLimits, lawful-limits, entered-word, left-word}
 use Rattle.model.proofs.Phases.{phase-of-le}
+use Rattle.model.proofs.Shown.{same-phases}
 use Rattle.model.proofs.Rows.{length-written}
 use Rattle.tables.specs.declared.Counts.{Counts}
-use Rattle.tables.specs.Fields.{lineSize, stepSize, rowSize, lengthIn}
+use Rattle.tables.specs.Fields.{tramFields, lineSize, stepSize, rowSize, lengthIn}
 use Rattle.tables.specs.Tables.{noSignal, CountsHold, StepNumbers, PlanNumbers}
 use Rattle.tables.proofs.Tables.{travel-time-at, shown-mask-at}
 use Rattle.arrivals.specs.Arrivals.{arrivalStepIn, ArrivalsAsked, Arrived, ArrivalTable}
 use Rattle.arrivals.proofs.Boundaries.{arrival-is, cursor-ready}
 use Rattle.waiting.specs.Waiting.{AddAsked, Offers, WaitsAsked, Waits, WaitingTable, StepOffers}
 use Rattle.waiting.proofs.Texts.{add-ready, step-offers, outside-is, next-ready, waiting-next}
+use Rattle.network_trams.specs.Claims.{ClaimsAsked, TramPhases}
 use Rattle.network_steps.specs.Steps.{LoadAsked, Loaded}
 use Rattle.network_steps.proofs.Steps.{load-ready, loaded-numbers, loaded-next}
 use Rattle.step_signals.specs.Ready.{Ready}
-use Rattle.step_signals.specs.Step.{ShownPhases, ShownTable, Advanced, SignalsAt}
+use Rattle.step_signals.specs.Step.{ShownPhases, ShownTable, AskedTable, Advanced, SignalsAt}
 use Rattle.step_signals.proofs.Rules.{ready-after}
 use Rattle.step_signals.proofs.Texts.{signal-rules-are}
 use Rattle.step_rows.specs.Rows.{nextRow, RowHolds}
@@ -64,13 +67,12 @@ use Rattle.plan_steps.proofs.Verdicts.{formed, line-malformed, line-for
 -- a network that has passed has the form of an `S` line at each step
 step-form : (network : List Line) → Hold (networkChecks network) → (n : ℕ) → n < stepCount network → isForm network (stepLine network n) letterS (1 + linkCount network) ≡ true
 unfolding Hold networkChecks stepChecks
-step-form network (counts, (signals, (links, (movements, (shares, (steps, rest)))))) n l = steps n l .0
+step-form network (counts, (trams, (signals, (phases, (links, (movements, (shares, (steps, rest)))))))) n l = steps n l .0
 
--- a step keeps the number of phases
-signal-phases : (network plan : List Line) (n r : ℕ) → signalAt network plan n r .phases ≡ signal network r .phases
-unfolding signalAt
-signal-phases network plan zero r = refl
-signal-phases network plan (suc n) r = signal-phases network plan n r
+-- and of a `T` line at each tram line
+tram-form : (network : List Line) → Hold (networkChecks network) → (k : ℕ) → k < tramCount network → isForm network (tramLine network k) letterT tramFields ≡ true
+unfolding Hold networkChecks tramChecks
+tram-form network (counts, (trams, rest)) k l = trams k l .0
 
 -- the limits of a step, by their table
 limits-keep : (network plan : List Line) (m line : ℕ) → verdict (table line (limitRules network plan m)) ≡ Passes → KeepsLimits network plan m
@@ -80,27 +82,35 @@ limits-keep network plan m line h =
     record { admissions = at 0 (omega arith); exits = at 1 (omega arith); movements = at 2 (omega arith) }
 
 -- the signals after a step that has passed
-module _ (network plan : List Line) (n : ℕ) (signals signals′ : List Signal) (phases : List ℕ) (seconds count : ℕ) (before : SignalsAt network plan n signals)
-    (shown : ShownTable network plan n phases) (lawful : LawfulStep network plan n) (is-count : count ≡ signalCount network) (is-seconds : seconds ≡ stepLength network n)
-    (moved : Advanced signals count phases seconds signals′) where
+module _ (network plan : List Line) (n : ℕ) (signals signals′ : List Signal) (phases claims : List ℕ) (seconds count : ℕ) (before : SignalsAt network plan n signals)
+    (shown : ShownTable network plan n phases) (claimed : AskedTable network n claims) (lawful : LawfulStep network plan n) (is-count : count ≡ signalCount network)
+    (is-seconds : seconds ≡ stepLength network n) (moved : Advanced signals count phases claims seconds signals′) where
   stepped : (r : ℕ) → r < signalCount network → getD signals′ r noSignal ≡ signalAt network plan (suc n) r
-  unfolding signalAt
-  stepped r l = moved .stepped r (omega arith) ∙ rw (before .holds r l, shown .holds r l, is-seconds)
+  unfolding signalAt ordinary
+  stepped r l = moved .on r (omega arith) ∙ rw (before .holds r l, shown .holds r l, claimed .holds r l, is-seconds)
 
+  ready-now : (r : ℕ) → r < signalCount network → Ready (signalAt network plan n r)
+  ready-now r l = rw (before .holds r l) at (before .ready r l)
+
+  shows : (r : ℕ) → shownIn network plan n r ≤ signalAt network plan n r .phases
+  shows r = rw (same-phases network plan r n) (unfold shownIn in phase-of-le (shownMask network plan n r) (signal network r .phases))
+
+  -- in a tram's step a signal stands still
   ready-next : (r : ℕ) → r < signalCount network → Ready (signalAt network plan (suc n) r)
-  unfolding signalAt rule10 rule13 rule14
-  ready-next r l =
-      let s = signalAt network plan n r in
-      ready-after s (shownIn network plan n r) (stepLength network n) (rw (before .holds r l) at (before .ready r l)) (leb-true _ _ (lawful .keeps10 r l)) shows (lawful .keeps13 r l) (lawful .keeps14 r l)
+  unfolding signalAt rule10 rule13 rule14 _or_
+  ready-next r l = go (ordinary network n r) refl
     where
-      shows : shownIn network plan n r ≤ signalAt network plan n r .phases
-      shows = rw (signal-phases network plan n r) (unfold shownIn in phase-of-le (shownMask network plan n r) (signal network r .phases))
+      go : (b : Bool) → ordinary network n r ≡ b → Ready (cond b (signalAfter (signalAt network plan n r) (shownIn network plan n r) (stepLength network n)) (signalAt network plan n r))
+      go true e =
+          ready-after (signalAt network plan n r) (shownIn network plan n r) (stepLength network n) (ready-now r l) (leb-true _ _ (lawful .keeps10 r l)) (shows r)
+          (rw e at (lawful .keeps13 r l)) (rw e at (lawful .keeps14 r l))
+      go false e = ready-now r l
 
   signals-next : SignalsAt network plan (suc n) signals′
   signals-next = record { size = moved .size; holds = stepped; ready = λ r l. rw (stepped r l) (ready-next r l) }
 
-module _ {networkText planText : List ℕ} {counts : Counts} {links movements times arrivals waiting ledger : List ℕ} {state : State}
-    (asked : StepAsked networkText planText counts links movements times arrivals waiting ledger state) where
+module _ {networkText planText : List ℕ} {counts : Counts} {tramsAt : ℕ} {links movements times arrivals waiting ledger : List ℕ} {state : State}
+    (asked : StepAsked networkText planText counts tramsAt links movements times arrivals waiting ledger state) where
   abbrev net : List Line
   net = lines networkText
 
@@ -124,6 +134,22 @@ module _ {networkText planText : List ℕ} {counts : Counts} {links movements ti
 
   pub load-asked : {step : List ℕ} → length step ≡ stepSize → LoadAsked networkText (state .«step_at») (counts .links) step
   load-asked size = load-ready networkText (state .«step_at») n (counts .links) (asked .state-at .step-starts) (counted .links) (step-form net (asked .tables .holds) n (asked .more)) (counted .few .links) size
+
+  -- the `T` lines are read again
+  pub tram-asked : ClaimsAsked networkText tramsAt (counts .trams) n (replicate maxSignals 0)
+  tram-asked =
+      record {
+        starts = asked .tables .trams-start;
+        counted = counted .trams;
+        few = counted .few .trams;
+        few-steps = step-few;
+        few-signals = omega (arith, counted .signals, counted .few .signals);
+        forms = λ k l. tram-form net (asked .tables .holds) k (omega (arith, counted .trams));
+        values = λ k l. valid .trams k (omega (arith, counted .trams));
+        phases = λ k l. valid .tram-phases k (omega (arith, counted .trams));
+        room = length-replicate {A = ℕ} maxSignals 0;
+        none = λ r l. getD-replicate {A = ℕ} maxSignals r 0 0 l;
+      }
 
   pub place-small : 2 * (n + 1) * counts .links ≤ 5760
   place-small = let m : 2 * (n + 1) ≤ 240 = omega (arith, step-few) in omega (arith, mul-le-mul-right (counts .links) m, counted .few .links)
@@ -201,14 +227,17 @@ module _ {networkText planText : List ℕ} {counts : Counts} {links movements ti
                   cursor-ready (asked .tables .holds) (asked .tables .time-table) n i (asked .more) step-few (asked .state-at .arrivals-at .holds i l′) (travel-time-at (asked .tables .link-table) i l′);
             }
 
-        module _ {phases₀ phases : List ℕ} (showing : ShownPhases (state .signals) (counts .signals) line phases₀ phases) where
+        module _ {phases₀ phases : List ℕ} (showing : ShownPhases (state .signals) (counts .signals) line phases₀ phases) {claims : List ℕ} (told : TramPhases net n claims) where
+          claimed : AskedTable net n claims
+          claimed = record { size = told .size; holds = λ r l. told .holds r (omega (arith, counted .signals, counted .few .signals)) }
+
           shown : ShownTable net pln n phases
           unfolding shownIn
           shown =
               record {
                 size = showing .size;
                 holds = λ r l. showing .shown r (omega (arith, counted .signals))
-                    ∙ ap₂ phaseOf (shown-mask-at plan-numbers r l) (ap (λ s. s .phases) (asked .state-at .signals-at .holds r l) ∙ signal-phases net pln n r);
+                    ∙ ap₂ phaseOf (shown-mask-at plan-numbers r l) (ap (λ s. s .phases) (asked .state-at .signals-at .holds r l) ∙ same-phases net pln r n);
               }
 
           module _ {arrivals′ : List ℕ} (moved : Arrived times links (counts .links) (n + 1) arrivals′) where
@@ -222,11 +251,11 @@ module _ {networkText planText : List ℕ} {counts : Counts} {links movements ti
                 }
 
             module _ (row : List ℕ) (row-size : length row ≡ rowSize) where
-              limits-are : limitVerdict counts (state .signals) line step links movements phases ledger times arrivals′ row n ≡ verdict (table (suc n) (limitRules net pln n))
+              limits-are : limitVerdict counts (state .signals) line step links movements phases claims ledger times arrivals′ row n ≡ verdict (table (suc n) (limitRules net pln n))
               unfolding limitVerdict
               limits-are = limit-rules-are valid counted plan-numbers (asked .tables .link-table) (asked .tables .movement-table) offers shown (suc n)
 
-              keeps : limitVerdict counts (state .signals) line step links movements phases ledger times arrivals′ row n ≡ Passes → (m : ℕ) → m < suc n → KeepsLimits net pln m
+              keeps : limitVerdict counts (state .signals) line step links movements phases claims ledger times arrivals′ row n ≡ Passes → (m : ℕ) → m < suc n → KeepsLimits net pln m
               keeps v m l = go (let l′ : m ≤ n = omega arith in eq-or-lt-of-le l′)
                 where
                   go : (m ≡ n) ⊎ (m < n) → KeepsLimits net pln m
@@ -241,7 +270,7 @@ module _ {networkText planText : List ℕ} {counts : Counts} {links movements ti
                   length-append (nextRow counts line movements (rowFrom counts ledger n)) _
                   ∙ omega (arith, length-next counts line movements (rowFrom counts ledger n), length-drop (2 * counts .links) row, row-size, counted .few .links)
 
-              pub judge-asked : JudgeAsked counts (state .signals) line step links movements phases ledger times arrivals′ row n
+              pub judge-asked : JudgeAsked counts (state .signals) line step links movements phases claims ledger times arrivals′ row n
               judge-asked =
                   let tables = line-tables valid counted plan-numbers (asked .tables .link-table) (asked .tables .movement-table) offers shown in
                   record {
@@ -250,6 +279,7 @@ module _ {networkText planText : List ℕ} {counts : Counts} {links movements ti
                       ready = λ r l. asked .state-at .signals-at .ready r (omega (arith, counted .signals));
                       short = short;
                       phases-size = shown .size;
+                      asked-size = claimed .size;
                       phase-last = tables .tables .phase-last;
                     };
                     line-tables = tables;
@@ -263,13 +293,13 @@ module _ {networkText planText : List ℕ} {counts : Counts} {links movements ti
                         (drop (2 * counts .links) row) refl made-size previous-size (omega (arith, room-after));
                   }
 
-              module _ {v : Verdict} {row′ : List ℕ} (got : Judged counts (state .signals) line step links movements phases ledger times arrivals′ row n v row′) where
+              module _ {v : Verdict} {row′ : List ℕ} (got : Judged counts (state .signals) line step links movements phases claims ledger times arrivals′ row n v row′) where
                 -- the judgement is the paper's verdict on the line
                 line-judged : v ≡ verdict (lineChecks net pln n)
                 unfolding signalVerdict sumVerdict
                 line-judged =
                     got .told
-                    ∙ ap₂ orElse (signal-rules-are (counted .signals) (asked .state-at .signals-at) shown (offers .lasts) (suc n))
+                    ∙ ap₂ orElse (signal-rules-are (counted .signals) (asked .state-at .signals-at) shown claimed (offers .lasts) (suc n))
                     (ap₂ orElse limits-are
                     (sum-rules-are (asked .tables .holds) counted plan-numbers (asked .tables .link-table) (asked .tables .movement-table) before after ledger (asked .state-at .rows) (asked .tables .time-table) arrivals-at (asked .more)))
                     ∙ sym (line-formed net pln n is-formed)
@@ -307,20 +337,21 @@ module _ {networkText planText : List ℕ} {counts : Counts} {links movements ti
                   waiting-at : {waiting′ : List ℕ} → Waits counts step line (counts .links) waiting′ → WaitingTable net pln (suc n) waiting′
                   waiting-at stay = waiting-next counted plan-numbers offers (lawful .keeps15) stay
 
-                  pub next-asked : {waiting′ : List ℕ} → Waits counts step line (counts .links) waiting′ → NextAsked placed counts step line phases row′ waiting′
+                  pub next-asked : {waiting′ : List ℕ} → Waits counts step line (counts .links) waiting′ → NextAsked placed counts step line phases claims row′ waiting′
                   next-asked stay =
                       record {
                         few-steps = step-few;
                         ready = λ r l. asked .state-at .signals-at .ready r (omega (arith, counted .signals));
                         phases-size = shown .size;
                         waiting-size = stay .size;
+                        asked-size = claimed .size;
                         totals-asked = totals-asked net pln (asked .tables .holds) counts counted n (asked .state-at .within) (state .totals) (asked .state-at .totals-at) (asked .state-at .passed) _ _ line step row′
                             (asked .state-at .outside-at) (outside-is counted (waiting-at stay)) (asked .more) (plan-numbers .size) offers (same ∙ row-size);
                       }
 
                   module _ {waiting′ ledger′ : List ℕ} (stay : Waits counts step line (counts .links) waiting′)
                       (wrote : ledger′ ≡ take (2 * (n + 1) * counts .links) ledger ++ (take (2 * counts .links) row′ ++ drop (2 * (n + 1) * counts .links + 2 * counts .links) ledger))
-                      {next : State} (on : NextGot placed counts step line phases row′ waiting′ next) where
+                      {next : State} (on : NextGot placed counts step line phases claims row′ waiting′ next) where
                     rows-written : ledger′ ≡ written net pln ledger (suc (suc n))
                     rows-written =
                         next-written net pln ledger row′ (suc n) (asked .state-at .rows) (next-row-front counted plan-numbers (asked .tables .movement-table) before (drop (2 * counts .links) row) made)
@@ -346,7 +377,7 @@ module _ {networkText planText : List ℕ} {counts : Counts} {links movements ti
                           step-starts = rw (is-next, on .step-place) (loaded-next networkText (state .«step_at») n (counts .links) (asked .state-at .step-starts) (counted .links) loaded);
                           plan-starts = rw (is-next, on .plan-place) (next-starts networkText planText valid counted (asked .more) (asked .state-at .plan-starts) (asked .state-at .signals-at) no-number size read e);
                           signals-at = rw is-next
-                              (signals-next net pln n (state .signals) (next .signals) phases (lengthIn step) (counts .signals) (asked .state-at .signals-at) shown lawful (counted .signals)
+                              (signals-next net pln n (state .signals) (next .signals) phases claims (lengthIn step) (counts .signals) (asked .state-at .signals-at) shown claimed lawful (counted .signals)
                               (offers .lasts) (on .signals));
                           totals-at = rw is-next
                               (on .totals ∙ totals-next net pln (asked .tables .holds) counts counted n (asked .state-at .within) (state .totals) (asked .state-at .totals-at) (asked .state-at .passed) _ _ line step row′ (asked .state-at .outside-at) outside-next plan-numbers offers

@@ -14,7 +14,7 @@ use Rattle.model.specs.declared.Totals.{Totals}
 use Rattle.model.specs.declared.PlanAnswer.{PlanAnswer}
 use Rattle.model.specs.declared.PlanAnswer.the-variants as plan-answer
 use Rattle.model.specs.Sum.{sum}
-use Rattle.model.specs.Network.{maxLinks, maxSignals, maxSteps, linkCount, stepCount, stepLine}
+use Rattle.model.specs.Network.{maxLinks, maxSignals, maxSteps, linkCount, stepCount, tramLine, stepLine}
 use Rattle.model.specs.Flows.{outside, totals}
 use Rattle.model.specs.Table.{networkChecks, lineChecks, planLineChecks}
 use Rattle.model.specs.Hold.{planOf}
@@ -30,10 +30,11 @@ use Rattle.plan_steps.specs.declared.State.{State}
 use Rattle.plan_steps.specs.declared.Taken.{Taken}
 use Rattle.plan_steps.specs.Totals.{totalsAfter, TotalsAsked}
 
--- the tables of a network that has passed
-pub record Tables (networkText : List ℕ) (counts : Counts) (links movements times : List ℕ) : Type 0 where
+-- the tables of a network that has passed, and where its `T` lines start
+pub record Tables (networkText : List ℕ) (counts : Counts) (tramsAt : ℕ) (links movements times : List ℕ) : Type 0 where
   pub holds : Hold (networkChecks (lines networkText))
   pub counted : CountsHold (lines networkText) counts
+  pub trams-start : Starts networkText tramsAt (tramLine (lines networkText) 0)
   pub link-table : LinkTable (lines networkText) links
   pub movement-table : MovementTable (lines networkText) movements
   pub time-table : TimeTable (lines networkText) times
@@ -54,25 +55,26 @@ pub record StateAt (networkText planText : List ℕ) (state : State) (arrivals w
   pub room : 2 * suc (stepCount (lines networkText)) * linkCount (lines networkText) ≤ length ledger
 
 -- what the state after a step that is kept asks, by the step's tables ..
-pub record NextAsked (state : State) (counts : Counts) (step line phases row waiting : List ℕ) : Type 0 where
+pub record NextAsked (state : State) (counts : Counts) (step line phases asked row waiting : List ℕ) : Type 0 where
   pub few-steps : state .boundary < maxSteps
   pub ready : AllReady (state .signals) (counts .signals)
   pub phases-size : length phases ≡ maxSignals
   pub waiting-size : length waiting ≡ maxLinks
+  pub asked-size : length asked ≡ maxSignals
   pub totals-asked : TotalsAsked (state .totals) (state .outside) (sum (counts .links) (waitingIn waiting)) counts line step row
 
 -- .. and is: it has the state's places, which are those of the next lines already
-pub record NextGot (state : State) (counts : Counts) (step line phases row waiting : List ℕ) (next : State) : Type 0 where
+pub record NextGot (state : State) (counts : Counts) (step line phases asked row waiting : List ℕ) (next : State) : Type 0 where
   pub boundary : next .boundary ≡ state .boundary + 1
   pub step-place : next .«step_at» ≡ state .«step_at»
   pub plan-place : next .«plan_at» ≡ state .«plan_at»
-  pub signals : Advanced (state .signals) (counts .signals) phases (lengthIn step) (next .signals)
+  pub signals : Advanced (state .signals) (counts .signals) phases asked (lengthIn step) (next .signals)
   pub totals : next .totals ≡ totalsAfter (state .totals) (state .outside) (next .outside) counts line step row
   pub outside : next .outside ≡ sum (counts .links) (waitingIn waiting)
 
 -- what taking the next step asks ..
-pub record StepAsked (networkText planText : List ℕ) (counts : Counts) (links movements times arrivals waiting ledger : List ℕ) (state : State) : Type 0 where
-  pub tables : Tables networkText counts links movements times
+pub record StepAsked (networkText planText : List ℕ) (counts : Counts) (tramsAt : ℕ) (links movements times arrivals waiting ledger : List ℕ) (state : State) : Type 0 where
+  pub tables : Tables networkText counts tramsAt links movements times
   pub state-at : StateAt networkText planText state arrivals waiting ledger
   pub more : state .boundary < stepCount (lines networkText)
 
@@ -90,8 +92,8 @@ unfoldable pub finished : List ℕ → ℕ → ℕ → Totals → PlanAnswer
 finished plan at steps t = cond (atEnd plan at) (plan-answer.Accepted t) (plan-answer.Refused (refusal 9 (steps + 1) 0))
 
 -- what taking all steps asks, with row 0 in the ledger ..
-pub record RunAsked (networkText planText : List ℕ) (counts : Counts) (signals : List Signal) (links movements times ledger : List ℕ) (stepsAt : ℕ) : Type 0 where
-  pub tables : Tables networkText counts links movements times
+pub record RunAsked (networkText planText : List ℕ) (counts : Counts) (signals : List Signal) (links movements times ledger : List ℕ) (stepsAt tramsAt : ℕ) : Type 0 where
+  pub tables : Tables networkText counts tramsAt links movements times
   pub steps-start : Starts networkText stepsAt (stepLine (lines networkText) 0)
   pub signal-table : SignalTable (lines networkText) signals
   pub rows : ledger ≡ written (lines networkText) (planOf networkText planText) ledger 1
@@ -104,8 +106,8 @@ pub record RunGot (networkText planText old : List ℕ) (answer : PlanAnswer) (l
   pub some-row : 1 ≤ rowsWritten (lines networkText) (planOf networkText planText) (length old)
 
 -- the state while the steps are taken, since the ledger was `old`
-pub record Running (networkText planText : List ℕ) (counts : Counts) (links movements times old : List ℕ) (state : State) (arrivals waiting ledger : List ℕ) : Type 0 where
-  pub tables : Tables networkText counts links movements times
+pub record Running (networkText planText : List ℕ) (counts : Counts) (tramsAt : ℕ) (links movements times old : List ℕ) (state : State) (arrivals waiting ledger : List ℕ) : Type 0 where
+  pub tables : Tables networkText counts tramsAt links movements times
   pub state-at : StateAt networkText planText state arrivals waiting ledger
   pub since : ledger ≡ written (lines networkText) (planOf networkText planText) old (suc (state .boundary))
   pub long : length ledger ≡ length old

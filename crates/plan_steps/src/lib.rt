@@ -74,15 +74,16 @@ fn next_state(
     step: &[u32],
     line: &[u32],
     phases: &[u32],
+    asked: &[u32],
     row: &[u32],
     waiting: &[u32],
     counts: Counts,
 ) -> State
-    requires { ⌜ NextAsked state counts (now step) (now line) (now phases) (now row) (now waiting) ⌝ }
-    ensures { λ r. ⌜ NextGot state counts (now (step .entry)) (now (line .entry)) (now (phases .entry)) (now (row .entry)) (now (waiting .entry)) r ⌝ }
+    requires { ⌜ NextAsked state counts (now step) (now line) (now phases) (now asked) (now row) (now waiting) ⌝ }
+    ensures { λ r. ⌜ NextGot state counts (now (step .entry)) (now (line .entry)) (now (phases .entry)) (now (asked .entry)) (now (row .entry)) (now (waiting .entry)) r ⌝ }
 {
     let shown = state.signals;
-    let signals = step_signals::advance(shown, counts.signals, phases, step[0]);
+    let signals = step_signals::advance(shown, counts.signals, phases, asked, step[0]);
     let outside = step_rows::sum_of(waiting, 0, counts.links);
     let totals = add_step(
         state.totals,
@@ -121,11 +122,12 @@ fn read_line(
     tables::read_row(plan, at, b'P', line, 0, counts.plan_width())
 }
 
-// Takes the next step: reads its `S` and `P` lines, judges it and, where every rule is kept, writes the row after it into the ledger.
+// Takes the next step: reads its `S` and `P` lines, and what trams ask in it, judges it and, where every rule is kept, writes the row after it into the ledger.
 fn take_step(
     network: &[u8],
     plan: &[u8],
     counts: Counts,
+    trams_at: usize,
     links: &[u32],
     movements: &[u32],
     times: &[u32],
@@ -134,12 +136,13 @@ fn take_step(
     ledger: &mut [u32],
     mut state: State,
 ) -> Taken
-    requires { ⌜ StepAsked (now network) (now plan) counts (now links) (now movements) (now times) (now arrivals) (now waiting) (now ledger) state ⌝ }
+    requires { ⌜ StepAsked (now network) (now plan) counts «trams_at» (now links) (now movements) (now times) (now arrivals) (now waiting) (now ledger) state ⌝ }
     ensures { λ r. ⌜ StepGot (now (network .entry)) (now (plan .entry)) (now (ledger .entry)) state r (now (arrivals .exit)) (now (waiting .exit)) (now (ledger .exit)) ⌝ }
 {
     let mut step = [0u32; STEP_SIZE];
     let mut line = [0u32; LINE_SIZE];
     let mut phases = [0u32; MAX_SIGNALS];
+    let mut asked = [0u32; MAX_SIGNALS];
     let mut row = [0u32; ROW_SIZE];
     let n = state.boundary;
     let signals = state.signals;
@@ -151,6 +154,7 @@ fn take_step(
         return Taken { verdict, state };
     };
     step_signals::shown_phases(signals, counts.signals, &line, &mut phases);
+    network_trams::tram_phases(network, trams_at, counts.trams, n, &mut asked);
     arrivals::next_arrivals(times, links, counts.links, n + 1, arrivals);
     let verdict = step_check::judge_step(
         signals,
@@ -159,6 +163,7 @@ fn take_step(
         links,
         movements,
         &phases,
+        &asked,
         ledger,
         times,
         arrivals,
@@ -173,7 +178,7 @@ fn take_step(
     waiting::next_waiting(&step, &line, counts, waiting);
     state.step_at = step_end;
     state.plan_at = plan_end;
-    let next = next_state(state, &step, &line, &phases, &row, waiting, counts);
+    let next = next_state(state, &step, &line, &phases, &asked, &row, waiting, counts);
     Taken {
         verdict,
         state: next,
@@ -203,8 +208,9 @@ pub fn run_steps(
     times: &[u32],
     ledger: &mut [u32],
     steps_at: usize,
+    trams_at: usize,
 ) -> PlanAnswer
-    requires { ⌜ RunAsked (now network) (now plan) counts signals (now links) (now movements) (now times) (now ledger) «steps_at» ⌝ }
+    requires { ⌜ RunAsked (now network) (now plan) counts signals (now links) (now movements) (now times) (now ledger) «steps_at» «trams_at» ⌝ }
     ensures { λ r. ⌜ RunGot (now (network .entry)) (now (plan .entry)) (now (ledger .entry)) r (now (ledger .exit)) ⌝ }
 {
     let mut arrivals = [0usize; MAX_LINKS];
@@ -233,6 +239,7 @@ pub fn run_steps(
             network,
             plan,
             counts,
+            trams_at,
             links,
             movements,
             times,

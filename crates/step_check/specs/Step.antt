@@ -23,10 +23,10 @@ rowFrom counts ledger n = take (length ledger - 2 * n * counts .links) (drop (2 
 abbrev pub madeRow : Counts → List ℕ → List ℕ → List ℕ → List ℕ → ℕ → List ℕ
 madeRow counts line movements ledger row n = nextRow counts line movements (rowFrom counts ledger n) ++ drop (2 * counts .links) row
 
-module _ (counts : Counts) (signals : List Signal) (line step links movements phases ledger times arrivals row : List ℕ) (n : ℕ) where
-  -- the verdicts on rules 10 to 14, on 15 and 25 to 27, and on 16 to 18, told at line n + 1 of the plan
+module _ (counts : Counts) (signals : List Signal) (line step links movements phases asked ledger times arrivals row : List ℕ) (n : ℕ) where
+  -- the verdicts on rules 10, 29 and 11 to 14, on 15 and 25 to 27, and on 16 to 18, told at line n + 1 of the plan
   unfoldable pub signalVerdict : Verdict
-  signalVerdict = verdict (table (suc n) (signalRulesIn signals (counts .signals) phases (lengthIn step)))
+  signalVerdict = verdict (table (suc n) (signalRulesIn signals (counts .signals) phases asked (lengthIn step)))
 
   unfoldable pub limitVerdict : Verdict
   limitVerdict = verdict (table (suc n) (limitRulesIn counts line step links movements phases))
@@ -36,7 +36,7 @@ module _ (counts : Counts) (signals : List Signal) (line step links movements ph
 
   -- What the judgement of step n asks: the tables; and that the sums fit once the limits of the volumes have passed.
   pub record JudgeAsked : Type 0 where
-    pub signal-tables : SignalTables signals (counts .signals) phases (lengthIn step)
+    pub signal-tables : SignalTables signals (counts .signals) phases asked (lengthIn step)
     pub line-tables : LineTables counts line step links movements phases
     pub few-steps : n < maxSteps
     pub room : 2 * n * counts .links ≤ length ledger

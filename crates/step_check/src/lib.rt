@@ -1,4 +1,4 @@
-// The judgement of one step of a plan: rules 10 to 18 and 25 to 27 in their order, each over rising items. It goes in three searches, each of a family of rules, so that the sums of
+// The judgement of one step of a plan: rules 10 to 18, 25 to 27 and 29 in their order, each over rising items. It goes in three searches, each of a family of rules, so that the sums of
 // rules 16 to 18 are formed only once the limits of the volumes (15, 25 to 27) have passed.
 ghost use Rattle.step_check.specs.Step.{JudgeAsked, Judged};
 use model::Signal;
@@ -13,6 +13,7 @@ pub fn judge_step(
     links: &[u32],
     movements: &[u32],
     phases: &[u32],
+    asked: &[u32],
     ledger: &[u32],
     times: &[u32],
     arrivals: &[usize],
@@ -20,11 +21,18 @@ pub fn judge_step(
     counts: Counts,
     n: usize,
 ) -> Verdict
-    requires { ⌜ JudgeAsked counts signals (now line) (now step) (now links) (now movements) (now phases) (now ledger) (now times) (now arrivals) (now row) n ⌝ }
-    ensures { λ r. ⌜ Judged counts signals (now (line .entry)) (now (step .entry)) (now (links .entry)) (now (movements .entry)) (now (phases .entry)) (now (ledger .entry)) (now (times .entry)) (now (arrivals .entry)) (now (row .entry)) n r (now (row .exit)) ⌝ }
+    requires { ⌜ JudgeAsked counts signals (now line) (now step) (now links) (now movements) (now phases) (now asked) (now ledger) (now times) (now arrivals) (now row) n ⌝ }
+    ensures { λ r. ⌜ Judged counts signals (now (line .entry)) (now (step .entry)) (now (links .entry)) (now (movements .entry)) (now (phases .entry)) (now (asked .entry)) (now (ledger .entry)) (now (times .entry)) (now (arrivals .entry)) (now (row .entry)) n r (now (row .exit)) ⌝ }
 {
     let number = (n + 1) as u32;
-    let found = step_signals::first_signal_break(signals, counts.signals, phases, step[0], number);
+    let found = step_signals::first_signal_break(
+        signals,
+        counts.signals,
+        phases,
+        asked,
+        step[0],
+        number,
+    );
     let Verdict::Passes = found else {
         return found;
     };

@@ -1,4 +1,4 @@
--- The rules of a signal by their places in the table of rules 10 to 14, and that they keep it ready for the next step. Assumes nothing.
+-- The rules of a signal by their places in their table, and that they keep it ready for the next step. Assumes nothing.
 use Prim.Native.Nat.{ℕ, zero, suc, _-_, _≤_, _<_}
 use mathlib.Core.Path.{_≡_, refl, sym}
 use mathlib.Core.Bool.{true, not, _||_}
@@ -18,20 +18,21 @@ use Rattle.step_signals.specs.Ready.{Ready}
 use Rattle.step_signals.specs.Step.{signalTests, signalTest, signalRuleIn, signalRulesIn}
 
 -- past rule 14 there is none to break
-pub no-signal-test : (k : ℕ) (s : Signal) (q seconds : ℕ) → 5 ≤ k → true ≡ signalTest k s q seconds
+pub no-signal-test : (k : ℕ) (s : Signal) (q asked seconds : ℕ) → 6 ≤ k → true ≡ signalTest k s q asked seconds
 unfolding signalTest
-no-signal-test k s q seconds h = sym (List·getD-eq-default (signalTests s q seconds) true h)
+no-signal-test k s q asked seconds h = sym (List·getD-eq-default (signalTests s q asked seconds) true h)
 
--- ---- the table of rules 10 to 14
-module _ (signals : List Signal) (count : ℕ) (phases : List ℕ) (seconds : ℕ) where
-  pub signal-rule-is : (k : ℕ) → k < 5 → ruleAt (signalRulesIn signals count phases seconds) k ≡ signalRuleIn signals count phases seconds k
+-- ---- the table of the rules
+module _ (signals : List Signal) (count : ℕ) (phases asked : List ℕ) (seconds : ℕ) where
+  pub signal-rule-is : (k : ℕ) → k < 6 → ruleAt (signalRulesIn signals count phases asked seconds) k ≡ signalRuleIn signals count phases asked seconds k
   unfolding signalRulesIn
   signal-rule-is zero h = refl
   signal-rule-is (suc zero) h = refl
   signal-rule-is (suc (suc zero)) h = refl
   signal-rule-is (suc (suc (suc zero))) h = refl
   signal-rule-is (suc (suc (suc (suc zero)))) h = refl
-  signal-rule-is (suc (suc (suc (suc (suc k))))) h = absurd (omega arith)
+  signal-rule-is (suc (suc (suc (suc (suc zero))))) h = refl
+  signal-rule-is (suc (suc (suc (suc (suc (suc k)))))) h = absurd (omega arith)
 
 -- a signal that passes the network's check is ready for the first step
 pub ready-first : (s : Signal) → validPhases s ≡ true → validSignal s ≡ true → Ready s

@@ -7,10 +7,11 @@ use native.Mathlib.Omega.{arith}
 use lib.ListN.{length, getD, set, length-set}
 use lib.Seq.{getD-set-same, getD-set-other}
 use borrow.Author.Count.{below-more}
+use borrow.Author.Tests.{ne-eqb}
 use Rattle.model.specs.declared.Signal.{Signal}
 use Rattle.tables.specs.Tables.{noSignal}
 use Rattle.model.specs.Signals.{phaseOf, after}
-use Rattle.step_signals.specs.Step.{ShownPhases, HeldMasks, Advanced}
+use Rattle.step_signals.specs.Step.{ShownPhases, HeldMasks, stepped, Advanced}
 
 module _ {A : Type 0} (l : List A) (i : ℕ) (x d : A) (h : i < length l) where
   -- what is said of every place below i, and of what is laid at i, is said of every place up to it
@@ -44,16 +45,24 @@ held-more signals before i line mask h s e = record {
   kept = λ r l. getD-set-other line i r mask 0 (λ x. omega arith) ∙ s .kept r (omega arith);
 }
 
+-- a signal after a step: in an ordinary one it goes on, in a tram's it stands still
+module _ (s : Signal) (q asked seconds : ℕ) where
+  pub signal-on : asked ≡ 0 → {t : Signal} → t ≡ after s q seconds → t ≡ stepped s q asked seconds
+  signal-on e h = h ∙ rw e refl
+
+  pub signal-still : (asked ≡ 0 → ⊥) → s ≡ stepped s q asked seconds
+  signal-still d = rw (ne-eqb asked 0 d) refl
+
 -- no signal is a step on yet
-pub advanced-none : (signals : List Signal) (phases : List ℕ) (seconds : ℕ) → length signals ≡ 8 → Advanced signals 0 phases seconds signals
-advanced-none signals phases seconds h = record { size = h; stepped = λ r l. absurd (omega arith); kept = λ r l. refl }
+pub advanced-none : (signals : List Signal) (phases asked : List ℕ) (seconds : ℕ) → length signals ≡ 8 → Advanced signals 0 phases asked seconds signals
+advanced-none signals phases asked seconds h = record { size = h; on = λ r l. absurd (omega arith); kept = λ r l. refl }
 
 -- one more is
-pub advanced-more : (signals : List Signal) (phases : List ℕ) (seconds i : ℕ) (result : List Signal) (s : Signal) → i < 8
-    → Advanced signals i phases seconds result → s ≡ after (getD result i noSignal) (getD phases i 0) seconds
-    → Advanced signals (i + 1) phases seconds (set result i s)
-advanced-more signals phases seconds i result s h a e = record {
+pub advanced-more : (signals : List Signal) (phases asked : List ℕ) (seconds i : ℕ) (result : List Signal) (s : Signal) → i < 8
+    → Advanced signals i phases asked seconds result → s ≡ stepped (getD result i noSignal) (getD phases i 0) (getD asked i 0) seconds
+    → Advanced signals (i + 1) phases asked seconds (set result i s)
+advanced-more signals phases asked seconds i result s h a e = record {
   size = length-set result i s ∙ a .size;
-  stepped = laid result i s noSignal (omega arith) _ (a .stepped) (e ∙ ap (λ x. after x (getD phases i 0) seconds) (a .kept i (le-refl i)));
+  on = laid result i s noSignal (omega arith) _ (a .on) (e ∙ ap (λ x. stepped x (getD phases i 0) (getD asked i 0) seconds) (a .kept i (le-refl i)));
   kept = λ r l. getD-set-other result i r s noSignal (λ x. omega arith) ∙ a .kept r (omega arith);
 }

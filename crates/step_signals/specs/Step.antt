@@ -1,42 +1,61 @@
--- Rules 10 to 14 by the program's tables, and all signals through a step. Assumes nothing.
-use Prim.Native.Nat.{ℕ, _+_, _-_, _^_, _≤_, _<_}
+-- Rules 10, 29 and 11 to 14 by the program's tables, and all signals through a step. A tram asks a phase of a signal, 0 in an ordinary step. Assumes nothing.
+use Prim.Native.Nat.{ℕ, _-_, _^_, _≤_, _<_}
 use mathlib.Core.Path.{_≡_}
-use mathlib.Core.Bool.{Bool, true}
+use mathlib.Core.Bool.{Bool, true, not, cond}
 use mathlib.Core.List.{List, [], _∷_}
+use lib.Dec.{eqb}
 use lib.ListN.{length, getD}
 use Rattle.search.specs.Checks.{Rule}
 use Rattle.records.specs.Lines.{Line}
 use Rattle.model.specs.declared.Signal.{Signal}
-use Rattle.model.specs.Network.{maxSignals, signalCount}
+use Rattle.model.specs.Test.{_or_}
+use Rattle.model.specs.Network.{maxSignals, signalCount, trams, tramPhase}
 use Rattle.model.specs.Flows.{shownIn, signalAt}
 use Rattle.tables.specs.Tables.{noSignal}
 use Rattle.model.specs.Signals.{phaseOf, showsOnePhase, keepsOrder, keepsLeastTime, keepsGreatestTime, keepsCycle, after}
 use Rattle.step_signals.specs.Ready.{AllReady}
 
--- rules 10 to 14 of a signal that shows phase q for a step of so many seconds
-abbrev pub signalTests : Signal → ℕ → ℕ → List Bool
-signalTests s q seconds = showsOnePhase q ∷ keepsOrder s q ∷ keepsLeastTime s q ∷ keepsGreatestTime s q seconds ∷ keepsCycle s q seconds ∷ []
+-- the rules of a signal that shows phase q, where a tram asks a phase, for a step of so many seconds: 10, 29, and in an ordinary step 11 to 14
+abbrev pub signalTests : Signal → ℕ → ℕ → ℕ → List Bool
+signalTests s q asked seconds =
+    showsOnePhase q
+    ∷ (eqb asked 0 or eqb q asked)
+    ∷ (not (eqb asked 0) or keepsOrder s q)
+    ∷ (not (eqb asked 0) or keepsLeastTime s q)
+    ∷ (not (eqb asked 0) or keepsGreatestTime s q seconds)
+    ∷ (not (eqb asked 0) or keepsCycle s q seconds)
+    ∷ []
 
 -- the rule at place k of these holds; past them there is none to break
-unfoldable pub signalTest : ℕ → Signal → ℕ → ℕ → Bool
-signalTest k s q seconds = getD (signalTests s q seconds) k true
+unfoldable pub signalTest : ℕ → Signal → ℕ → ℕ → ℕ → Bool
+signalTest k s q asked seconds = getD (signalTests s q asked seconds) k true
 
--- rule k of these over so many signals, which show these phases
-abbrev pub signalRuleIn : List Signal → ℕ → List ℕ → ℕ → ℕ → Rule
-signalRuleIn signals count phases seconds k = record { number = 10 + k; items = count; holds = λ r. signalTest k (getD signals r noSignal) (getD phases r 0) seconds }
+-- its number
+abbrev pub signalNumber : ℕ → ℕ
+signalNumber k = getD (10 ∷ 29 ∷ 11 ∷ 12 ∷ 13 ∷ 14 ∷ []) k 0
 
--- the table of rules 10 to 14
-unfoldable pub signalRulesIn : List Signal → ℕ → List ℕ → ℕ → List Rule
-signalRulesIn signals count phases seconds =
-    let rule = signalRuleIn signals count phases seconds in
-    rule 0 ∷ rule 1 ∷ rule 2 ∷ rule 3 ∷ rule 4 ∷ []
+-- rule k of these over so many signals, which show these phases, and of which trams ask these
+abbrev pub signalRuleIn : List Signal → ℕ → List ℕ → List ℕ → ℕ → ℕ → Rule
+signalRuleIn signals count phases asked seconds k =
+    record {
+      number = signalNumber k;
+      items = count;
+      holds = λ r. signalTest k (getD signals r noSignal) (getD phases r 0) (getD asked r 0) seconds;
+    }
+
+-- the table of these rules
+unfoldable pub signalRulesIn : List Signal → ℕ → List ℕ → List ℕ → ℕ → List Rule
+signalRulesIn signals count phases asked seconds =
+    let rule = signalRuleIn signals count phases asked seconds in
+    rule 0 ∷ rule 1 ∷ rule 2 ∷ rule 3 ∷ rule 4 ∷ rule 5 ∷ []
 
 -- what the search of these asks of the tables
-pub record SignalTables (signals : List Signal) (count : ℕ) (phases : List ℕ) (seconds : ℕ) : Type 0 where
+pub record SignalTables (signals : List Signal) (count : ℕ) (phases asked : List ℕ) (seconds : ℕ) : Type 0 where
   pub few : count ≤ maxSignals
   pub ready : AllReady signals count
   pub short : seconds ≤ 60
   pub phases-size : length phases ≡ maxSignals
+  pub asked-size : length asked ≡ maxSignals
   pub phase-last : (r : ℕ) → r < count → getD phases r 0 ≤ 8
 
 -- the phases that the first n signals' masks show; what stands past them is kept
@@ -45,22 +64,31 @@ pub record ShownPhases (signals : List Signal) (n : ℕ) (masks before phases : 
   pub shown : (r : ℕ) → r < n → getD phases r 0 ≡ phaseOf (getD masks r 0) (getD signals r noSignal .phases)
   pub kept : (r : ℕ) → n ≤ r → getD phases r 0 ≡ getD before r 0
 
+-- a signal after a step: it stands still where a tram asks a phase of it
+abbrev pub stepped : Signal → ℕ → ℕ → ℕ → Signal
+stepped s q asked seconds = cond (eqb asked 0) (after s q seconds) s
+
 -- the masks by which the first n signals keep their phases; what stands past them is kept
 pub record HeldMasks (signals : List Signal) (n : ℕ) (before line : List ℕ) : Type 0 where
   pub size : length line ≡ length before
   pub held : (r : ℕ) → r < n → getD line r 0 ≡ 2 ^ (getD signals r noSignal .shown - 1)
   pub kept : (r : ℕ) → n ≤ r → getD line r 0 ≡ getD before r 0
 
--- the first n signals are one step on, in which they show these phases; the others are as they were
-pub record Advanced (signals : List Signal) (n : ℕ) (phases : List ℕ) (seconds : ℕ) (result : List Signal) : Type 0 where
+-- the first n signals are one step on, in which they show these phases and trams ask these; the others are as they were
+pub record Advanced (signals : List Signal) (n : ℕ) (phases asked : List ℕ) (seconds : ℕ) (result : List Signal) : Type 0 where
   pub size : length result ≡ maxSignals
-  pub stepped : (r : ℕ) → r < n → getD result r noSignal ≡ after (getD signals r noSignal) (getD phases r 0) seconds
+  pub on : (r : ℕ) → r < n → getD result r noSignal ≡ stepped (getD signals r noSignal) (getD phases r 0) (getD asked r 0) seconds
   pub kept : (r : ℕ) → n ≤ r → getD result r noSignal ≡ getD signals r noSignal
 
 -- the phase that each signal shows in step n
 pub record ShownTable (network plan : List Line) (n : ℕ) (phases : List ℕ) : Type 0 where
   pub size : length phases ≡ maxSignals
   pub holds : (r : ℕ) → r < signalCount network → getD phases r 0 ≡ shownIn network plan n r
+
+-- the phase that a tram asks of each signal in step n; 0 in an ordinary step
+pub record AskedTable (network : List Line) (n : ℕ) (asked : List ℕ) : Type 0 where
+  pub size : length asked ≡ maxSignals
+  pub holds : (r : ℕ) → r < signalCount network → getD asked r 0 ≡ tramPhase (trams network) r n
 
 -- the signals at boundary n
 pub record SignalsAt (network plan : List Line) (n : ℕ) (signals : List Signal) : Type 0 where

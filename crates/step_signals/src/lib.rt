@@ -1,14 +1,15 @@
-// A signal (the paper's light) through a step: the phase that its mask shows, rules 10 to 14, and the signal after the step.
+// A signal (the paper's light) through a step: the phase that its mask shows, rules 10, 29 and 11 to 14, and the signal after the step. `asked` is the phase
+// that a tram asks of a signal, 0 in an ordinary step.
 // The definitions stand in specs/ of crate model.
 ghost use mathlib.Core.Path.{_≡_};
 ghost use mathlib.Core.Bool.{cond};
-ghost use Prim.Native.Nat.{_-_, _^_, _≤_};
+ghost use Prim.Native.Nat.{_-_, _^_, _≤_, _<_};
 ghost use lib.ListN.{length};
 ghost use Rattle.model.specs.Network.{maxSignals};
 ghost use Rattle.model.specs.Signals.{phaseOf, opens, nextPhase, beginsCycle, shownForAfter, clockAfter, keepsOrder, keepsLeastTime, keepsGreatestTime, keepsCycle, after};
 ghost use Rattle.step_signals.specs.Ready.{Ready, AllReady};
 ghost use Rattle.search.specs.Checks.{verdict, table};
-ghost use Rattle.step_signals.specs.Step.{signalTest, signalRulesIn, SignalTables, ShownPhases, HeldMasks, Advanced};
+ghost use Rattle.step_signals.specs.Step.{signalTest, signalNumber, signalRulesIn, SignalTables, ShownPhases, HeldMasks, stepped, Advanced};
 use model::Signal;
 use search::Refusal;
 use search::Verdict;
@@ -160,40 +161,65 @@ pub fn after(mut signal: Signal, phase: u32, seconds: u32) -> Signal
     signal
 }
 
-// Whether rule 10 + k holds of a signal.
-fn signal_test(k: usize, signal: Signal, phase: u32, seconds: u32) -> bool
+// The signal after a step: where a tram asks a phase of it, its run and its clock stand still, and it goes on from the phase before the tram.
+fn next_signal(signal: Signal, phase: u32, asked: u32, seconds: u32) -> Signal
+    requires { ⌜ Ready signal ⌝ }
+    requires { ⌜ seconds ≤ 60 ⌝ }
+    ensures { λ r. ⌜ r ≡ stepped signal phase asked seconds ⌝ }
+{
+    if asked == 0 {
+        after(signal, phase, seconds)
+    } else {
+        signal
+    }
+}
+
+// The number of test k of the six.
+fn signal_number(k: usize) -> u32
+    requires { ⌜ k < 6 ⌝ }
+    ensures { λ r. ⌜ r ≡ signalNumber k ⌝ }
+{
+    let numbers = [10, 29, 11, 12, 13, 14];
+    numbers[k]
+}
+
+// Whether test k of the six holds of a signal: 10; 29 in a tram's step; 11 to 14 in an ordinary one.
+fn signal_test(k: usize, signal: Signal, phase: u32, asked: u32, seconds: u32) -> bool
     requires { ⌜ Ready signal ⌝ }
     requires { ⌜ phase ≤ 8 ⌝ }
     requires { ⌜ seconds ≤ 60 ⌝ }
-    ensures { λ r. ⌜ r ≡ signalTest k signal phase seconds ⌝ }
+    ensures { λ r. ⌜ r ≡ signalTest k signal phase asked seconds ⌝ }
 {
     match k {
         0 => 1 <= phase,
-        1 => keeps_order(signal, phase),
-        2 => keeps_least_time(signal, phase),
-        3 => keeps_greatest_time(signal, phase, seconds),
-        4 => keeps_cycle(signal, phase, seconds),
+        1 => (asked == 0) | (phase == asked),
+        2 => (asked != 0) | keeps_order(signal, phase),
+        3 => (asked != 0) | keeps_least_time(signal, phase),
+        4 => (asked != 0) | keeps_greatest_time(signal, phase, seconds),
+        5 => (asked != 0) | keeps_cycle(signal, phase, seconds),
         _ => true,
     }
 }
 
-// The first of rules 10 to 14 that a step of so many seconds breaks, by number, each over rising signals; `line` is the plan's line that tells it.
+// The first of rules 10, 29 and 11 to 14 that a step of so many seconds breaks, in this order, each over rising signals; `line` is the plan's line that tells
+// it.
 pub fn first_signal_break(
     signals: [Signal; 8],
     count: usize,
     phases: &[u32],
+    asked: &[u32],
     seconds: u32,
     line: u32,
 ) -> Verdict
-    requires { ⌜ SignalTables signals count (now phases) seconds ⌝ }
-    ensures { λ r. ⌜ r ≡ verdict (table line (signalRulesIn signals count (now (phases .entry)) seconds)) ⌝ }
+    requires { ⌜ SignalTables signals count (now phases) (now asked) seconds ⌝ }
+    ensures { λ r. ⌜ r ≡ verdict (table line (signalRulesIn signals count (now (phases .entry)) (now (asked .entry)) seconds)) ⌝ }
 {
     let mut found = Verdict::Passes;
-    'judge: for k in 0..5 {
+    'judge: for k in 0..6 {
         for item in 0..count {
-            if !signal_test(k, signals[item], phases[item], seconds) {
+            if !signal_test(k, signals[item], phases[item], asked[item], seconds) {
                 found = Verdict::Refused(Refusal {
-                    number: 10 + k as u32,
+                    number: signal_number(k),
                     line,
                     item: (item + 1) as u32,
                 });
@@ -225,15 +251,21 @@ pub fn hold_masks(signals: [Signal; 8], count: usize, line: &mut [u32])
     }
 }
 
-// The signals after a step that shows these phases.
-pub fn advance(mut signals: [Signal; 8], count: usize, phases: &[u32], seconds: u32) -> [Signal; 8]
-    requires { ⌜ (count ≤ maxSignals) × (count ≤ length (now phases)) ⌝ }
+// The signals after a step that shows these phases: one of which a tram asks a phase stands still.
+pub fn advance(
+    mut signals: [Signal; 8],
+    count: usize,
+    phases: &[u32],
+    asked: &[u32],
+    seconds: u32,
+) -> [Signal; 8]
+    requires { ⌜ (count ≤ maxSignals) × (count ≤ length (now phases)) × (count ≤ length (now asked)) ⌝ }
     requires { ⌜ AllReady signals count ⌝ }
     requires { ⌜ seconds ≤ 60 ⌝ }
-    ensures { λ r. ⌜ Advanced signals count (now (phases .entry)) seconds r ⌝ }
+    ensures { λ r. ⌜ Advanced signals count (now (phases .entry)) (now (asked .entry)) seconds r ⌝ }
 {
     for i in 0..count {
-        signals[i] = after(signals[i], phases[i], seconds);
+        signals[i] = next_signal(signals[i], phases[i], asked[i], seconds);
     }
     signals
 }

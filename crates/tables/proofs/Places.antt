@@ -1,15 +1,30 @@
--- The places of lines by the program's counts are the paper's, and each block of lines starts where the one before it ends. Assumes nothing.
-use Prim.Native.Nat.{ℕ}
+-- The places of lines by the program's counts are the paper's, and each block of lines starts where the one before it ends; a record is a line of its text.
+-- Assumes nothing.
+use Prim.Native.Nat.{ℕ, _<_}
 use mathlib.Core.Path.{_≡_}
+use mathlib.Core.Bool.{Bool, true, false}
 use mathlib.Core.List.{List}
+use native.Mathlib.Decide.{decLe}
 use native.Mathlib.Omega.{arith}
-use Rattle.records.specs.Lines.{Line}
-use Rattle.model.specs.Network.{linkCount, signalCount, movementCount, signalLine, linkLine, movementLine, stepLine}
+use lib.ListN.{length, getD, List·getD-eq-default}
+use Rattle.records.specs.Lines.{Line, noLine, isRecord}
+use Rattle.model.specs.Network.{linkCount, signalCount, movementCount, tramCount, tramLine, signalLine, linkLine, movementLine, stepLine}
 use Rattle.tables.specs.declared.Counts.{Counts}
-use Rattle.tables.specs.Places.{signalLineIn, linkLineIn, movementLineIn, stepLineIn}
+use Rattle.tables.specs.Places.{tramLineIn, signalLineIn, linkLineIn, movementLineIn, stepLineIn}
 use Rattle.tables.specs.Tables.{CountsHold}
 
+pub record-within : (letter n : ℕ) (text : List Line) (i : ℕ) → isRecord letter n (getD text i noLine) ≡ true → i < length text
+unfolding isRecord
+record-within letter n text i e = elim (decLe (length text) i) [
+  | yes h ↦ let z : _≡_ {A = Bool} false true = rw (List·getD-eq-default text noLine h) at e in let o : _≡_ {A = ℕ} 0 1 = cc in absurd (omega arith)
+  | no h ↦ omega arith
+]
+
 module _ {network : List Line} {counts : Counts} (c : CountsHold network counts) (i : ℕ) where
+  pub tram-line-is : tramLineIn counts i ≡ tramLine network i
+  unfolding tramLine
+  tram-line-is = omega arith
+
   pub signal-line-is : signalLineIn counts i ≡ signalLine network i
   unfolding signalLine
   signal-line-is = omega arith
@@ -27,6 +42,10 @@ module _ {network : List Line} {counts : Counts} (c : CountsHold network counts)
   step-line-is = omega arith
 
 module _ (network : List Line) where
+  pub signals-after-trams : tramLine network (tramCount network) ≡ signalLine network 0
+  unfolding tramLine signalLine
+  signals-after-trams = omega arith
+
   pub links-after-signals : signalLine network (signalCount network) ≡ linkLine network 0
   unfolding signalLine linkLine
   links-after-signals = omega arith

@@ -33,4 +33,4 @@ module _ {first : Checks} {Held : Reading → Type 0} {stage : Stage} (judged : 
 
 -- the reading goes on to another line
 pub reached-next : {text : List ℕ} {line : ℕ} {reading : Reading} → Reached text line reading → {other next : ℕ} → Starts text next other → Reached text other (movedTo reading next)
-reached-next r s = record { counted = r .counted; starts = s; signals-start = r .signals-start; shortest-time = r .shortest-time }
+reached-next r s = record { counted = r .counted; starts = s; trams-start = r .trams-start; signals-start = r .signals-start; shortest-time = r .shortest-time }

@@ -3,16 +3,22 @@
 use Prim.Native.Nat.{ℕ, suc, _+_, _*_, _≤_, _<_}
 use mathlib.Core.List.{List}
 use lib.ListN.{length, getD}
-use Rattle.model.specs.Network.{maxLinks, maxSignals, maxMovements, maxSteps}
+use Rattle.model.specs.Network.{maxLinks, maxSignals, maxMovements, maxSteps, maxTrams}
 use Rattle.tables.specs.declared.Counts.{Counts}
 use Rattle.tables.specs.Places.{admittedPlace, letOutPlace, movedPlace}
 
--- how many numbers a `Q` and an `M` line have, and the sizes of the tables
+-- how many numbers a `T`, a `Q` and an `M` line have, and the sizes of the tables
+abbrev pub tramFields : ℕ
+tramFields = 4
+
 abbrev pub linkFields : ℕ
 linkFields = 6
 
 abbrev pub movementFields : ℕ
 movementFields = 4
+
+abbrev pub tramTableSize : ℕ
+tramTableSize = tramFields * maxTrams
 
 abbrev pub linkTableSize : ℕ
 linkTableSize = linkFields * maxLinks
@@ -31,6 +37,10 @@ lineSize = maxSignals + (2 * maxLinks + maxMovements)
 
 abbrev pub rowSize : ℕ
 rowSize = 2 * maxLinks
+
+-- tram line k, by the table of the `T` lines: its signal, phase, first step and last step
+abbrev pub tramIn : List ℕ → ℕ → ℕ → ℕ
+tramIn trams k field = getD trams (tramFields * k + field) 0
 
 -- link i, by the table of the `Q` lines
 abbrev pub capacityIn : List ℕ → ℕ → ℕ

@@ -1,21 +1,24 @@
 -- The places of lines in a network text and of numbers in a `P` line, from 0, by the counts of the `N` line. Not of the paper: that they are its places stands in
 -- proofs/Tables.antt. Assumes nothing.
 use Prim.Native.Nat.{ℕ, _+_, _*_, _≤_}
-use Rattle.model.specs.Network.{maxLinks, maxSignals, maxMovements, maxSteps}
+use Rattle.model.specs.Network.{maxLinks, maxSignals, maxMovements, maxSteps, maxTrams}
 use Rattle.tables.specs.declared.Counts.{Counts}
 
--- the lines of signal r, link i, movement j and step n
+-- the lines of tram line k, signal r, link i, movement j and step n
+abbrev pub tramLineIn : Counts → ℕ → ℕ
+tramLineIn c k = 1 + k
+
 abbrev pub signalLineIn : Counts → ℕ → ℕ
-signalLineIn c r = 1 + r
+signalLineIn c r = 1 + (c .trams + r)
 
 abbrev pub linkLineIn : Counts → ℕ → ℕ
-linkLineIn c i = 1 + (c .signals + i)
+linkLineIn c i = 1 + (c .trams + (c .signals + i))
 
 abbrev pub movementLineIn : Counts → ℕ → ℕ
-movementLineIn c j = 1 + (c .signals + (c .links + j))
+movementLineIn c j = 1 + (c .trams + (c .signals + (c .links + j)))
 
 abbrev pub stepLineIn : Counts → ℕ → ℕ
-stepLineIn c n = 1 + (c .signals + (c .links + (c .movements + n)))
+stepLineIn c n = 1 + (c .trams + (c .signals + (c .links + (c .movements + n))))
 
 -- the numbers of a `P` line: admitted on link i, let out from link i, of movement j; and how many there are
 abbrev pub admittedPlace : Counts → ℕ → ℕ
@@ -36,3 +39,4 @@ pub record Few (counts : Counts) : Type 0 where
   pub signals : counts .signals ≤ maxSignals
   pub movements : counts .movements ≤ maxMovements
   pub steps : counts .steps ≤ maxSteps
+  pub trams : counts .trams ≤ maxTrams

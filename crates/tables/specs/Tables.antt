@@ -12,13 +12,13 @@ use Rattle.records.specs.Lines.{Line, lines}
 use Rattle.records.specs.Reading.{Starts}
 use Rattle.model.specs.declared.Signal.{Signal}
 use Rattle.model.specs.Test.{every}
-use Rattle.model.specs.Network.{maxSignals, entry, linkCount, signalCount, movementCount, stepCount, signalLine, linkLine, movementLine, stepLine, signal, time}
+use Rattle.model.specs.Network.{maxSignals, entry, linkCount, signalCount, movementCount, stepCount, tramCount, tramLine, signalLine, linkLine, movementLine, stepLine, signal, time}
 use Rattle.tables.specs.declared.Counts.{Counts}
 use Rattle.tables.specs.declared.Reading.{Reading}
 use Rattle.tables.specs.declared.Stage.{Stage}
 use Rattle.tables.specs.declared.Stage.the-variants.{Passed, Refused}
 use Rattle.tables.specs.Places.{Few}
-use Rattle.tables.specs.Fields.{linkFields, movementFields, linkTableSize, movementTableSize, timeTableSize, stepSize, lineSize}
+use Rattle.tables.specs.Fields.{tramFields, linkFields, movementFields, tramTableSize, linkTableSize, movementTableSize, timeTableSize, stepSize, lineSize}
 
 -- the verdict on a stage: some lines pass, or one of them is refused
 unfoldable pub stageVerdict : Stage → Verdict
@@ -36,6 +36,7 @@ pub record CountsHold (network : List Line) (counts : Counts) : Type 0 where
   pub signals : counts .signals ≡ signalCount network
   pub movements : counts .movements ≡ movementCount network
   pub steps : counts .steps ≡ stepCount network
+  pub trams : counts .trams ≡ tramCount network
   pub few : Few counts
   pub some-links : 1 ≤ counts .links
   pub some-steps : 1 ≤ counts .steps
@@ -46,6 +47,7 @@ movedTo reading next =
     record {
       counts = reading .counts;
       next = next;
+      «trams_at» = reading .«trams_at»;
       «signals_at» = reading .«signals_at»;
       «steps_at» = reading .«steps_at»;
       shortest = reading .shortest;
@@ -85,8 +87,14 @@ pub record Shortest (network : List Line) (shortest : ℕ) : Type 0 where
 pub record Reached (text : List ℕ) (line : ℕ) (reading : Reading) : Type 0 where
   pub counted : CountsHold (lines text) (reading .counts)
   pub starts : Starts text (reading .next) line
+  pub trams-start : Starts text (reading .«trams_at») (tramLine (lines text) 0)
   pub signals-start : Starts text (reading .«signals_at») (signalLine (lines text) 0)
   pub shortest-time : Shortest (lines text) (reading .shortest)
+
+-- four numbers a tram line, as its `T` line has them
+pub record TramTable (network : List Line) (trams : List ℕ) : Type 0 where
+  pub size : length trams ≡ tramTableSize
+  pub holds : (k f : ℕ) → k < tramCount network → f < tramFields → getD trams (tramFields * k + f) 0 ≡ entry network (tramLine network k) f
 
 -- six numbers a link, as its `Q` line has them
 pub record LinkTable (network : List Line) (links : List ℕ) : Type 0 where

@@ -3,9 +3,9 @@
 ghost use mathlib.Core.Path.{_≡_};
 ghost use Prim.Native.Nat.{_+_, _*_, _<_, _≤_};
 ghost use lib.ListN.{length};
-ghost use Rattle.model.specs.Network.{maxLinks, maxSignals, maxMovements, maxSteps};
-ghost use Rattle.tables.specs.Places.{signalLineIn, linkLineIn, movementLineIn, stepLineIn, planWidth, Few};
-ghost use Rattle.tables.specs.Fields.{linkTableSize, movementTableSize, stepSize, lineSize, capacityIn, travelTimeIn, exitRateIn, signalIn, phaseMaskIn, standingIn, linkIn, rateIn, shareIn, lengthIn, demandIn, admittedIn, letOutIn, movedIn, enteredIn, leftIn, enteredAt, leftAt, RowHeld};
+ghost use Rattle.model.specs.Network.{maxLinks, maxSignals, maxMovements, maxSteps, maxTrams};
+ghost use Rattle.tables.specs.Places.{tramLineIn, signalLineIn, linkLineIn, movementLineIn, stepLineIn, planWidth, Few};
+ghost use Rattle.tables.specs.Fields.{tramTableSize, tramIn, linkTableSize, movementTableSize, stepSize, lineSize, capacityIn, travelTimeIn, exitRateIn, signalIn, phaseMaskIn, standingIn, linkIn, rateIn, shareIn, lengthIn, demandIn, admittedIn, letOutIn, movedIn, enteredIn, leftIn, enteredAt, leftAt, RowHeld};
 ghost use Rattle.tables.specs.Rows.{RowRead, HeadRead};
 ghost use Rattle.tables.specs.Tables.{movedTo};
 use records::LineRead;
@@ -19,7 +19,11 @@ pub const MAX_MOVEMENTS: usize = 64;
 
 pub const MAX_STEPS: usize = 120;
 
-// How many numbers a `Q`, an `M`, an `S` and a `P` line have at most.
+pub const MAX_TRAMS: usize = 16;
+
+// How many numbers a `T`, a `Q`, an `M`, an `S` and a `P` line have at most.
+pub const TRAM_FIELDS: usize = 4;
+
 pub const LINK_FIELDS: usize = 6;
 
 pub const MOVEMENT_FIELDS: usize = 4;
@@ -28,7 +32,9 @@ pub const STEP_SIZE: usize = 1 + MAX_LINKS;
 
 pub const LINE_SIZE: usize = MAX_SIGNALS + 2 * MAX_LINKS + MAX_MOVEMENTS;
 
-// The sizes of the tables of all links, all movements, the time of each boundary, and of a row of the ledger.
+// The sizes of the tables of all tram lines, all links, all movements, the time of each boundary, and of a row of the ledger.
+pub const TRAM_TABLE_SIZE: usize = TRAM_FIELDS * MAX_TRAMS;
+
 pub const LINK_TABLE_SIZE: usize = LINK_FIELDS * MAX_LINKS;
 
 pub const MOVEMENT_TABLE_SIZE: usize = MOVEMENT_FIELDS * MAX_MOVEMENTS;
@@ -43,13 +49,15 @@ pub struct Counts {
     pub signals: usize,
     pub movements: usize,
     pub steps: usize,
+    pub trams: usize,
 }
 
-// How far a network text has been read while its lines pass: its counts, the place of the next line, the places where its `G` and its `S` lines start, and the
-// shortest of all greatest times.
+// How far a network text has been read while its lines pass: its counts, the place of the next line, the places where its `T`, its `G` and its `S` lines start,
+// and the shortest of all greatest times.
 pub struct Reading {
     pub counts: Counts,
     pub next: usize,
+    pub trams_at: usize,
     pub signals_at: usize,
     pub steps_at: usize,
     pub shortest: u32,
@@ -72,32 +80,39 @@ impl Reading {
 
 // The places of lines in a network text, from 0, and how many numbers a `P` line has.
 impl Counts {
+    pub fn tram_line(self, k: usize) -> usize
+        requires { ⌜ k ≤ maxTrams ⌝ }
+        ensures { λ p. ⌜ p ≡ tramLineIn self k ⌝ }
+    {
+        1 + k
+    }
+
     pub fn signal_line(self, r: usize) -> usize
-        requires { ⌜ r ≤ maxSignals ⌝ }
+        requires { ⌜ Few self × (r ≤ maxSignals) ⌝ }
         ensures { λ p. ⌜ p ≡ signalLineIn self r ⌝ }
     {
-        1 + r
+        1 + (self.trams + r)
     }
 
     pub fn link_line(self, i: usize) -> usize
         requires { ⌜ Few self × (i ≤ maxLinks) ⌝ }
         ensures { λ p. ⌜ p ≡ linkLineIn self i ⌝ }
     {
-        1 + (self.signals + i)
+        1 + (self.trams + (self.signals + i))
     }
 
     pub fn movement_line(self, j: usize) -> usize
         requires { ⌜ Few self × (j ≤ maxMovements) ⌝ }
         ensures { λ p. ⌜ p ≡ movementLineIn self j ⌝ }
     {
-        1 + (self.signals + (self.links + j))
+        1 + (self.trams + (self.signals + (self.links + j)))
     }
 
     pub fn step_line(self, n: usize) -> usize
         requires { ⌜ Few self × (n ≤ maxSteps) ⌝ }
         ensures { λ p. ⌜ p ≡ stepLineIn self n ⌝ }
     {
-        1 + (self.signals + (self.links + (self.movements + n)))
+        1 + (self.trams + (self.signals + (self.links + (self.movements + n))))
     }
 
     pub fn plan_width(self) -> usize
@@ -158,6 +173,14 @@ pub fn read_head(
 {
     let end = start + width;
     records::head_at(text, at, letter, &mut table[start..end])
+}
+
+// A number of a tram line, as its `T` line has it: signal, phase, first step and last step.
+pub fn tram(trams: &[u32], k: usize, field: usize) -> u32
+    requires { ⌜ (k < maxTrams) × (field < 4) × (length (now trams) ≡ tramTableSize) ⌝ }
+    ensures { λ r. ⌜ r ≡ tramIn (now (trams .entry)) k field ⌝ }
+{
+    trams[TRAM_FIELDS * k + field]
 }
 
 // A link's numbers, as its `Q` line has them.

@@ -135,7 +135,7 @@ fn tell_place<T: PartialEq + Display>(name: &str, expected: &[T], given: &[T]) {
 
 fn report(counts: &Counts) {
     println!("answer\t{}", CALLS.join("\t"));
-    for number in (0..=6).chain(8..=27) {
+    for number in (0..=6).chain(8..=29) {
         let count = |call| counts.answers.get(&(call, number)).copied().unwrap_or(0);
         let columns = CALLS.map(|call| count(call).to_string());
         let name = if number == 0 {

@@ -159,18 +159,19 @@ pub fn random_texts(maker: &mut Maker, count: usize) {
         let network: Vec<u8> = match round % 3 {
             0 => (0..length).map(|_| random.draw() as u8).collect(),
             1 => (0..length)
-                .map(|_| random.pick(b"NGQMSP\t\t\t\t\n0123456789"))
+                .map(|_| random.pick(b"NTGQMSP\t\t\t\t\n0123456789"))
                 .collect(),
             _ => {
                 let mut text = format!(
-                    "N\t{}\t{}\t{}\t{}\n",
+                    "N\t{}\t{}\t{}\t{}\t{}\n",
                     random.between(0, 3),
                     random.between(0, 1),
                     random.between(0, 1),
-                    random.between(0, 2)
+                    random.between(0, 2),
+                    random.between(0, 1)
                 );
                 for _ in 0..random.between(0, 5) {
-                    text.push(random.pick(&['G', 'Q', 'M', 'S']));
+                    text.push(random.pick(&['T', 'G', 'Q', 'M', 'S']));
                     for _ in 0..random.between(1, 11) {
                         text.push('\t');
                         text += &random.between(0, 12).to_string();

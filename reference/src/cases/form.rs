@@ -52,7 +52,7 @@ fn broken_forms(maker: &mut Maker, sheet: &Sheet, line: usize) -> Vec<(&'static 
     };
     with_letter(maker.random.pick(&BAD_LETTERS));
     with_letter(&sheet.lines[line][0].to_ascii_lowercase());
-    let other_letters: Vec<u8> = b"NGQMSP"
+    let other_letters: Vec<u8> = b"NTGQMSP"
         .iter()
         .copied()
         .filter(|&letter| sheet.lines[line][0] != [letter])
@@ -101,6 +101,7 @@ pub fn network_form(maker: &mut Maker, scenario: &Scenario) {
     let mut first_line = 0;
     for count in [
         1,
+        network.trams.len(),
         network.signals.len(),
         network.links.len(),
         network.movements.len(),
@@ -140,7 +141,7 @@ pub fn phase_count_form(maker: &mut Maker, scenario: &Scenario) {
     let texts = Texts::of(scenario);
     let need = scenario.ledger_need();
     let signal = maker.random.index(signal_count);
-    let line = 1 + signal;
+    let line = 1 + scenario.network.trams.len() + signal;
     let values = refused(3, line + 1, signal + 1);
     let form = refused(1, line + 1, 0);
     let sheet = Sheet::of_network(&scenario.network);

@@ -3,25 +3,31 @@
 use super::{refused, Answer, Call, Maker, Scenario, Texts};
 use crate::{Network, Signal, Totals};
 
-/// What an empty plan comes to: every signal goes on with its phase until it
-/// has shown too long or its cycle is too long, and nothing moves.
+/// Whether a tram asks anything of a signal in a step (both from index 0).
+fn is_tram_step(network: &Network, signal: usize, step: usize) -> bool {
+    let step = step as u64 + 1;
+    network
+        .trams
+        .iter()
+        .any(|tram| tram.signal == signal as u64 + 1 && (tram.first..=tram.last).contains(&step))
+}
+
+/// What an empty plan comes to: every signal goes on with its phase until a
+/// tram asks for another, it has shown too long or its cycle is too long, and
+/// nothing moves.
 fn held(network: &Network) -> Answer {
-    let mut time = 0;
+    let mut seconds = vec![0; network.signals.len()];
     for (index, step) in network.steps.iter().enumerate() {
-        time += step.length;
-        let signals = || network.signals.iter().enumerate();
-        for (signal, limits) in signals() {
-            let phase = &limits.phases[limits.shown_phase as usize - 1];
-            if limits.shown_seconds + time > phase.greatest {
-                return Answer::Refused(refused(13, index + 1, signal + 1));
+        for (signal, seconds) in seconds.iter_mut().enumerate() {
+            if !is_tram_step(network, signal, index) {
+                *seconds += step.length;
             }
         }
-        for (signal, limits) in signals() {
-            if limits.clock + time > limits.greatest_cycle {
-                return Answer::Refused(refused(14, index + 1, signal + 1));
-            }
+        if let Some((rule, signal)) = broken_by_hold(network, index, &seconds) {
+            return Answer::Refused(refused(rule, index + 1, signal + 1));
         }
     }
+    let time: u64 = network.steps.iter().map(|step| step.length).sum();
     let inside = network.links.iter().map(|link| link.standing).sum();
     let mut doubled_time = 2 * time * inside;
     let mut ends = 0;
@@ -38,6 +44,30 @@ fn held(network: &Network) -> Answer {
     })
 }
 
+/// The first rule that holding breaks after a step, and the signal, with the
+/// ordinary seconds of each signal so far. In a tram's step 13 and 14 stand
+/// still, so what passed before passes.
+fn broken_by_hold(network: &Network, step: usize, seconds: &[u64]) -> Option<(u64, usize)> {
+    let signals = || network.signals.iter().enumerate();
+    let asked_otherwise = network.trams.iter().filter(|tram| {
+        let shown = network.signals[tram.signal as usize - 1].shown_phase;
+        (tram.first..=tram.last).contains(&(step as u64 + 1)) && tram.phase != shown
+    });
+    if let Some(signal) = asked_otherwise.map(|tram| tram.signal as usize - 1).min() {
+        return Some((29, signal));
+    }
+    let too_long = signals().find(|(signal, limits)| {
+        let phase = &limits.phases[limits.shown_phase as usize - 1];
+        limits.shown_seconds + seconds[*signal] > phase.greatest
+    });
+    if let Some((signal, _)) = too_long {
+        return Some((13, signal));
+    }
+    let too_long =
+        signals().find(|(signal, limits)| limits.clock + seconds[*signal] > limits.greatest_cycle);
+    too_long.map(|(signal, _)| (14, signal))
+}
+
 /// Empty plans on the network as it is, and what comes before and beside them.
 pub fn empty_plans(maker: &mut Maker, scenario: &Scenario) {
     let need = scenario.ledger_need();
@@ -52,7 +82,7 @@ pub fn empty_plans(maker: &mut Maker, scenario: &Scenario) {
     // The network and the ledger's length come first.
     let mut broken = scenario.network.clone();
     broken.links[0].travel_time = 0;
-    let line = 2 + broken.signals.len();
+    let line = 2 + broken.trams.len() + broken.signals.len();
     let intended = Some(Answer::Refused(refused(4, line, 1)));
     let texts = Texts::new(&broken, &[]);
     maker.ask_plan("4: before an empty plan", texts, need, intended);
@@ -67,19 +97,21 @@ pub fn empty_plans(maker: &mut Maker, scenario: &Scenario) {
 /// The network as it is, one that just allows to hold, and such that don't by
 /// a second.
 fn networks(scenario: &Scenario) -> Vec<(&'static str, Network)> {
-    let horizon: u64 = scenario.network.steps.iter().map(|step| step.length).sum();
     let mut kept = scenario.network.clone();
-    for signal in &mut kept.signals {
-        let longest = (signal.shown_seconds + horizon).min(3600);
-        set_greatest_time(signal, longest);
-        set_greatest_cycle(signal, (signal.clock + horizon).min(3600));
+    for (index, signal) in kept.signals.iter_mut().enumerate() {
+        let steps = scenario.network.steps.iter().enumerate();
+        let ordinary = steps.filter(|(step, _)| !is_tram_step(&scenario.network, index, *step));
+        let horizon: u64 = ordinary.map(|(_, step)| step.length).sum();
+        // No shorter than the network itself allows.
+        let longest = (signal.shown_seconds + horizon).max(scenario.longest_step());
+        set_greatest_time(signal, longest.min(3600));
+        set_greatest_cycle(signal, (signal.clock + horizon).clamp(1, 3600));
     }
     let mut networks = vec![
         ("empty plan", scenario.network.clone()),
         ("empty plan, phases may go on", kept.clone()),
     ];
     for (index, signal) in kept.signals.iter().enumerate() {
-        // No shorter than the network itself allows.
         let longest = signal.phases[signal.shown_phase as usize - 1].greatest;
         if longest > signal.shown_seconds.max(scenario.longest_step()) {
             let mut short = kept.clone();

@@ -556,7 +556,7 @@ pub fn buffers(maker: &mut Maker, scenario: &Scenario) {
 
     let mut broken = scenario.clone();
     broken.network.links[0].travel_time = 0;
-    let line = 2 + scenario.network.signals.len();
+    let line = 2 + scenario.network.trams.len() + scenario.network.signals.len();
     let listing = maker
         .random
         .pick(&["", "\n", "i_1_1 0\n"])

@@ -66,6 +66,8 @@ pub fn counts(maker: &mut Maker, scenario: &Scenario) {
         (4, "0"),
         (4, "121"),
         (4, "4294967295"),
+        (5, "17"),
+        (5, "4294967295"),
     ] {
         let mut sheet = Sheet::of_network(&scenario.network);
         sheet.set(0, field, count.as_bytes());
@@ -86,6 +88,8 @@ pub fn counts(maker: &mut Maker, scenario: &Scenario) {
         (3, "64"),
         (4, "1"),
         (4, "120"),
+        (5, "0"),
+        (5, "16"),
     ] {
         let mut sheet = Sheet::of_network(&scenario.network);
         sheet.set(0, field, count.as_bytes());
@@ -107,7 +111,7 @@ pub fn counts(maker: &mut Maker, scenario: &Scenario) {
     );
     maker.ask_network(
         "1: largest counts and no other line",
-        texts.with_network(b"N\t24\t8\t64\t120\n".to_vec()),
+        texts.with_network(b"N\t24\t8\t64\t120\t0\n".to_vec()),
         Some(Answer::Refused(refused(1, 2, 0))),
     );
 }
@@ -126,7 +130,7 @@ pub fn signals(maker: &mut Maker, scenario: &Scenario) {
     let phase = maker.random.index(phase_count);
     let place = Place {
         number: 3,
-        line: 2 + signal,
+        line: 2 + scenario.network.trams.len() + signal,
         item: 1 + signal,
     };
 
@@ -310,7 +314,7 @@ pub fn links(maker: &mut Maker, scenario: &Scenario) {
     let link = maker.random.index(network.links.len());
     let place = Place {
         number: 4,
-        line: 2 + network.signals.len() + link,
+        line: 2 + network.trams.len() + network.signals.len() + link,
         item: 1 + link,
     };
 
@@ -409,7 +413,7 @@ pub fn movements(maker: &mut Maker, scenario: &Scenario) {
         return;
     }
     let link_count = network.links.len() as u64;
-    let lines_before = 1 + network.signals.len() + network.links.len();
+    let lines_before = 1 + network.trams.len() + network.signals.len() + network.links.len();
     let movement = maker.random.index(movement_count);
     let place = |movement: usize| Place {
         number: 5,
@@ -585,7 +589,11 @@ fn last_of_wrong_sum(network: &Network) -> usize {
 /// Refusal 6.
 pub fn steps(maker: &mut Maker, scenario: &Scenario) {
     let network = &scenario.network;
-    let lines_before = 1 + network.signals.len() + network.links.len() + network.movements.len();
+    let lines_before = 1
+        + network.trams.len()
+        + network.signals.len()
+        + network.links.len()
+        + network.movements.len();
     let step = maker.random.index(network.steps.len());
     let link = maker.random.index(network.links.len());
     let place = Place {
@@ -724,7 +732,8 @@ fn draw_bad_field(maker: &mut Maker, scenario: &Scenario, sheet: &Sheet, line: u
     let network = &scenario.network;
     let last_demand = network.links.len() + 1;
     let values: &[(usize, &'static [u8])] = match sheet.lines[line][0][0] {
-        b'N' => &[(1, b"25"), (2, b"9"), (3, b"65"), (4, b"0"), (4, b"121")],
+        b'N' => &[(1, b"25"), (2, b"9"), (3, b"65"), (4, b"0"), (5, b"17")],
+        b'T' => &[(1, b"0"), (1, b"9"), (3, b"0"), (4, b"0"), (4, b"121")],
         b'G' => &[(1, b"0"), (2, b"3601"), (4, b"0"), (5, b"4294967295")],
         b'Q' => &[
             (1, b"2000000001"),
@@ -741,13 +750,15 @@ fn draw_bad_field(maker: &mut Maker, scenario: &Scenario, sheet: &Sheet, line: u
         ],
     };
     let (field, value) = maker.random.pick(values);
-    let signals = network.signals.len();
+    let trams = network.trams.len();
+    let signals = trams + network.signals.len();
     let links = network.links.len();
     let movements = network.movements.len();
     // Items are counted from 1 after the lines of the other kinds.
     let (number, item) = match sheet.lines[line][0][0] {
         b'N' => (2, 0),
-        b'G' => (3, line),
+        b'T' => (28, 0),
+        b'G' => (3, line - trams),
         b'Q' => (4, line - signals),
         b'M' => (5, line - signals - links),
         _ => (6, line - signals - links - movements),

@@ -1,4 +1,4 @@
-//! Rules 10 to 18 and 25 to 27 broken in the plan: one value one beyond its limit, and two
+//! Rules 10 to 18, 25 to 27 and 29 broken in the plan: one value one beyond its limit, and two
 //! such values at once.
 
 use super::{refused, Answer, Maker, Scenario, Texts};
@@ -56,7 +56,7 @@ impl Breach {
 
     /// Where the breach stands in the order in which a plan is judged.
     fn order(&self) -> (usize, usize, usize) {
-        let rules = [10, 11, 12, 13, 14, 15, 25, 26, 27, 16, 17, 18];
+        let rules = [10, 29, 11, 12, 13, 14, 15, 25, 26, 27, 16, 17, 18];
         let place = rules.iter().position(|&rule| rule == self.rule);
         (
             self.broken_in,
@@ -90,6 +90,7 @@ fn breaches(scenario: &Scenario) -> Vec<Vec<Breach>> {
         kinds.push(breaches);
     };
     kind(&|step, breaches| bad_masks(scenario, step, breaches));
+    kind(&|step, breaches| without_tram_phase(scenario, step, breaches));
     kind(&|step, breaches| phases_out_of_order(scenario, step, breaches));
     kind(&|step, breaches| other_choices(scenario, step, 12, breaches));
     kind(&|step, breaches| other_choices(scenario, step, 13, breaches));
@@ -128,8 +129,25 @@ fn bad_masks(scenario: &Scenario, step: usize, breaches: &mut Vec<Breach>) {
     }
 }
 
+/// Another phase than a tram's, whether it could come in an ordinary step or not.
+fn without_tram_phase(scenario: &Scenario, step: usize, breaches: &mut Vec<Breach>) {
+    for (signal, limits) in scenario.network.signals.iter().enumerate() {
+        let Some(asked) = scenario.tram_phase(signal, step) else {
+            continue;
+        };
+        for phase in (1..=limits.phases.len() as u64).filter(|&phase| phase != asked) {
+            let field = Field::Mask(signal);
+            let name = "29: not the tram's phase";
+            breaches.push(Breach::at_once(29, name, step, field, 1 << (phase - 1)));
+        }
+    }
+}
+
 fn phases_out_of_order(scenario: &Scenario, step: usize, breaches: &mut Vec<Breach>) {
     for (signal, limits) in scenario.network.signals.iter().enumerate() {
+        if scenario.tram_phase(signal, step).is_some() {
+            continue;
+        }
         let phase_count = limits.phases.len() as u64;
         let before = scenario.shown[step][signal].phase;
         let next = before % phase_count + 1;
@@ -153,6 +171,9 @@ fn phases_out_of_order(scenario: &Scenario, step: usize, breaches: &mut Vec<Brea
 fn other_choices(scenario: &Scenario, step: usize, rule: u64, breaches: &mut Vec<Breach>) {
     let length = scenario.network.steps[step].length;
     for (signal, limits) in scenario.network.signals.iter().enumerate() {
+        if scenario.tram_phase(signal, step).is_some() {
+            continue;
+        }
         let phase_count = limits.phases.len() as u64;
         let before = scenario.shown[step][signal];
         let next = before.phase % phase_count + 1;

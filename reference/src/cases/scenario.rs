@@ -4,7 +4,7 @@
 //! judging code is used here.
 
 use super::random::Random;
-use crate::{Link, Movement, Network, Phase, PlanStep, Signal, State, Step, Totals};
+use crate::{Link, Movement, Network, Phase, PlanStep, Signal, State, Step, Totals, Tram};
 use std::collections::HashSet;
 
 #[derive(Clone, Copy, Debug)]
@@ -27,7 +27,7 @@ pub enum Traffic {
     Extreme,
 }
 
-/// What a signal shows at a boundary.
+/// What a signal shows at a boundary, after its last ordinary step.
 #[derive(Clone, Copy)]
 pub struct Shown {
     pub phase: u64,
@@ -61,12 +61,19 @@ pub struct Moment {
 impl Scenario {
     pub fn make(random: &mut Random, size: Size, traffic: Traffic) -> Scenario {
         let lengths = draw_lengths(random, size.steps, traffic);
+        let mut trams = draw_trams(random, size);
         let mut signals = Vec::new();
         let mut schedules = Vec::new();
-        for _ in 0..size.signals {
-            let (signal, schedule) = draw_signal(random, &lengths);
+        for index in 0..size.signals {
+            let is_ordinary = |&step: &usize| tram_at(&trams, index, step).is_none();
+            let ordinary: Vec<usize> = (0..size.steps).filter(is_ordinary).collect();
+            let (signal, schedule) = draw_signal(random, &lengths, &ordinary);
             signals.push(signal);
             schedules.push(schedule);
+        }
+        for tram in &mut trams {
+            let phases = signals[tram.signal as usize - 1].phases.len() as u64;
+            tram.phase = random.between(1, phases);
         }
         let times = boundary_times(lengths.iter().copied());
         let mut links: Vec<Link> = (0..size.links)
@@ -89,6 +96,7 @@ impl Scenario {
             })
             .collect();
         let network = Network {
+            trams,
             signals,
             links,
             movements,
@@ -199,7 +207,12 @@ impl Scenario {
 
     /// Whether a link's movements may go in a step (both from index 0).
     pub fn is_open(&self, step: usize, link: usize) -> bool {
-        is_open(&self.network.links[link], &self.shown[step + 1])
+        is_open(&self.network.links[link], &self.plan[step].masks)
+    }
+
+    /// The phase that a tram asks of a signal in a step (both from index 0).
+    pub fn tram_phase(&self, signal: usize, step: usize) -> Option<u64> {
+        tram_at(&self.network.trams, signal, step).map(|tram| tram.phase)
     }
 
     /// The movements from a link, all from index 0.
@@ -408,22 +421,56 @@ fn draw_demand(random: &mut Random, traffic: Traffic) -> u64 {
     }
 }
 
-/// A signal and the phases that it shows in the plan. Either the limits come
+/// The tram that asks something of a signal in a step (both from index 0).
+fn tram_at(trams: &[Tram], signal: usize, step: usize) -> Option<&Tram> {
+    let step = step as u64 + 1;
+    trams
+        .iter()
+        .find(|tram| tram.signal == signal as u64 + 1 && (tram.first..=tram.last).contains(&step))
+}
+
+/// None in about every second network, else a few that don't overlap, their
+/// phases still open.
+fn draw_trams(random: &mut Random, size: Size) -> Vec<Tram> {
+    let mut trams: Vec<Tram> = Vec::new();
+    if size.signals == 0 || random.chance(50) {
+        return trams;
+    }
+    for _ in 0..random.pick(&[1, 1, 2, 4, 40]) {
+        let signal = random.index(size.signals);
+        let first = random.index(size.steps);
+        let last = (first + random.pick(&[0, 0, 1, 3])).min(size.steps - 1);
+        let is_free = (first..=last).all(|step| tram_at(&trams, signal, step).is_none());
+        if is_free && trams.len() < 16 {
+            trams.push(Tram {
+                signal: signal as u64 + 1,
+                phase: 0,
+                first: first as u64 + 1,
+                last: last as u64 + 1,
+            });
+        }
+    }
+    trams
+}
+
+/// A signal and the phases that it shows in the ordinary steps (from index 0)
+/// of the plan. Either the limits come
 /// first and the phases are chosen within them, or the other way round, which
 /// gives limits that are just met.
-fn draw_signal(random: &mut Random, lengths: &[u64]) -> (Signal, Vec<u64>) {
+fn draw_signal(random: &mut Random, lengths: &[u64], ordinary: &[usize]) -> (Signal, Vec<u64>) {
+    let longest = lengths.iter().copied().fold(0, u64::max);
+    let lengths: Vec<u64> = ordinary.iter().map(|&step| lengths[step]).collect();
     if random.chance(50) {
-        let signal = draw_limits(random, lengths);
-        if let Some(schedule) = choose_phases(random, &signal, lengths) {
+        let signal = draw_limits(random, longest);
+        if let Some(schedule) = choose_phases(random, &signal, &lengths) {
             return (signal, schedule);
         }
     }
-    draw_schedule_with_limits(random, lengths)
+    draw_schedule_with_limits(random, longest, &lengths)
 }
 
 /// A signal with limits of the size of its steps.
-fn draw_limits(random: &mut Random, lengths: &[u64]) -> Signal {
-    let longest = lengths.iter().copied().fold(0, u64::max);
+fn draw_limits(random: &mut Random, longest: u64) -> Signal {
     let phases: Vec<Phase> = (0..random.between(2, 8))
         .map(|_| {
             let least = random.between(1, 2 * longest);
@@ -545,7 +592,11 @@ impl PhaseSearch<'_> {
 }
 
 /// Random phases first, then limits that they keep, often just so.
-fn draw_schedule_with_limits(random: &mut Random, lengths: &[u64]) -> (Signal, Vec<u64>) {
+fn draw_schedule_with_limits(
+    random: &mut Random,
+    longest: u64,
+    lengths: &[u64],
+) -> (Signal, Vec<u64>) {
     let phase_count = random.between(2, 8);
     let mut advance_percent = random.pick(&[20, 40, 60, 90]);
     loop {
@@ -575,7 +626,7 @@ fn draw_schedule_with_limits(random: &mut Random, lengths: &[u64]) -> (Signal, V
             .all(|shown| shown.run <= 3600 && shown.clock <= 3600);
         if kept {
             let schedule = shown[1..].iter().map(|shown| shown.phase).collect();
-            return (fit_limits(random, phase_count, &shown, lengths), schedule);
+            return (fit_limits(random, phase_count, &shown, longest), schedule);
         }
         // Change more often, so that runs and cycles get shorter.
         advance_percent = 100;
@@ -583,8 +634,7 @@ fn draw_schedule_with_limits(random: &mut Random, lengths: &[u64]) -> (Signal, V
 }
 
 /// Limits that a schedule keeps.
-fn fit_limits(random: &mut Random, phase_count: u64, shown: &[Shown], lengths: &[u64]) -> Signal {
-    let longest = lengths.iter().copied().fold(0, u64::max);
+fn fit_limits(random: &mut Random, phase_count: u64, shown: &[Shown], longest: u64) -> Signal {
     let changes = || {
         shown
             .windows(2)
@@ -637,12 +687,8 @@ fn slack_below(random: &mut Random, seconds: u64) -> u64 {
     seconds.saturating_sub(slack).max(1)
 }
 
-fn is_open(link: &Link, shown: &[Shown]) -> bool {
-    if link.signal == 0 {
-        return true;
-    }
-    let phase = shown[link.signal as usize - 1].phase;
-    link.phase_mask & (1 << (phase - 1)) != 0
+fn is_open(link: &Link, masks: &[u64]) -> bool {
+    link.signal == 0 || link.phase_mask & masks[link.signal as usize - 1] != 0
 }
 
 fn movements_from(network: &Network, link: usize) -> Vec<usize> {
@@ -703,20 +749,27 @@ fn simulate(
         entered: vec![standing],
         network,
     };
+    let mut schedules: Vec<_> = schedules.iter().map(|schedule| schedule.iter()).collect();
     for index in 0..scenario.network.steps.len() {
         let length = scenario.network.steps[index].length;
-        let before = scenario.shown[index].iter().zip(schedules);
-        let shown = before
-            .map(|(&before, schedule)| advance(before, schedule[index], length))
-            .collect();
+        let mut shown = scenario.shown[index].clone();
+        let mut masks = Vec::new();
+        for (signal, schedule) in schedules.iter_mut().enumerate() {
+            let tram_phase = scenario.tram_phase(signal, index);
+            if tram_phase.is_none() {
+                let phase = *schedule.next().expect("each ordinary step has a phase");
+                shown[signal] = advance(shown[signal], phase, length);
+            }
+            masks.push(1 << (tram_phase.unwrap_or(shown[signal].phase) - 1));
+        }
         scenario.shown.push(shown);
-        simulate_step(random, &mut scenario, traffic);
+        simulate_step(random, &mut scenario, traffic, masks);
     }
     scenario
 }
 
-/// One step, whose phases are known: its flows come in any order.
-fn simulate_step(random: &mut Random, scenario: &mut Scenario, traffic: Traffic) {
+/// One step, whose masks are known: its flows come in any order.
+fn simulate_step(random: &mut Random, scenario: &mut Scenario, traffic: Traffic, masks: Vec<u64>) {
     let links = scenario.network.links.len();
     let times = scenario.times();
     let mut flows: Vec<Flow> = (0..links)
@@ -724,7 +777,10 @@ fn simulate_step(random: &mut Random, scenario: &mut Scenario, traffic: Traffic)
         .collect();
     random.shuffle(&mut flows);
     let mut step = SimulatedStep {
-        planned: PlanStep::of_zeros(&scenario.network),
+        planned: PlanStep {
+            masks,
+            ..PlanStep::of_zeros(&scenario.network)
+        },
         entered: scenario.entered[scenario.plan.len()].clone(),
         left: scenario.left[scenario.plan.len()].clone(),
         times: &times[..scenario.plan.len() + 2],
@@ -739,13 +795,11 @@ fn simulate_step(random: &mut Random, scenario: &mut Scenario, traffic: Traffic)
     }
     let arrived = (0..links).map(|link| step.arrived(link)).collect();
     let SimulatedStep {
-        mut planned,
+        planned,
         entered,
         left,
         ..
     } = step;
-    let shown = scenario.shown.last().expect("the phases are known");
-    planned.masks = shown.iter().map(|shown| 1 << (shown.phase - 1)).collect();
     scenario.plan.push(planned);
     scenario.entered.push(entered);
     scenario.left.push(left);
@@ -754,7 +808,7 @@ fn simulate_step(random: &mut Random, scenario: &mut Scenario, traffic: Traffic)
 
 /// A step that is being filled.
 struct SimulatedStep<'a> {
-    /// The steps before it, and the phases of this one.
+    /// The steps before it.
     scenario: &'a Scenario,
     /// The times of all boundaries up to its end.
     times: &'a [u64],
@@ -815,7 +869,7 @@ impl SimulatedStep<'_> {
     /// All movements from a link.
     fn move_on(&mut self, random: &mut Random, traffic: Traffic, link: usize) {
         let network = &self.scenario.network;
-        if !is_open(&network.links[link], &self.scenario.shown[self.index() + 1]) {
+        if !is_open(&network.links[link], &self.planned.masks) {
             return;
         }
         let from = movements_from(network, link);

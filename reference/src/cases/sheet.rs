@@ -18,8 +18,12 @@ impl Sheet {
                 network.signals.len() as u64,
                 network.movements.len() as u64,
                 network.steps.len() as u64,
+                network.trams.len() as u64,
             ],
         );
+        for tram in &network.trams {
+            sheet.push(b'T', &[tram.signal, tram.phase, tram.first, tram.last]);
+        }
         for signal in &network.signals {
             let mut numbers = vec![
                 signal.least_cycle,

@@ -43,6 +43,7 @@ fn hub(shares: [u64; LINKS - 1], back: bool, steps: usize) -> Network {
         }
     }
     Network {
+        trams: Vec::new(),
         signals: Vec::new(),
         links,
         movements,

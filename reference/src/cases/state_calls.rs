@@ -125,7 +125,8 @@ pub fn contradictions(maker: &mut Maker, scenario: &Scenario) {
             0 => scenario.step_count(),
             1 => maker.random.index(scenario.step_count() + 1),
             2 => at_travel_time.unwrap_or(0),
-            _ => 0,
+            // Just before the travel time, which may be at boundary 0.
+            _ => at_travel_time.map_or(scenario.step_count(), |boundary| boundary - 1),
         };
         match scenario.entry(boundary, link) {
             Some(entry) if entry.elapsed > 0 => {

@@ -87,7 +87,7 @@ impl Sheet {
 
 pub fn network() -> Sheet {
     Sheet::new(
-        "N 3 2 3 4\n\
+        "N 3 2 3 4 0\n\
          G 20 60 2 2 10 20 10 30 10 30\n\
          G 15 90 3 1 5 5 10 30 5 20 10 40\n\
          Q 60000 10 0 1 1 4000\n\

@@ -6,3 +6,4 @@ mod listing;
 mod network;
 mod plan;
 mod state;
+mod trams;

@@ -19,11 +19,11 @@ returns c =
     let s = r1 .before .before .before .before .before in
     counts-stop (s .pre) (r1 .read-counts .ensures) (c .enum-told .given .1)
 
-slice-aggregate-read-signals : tie.Need-slice-aggregate-read-signals
-slice-aggregate-read-signals c = search needs
+slice-aggregate-read-trams-and-signals : tie.Need-slice-aggregate-read-trams-and-signals
+slice-aggregate-read-trams-and-signals c = search needs
 
-read-signals-requires : tie.Need-read-signals-requires
-read-signals-requires c κs =
+read-trams-and-signals-requires : tie.Need-read-trams-and-signals-requires
+read-trams-and-signals-requires c κs =
     let p1 = c .before .before in
     let r1 = p1 .before .before in
     let s = r1 .before .before .before .before .before in
@@ -41,7 +41,7 @@ returns-2 c =
     let p1 = r2 .before .before .before in
     let r1 = p1 .before .before in
     let s = r1 .before .before .before .before .before in
-    signals-stop (s .pre) (r1 .read-counts .ensures) (p1 .stage .given .1) (r2 .read-signals .ensures) (c .enum-told2 .given .1)
+    signals-stop (s .pre) (r1 .read-counts .ensures) (p1 .stage .given .1) (r2 .read-trams-and-signals .ensures) (c .enum-told2 .given .1)
 
 slice-aggregate-read-links : tie.Need-slice-aggregate-read-links
 slice-aggregate-read-links c = search needs
@@ -53,7 +53,7 @@ read-links-requires c κs =
     let p1 = r2 .before .before .before in
     let r1 = p1 .before .before in
     let s = r1 .before .before .before .before .before in
-    links-asked (s .pre) (r1 .read-counts .ensures) (p1 .stage .given .1) (r2 .read-signals .ensures) (p2 .stage2 .given .1)
+    links-asked (s .pre) (r1 .read-counts .ensures) (p1 .stage .given .1) (r2 .read-trams-and-signals .ensures) (p2 .stage2 .given .1)
 
 enum-known-stage-3 : tie.Need-enum-known-stage-3
 enum-known-stage-3 c = search needs
@@ -72,7 +72,7 @@ returns-3 c =
     let p1 = r2 .before .before .before in
     let r1 = p1 .before .before in
     let s = r1 .before .before .before .before .before in
-    links-stop (s .pre) (r1 .read-counts .ensures) (p1 .stage .given .1) (r2 .read-signals .ensures) (p2 .stage2 .given .1) (r3 .read-links .ensures) (c .enum-told3 .given .1)
+    links-stop (s .pre) (r1 .read-counts .ensures) (p1 .stage .given .1) (r2 .read-trams-and-signals .ensures) (p2 .stage2 .given .1) (r3 .read-links .ensures) (c .enum-told3 .given .1)
 
 read-movements-requires : tie.Need-read-movements-requires
 read-movements-requires c κs =
@@ -83,7 +83,7 @@ read-movements-requires c κs =
     let p1 = r2 .before .before .before in
     let r1 = p1 .before .before in
     let s = r1 .before .before .before .before .before in
-    movements-asked (s .pre) (r1 .read-counts .ensures) (p1 .stage .given .1) (r2 .read-signals .ensures) (p2 .stage2 .given .1) (r3 .read-links .ensures) (p3 .stage3 .given .1)
+    movements-asked (s .pre) (r1 .read-counts .ensures) (p1 .stage .given .1) (r2 .read-trams-and-signals .ensures) (p2 .stage2 .given .1) (r3 .read-links .ensures) (p3 .stage3 .given .1)
 
 enum-known-stage-4 : tie.Need-enum-known-stage-4
 enum-known-stage-4 c = search needs
@@ -107,7 +107,7 @@ returns-4 c =
     let p1 = r2 .before .before .before in
     let r1 = p1 .before .before in
     let s = r1 .before .before .before .before .before in
-    movements-stop (s .pre) (r1 .read-counts .ensures) (p1 .stage .given .1) (r2 .read-signals .ensures) (p2 .stage2 .given .1) (r3 .read-links .ensures) (p3 .stage3 .given .1) (r4 .read-movements .ensures) (c .enum-told4 .given .1)
+    movements-stop (s .pre) (r1 .read-counts .ensures) (p1 .stage .given .1) (r2 .read-trams-and-signals .ensures) (p2 .stage2 .given .1) (r3 .read-links .ensures) (p3 .stage3 .given .1) (r4 .read-movements .ensures) (c .enum-told4 .given .1)
 
 check-shares-requires : tie.Need-check-shares-requires
 check-shares-requires c κs =
@@ -120,7 +120,7 @@ check-shares-requires c κs =
     let p1 = r2 .before .before .before in
     let r1 = p1 .before .before in
     let s = r1 .before .before .before .before .before in
-    shares-ready (s .pre) (r1 .read-counts .ensures) (p1 .stage .given .1) (r2 .read-signals .ensures) (p2 .stage2 .given .1) (r3 .read-links .ensures) (p3 .stage3 .given .1) (r4 .read-movements .ensures) (p4 .stage4 .given .1)
+    shares-ready (s .pre) (r1 .read-counts .ensures) (p1 .stage .given .1) (r2 .read-trams-and-signals .ensures) (p2 .stage2 .given .1) (r3 .read-links .ensures) (p3 .stage3 .given .1) (r4 .read-movements .ensures) (p4 .stage4 .given .1)
 
 enum-known-stage-5 : tie.Need-enum-known-stage-5
 enum-known-stage-5 c = search needs
@@ -146,7 +146,7 @@ returns-5 c =
     let p1 = r2 .before .before .before in
     let r1 = p1 .before .before in
     let s = r1 .before .before .before .before .before in
-    shares-stop (s .pre) (r1 .read-counts .ensures) (p1 .stage .given .1) (r2 .read-signals .ensures) (p2 .stage2 .given .1) (r3 .read-links .ensures) (p3 .stage3 .given .1) (r4 .read-movements .ensures) (p4 .stage4 .given .1) (r5 .check-shares .ensures) (c .enum-told5 .given .1)
+    shares-stop (s .pre) (r1 .read-counts .ensures) (p1 .stage .given .1) (r2 .read-trams-and-signals .ensures) (p2 .stage2 .given .1) (r3 .read-links .ensures) (p3 .stage3 .given .1) (r4 .read-movements .ensures) (p4 .stage4 .given .1) (r5 .check-shares .ensures) (c .enum-told5 .given .1)
 
 read-steps-requires : tie.Need-read-steps-requires
 read-steps-requires c κs =
@@ -161,7 +161,7 @@ read-steps-requires c κs =
     let p1 = r2 .before .before .before in
     let r1 = p1 .before .before in
     let s = r1 .before .before .before .before .before in
-    steps-asked (s .pre) (r1 .read-counts .ensures) (p1 .stage .given .1) (r2 .read-signals .ensures) (p2 .stage2 .given .1) (r3 .read-links .ensures) (p3 .stage3 .given .1) (r4 .read-movements .ensures) (p4 .stage4 .given .1) (r5 .check-shares .ensures) (p5 .stage5 .given .1)
+    steps-asked (s .pre) (r1 .read-counts .ensures) (p1 .stage .given .1) (r2 .read-trams-and-signals .ensures) (p2 .stage2 .given .1) (r3 .read-links .ensures) (p3 .stage3 .given .1) (r4 .read-movements .ensures) (p4 .stage4 .given .1) (r5 .check-shares .ensures) (p5 .stage5 .given .1)
 
 enum-known-stage-6 : tie.Need-enum-known-stage-6
 enum-known-stage-6 c = search needs
@@ -192,7 +192,7 @@ returns-6 c =
     let p1 = r2 .before .before .before in
     let r1 = p1 .before .before in
     let s = r1 .before .before .before .before .before in
-    steps-stop (s .pre) (r1 .read-counts .ensures) (p1 .stage .given .1) (r2 .read-signals .ensures) (p2 .stage2 .given .1) (r3 .read-links .ensures) (p3 .stage3 .given .1) (r4 .read-movements .ensures) (p4 .stage4 .given .1) (r5 .check-shares .ensures) (p5 .stage5 .given .1) (r6 .read-steps .ensures) (c .enum-told6 .given .1)
+    steps-stop (s .pre) (r1 .read-counts .ensures) (p1 .stage .given .1) (r2 .read-trams-and-signals .ensures) (p2 .stage2 .given .1) (r3 .read-links .ensures) (p3 .stage3 .given .1) (r4 .read-movements .ensures) (p4 .stage4 .given .1) (r5 .check-shares .ensures) (p5 .stage5 .given .1) (r6 .read-steps .ensures) (c .enum-told6 .given .1)
 
 check-end-requires : tie.Need-check-end-requires
 check-end-requires c κs =
@@ -209,7 +209,7 @@ check-end-requires c κs =
     let p1 = r2 .before .before .before in
     let r1 = p1 .before .before in
     let s = r1 .before .before .before .before .before in
-    end-asked (s .pre) (r1 .read-counts .ensures) (p1 .stage .given .1) (r2 .read-signals .ensures) (p2 .stage2 .given .1) (r3 .read-links .ensures) (p3 .stage3 .given .1) (r4 .read-movements .ensures) (p4 .stage4 .given .1) (r5 .check-shares .ensures) (p5 .stage5 .given .1) (r6 .read-steps .ensures) (p6 .stage6 .given .1)
+    end-asked (s .pre) (r1 .read-counts .ensures) (p1 .stage .given .1) (r2 .read-trams-and-signals .ensures) (p2 .stage2 .given .1) (r3 .read-links .ensures) (p3 .stage3 .given .1) (r4 .read-movements .ensures) (p4 .stage4 .given .1) (r5 .check-shares .ensures) (p5 .stage5 .given .1) (r6 .read-steps .ensures) (p6 .stage6 .given .1)
 
 same-length-9 : tie.Need-same-length-9
 same-length-9 c = c .before .before .before .before .before .before .before .before .before .before .before .before .before .before .before .before .before .before .before .before .before .before .before .before .before .read-links .kept .1 .1 .1 .0
@@ -236,7 +236,7 @@ returns-7 c =
     let p1 = r2 .before .before .before in
     let r1 = p1 .before .before in
     let s = r1 .before .before .before .before .before in
-    network-judged (s .pre) (r1 .read-counts .ensures) (p1 .stage .given .1) (r2 .read-signals .ensures) (p2 .stage2 .given .1) (r3 .read-links .ensures) (p3 .stage3 .given .1) (r4 .read-movements .ensures) (p4 .stage4 .given .1) (r5 .check-shares .ensures) (p5 .stage5 .given .1) (r6 .read-steps .ensures) (p6 .stage6 .given .1) (r7 .check-end .ensures)
+    network-judged (s .pre) (r1 .read-counts .ensures) (p1 .stage .given .1) (r2 .read-trams-and-signals .ensures) (p2 .stage2 .given .1) (r3 .read-links .ensures) (p3 .stage3 .given .1) (r4 .read-movements .ensures) (p4 .stage4 .given .1) (r5 .check-shares .ensures) (p5 .stage5 .given .1) (r6 .read-steps .ensures) (p6 .stage6 .given .1) (r7 .check-end .ensures)
 
 pub load-network-spec : {M : Type 1} → statement M
 load-network-spec =
@@ -246,8 +246,8 @@ load-network-spec =
     enum-known-stage
     enum-told
     returns
-    slice-aggregate-read-signals
-    read-signals-requires
+    slice-aggregate-read-trams-and-signals
+    read-trams-and-signals-requires
     enum-known-stage-2
     enum-told-2
     returns-2

@@ -27,6 +27,12 @@ shared-slice-read-index-4 c = search needs
 index-requires-4 : tie.Need-index-requires-4
 index-requires-4 c κs = search needs
 
+shared-slice-read-index-5 : tie.Need-shared-slice-read-index-5
+shared-slice-read-index-5 c = search needs
+
+index-requires-5 : tie.Need-index-requires-5
+index-requires-5 c κs = search needs
+
 returns : tie.Need-returns
 returns c = cc
 
@@ -42,4 +48,6 @@ counts-from-spec =
     index-requires-3
     shared-slice-read-index-4
     index-requires-4
+    shared-slice-read-index-5
+    index-requires-5
     returns)

@@ -46,13 +46,13 @@ signal-from-requires-2 : tie.Need-signal-from-requires-2 Inv-loop μ-loop
 signal-from-requires-2 c κs = search (line-size, needs)
 
 mul-signals : tie.Need-mul-signals Inv-loop μ-loop
-mul-signals c = omega (arith, c .before .before .before .before .before .before .before .before .before .if1 .taken, c .before .before .before .before .before .before .before .before .before .before .before .before .before .before .before .before .pre .few)
+mul-signals c = omega (arith, c .before .before .before .before .before .before .before .before .before .if1 .taken, c .before .before .before .before .before .before .before .before .before .before .before .before .before .before .before .before .pre .counted .few .signals)
 
 array-set-from-signals : tie.Need-array-set-from-signals Inv-loop μ-loop
-array-set-from-signals c = omega (arith, c .before .before .before .before .before .before .before .before .before .if1 .taken, c .before .before .before .before .before .before .before .before .before .before .before .before .before .before .before .before .pre .few)
+array-set-from-signals c = omega (arith, c .before .before .before .before .before .before .before .before .before .if1 .taken, c .before .before .before .before .before .before .before .before .before .before .before .before .before .before .before .before .pre .counted .few .signals)
 
 add-r : tie.Need-add-r Inv-loop μ-loop
-add-r c = omega (arith, c .before .before .before .before .before .before .before .before .before .if1 .taken, c .before .before .before .before .before .before .before .before .before .before .before .before .before .before .before .before .pre .few)
+add-r c = omega (arith, c .before .before .before .before .before .before .before .before .before .if1 .taken, c .before .before .before .before .before .before .before .before .before .before .before .before .before .before .before .before .pre .counted .few .signals)
 
 loop-less : tie.Need-loop-less Inv-loop μ-loop
 loop-less c = search needs

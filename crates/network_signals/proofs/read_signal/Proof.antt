@@ -78,7 +78,7 @@ add-new-2 : tie.Need-add-new-2
 add-new-2 c = search needs
 
 new-requires-4 : tie.Need-new-requires-4
-new-requires-4 c κs = omega (arith, c .before .before .before .before .before .before .before .before .before .before .before .before .before .before .before .before .before .before .before .before .signal-line .ensures, c .before .before .before .before .before .before .before .before .before .before .before .before .before .before .before .before .before .before .before .before .before .before .before .before .pre .few)
+new-requires-4 c κs = omega (arith, c .before .before .before .before .before .before .before .before .before .before .before .before .before .before .before .before .before .before .before .before .signal-line .ensures, c .before .before .before .before .before .before .before .before .before .before .before .before .before .before .before .before .before .before .before .before .before .before .before .before .pre .few, c .before .before .before .before .before .before .before .before .before .before .before .before .before .before .before .before .before .before .before .before .before .before .before .before .pre .counted .few .trams)
 
 same-length-4 : tie.Need-same-length-4
 same-length-4 c = search needs

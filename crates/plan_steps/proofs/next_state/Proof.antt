@@ -16,15 +16,15 @@ sum-of-requires c κs = search needs
 
 add-step-requires : tie.Need-add-step-requires
 add-step-requires c κs =
-    let a = c .before .before .before .before .before .before .before .before .before .args in
-    rw (outside-sum (a .counts .links) (a .waiting .now) (c .sum-of .ensures .0)) (c .before .before .before .before .before .before .before .before .before .pre .totals-asked)
+    let a = c .before .before .before .before .before .before .before .before .before .before .args in
+    rw (outside-sum (a .counts .links) (a .waiting .now) (c .sum-of .ensures .0)) (c .before .before .before .before .before .before .before .before .before .before .pre .totals-asked)
 
-add-t14 : tie.Need-add-t14
-add-t14 c = search needs
+add-t15 : tie.Need-add-t15
+add-t15 c = search needs
 
 returns : tie.Need-returns
 returns c =
-    let a = c .before .before .before .before .before .before .before .before .before .before .before .args in
+    let a = c .before .before .before .before .before .before .before .before .before .before .before .before .args in
     record {
       boundary = refl;
       step-place = refl;
@@ -42,5 +42,5 @@ next-state-spec =
     advance-requires
     sum-of-requires
     add-step-requires
-    add-t14
+    add-t15
     returns)

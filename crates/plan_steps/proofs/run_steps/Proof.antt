@@ -9,11 +9,11 @@ use Rattle.plan_steps.proofs.run_steps.Statement.{statement}
 use Rattle.plan_steps.proofs.run_steps.Tie as tie
 
 abbrev Inv-loop : tie.InvT-loop
-Inv-loop network plan counts links movements times ledger₀ steps-at arrivals₀ waiting₀ taken₀ ledger arrivals waiting taken =
-    Running network plan counts links movements times ledger₀ (taken .state) arrivals waiting ledger
+Inv-loop network plan counts links movements times ledger₀ steps-at trams-at arrivals₀ waiting₀ taken₀ ledger arrivals waiting taken =
+    Running network plan counts trams-at links movements times ledger₀ (taken .state) arrivals waiting ledger
 
 abbrev μ-loop : tie.MeasureT-loop
-μ-loop network plan counts links movements times ledger₀ steps-at arrivals₀ waiting₀ taken₀ ledger arrivals waiting taken =
+μ-loop network plan counts links movements times ledger₀ steps-at trams-at arrivals₀ waiting₀ taken₀ ledger arrivals waiting taken =
     counts .steps - taken .state .boundary
 
 held-in-requires : tie.Need-held-in-requires Inv-loop μ-loop

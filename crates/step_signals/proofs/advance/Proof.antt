@@ -10,30 +10,36 @@ use Rattle.step_signals.proofs.advance.Statement.{statement}
 use Rattle.step_signals.proofs.advance.Tie as tie
 
 abbrev Inv-loop : tie.InvT-loop
-Inv-loop count phases seconds signals₀ i₀ signals i = (i ≤ count) × Advanced signals₀ i phases seconds signals
+Inv-loop count phases asked seconds signals₀ i₀ signals i = (i ≤ count) × Advanced signals₀ i phases asked seconds signals
 
 abbrev μ-loop : tie.MeasureT-loop
-μ-loop count phases seconds signals₀ i₀ signals i = count - i
+μ-loop count phases asked seconds signals₀ i₀ signals i = count - i
 
 loop-holds : tie.Need-loop-holds Inv-loop μ-loop
-loop-holds c = (search needs, advanced-none _ _ _ (search needs))
+loop-holds c = (search needs, advanced-none _ _ _ _ (search needs))
 
-mul-after : tie.Need-mul-after Inv-loop μ-loop
-mul-after c = search needs
+mul-next-signal : tie.Need-mul-next-signal Inv-loop μ-loop
+mul-next-signal c = search needs
 
-array-copy-out-after : tie.Need-array-copy-out-after Inv-loop μ-loop
-array-copy-out-after c = search needs
+array-copy-out-next-signal : tie.Need-array-copy-out-next-signal Inv-loop μ-loop
+array-copy-out-next-signal c = search needs
 
-mul-after-2 : tie.Need-mul-after-2 Inv-loop μ-loop
-mul-after-2 c = search needs
+mul-next-signal-2 : tie.Need-mul-next-signal-2 Inv-loop μ-loop
+mul-next-signal-2 c = search needs
 
-shared-slice-read-after : tie.Need-shared-slice-read-after Inv-loop μ-loop
-shared-slice-read-after c = search needs
+shared-slice-read-next-signal : tie.Need-shared-slice-read-next-signal Inv-loop μ-loop
+shared-slice-read-next-signal c = search needs
 
-after-requires : tie.Need-after-requires Inv-loop μ-loop
-after-requires c κs =
-    let w = c .before .before .before .loop in
-    let start = c .before .before .before .before .before in
+mul-next-signal-3 : tie.Need-mul-next-signal-3 Inv-loop μ-loop
+mul-next-signal-3 c = search needs
+
+shared-slice-read-next-signal-2 : tie.Need-shared-slice-read-next-signal-2 Inv-loop μ-loop
+shared-slice-read-next-signal-2 c = search needs
+
+next-signal-requires : tie.Need-next-signal-requires Inv-loop μ-loop
+next-signal-requires c κs =
+    let w = c .before .before .before .before .loop in
+    let start = c .before .before .before .before .before .before .before in
     (rw (w .inv .1 .kept (w .i) (le-refl _)) (start .pre .1 .0 (w .i) (omega arith)), omega arith)
 
 mul-signals : tie.Need-mul-signals Inv-loop μ-loop
@@ -50,13 +56,13 @@ loop-less c = search needs
 
 loop-again : tie.Need-loop-again Inv-loop μ-loop
 loop-again c =
-    let w = c .before .before .before .before .loop in
-    (search needs, advanced-more _ _ _ (w .i) (w .signals) (c .after .result) (omega arith) (w .inv .1) (c .after .ensures))
+    let w = c .before .before .before .before .before .loop in
+    (search needs, advanced-more _ _ _ _ (w .i) (w .signals) (c .next-signal .result) (omega arith) (w .inv .1) (c .next-signal .ensures))
 
 returns : tie.Need-returns Inv-loop μ-loop
 returns c =
     let w = c .before .loop in
-    let e : w .i ≡ c .before .before .before .args .count = omega arith in
+    let e : w .i ≡ c .before .before .before .before .args .count = omega arith in
     rw e at (w .inv .1)
 
 pub advance-spec : {M : Type 1} → statement M
@@ -66,11 +72,13 @@ advance-spec =
     Inv-loop
     μ-loop
     loop-holds
-    mul-after
-    array-copy-out-after
-    mul-after-2
-    shared-slice-read-after
-    after-requires
+    mul-next-signal
+    array-copy-out-next-signal
+    mul-next-signal-2
+    shared-slice-read-next-signal
+    mul-next-signal-3
+    shared-slice-read-next-signal-2
+    next-signal-requires
     mul-signals
     array-set-from-signals
     add-i

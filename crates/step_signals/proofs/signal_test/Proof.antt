@@ -1,5 +1,6 @@
 -- `step_signals::signal_test` meets its contract: at each place the rule that it calls is the definition's. Assumes nothing.
 use native.Mathlib.Omega.{arith}
+use Rattle.model.specs.Test.{_or_}
 use Rattle.step_signals.specs.Step.{signalTest}
 use Rattle.step_signals.proofs.Rules.{no-signal-test}
 use borrow.Author.Needs.{needs}
@@ -23,23 +24,27 @@ unfolding signalTest
 returns c = rw (c .match .keys1)
 
 returns-2 : tie.Need-returns-2
-unfolding signalTest
-returns-2 c = rw (c .before .match .keys2) (c .keeps-order .ensures)
+unfolding signalTest _or_
+returns-2 c = rw (c .match .keys2)
 
 returns-3 : tie.Need-returns-3
-unfolding signalTest
-returns-3 c = rw (c .before .match .keys3) (c .keeps-least-time .ensures)
+unfolding signalTest _or_
+returns-3 c = rw (c .before .match .keys3, c .keeps-order .ensures)
 
 returns-4 : tie.Need-returns-4
-unfolding signalTest
-returns-4 c = rw (c .before .match .keys4) (c .keeps-greatest-time .ensures)
+unfolding signalTest _or_
+returns-4 c = rw (c .before .match .keys4, c .keeps-least-time .ensures)
 
 returns-5 : tie.Need-returns-5
-unfolding signalTest
-returns-5 c = rw (c .before .match .keys5) (c .keeps-cycle .ensures)
+unfolding signalTest _or_
+returns-5 c = rw (c .before .match .keys5, c .keeps-greatest-time .ensures)
 
 returns-6 : tie.Need-returns-6
-returns-6 c = no-signal-test _ _ _ _ (omega arith)
+unfolding signalTest _or_
+returns-6 c = rw (c .before .match .keys6, c .keeps-cycle .ensures)
+
+returns-7 : tie.Need-returns-7
+returns-7 c = no-signal-test _ _ _ _ _ (omega arith)
 
 pub signal-test-spec : {M : Type 1} → statement M
 signal-test-spec =
@@ -54,4 +59,5 @@ signal-test-spec =
     returns-3
     returns-4
     returns-5
-    returns-6)
+    returns-6
+    returns-7)

@@ -1,0 +1,3 @@
+mod Tested
+pub mod Lines
+mod Claims

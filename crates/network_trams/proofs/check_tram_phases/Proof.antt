@@ -1,0 +1,62 @@
+-- `network_trams::check_tram_phases` meets its contract. Assumes nothing.
+use Prim.Native.Nat.{_-_}
+use borrow.Author.Needs.{needs}
+use Rattle.tables.specs.Blocks.{PassedTo}
+use Rattle.tables.proofs.Blocks.{passed-none}
+use Rattle.network_trams.specs.Trams.{phaseChecksIn}
+use Rattle.network_trams.proofs.Lines.{phase-asked, phases-broken, phases-next, phases-done}
+use Rattle.network_trams.proofs.check_tram_phases.Statement.{statement}
+use Rattle.network_trams.proofs.check_tram_phases.Tie as tie
+
+abbrev Inv-loop : tie.InvT-loop
+Inv-loop trams phases reading counts k₀ k = PassedTo (reading .counts .trams) (phaseChecksIn trams phases (reading .counts)) k
+
+abbrev μ-loop : tie.MeasureT-loop
+μ-loop trams phases reading counts k₀ k = counts .trams - k
+
+loop-holds : tie.Need-loop-holds Inv-loop μ-loop
+loop-holds c = search (passed-none, needs)
+
+valid-phase-requires : tie.Need-valid-phase-requires Inv-loop μ-loop
+valid-phase-requires c κs = search (phase-asked, needs)
+
+tram-line-requires : tie.Need-tram-line-requires Inv-loop μ-loop
+tram-line-requires c κs = search needs
+
+add-new : tie.Need-add-new Inv-loop μ-loop
+add-new c = search needs
+
+new-requires : tie.Need-new-requires Inv-loop μ-loop
+new-requires c κs = search needs
+
+returns : tie.Need-returns Inv-loop μ-loop
+returns c = search (phases-broken, needs)
+
+add-k : tie.Need-add-k Inv-loop μ-loop
+add-k c = search needs
+
+loop-less : tie.Need-loop-less Inv-loop μ-loop
+loop-less c = search needs
+
+loop-again : tie.Need-loop-again Inv-loop μ-loop
+loop-again c = search (phases-next, needs)
+
+returns-2 : tie.Need-returns-2 Inv-loop μ-loop
+returns-2 c = search (phases-done, needs)
+
+pub check-tram-phases-spec : {M : Type 1} → statement M
+check-tram-phases-spec =
+    tie.close
+    (tie.spec
+    Inv-loop
+    μ-loop
+    loop-holds
+    valid-phase-requires
+    tram-line-requires
+    add-new
+    new-requires
+    returns
+    add-k
+    loop-less
+    loop-again
+    returns-2)

@@ -1,0 +1,37 @@
+-- `network_trams::is_apart_from_earlier` meets its contract. Assumes nothing.
+use Prim.Native.Nat.{_≤_, _-_}
+use mathlib.Core.Path.{_≡_}
+use borrow.Author.Needs.{needs}
+use Rattle.network_trams.specs.Trams.{apartFrom}
+use Rattle.network_trams.proofs.Tested.{apart-none, apart-more, apart-all}
+use Rattle.network_trams.proofs.is_apart_from_earlier.Statement.{statement}
+use Rattle.network_trams.proofs.is_apart_from_earlier.Tie as tie
+
+abbrev Inv-loop : tie.InvT-loop
+Inv-loop trams k apart₀ j₀ apart j = (j ≤ k) × (apart ≡ apartFrom trams j k)
+
+abbrev μ-loop : tie.MeasureT-loop
+μ-loop trams k apart₀ j₀ apart j = k - j
+
+loop-holds : tie.Need-loop-holds Inv-loop μ-loop
+loop-holds c = search (apart-none, needs)
+
+is-apart-requires : tie.Need-is-apart-requires Inv-loop μ-loop
+is-apart-requires c κs = search needs
+
+add-j : tie.Need-add-j Inv-loop μ-loop
+add-j c = search needs
+
+loop-less : tie.Need-loop-less Inv-loop μ-loop
+loop-less c = search needs
+
+loop-again : tie.Need-loop-again Inv-loop μ-loop
+loop-again c = search (apart-more, needs)
+
+returns : tie.Need-returns Inv-loop μ-loop
+returns c = search (apart-all, needs)
+
+pub is-apart-from-earlier-spec : {M : Type 1} → statement M
+is-apart-from-earlier-spec =
+    tie.close
+    (tie.spec Inv-loop μ-loop loop-holds is-apart-requires add-j loop-less loop-again returns)

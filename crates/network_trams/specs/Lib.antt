@@ -1,0 +1,3 @@
+pub mod Trams
+pub mod Stages
+pub mod Claims

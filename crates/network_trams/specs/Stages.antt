@@ -1,0 +1,27 @@
+-- What the reading of the `T` lines asks, and what is held where they pass. Assumes nothing.
+use Prim.Native.Nat.{ℕ}
+use mathlib.Core.Path.{_≡_}
+use mathlib.Core.List.{List}
+use lib.ListN.{length}
+use Rattle.search.specs.declared.Verdict.the-variants.{Passes}
+use Rattle.search.specs.Checks.{verdict}
+use Rattle.records.specs.Lines.{lines}
+use Rattle.records.specs.Reading.{Starts}
+use Rattle.model.specs.Network.{tramLine, signalLine}
+use Rattle.tables.specs.declared.Reading.{Reading}
+use Rattle.tables.specs.Fields.{tramTableSize}
+use Rattle.tables.specs.Blocks.{blockChecks, tramBlock}
+use Rattle.tables.specs.Tables.{CountsHold, TramTable}
+
+pub record TramsAsked (text : List ℕ) (reading : Reading) (trams : List ℕ) : Type 0 where
+  pub counted : CountsHold (lines text) (reading .counts)
+  pub starts : Starts text (reading .next) (tramLine (lines text) 0)
+  pub trams-start : Starts text (reading .«trams_at») (tramLine (lines text) 0)
+  pub room : length trams ≡ tramTableSize
+
+pub record TramsHeld (text trams : List ℕ) (reading : Reading) : Type 0 where
+  pub counted : CountsHold (lines text) (reading .counts)
+  pub starts : Starts text (reading .next) (signalLine (lines text) 0)
+  pub trams-start : Starts text (reading .«trams_at») (tramLine (lines text) 0)
+  pub table : TramTable (lines text) trams
+  pub passed : verdict (blockChecks (tramBlock (lines text))) ≡ Passes
