@@ -14,7 +14,6 @@ use Rattle.search.specs.declared.Verdict.the-variants as verdicts
 use Rattle.search.specs.Checks.{refusal, verdict, Hold}
 use Rattle.search.proofs.Laws.{passes-of-hold, or-else-passes, or-else-refused, checked-passes, checked-refused}
 use Rattle.records.specs.Lines.{Line, lines}
-use Rattle.model.specs.declared.Signal.{Signal}
 use Rattle.model.specs.declared.PlanAnswer.{PlanAnswer}
 use Rattle.model.specs.declared.PlanAnswer.the-variants as plan-answer
 use Rattle.model.specs.Network.{maxLinks, linkCount, stepCount}
@@ -30,7 +29,7 @@ use Rattle.tables.specs.declared.Reading.{Reading}
 use Rattle.tables.specs.declared.Stage.{Stage}
 use Rattle.tables.specs.declared.Stage.the-variants as stages
 use Rattle.tables.specs.Fields.{linkTableSize}
-use Rattle.tables.specs.Tables.{SignalTable, Judged}
+use Rattle.tables.specs.Tables.{Judged}
 use Rattle.tables.proofs.Stages.{verdict-refused}
 use Rattle.network_signals.specs.Stages.{LoadAsked}
 use Rattle.network.specs.Loading.{Loaded}
@@ -62,6 +61,16 @@ module _ (network plan : List Line) (size : ℕ) where
     plan-lines : leb (2 * suc (stepCount network) * linkCount network) size ≡ true → verdict (planChecks network plan size) ≡ verdict (planLineChecks network plan)
     unfolding verdict planChecks ledgerChecks
     plan-lines room = or-else-passes _ _ valid ∙ or-else-passes _ _ (checked-passes _ 8 0 0 room)
+
+-- the `G` lines of a network that has passed can be loaded
+signals-asked : {networkText links movements times : List ℕ} {reading : Reading} → Loaded networkText links movements times reading → LoadAsked networkText reading
+unfolding Hold networkChecks
+signals-asked {networkText} {reading = reading} loaded =
+    record {
+      starts = loaded .signals-start;
+      counted = loaded .counted;
+      passed = passes-of-hold _ (loaded .holds .1 .1 .0);
+    }
 
 module _ (networkText planText links movements times old : List ℕ) (reading : Reading) (loaded : Loaded networkText links movements times reading) where
   abbrev net : List Line
@@ -101,12 +110,12 @@ module _ (networkText planText links movements times old : List ℕ) (reading : 
       same-length : length ledger ≡ length old
       same-length = ap length first ∙ length-written net pln old 1 (omega (arith, start-room))
 
-      pub run-asked : (signals : List Signal) → SignalTable net signals → RunAsked networkText planText (reading .counts) signals links movements times ledger (reading .«steps_at») (reading .«trams_at»)
-      run-asked signals t =
+      pub run-asked : RunAsked networkText planText reading links movements times ledger
+      run-asked =
           record {
             tables = record { holds = loaded .holds; counted = loaded .counted; trams-start = loaded .trams-start; link-table = loaded .link-table; movement-table = loaded .movement-table; time-table = loaded .time-table };
+            signals-asked = signals-asked loaded;
             steps-start = loaded .steps-start;
-            signal-table = t;
             rows = first ∙ sym (written-again net pln old 1 1 (omega arith)) ∙ ap (λ x. written net pln x 1) (sym first);
             room = rw same-length room;
           }
@@ -126,16 +135,6 @@ module _ (networkText planText links movements times old : List ℕ) (reading : 
           rows-are got =
               unfold ledgerAfter in
               ap₂ (λ x m. written net pln x (rowsWritten net pln m)) first same-length ∙ written-again net pln old 1 _ (rw same-length at (got .some-row))
-
--- the `G` lines of a network that has passed can be loaded
-pub signals-asked : {networkText links movements times : List ℕ} {reading : Reading} → Loaded networkText links movements times reading → LoadAsked networkText reading
-unfolding Hold networkChecks
-signals-asked {networkText} {reading = reading} loaded =
-    record {
-      starts = loaded .signals-start;
-      counted = loaded .counted;
-      passed = passes-of-hold _ (loaded .holds .1 .1 .0);
-    }
 
 -- a network's refusal
 planned : (network plan : List Line) (size : ℕ) (r : Refusal) → verdict (networkChecks network) ≡ verdicts.Refused r → verdict (planChecks network plan size) ≡ verdicts.Refused r

@@ -33,21 +33,7 @@ fn judge_plan(
         return PlanAnswer::Refused(Refusal::new(8, 0, 0));
     }
     step_rows::write_start(ledger, links, counts);
-    let signals = network_signals::load_signals(network, reading);
-    let steps_at = reading.steps_at;
-    let trams_at = reading.trams_at;
-    plan_steps::run_steps(
-        network,
-        plan,
-        counts,
-        signals,
-        links,
-        movements,
-        times,
-        ledger,
-        steps_at,
-        trams_at,
-    )
+    plan_steps::run_steps(network, plan, reading, links, movements, times, ledger)
 }
 
 // Check a plan: refusals 1 to 6, 8 to 18, and 25 to 29. A refusal writes only row 0 and the rows of steps that had passed.

@@ -34,6 +34,7 @@ use Rattle.model.proofs.Waiting.{outside-start}
 use Rattle.model.proofs.Times.{arrival-step-le}
 use Rattle.model.proofs.Written.{refused-fails, due-written, rows-until}
 use Rattle.tables.specs.declared.Counts.{Counts}
+use Rattle.tables.specs.declared.Reading.{Reading}
 use Rattle.tables.specs.Tables.{SignalTable}
 use Rattle.waiting.proofs.Texts.{waiting-first}
 use Rattle.step_signals.specs.Step.{SignalsAt}
@@ -91,17 +92,18 @@ module _ (plan : List ℕ) (at steps : ℕ) (t : Totals) (b : Bool) (e : b ≡ a
   finish-more h = rw (← e, h)
 
 -- ---- the loop
-pub held-asked : {networkText planText : List ℕ} {counts : Counts} {signals : List Signal} {links movements times old : List ℕ} {stepsAt tramsAt : ℕ}
-    → RunAsked networkText planText counts signals links movements times old stepsAt tramsAt → (counts .links ≤ maxLinks) × (2 * counts .links ≤ length old)
+pub held-asked : {networkText planText : List ℕ} {reading : Reading} {links movements times old : List ℕ}
+    → RunAsked networkText planText reading links movements times old → (reading .counts .links ≤ maxLinks) × (2 * reading .counts .links ≤ length old)
 held-asked {networkText} a =
     let m : 1 ≤ suc (stepCount (lines networkText)) = omega arith in
     (a .tables .counted .few .links, omega (arith, a .tables .counted .links, a .room, mul-le-mul-right (2 * linkCount (lines networkText)) m))
 
-pub running-first : {networkText planText : List ℕ} {counts : Counts} {signals : List Signal} {links movements times old : List ℕ} {stepsAt tramsAt : ℕ}
-    → RunAsked networkText planText counts signals links movements times old stepsAt tramsAt → (held : ℕ) → held ≡ heldIn counts old → (arrivals waiting : List ℕ) → arrivals ≡ replicate maxLinks 0 → waiting ≡ replicate maxLinks 0
-    → Running networkText planText counts tramsAt links movements times old
-    (record { boundary = 0; «step_at» = stepsAt; «plan_at» = 0; signals = signals; totals = record { admitted = 0; «let_out» = 0; inside = held; «doubled_time» = 0 }; outside = 0 }) arrivals waiting old
-running-first {networkText} {planText} {counts} {signals} {old = old} a held e arrivals waiting zeros none =
+pub running-first : {networkText planText : List ℕ} {reading : Reading} {links movements times old : List ℕ}
+    → RunAsked networkText planText reading links movements times old → (held : ℕ) → held ≡ heldIn (reading .counts) old → (arrivals waiting : List ℕ) → arrivals ≡ replicate maxLinks 0
+    → waiting ≡ replicate maxLinks 0 → (signals : List Signal) → SignalTable (lines networkText) signals
+    → Running networkText planText (reading .counts) (reading .«trams_at») links movements times old
+    (record { boundary = 0; «step_at» = reading .«steps_at»; «plan_at» = 0; signals = signals; totals = record { admitted = 0; «let_out» = 0; inside = held; «doubled_time» = 0 }; outside = 0 }) arrivals waiting old
+running-first {networkText} {planText} {reading} {old = old} a held e arrivals waiting zeros none signals table =
     let net = lines networkText in
     let pln = planOf networkText planText in
     let few : linkCount net ≤ maxLinks = omega (arith, a .tables .counted .links, a .tables .counted .few .links) in
@@ -112,8 +114,8 @@ running-first {networkText} {planText} {counts} {signals} {old = old} a held e a
         passed = λ m l. absurd (omega arith);
         step-starts = a .steps-start;
         plan-starts = λ h. starts-first planText;
-        signals-at = signals-first net pln signals (valid-network net (a .tables .holds)) (a .signal-table);
-        totals-at = totals-first net pln (a .tables .holds) counts (a .tables .counted) old (begins net pln old (a .rows)) held e;
+        signals-at = signals-first net pln signals (valid-network net (a .tables .holds)) table;
+        totals-at = totals-first net pln (a .tables .holds) (reading .counts) (a .tables .counted) old (begins net pln old (a .rows)) held e;
         outside-at = sym (outside-start net pln);
         waiting-at = waiting-first net pln waiting none few;
         arrivals-at = record {

@@ -9,7 +9,6 @@ use Rattle.search.specs.declared.Verdict.the-variants.{Passes, Refused}
 use Rattle.search.specs.Checks.{refusal, verdict, Hold}
 use Rattle.records.specs.Lines.{lines}
 use Rattle.records.specs.Reading.{Starts, atEnd}
-use Rattle.model.specs.declared.Signal.{Signal}
 use Rattle.model.specs.declared.Totals.{Totals}
 use Rattle.model.specs.declared.PlanAnswer.{PlanAnswer}
 use Rattle.model.specs.declared.PlanAnswer.the-variants as plan-answer
@@ -20,8 +19,10 @@ use Rattle.model.specs.Table.{networkChecks, lineChecks, planLineChecks}
 use Rattle.model.specs.Hold.{planOf}
 use Rattle.model.specs.Calls.{planAnswer, rowsWritten, written, ledgerAfter}
 use Rattle.tables.specs.declared.Counts.{Counts}
+use Rattle.tables.specs.declared.Reading.{Reading}
 use Rattle.tables.specs.Fields.{lengthIn}
-use Rattle.tables.specs.Tables.{CountsHold, SignalTable, LinkTable, MovementTable, TimeTable}
+use Rattle.tables.specs.Tables.{CountsHold, LinkTable, MovementTable, TimeTable}
+use Rattle.network_signals.specs.Stages.{LoadAsked}
 use Rattle.arrivals.specs.Arrivals.{ArrivalTable}
 use Rattle.waiting.specs.Waiting.{waitingIn, WaitingTable}
 use Rattle.step_signals.specs.Ready.{AllReady}
@@ -92,10 +93,10 @@ unfoldable pub finished : List ℕ → ℕ → ℕ → Totals → PlanAnswer
 finished plan at steps t = cond (atEnd plan at) (plan-answer.Accepted t) (plan-answer.Refused (refusal 9 (steps + 1) 0))
 
 -- what taking all steps asks, with row 0 in the ledger ..
-pub record RunAsked (networkText planText : List ℕ) (counts : Counts) (signals : List Signal) (links movements times ledger : List ℕ) (stepsAt tramsAt : ℕ) : Type 0 where
-  pub tables : Tables networkText counts tramsAt links movements times
-  pub steps-start : Starts networkText stepsAt (stepLine (lines networkText) 0)
-  pub signal-table : SignalTable (lines networkText) signals
+pub record RunAsked (networkText planText : List ℕ) (reading : Reading) (links movements times ledger : List ℕ) : Type 0 where
+  pub tables : Tables networkText (reading .counts) (reading .«trams_at») links movements times
+  pub signals-asked : LoadAsked networkText reading
+  pub steps-start : Starts networkText (reading .«steps_at») (stepLine (lines networkText) 0)
   pub rows : ledger ≡ written (lines networkText) (planOf networkText planText) ledger 1
   pub room : 2 * suc (stepCount (lines networkText)) * linkCount (lines networkText) ≤ length ledger
 

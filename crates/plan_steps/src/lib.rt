@@ -16,6 +16,7 @@ use tables::LINE_SIZE;
 use tables::MAX_LINKS;
 use tables::MAX_SIGNALS;
 use tables::ROW_SIZE;
+use tables::Reading;
 use tables::STEP_SIZE;
 use tables::wide;
 
@@ -197,22 +198,22 @@ fn finish(plan: &[u8], at: usize, steps: usize, totals: Totals) -> PlanAnswer
     }
 }
 
-// Takes the steps one after another, up to the first that is refused; the ledger has row 0. A plan with more lines than steps is refused after the last.
+// Takes the steps one after another, up to the first that is refused; the ledger has row 0. A plan with more lines than steps is refused after the last. The
+// signals are loaded here, straight into the first state: one copy of them less on the stack.
 pub fn run_steps(
     network: &[u8],
     plan: &[u8],
-    counts: Counts,
-    signals: [Signal; 8],
+    reading: Reading,
     links: &[u32],
     movements: &[u32],
     times: &[u32],
     ledger: &mut [u32],
-    steps_at: usize,
-    trams_at: usize,
 ) -> PlanAnswer
-    requires { ⌜ RunAsked (now network) (now plan) counts signals (now links) (now movements) (now times) (now ledger) «steps_at» «trams_at» ⌝ }
+    requires { ⌜ RunAsked (now network) (now plan) reading (now links) (now movements) (now times) (now ledger) ⌝ }
     ensures { λ r. ⌜ RunGot (now (network .entry)) (now (plan .entry)) (now (ledger .entry)) r (now (ledger .exit)) ⌝ }
 {
+    let counts = reading.counts;
+    let trams_at = reading.trams_at;
     let mut arrivals = [0usize; MAX_LINKS];
     let mut waiting = [0u32; MAX_LINKS];
     let totals = Totals {
@@ -223,9 +224,9 @@ pub fn run_steps(
     };
     let state = State {
         boundary: 0,
-        step_at: steps_at,
+        step_at: reading.steps_at,
         plan_at: 0,
-        signals,
+        signals: network_signals::load_signals(network, reading),
         totals,
         outside: 0,
     };

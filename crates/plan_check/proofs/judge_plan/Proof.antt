@@ -2,7 +2,7 @@
 use Prim.Native.Nat.{_+_, _*_, _≤_}
 use native.Mathlib.Nat.{mul-le-mul-right}
 use native.Mathlib.Omega.{arith}
-use Rattle.plan_check.proofs.Plans.{plan-short, signals-asked, run-asked, plan-run}
+use Rattle.plan_check.proofs.Plans.{plan-short, run-asked, plan-run}
 use borrow.Author.Needs.{needs}
 use Rattle.plan_check.proofs.judge_plan.Statement.{statement}
 use Rattle.plan_check.proofs.judge_plan.Tie as tie
@@ -31,21 +31,18 @@ returns c =
 write-start-requires : tie.Need-write-start-requires
 write-start-requires c κs = search needs
 
-load-signals-requires : tie.Need-load-signals-requires
-load-signals-requires c κs = signals-asked (c .before .before .before .before .before .before .before .before .before .before .before .before .before .before .pre)
-
 run-steps-requires : tie.Need-run-steps-requires
 run-steps-requires c κs =
-    let s = c .before .before .before .before .before .before .before .before .before .before .before .before .before .before .before .before in
-    run-asked _ (s .args .plan .now) _ _ _ (s .args .ledger .now) _ (s .pre) (c .before .before .before .before .before .before .if1 .left) _ (c .before .before .before .before .write-start .ensures) _ (c .before .load-signals .ensures)
+    let s = c .before .before .before .before .before .before .before .before .before .before .before .before .before .before .before in
+    run-asked _ (s .args .plan .now) _ _ _ (s .args .ledger .now) _ (s .pre) (c .before .before .before .before .before .if1 .left) _ (c .before .before .before .write-start .ensures)
 
 same-length : tie.Need-same-length
 same-length c = search needs
 
 returns-2 : tie.Need-returns-2
 returns-2 c =
-    let s = c .before .before .before .before .before .before .before .before .before .before .before .before .before .before .before .before .before .before .before in
-    plan-run _ (s .args .plan .now) _ _ _ (s .args .ledger .now) _ (s .pre) (c .before .before .before .before .before .before .before .before .before .if1 .left) _ (c .before .before .before .before .before .before .before .write-start .ensures) (c .before .before .run-steps .ensures)
+    let s = c .before .before .before .before .before .before .before .before .before .before .before .before .before .before .before .before .before .before in
+    plan-run _ (s .args .plan .now) _ _ _ (s .args .ledger .now) _ (s .pre) (c .before .before .before .before .before .before .before .before .if1 .left) _ (c .before .before .before .before .before .before .write-start .ensures) (c .before .before .run-steps .ensures)
 
 pub judge-plan-spec : {M : Type 1} → statement M
 judge-plan-spec =
@@ -57,7 +54,6 @@ judge-plan-spec =
     new-requires
     returns
     write-start-requires
-    load-signals-requires
     run-steps-requires
     same-length
     returns-2)

@@ -9,18 +9,21 @@ use Rattle.plan_steps.proofs.run_steps.Statement.{statement}
 use Rattle.plan_steps.proofs.run_steps.Tie as tie
 
 abbrev Inv-loop : tie.InvT-loop
-Inv-loop network plan counts links movements times ledger₀ steps-at trams-at arrivals₀ waiting₀ taken₀ ledger arrivals waiting taken =
+Inv-loop network plan links movements times ledger₀ counts trams-at arrivals₀ waiting₀ taken₀ ledger arrivals waiting taken =
     Running network plan counts trams-at links movements times ledger₀ (taken .state) arrivals waiting ledger
 
 abbrev μ-loop : tie.MeasureT-loop
-μ-loop network plan counts links movements times ledger₀ steps-at trams-at arrivals₀ waiting₀ taken₀ ledger arrivals waiting taken =
+μ-loop network plan links movements times ledger₀ counts trams-at arrivals₀ waiting₀ taken₀ ledger arrivals waiting taken =
     counts .steps - taken .state .boundary
 
 held-in-requires : tie.Need-held-in-requires Inv-loop μ-loop
-held-in-requires c κs = held-asked (c .before .before .before .before .before .before .before .pre)
+held-in-requires c κs = held-asked (c .before .before .before .before .before .before .before .before .pre)
+
+load-signals-requires : tie.Need-load-signals-requires Inv-loop μ-loop
+load-signals-requires c κs = c .before .before .before .before .before .before .before .before .before .pre .signals-asked
 
 loop-holds : tie.Need-loop-holds Inv-loop μ-loop
-loop-holds c = running-first (c .before .before .before .before .before .before .before .before .pre) _ (c .held-in .ensures .0) _ _ refl refl
+loop-holds c = running-first (c .before .before .before .before .before .before .before .before .before .before .pre) _ (c .before .held-in .ensures .0) _ _ refl refl _ (c .load-signals .ensures)
 
 slice-aggregate-take-step : tie.Need-slice-aggregate-take-step Inv-loop μ-loop
 slice-aggregate-take-step c = sym (c .before .before .before .before .before .loop .inv .state-at .arrivals-at .size)
@@ -65,6 +68,7 @@ run-steps-spec =
     Inv-loop
     μ-loop
     held-in-requires
+    load-signals-requires
     loop-holds
     slice-aggregate-take-step
     slice-aggregate-take-step-2
