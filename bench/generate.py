@@ -54,11 +54,20 @@ class Step:
 
 
 @dataclass
+class Tram:
+    signal: int
+    phase: int
+    first: int  # its first and its last step, counted from 0
+    last: int
+
+
+@dataclass
 class Network:
     signals: list
     links: list
     movements: list
     steps: list
+    trams: list = field(default_factory=list)
 
     def times(self):
         times = [0]
@@ -87,7 +96,10 @@ def record(letter, numbers):
 
 
 def network_text(network):
-    text = record("N", [len(network.links), len(network.signals), len(network.movements), len(network.steps), 0])
+    counted = [network.links, network.signals, network.movements, network.steps, network.trams]
+    text = record("N", map(len, counted))
+    for tram in network.trams:
+        text += record("T", [tram.signal + 1, tram.phase + 1, tram.first + 1, tram.last + 1])
     for signal in network.signals:
         spans = [time for pair in zip(signal.least, signal.greatest) for time in pair]
         head = [signal.least_cycle, signal.greatest_cycle, len(signal.least)]
@@ -117,7 +129,9 @@ def read_network(text):
     for line in text.splitlines():
         letter, *fields = line.split("\t")
         numbers = [int(number) for number in fields]
-        if letter == "G":
+        if letter == "T":
+            network.trams.append(Tram(*[number - 1 for number in numbers]))
+        elif letter == "G":
             least_cycle, greatest_cycle, _, phase, shown_for, cycle_clock = numbers[:6]
             spans = numbers[6:]
             network.signals.append(
@@ -171,12 +185,21 @@ def signal_phases(chance, signal, lengths):
     return phases
 
 
+def shown_phases(chance, network, index):
+    """The phase that a signal shows in each step: what trams ask and, in its ordinary steps, which alone count, greens
+    within its limits."""
+    asked = {n: tram.phase for tram in network.trams if tram.signal == index for n in range(tram.first, tram.last + 1)}
+    lengths = [step.length for n, step in enumerate(network.steps) if n not in asked]
+    ordinary = iter(signal_phases(chance, network.signals[index], lengths))
+    return [asked[n] if n in asked else next(ordinary) for n in range(len(network.steps))]
+
+
 def make_plan(chance, network):
     """Simulates traffic: queues move when their signal opens, as far as rates, shares and free space allow."""
     links, movements = network.links, network.movements
     lengths = [step.length for step in network.steps]
     times = network.times()
-    phases = [signal_phases(chance, signal, lengths) for signal in network.signals]
+    phases = [shown_phases(chance, network, index) for index in range(len(network.signals))]
     from_link = [[j for j, m in enumerate(movements) if m.origin == i] for i in range(len(links))]
     plan = Plan([], [[link.standing for link in links]], [[0] * len(links)])
     for n in range(1, len(lengths) + 1):
@@ -272,6 +295,15 @@ def random_network(chance, link_count, signal_count, movement_count, step_count)
         demand[-1] = 600000
         steps.append(Step(length, demand))
     return Network(signals, links, movements, steps)
+
+
+def with_trams(chance, network, length):
+    """The network with two trams at each signal, from the plan's start and from its middle on, each for so many steps."""
+    for first in (0, len(network.steps) // 2):
+        for index, signal in enumerate(network.signals):
+            phase = chance.randrange(len(signal.least))
+            network.trams.append(Tram(index, phase, first, first + length - 1))
+    return network
 
 
 def widest_network():

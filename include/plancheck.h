@@ -83,9 +83,9 @@
  * The library needs memcpy and memset from the C library, at most.
  *
  * STACK
- * On x86-64, plancheck_check_plan takes at most 8,048 bytes, plancheck_check_network and plancheck_link_state each at
- * most 3,760 (docs/MEASUREMENTS.md; bench/run measures it). plancheck_plan_from_listing is for an engineer's machine, not
- * for a box: its tables take 65,312 bytes of stack.
+ * On x86-64, plancheck_check_plan takes at most 7,920 bytes, plancheck_check_network and plancheck_link_state each at
+ * most 4,256 (docs/MEASUREMENTS.md; bench/run measures it). plancheck_plan_from_listing is for an engineer's machine, not
+ * for a box: its tables take 65,824 bytes of stack.
  * plancheck_run_cells takes 2,208 bytes with its result, plancheck_step_vehicles its return address alone.
  *
  * ERRORS
