@@ -1,16 +1,22 @@
-//! Links `libplan_check_c.a` from the folder that the environment variable `PLANCHECK_LIB_DIR` names.
+//! Links `libplan_check_c.a` from the folder that the environment variable `PLANCHECK_LIB_DIR` names, where one stands.
+//! Without the variable nothing that has to be linked builds; documentation and `cargo check` need no archive.
 
-use std::path::PathBuf;
+use std::path::{Path, PathBuf};
 use std::process::ExitCode;
+
+const ARCHIVE: &str = "libplan_check_c.a";
 
 fn main() -> ExitCode {
     println!("cargo:rerun-if-env-changed=PLANCHECK_LIB_DIR");
-    match library_folder() {
+    println!("cargo:rustc-link-lib=static=plan_check_c");
+    let Some(named) = std::env::var_os("PLANCHECK_LIB_DIR") else {
+        println!("cargo:warning=PLANCHECK_LIB_DIR is not set: what links needs it, the folder of {ARCHIVE}");
+        return ExitCode::SUCCESS;
+    };
+    match library_folder(Path::new(&named)) {
         Ok(folder) => {
-            let library = folder.join("libplan_check_c.a");
-            println!("cargo:rerun-if-changed={}", library.display());
+            println!("cargo:rerun-if-changed={}", folder.join(ARCHIVE).display());
             println!("cargo:rustc-link-search=native={}", folder.display());
-            println!("cargo:rustc-link-lib=static=plan_check_c");
             ExitCode::SUCCESS
         }
         Err(problem) => {
@@ -20,19 +26,25 @@ fn main() -> ExitCode {
     }
 }
 
-fn library_folder() -> Result<PathBuf, String> {
-    let Some(folder) = std::env::var_os("PLANCHECK_LIB_DIR") else {
-        return Err("set PLANCHECK_LIB_DIR to the folder of libplan_check_c.a".to_string());
+/// The folder, from the root. A build script stands in its package's folder; a relative name is meant from where cargo was
+/// started, which the shell tells in `PWD`.
+fn library_folder(named: &Path) -> Result<PathBuf, String> {
+    let from = if named.is_relative() {
+        println!("cargo:rerun-if-env-changed=PWD");
+        std::env::var_os("PWD").map(PathBuf::from).unwrap_or_default()
+    } else {
+        PathBuf::new()
     };
-    let folder = PathBuf::from(folder);
+    let folder = from.join(named);
     let folder = folder
         .canonicalize()
         .map_err(|error| format!("PLANCHECK_LIB_DIR, {}: {error}", folder.display()))?;
-    if !folder.join("libplan_check_c.a").is_file() {
-        return Err(format!(
-            "there is no libplan_check_c.a in PLANCHECK_LIB_DIR, {}",
+    if folder.join(ARCHIVE).is_file() {
+        Ok(folder)
+    } else {
+        Err(format!(
+            "there is no {ARCHIVE} in PLANCHECK_LIB_DIR, {}",
             folder.display()
-        ));
+        ))
     }
-    Ok(folder)
 }

@@ -4,14 +4,16 @@
 #![warn(clippy::pedantic)]
 
 mod cells;
+mod ledger;
 mod library;
 mod listing;
 mod refusal;
 mod traces;
 
 pub use cells::{run_cells, CellsRun, MAX_CELLS};
+pub use ledger::{Rows, Volumes};
 pub use listing::{plan_from_listing, MAX_WRITTEN_PLAN_LEN};
-pub use refusal::{ItemKind, Refusal, Text};
+pub use refusal::{ItemKind, Reason, Refusal, Text};
 pub use traces::step_vehicles;
 
 /// The greatest number of links of a network; there is at least one.
@@ -66,7 +68,7 @@ pub struct LinkState {
 ///
 /// # Errors
 ///
-/// Refusals 1 to 6.
+/// Refusals 1 to 6 and 28.
 ///
 /// # Examples
 ///
@@ -87,8 +89,9 @@ pub fn check_network(network: &[u8]) -> Result<(), Refusal> {
 /// Checks a plan on a network, and fills the ledger.
 ///
 /// Row n of the ledger belongs to boundary n and starts at index 2 × n × L: for each link what has entered, the
-/// standing start included, and what has left by then. A refusal at line n of the plan leaves rows 0 to n − 1
-/// written; refusals 1 to 8 leave the ledger as it was. All other numbers of the ledger keep what they held.
+/// standing start included, and what has left by then; [`Rows`] reads it by boundary and link. A refusal at line n of the
+/// plan leaves rows 0 to n − 1 written; refusals 1 to 8 and 28 leave the ledger as it was. All other numbers of the
+/// ledger keep what they held.
 ///
 /// An empty plan text means hold: each signal keeps its shown phase and every volume is 0 in all K steps.
 ///
@@ -140,7 +143,7 @@ pub fn check_plan(network: &[u8], plan: &[u8], ledger: &mut [u32]) -> Result<Tot
 ///
 /// # Errors
 ///
-/// Refusals 1 to 6 of the network, 8 for a ledger shorter than [`required_ledger_len`], 19 for a boundary above K, 20
+/// Refusals 1 to 6 and 28 of the network, 8 for a ledger shorter than [`required_ledger_len`], 19 for a boundary above K, 20
 /// for a link that is not 1 to L, 21 for a ledger that is not one of this network.
 ///
 /// # Examples

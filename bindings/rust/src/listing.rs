@@ -15,8 +15,8 @@ pub const MAX_WRITTEN_PLAN_LEN: usize = 151_920;
 ///
 /// # Errors
 ///
-/// Refusals 1 to 6 of the network, 22 for a line that is malformed, repeated or names what the network does not have, 23
-/// for a volume that is not whole or too large, 24 for a buffer shorter than the plan text.
+/// Refusals 1 to 6 and 28 of the network, 22 for a line that is malformed, repeated or names what the network does not
+/// have, 23 for a volume that is not whole or too large, 24 for a buffer shorter than the plan text.
 ///
 /// # Examples
 ///

@@ -4,17 +4,16 @@ use core::fmt;
 
 /// Why a call declined: the number of the refusal, and the line and the item that it names.
 ///
-/// Lines and items are counted from 1; 0 where none is named. Numbers 1 to 6 name a line of the network text, 9 to 18
-/// 25 to 27 and 29 a line of the plan text, 22 and 23 a line of the listing, 36 and 37 a line of the corridor text, the
-/// others none.
-/// What the item is depends on the number: see [`Refusal::item_kind`].
+/// Lines and items are counted from 1; 0 where none is named. [`Refusal::reason`] gives the number a name, and tells
+/// which text the line belongs to and what the item counts.
 ///
 /// `Display` says it in words:
 ///
 /// ```
-/// use plancheck::Refusal;
+/// use plancheck::{Reason, Refusal};
 ///
 /// let refusal = Refusal { number: 17, line: 1, item: 2 };
+/// assert_eq!(refusal.reason(), Some(Reason::EarlyDeparture));
 /// assert_eq!(
 ///     refusal.to_string(),
 ///     "refusal 17, plan line 1, link 2: more has left than has arrived"
@@ -32,6 +31,7 @@ pub struct Refusal {
 
 /// The text that a refusal's line belongs to.
 #[derive(Clone, Copy, Debug, PartialEq, Eq, Hash)]
+#[non_exhaustive]
 pub enum Text {
     /// The network text.
     Network,
@@ -45,6 +45,7 @@ pub enum Text {
 
 /// What a refusal's item counts.
 #[derive(Clone, Copy, Debug, PartialEq, Eq, Hash)]
+#[non_exhaustive]
 pub enum ItemKind {
     /// A signal: a `G` line of the network.
     Signal,
@@ -56,79 +57,149 @@ pub enum ItemKind {
     Step,
 }
 
+/// Declares [`Reason`] from its table: a row a refusal, with its number, the text of its line, what its item counts and
+/// its words.
+macro_rules! reasons {
+    ($($name:ident = $number:literal, $text:expr, $item:expr, $meaning:expr;)*) => {
+        /// The reasons of all refusals, by name. A later version may have more.
+        #[derive(Clone, Copy, Debug, PartialEq, Eq, Hash)]
+        #[non_exhaustive]
+        pub enum Reason {
+            $(
+                #[doc = concat!("Refusal ", $number, ": ", $meaning, ".")]
+                $name = $number,
+            )*
+        }
+
+        impl Reason {
+            /// Every reason, in the order of the table of refusals.
+            pub const ALL: &'static [Reason] = &[$(Reason::$name,)*];
+
+            /// The reason that has this number; none where no refusal has it.
+            #[must_use]
+            pub const fn from_number(number: u32) -> Option<Reason> {
+                match number {
+                    $($number => Some(Reason::$name),)*
+                    _ => None,
+                }
+            }
+
+            /// The number of the refusal.
+            #[must_use]
+            pub const fn number(self) -> u32 {
+                self as u32
+            }
+
+            /// The text that the line belongs to; none where no line is named.
+            #[must_use]
+            pub const fn text(self) -> Option<Text> {
+                match self {
+                    $(Reason::$name => $text,)*
+                }
+            }
+
+            /// What the item counts; none where no item is named.
+            #[must_use]
+            pub const fn item_kind(self) -> Option<ItemKind> {
+                match self {
+                    $(Reason::$name => $item,)*
+                }
+            }
+
+            /// What the refusal means, in words.
+            #[must_use]
+            pub const fn meaning(self) -> &'static str {
+                match self {
+                    $(Reason::$name => $meaning,)*
+                }
+            }
+        }
+    };
+}
+
+const NETWORK: Option<Text> = Some(Text::Network);
+const PLAN: Option<Text> = Some(Text::Plan);
+const LISTING: Option<Text> = Some(Text::Listing);
+const CORRIDOR: Option<Text> = Some(Text::Corridor);
+const SIGNAL: Option<ItemKind> = Some(ItemKind::Signal);
+const LINK: Option<ItemKind> = Some(ItemKind::Link);
+const MOVEMENT: Option<ItemKind> = Some(ItemKind::Movement);
+const STEP: Option<ItemKind> = Some(ItemKind::Step);
+
+reasons! {
+    NetworkForm = 1, NETWORK, None,
+        "a line is missing, unfinished or surplus, or has a wrong letter, a bad number or a wrong number of fields";
+    NetworkCounts = 2, NETWORK, None, "a count is outside its limits";
+    TramValues = 28, NETWORK, None,
+        "the tram's signal, phase or steps do not exist, or another tram of the signal has a step of it";
+    SignalValues = 3, NETWORK, SIGNAL, "a value of the signal is outside its limits";
+    LinkValues = 4, NETWORK, LINK, "a value of the link is outside its limits";
+    MovementValues = 5, NETWORK, MOVEMENT,
+        "a value of the movement is outside its limits, the pairs of links do not rise, or the link's shares do not sum to 1000";
+    StepValues = 6, NETWORK, STEP, "the step's length or a demand is outside its limits";
+    LedgerTooShort = 8, None, None, "the ledger is too short";
+    PlanForm = 9, PLAN, None,
+        "a line is missing, unfinished or surplus, or has a wrong letter, a bad number or a wrong number of fields";
+    SignalMask = 10, PLAN, SIGNAL, "the mask shows none of the signal's phases, or several";
+    TramPhase = 29, PLAN, SIGNAL, "a tram claims the signal, and its phase is not shown";
+    PhaseOrder = 11, PLAN, SIGNAL, "the phase is neither that of the step before nor the next";
+    PhaseTooShort = 12, PLAN, SIGNAL, "a phase is left before its least time";
+    PhaseTooLong = 13, PLAN, SIGNAL, "a phase shows longer than its greatest time";
+    CycleTime = 14, PLAN, SIGNAL, "the cycle is shorter than its least or longer than its greatest time";
+    AboveDemand = 15, PLAN, LINK, "more is admitted than has come by then";
+    AboveExitLimit = 25, PLAN, LINK, "more is let out than the link's exit rate allows";
+    AboveRate = 26, PLAN, MOVEMENT, "more is moved than the movement's rate allows";
+    ShutLink = 27, PLAN, MOVEMENT, "the movement leaves a link that its signal shuts";
+    TurningShare = 16, PLAN, MOVEMENT, "the movement is above its share of the movements from its link";
+    EarlyDeparture = 17, PLAN, LINK, "more has left than has arrived";
+    OverCapacity = 18, PLAN, LINK, "the link would hold more than its capacity";
+    NoSuchBoundary = 19, None, None, "there is no such boundary";
+    NoSuchLink = 20, None, None, "there is no such link";
+    LedgerContradiction = 21, None, None, "the ledger contradicts itself or the network";
+    ListingForm = 22, LISTING, None,
+        "a line is malformed or unfinished, names what the network does not have, gives a phase a value other than 0 and 1, or sets a variable again";
+    ListingVolume = 23, LISTING, None,
+        "a volume is not a whole number of thousandths of a vehicle, or is too large";
+    BufferTooShort = 24, None, None, "the buffer is shorter than the plan text";
+    CorridorForm = 36, CORRIDOR, None,
+        "a line is missing, unfinished or surplus, has a wrong letter, a bad number or a wrong number of fields, or is beyond its limits";
+    StartVolume = 37, CORRIDOR, None, "the start is above the cell's holding limit";
+    VehicleValues = 38, None, None, "a place, advance, line or spacing is outside its limits";
+    VehicleCounts = 39, None, None,
+        "there are too many vehicles or lines, or not one advance for each vehicle";
+}
+
 impl Refusal {
+    /// The name of the refusal; none where this version knows no refusal of that number.
+    #[must_use]
+    pub const fn reason(&self) -> Option<Reason> {
+        Reason::from_number(self.number)
+    }
+
     /// The text that the line belongs to; none where no line is named.
     #[must_use]
     pub const fn text(&self) -> Option<Text> {
-        match self.number {
-            1..=6 | 28 => Some(Text::Network),
-            9..=18 | 25..=27 | 29 => Some(Text::Plan),
-            22 | 23 => Some(Text::Listing),
-            36 | 37 => Some(Text::Corridor),
-            _ => None,
+        match self.reason() {
+            Some(reason) => reason.text(),
+            None => None,
         }
     }
 
     /// What the item counts; none where no item is named.
     #[must_use]
     pub const fn item_kind(&self) -> Option<ItemKind> {
-        match self.number {
-            3 | 10..=14 | 29 => Some(ItemKind::Signal),
-            4 | 15 | 17 | 18 | 25 => Some(ItemKind::Link),
-            5 | 16 | 26 | 27 => Some(ItemKind::Movement),
-            6 => Some(ItemKind::Step),
-            _ => None,
+        match self.reason() {
+            Some(reason) => reason.item_kind(),
+            None => None,
         }
     }
 
     /// What the number means, in words.
     #[must_use]
     pub const fn meaning(&self) -> &'static str {
-        match self.number {
-            1 | 9 => {
-                "a line is missing, unfinished or surplus, \
-                 or has a wrong letter, a bad number or a wrong number of fields"
-            }
-            2 => "a count is outside its limits",
-            3 => "a value of the signal is outside its limits",
-            4 => "a value of the link is outside its limits",
-            5 => {
-                "a value of the movement is outside its limits, the pairs of links do not rise, \
-                 or the link's shares do not sum to 1000"
-            }
-            6 => "the step's length or a demand is outside its limits",
-            8 => "the ledger is too short",
-            10 => "the mask shows none of the signal's phases, or several",
-            11 => "the phase is neither that of the step before nor the next",
-            12 => "a phase is left before its least time",
-            13 => "a phase shows longer than its greatest time",
-            14 => "the cycle is shorter than its least or longer than its greatest time",
-            15 => "more is admitted than has come by then",
-            16 => "the movement is above its share of the movements from its link",
-            17 => "more has left than has arrived",
-            18 => "the link would hold more than its capacity",
-            19 => "there is no such boundary",
-            20 => "there is no such link",
-            21 => "the ledger contradicts itself or the network",
-            22 => {
-                "a line is malformed or unfinished, names what the network does not have, gives a phase a value other \
-                 than 0 and 1, or sets a variable again"
-            }
-            23 => "a volume is not a whole number of thousandths of a vehicle, or is too large",
-            24 => "the buffer is shorter than the plan text",
-            25 => "more is let out than the link's exit rate allows",
-            26 => "more is moved than the movement's rate allows",
-            27 => "the movement leaves a link that its signal shuts",
-            28 => "the tram's signal, phase or steps do not exist, or another tram of the signal has a step of it",
-            29 => "a tram claims the signal, and its phase is not shown",
-            36 => {
-                "a line is missing, unfinished or surplus, has a wrong letter, a bad number or a wrong number of fields, \
-                 or is beyond its limits"
-            }
-            37 => "the start is above the cell's holding limit",
-            38 => "a place, advance, line or spacing is outside its limits",
-            39 => "there are too many vehicles or lines, or not one advance for each vehicle",
-            _ => "the number is unknown",
+        match self.reason() {
+            Some(reason) => reason.meaning(),
+            None => "the number is unknown",
         }
     }
 }
@@ -152,6 +223,12 @@ impl fmt::Display for ItemKind {
             ItemKind::Movement => "movement",
             ItemKind::Step => "step",
         })
+    }
+}
+
+impl fmt::Display for Reason {
+    fn fmt(&self, formatter: &mut fmt::Formatter<'_>) -> fmt::Result {
+        formatter.write_str(self.meaning())
     }
 }
 

