@@ -1,0 +1,81 @@
+//! `explain`: a refusal with its place, the lines that it points at, and what to do.
+
+use crate::command::{Command, Ended, Outcome, Problem};
+use crate::files::{read_folder, Texts};
+use crate::judge::Run;
+use crate::network::Network;
+use crate::words;
+use plancheck::{Reason, Refusal};
+use std::io::{self, Write};
+use std::path::Path;
+
+pub const COMMAND: Command = Command {
+    name: "explain",
+    arguments: "FOLDER | NUMBER",
+    does: "says of a refused folder where it breaks, by which lines, and what to do; or what a refusal's number means",
+    run,
+};
+
+fn run(arguments: &[String], out: &mut dyn Write) -> Outcome {
+    let [argument] = arguments else {
+        return Err(COMMAND.wrong());
+    };
+    if let Ok(number) = argument.parse::<u32>() {
+        if !Path::new(argument).is_dir() {
+            return explain_number(number, out);
+        }
+    }
+    let texts = read_folder(Path::new(argument))?;
+    let (refusal, run) = match Run::new(&texts) {
+        Ok(run) => match run.answer {
+            Ok(_) => {
+                writeln!(out, "accepted: there is nothing to explain")?;
+                return Ok(Ended::Done);
+            }
+            Err(refusal) => (refusal, Some(run)),
+        },
+        Err(refusal) => (refusal, None),
+    };
+    explain(out, &refusal, &texts, run.as_ref())?;
+    Ok(Ended::Refused)
+}
+
+fn explain_number(number: u32, out: &mut dyn Write) -> Outcome {
+    let known = Reason::from_number(number).zip(words::row(number));
+    let Some((reason, row)) = known else {
+        return Err(Problem(format!("no refusal has the number {number}")));
+    };
+    writeln!(out, "refusal {number}: {reason}")?;
+    if let Some(text) = reason.text() {
+        writeln!(out, "its line is one of the {text} text")?;
+    }
+    if let Some(kind) = reason.item_kind() {
+        writeln!(out, "its item is a {kind}")?;
+    }
+    writeln!(out, "meaning: {}", row.meaning)?;
+    write_action(out, &row)?;
+    Ok(Ended::Done)
+}
+
+fn explain(out: &mut dyn Write, refusal: &Refusal, texts: &Texts, run: Option<&Run>) -> io::Result<()> {
+    let network: Option<&Network> = run.map(|run| &run.network);
+    writeln!(out, "{}", words::sentence(refusal, network))?;
+    for (name, line) in words::pointed_lines(refusal, texts, network) {
+        writeln!(out, "  {name}: {line}")?;
+    }
+    if let Some(words) = run.and_then(|run| words::before_the_step(refusal, run)) {
+        writeln!(out, "  {words}")?;
+    }
+    if let Some(row) = words::row(refusal.number) {
+        write_action(out, &row)?;
+    }
+    Ok(())
+}
+
+fn write_action(out: &mut dyn Write, row: &words::Row) -> io::Result<()> {
+    writeln!(
+        out,
+        "what to do: {}; keep the running plan, and tell {} to look at {}",
+        row.remedy, row.tell, row.look_at
+    )
+}

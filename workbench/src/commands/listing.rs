@@ -1,0 +1,35 @@
+//! `listing`: a plan text from a solver's listing.
+
+use crate::command::{Command, Ended, Outcome};
+use crate::files::read;
+use crate::network::Network;
+use crate::words;
+use plancheck::{plan_from_listing, MAX_WRITTEN_PLAN_LEN};
+use std::io::Write;
+use std::path::Path;
+
+pub const COMMAND: Command = Command {
+    name: "listing",
+    arguments: "NETWORK LISTING",
+    does: "writes the plan text of a solver's listing; `check` judges it",
+    run,
+};
+
+fn run(arguments: &[String], out: &mut dyn Write) -> Outcome {
+    let [network, listing] = arguments else {
+        return Err(COMMAND.wrong());
+    };
+    let (network, listing) = (read(Path::new(network))?, read(Path::new(listing))?);
+    let mut plan = vec![0; MAX_WRITTEN_PLAN_LEN];
+    match plan_from_listing(&network, &listing, &mut plan) {
+        Ok(length) => {
+            out.write_all(&plan[..length])?;
+            Ok(Ended::Done)
+        }
+        Err(refusal) => {
+            let network = Network::read(&network).ok();
+            eprintln!("workbench: {}", words::sentence(&refusal, network.as_ref()));
+            Ok(Ended::Refused)
+        }
+    }
+}

@@ -1,0 +1,93 @@
+//! `make`: a seeded avenue with plans that the check accepts.
+
+use crate::command::{part, Command, Ended, Outcome, Parted, Problem};
+use crate::files::{make_folder, write, Texts, NETWORK, PLAN};
+use crate::judge::judge;
+use crate::make::{plan_text, Avenue, Chance, MAX_JUNCTIONS};
+use crate::{show, words};
+use plancheck::MAX_STEPS;
+use std::io::Write;
+use std::path::Path;
+
+pub const COMMAND: Command = Command {
+    name: "make",
+    arguments: "SEED FOLDER [--junctions 1..7] [--steps 1..120] [--plans COUNT]",
+    does: "writes an avenue with traffic, perhaps with trams, and plans for it that the check accepts: plan.tsv, plan-2.tsv, ..",
+    run,
+};
+
+/// How many signals' draws are tried before a seed is given up.
+const TRIES: u32 = 100;
+
+fn run(arguments: &[String], out: &mut dyn Write) -> Outcome {
+    let Parted { options, others } = part(&COMMAND, arguments, &["--junctions", "--steps", "--plans"], &[])?;
+    let [seed, folder] = others[..] else {
+        return Err(COMMAND.wrong());
+    };
+    let seed = seed.parse().map_err(|_| COMMAND.wrong())?;
+    let most_steps = u32::try_from(MAX_STEPS).unwrap_or(u32::MAX);
+    let mut chance = Chance::new(seed);
+    let (mut junctions, mut steps) = (chance.between(2, 5), chance.between(24, 48));
+    let mut plans = 1;
+    for (option, value) in options {
+        let value: u32 = value.parse().map_err(|_| COMMAND.wrong())?;
+        match option {
+            "--junctions" if (1..=MAX_JUNCTIONS).contains(&value) => junctions = value,
+            "--steps" if (1..=most_steps).contains(&value) => steps = value,
+            "--plans" if value > 0 => plans = value,
+            _ => return Err(COMMAND.wrong()),
+        }
+    }
+    let (avenue, first_plan) = avenue_with_plan(&mut chance, junctions, steps)?;
+    let folder = Path::new(folder);
+    make_folder(folder)?;
+    write(&folder.join(NETWORK), avenue.text().as_bytes())?;
+    writeln!(
+        out,
+        "{} links, {} signals, {} movements, {} steps, {} tram lines",
+        avenue.links.len(),
+        avenue.signals.len(),
+        avenue.movements.len(),
+        avenue.steps.len(),
+        avenue.trams.len()
+    )?;
+    for number in 1..=plans {
+        let (name, plan) = if number == 1 {
+            (PLAN.to_string(), first_plan.clone())
+        } else {
+            let plan = plan_text(&mut chance, &avenue).ok_or_else(no_plan)?;
+            (format!("plan-{number}.tsv"), plan)
+        };
+        let time = accepted_time(&avenue, &plan)?;
+        write(&folder.join(&name), plan.as_bytes())?;
+        writeln!(out, "{name}: travel time {time} vehicle seconds")?;
+    }
+    Ok(Ended::Done)
+}
+
+/// An avenue whose signals can all keep their limits, with a plan.
+fn avenue_with_plan(chance: &mut Chance, junctions: u32, steps: u32) -> Result<(Avenue, String), Problem> {
+    for _ in 0..TRIES {
+        let avenue = Avenue::new(chance, junctions, steps);
+        if let Some(plan) = plan_text(chance, &avenue) {
+            return Ok((avenue, plan));
+        }
+    }
+    Err(no_plan())
+}
+
+fn no_plan() -> Problem {
+    Problem("no plan keeps the limits of the signals that this seed draws: take another".to_string())
+}
+
+/// The travel time of a made plan; that the check refuses one is a fault of this tool.
+fn accepted_time(avenue: &Avenue, plan: &str) -> Result<String, Problem> {
+    let texts = Texts {
+        network: avenue.text().into_bytes(),
+        plan: plan.as_bytes().to_vec(),
+    };
+    match judge(&texts).answer {
+        Ok(totals) => Ok(show::vehicle_seconds(totals.doubled_time)),
+        Err(refusal) => Err(Problem(format!("the plan made is {}", words::sentence(&refusal, None)))),
+    }
+}

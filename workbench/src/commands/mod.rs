@@ -1,0 +1,24 @@
+//! The commands, one a file. A new one is a file with its `COMMAND`, and a line in each of the two lists here.
+
+mod cells;
+mod check;
+mod explain;
+mod listing;
+mod make;
+mod rank;
+mod report;
+mod states;
+
+use crate::command::Command;
+
+/// In the order in which the usage tells them.
+pub const ALL: &[Command] = &[
+    check::COMMAND,
+    explain::COMMAND,
+    report::COMMAND,
+    states::COMMAND,
+    rank::COMMAND,
+    listing::COMMAND,
+    cells::COMMAND,
+    make::COMMAND,
+];

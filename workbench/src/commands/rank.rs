@@ -1,0 +1,134 @@
+//! `rank`: many plans on one network, by travel time.
+
+use crate::command::{part, Command, Ended, Outcome, Parted, Problem};
+use crate::files::{plans_in, read, Texts, NETWORK};
+use crate::judge::judge;
+use crate::network::Network;
+use crate::{show, words};
+use plancheck::{check_network, Refusal, Totals};
+use std::io::{self, Write};
+use std::path::{Path, PathBuf};
+use std::time::{Duration, Instant};
+
+pub const COMMAND: Command = Command {
+    name: "rank",
+    arguments: "[--csv] FOLDER..",
+    does: "judges every plan of the folders (their .tsv files) on the network.tsv of the first one, and sorts them by travel time",
+    run,
+};
+
+struct Ranked {
+    plan: PathBuf,
+    answer: Result<Totals, Refusal>,
+}
+
+fn run(arguments: &[String], out: &mut dyn Write) -> Outcome {
+    let Parted {
+        options,
+        others: folders,
+    } = part(&COMMAND, arguments, &[], &["--csv"])?;
+    let Some(first) = folders.first() else {
+        return Err(COMMAND.wrong());
+    };
+    let network = read(&Path::new(first).join(NETWORK))?;
+    if let Err(refusal) = check_network(&network) {
+        eprintln!("workbench: {}", words::sentence(&refusal, None));
+        return Ok(Ended::Refused);
+    }
+    let plans = plans_of(&folders, &network)?;
+    let mut ranked = judge_all(network.clone(), plans)?;
+    // The accepted ones come first, and those of one travel time as they were found.
+    ranked.sort_by_key(|plan| plan.answer.map_or((1, 0), |totals| (0, totals.doubled_time)));
+    let network = Network::read(&network).ok();
+    if options.is_empty() {
+        write_table(out, &ranked, network.as_ref())?;
+    } else {
+        write_csv(out, &ranked)?;
+    }
+    Ok(Ended::Done)
+}
+
+/// The plans of all folders, by folder and name. A folder that has another network is a problem.
+fn plans_of(folders: &[&str], network: &[u8]) -> Result<Vec<PathBuf>, Problem> {
+    let mut plans = Vec::new();
+    for folder in folders {
+        let folder = Path::new(folder);
+        let own = folder.join(NETWORK);
+        if own.exists() && read(&own)? != network {
+            return Err(Problem(format!(
+                "{} is another network than that of {}: travel times of two networks do not compare",
+                own.display(),
+                folders[0]
+            )));
+        }
+        plans.extend(plans_in(folder)?);
+    }
+    Ok(plans)
+}
+
+fn judge_all(network: Vec<u8>, plans: Vec<PathBuf>) -> Result<Vec<Ranked>, Problem> {
+    let mut ranked = Vec::new();
+    let mut texts = Texts {
+        network,
+        plan: Vec::new(),
+    };
+    let count = plans.len();
+    let mut told = Instant::now();
+    for plan in plans {
+        texts.plan = read(&plan)?;
+        ranked.push(Ranked {
+            plan,
+            answer: judge(&texts).answer,
+        });
+        if told.elapsed() > Duration::from_secs(1) {
+            eprintln!("workbench: {} of {count} plans judged", ranked.len());
+            told = Instant::now();
+        }
+    }
+    Ok(ranked)
+}
+
+fn write_table(out: &mut dyn Write, ranked: &[Ranked], network: Option<&Network>) -> io::Result<()> {
+    writeln!(out, "rank  travel time (vehicle s)      let out   at the end  plan")?;
+    for (place, plan) in ranked.iter().enumerate() {
+        let name = plan.plan.display();
+        match &plan.answer {
+            Ok(totals) => writeln!(
+                out,
+                "{:>4}  {:>23} {:>12} {:>12}  {name}",
+                place + 1,
+                show::vehicle_seconds(totals.doubled_time),
+                show::vehicles(totals.let_out),
+                show::vehicles(totals.inside),
+            )?,
+            Err(refusal) => writeln!(out, "   -  {}  {name}", words::sentence(refusal, network))?,
+        }
+    }
+    Ok(())
+}
+
+/// Volumes in thousandths of a vehicle, the doubled time in thousandths of a vehicle times seconds, as the library gives them.
+fn write_csv(out: &mut dyn Write, ranked: &[Ranked]) -> io::Result<()> {
+    writeln!(out, "plan,refusal,line,item,doubled_time,admitted,let_out,inside")?;
+    for plan in ranked {
+        let name = quoted(&plan.plan.display().to_string());
+        match &plan.answer {
+            Ok(totals) => writeln!(
+                out,
+                "{name},0,0,0,{},{},{},{}",
+                totals.doubled_time, totals.admitted, totals.let_out, totals.inside
+            )?,
+            Err(refusal) => writeln!(out, "{name},{},{},{},,,,", refusal.number, refusal.line, refusal.item)?,
+        }
+    }
+    Ok(())
+}
+
+/// A field of CSV, in quotation marks where it needs them.
+fn quoted(field: &str) -> String {
+    if field.contains([',', '"', '\n', '\r']) {
+        format!("\"{}\"", field.replace('"', "\"\""))
+    } else {
+        field.to_string()
+    }
+}

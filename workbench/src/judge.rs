@@ -1,0 +1,153 @@
+//! A plan judged on its network, with all that the library tells of it. Every number here comes from a call of the library;
+//! the texts give what they say themselves: lengths, masks, limits.
+
+use crate::files::Texts;
+use crate::network::{cut, Network};
+use crate::records::{lines, record};
+use plancheck::{check_plan, link_state, LinkState, Refusal, Rows, Totals, Volumes, MAX_LEDGER_LEN};
+
+/// The verdict on two texts.
+pub struct Judged {
+    pub answer: Result<Totals, Refusal>,
+    ledger: Vec<u32>,
+}
+
+pub fn judge(texts: &Texts) -> Judged {
+    let mut ledger = vec![0; MAX_LEDGER_LEN];
+    let answer = check_plan(&texts.network, &texts.plan, &mut ledger);
+    Judged { answer, ledger }
+}
+
+/// How many steps of a plan on a valid network passed: all before the line that is refused.
+pub fn passed_steps(answer: &Result<Totals, Refusal>, steps: usize) -> usize {
+    match answer {
+        Ok(_) => steps,
+        Err(refusal) => steps.min((refusal.line as usize).saturating_sub(1)),
+    }
+}
+
+/// What the whole network holds at a boundary, and what waits outside.
+pub struct Running {
+    pub totals: Totals,
+    pub outside: u64,
+}
+
+/// A plan on a valid network, as far as it passed.
+pub struct Run {
+    pub network: Network,
+    pub answer: Result<Totals, Refusal>,
+    /// How many steps passed; boundaries 0 to this one are known.
+    pub passed: usize,
+    /// The masks that the signals show in each step that passed, and in the one that is refused.
+    pub masks: Vec<Vec<u32>>,
+    /// By boundary, then link.
+    pub volumes: Vec<Vec<Volumes>>,
+    pub states: Vec<Vec<LinkState>>,
+    /// By boundary.
+    pub running: Vec<Running>,
+}
+
+impl Run {
+    /// Judges two texts; a network that is refused has no run.
+    pub fn new(texts: &Texts) -> Result<Run, Refusal> {
+        let network = Network::read(&texts.network)?;
+        let Judged { answer, ledger } = judge(texts);
+        let passed = passed_steps(&answer, network.steps.len());
+        let rows = Rows::new(&ledger, network.links.len(), network.steps.len());
+        let volumes: Vec<Vec<Volumes>> = (0..=passed)
+            .map(|boundary| rows.of_boundary(boundary).collect())
+            .collect();
+        let states = states(&texts.network, &network, &ledger, passed)?;
+        let masks = masks(&network, &texts.plan, passed + 1);
+        let running = running(texts, &network, &volumes, passed)?;
+        Ok(Run {
+            network,
+            answer,
+            passed,
+            masks,
+            volumes,
+            states,
+            running,
+        })
+    }
+
+    /// The step that is refused, counted from 1; none where the plan is accepted or a line behind the last is refused.
+    pub fn refused_step(&self) -> Option<usize> {
+        (self.answer.is_err() && self.passed < self.network.steps.len()).then_some(self.passed + 1)
+    }
+}
+
+/// The state of every link at the boundaries 0 to `last`, by boundary.
+pub fn states(text: &[u8], network: &Network, ledger: &[u32], last: usize) -> Result<Vec<Vec<LinkState>>, Refusal> {
+    let index = |place: usize| u32::try_from(place).unwrap_or(u32::MAX);
+    let at = |boundary: usize| {
+        let links = 1..=network.links.len();
+        links
+            .map(|link| link_state(text, ledger, index(boundary), index(link)))
+            .collect()
+    };
+    (0..=last).map(at).collect()
+}
+
+/// The states of an accepted plan.
+pub fn states_of(texts: &Texts, network: &Network) -> Result<Vec<Vec<LinkState>>, Refusal> {
+    let Judged { answer, ledger } = judge(texts);
+    answer?;
+    states(&texts.network, network, &ledger, network.steps.len())
+}
+
+/// The masks of the first steps, as far as the plan text has lines; an empty plan holds the phases shown before it.
+fn masks(network: &Network, plan: &[u8], steps: usize) -> Vec<Vec<u32>> {
+    let steps = steps.min(network.steps.len());
+    if plan.is_empty() {
+        let held = network.signals.iter().map(|signal| 1 << (signal.shown - 1)).collect();
+        return vec![held; steps];
+    }
+    let of_line = |line: &[u8]| {
+        let numbers = record(line).numbers;
+        (0..network.signals.len())
+            .map(|place| numbers.get(place).copied().unwrap_or(0))
+            .collect()
+    };
+    lines(plan).into_iter().take(steps).map(of_line).collect()
+}
+
+/// The totals at each boundary that passed: those of the plan's first lines on the network cut to as many steps. What is
+/// under way, inside or waiting outside, is told by the doubled travel time: each step adds its length times what is under
+/// way at its start and at its end. Nobody waits outside at boundary 0.
+fn running(texts: &Texts, network: &Network, volumes: &[Vec<Volumes>], passed: usize) -> Result<Vec<Running>, Refusal> {
+    let mut totals = Totals {
+        admitted: 0,
+        let_out: 0,
+        inside: volumes[0].iter().map(|of_link| u64::from(of_link.held())).sum(),
+        doubled_time: 0,
+    };
+    let mut under_way = totals.inside;
+    let mut running = vec![Running { totals, outside: 0 }];
+    let mut ledger = vec![0; MAX_LEDGER_LEN];
+    for steps in 1..=passed {
+        let time_before = totals.doubled_time;
+        totals = check_plan(
+            cut(&texts.network, steps).as_bytes(),
+            first_lines(&texts.plan, steps),
+            &mut ledger,
+        )?;
+        let length = u64::from(network.steps[steps - 1].length);
+        under_way = (totals.doubled_time - time_before) / length - under_way;
+        running.push(Running {
+            totals,
+            outside: under_way - totals.inside,
+        });
+    }
+    Ok(running)
+}
+
+/// A text up to the line feed of this line.
+fn first_lines(text: &[u8], count: usize) -> &[u8] {
+    let ends = text
+        .iter()
+        .enumerate()
+        .filter(|&(_, &byte)| byte == b'\n')
+        .map(|(place, _)| place + 1);
+    &text[..ends.take(count).last().unwrap_or(0)]
+}

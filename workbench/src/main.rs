@@ -1,0 +1,64 @@
+//! The engineer's tool over the plan check library. `workbench` alone prints what it can do.
+
+mod command;
+mod commands;
+mod files;
+mod judge;
+mod make;
+mod network;
+mod records;
+mod report;
+mod show;
+mod words;
+
+use command::{Ended, Problem};
+use std::io::{self, BufWriter, Write};
+use std::process::ExitCode;
+
+fn main() -> ExitCode {
+    let arguments: Vec<String> = std::env::args().skip(1).collect();
+    let mut out = BufWriter::new(io::stdout().lock());
+    let outcome = run(&arguments, &mut out).and_then(|ended| {
+        out.flush()?;
+        Ok(ended)
+    });
+    match outcome {
+        Ok(Ended::Done) => ExitCode::SUCCESS,
+        Ok(Ended::Refused) => ExitCode::from(1),
+        Err(Problem(words)) => {
+            eprintln!("workbench: {words}");
+            ExitCode::from(2)
+        }
+    }
+}
+
+fn run(arguments: &[String], out: &mut dyn Write) -> command::Outcome {
+    match arguments {
+        [] => {
+            write_usage(out)?;
+            Ok(Ended::Done)
+        }
+        [word, ..] if word == "-h" || word == "--help" => {
+            write_usage(out)?;
+            Ok(Ended::Done)
+        }
+        [name, rest @ ..] => match commands::ALL.iter().find(|command| command.name == name) {
+            Some(command) => command.run(rest, out),
+            None => Err(Problem(format!(
+                "there is no command {name}; workbench -h lists all of them"
+            ))),
+        },
+    }
+}
+
+fn write_usage(out: &mut dyn Write) -> io::Result<()> {
+    writeln!(out, "usage: workbench COMMAND ARGUMENTS\n")?;
+    for command in commands::ALL {
+        writeln!(out, "  {} {}\n      {}", command.name, command.arguments, command.does)?;
+    }
+    writeln!(
+        out,
+        "\nA FOLDER has network.tsv and plan.tsv. Volumes are told in vehicles, times in seconds.\n\
+         Exit status: 0 accepted or done, 1 refused, 2 a file was not read or the command was wrong."
+    )
+}

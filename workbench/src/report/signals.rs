@@ -1,0 +1,146 @@
+//! The phases that each signal shows over time, trams marked.
+
+use super::svg::Frame;
+use crate::judge::Run;
+use plancheck::{ItemKind, Refusal, Text};
+use std::fmt::Write;
+
+const ROW: f64 = 46.0;
+const TOP: f64 = 18.0;
+const BAR: f64 = 22.0;
+
+pub fn picture(run: &Run, refusal: Option<&Refusal>) -> String {
+    let times = run.network.times();
+    let signals = run.network.signals.len();
+    #[allow(clippy::cast_precision_loss)]
+    let height = TOP + ROW * signals as f64 + 26.0;
+    let frame = Frame {
+        width: 1060.0,
+        height,
+        seconds: times[times.len() - 1],
+        most: 0,
+    };
+    let mut drawn = String::new();
+    for signal in 0..signals {
+        #[allow(clippy::cast_precision_loss)]
+        let top = TOP + ROW * signal as f64;
+        drawn += &row(run, &frame, &times, signal, top);
+        drawn += &trams(run, &frame, &times, signal, top);
+        if let Some(refusal) = refusal.filter(|refusal| breaks(refusal, signal)) {
+            drawn += &broken(run, &frame, &times, refusal, top);
+        }
+    }
+    let scale = frame.seconds_scale(height - 26.0);
+    let label = "The phases of each signal over time";
+    format!("<svg viewBox=\"0 0 1060 {height}\" role=\"img\" aria-label=\"{label}\">\n{HATCH}{drawn}{scale}</svg>\n")
+}
+
+const HATCH: &str = "<defs><pattern id=\"hatch\" width=\"6\" height=\"6\" patternUnits=\"userSpaceOnUse\" \
+    patternTransform=\"rotate(45)\"><rect width=\"3\" height=\"6\" fill=\"#1f2933\"/></pattern></defs>\n";
+
+/// A bar for each run of steps that show one mask; before second 0, the phase shown before the plan.
+fn row(run: &Run, frame: &Frame, times: &[u32], signal: usize, top: f64) -> String {
+    let mut row = String::new();
+    let shown = &run.network.signals[signal];
+    let name = signal + 1;
+    let _ = writeln!(
+        row,
+        "<text class=\"row-name\" x=\"2\" y=\"{:.1}\">{name}</text>",
+        top + BAR - 6.0
+    );
+    let _ = writeln!(
+        row,
+        "<rect class=\"phase phase-{}\" x=\"{:.1}\" y=\"{top:.1}\" width=\"14\" height=\"{BAR}\"><title>signal {name} showed \
+         phase {} for {} s before the plan; phase 1 began {} s before it</title></rect>",
+        shown.shown,
+        frame.x(0) - 18.0,
+        shown.shown,
+        shown.shown_for,
+        shown.cycle_clock,
+    );
+    let masks: Vec<u32> = run.masks.iter().map(|masks| masks[signal]).collect();
+    let mut first = 0;
+    while first < masks.len() {
+        let last = (first..masks.len())
+            .take_while(|&step| masks[step] == masks[first])
+            .last()
+            .unwrap_or(first);
+        row += &phase_bar(
+            frame,
+            signal,
+            masks[first],
+            shown.phases,
+            [times[first], times[last + 1]],
+            top,
+        );
+        first = last + 1;
+    }
+    row
+}
+
+fn phase_bar(frame: &Frame, signal: usize, mask: u32, phases: u32, seconds: [u32; 2], top: f64) -> String {
+    let [from, to] = seconds;
+    let phase = if mask.is_power_of_two() {
+        mask.trailing_zeros() + 1
+    } else {
+        0
+    };
+    let (class, label) = if (1..=phases).contains(&phase) {
+        (format!("phase phase-{phase}"), phase.to_string())
+    } else {
+        ("phase no-phase".to_string(), format!("mask {mask}"))
+    };
+    let title = format!(
+        "signal {}, seconds {from} to {to}: phase {label}, {} s",
+        signal + 1,
+        to - from
+    );
+    let mut bar = frame.bar(&class, from, to, top, BAR, &title);
+    let middle = frame.middle(from, to);
+    let _ = writeln!(
+        bar,
+        "<text class=\"phase-name\" x=\"{middle:.1}\" y=\"{:.1}\">{label}</text>",
+        top + BAR - 6.0
+    );
+    bar
+}
+
+/// A hatched bar under the phases for each tram, with the phase that it asks.
+fn trams(run: &Run, frame: &Frame, times: &[u32], signal: usize, top: f64) -> String {
+    let of_signal = run
+        .network
+        .trams
+        .iter()
+        .filter(|tram| tram.signal as usize == signal + 1);
+    let bar = |tram: &crate::network::Tram| {
+        let (from, to) = (times[tram.first as usize - 1], times[tram.last as usize]);
+        let title = format!(
+            "a tram claims signal {} for phase {} from second {from} to second {to}",
+            signal + 1,
+            tram.phase
+        );
+        let name = format!("tram {}", tram.phase);
+        let x = frame.middle(from, to);
+        frame.bar("tram", from, to, top + BAR + 2.0, 6.0, &title)
+            + &format!(
+                "<text class=\"tram-name\" x=\"{x:.1}\" y=\"{:.1}\">{name}</text>\n",
+                top + BAR + 18.0
+            )
+    };
+    of_signal.map(bar).collect()
+}
+
+fn breaks(refusal: &Refusal, signal: usize) -> bool {
+    let of_signal = refusal.item_kind() == Some(ItemKind::Signal) && refusal.text() == Some(Text::Plan);
+    of_signal && refusal.item as usize == signal + 1
+}
+
+fn broken(run: &Run, frame: &Frame, times: &[u32], refusal: &Refusal, top: f64) -> String {
+    let Some(step) = run.refused_step() else {
+        return String::new();
+    };
+    let (from, to) = (times[step - 1], times[step]);
+    let words = format!("R {}: {}", refusal.number, refusal.meaning());
+    frame.bar("broken", from, to, top - 3.0, BAR + 6.0, &words)
+        + &frame.words("broken-words", [from, to], top + BAR - 6.0, &words)
+}

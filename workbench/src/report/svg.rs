@@ -1,0 +1,201 @@
+//! Pictures over time: a frame with its two scales, and what is drawn in it. Places are worked out in floats; no number that
+//! is told is.
+
+use crate::show;
+use std::fmt::Write;
+
+const LEFT: f64 = 52.0;
+const RIGHT: f64 = 12.0;
+const TOP: f64 = 10.0;
+const BOTTOM: f64 = 26.0;
+
+/// A picture with seconds from left to right and, upwards, volumes in thousandths of a vehicle.
+pub struct Frame {
+    pub width: f64,
+    pub height: f64,
+    pub seconds: u32,
+    pub most: u64,
+}
+
+/// A point of a curve: a second, and a volume.
+pub type Point = (u32, u64);
+
+impl Frame {
+    pub fn x(&self, second: u32) -> f64 {
+        LEFT + (self.width - LEFT - RIGHT) * f64::from(second) / f64::from(self.seconds.max(1))
+    }
+
+    /// Where the middle of a span of seconds is.
+    pub fn middle(&self, from: u32, to: u32) -> f64 {
+        (self.x(from) + self.x(to)) / 2.0
+    }
+
+    #[allow(clippy::cast_precision_loss)]
+    pub fn y(&self, volume: u64) -> f64 {
+        let part = volume as f64 / self.most.max(1) as f64;
+        self.height - BOTTOM - (self.height - TOP - BOTTOM) * part
+    }
+
+    /// The whole picture around what is drawn in it.
+    pub fn picture(&self, label: &str, drawn: &str) -> String {
+        format!(
+            "<svg viewBox=\"0 0 {} {}\" role=\"img\" aria-label=\"{}\">\n{}{drawn}</svg>\n",
+            self.width,
+            self.height,
+            escape(label),
+            self.scales(),
+        )
+    }
+
+    /// Lines and numbers of both scales.
+    fn scales(&self) -> String {
+        let mut scales = String::new();
+        let (left, right, bottom) = (LEFT, self.width - RIGHT, self.height - BOTTOM);
+        for volume in marks(self.most, 4, &volume_units()) {
+            let y = self.y(volume);
+            let shown = show::vehicles(volume);
+            let _ = writeln!(
+                scales,
+                "<line class=\"grid\" x1=\"{left}\" y1=\"{y:.1}\" x2=\"{right}\" y2=\"{y:.1}\"/>"
+            );
+            let _ = writeln!(
+                scales,
+                "<text class=\"volume\" x=\"{:.1}\" y=\"{:.1}\">{shown}</text>",
+                left - 6.0,
+                y + 4.0
+            );
+        }
+        scales + &self.seconds_scale(bottom)
+    }
+
+    /// The marks of the seconds, under a line at this height.
+    pub fn seconds_scale(&self, bottom: f64) -> String {
+        let mut scale = String::new();
+        for second in marks(self.seconds.into(), 9, SECOND_UNITS) {
+            let x = self.x(u32::try_from(second).unwrap_or(0));
+            let _ = writeln!(
+                scale,
+                "<line class=\"tick\" x1=\"{x:.1}\" y1=\"{bottom}\" x2=\"{x:.1}\" y2=\"{:.1}\"/>",
+                bottom + 4.0
+            );
+            let _ = writeln!(
+                scale,
+                "<text class=\"second\" x=\"{x:.1}\" y=\"{:.1}\">{second}</text>",
+                bottom + 16.0
+            );
+        }
+        let _ = writeln!(
+            scale,
+            "<line class=\"axis\" x1=\"{LEFT}\" y1=\"{bottom}\" x2=\"{:.1}\" y2=\"{bottom}\"/>",
+            self.width - RIGHT
+        );
+        scale
+    }
+
+    pub fn curve(&self, class: &str, points: &[Point]) -> String {
+        format!("<polyline class=\"{class}\" points=\"{}\"/>\n", self.places(points))
+    }
+
+    /// The area between two curves that have points at the same seconds.
+    pub fn area(&self, class: &str, lower: &[Point], upper: &[Point]) -> String {
+        let back: Vec<Point> = lower.iter().rev().copied().collect();
+        format!(
+            "<polygon class=\"{class}\" points=\"{} {}\"/>\n",
+            self.places(upper),
+            self.places(&back)
+        )
+    }
+
+    fn places(&self, points: &[Point]) -> String {
+        let place = |&(second, volume): &Point| format!("{:.1},{:.1}", self.x(second), self.y(volume));
+        points.iter().map(place).collect::<Vec<_>>().join(" ")
+    }
+
+    /// A volume that does not change, with its name.
+    pub fn level(&self, class: &str, volume: u64, name: &str) -> String {
+        let (right, y) = (self.width - RIGHT, self.y(volume));
+        format!(
+            "<line class=\"{class}\" x1=\"{LEFT}\" y1=\"{y:.1}\" x2=\"{right}\" y2=\"{y:.1}\"/>\n\
+             <text class=\"level-name\" x=\"{:.1}\" y=\"{:.1}\">{}</text>\n",
+            right - 4.0,
+            y + 12.0,
+            escape(name)
+        )
+    }
+
+    /// A span of seconds over the whole height.
+    pub fn span(&self, class: &str, from: u32, to: u32) -> String {
+        self.bar(class, from, to, TOP, self.height - TOP - BOTTOM, "")
+    }
+
+    /// A bar along the seconds under the axis: where it stands is told by its height in the picture.
+    pub fn strip(&self, class: &str, from: u32, to: u32, title: &str) -> String {
+        self.bar(class, from, to, self.height - BOTTOM + 1.0, 4.0, title)
+    }
+
+    pub fn bar(&self, class: &str, from: u32, to: u32, top: f64, height: f64, title: &str) -> String {
+        let (x, width) = (self.x(from), self.x(to) - self.x(from));
+        let title = if title.is_empty() {
+            String::new()
+        } else {
+            format!("<title>{}</title>", escape(title))
+        };
+        format!("<rect class=\"{class}\" x=\"{x:.1}\" y=\"{top:.1}\" width=\"{width:.1}\" height=\"{height:.1}\">{title}</rect>\n")
+    }
+
+    /// Words beside a span of seconds, on the side that has more room.
+    pub fn words(&self, class: &str, span: [u32; 2], top: f64, words: &str) -> String {
+        let (before, behind) = (self.x(span[0]), self.x(span[1]));
+        let (x, anchor) = if before - LEFT > self.width - behind {
+            (before - 6.0, "end")
+        } else {
+            (behind + 6.0, "start")
+        };
+        format!(
+            "<text class=\"{class}\" x=\"{x:.1}\" y=\"{top:.1}\" text-anchor=\"{anchor}\">{}</text>\n",
+            escape(words)
+        )
+    }
+}
+
+/// Steps between the marks of seconds.
+const SECOND_UNITS: &[u64] = &[1, 2, 5, 10, 20, 30, 60, 120, 300, 600, 1200, 1800, 3600];
+
+/// Steps between the marks of volumes: 1, 2 and 5 times a power of ten, in thousandths.
+fn volume_units() -> Vec<u64> {
+    (0..12)
+        .flat_map(|power| [1, 2, 5].map(|unit| unit * 10_u64.pow(power)))
+        .collect()
+}
+
+/// The multiples of the first unit that gives at most so many marks up to a greatest.
+fn marks(greatest: u64, count: u64, units: &[u64]) -> Vec<u64> {
+    let fits = |unit: &&u64| greatest / **unit <= count;
+    let unit = units.iter().find(fits).or(units.last()).copied().unwrap_or(1);
+    (0..=greatest / unit).map(|mark| mark * unit).collect()
+}
+
+/// A text as HTML shows it.
+pub fn escape(text: &str) -> String {
+    text.replace('&', "&amp;")
+        .replace('<', "&lt;")
+        .replace('>', "&gt;")
+        .replace('"', "&quot;")
+}
+
+#[cfg(test)]
+mod tests {
+    use super::*;
+
+    #[test]
+    fn marks_of_scales() {
+        assert_eq!(marks(40, 9, SECOND_UNITS), [0, 5, 10, 15, 20, 25, 30, 35, 40]);
+        assert_eq!(marks(5000, 4, &volume_units()), [0, 2000, 4000]);
+        assert_eq!(marks(0, 4, &volume_units()), [0]);
+    }
+
+    #[test]
+    fn what_html_would_read() {
+        assert_eq!(escape("<a href=\"x\">&"), "&lt;a href=&quot;x&quot;&gt;&amp;");
+    }
+}

@@ -1,0 +1,48 @@
+//! Numbers as people read them.
+
+/// A volume in vehicles: thousandths, without zeros at its end.
+pub fn vehicles(volume: u64) -> String {
+    decimal(volume, 3)
+}
+
+/// A doubled travel time, in thousandths of a vehicle times seconds, as a travel time in vehicle seconds.
+pub fn vehicle_seconds(doubled_time: u64) -> String {
+    decimal(5 * doubled_time, 4)
+}
+
+fn decimal(number: u64, places: u32) -> String {
+    let unit = 10_u64.pow(places);
+    let digits = format!("{}.{:0width$}", number / unit, number % unit, width = places as usize);
+    digits.trim_end_matches('0').trim_end_matches('.').to_string()
+}
+
+/// A text of the house format on one line, tabs as spaces, bytes that no text has as dots.
+pub fn line(bytes: &[u8]) -> String {
+    let shown = |&byte: &u8| match byte {
+        b'\t' => ' ',
+        b' '..=b'~' => char::from(byte),
+        _ => '\u{b7}',
+    };
+    bytes.iter().map(shown).collect()
+}
+
+#[cfg(test)]
+mod tests {
+    use super::*;
+
+    #[test]
+    fn decimals() {
+        assert_eq!(vehicles(5000), "5");
+        assert_eq!(vehicles(2500), "2.5");
+        assert_eq!(vehicles(0), "0");
+        assert_eq!(vehicles(1), "0.001");
+        assert_eq!(vehicle_seconds(240_000), "120");
+        assert_eq!(vehicle_seconds(1), "0.0005");
+        assert_eq!(vehicle_seconds(716_083_200_000_000), "358041600000");
+    }
+
+    #[test]
+    fn lines() {
+        assert_eq!(line(b"P\t1\r"), "P 1\u{b7}");
+    }
+}

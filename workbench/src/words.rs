@@ -1,0 +1,166 @@
+//! A refusal in words: where it is, what it means, whom to tell and what to look at. The words are those of
+//! `docs/REFUSALS.md`, so that a number is described in one place.
+
+use crate::files::Texts;
+use crate::judge::Run;
+use crate::network::Network;
+use crate::records::lines;
+use crate::show;
+use plancheck::{ItemKind, Refusal, Text};
+use std::fmt::Write;
+
+const TABLES: &str = include_str!("../../docs/REFUSALS.md");
+
+/// What the two tables say of a number.
+pub struct Row {
+    pub meaning: &'static str,
+    pub remedy: &'static str,
+    pub tell: &'static str,
+    pub look_at: &'static str,
+}
+
+/// The rows of a number in the two tables; none where they do not have it.
+pub fn row(number: u32) -> Option<Row> {
+    let (meanings, actions) = TABLES.split_once("\n## What to do\n")?;
+    let start = format!("| {number} |");
+    let cells = |table: &'static str| -> Option<Vec<&'static str>> {
+        let line = table.lines().find(|line| line.starts_with(&start))?;
+        Some(line.trim_matches(['|', ' ']).split(" | ").map(str::trim).collect())
+    };
+    let (meaning, action) = (cells(meanings)?, cells(actions)?);
+    Some(Row {
+        meaning: meaning.get(2)?,
+        remedy: meaning.get(3)?,
+        tell: action.get(1)?,
+        look_at: without_pointer(action.get(2)?),
+    })
+}
+
+/// Words without a pointer to a place of the document, as `(likely causes below)`.
+fn without_pointer(words: &'static str) -> &'static str {
+    match words.rsplit_once(" (") {
+        Some((before, pointer)) if pointer.ends_with("below)") => before,
+        _ => words,
+    }
+}
+
+/// Where a refusal is: step and seconds of a plan's line, the line of the item, as far as they are named.
+pub fn place(refusal: &Refusal, network: Option<&Network>) -> String {
+    let mut place = Vec::new();
+    if let Some(text) = refusal.text() {
+        place.push(
+            match (text, network.and_then(|network| seconds(network, refusal.line))) {
+                (Text::Plan, Some((from, to))) => {
+                    let line = refusal.line;
+                    format!("step {line} (line {line} of the plan text, seconds {from} to {to})")
+                }
+                _ => format!("line {} of the {text} text", refusal.line),
+            },
+        );
+    }
+    if let Some(kind) = refusal.item_kind() {
+        place.push(item(refusal, kind, network));
+    }
+    place.join(", ")
+}
+
+fn item(refusal: &Refusal, kind: ItemKind, network: Option<&Network>) -> String {
+    let mut words = format!("{kind} {}", refusal.item);
+    let Some(network) = network else { return words };
+    let index = refusal.item as usize - 1;
+    if let Some(movement) = network.movements.get(index).filter(|_| kind == ItemKind::Movement) {
+        let _ = write!(words, " from link {} to link {}", movement.from, movement.to);
+    }
+    if let Some(line) = item_line(network, kind, index) {
+        let _ = write!(words, " (line {line} of the network text)");
+    }
+    words
+}
+
+/// The line of the network text that an item stands in.
+pub fn item_line(network: &Network, kind: ItemKind, index: usize) -> Option<usize> {
+    match kind {
+        ItemKind::Signal => network.signals.get(index).map(|signal| signal.line),
+        ItemKind::Link => network.links.get(index).map(|link| link.line),
+        ItemKind::Movement => network.movements.get(index).map(|movement| movement.line),
+        ItemKind::Step => network.steps.get(index).map(|step| step.line),
+        _ => None,
+    }
+}
+
+/// The seconds of the step of a plan's line.
+fn seconds(network: &Network, line: u32) -> Option<(u32, u32)> {
+    let times = network.times();
+    let step = line as usize;
+    Some((*times.get(step.checked_sub(1)?)?, *times.get(step)?))
+}
+
+/// One sentence: the number, the place and the meaning.
+pub fn sentence(refusal: &Refusal, network: Option<&Network>) -> String {
+    let place = place(refusal, network);
+    let parted = if place.is_empty() { "" } else { " in " };
+    format!("refused with {}{parted}{place}: {}", refusal.number, refusal.meaning())
+}
+
+/// The lines of the texts that a refusal points at, each with its name: the line that is refused, and that of the item.
+pub fn pointed_lines(refusal: &Refusal, texts: &Texts, network: Option<&Network>) -> Vec<(String, String)> {
+    let mut pointed = Vec::new();
+    let mut quote = |name: &str, text: &[u8], line: usize| {
+        let found = lines(text).get(line.wrapping_sub(1)).map(|bytes| show::line(bytes));
+        pointed.push((
+            format!("{name} line {line}"),
+            found.unwrap_or_else(|| "(there is none)".to_string()),
+        ));
+    };
+    match refusal.text() {
+        Some(Text::Network) => quote("network", &texts.network, refusal.line as usize),
+        Some(Text::Plan) => quote("plan", &texts.plan, refusal.line as usize),
+        _ => {}
+    }
+    let item = refusal
+        .item_kind()
+        .zip(network)
+        .and_then(|(kind, network)| item_line(network, kind, (refusal.item as usize).wrapping_sub(1)));
+    if let Some(line) = item.filter(|_| refusal.text() == Some(Text::Plan)) {
+        quote("network", &texts.network, line);
+    }
+    pointed
+}
+
+/// What the library tells of the link that breaks a rule, at the start of the step.
+pub fn before_the_step(refusal: &Refusal, run: &Run) -> Option<String> {
+    let index = (refusal.item as usize).checked_sub(1)?;
+    let link = match refusal.item_kind()? {
+        ItemKind::Link => index,
+        ItemKind::Movement => run.network.movements.get(index)?.from as usize - 1,
+        _ => return None,
+    };
+    run.refused_step()?;
+    let volumes = run.volumes.get(run.passed)?.get(link)?;
+    let state = run.states.get(run.passed)?.get(link)?;
+    Some(format!(
+        "at the step's start {} have entered link {} and {} have left it: {} queued, {} in transit",
+        show::vehicles(volumes.entered.into()),
+        link + 1,
+        show::vehicles(volumes.left.into()),
+        show::vehicles(state.queued.into()),
+        show::vehicles(state.in_transit.into()),
+    ))
+}
+
+#[cfg(test)]
+mod tests {
+    use super::*;
+    use plancheck::Reason;
+
+    #[test]
+    fn every_refusal_has_its_rows() {
+        for reason in Reason::ALL {
+            let row = row(reason.number()).unwrap_or_else(|| panic!("{reason:?}"));
+            assert!([row.meaning, row.remedy, row.tell, row.look_at]
+                .iter()
+                .all(|words| !words.is_empty()));
+        }
+        assert!(row(7).is_none());
+    }
+}

@@ -1,0 +1,194 @@
+//! Each command on the examples, on refused texts and with wrong arguments.
+
+use super::{corridor_with, example, scratch, workbench};
+use std::fs;
+
+#[test]
+fn usage_tells_the_commands_that_there_are() {
+    let said = workbench(&[]);
+    assert_eq!(said.status, 0);
+    for name in [
+        "check", "explain", "report", "states", "rank", "listing", "cells", "make",
+    ] {
+        assert!(said.out.contains(&format!("\n  {name} ")), "{name}");
+    }
+    assert_eq!(workbench(&["-h"]).out, said.out);
+}
+
+#[test]
+fn wrong_commands() {
+    let said = workbench(&["chek"]);
+    assert_eq!((said.status, said.out.as_str()), (2, ""));
+    assert!(said.err.contains("there is no command chek"));
+    for wrong in [
+        &["check"][..],
+        &["check", "a", "b"],
+        &["rank"],
+        &["rank", "--cvs", "a"],
+        &["make", "x", "y"],
+        &["make", "1"],
+        &["make", "1", "y", "--junctions", "8"],
+        &["make", "1", "y", "--steps", "121"],
+        &["make", "1", "y", "--plans"],
+        &["report"],
+        &["explain"],
+    ] {
+        let said = workbench(wrong);
+        assert_eq!(said.status, 2, "{wrong:?}");
+        assert!(said.err.contains("usage: workbench"), "{wrong:?}: {}", said.err);
+    }
+    assert!(workbench(&["check", "nowhere"])
+        .err
+        .contains("network.tsv was not read"));
+}
+
+#[test]
+fn check_accepts() {
+    let said = workbench(&["check", &example("corridor")]);
+    assert_eq!(said.status, 0);
+    assert_eq!(
+        said.out,
+        "accepted\nadmitted           5 vehicles\nlet out            5 vehicles\ninside at the end  0 vehicles\n\
+         travel time        120 vehicle seconds\n"
+    );
+}
+
+#[test]
+fn check_refuses() {
+    let folder = corridor_with("check_refuses", "plan.tsv", 1, "P\t1\t5000\t0\t0\t0\t3000");
+    let said = workbench(&["check", &folder]);
+    assert_eq!(said.status, 1);
+    assert_eq!(
+        said.out,
+        "refused with 17 in step 1 (line 1 of the plan text, seconds 0 to 10), link 1 (line 3 of the network text): \
+         more has left than has arrived\n"
+    );
+}
+
+#[test]
+fn explain_points_at_the_lines() {
+    let folder = corridor_with("explain_points", "plan.tsv", 2, "P\t1\t0\t0\t0\t0\t5001");
+    let said = workbench(&["explain", &folder]);
+    assert_eq!(said.status, 1);
+    for words in [
+        "refused with 26 in step 2 (line 2 of the plan text, seconds 10 to 20), movement 1 from link 1 to link 2 (line 5",
+        "  plan line 2: P 1 0 0 0 0 5001\n  network line 5: M 1 2 500 1000\n",
+        "at the step's start 5 have entered link 1 and 0 have left it: 0 queued, 5 in transit",
+        "tell the planner to look at the movement's volume",
+    ] {
+        assert!(said.out.contains(words), "{words}\n{}", said.out);
+    }
+}
+
+#[test]
+fn explain_what_cannot_be_drawn() {
+    let network = corridor_with("explain_network", "network.tsv", 4, "Q\tx");
+    let said = workbench(&["explain", &network]);
+    assert_eq!(said.status, 1);
+    assert!(said.out.starts_with("refused with 1 in line 4 of the network text: "));
+    assert!(said.out.contains("  network line 4: Q x\n"));
+
+    let surplus = corridor_with("explain_surplus", "plan.tsv", 4, "P\t2\t0\t0\t0\t2000\t0\nP");
+    let said = workbench(&["explain", &surplus]);
+    assert!(
+        said.out.starts_with("refused with 9 in line 5 of the plan text: "),
+        "{}",
+        said.out
+    );
+
+    let said = workbench(&["explain", &example("corridor")]);
+    assert_eq!(
+        (said.status, said.out.as_str()),
+        (0, "accepted: there is nothing to explain\n")
+    );
+}
+
+#[test]
+fn explain_a_number() {
+    let said = workbench(&["explain", "17"]);
+    assert_eq!(said.status, 0);
+    assert!(said
+        .out
+        .starts_with("refusal 17: more has left than has arrived\nits line is one of the plan text\n"));
+    assert!(!said.out.contains("below"));
+    let said = workbench(&["explain", "7"]);
+    assert_eq!(said.status, 2);
+    assert!(said.err.contains("no refusal has the number 7"));
+}
+
+#[test]
+fn states_of_the_corridor() {
+    let said = workbench(&["states", &example("corridor")]);
+    assert_eq!(said.status, 0);
+    assert_eq!(
+        said.out,
+        "boundary,second,link,queued,in_transit\n0,0,1,0,0\n0,0,2,0,0\n1,10,1,0,5000\n1,10,2,0,0\n2,20,1,2000,0\n\
+         2,20,2,0,3000\n3,30,1,0,0\n3,30,2,0,2000\n4,40,1,0,0\n4,40,2,0,0\n"
+    );
+    let refused = corridor_with("states_refused", "plan.tsv", 1, "P\t3\t0\t0\t0\t0\t0");
+    let said = workbench(&["states", &refused]);
+    assert_eq!((said.status, said.out.as_str()), (1, ""));
+    assert!(said.err.contains("refused with 10 in step 1"));
+}
+
+#[test]
+fn rank_sorts_by_travel_time() {
+    let folder = scratch("rank");
+    fs::copy(example("corridor/network.tsv"), folder.join("network.tsv")).unwrap();
+    fs::copy(example("corridor/plan.tsv"), folder.join("quick.tsv")).unwrap();
+    let slow = "P\t1\t5000\t0\t0\t0\t0\nP\t1\t0\t0\t0\t0\t3000\nP\t1\t0\t0\t0\t3000\t2000\nP\t2\t0\t0\t0\t0\t0\n";
+    fs::write(folder.join("a, slow.tsv"), slow).unwrap();
+    fs::write(folder.join("broken.tsv"), "P\t3\t0\t0\t0\t0\t0\n").unwrap();
+    let folder = folder.display().to_string();
+    let said = workbench(&["rank", "--csv", &folder]);
+    assert_eq!(said.status, 0);
+    assert_eq!(
+        said.out,
+        format!(
+            "plan,refusal,line,item,doubled_time,admitted,let_out,inside\n{folder}/quick.tsv,0,0,0,240000,5000,5000,0\n\
+             \"{folder}/a, slow.tsv\",0,0,0,260000,5000,3000,2000\n{folder}/broken.tsv,10,1,1,,,,\n"
+        )
+    );
+    let said = workbench(&["rank", &folder]);
+    let last_words = |line: &str| line.rsplit('/').next().unwrap().to_string();
+    let order: Vec<String> = said.out.lines().skip(1).map(last_words).collect();
+    assert_eq!(order, ["quick.tsv", "a, slow.tsv", "broken.tsv"]);
+    assert!(said.out.contains("refused with 10 in step 1"));
+}
+
+#[test]
+fn rank_takes_one_network() {
+    let said = workbench(&["rank", &example("corridor"), &example("avenue")]);
+    assert_eq!(said.status, 2);
+    assert!(said.err.contains("is another network"));
+}
+
+#[test]
+fn listing_writes_the_plan() {
+    let (network, listing) = (example("listing/network.tsv"), example("listing/listing.txt"));
+    let said = workbench(&["listing", &network, &listing]);
+    assert_eq!(said.status, 0);
+    assert_eq!(said.out, fs::read_to_string(example("listing/plan.tsv")).unwrap());
+
+    let wrong = scratch("listing").join("wrong.txt");
+    fs::write(&wrong, "i_1_1 0.5\ni_9_1 0.5\n").unwrap();
+    let said = workbench(&["listing", &network, &wrong.display().to_string()]);
+    assert_eq!((said.status, said.out.as_str()), (1, ""));
+    assert!(said.err.contains("refused with 22 in line 2 of the listing text"));
+}
+
+#[test]
+fn cells_run() {
+    let said = workbench(&["cells", &example("cells/corridor.tsv")]);
+    assert_eq!(said.status, 0);
+    assert!(said
+        .out
+        .starts_with("flow in   17 vehicles\nflow out  22 vehicles\ncell 1    0 vehicles\n"));
+    assert_eq!(said.out.lines().count(), 6);
+
+    let wrong = scratch("cells").join("wrong.tsv");
+    fs::write(&wrong, "C\t1\t1\t1\t2\n").unwrap();
+    let said = workbench(&["cells", &wrong.display().to_string()]);
+    assert_eq!(said.status, 1);
+    assert!(said.out.starts_with("refused with 37 in line 1 of the corridor text"));
+}

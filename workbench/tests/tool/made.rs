@@ -1,0 +1,105 @@
+//! Made corridors: the same for the same seed, accepted by the check, with traffic, trams and drivers who wait.
+
+use super::{scratch, workbench};
+use std::fs;
+use std::path::Path;
+
+fn make(seed: u32, folder: &Path, more: &[&str]) -> String {
+    let seed = seed.to_string();
+    let said = workbench(&[&["make", &seed, &folder.display().to_string()], more].concat());
+    assert_eq!(said.status, 0, "seed {seed}: {}", said.err);
+    said.out
+}
+
+#[test]
+fn seeds_are_accepted_and_have_traffic() {
+    let folder = scratch("made_seeds");
+    let (mut trams, mut inside_steps) = (0, 0);
+    for seed in 0..60 {
+        make(seed, &folder, &[]);
+        let said = workbench(&["check", &folder.display().to_string()]);
+        assert_eq!(said.status, 0, "seed {seed}: {}", said.out);
+        let let_out = said.out.lines().find_map(|line| line.strip_prefix("let out ")).unwrap();
+        assert!(!let_out.trim().starts_with("0 "), "seed {seed} lets nobody out");
+        let network = fs::read_to_string(folder.join("network.tsv")).unwrap();
+        trams += u32::from(network.contains("\nT\t"));
+        inside_steps += u32::from(network.lines().any(ends_inside_a_step));
+    }
+    assert!(trams > 10 && trams < 60, "{trams} of 60 have trams");
+    assert!(
+        inside_steps > 50,
+        "{inside_steps} of 60 have a travel time that is no multiple of 5 s"
+    );
+}
+
+fn ends_inside_a_step(line: &str) -> bool {
+    let fields: Vec<&str> = line.split('\t').collect();
+    fields[0] == "Q" && fields[2].parse::<u32>().unwrap() % 5 != 0
+}
+
+#[test]
+fn some_drivers_wait_outside() {
+    let folder = scratch("made_waiting");
+    let waits = |seed: u32| {
+        make(seed, &folder, &[]);
+        let page = workbench(&["report", &folder.display().to_string()]).out;
+        let (_, area) = page.split_once("<polygon class=\"outside\" points=\"").unwrap();
+        let points: Vec<&str> = area.split('"').next().unwrap().split(' ').collect();
+        // The area goes out along its upper edge and back along the lower one: they are the same where nobody waits.
+        let (upper, lower) = points.split_at(points.len() / 2);
+        upper
+            .iter()
+            .zip(lower.iter().rev())
+            .any(|(above, below)| above != below)
+    };
+    let count = (0..40).filter(|&seed| waits(seed)).count();
+    assert!(count > 3, "in {count} of 40 somebody waits");
+}
+
+#[test]
+fn the_same_seed_makes_the_same_texts() {
+    let (first, second) = (scratch("made_first"), scratch("made_second"));
+    make(9, &first, &["--plans", "3"]);
+    make(9, &second, &["--plans", "3"]);
+    for name in ["network.tsv", "plan.tsv", "plan-2.tsv", "plan-3.tsv"] {
+        assert_eq!(
+            fs::read(first.join(name)).unwrap(),
+            fs::read(second.join(name)).unwrap()
+        );
+    }
+    make(10, &second, &[]);
+    assert_ne!(
+        fs::read(first.join("plan.tsv")).unwrap(),
+        fs::read(second.join("plan.tsv")).unwrap()
+    );
+}
+
+#[test]
+fn sizes() {
+    let folder = scratch("made_sizes");
+    let out = make(1, &folder, &["--junctions", "7", "--steps", "120", "--plans", "2"]);
+    assert!(
+        out.starts_with("22 links, 7 signals, 28 movements, 120 steps, "),
+        "{out}"
+    );
+    let out = make(1, &folder, &["--junctions", "1", "--steps", "1"]);
+    assert!(
+        out.starts_with("4 links, 1 signals, 4 movements, 1 steps, 0 tram lines"),
+        "{out}"
+    );
+}
+
+#[test]
+fn plans_of_one_network_are_ranked() {
+    let folder = scratch("made_ranked");
+    make(3, &folder, &["--plans", "5"]);
+    let said = workbench(&["rank", "--csv", &folder.display().to_string()]);
+    let times: Vec<u64> = said
+        .out
+        .lines()
+        .skip(1)
+        .map(|line| line.split(',').nth(4).unwrap().parse().unwrap())
+        .collect();
+    assert_eq!(times.len(), 5);
+    assert!(times.is_sorted() && times[0] < times[4]);
+}
