@@ -20,6 +20,14 @@ pub fn cards(run: &Run, refusal: Option<&Refusal>) -> String {
             place + 1,
             escape(&about(run, place, link))
         );
+        if let Some((refusal, step)) = breaks.zip(run.refused_step()) {
+            let (number, meaning) = (refusal.number, refusal.meaning());
+            let _ = writeln!(
+                cards,
+                "<p class=\"broken-reason\">R {number} in step {step}: {}</p>",
+                escape(meaning)
+            );
+        }
         let _ = writeln!(
             cards,
             "<div class=\"pair\">{}{}</div>\n</section>",
@@ -150,7 +158,7 @@ fn frame(times: &[u32], most: u64) -> Frame {
     }
 }
 
-/// The step that is refused: on the link that breaks a rule, with the words.
+/// The step that is refused: on the link that breaks a rule, with the refusal's number.
 pub fn refused_span(run: &Run, frame: &Frame, times: &[u32], breaks: Option<&Refusal>) -> String {
     let Some(step) = run.refused_step() else {
         return String::new();
@@ -158,8 +166,8 @@ pub fn refused_span(run: &Run, frame: &Frame, times: &[u32], breaks: Option<&Ref
     let (from, to) = (times[step - 1], times[step]);
     match breaks {
         Some(refusal) => {
-            let words = format!("R {}: {}", refusal.number, refusal.meaning());
-            frame.span("broken-span", from, to) + &frame.words("broken-words", [from, to], 24.0, &words)
+            let name = format!("R {}", refusal.number);
+            frame.span("broken-span", from, to) + &frame.words("broken-words", [from, to], 24.0, &name)
         }
         None => frame.span("refused-span", from, to),
     }

@@ -81,7 +81,8 @@ fn a_link_that_breaks_a_rule() {
     assert!(page.contains("<section class=\"link broken-card\" id=\"link-2\">"));
     assert!(page.contains("<a href=\"#link-2\">"));
     assert_eq!(count(&page, "class=\"broken-span\""), 2);
-    assert_eq!(count(&page, "R 17: more has left than has arrived"), 2);
+    assert_eq!(count(&page, ">R 17</text>"), 2);
+    assert!(page.contains("<p class=\"broken-reason\">R 17 in step 3: more has left than has arrived</p>"));
     // what is let out of link 2, the one that is at fault, and its travel time
     assert!(page.contains("P 1 0 0 0 <mark>3001</mark> 2000"));
     assert!(page.contains("Q 60000 <mark>10</mark> 500 0 0 0"));
