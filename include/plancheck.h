@@ -63,7 +63,7 @@
  * A network needs PLANCHECK_LEDGER_LEN(L, K) numbers; PLANCHECK_LEDGER_MAX are enough for every network.
  *
  * DUTIES OF THE CALLER
- *   - No pointer is NULL, not even for length 0: then any aligned address will do.
+ *   - A pointer is not NULL, except where its length is 0: then NULL will do, and so will any aligned address.
  *   - A text pointer is readable for its length in bytes; a ledger pointer is aligned for uint32_t and is readable
  *     (and, for plancheck_check_plan, writable) for its length in numbers. The buffer of plancheck_plan_from_listing is
  *     writable for its length in bytes, and overlaps neither text.
@@ -82,11 +82,17 @@
  * K * (R + L + M), of a listing too, of a corridor with cells * demands, and of a step with vehicles * red lines.
  * The library needs memcpy and memset from the C library, at most.
  *
- * STACK
- * On x86-64, plancheck_check_plan takes at most 7,920 bytes, plancheck_check_network and plancheck_link_state each at
- * most 4,256 (docs/MEASUREMENTS.md; bench/run measures it). plancheck_plan_from_listing is for an engineer's machine, not
- * for a box: its tables take 65,824 bytes of stack.
- * plancheck_run_cells takes 2,208 bytes with its result, plancheck_step_vehicles its return address alone.
+ * MEMORY
+ * In bytes. The stack is that of x86-64, as painted (docs/MEASUREMENTS.md; bench/run measures it).
+ *     call                          stack     lent, beside what it reads
+ *     plancheck_check_network        4,240    nothing
+ *     plancheck_check_plan           7,920    the ledger: 4 * PLANCHECK_LEDGER_LEN(L, K), 23,232 at most
+ *     plancheck_link_state           4,256    nothing
+ *     plancheck_plan_from_listing   65,824    the buffer: PLANCHECK_WRITTEN_PLAN_MAX, 151,920, at most
+ *     plancheck_run_cells            2,208    nothing
+ *     plancheck_step_vehicles            8    nothing: the places are changed where they stand
+ * plancheck_plan_from_listing is for an engineer's machine, not for a box. The texts of a box are at most
+ * PLANCHECK_NETWORK_TEXT_MAX and PLANCHECK_PLAN_TEXT_MAX.
  *
  * ERRORS
  * A result has number 0 (PLANCHECK_OK), or the number of the first refusal in the order of judging, with the line and
@@ -294,6 +300,20 @@ typedef struct {
     uint64_t flow_out;                     /* volume that flowed out of the last cell in all steps */
     uint32_t volumes[PLANCHECK_MAX_CELLS]; /* of each cell after the last step; 0 past the cells */
 } plancheck_cells_result;
+
+/*
+ * The sizes that the library was built with, and where the padding is: a compiler that lays the structs out otherwise
+ * stops here.
+ */
+#define PLANCHECK_ASSERT(name, holds) typedef char plancheck_assert_##name[(holds) ? 1 : -1]
+PLANCHECK_ASSERT(network_result, sizeof(plancheck_network_result) == 12);
+PLANCHECK_ASSERT(plan_result, sizeof(plancheck_plan_result) == 48);
+PLANCHECK_ASSERT(plan_totals, offsetof(plancheck_plan_result, admitted) == 16);
+PLANCHECK_ASSERT(link_result, sizeof(plancheck_link_result) == 20);
+PLANCHECK_ASSERT(text_result, sizeof(plancheck_text_result) == (sizeof(size_t) == 8 ? 24 : 16));
+PLANCHECK_ASSERT(cells_result, sizeof(plancheck_cells_result) == 288);
+PLANCHECK_ASSERT(cells_flows, offsetof(plancheck_cells_result, flow_in) == 16);
+#undef PLANCHECK_ASSERT
 
 /*
  * Checks a network text. Refusals 1 to 6 and 28.

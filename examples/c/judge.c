@@ -9,9 +9,9 @@
 #include <inttypes.h>
 #include <stdio.h>
 
-/* One byte more than a file may have: it shows a file that is too long, or ends the text. */
-static uint8_t network[PLANCHECK_NETWORK_FILE_MAX + 1];
-static uint8_t plan[PLANCHECK_PLAN_FILE_MAX + 1];
+/* One byte more than a text that passes may have: it shows a text that is too long, or ends it. */
+static uint8_t network[PLANCHECK_NETWORK_TEXT_MAX + 1];
+static uint8_t plan[PLANCHECK_PLAN_TEXT_MAX + 1];
 static uint32_t ledger[PLANCHECK_LEDGER_MAX];
 
 static const char bad_form[] = "a line is missing, unfinished or surplus, or has a wrong letter, a bad number or a "
@@ -140,11 +140,11 @@ int main(int count, char **arguments)
     }
     size_t network_len, plan_len;
     if (!read_file(arguments[1], "network.tsv", network, sizeof network, &network_len)) {
-        fprintf(stderr, "network.tsv cannot be read, or is longer than %d bytes\n", PLANCHECK_NETWORK_FILE_MAX);
+        fprintf(stderr, "network.tsv cannot be read, or is longer than %d bytes\n", PLANCHECK_NETWORK_TEXT_MAX);
         return 2;
     }
     if (!read_file(arguments[1], "plan.tsv", plan, sizeof plan, &plan_len)) {
-        fprintf(stderr, "plan.tsv cannot be read, or is longer than %d bytes\n", PLANCHECK_PLAN_FILE_MAX);
+        fprintf(stderr, "plan.tsv cannot be read, or is longer than %d bytes\n", PLANCHECK_PLAN_TEXT_MAX);
         return 2;
     }
 
