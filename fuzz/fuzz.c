@@ -1,0 +1,332 @@
+/*
+ * fuzz EXAMPLES COUNT SEED: asks every call of the library COUNT times in all, with inputs made from the examples, each buffer between two pages that nothing may
+ * touch, and texts that nothing may write. Of every answer it is asked that
+ *   - it is the same wherever the buffers stand, and whatever the ledger or the buffer held before;
+ *   - its number is one that the call tells, and all else is 0 where it is not 0;
+ *   - only the rows of the boundaries that passed, or the bytes of the text that was written, have changed.
+ * Before that every pointer is NULL once, with length 0.
+ */
+#include "inputs.h"
+#include "plancheck.h"
+#include "region.h"
+
+#include <inttypes.h>
+#include <sanitizer/common_interface_defs.h>
+
+enum { EXAMPLES = 3, LEDGER_ROOM = 512, BUFFER_ROOM = 8192, DOUBLES_ROOM = 66 };
+
+static struct example examples[EXAMPLES];
+static struct text corridor;
+
+static struct region network_region, text_region, ledger_region, buffer_region, places_region, advances_region, lines_region;
+
+static uint64_t seed, input;
+
+static void tell_input(void)
+{
+    fprintf(stderr, "fuzz: seed %" PRIu64 ", input %" PRIu64 "\n", seed, input);
+}
+
+#define DEMAND(holds)                                                                                                                                          \
+    do {                                                                                                                                                       \
+        if (!(holds)) {                                                                                                                                        \
+            tell_input();                                                                                                                                      \
+            stop("does not hold: " #holds);                                                                                                                    \
+        }                                                                                                                                                      \
+    } while (0)
+
+/* How often each number was told. */
+static uint64_t told[40];
+
+static void count_number(uint32_t number)
+{
+    DEMAND(number < sizeof told / sizeof told[0] && number != 7);
+    told[number]++;
+}
+
+static int is_network_number(uint32_t number)
+{
+    return (number >= 1 && number <= 6) || number == 28;
+}
+
+static int is_plan_number(uint32_t number)
+{
+    return is_network_number(number) || (number >= 8 && number <= 18) || (number >= 25 && number <= 27) || number == 29;
+}
+
+/* A network, some with a tram; half of them undamaged, so that a plan is reached. */
+static void some_network(const struct example *example, struct text *network)
+{
+    *network = example->network;
+    if (below(4) == 0)
+        add_tram(network);
+    if (below(2) == 0)
+        damage(network);
+}
+
+static plancheck_network_result ask_network(const struct text *network, int at_end)
+{
+    return plancheck_check_network(lend(network_region, network->bytes, network->length, at_end), network->length);
+}
+
+static void try_network(void)
+{
+    static struct text network;
+    some_network(&examples[below(EXAMPLES)], &network);
+    plancheck_network_result first = ask_network(&network, 1), second = ask_network(&network, 0);
+    DEMAND(memcmp(&first, &second, sizeof first) == 0);
+    DEMAND(first.number == 0 ? first.line == 0 && first.item == 0 : is_network_number(first.number) && first.line != 0);
+    count_number(first.number);
+}
+
+/* A ledger of so many numbers, each of them `before`. */
+static uint32_t *some_ledger(size_t numbers, uint32_t before, int at_end)
+{
+    uint32_t *ledger = place(ledger_region, 4 * numbers, at_end);
+    for (size_t k = 0; k < numbers; k++)
+        ledger[k] = before;
+    return ledger;
+}
+
+static plancheck_plan_result ask_plan(const struct text *network, const struct text *plan, uint32_t *ledger, size_t numbers, int at_end)
+{
+    const uint8_t *network_lent = lend(network_region, network->bytes, network->length, at_end);
+    const uint8_t *plan_lent = lend(text_region, plan->bytes, plan->length, at_end);
+    return plancheck_check_plan(network_lent, network->length, plan_lent, plan->length, ledger, numbers);
+}
+
+static int same_plan_result(const plancheck_plan_result *a, const plancheck_plan_result *b)
+{
+    return a->number == b->number && a->line == b->line && a->item == b->item && a->admitted == b->admitted && a->let_out == b->let_out &&
+           a->inside == b->inside && a->doubled_time == b->doubled_time;
+}
+
+/* The links and steps of a network that passes. */
+static void counts_of(const struct text *network, uint32_t *links, uint32_t *steps)
+{
+    char line[64] = {0};
+    memcpy(line, network->bytes, network->length < sizeof line - 1 ? network->length : sizeof line - 1);
+    DEMAND(sscanf(line, "N\t%" SCNu32 "\t%*u\t%*u\t%" SCNu32, links, steps) == 2);
+}
+
+/* How many numbers of the ledger a call may have written. */
+static size_t written_numbers(const struct text *network, const plancheck_plan_result *result)
+{
+    if (is_network_number(result->number) || result->number == PLANCHECK_LEDGER_TOO_SHORT)
+        return 0;
+    uint32_t links, steps;
+    counts_of(network, &links, &steps);
+    uint32_t rows = result->number == 0 || result->line > steps ? steps + 1 : result->line;
+    return 2 * (size_t)links * rows;
+}
+
+static void try_plan(void)
+{
+    const struct example *example = &examples[below(EXAMPLES)];
+    static struct text network, plan;
+    some_network(example, &network);
+    plan = example->plan;
+    damage(&plan);
+    if (below(20) == 0)
+        plan.length = 0;
+    size_t numbers = below(10) == 0 ? below(LEDGER_ROOM) : LEDGER_ROOM;
+    uint32_t *ledger = some_ledger(numbers, 0xaaaaaaaau, 1);
+    plancheck_plan_result first = ask_plan(&network, &plan, ledger, numbers, 1);
+    uint32_t kept[LEDGER_ROOM];
+    memcpy(kept, ledger, 4 * numbers);
+
+    ledger = some_ledger(numbers, 0x55555555u, 0);
+    plancheck_plan_result second = ask_plan(&network, &plan, ledger, numbers, 0);
+    DEMAND(same_plan_result(&first, &second));
+    size_t written = written_numbers(&network, &first);
+    DEMAND(written <= numbers);
+    for (size_t k = 0; k < numbers; k++)
+        DEMAND(k < written ? kept[k] == ledger[k] : kept[k] == 0xaaaaaaaau && ledger[k] == 0x55555555u);
+    if (first.number != 0) {
+        DEMAND(is_plan_number(first.number));
+        DEMAND(first.admitted == 0 && first.let_out == 0 && first.inside == 0 && first.doubled_time == 0);
+    }
+    count_number(first.number);
+}
+
+static plancheck_link_result ask_link(const struct text *network, const uint32_t *numbers, size_t count, uint32_t boundary, uint32_t link, int at_end)
+{
+    const uint8_t *network_lent = lend(network_region, network->bytes, network->length, at_end);
+    const uint32_t *ledger = lend(ledger_region, numbers, 4 * count, at_end);
+    return plancheck_link_state(network_lent, network->length, ledger, count, boundary, link);
+}
+
+static void try_link(void)
+{
+    const struct example *example = &examples[below(EXAMPLES)];
+    static struct text network;
+    some_network(example, &network);
+    size_t count = below(10) == 0 ? below(LEDGER_ROOM) : LEDGER_ROOM;
+    uint32_t numbers[LEDGER_ROOM] = {0};
+    set_writable(ledger_region);
+    if (below(2) == 0)
+        ask_plan(&network, &example->plan, numbers, LEDGER_ROOM, 1);
+    for (uint32_t times = below(4); times != 0; times--)
+        numbers[below(LEDGER_ROOM)] = below(10000);
+    uint32_t boundary = below(20) == 0 ? UINT32_MAX : below(30), link = below(20) == 0 ? UINT32_MAX : below(12);
+    plancheck_link_result first = ask_link(&network, numbers, count, boundary, link, 1);
+    plancheck_link_result second = ask_link(&network, numbers, count, boundary, link, 0);
+    set_writable(ledger_region);
+    DEMAND(memcmp(&first, &second, sizeof first) == 0);
+    if (first.number != 0) {
+        DEMAND(is_network_number(first.number) || first.number == 8 || (first.number >= 19 && first.number <= 21));
+        DEMAND(first.queued == 0 && first.in_transit == 0);
+    }
+    count_number(first.number);
+}
+
+static plancheck_text_result ask_listing(const struct text *network, const struct text *listing, uint8_t *buffer, size_t room, int at_end)
+{
+    const uint8_t *network_lent = lend(network_region, network->bytes, network->length, at_end);
+    const uint8_t *listing_lent = lend(text_region, listing->bytes, listing->length, at_end);
+    return plancheck_plan_from_listing(network_lent, network->length, listing_lent, listing->length, buffer, room);
+}
+
+static void try_listing(void)
+{
+    const struct example *example = &examples[below(EXAMPLES)];
+    static struct text network, listing;
+    some_network(example, &network);
+    listing = example->listing;
+    damage(&listing);
+    size_t room = below(4) == 0 ? below(BUFFER_ROOM) : BUFFER_ROOM;
+    uint8_t *buffer = place(buffer_region, room, 1), kept[BUFFER_ROOM];
+    memset(buffer, 0xaa, room);
+    plancheck_text_result first = ask_listing(&network, &listing, buffer, room, 1);
+    memcpy(kept, buffer, room);
+    buffer = place(buffer_region, room, 0);
+    memset(buffer, 0x55, room);
+    plancheck_text_result second = ask_listing(&network, &listing, buffer, room, 0);
+    DEMAND(first.number == second.number && first.line == second.line && first.item == second.item && first.length == second.length);
+    DEMAND(first.number == 0 ? first.length <= room : first.length == 0);
+    for (size_t k = 0; k < room; k++)
+        DEMAND(k < first.length ? kept[k] == buffer[k] : kept[k] == 0xaa && buffer[k] == 0x55);
+    DEMAND(first.number == 0 || is_network_number(first.number) || (first.number >= 22 && first.number <= 24));
+    count_number(first.number);
+}
+
+static plancheck_cells_result ask_cells(const struct text *text, int at_end)
+{
+    return plancheck_run_cells(lend(text_region, text->bytes, text->length, at_end), text->length);
+}
+
+static void try_cells(void)
+{
+    static struct text text;
+    text = corridor;
+    damage(&text);
+    plancheck_cells_result first = ask_cells(&text, 1), second = ask_cells(&text, 0);
+    DEMAND(memcmp(&first, &second, sizeof first) == 0);
+    DEMAND(first.number == 0 || first.number == 36 || first.number == 37);
+    DEMAND(first.number == 0 ? first.cells >= 1 && first.cells <= PLANCHECK_MAX_CELLS : first.cells == 0 && first.flow_in == 0 && first.flow_out == 0);
+    for (uint32_t k = first.cells; k < PLANCHECK_MAX_CELLS; k++)
+        DEMAND(first.volumes[k] == 0);
+    count_number(first.number);
+}
+
+/* A few, so that most steps pass, or about as many as are taken. */
+static size_t some_count(void)
+{
+    return below(4) == 0 ? 60 + below(7) : below(6);
+}
+
+static void fill(double *doubles, size_t count)
+{
+    for (size_t k = 0; k < count; k++)
+        doubles[k] = some_double();
+}
+
+static void try_vehicles(void)
+{
+    size_t vehicles = some_count(), advances = below(10) == 0 ? some_count() : vehicles, lines = some_count();
+    double before[DOUBLES_ROOM], advance[DOUBLES_ROOM], line[DOUBLES_ROOM], spacing = some_double(), after[2][DOUBLES_ROOM];
+    fill(before, vehicles);
+    fill(advance, advances);
+    fill(line, lines);
+    plancheck_network_result result[2];
+    for (int at_end = 0; at_end < 2; at_end++) {
+        double *places = place(places_region, sizeof(double) * vehicles, at_end);
+        memcpy(places, before, sizeof(double) * vehicles);
+        const double *advances_lent = lend(advances_region, advance, sizeof(double) * advances, at_end);
+        const double *lines_lent = lend(lines_region, line, sizeof(double) * lines, at_end);
+        result[at_end] = plancheck_step_vehicles(places, vehicles, advances_lent, advances, lines_lent, lines, spacing);
+        memcpy(after[at_end], places, sizeof(double) * vehicles);
+    }
+    DEMAND(memcmp(&result[0], &result[1], sizeof result[0]) == 0);
+    DEMAND(memcmp(after[0], after[1], sizeof(double) * vehicles) == 0);
+    DEMAND(result[0].line == 0 && result[0].item == 0);
+    if (result[0].number != 0) {
+        DEMAND(result[0].number == 38 || result[0].number == 39);
+        DEMAND(memcmp(after[0], before, sizeof(double) * vehicles) == 0);
+    }
+    count_number(result[0].number);
+}
+
+/* NULL will do for every pointer whose length is 0. */
+static void try_null(void)
+{
+    const struct text *network = &examples[0].network, *plan = &examples[0].plan;
+    static uint32_t ledger[PLANCHECK_LEDGER_MAX];
+    DEMAND(plancheck_check_network(NULL, 0).number == 1);
+    DEMAND(plancheck_check_plan(NULL, 0, NULL, 0, NULL, 0).number == 1);
+    DEMAND(plancheck_check_plan(network->bytes, network->length, plan->bytes, plan->length, NULL, 0).number == 8);
+    DEMAND(plancheck_check_plan(network->bytes, network->length, NULL, 0, ledger, PLANCHECK_LEDGER_MAX).number == 13);
+    DEMAND(plancheck_link_state(NULL, 0, NULL, 0, 0, 1).number == 1);
+    DEMAND(plancheck_link_state(network->bytes, network->length, NULL, 0, 0, 1).number == 8);
+    DEMAND(plancheck_plan_from_listing(NULL, 0, NULL, 0, NULL, 0).number == 1);
+    DEMAND(plancheck_plan_from_listing(network->bytes, network->length, NULL, 0, NULL, 0).number == 24);
+    static uint8_t buffer[PLANCHECK_WRITTEN_PLAN_MAX];
+    DEMAND(plancheck_plan_from_listing(network->bytes, network->length, NULL, 0, buffer, sizeof buffer).number == 0);
+    DEMAND(plancheck_run_cells(NULL, 0).number == 36);
+    double place = 1.0;
+    const double advance = 1.0;
+    DEMAND(plancheck_step_vehicles(NULL, 0, NULL, 0, NULL, 0, 0.0).number == 0);
+    DEMAND(plancheck_step_vehicles(&place, 1, &advance, 1, NULL, 0, 0.0).number == 0 && place == 2.0);
+    DEMAND(plancheck_step_vehicles(&place, 1, NULL, 0, NULL, 0, 0.0).number == 39);
+    printf("NULL with length 0: every pointer of every call\n");
+}
+
+int main(int count, char **arguments)
+{
+    if (count != 4) {
+        fprintf(stderr, "usage: fuzz EXAMPLES COUNT SEED\n");
+        return 2;
+    }
+    static const char *const folders[EXAMPLES] = {"corridor", "avenue", "listing"};
+    char folder[4096];
+    for (int k = 0; k < EXAMPLES; k++) {
+        snprintf(folder, sizeof folder, "%s/%s", arguments[1], folders[k]);
+        read_example(&examples[k].network, folder, "network.tsv");
+        read_example(&examples[k].plan, folder, "plan.tsv");
+        snprintf(folder, sizeof folder, "%s/listing", arguments[1]);
+        read_example(&examples[k].listing, folder, "listing.txt");
+    }
+    snprintf(folder, sizeof folder, "%s/cells", arguments[1]);
+    read_example(&corridor, folder, "corridor.tsv");
+    uint64_t inputs = strtoull(arguments[2], NULL, 10);
+    seed = strtoull(arguments[3], NULL, 10);
+    set_seed(seed);
+    __sanitizer_set_death_callback(tell_input);
+    network_region = new_region(TEXT_MAX);
+    text_region = new_region(TEXT_MAX);
+    ledger_region = new_region(4 * LEDGER_ROOM);
+    buffer_region = new_region(BUFFER_ROOM);
+    places_region = new_region(sizeof(double) * DOUBLES_ROOM);
+    advances_region = new_region(sizeof(double) * DOUBLES_ROOM);
+    lines_region = new_region(sizeof(double) * DOUBLES_ROOM);
+
+    try_null();
+    static void (*const calls[])(void) = {try_network, try_plan, try_plan, try_link, try_listing, try_cells, try_vehicles};
+    for (input = 0; input < inputs; input++)
+        calls[below(sizeof calls / sizeof calls[0])]();
+    for (uint32_t number = 0; number < sizeof told / sizeof told[0]; number++)
+        if (told[number] != 0)
+            printf("%" PRIu32 "\t%" PRIu64 "\n", number, told[number]);
+    printf("%" PRIu64 " inputs, each asked twice: nothing wrong\n", inputs);
+    return 0;
+}
