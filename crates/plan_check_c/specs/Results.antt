@@ -10,11 +10,15 @@ use Rattle.model.specs.declared.PlanAnswer.{PlanAnswer}
 use Rattle.model.specs.declared.PlanAnswer.the-variants as plan-answer
 use Rattle.model.specs.declared.LinkAnswer.{LinkAnswer}
 use Rattle.model.specs.declared.LinkAnswer.the-variants as link-answer
+use Rattle.network_counts.specs.declared.CountsAnswer.{CountsAnswer}
+use Rattle.network_counts.specs.declared.CountsAnswer.the-variants as counts-answer
 use Rattle.listing.specs.declared.ListingAnswer.{ListingAnswer}
 use Rattle.listing.specs.declared.ListingAnswer.the-variants as listing-answer
 use Rattle.cells.specs.declared.CellsAnswer.{CellsAnswer}
 use Rattle.cells.specs.declared.CellsAnswer.the-variants as cells-answer
 use Rattle.plan_check_c.specs.declared.NetworkResult.{NetworkResult}
+use Rattle.plan_check_c.specs.declared.CountsResult.{CountsResult}
+use Rattle.plan_check_c.specs.declared.VersionResult.{VersionResult}
 use Rattle.plan_check_c.specs.declared.PlanResult.{PlanResult}
 use Rattle.plan_check_c.specs.declared.LinkResult.{LinkResult}
 use Rattle.plan_check_c.specs.declared.TextResult.{TextResult}
@@ -27,6 +31,16 @@ verdictResult (Refused r) = record { number = r .number; line = r .line; item = 
 -- the verdict that a C caller reads off: number 0 passes, any other is a refusal
 abbrev pub verdictOf : NetworkResult → Verdict
 verdictOf r = cond (eqb (r .number) 0) Passes (Refused (refusal (r .number) (r .line) (r .item)))
+
+abbrev pub countsResult : CountsAnswer → CountsResult
+countsResult (counts-answer.Counted links signals movements steps trams) =
+    record { number = 0; line = 0; item = 0; links = links; signals = signals; movements = movements; steps = steps; trams = trams }
+countsResult (counts-answer.Refused r) =
+    record { number = r .number; line = r .line; item = r .item; links = 0; signals = 0; movements = 0; steps = 0; trams = 0 }
+
+-- the version of the calls, of their answers and of the texts (CHANGELOG.md)
+abbrev pub version : VersionResult
+version = record { major = 0; minor = 1; patch = 0 }
 
 abbrev pub planResult : PlanAnswer → PlanResult
 planResult (plan-answer.Accepted t) =

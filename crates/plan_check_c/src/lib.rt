@@ -12,11 +12,13 @@ ghost use Rattle.cells.specs.Call.{runCells, finalVolumes, RunKeeps};
 ghost use Rattle.listing_lines.specs.Entry.{entries};
 ghost use Rattle.listing.specs.Listing.{planFromListing};
 ghost use Rattle.listing.specs.ReadsBack.{PlanGot};
-ghost use Rattle.plan_check_c.specs.Results.{verdictResult, verdictOf, planResult, planAnswerOf, linkResult, textResult, listingAnswerOf, cellsResult, cellsAnswerOf};
+ghost use Rattle.network_counts.specs.Counting.{countNetwork};
+ghost use Rattle.plan_check_c.specs.Results.{verdictResult, verdictOf, countsResult, version, planResult, planAnswerOf, linkResult, textResult, listingAnswerOf, cellsResult, cellsAnswerOf};
 use cells::CellsAnswer;
 use listing::ListingAnswer;
 use model::LinkAnswer;
 use model::PlanAnswer;
+use network_counts::CountsAnswer;
 use search::Verdict;
 
 // The answer of a network's check or of a step of vehicles; number 0: the network is valid, the vehicles have moved.
@@ -25,6 +27,27 @@ pub struct NetworkResult {
     pub number: u32,
     pub line: u32,
     pub item: u32,
+}
+
+// What a network has; number 0: it is valid, with these counts.
+#[repr(C)]
+pub struct CountsResult {
+    pub number: u32,
+    pub line: u32,
+    pub item: u32,
+    pub links: u32,
+    pub signals: u32,
+    pub movements: u32,
+    pub steps: u32,
+    pub trams: u32,
+}
+
+// The version of the calls, of their answers and of the texts.
+#[repr(C)]
+pub struct VersionResult {
+    pub major: u32,
+    pub minor: u32,
+    pub patch: u32,
 }
 
 // The answer of a plan's check; number 0: the plan is accepted, with these totals.
@@ -92,6 +115,52 @@ fn verdict_result(verdict: Verdict) -> NetworkResult
             line: refusal.line,
             item: refusal.item,
         },
+    }
+}
+
+#[no_mangle]
+pub extern "C" fn plancheck_network_counts(network: &[u8]) -> CountsResult
+    ensures { λ r. ⌜ r ≡ countsResult (countNetwork (lines (now (network .entry)))) ⌝ }
+    ensures { λ r. ⌜ r .number ≢ 7 ⌝ }
+{
+    match network_counts::count_network(network) {
+        CountsAnswer::Counted {
+            links,
+            signals,
+            movements,
+            steps,
+            trams,
+        } => CountsResult {
+            number: 0,
+            line: 0,
+            item: 0,
+            links,
+            signals,
+            movements,
+            steps,
+            trams,
+        },
+        CountsAnswer::Refused(r) => CountsResult {
+            number: r.number,
+            line: r.line,
+            item: r.item,
+            links: 0,
+            signals: 0,
+            movements: 0,
+            steps: 0,
+            trams: 0,
+        },
+    }
+}
+
+#[no_mangle]
+pub extern "C" fn plancheck_version() -> VersionResult
+    ensures { λ r. ⌜ r ≡ version ⌝ }
+{
+    VersionResult {
+        major: 0,
+        minor: 1,
+        patch: 0,
     }
 }
 
