@@ -5,6 +5,7 @@
  * beside stack CALL FILE..    prints the bytes of stack that the call uses
  *
  * CALL and its files:
+ *     network_counts NETWORK
  *     plan_from_listing NETWORK LISTING
  *     run_cells CORRIDOR
  *     step_vehicles PLACES ADVANCES RED_LINES      doubles in the machine's order
@@ -24,12 +25,18 @@ static uint8_t plan[PLANCHECK_WRITTEN_PLAN_MAX];
 static double places[PLANCHECK_MAX_VEHICLES];
 static double advances[PLANCHECK_MAX_VEHICLES];
 static double red_lines[PLANCHECK_MAX_RED_LINES];
+static plancheck_counts_result counted;
 static plancheck_text_result written;
 static plancheck_cells_result ran;
 static plancheck_network_result stepped;
 
 static void nothing(void)
 {
+}
+
+static void network_counts(void)
+{
+    counted = plancheck_network_counts(texts[0].bytes, texts[0].length);
 }
 
 static void plan_from_listing(void)
@@ -65,6 +72,7 @@ static const struct measured {
     void (*call)(void);
     const uint32_t *number, *line, *item;
 } CALLS[] = {
+    {"network_counts", 1, network_counts, &counted.number, &counted.line, &counted.item},
     {"plan_from_listing", 2, plan_from_listing, &written.number, &written.line, &written.item},
     {"run_cells", 1, run_cells, &ran.number, &ran.line, &ran.item},
     {"step_vehicles", 3, step_vehicles, &stepped.number, &stepped.line, &stepped.item},

@@ -79,6 +79,26 @@ static void try_network(void)
     count_number(first.number);
 }
 
+static void try_counts(void)
+{
+    static struct text network;
+    some_network(&examples[below(EXAMPLES)], &network);
+    plancheck_network_result checked = ask_network(&network, 1);
+    plancheck_counts_result counts[2];
+    for (int at_end = 0; at_end < 2; at_end++)
+        counts[at_end] = plancheck_network_counts(lend(network_region, network.bytes, network.length, at_end), network.length);
+    DEMAND(memcmp(&counts[0], &counts[1], sizeof counts[0]) == 0);
+    DEMAND(counts[0].number == checked.number && counts[0].line == checked.line && counts[0].item == checked.item);
+    if (checked.number == 0) {
+        DEMAND(counts[0].links >= 1 && counts[0].links <= PLANCHECK_MAX_LINKS && counts[0].signals <= PLANCHECK_MAX_SIGNALS);
+        DEMAND(counts[0].movements <= PLANCHECK_MAX_MOVEMENTS && counts[0].trams <= PLANCHECK_MAX_TRAMS);
+        DEMAND(counts[0].steps >= 1 && counts[0].steps <= PLANCHECK_MAX_STEPS);
+    } else {
+        DEMAND(counts[0].links == 0 && counts[0].signals == 0 && counts[0].movements == 0 && counts[0].steps == 0 && counts[0].trams == 0);
+    }
+    count_number(counts[0].number);
+}
+
 /* A ledger of so many numbers, each of them `before`. */
 static uint32_t *some_ledger(size_t numbers, uint32_t before, int at_end)
 {
@@ -101,23 +121,14 @@ static int same_plan_result(const plancheck_plan_result *a, const plancheck_plan
            a->inside == b->inside && a->doubled_time == b->doubled_time;
 }
 
-/* The links and steps of a network that passes. */
-static void counts_of(const struct text *network, uint32_t *links, uint32_t *steps)
-{
-    char line[64] = {0};
-    memcpy(line, network->bytes, network->length < sizeof line - 1 ? network->length : sizeof line - 1);
-    DEMAND(sscanf(line, "N\t%" SCNu32 "\t%*u\t%*u\t%" SCNu32, links, steps) == 2);
-}
-
 /* How many numbers of the ledger a call may have written. */
 static size_t written_numbers(const struct text *network, const plancheck_plan_result *result)
 {
     if (is_network_number(result->number) || result->number == PLANCHECK_LEDGER_TOO_SHORT)
         return 0;
-    uint32_t links, steps;
-    counts_of(network, &links, &steps);
-    uint32_t rows = result->number == 0 || result->line > steps ? steps + 1 : result->line;
-    return 2 * (size_t)links * rows;
+    plancheck_counts_result counts = plancheck_network_counts(network->bytes, network->length);
+    uint32_t rows = result->number == 0 || result->line > counts.steps ? counts.steps + 1 : result->line;
+    return 2 * (size_t)counts.links * rows;
 }
 
 static void try_plan(void)
@@ -273,6 +284,7 @@ static void try_null(void)
     const struct text *network = &examples[0].network, *plan = &examples[0].plan;
     static uint32_t ledger[PLANCHECK_LEDGER_MAX];
     DEMAND(plancheck_check_network(NULL, 0).number == 1);
+    DEMAND(plancheck_network_counts(NULL, 0).number == 1);
     DEMAND(plancheck_check_plan(NULL, 0, NULL, 0, NULL, 0).number == 1);
     DEMAND(plancheck_check_plan(network->bytes, network->length, plan->bytes, plan->length, NULL, 0).number == 8);
     DEMAND(plancheck_check_plan(network->bytes, network->length, NULL, 0, ledger, PLANCHECK_LEDGER_MAX).number == 13);
@@ -320,8 +332,10 @@ int main(int count, char **arguments)
     advances_region = new_region(sizeof(double) * DOUBLES_ROOM);
     lines_region = new_region(sizeof(double) * DOUBLES_ROOM);
 
+    plancheck_version_result version = plancheck_version();
+    DEMAND(version.major == PLANCHECK_VERSION_MAJOR && version.minor == PLANCHECK_VERSION_MINOR && version.patch == PLANCHECK_VERSION_PATCH);
     try_null();
-    static void (*const calls[])(void) = {try_network, try_plan, try_plan, try_link, try_listing, try_cells, try_vehicles};
+    static void (*const calls[])(void) = {try_network, try_counts, try_plan, try_plan, try_link, try_listing, try_cells, try_vehicles};
     for (input = 0; input < inputs; input++)
         calls[below(sizeof calls / sizeof calls[0])]();
     for (uint32_t number = 0; number < sizeof told / sizeof told[0]; number++)

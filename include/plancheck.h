@@ -2,8 +2,8 @@
  * plancheck.h: the plan check library (libplan_check_c.a).
  *
  * Decides whether a traffic-signal plan may run on a network under the Queue Transmission Model, and what travel time
- * it gives. Calls: check a network, check a plan, and the state of one link; beside them, a plan from a solver's listing,
- * a run of a corridor in cells, and a step of vehicles along a street.
+ * it gives. Calls: check a network, what it has, check a plan, and the state of one link; beside them, a plan from a
+ * solver's listing, a run of a corridor in cells, and a step of vehicles along a street.
  *
  *     static uint32_t ledger[PLANCHECK_LEDGER_MAX];
  *
@@ -86,11 +86,13 @@
  * In bytes. The stack is that of x86-64, as painted (docs/MEASUREMENTS.md; bench/run measures it).
  *     call                          stack     lent, beside what it reads
  *     plancheck_check_network        4,240    nothing
+ *     plancheck_network_counts       4,272    nothing
  *     plancheck_check_plan           7,920    the ledger: 4 * PLANCHECK_LEDGER_LEN(L, K), 23,232 at most
  *     plancheck_link_state           4,256    nothing
  *     plancheck_plan_from_listing   65,824    the buffer: PLANCHECK_WRITTEN_PLAN_MAX, 151,920, at most
  *     plancheck_run_cells            2,208    nothing
  *     plancheck_step_vehicles            8    nothing: the places are changed where they stand
+ *     plancheck_version                  8    nothing
  * plancheck_plan_from_listing is for an engineer's machine, not for a box. The texts of a box are at most
  * PLANCHECK_NETWORK_TEXT_MAX and PLANCHECK_PLAN_TEXT_MAX.
  *
@@ -111,7 +113,7 @@
 extern "C" {
 #endif
 
-/* The version of the calls, of their answers and of the texts (CHANGELOG.md). */
+/* The version of the calls, of their answers and of the texts (CHANGELOG.md); plancheck_version tells the library's. */
 #define PLANCHECK_VERSION_MAJOR 0
 #define PLANCHECK_VERSION_MINOR 1
 #define PLANCHECK_VERSION_PATCH 0
@@ -260,6 +262,25 @@ typedef struct {
     uint32_t item;
 } plancheck_network_result;
 
+/* Answer of plancheck_network_counts. 32 bytes. */
+typedef struct {
+    uint32_t number; /* PLANCHECK_OK: the network is valid, with these counts */
+    uint32_t line;
+    uint32_t item;
+    uint32_t links;
+    uint32_t signals;
+    uint32_t movements;
+    uint32_t steps;
+    uint32_t trams; /* tram lines */
+} plancheck_counts_result;
+
+/* Answer of plancheck_version. 12 bytes. */
+typedef struct {
+    uint32_t major;
+    uint32_t minor;
+    uint32_t patch;
+} plancheck_version_result;
+
 /* Answer of plancheck_check_plan. 48 bytes, of which the 4 after item are padding. */
 typedef struct {
     uint32_t number; /* PLANCHECK_OK: the plan is accepted */
@@ -307,6 +328,8 @@ typedef struct {
  */
 #define PLANCHECK_ASSERT(name, holds) typedef char plancheck_assert_##name[(holds) ? 1 : -1]
 PLANCHECK_ASSERT(network_result, sizeof(plancheck_network_result) == 12);
+PLANCHECK_ASSERT(counts_result, sizeof(plancheck_counts_result) == 32);
+PLANCHECK_ASSERT(version_result, sizeof(plancheck_version_result) == 12);
 PLANCHECK_ASSERT(plan_result, sizeof(plancheck_plan_result) == 48);
 PLANCHECK_ASSERT(plan_totals, offsetof(plancheck_plan_result, admitted) == 16);
 PLANCHECK_ASSERT(link_result, sizeof(plancheck_link_result) == 20);
@@ -316,11 +339,24 @@ PLANCHECK_ASSERT(cells_flows, offsetof(plancheck_cells_result, flow_in) == 16);
 #undef PLANCHECK_ASSERT
 
 /*
+ * Tells the version of the library that is linked: PLANCHECK_VERSION_MAJOR, _MINOR and _PATCH of its own header.
+ */
+plancheck_version_result plancheck_version(void);
+
+/*
  * Checks a network text. Refusals 1 to 6 and 28.
  *
  * Reads network[0 .. network_len - 1]. Writes nothing.
  */
 plancheck_network_result plancheck_check_network(const uint8_t *network, size_t network_len);
+
+/*
+ * Checks a network text and tells what a valid one has: links, signals, movements, steps and tram lines, as its N line
+ * says. Refusals 1 to 6 and 28. A ledger of PLANCHECK_LEDGER_LEN(links, steps) numbers is enough for it.
+ *
+ * Reads network[0 .. network_len - 1]. Writes nothing.
+ */
+plancheck_counts_result plancheck_network_counts(const uint8_t *network, size_t network_len);
 
 /*
  * Checks a plan on a network, and fills the ledger. Refusals 1 to 6, 8 to 18 and 25 to 29: those of the network (1 to 6 and

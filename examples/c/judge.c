@@ -138,6 +138,11 @@ int main(int count, char **arguments)
         fprintf(stderr, "usage: judge FOLDER\n");
         return 2;
     }
+    plancheck_version_result version = plancheck_version();
+    if (version.major != PLANCHECK_VERSION_MAJOR || version.minor != PLANCHECK_VERSION_MINOR) {
+        fprintf(stderr, "the library is of another version than the header\n");
+        return 2;
+    }
     size_t network_len, plan_len;
     if (!read_file(arguments[1], "network.tsv", network, sizeof network, &network_len)) {
         fprintf(stderr, "network.tsv cannot be read, or is longer than %d bytes\n", PLANCHECK_NETWORK_TEXT_MAX);
@@ -155,11 +160,8 @@ int main(int count, char **arguments)
         return 1;
     }
     print_totals(&result);
-    /* The network has passed, so its first line has these counts. */
-    unsigned links, steps;
-    if (sscanf((const char *)network, "N\t%u\t%*u\t%*u\t%u", &links, &steps) == 2) {
-        print_ledger(links, steps);
-        print_states(network_len, links, steps);
-    }
+    plancheck_counts_result counts = plancheck_network_counts(network, network_len);
+    print_ledger(counts.links, counts.steps);
+    print_states(network_len, counts.links, counts.steps);
     return 0;
 }

@@ -4,6 +4,7 @@
 #![warn(clippy::pedantic)]
 
 mod cells;
+mod counts;
 mod ledger;
 mod library;
 mod listing;
@@ -11,6 +12,7 @@ mod refusal;
 mod traces;
 
 pub use cells::{run_cells, CellsRun, MAX_CELLS};
+pub use counts::{library_version, network_counts, Counts, Version};
 pub use ledger::{Rows, Volumes};
 pub use listing::{plan_from_listing, MAX_WRITTEN_PLAN_LEN};
 pub use refusal::{ItemKind, Reason, Refusal, Text};

@@ -10,6 +10,27 @@ pub struct NetworkResult {
 
 #[repr(C)]
 #[derive(Clone, Copy, Debug, PartialEq, Eq)]
+pub struct CountsResult {
+    pub number: u32,
+    pub line: u32,
+    pub item: u32,
+    pub links: u32,
+    pub signals: u32,
+    pub movements: u32,
+    pub steps: u32,
+    pub trams: u32,
+}
+
+#[repr(C)]
+#[derive(Clone, Copy, Debug, PartialEq, Eq)]
+pub struct VersionResult {
+    pub major: u32,
+    pub minor: u32,
+    pub patch: u32,
+}
+
+#[repr(C)]
+#[derive(Clone, Copy, Debug, PartialEq, Eq)]
 pub struct PlanResult {
     pub number: u32,
     pub line: u32,
@@ -52,7 +73,11 @@ pub struct TextResult {
 }
 
 extern "C" {
+    pub fn plancheck_version() -> VersionResult;
+
     pub fn plancheck_check_network(network: *const u8, network_len: usize) -> NetworkResult;
+
+    pub fn plancheck_network_counts(network: *const u8, network_len: usize) -> CountsResult;
 
     pub fn plancheck_check_plan(
         network: *const u8,

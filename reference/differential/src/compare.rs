@@ -1,9 +1,9 @@
 //! One input, judged by both.
 
-use crate::declarations::{LinkResult, NetworkResult, PlanResult, TextResult};
+use crate::declarations::{CountsResult, LinkResult, NetworkResult, PlanResult, TextResult};
 use crate::library;
 use plancheck_reference::cases::{Answer, Call, Outcome, Question};
-use plancheck_reference::{State, Totals};
+use plancheck_reference::{Network, State, Totals};
 
 /// What stands on both sides of what is lent, to see that nothing is written there.
 const NUMBER_GUARD: u32 = 0xA5C3_96F0;
@@ -13,7 +13,7 @@ const GUARDS: usize = 4;
 /// All that a call of the library gives.
 #[derive(Clone, Copy, Debug, PartialEq, Eq)]
 pub enum Given {
-    Network(NetworkResult),
+    Network(NetworkResult, CountsResult),
     Plan(PlanResult),
     Link(LinkResult),
     Text(TextResult),
@@ -49,7 +49,7 @@ pub fn compare(question: &Question) -> Option<Compared> {
     let asked = ask(question)?;
     let outcome = question.judge();
     Some(Compared {
-        expected: in_numbers(question.call, outcome.answer),
+        expected: in_numbers(question, outcome.answer),
         outcome,
         asked,
     })
@@ -98,7 +98,10 @@ impl<T: Copy + PartialEq> Guarded<T> {
 fn ask_library(question: &Question, ledger: &mut [u32], buffer: &mut [u8]) -> Option<Given> {
     let network = &question.network;
     Some(match question.call {
-        Call::CheckNetwork => Given::Network(library::check_network(network)),
+        Call::CheckNetwork => Given::Network(
+            library::check_network(network),
+            library::network_counts(network),
+        ),
         Call::CheckPlan => Given::Plan(library::check_plan(network, &question.plan, ledger)),
         Call::LinkState { boundary, link } => {
             let boundary = u32::try_from(boundary).ok()?;
@@ -112,14 +115,17 @@ fn ask_library(question: &Question, ledger: &mut [u32], buffer: &mut [u8]) -> Op
 }
 
 /// The answer as the header puts it: number 0 where the call accepts, and 0 in each member that the answer does not name.
-fn in_numbers(call: Call, answer: Answer) -> Given {
+fn in_numbers(question: &Question, answer: Answer) -> Given {
     let (number, line, item) = match answer {
         Answer::Refused(refusal) => (refusal.number, refusal.line, refusal.item),
         _ => (0, 0, 0),
     };
     let [number, line, item] = [number, line, item].map(narrow);
-    match call {
-        Call::CheckNetwork => Given::Network(NetworkResult { number, line, item }),
+    match question.call {
+        Call::CheckNetwork => Given::Network(
+            NetworkResult { number, line, item },
+            counts(&question.network, [number, line, item]),
+        ),
         Call::CheckPlan => {
             let totals = match answer {
                 Answer::PlanAccepted(totals) => totals,
@@ -160,6 +166,30 @@ fn in_numbers(call: Call, answer: Answer) -> Given {
                 length,
             })
         }
+    }
+}
+
+/// What a network has; 0 of each where it is refused.
+fn counts(network: &[u8], [number, line, item]: [u32; 3]) -> CountsResult {
+    let counts = Network::read(network).map_or([0; 5], |network| {
+        [
+            network.links.len(),
+            network.signals.len(),
+            network.movements.len(),
+            network.steps.len(),
+            network.trams.len(),
+        ]
+    });
+    let [links, signals, movements, steps, trams] = counts.map(|count| narrow(count as u64));
+    CountsResult {
+        number,
+        line,
+        item,
+        links,
+        signals,
+        movements,
+        steps,
+        trams,
     }
 }
 

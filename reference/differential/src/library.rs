@@ -1,12 +1,16 @@
 //! The calls of the C library on slices, with all that they give.
 
-use crate::declarations::{self, LinkResult, NetworkResult, PlanResult, TextResult};
+use crate::declarations::{self, CountsResult, LinkResult, NetworkResult, PlanResult, TextResult};
 
 // SAFETY of all: a slice gives an aligned pointer that is not null, readable (and, where it is mutable, writable) for its length, and
 // no other reference reaches what a mutable one does. The header asks for no more.
 
 pub fn check_network(network: &[u8]) -> NetworkResult {
     unsafe { declarations::plancheck_check_network(network.as_ptr(), network.len()) }
+}
+
+pub fn network_counts(network: &[u8]) -> CountsResult {
+    unsafe { declarations::plancheck_network_counts(network.as_ptr(), network.len()) }
 }
 
 pub fn check_plan(network: &[u8], plan: &[u8], ledger: &mut [u32]) -> PlanResult {
