@@ -11,7 +11,8 @@ pub enum Ended {
     Refused,
 }
 
-/// Why nothing could be done, in words: a wrong command, or a file that was not read or written.
+/// Why nothing could be done, in words: a wrong command, or a file that was not read or written. It has no words where nobody
+/// reads on, as behind `| head`, which is no fault.
 #[derive(Debug)]
 pub struct Problem(pub String);
 
@@ -19,7 +20,10 @@ pub type Outcome = Result<Ended, Problem>;
 
 impl From<io::Error> for Problem {
     fn from(error: io::Error) -> Problem {
-        Problem(error.to_string())
+        match error.kind() {
+            io::ErrorKind::BrokenPipe => Problem(String::new()),
+            _ => Problem(error.to_string()),
+        }
     }
 }
 

@@ -25,6 +25,7 @@ fn main() -> ExitCode {
     match outcome {
         Ok(Ended::Done) => ExitCode::SUCCESS,
         Ok(Ended::Refused) => ExitCode::from(1),
+        Err(Problem(words)) if words.is_empty() => ExitCode::SUCCESS,
         Err(Problem(words)) => {
             eprintln!("workbench: {words}");
             ExitCode::from(2)

@@ -8,6 +8,8 @@ use std::fmt::Write;
 const ROW: f64 = 46.0;
 const TOP: f64 = 18.0;
 const BAR: f64 = 22.0;
+/// About as wide as a letter of a phase's name.
+const LETTER: f64 = 7.0;
 
 pub fn picture(run: &Run, refusal: Option<&Refusal>) -> String {
     let times = run.network.times();
@@ -96,12 +98,15 @@ fn phase_bar(frame: &Frame, signal: usize, mask: u32, phases: u32, seconds: [u32
         to - from
     );
     let mut bar = frame.bar(&class, from, to, top, BAR, &title);
-    let middle = frame.middle(from, to);
-    let _ = writeln!(
-        bar,
-        "<text class=\"phase-name\" x=\"{middle:.1}\" y=\"{:.1}\">{label}</text>",
-        top + BAR - 6.0
-    );
+    // A bar that is too narrow for its name tells it as a title alone.
+    let room = (frame.x(to) - frame.x(from)) / LETTER;
+    if room >= f64::from(u32::try_from(label.len()).unwrap_or(u32::MAX)) {
+        let (middle, base) = (frame.middle(from, to), top + BAR - 6.0);
+        let _ = writeln!(
+            bar,
+            "<text class=\"phase-name\" x=\"{middle:.1}\" y=\"{base:.1}\">{label}</text>"
+        );
+    }
     bar
 }
 

@@ -56,6 +56,35 @@ fn some_drivers_wait_outside() {
     assert!(count > 3, "in {count} of 40 somebody waits");
 }
 
+/// Thousandths of a vehicle, without zeros at the end.
+fn in_vehicles(volume: u64) -> String {
+    let digits = format!("{}.{:03}", volume / 1000, volume % 1000);
+    digits.trim_end_matches('0').trim_end_matches('.').to_string()
+}
+
+/// The page has it from the doubled travel time; the texts say it too: what has come and was not admitted.
+#[test]
+fn who_waits_outside_is_who_was_not_admitted() {
+    let folder = scratch("made_outside");
+    for seed in [7, 8, 30, 45] {
+        make(seed, &folder, &["--junctions", "3", "--steps", "40"]);
+        let numbers = |name: &str, letter: &str, places: std::ops::Range<usize>| -> u64 {
+            let text = fs::read_to_string(folder.join(name)).unwrap();
+            let of_letter = text.lines().filter(|line| line.starts_with(letter));
+            of_letter
+                .flat_map(|line| line.split('\t').skip(places.start).take(places.len()))
+                .map(|field| field.parse::<u64>().unwrap())
+                .sum()
+        };
+        // ten links behind a step's length, and behind the masks of three signals
+        let waiting = numbers("network.tsv", "S", 2..12) - numbers("plan.tsv", "P", 4..14);
+        let page = workbench(&["report", &folder.display().to_string()]).out;
+        let (_, told) = page.split_once("<th>waiting outside</th><td>").unwrap();
+        let told = told.split('<').next().unwrap();
+        assert_eq!(told, in_vehicles(waiting), "seed {seed}");
+    }
+}
+
 #[test]
 fn the_same_seed_makes_the_same_texts() {
     let (first, second) = (scratch("made_first"), scratch("made_second"));
