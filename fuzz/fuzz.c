@@ -303,23 +303,28 @@ static void try_null(void)
     printf("NULL with length 0: every pointer of every call\n");
 }
 
+static void read_examples(const char *examples_folder)
+{
+    static const char *const folders[EXAMPLES] = {"corridor", "avenue", "listing"};
+    char folder[4096];
+    for (int k = 0; k < EXAMPLES; k++) {
+        snprintf(folder, sizeof folder, "%s/%s", examples_folder, folders[k]);
+        read_example(&examples[k].network, folder, "network.tsv");
+        read_example(&examples[k].plan, folder, "plan.tsv");
+        snprintf(folder, sizeof folder, "%s/listing", examples_folder);
+        read_example(&examples[k].listing, folder, "listing.txt");
+    }
+    snprintf(folder, sizeof folder, "%s/cells", examples_folder);
+    read_example(&corridor, folder, "corridor.tsv");
+}
+
 int main(int count, char **arguments)
 {
     if (count != 4) {
         fprintf(stderr, "usage: fuzz EXAMPLES COUNT SEED\n");
         return 2;
     }
-    static const char *const folders[EXAMPLES] = {"corridor", "avenue", "listing"};
-    char folder[4096];
-    for (int k = 0; k < EXAMPLES; k++) {
-        snprintf(folder, sizeof folder, "%s/%s", arguments[1], folders[k]);
-        read_example(&examples[k].network, folder, "network.tsv");
-        read_example(&examples[k].plan, folder, "plan.tsv");
-        snprintf(folder, sizeof folder, "%s/listing", arguments[1]);
-        read_example(&examples[k].listing, folder, "listing.txt");
-    }
-    snprintf(folder, sizeof folder, "%s/cells", arguments[1]);
-    read_example(&corridor, folder, "corridor.tsv");
+    read_examples(arguments[1]);
     uint64_t inputs = strtoull(arguments[2], NULL, 10);
     seed = strtoull(arguments[3], NULL, 10);
     set_seed(seed);

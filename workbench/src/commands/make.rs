@@ -19,26 +19,21 @@ pub const COMMAND: Command = Command {
 /// How many signals' draws are tried before a seed is given up.
 const TRIES: u32 = 100;
 
+/// What is made of a seed: drawn, or as the options say.
+struct Sizes {
+    junctions: u32,
+    steps: u32,
+    plans: u32,
+}
+
 fn run(arguments: &[String], out: &mut dyn Write) -> Outcome {
     let Parted { options, others } = part(&COMMAND, arguments, &["--junctions", "--steps", "--plans"], &[])?;
     let [seed, folder] = others[..] else {
         return Err(COMMAND.wrong());
     };
-    let seed = seed.parse().map_err(|_| COMMAND.wrong())?;
-    let most_steps = u32::try_from(MAX_STEPS).unwrap_or(u32::MAX);
-    let mut chance = Chance::new(seed);
-    let (mut junctions, mut steps) = (chance.between(2, 5), chance.between(24, 48));
-    let mut plans = 1;
-    for (option, value) in options {
-        let value: u32 = value.parse().map_err(|_| COMMAND.wrong())?;
-        match option {
-            "--junctions" if (1..=MAX_JUNCTIONS).contains(&value) => junctions = value,
-            "--steps" if (1..=most_steps).contains(&value) => steps = value,
-            "--plans" if value > 0 => plans = value,
-            _ => return Err(COMMAND.wrong()),
-        }
-    }
-    let (avenue, first_plan) = avenue_with_plan(&mut chance, junctions, steps)?;
+    let mut chance = Chance::new(seed.parse().map_err(|_| COMMAND.wrong())?);
+    let sizes = sizes(&mut chance, &options)?;
+    let (avenue, mut plan) = avenue_with_plan(&mut chance, &sizes)?;
     let folder = Path::new(folder);
     make_folder(folder)?;
     write(&folder.join(NETWORK), avenue.text().as_bytes())?;
@@ -51,13 +46,12 @@ fn run(arguments: &[String], out: &mut dyn Write) -> Outcome {
         avenue.steps.len(),
         avenue.trams.len()
     )?;
-    for number in 1..=plans {
-        let (name, plan) = if number == 1 {
-            (PLAN.to_string(), first_plan.clone())
-        } else {
-            let plan = plan_text(&mut chance, &avenue).ok_or_else(no_plan)?;
-            (format!("plan-{number}.tsv"), plan)
-        };
+    let mut name = PLAN.to_string();
+    for number in 1..=sizes.plans {
+        if number > 1 {
+            name = format!("plan-{number}.tsv");
+            plan = plan_text(&mut chance, &avenue).ok_or_else(no_plan)?;
+        }
         let time = accepted_time(&avenue, &plan)?;
         write(&folder.join(&name), plan.as_bytes())?;
         writeln!(out, "{name}: travel time {time} vehicle seconds")?;
@@ -65,10 +59,29 @@ fn run(arguments: &[String], out: &mut dyn Write) -> Outcome {
     Ok(Ended::Done)
 }
 
+fn sizes(chance: &mut Chance, options: &[(&str, &str)]) -> Result<Sizes, Problem> {
+    let most_steps = u32::try_from(MAX_STEPS).unwrap_or(u32::MAX);
+    let mut sizes = Sizes {
+        junctions: chance.between(2, 5),
+        steps: chance.between(24, 48),
+        plans: 1,
+    };
+    for (option, value) in options {
+        let value: u32 = value.parse().map_err(|_| COMMAND.wrong())?;
+        match *option {
+            "--junctions" if (1..=MAX_JUNCTIONS).contains(&value) => sizes.junctions = value,
+            "--steps" if (1..=most_steps).contains(&value) => sizes.steps = value,
+            "--plans" if value > 0 => sizes.plans = value,
+            _ => return Err(COMMAND.wrong()),
+        }
+    }
+    Ok(sizes)
+}
+
 /// An avenue whose signals can all keep their limits, with a plan.
-fn avenue_with_plan(chance: &mut Chance, junctions: u32, steps: u32) -> Result<(Avenue, String), Problem> {
+fn avenue_with_plan(chance: &mut Chance, sizes: &Sizes) -> Result<(Avenue, String), Problem> {
     for _ in 0..TRIES {
-        let avenue = Avenue::new(chance, junctions, steps);
+        let avenue = Avenue::new(chance, sizes.junctions, sizes.steps);
         if let Some(plan) = plan_text(chance, &avenue) {
             return Ok((avenue, plan));
         }

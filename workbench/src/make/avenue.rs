@@ -88,31 +88,20 @@ impl Avenue {
     }
 
     pub fn text(&self) -> String {
-        let count = |length: usize| u32::try_from(length).unwrap_or(u32::MAX);
         let mut text = String::new();
         let counts = [
-            count(self.links.len()),
-            count(self.signals.len()),
-            count(self.movements.len()),
-            count(self.steps.len()),
-            count(self.trams.len()),
+            self.links.len(),
+            self.signals.len(),
+            self.movements.len(),
+            self.steps.len(),
+            self.trams.len(),
         ];
-        write_record(&mut text, 'N', &counts);
+        write_record(&mut text, 'N', &counts.map(index));
         for tram in &self.trams {
             write_record(&mut text, 'T', &[tram.signal, tram.phase, tram.first, tram.last]);
         }
         for signal in &self.signals {
-            let phases = count(signal.least.len());
-            let mut numbers = vec![signal.least_cycle, signal.greatest_cycle, phases];
-            numbers.extend([count(signal.shown) + 1, signal.shown_for, signal.cycle_clock]);
-            numbers.extend(
-                signal
-                    .least
-                    .iter()
-                    .zip(&signal.greatest)
-                    .flat_map(|(&least, &greatest)| [least, greatest]),
-            );
-            write_record(&mut text, 'G', &numbers);
+            write_record(&mut text, 'G', &signal.numbers());
         }
         for link in &self.links {
             let shut = [link.signal, link.mask, link.standing];
@@ -123,13 +112,28 @@ impl Avenue {
             );
         }
         for movement in &self.movements {
-            let links = [count(movement.from) + 1, count(movement.to) + 1];
+            let links = [index(movement.from) + 1, index(movement.to) + 1];
             write_record(&mut text, 'M', &[&links[..], &[movement.rate, movement.share]].concat());
         }
         for step in &self.steps {
             write_record(&mut text, 'S', &[&[step.length], &step.demand[..]].concat());
         }
         text
+    }
+}
+
+impl Signal {
+    /// The numbers of its `G` line.
+    fn numbers(&self) -> Vec<u32> {
+        let mut numbers = vec![self.least_cycle, self.greatest_cycle, index(self.least.len())];
+        numbers.extend([index(self.shown) + 1, self.shown_for, self.cycle_clock]);
+        numbers.extend(
+            self.least
+                .iter()
+                .zip(&self.greatest)
+                .flat_map(|(&least, &greatest)| [least, greatest]),
+        );
+        numbers
     }
 }
 
