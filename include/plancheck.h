@@ -387,8 +387,8 @@ plancheck_link_result plancheck_link_state(const uint8_t *network, size_t networ
                                            size_t ledger_len, uint32_t boundary, uint32_t link);
 
 /*
- * Writes the plan text of a solver's listing: a line for each step, all that no line names 0. Refusals 1 to 6 of the
- * network, then 22 and 23 line by line, then 24. The plan itself is not judged: plancheck_check_plan does that.
+ * Writes the plan text of a solver's listing: a line for each step, all that no line names 0. Refusals 1 to 6 and 28 of
+ * the network, then 22 and 23 line by line, then 24. The plan itself is not judged: plancheck_check_plan does that.
  *
  * Reads both texts. Writes plan[0 .. length - 1], no leading zeros in it; the bytes past the text keep what they held,
  * and a refusal leaves all of them as they were. PLANCHECK_WRITTEN_PLAN_MAX bytes are enough for every listing.
