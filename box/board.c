@@ -1,0 +1,42 @@
+/* The start of a Cortex-M board in qemu, and words by semihosting. */
+#include "board.h"
+
+#include <string.h>
+
+extern uint8_t stack_top[], data_start[], data_end[], data_in_flash[], bss_start[], bss_end[];
+int main(void);
+
+enum { SYS_WRITE0 = 4, SYS_EXIT = 0x18, STOPPED = 0x20026, STOPPED_BY_ERROR = 0x20023 };
+
+static void semihosting(uint32_t operation, uintptr_t argument)
+{
+    register uint32_t r0 __asm__("r0") = operation;
+    register uintptr_t r1 __asm__("r1") = argument;
+    __asm__ volatile("bkpt 0xab" : "+r"(r0) : "r"(r1) : "memory");
+}
+
+void print(const char *words)
+{
+    semihosting(SYS_WRITE0, (uintptr_t)words);
+}
+
+static void start(void)
+{
+    memcpy(data_start, data_in_flash, (size_t)(data_end - data_start));
+    memset(bss_start, 0, (size_t)(bss_end - bss_start));
+    uintptr_t reason = main() == 0 ? STOPPED : STOPPED_BY_ERROR;
+    for (;;)
+        semihosting(SYS_EXIT, reason);
+}
+
+static void fault(void)
+{
+    print("the processor faults\n");
+    for (;;)
+        semihosting(SYS_EXIT, STOPPED_BY_ERROR);
+}
+
+/* The stack's top, the start, NMI and the faults. */
+__attribute__((section(".vectors"), used)) static const void *const vectors[16] = {
+    stack_top, (const void *)start, (const void *)fault, (const void *)fault, (const void *)fault, (const void *)fault, (const void *)fault,
+};

@@ -1,0 +1,109 @@
+"""The boards of qemu that the library for a Cortex-M0 is tried on, the programs for them, and the texts that these hold."""
+
+import filecmp
+import os
+import shutil
+import subprocess
+import sys
+from dataclasses import dataclass
+
+FOLDER = "target/box"
+LIBRARY = f"{FOLDER}/libplan_check_c.a"
+STRICT = ["-std=c11", "-Wall", "-Wextra", "-Werror", "-O2", "-Iinclude", "-Ibox", "-Ibench"]
+DEBIAN = {
+    "arm-none-eabi-gcc": "gcc-arm-none-eabi",
+    "qemu-system-arm": "qemu-system-arm",
+    "gcc": "gcc",
+}
+
+
+@dataclass
+class Board:
+    name: str  # as qemu calls it
+    flash: int  # kilobytes
+    memory: int
+
+
+MPS2 = Board("mps2-an385", 4096, 4096)
+MICROBIT = Board("microbit", 256, 16)
+
+
+def need_tools():
+    """Ends the program with what to install where a tool is missing."""
+    packages = [package for tool, package in DEBIAN.items() if shutil.which(tool) is None]
+    if "gcc-arm-none-eabi" in packages or not os.path.isabs(file_name("libc.a")):
+        packages.append("libnewlib-arm-none-eabi")
+    if packages:
+        sys.exit(f"box: tools are missing; Debian: apt-get install {' '.join(packages)}")
+
+
+def file_name(library):
+    """The path of one of the libraries of the Arm compiler; its bare name where there is none."""
+    done = subprocess.run(["arm-none-eabi-gcc", f"-print-file-name={library}"], stdout=subprocess.PIPE, text=True)
+    return done.stdout.strip()
+
+
+def output_of(*command):
+    done = subprocess.run(command, stdout=subprocess.PIPE, stderr=subprocess.STDOUT, text=True)
+    if done.returncode != 0:
+        sys.exit(f"{' '.join(command)}\n{done.stdout}")
+    return done.stdout
+
+
+def archive():
+    """The archive for x86-64."""
+    done = subprocess.run(["tools/archive"], stdout=subprocess.PIPE, text=True)
+    if done.returncode != 0:
+        sys.exit(1)
+    return f"{done.stdout.strip()}/libplan_check_c.a"
+
+
+def make_library():
+    """Runs box/build where the library for a Cortex-M0 is not of the same module as the archive for x86-64."""
+    made = [LIBRARY, f"{FOLDER}/x86-64.a"]
+    if not all(map(os.path.exists, made)) or not filecmp.cmp(made[1], archive(), shallow=False):
+        print(output_of("box/build"), end="", flush=True)
+
+
+def lent(name, text):
+    numbers = ",".join(map(str, text.encode()))
+    return f"static const uint8_t {name}[] = {{{numbers}}};\n"
+
+
+def write_inputs(path, folders, small, more):
+    """A header with the texts of folders, the first so many of which are small, and with more definitions."""
+    arrays, table, rooms = "", "", [0, 0, 0]
+    for k, folder in enumerate(folders):
+        texts = []
+        for name in ("network", "plan"):
+            with open(f"{folder}/{name}.tsv", newline="") as file:
+                texts.append(file.read())
+        counts = [int(count) for count in texts[0].splitlines()[0].split("\t")[1:]]
+        links, steps = counts[0], counts[3]
+        arrays += lent(f"network_{k}", texts[0]) + lent(f"plan_{k}", texts[1])
+        parts = ", ".join(f"{{{name}_{k}, sizeof {name}_{k}}}" for name in ("network", "plan"))
+        table += f"    {{{parts}, {links}, {steps}}},\n"
+        rooms = list(map(max, rooms, (len(texts[0]) + 16, len(texts[1]) + 16, 2 * (steps + 1) * links)))
+    names = ("NETWORK_ROOM", "PLAN_ROOM", "LEDGER_ROOM", "EXAMPLES", "SMALL_EXAMPLES", *more)
+    values = (*rooms, len(folders), small, *more.values())
+    with open(path, "w") as file:
+        file.write("#include <stddef.h>\n#include <stdint.h>\n")
+        file.write(f"enum {{ {', '.join(f'{name} = {value}' for name, value in zip(names, values))} }};\n{arrays}")
+        file.write("struct lent {\n    const uint8_t *bytes;\n    size_t length;\n};\n")
+        file.write("struct example {\n    struct lent network, plan;\n    uint32_t links, steps;\n};\n")
+        file.write(f"static const struct example examples[EXAMPLES] = {{\n{table}}};\n")
+
+
+def build(board, name, sources, inputs):
+    """A program for a board; the folder of inputs holds inputs.h."""
+    path = f"{FOLDER}/{name}-{board.name}.elf"
+    processor = ["-mcpu=cortex-m0", "-mthumb", "-ffunction-sections"]
+    sizes = [f"-Wl,--defsym=FLASH_KB={board.flash}", f"-Wl,--defsym=RAM_KB={board.memory}"]
+    linking = ["-nostartfiles", "-Wl,--gc-sections", *sizes, "-Tbox/board.ld"]
+    output_of("arm-none-eabi-gcc", *STRICT, *processor, f"-I{inputs}", "box/board.c", *sources, LIBRARY, *linking, "-o", path)
+    return path
+
+
+def run(board, path, *options):
+    words = ["-nographic", "-monitor", "none", "-serial", "none", "-semihosting-config", "enable=on,target=native"]
+    return output_of("qemu-system-arm", "-M", board.name, *words, *options, "-kernel", path)

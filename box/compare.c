@@ -1,0 +1,178 @@
+/*
+ * Asks every call of a box INPUTS inputs and prints a hash of all answers, ledgers and texts, and how often each number was told. The inputs are the texts of
+ * inputs.h, most of them damaged, by a seed; so the program prints the same wherever the library does the same.
+ */
+#include "board.h"
+#include "inputs.h"
+#include "plancheck.h"
+
+#include <string.h>
+
+struct text {
+    uint8_t *bytes;
+    size_t length, room;
+};
+
+static uint8_t network_bytes[NETWORK_ROOM + 3], plan_bytes[PLAN_ROOM + 3];
+static struct text network, plan;
+static uint32_t ledger[LEDGER_ROOM];
+
+/* xorshift64* */
+static uint32_t below(uint32_t bound)
+{
+    static uint64_t state = 1;
+    state ^= state >> 12;
+    state ^= state << 25;
+    state ^= state >> 27;
+    return (uint32_t)((state * 0x2545F4914F6CDD1D) >> 33) % bound;
+}
+
+/* FNV-1a, a number of 32 bits at a time */
+static uint64_t hash = 0xcbf29ce484222325;
+
+static void add(uint32_t number)
+{
+    hash = (hash ^ number) * 0x100000001b3;
+}
+
+static void add_long(uint64_t number)
+{
+    add((uint32_t)number);
+    add((uint32_t)(number >> 32));
+}
+
+enum { CHECK_NETWORK, CHECK_PLAN, LINK_STATE, CALLS };
+static const char *const call_names[CALLS] = {"check_network", "check_plan", "link_state"};
+static uint32_t told[CALLS][48];
+
+static void add_answer(int call, uint32_t number, uint32_t line, uint32_t item)
+{
+    told[call][number < 47 ? number : 47]++;
+    add(number);
+    add(line);
+    add(item);
+}
+
+/* Damage. */
+
+/* A text stands at any address, aligned or not. */
+static void load(struct text *text, uint8_t *bytes, size_t room, struct lent lent)
+{
+    *text = (struct text){bytes + below(4), lent.length, room};
+    memcpy(text->bytes, lent.bytes, lent.length);
+}
+
+/* Puts bytes in the place of others; nothing happens where the text would grow too long. */
+static void replace(struct text *text, size_t at, size_t removed, const char *bytes)
+{
+    size_t length = strlen(bytes);
+    if (text->length - removed + length > text->room)
+        return;
+    memmove(text->bytes + at + length, text->bytes + at + removed, text->length - at - removed);
+    memcpy(text->bytes + at, bytes, length);
+    text->length = text->length - removed + length;
+}
+
+static int is_field_end(uint8_t byte)
+{
+    return byte == '\t' || byte == '\n';
+}
+
+/* Changes a byte, a number, or the end of a text. */
+static void damage(struct text *text)
+{
+    static const char *const numbers[] = {"0",    "1",     "2",      "3",          "4",          "7",          "8",  "60", "61", "1000", "3600",
+                                          "3601", "10001", "600001", "2000000001", "4294967295", "4294967296", "01", "",   "x",  "\t",   "0000000010"};
+    static const char *const bytes[] = {"\t", "\n", "0", "5", "P", "", "-", "10"};
+    if (text->length == 0)
+        return;
+    size_t at = below((uint32_t)text->length), start = at, end = at;
+    uint32_t kind = below(16);
+    if (kind == 0) {
+        text->length = below(8) == 0 ? 0 : at;
+    } else if (kind == 1) {
+        replace(text, text->length, 0, bytes[below(8)]);
+    } else if (kind < 5) {
+        size_t removed = below(2);
+        replace(text, at, removed, bytes[below(8)]);
+    } else if (kind < 12) {
+        while (start > 0 && !is_field_end(text->bytes[start - 1]))
+            start--;
+        while (end < text->length && !is_field_end(text->bytes[end]))
+            end++;
+        replace(text, start, end - start, numbers[below(sizeof numbers / sizeof *numbers)]);
+    } else if (text->bytes[at] >= '0' && text->bytes[at] <= '9') {
+        text->bytes[at] = (uint8_t)('0' + below(10));
+    }
+}
+
+/* The calls, each on what the ones before have left. */
+
+static void ask_network(void)
+{
+    plancheck_network_result r = plancheck_check_network(network.bytes, network.length);
+    add_answer(CHECK_NETWORK, r.number, r.line, r.item);
+}
+
+static void ask_plan(size_t ledger_len)
+{
+    for (uint32_t i = 0; i < LEDGER_ROOM; i++)
+        ledger[i] = i * 2654435761u;
+    plancheck_plan_result r = plancheck_check_plan(network.bytes, network.length, plan.bytes, plan.length, ledger, ledger_len);
+    add_answer(CHECK_PLAN, r.number, r.line, r.item);
+    add_long(r.admitted);
+    add_long(r.let_out);
+    add_long(r.inside);
+    add_long(r.doubled_time);
+    for (uint32_t i = 0; i < LEDGER_ROOM; i++)
+        add(ledger[i]);
+}
+
+static void ask_link(size_t ledger_len, const struct example *example)
+{
+    uint32_t boundary = below(example->steps + 2), link = below(example->links + 2);
+    plancheck_link_result r = plancheck_link_state(network.bytes, network.length, ledger, ledger_len, boundary, link);
+    add_answer(LINK_STATE, r.number, r.line, r.item);
+    add(r.queued);
+    add(r.in_transit);
+}
+
+/* One in a hundred inputs is of any example, the others of the small ones. */
+static void ask(void)
+{
+    const struct example *example = &examples[below(below(100) == 0 ? EXAMPLES : SMALL_EXAMPLES)];
+    load(&network, network_bytes, NETWORK_ROOM, example->network);
+    load(&plan, plan_bytes, PLAN_ROOM, example->plan);
+    if (below(3) == 0)
+        damage(&network);
+    if (below(3) != 0)
+        damage(&plan);
+    size_t ledger_len = below(8) == 0 ? below(LEDGER_ROOM + 1) : LEDGER_ROOM;
+    ask_network();
+    ask_plan(ledger_len);
+    ask_link(ledger_len, example);
+    ask_link(ledger_len, example);
+}
+
+int main(void)
+{
+    for (uint32_t i = 0; i < INPUTS; i++)
+        ask();
+    print_number(INPUTS);
+    print(" inputs, hash ");
+    print_number(hash);
+    print("\n");
+    for (int call = 0; call < CALLS; call++) {
+        print(call_names[call]);
+        for (uint32_t number = 0; number < 48; number++) {
+            if (told[call][number] == 0)
+                continue;
+            print(" ");
+            print_number(number);
+            print(":");
+            print_number(told[call][number]);
+        }
+        print("\n");
+    }
+    return 0;
+}
