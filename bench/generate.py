@@ -123,6 +123,12 @@ def padded(text):
     return "".join(record(letter, [number.zfill(10) for number in numbers]) for letter, *numbers in lines)
 
 
+def without_volumes(text, signals):
+    """A plan text with its masks, in which nothing moves."""
+    lines = [line.split("\t") for line in text.splitlines()]
+    return "".join(record(fields[0], fields[1 : 1 + signals] + [0] * (len(fields) - 1 - signals)) for fields in lines)
+
+
 def read_network(text):
     """A network text that is known to be valid."""
     network = Network([], [], [], [])

@@ -2,10 +2,13 @@
 
 import filecmp
 import os
+import random
 import shutil
 import subprocess
 import sys
 from dataclasses import dataclass
+
+import generate
 
 FOLDER = "target/box"
 LIBRARY = f"{FOLDER}/libplan_check_c.a"
@@ -65,6 +68,17 @@ def make_library():
         print(output_of("box/build"), end="", flush=True)
 
 
+def made(name, sizes, tram_steps=0):
+    """The folder of a network of these sizes and a plan for it; with two trams at each signal, each for so many steps."""
+    chance = random.Random(1)
+    network = generate.random_network(chance, *sizes)
+    if tram_steps:
+        generate.with_trams(chance, network, tram_steps)
+    folder = f"{FOLDER}/{name}"
+    generate.write_folder(folder, network, generate.make_plan(chance, network))
+    return folder
+
+
 def lent(name, text):
     numbers = ",".join(map(str, text.encode()))
     return f"static const uint8_t {name}[] = {{{numbers}}};\n"
@@ -104,6 +118,11 @@ def build(board, name, sources, inputs):
     return path
 
 
-def run(board, path, *options):
+def qemu(board, path, *options):
+    """The command that runs a program on a board."""
     words = ["-nographic", "-monitor", "none", "-serial", "none", "-semihosting-config", "enable=on,target=native"]
-    return output_of("qemu-system-arm", "-M", board.name, *words, *options, "-kernel", path)
+    return ["qemu-system-arm", "-M", board.name, *words, *options, "-kernel", path]
+
+
+def run(board, path, *options):
+    return output_of(*qemu(board, path, *options))

@@ -1,0 +1,133 @@
+/*
+ * On each text of inputs.h, for each call of a box, of the library and of its plain C twin: a line with the text's place, the twin or not, the call, the number of
+ * its answer, the ticks that it takes and its bytes of stack. The first line has the ticks of a loop of LOOP instructions.
+ */
+#include "board.h"
+#include "inputs.h"
+#include "twin.h"
+
+struct implementation {
+    plancheck_network_result (*check_network)(const uint8_t *, size_t);
+    plancheck_plan_result (*check_plan)(const uint8_t *, size_t, const uint8_t *, size_t, uint32_t *, size_t);
+    plancheck_link_result (*link_state)(const uint8_t *, size_t, const uint32_t *, size_t, uint32_t, uint32_t);
+};
+
+static const struct implementation implementations[] = {
+    {plancheck_check_network, plancheck_check_plan, plancheck_link_state},
+    {twin_check_network, twin_check_plan, twin_link_state},
+};
+
+/* What is measured, and what was answered. */
+enum call { CHECK_NETWORK, CHECK_PLAN, LINK_STATE, CALLS };
+
+static const struct implementation *implementation;
+static const struct example *example;
+static enum call call;
+static uint32_t ledger[LEDGER_ROOM];
+static uint32_t number;
+
+static void make_call(void)
+{
+    struct lent network = example->network, plan = example->plan;
+    size_t ledger_len = PLANCHECK_LEDGER_LEN(example->links, example->steps);
+    switch (call) {
+    case CHECK_NETWORK:
+        number = implementation->check_network(network.bytes, network.length).number;
+        break;
+    case CHECK_PLAN:
+        number = implementation->check_plan(network.bytes, network.length, plan.bytes, plan.length, ledger, ledger_len).number;
+        break;
+    default:
+        number = implementation->link_state(network.bytes, network.length, ledger, ledger_len, example->steps, example->links).number;
+    }
+}
+
+/* A call that does nothing. */
+
+static plancheck_network_result empty_check_network(const uint8_t *text, size_t length)
+{
+    (void)text, (void)length;
+    return (plancheck_network_result){0};
+}
+
+static plancheck_plan_result empty_check_plan(const uint8_t *text, size_t length, const uint8_t *second_text, size_t second_length, uint32_t *numbers,
+                                              size_t count)
+{
+    (void)text, (void)length, (void)second_text, (void)second_length, (void)numbers, (void)count;
+    return (plancheck_plan_result){0};
+}
+
+static plancheck_link_result empty_link_state(const uint8_t *text, size_t length, const uint32_t *numbers, size_t count, uint32_t row, uint32_t place)
+{
+    (void)text, (void)length, (void)numbers, (void)count, (void)row, (void)place;
+    return (plancheck_link_result){0};
+}
+
+static const struct implementation empty = {empty_check_network, empty_check_plan, empty_link_state};
+
+/* The system timer counts down 24 bits, and tells when it has come to 0. */
+#define TIMER ((volatile uint32_t *)0xE000E010)
+enum { CONTROL, RELOAD, CURRENT, TIMER_BITS = 0xffffff, STARTED = 5, CAME_TO_0 = 1 << 16 };
+
+static uint32_t ticks_of(void (*function)(void))
+{
+    TIMER[RELOAD] = TIMER_BITS;
+    TIMER[CURRENT] = 0;
+    TIMER[CONTROL] = STARTED;
+    while (TIMER[CURRENT] == 0) {
+    }
+    (void)TIMER[CONTROL];
+    uint32_t before = TIMER[CURRENT];
+    function();
+    uint32_t after = TIMER[CURRENT];
+    if ((TIMER[CONTROL] & CAME_TO_0) != 0)
+        print("the timer is too short\n");
+    return before - after;
+}
+
+static void loop(void)
+{
+    uint32_t rounds = LOOP / 2;
+    __asm__ volatile("1: sub %0, %0, #1\n bne 1b" : "+l"(rounds) : : "cc");
+}
+
+/* The stack below this function is painted; what has lost its paint was used. */
+static uint32_t stack_of(void (*function)(void))
+{
+    enum { PAINT = 0xA5, PAINTED = 1 << 16 };
+    volatile uint8_t *top, *lowest;
+    __asm__ volatile("mov %0, sp" : "=r"(top));
+    for (lowest = top - PAINTED; lowest < top; lowest++)
+        *lowest = PAINT;
+    function();
+    for (lowest = top - PAINTED; *lowest == PAINT; lowest++) {
+    }
+    return (uint32_t)(top - lowest);
+}
+
+static void print_measured(uint32_t k, uint32_t which)
+{
+    implementation = &empty;
+    uint32_t empty_ticks = ticks_of(make_call), empty_stack = stack_of(make_call);
+    implementation = &implementations[which];
+    uint32_t ticks = ticks_of(make_call), stack = stack_of(make_call);
+    uint32_t numbers[] = {k, which, call, number, ticks - empty_ticks, stack - empty_stack};
+    for (uint32_t i = 0; i < sizeof numbers / sizeof *numbers; i++) {
+        print_number(numbers[i]);
+        print(" ");
+    }
+    print("\n");
+}
+
+int main(void)
+{
+    print_number(ticks_of(loop));
+    print("\n");
+    for (uint32_t k = 0; k < EXAMPLES; k++) {
+        example = &examples[k];
+        for (uint32_t which = 0; which < 2; which++)
+            for (call = CHECK_NETWORK; call < CALLS; call++)
+                print_measured(k, which);
+    }
+    return 0;
+}
