@@ -63,8 +63,8 @@ def archive():
 
 def make_library():
     """Runs box/build where the library for a Cortex-M0 is not of the same module as the archive for x86-64."""
-    made = [LIBRARY, f"{FOLDER}/x86-64.a"]
-    if not all(map(os.path.exists, made)) or not filecmp.cmp(made[1], archive(), shallow=False):
+    proved, copy = archive(), f"{FOLDER}/x86-64.a"
+    if not (os.path.exists(LIBRARY) and os.path.exists(copy) and filecmp.cmp(copy, proved, shallow=False)):
         print(output_of("box/build"), end="", flush=True)
 
 
