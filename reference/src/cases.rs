@@ -1,6 +1,8 @@
 //! Test cases with the answers of this implementation, for programs that judge
 //! the same texts in another way. `stored` says how they are kept in a file.
 
+mod carried;
+mod carry_calls;
 mod damage;
 mod form;
 mod hold;
@@ -9,6 +11,8 @@ mod listings;
 mod network_values;
 mod padding;
 mod paper;
+mod past;
+mod past_states;
 mod plan_breaches;
 mod random;
 mod scenario;
@@ -26,8 +30,8 @@ pub use scenario::{Scenario, Size, Traffic};
 pub use stored::{decode, encode, Stored};
 
 use crate::{
-    check_network, check_plan, link_state, plan_from_listing, Network, PlanStep, Refusal, State,
-    Totals,
+    carry_on, check_network, check_plan, link_state, plan_from_listing, Network, PlanStep, Refusal,
+    State, Totals,
 };
 use sheet::Sheet;
 
@@ -41,6 +45,9 @@ pub enum Call {
     },
     /// The listing stands in place of the plan.
     PlanFromListing,
+    CarryOn {
+        boundary: u64,
+    },
 }
 
 #[derive(Clone, Copy, Debug, PartialEq, Eq)]
@@ -51,6 +58,12 @@ pub enum Answer {
     /// A text of this length in bytes, at the start of the buffer.
     Written(u64),
     Refused(Refusal),
+}
+
+impl Answer {
+    fn written(length: usize) -> Answer {
+        Answer::Written(length as u64)
+    }
 }
 
 /// What a ledger holds before the call.
@@ -118,8 +131,13 @@ impl Question {
             Call::LinkState { boundary, link } => {
                 link_state(&self.network, &ledger, boundary, link).map(Answer::State)
             }
-            Call::PlanFromListing => plan_from_listing(&self.network, &self.plan, &mut buffer)
-                .map(|length| Answer::Written(length as u64)),
+            Call::PlanFromListing => {
+                plan_from_listing(&self.network, &self.plan, &mut buffer).map(Answer::written)
+            }
+            Call::CarryOn { boundary } => {
+                let (network, plan) = (&self.network, &self.plan);
+                carry_on(network, boundary, plan, &mut ledger, &mut buffer).map(Answer::written)
+            }
         };
         Outcome {
             answer: answer.unwrap_or_else(Answer::Refused),
@@ -257,11 +275,33 @@ impl Maker {
         self.ask(name, question, intended);
     }
 
+    /// A question whose text, or the refusal in its place, is known.
+    fn ask_text(&mut self, name: &str, question: Question, intended: Result<Vec<u8>, Refusal>) {
+        let mut buffer = question.buffer.bytes();
+        let answer = match intended {
+            Ok(text) => {
+                buffer[..text.len()].copy_from_slice(&text);
+                Answer::written(text.len())
+            }
+            Err(refusal) => Answer::Refused(refusal),
+        };
+        self.ask_about_buffer(name, question, answer, buffer);
+    }
+
+    fn draw_buffer(&mut self, length: usize) -> Buffer {
+        let fill = self.random.pick(&[0, b'x', b'\n', 255]);
+        Buffer { length, fill }
+    }
+
     /// A network that every call refuses alike; the call is drawn.
     fn ask_refused_network(&mut self, name: &str, texts: Texts, need: usize, refusal: Refusal) {
         let intended = Some(Answer::Refused(refusal));
         match self.random.between(0, 9) {
-            0..=5 => self.ask_network(name, texts, intended),
+            0..=4 => self.ask_network(name, texts, intended),
+            5 => {
+                let question = self.carry_question(texts, need);
+                self.ask_text(name, question, Err(refusal));
+            }
             6..=8 => {
                 // The network comes before the ledger's length.
                 let need = if self.random.chance(20) { 0 } else { need };
@@ -418,8 +458,14 @@ pub fn all_families(maker: &mut Maker, scenario: &Scenario) {
     state_calls::states(maker, scenario, 3);
     state_calls::outside(maker, scenario);
     state_calls::contradictions(maker, scenario);
+    past::past_steps(maker, scenario);
+    past::order(maker, scenario);
+    carry_calls::carried(maker, scenario);
+    carry_calls::refused_calls(maker, scenario);
+    carry_calls::refused_plans(maker, scenario);
     damage::damaged_networks(maker, scenario, 12);
     damage::damaged_plans(maker, scenario, 12);
+    damage::damaged_carries(maker, scenario, 6);
     listings::written(maker, scenario);
     listings::refused_lines(maker, scenario);
     listings::volumes(maker, scenario);
@@ -485,6 +531,8 @@ pub fn stored_cases(seed: u64) -> Vec<Case> {
     special::share_times_sum(&mut maker);
     special::highest_curves(&mut maker);
     special::all_demand_at_once(&mut maker);
+    special::highest_row(&mut maker);
+    past::special_pasts(&mut maker);
 
     // Accepted plans of many small and middle sizes, and their limits.
     for round in 0..64 {
@@ -572,6 +620,14 @@ fn largest_cases(maker: &mut Maker) {
         state_calls::states(maker, &scenario, 2);
         some_families(maker, &scenario, if index == 0 { 9 } else { 5 });
     }
+    let size = Size {
+        steps: 30,
+        ..LARGEST
+    };
+    let scenario = Scenario::make_with_past(&mut maker.random, size, Traffic::Full, 90);
+    accepted_cases(maker, &scenario);
+    state_calls::states(maker, &scenario, 2);
+    some_families(maker, &scenario, 9);
     // Large in one way only.
     for size in [
         Size {

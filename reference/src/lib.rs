@@ -5,17 +5,20 @@
 //! on `u64`; every number of a text is below 2^32 and every sum is bounded by
 //! limits that have been judged before, so nothing can overflow.
 
+mod arrivals;
+mod carry;
 pub mod cases;
 pub mod cells;
 mod listing;
 mod network;
+mod past;
 mod plan;
 mod report;
 mod state;
 mod text;
 pub mod traces;
 
-pub use network::{Link, Movement, Network, Phase, Signal, Step, Tram};
+pub use network::{Link, Movement, Network, PastStep, Phase, Signal, Step, Tram};
 pub use plan::PlanStep;
 pub use report::{file_refusal, report, NETWORK_FILE_LIMIT, PLAN_FILE_LIMIT};
 
@@ -52,19 +55,19 @@ pub struct State {
     pub in_transit: u64,
 }
 
-/// Refusals 1 to 6 and 28.
+/// Refusals 1 to 6, 28 and 30.
 pub fn check_network(network: &[u8]) -> Result<(), Refusal> {
     Network::read(network).map(|_| ())
 }
 
-/// Refusals 1 to 6, 8 to 18 and 25 to 29; row 0 is written once the ledger's
-/// length has passed, row n once step n has.
+/// The network's refusals, 8 to 18, 25 to 27 and 29; row 0 is written once the
+/// ledger's length has passed, row n once step n has.
 pub fn check_plan(network: &[u8], plan: &[u8], ledger: &mut [u32]) -> Result<Totals, Refusal> {
     plan::check(network, plan, ledger)
 }
 
-/// Refusals 1 to 6, 22 to 24 and 28. Writes the plan text of a solver's listing at
-/// the start of the buffer and gives its length.
+/// The network's refusals and 22 to 24. Writes the plan text of a solver's listing
+/// at the start of the buffer and gives its length.
 pub fn plan_from_listing(
     network: &[u8],
     listing: &[u8],
@@ -73,7 +76,7 @@ pub fn plan_from_listing(
     listing::write_plan(network, listing, buffer)
 }
 
-/// Refusals 1 to 6, 8, 19 to 21 and 28; nothing is written.
+/// The network's refusals, 8 and 19 to 21; nothing is written.
 pub fn link_state(
     network: &[u8],
     ledger: &[u32],
@@ -81,4 +84,17 @@ pub fn link_state(
     link: u64,
 ) -> Result<State, Refusal> {
     state::link_state(network, ledger, boundary, link)
+}
+
+/// The network's refusals, 31, those of the plan on the network cut to the
+/// boundary, and 32. Writes the network text from the boundary on at the start of
+/// the buffer and gives its length.
+pub fn carry_on(
+    network: &[u8],
+    boundary: u64,
+    plan: &[u8],
+    ledger: &mut [u32],
+    buffer: &mut [u8],
+) -> Result<usize, Refusal> {
+    carry::carry_on(network, boundary, plan, ledger, buffer)
 }

@@ -1,6 +1,6 @@
-//! The network text: what it holds and refusals 1 to 6 and 28.
+//! The network text: what it holds and refusals 1 to 6, 28 and 30.
 
-use crate::text::{Line, Lines};
+use crate::text::{write_record, Line, Lines};
 use crate::Refusal;
 
 /// Least and greatest time of one phase, in seconds.
@@ -41,6 +41,22 @@ pub struct Signal {
     pub phases: Vec<Phase>,
 }
 
+impl Signal {
+    fn numbers(&self) -> Vec<u64> {
+        let head = [
+            self.least_cycle,
+            self.greatest_cycle,
+            self.phases.len() as u64,
+            self.shown_phase,
+            self.shown_seconds,
+            self.clock,
+        ];
+        let phases = self.phases.iter();
+        let times = phases.flat_map(|phase| [phase.least, phase.greatest]);
+        head.into_iter().chain(times).collect()
+    }
+}
+
 /// A `Q` line: one link.
 #[derive(Clone, Debug, PartialEq, Eq)]
 pub struct Link {
@@ -51,8 +67,24 @@ pub struct Link {
     pub signal: u64,
     /// Bit k-1 is set when phase k opens the link.
     pub phase_mask: u64,
-    /// Volume standing at the start.
+    /// Volume standing at the start of the first past step, or of step 1.
     pub standing: u64,
+    /// Volume waiting outside at time 0.
+    pub waiting: u64,
+}
+
+impl Link {
+    fn numbers(&self) -> [u64; 7] {
+        [
+            self.capacity,
+            self.travel_time,
+            self.exit_rate,
+            self.signal,
+            self.phase_mask,
+            self.standing,
+            self.waiting,
+        ]
+    }
 }
 
 /// An `M` line: one movement between two links, both counted from 1.
@@ -64,46 +96,21 @@ pub struct Movement {
     pub share: u64,
 }
 
+/// An `H` line: one past step.
+#[derive(Clone, Debug, PartialEq, Eq)]
+pub struct PastStep {
+    pub length: u64,
+    /// Volume that entered each link and that left it in this step.
+    pub entered: Vec<u64>,
+    pub left: Vec<u64>,
+}
+
 /// An `S` line: one step.
 #[derive(Clone, Debug, PartialEq, Eq)]
 pub struct Step {
     pub length: u64,
     /// Demand volume for each link.
     pub demand: Vec<u64>,
-}
-
-/// A volume, exactly: what entered by a step's start plus the elapsed part of
-/// the step's volume, in parts of a thousandth of a vehicle of which the step's
-/// length makes up a whole one. The parts are below 2^32 x 60.
-#[derive(Clone, Copy)]
-pub struct Arrived {
-    parts: u64,
-    length: u64,
-}
-
-/// The entered count falls over the step that the travel time ends in.
-#[derive(Debug)]
-pub struct EnteredFalls;
-
-impl Arrived {
-    fn whole(volume: u64) -> Arrived {
-        Arrived {
-            parts: volume,
-            length: 1,
-        }
-    }
-
-    pub fn is_below(self, volume: u64) -> bool {
-        self.parts < volume * self.length
-    }
-
-    pub fn is_above(self, volume: u64) -> bool {
-        self.parts > volume * self.length
-    }
-
-    pub fn rounded_down(self) -> u64 {
-        self.parts / self.length
-    }
 }
 
 /// A whole network text.
@@ -113,12 +120,15 @@ pub struct Network {
     pub signals: Vec<Signal>,
     pub links: Vec<Link>,
     pub movements: Vec<Movement>,
+    /// The oldest first.
+    pub past: Vec<PastStep>,
     pub steps: Vec<Step>,
 }
 
 impl Network {
     /// Reads and judges a network text: line by line, form before values, the
-    /// share sums after the last `M` line, surplus text after the last line.
+    /// share sums after the last `M` line, surplus text after the last line,
+    /// then the past.
     pub fn read(text: &[u8]) -> Result<Network, Refusal> {
         let mut lines = Lines::new(text);
         let counts = Counts::read(&lines.take())?;
@@ -127,6 +137,7 @@ impl Network {
             signals: Vec::new(),
             links: Vec::new(),
             movements: Vec::new(),
+            past: Vec::new(),
             steps: Vec::new(),
         };
         for _ in 0..counts.trams {
@@ -148,12 +159,19 @@ impl Network {
             network.movements.push(movement);
         }
         network.judge_share_sums()?;
+        for _ in 0..counts.past {
+            let past = read_past_step(&lines.take(), counts.links)?;
+            network.past.push(past);
+        }
         for item in 1..=counts.steps {
             let step = read_step(&lines.take(), item, counts.links, &network.signals)?;
             network.steps.push(step);
         }
         if let Some(line) = lines.surplus() {
             return Err(malformed(line));
+        }
+        if !network.is_acceptable_past() {
+            return Err(Refusal::new(30, 0, 0));
         }
         Ok(network)
     }
@@ -205,45 +223,60 @@ impl Network {
         1 + self.trams.len() as u64 + self.signals.len() as u64 + self.links.len() as u64
     }
 
-    /// The times t(0) to t(K) of all boundaries; they rise, since every length
-    /// is at least 1.
-    pub fn times(&self) -> Vec<u64> {
-        let mut times = vec![0];
-        let mut time = 0;
-        for step in &self.steps {
-            time += step.length;
-            times.push(time);
+    /// The text of the network, numbers without leading zeros.
+    pub fn text(&self) -> Vec<u8> {
+        let mut text = Vec::new();
+        let counts = [
+            self.links.len(),
+            self.signals.len(),
+            self.movements.len(),
+            self.steps.len(),
+            self.trams.len(),
+            self.past.len(),
+        ];
+        write_record(&mut text, b'N', &counts.map(|count| count as u64));
+        for tram in &self.trams {
+            let numbers = [tram.signal, tram.phase, tram.first, tram.last];
+            write_record(&mut text, b'T', &numbers);
         }
-        times
+        for signal in &self.signals {
+            write_record(&mut text, b'G', &signal.numbers());
+        }
+        for link in &self.links {
+            write_record(&mut text, b'Q', &link.numbers());
+        }
+        for movement in &self.movements {
+            let Movement {
+                from,
+                to,
+                rate,
+                share,
+            } = *movement;
+            write_record(&mut text, b'M', &[from, to, rate, share]);
+        }
+        for past in &self.past {
+            let pairs = past.entered.iter().zip(&past.left);
+            let volumes = pairs.flat_map(|(&entered, &left)| [entered, left]);
+            let numbers: Vec<u64> = [past.length].into_iter().chain(volumes).collect();
+            write_record(&mut text, b'H', &numbers);
+        }
+        for step in &self.steps {
+            let numbers = [&[step.length], step.demand.as_slice()].concat();
+            write_record(&mut text, b'S', &numbers);
+        }
+        text
     }
 
-    /// What has arrived on a link at boundary n, by what had entered at each
-    /// boundary up to n: that of the time t(n) - travel time, and the standing
-    /// start if t(n) is smaller than the travel time.
-    pub fn arrived(
-        &self,
-        boundary: usize,
-        link: &Link,
-        entered: impl Fn(usize) -> u64,
-    ) -> Result<Arrived, EnteredFalls> {
-        let times = self.times();
-        if times[boundary] < link.travel_time {
-            return Ok(Arrived::whole(link.standing));
-        }
-        let entry_time = times[boundary] - link.travel_time;
-        let later = times.iter().position(|&time| time > entry_time);
-        let end = later.expect("a travel time is at least 1");
-        let start = end - 1;
-        if times[start] == entry_time {
-            return Ok(Arrived::whole(entered(start)));
-        }
-        let volume = entered(end).checked_sub(entered(start));
-        let length = times[end] - times[start];
-        let elapsed = entry_time - times[start];
-        Ok(Arrived {
-            parts: entered(start) * length + volume.ok_or(EnteredFalls)? * elapsed,
-            length,
-        })
+    /// The times t(0) to t(K) of all boundaries.
+    pub fn times(&self) -> Vec<u64> {
+        times(self.steps.iter().map(|step| step.length))
+    }
+
+    /// What may have been admitted on a link (from index 0) by a boundary: what
+    /// waited at time 0 and demand by then.
+    pub fn offered(&self, link: usize, boundary: usize) -> u64 {
+        let steps = self.steps[..boundary].iter();
+        self.links[link].waiting + steps.map(|step| step.demand[link]).sum::<u64>()
     }
 
     /// Numbers that a ledger needs: 2 x (K+1) x L.
@@ -260,6 +293,16 @@ impl Network {
     }
 }
 
+/// The times of all boundaries of some steps, from 0; they rise, since every
+/// length is at least 1.
+pub fn times(lengths: impl Iterator<Item = u64>) -> Vec<u64> {
+    let mut times = vec![0];
+    for length in lengths {
+        times.push(times[times.len() - 1] + length);
+    }
+    times
+}
+
 /// Refusal 1 at a line.
 fn malformed(line: u64) -> Refusal {
     Refusal::new(1, line, 0)
@@ -272,23 +315,26 @@ struct Counts {
     movements: u64,
     steps: u64,
     trams: u64,
+    past: u64,
 }
 
 impl Counts {
     fn read(line: &Line) -> Result<Counts, Refusal> {
-        let numbers = line.numbers(b'N', 5).ok_or(malformed(line.number))?;
+        let numbers = line.numbers(b'N', 6).ok_or(malformed(line.number))?;
         let counts = Counts {
             links: numbers[0],
             signals: numbers[1],
             movements: numbers[2],
             steps: numbers[3],
             trams: numbers[4],
+            past: numbers[5],
         };
         let within_limits = (1..=24).contains(&counts.links)
             && counts.signals <= 8
             && counts.movements <= 64
             && (1..=120).contains(&counts.steps)
-            && counts.trams <= 16;
+            && counts.trams <= 16
+            && counts.past <= 120;
         if within_limits {
             Ok(counts)
         } else {
@@ -388,7 +434,7 @@ fn is_acceptable_signal(signal: &Signal) -> bool {
 
 /// A `Q` line.
 fn read_link(line: &Line, item: u64, signals: &[Signal]) -> Result<Link, Refusal> {
-    let numbers = line.numbers(b'Q', 6).ok_or(malformed(line.number))?;
+    let numbers = line.numbers(b'Q', 7).ok_or(malformed(line.number))?;
     let link = Link {
         capacity: numbers[0],
         travel_time: numbers[1],
@@ -396,6 +442,7 @@ fn read_link(line: &Line, item: u64, signals: &[Signal]) -> Result<Link, Refusal
         signal: numbers[3],
         phase_mask: numbers[4],
         standing: numbers[5],
+        waiting: numbers[6],
     };
     if is_acceptable_link(&link, signals) {
         Ok(link)
@@ -471,6 +518,20 @@ fn is_acceptable_movement(movement: &Movement, link_count: u64, before: Option<&
         // Pairs compare by from link first, then by to link.
         Some(before) => (movement.from, movement.to) > (before.from, before.to),
     }
+}
+
+/// An `H` line: the length, then what entered and what left each link. Its
+/// values are judged after all lines.
+fn read_past_step(line: &Line, link_count: u64) -> Result<PastStep, Refusal> {
+    let numbers = line
+        .numbers(b'H', 1 + 2 * link_count as usize)
+        .ok_or(malformed(line.number))?;
+    let pairs = || numbers[1..].chunks(2);
+    Ok(PastStep {
+        length: numbers[0],
+        entered: pairs().map(|pair| pair[0]).collect(),
+        left: pairs().map(|pair| pair[1]).collect(),
+    })
 }
 
 /// An `S` line.

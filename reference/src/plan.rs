@@ -1,6 +1,7 @@
 //! The plan text and refusals 8 to 18, 25 to 27 and 29.
 
-use crate::network::{Arrived, Link, Movement, Network};
+use crate::arrivals::Arrived;
+use crate::network::{Link, Movement, Network};
 use crate::text::{write_record, Line, Lines};
 use crate::{Refusal, Totals};
 use std::ops::Range;
@@ -50,17 +51,29 @@ pub fn text(steps: &[PlanStep]) -> Vec<u8> {
     text
 }
 
-/// Judges the plan line by line. A row of the ledger is written as soon as its
-/// step has passed, so that a refusal leaves the later rows as they were.
+/// A plan that has passed.
+pub struct Judged {
+    pub steps: Vec<PlanStep>,
+    pub passed: Passed,
+}
+
 pub fn check(network_text: &[u8], plan_text: &[u8], ledger: &mut [u32]) -> Result<Totals, Refusal> {
     let network = Network::read(network_text)?;
+    let judged = judge(&network, plan_text, ledger)?;
+    Ok(totals(&network, &judged))
+}
+
+/// Judges the ledger's length, then the plan line by line. A row of the ledger
+/// is written as soon as its step has passed, so that a refusal leaves the later
+/// rows as they were.
+pub fn judge(network: &Network, plan_text: &[u8], ledger: &mut [u32]) -> Result<Judged, Refusal> {
     network.judge_ledger_length(ledger.len())?;
 
-    let mut passed = Passed::before_step_1(&network);
+    let mut passed = Passed::before_step_1(network);
     passed.write_row(0, ledger);
 
     // An empty plan text stands for one that holds.
-    let hold = text(&vec![PlanStep::of_hold(&network); network.steps.len()]);
+    let hold = text(&vec![PlanStep::of_hold(network); network.steps.len()]);
     let meant = if plan_text.is_empty() {
         &hold
     } else {
@@ -69,15 +82,15 @@ pub fn check(network_text: &[u8], plan_text: &[u8], ledger: &mut [u32]) -> Resul
     let mut lines = Lines::new(meant);
     let mut steps = Vec::new();
     for number in 1..=network.steps.len() {
-        let step = read_step(&lines.take(), &network)?;
-        passed = judge_step(&network, passed, number, &step)?;
+        let step = read_step(&lines.take(), network)?;
+        passed = judge_step(network, passed, number, &step)?;
         passed.write_row(number, ledger);
         steps.push(step);
     }
     if let Some(line) = lines.surplus() {
         return Err(malformed(line));
     }
-    Ok(totals(&network, &steps, &passed.curves))
+    Ok(Judged { steps, passed })
 }
 
 /// Judges one step and adds it to the steps that have passed.
@@ -132,27 +145,27 @@ fn read_step(line: &Line, network: &Network) -> Result<PlanStep, Refusal> {
 /// What a signal shows after an ordinary step, with its two clocks. Both stand
 /// still while a tram passes.
 #[derive(Clone, Copy)]
-struct Showing {
+pub struct Showing {
     /// Counted from 1.
-    phase: u64,
+    pub phase: u64,
     /// Seconds of the run of this phase.
-    run: u64,
+    pub run: u64,
     /// Seconds since phase 1 last began.
-    cycle: u64,
+    pub cycle: u64,
 }
 
 /// Cumulative entries and exits of each link, one row a boundary.
-struct Curves {
-    entered: Vec<Vec<u64>>,
-    left: Vec<Vec<u64>>,
+pub struct Curves {
+    pub entered: Vec<Vec<u64>>,
+    pub left: Vec<Vec<u64>>,
 }
 
 /// What is known after the steps that have passed.
-struct Passed {
-    showing: Vec<Showing>,
-    curves: Curves,
+pub struct Passed {
+    pub showing: Vec<Showing>,
+    pub curves: Curves,
     /// All that has been admitted on each link.
-    admitted: Vec<u64>,
+    pub admitted: Vec<u64>,
 }
 
 impl Passed {
@@ -166,21 +179,23 @@ impl Passed {
                 cycle: signal.clock,
             })
             .collect();
-        let standing = network.links.iter().map(|link| link.standing).collect();
+        let links = 0..network.links.len();
+        let entered = links.clone().map(|link| network.entered_at_0(link));
+        let left = links.clone().map(|link| network.left_at_0(link));
         Passed {
             showing,
             curves: Curves {
-                entered: vec![standing],
-                left: vec![vec![0; network.links.len()]],
+                entered: vec![entered.collect()],
+                left: vec![left.collect()],
             },
-            admitted: vec![0; network.links.len()],
+            admitted: vec![0; links.len()],
         }
     }
 
     /// Row n holds entered and left of each link in link order and starts at
     /// index 2 x n x L. Judged volumes stay below 2^32: a link starts with at
-    /// most 2,000,000,000, gains at most 120 x 600,000 from outside and, in each
-    /// of 120 steps, at most 600,000 from each of 23 other links.
+    /// most 2,000,000,000, refusal 30 bounds what it gains in the past and from
+    /// outside, and in each step it gains at most 600,000 from each of 23 links.
     fn write_row(&self, boundary: usize, ledger: &mut [u32]) {
         let entered = &self.curves.entered[boundary];
         let left = &self.curves.left[boundary];
@@ -288,13 +303,11 @@ impl Attempt<'_> {
         })
     }
 
-    /// Rule 15: admitted by the end of this step is at most demand by then.
+    /// Rule 15: admitted by the end of this step is at most what waited at time
+    /// 0 and demand by then.
     fn link_above_demand(&self) -> Option<usize> {
-        let steps = &self.network.steps[..self.number];
-        self.links().find(|&link| {
-            let demand: u64 = steps.iter().map(|step| step.demand[link]).sum();
-            self.admitted(link) > demand
-        })
+        self.links()
+            .find(|&link| self.admitted(link) > self.network.offered(link, self.number))
     }
 
     /// Rule 25: let out is at most exit rate x length.
@@ -454,8 +467,7 @@ impl Attempt<'_> {
                 self.passed.curves.entered[boundary][link]
             }
         };
-        let limits = &self.network.links[link];
-        let arrived = self.network.arrived(self.number, limits, entered);
+        let arrived = self.network.arrived(self.number, link, entered);
         arrived.expect("a plan's entered count never falls")
     }
 
@@ -492,11 +504,16 @@ fn phase_after(phase: u64, phase_count: u64) -> u64 {
 }
 
 /// The totals of a plan that has passed.
-fn totals(network: &Network, steps: &[PlanStep], curves: &Curves) -> Totals {
+fn totals(network: &Network, judged: &Judged) -> Totals {
+    let curves = &judged.passed.curves;
     let inside = |boundary: usize| -> u64 {
         let entered: u64 = curves.entered[boundary].iter().sum();
         let left: u64 = curves.left[boundary].iter().sum();
         entered - left
+    };
+    let offered = |boundary: usize| -> u64 {
+        let links = 0..network.links.len();
+        links.map(|link| network.offered(link, boundary)).sum()
     };
     let mut totals = Totals {
         admitted: 0,
@@ -505,13 +522,11 @@ fn totals(network: &Network, steps: &[PlanStep], curves: &Curves) -> Totals {
         doubled_time: 0,
     };
     // Vehicles that are inside or wait outside, where demand brings them.
-    let mut demand = 0;
-    let mut counted_before = inside(0);
-    for (index, step) in steps.iter().enumerate() {
+    let mut counted_before = inside(0) + offered(0);
+    for (index, step) in judged.steps.iter().enumerate() {
         totals.admitted += step.admitted.iter().sum::<u64>();
         totals.let_out += step.let_out.iter().sum::<u64>();
-        demand += network.steps[index].demand.iter().sum::<u64>();
-        let counted = inside(index + 1) + (demand - totals.admitted);
+        let counted = inside(index + 1) + (offered(index + 1) - totals.admitted);
         totals.doubled_time += network.steps[index].length * (counted_before + counted);
         counted_before = counted;
     }

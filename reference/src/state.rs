@@ -26,8 +26,7 @@ pub fn link_state(
     let entered = |row: usize| u64::from(ledger[2 * row * link_count + 2 * index]);
     let left = |row: usize| u64::from(ledger[2 * row * link_count + 2 * index + 1]);
 
-    let link = &network.links[index];
-    let arrived = network.arrived(boundary, link, entered);
+    let arrived = network.arrived(boundary, index, entered);
     let arrived = arrived.map_err(|_| refusal(21))?;
     if arrived.is_below(left(boundary)) || arrived.is_above(entered(boundary)) {
         return Err(refusal(21));

@@ -148,7 +148,7 @@ fn the_stored_cases_leave_nothing_out() {
         assert_as_intended(case);
     }
     let count = |matches: &dyn Fn(&Case) -> bool| cases.iter().filter(|case| matches(case)).count();
-    for wanted in (1..=6).chain(8..=29) {
+    for wanted in (1..=6).chain(8..=32) {
         let refused = count(
             &|case| matches!(case.outcome.answer, Answer::Refused(Refusal { number, .. }) if number == wanted),
         );
@@ -245,6 +245,41 @@ fn the_stored_cases_leave_nothing_out() {
         "9: empty line in place of a plan",
         "1: eleven digits",
         "9: eleven digits",
+        "120 steps, past ones too",
+        "30: 121 steps, past ones too",
+        "30: 120 past steps",
+        "quiet past step",
+        "30: length of a past step",
+        "length of a past step at its limit",
+        "all that has arrived has left",
+        "30: one left that has not arrived",
+        "full when the past ends",
+        "30: one more than a link holds",
+        "as much waits as may enter",
+        "30: one more waits than may enter",
+        "30: past entries above 32 bits",
+        "30: past exits above 32 bits",
+        "1: surplus before the past",
+        "6: last step before the past",
+        "waiting volume just kept",
+        "15: waiting one below",
+        "arrived in the past",
+        "the past alone tells what has arrived",
+        "left at or above what arrived in the past",
+        "entered at or below what arrived in the past",
+        "carried network",
+        "carried, buffer just long enough",
+        "carried twice",
+        "rest of a plan",
+        "first part of a plan",
+        "empty plan to carry on",
+        "damaged call to carry on",
+        "31: boundary",
+        "31: before the ledger and the plan",
+        "8: ledger one too short for the first steps",
+        "9: a line more than steps to carry on from",
+        "9: a line fewer than steps to carry on from",
+        "32: buffer one byte too short",
         "padded: plan passes",
         "padded: network passes",
         "padded: state of a link",
@@ -256,15 +291,17 @@ fn the_stored_cases_leave_nothing_out() {
         let padded = count(&|case| case.question.call == call && case.name.starts_with("padded: "));
         assert!(padded >= 30, "{call:?}: {padded} padded cases");
     }
-    let largest = count(&|case| case.question.network.starts_with(b"N\t24\t8\t64\t120\t"));
-    assert!(largest > 10);
+    for largest in [&b"N\t24\t8\t64\t120\t"[..], b"N\t24\t8\t64\t30\t"] {
+        let largest = count(&|case| case.question.network.starts_with(largest));
+        assert!(largest > 10);
+    }
 }
 
 #[test]
 fn the_stored_form_can_be_read_back() {
     let cases = stored();
     let bytes = encode(cases);
-    assert!(bytes.len() < 6_000_000);
+    assert!(bytes.len() < 8_000_000);
     let stored = decode(&bytes).expect("the form is right");
     assert_eq!(stored.len(), cases.len());
     for (case, (question, answer, sum)) in cases.iter().zip(&stored) {
@@ -314,7 +351,7 @@ fn a_plan_written_from_its_listing_is_the_plan_itself() {
             accepted += 1;
         }
     }
-    assert!(accepted > 100, "{accepted}");
+    assert!(accepted > 80, "{accepted}");
 }
 
 #[test]

@@ -3,10 +3,10 @@
 use plancheck_reference::{check_network, check_plan, report, Totals};
 
 const NETWORK: [&str; 9] = [
-    "N\t2\t1\t1\t4\t0",
+    "N\t2\t1\t1\t4\t0\t0",
     "G\t20\t60\t2\t2\t10\t20\t10\t30\t10\t30",
-    "Q\t60000\t10\t0\t1\t1\t0",
-    "Q\t60000\t10\t500\t0\t0\t0",
+    "Q\t60000\t10\t0\t1\t1\t0\t0",
+    "Q\t60000\t10\t500\t0\t0\t0\t0",
     "M\t1\t2\t500\t1000",
     "S\t10\t5000\t0",
     "S\t10\t0\t0",
@@ -128,15 +128,15 @@ fn c8_movement_before_arrival() {
 
 #[test]
 fn c9_full_link() {
-    let network = network_with(3, "Q\t5000\t10\t0\t1\t1\t0");
+    let network = network_with(3, "Q\t5000\t10\t0\t1\t1\t0\t0");
     assert_prints(&network, &text(&PLAN), ACCEPTED);
-    let network = network_with(3, "Q\t4999\t10\t0\t1\t1\t0");
+    let network = network_with(3, "Q\t4999\t10\t0\t1\t1\t0\t0");
     assert_prints(&network, &text(&PLAN), "R\t18\t1\t1\n");
 }
 
 #[test]
 fn c10_travel_time_between_boundaries() {
-    let network = network_with(3, "Q\t60000\t15\t0\t1\t1\t0");
+    let network = network_with(3, "Q\t60000\t15\t0\t1\t1\t0\t0");
     assert_prints(&network, &text(&PLAN), "R\t17\t2\t1\n");
     assert_eq!(check_network(network.as_bytes()), Ok(()));
     // Half of the 5000 has arrived after step 2: no more may leave by then.

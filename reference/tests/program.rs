@@ -4,7 +4,7 @@ use std::fs;
 use std::path::{Path, PathBuf};
 use std::process::Command;
 
-const NETWORK: &str = "N\t1\t0\t0\t1\t0\nQ\t5\t1\t3\t0\t0\t4\nS\t1\t1\n";
+const NETWORK: &str = "N\t1\t0\t0\t1\t0\t0\nQ\t5\t1\t3\t0\t0\t4\t0\nS\t1\t1\n";
 const PLAN: &str = "P\t1\t3\n";
 const ACCEPTED: &str = "A\t1\t3\t2\t6\nB\t0\t0\t4\t0\nB\t1\t1\t5\t3\n";
 
@@ -60,8 +60,8 @@ fn files_that_cannot_be_read() {
 
 /// 24 links and 120 steps; each demand is written in the given way.
 fn long_network(demand: fn(String) -> String) -> String {
-    let mut text = "N\t24\t0\t0\t120\t0\n".to_string();
-    text += &"Q\t5\t1\t3\t0\t0\t4\n".repeat(24);
+    let mut text = "N\t24\t0\t0\t120\t0\t0\n".to_string();
+    text += &"Q\t5\t1\t3\t0\t0\t4\t0\n".repeat(24);
     let demands = format!("\t{}", demand("0".to_string())).repeat(24);
     text + &format!("S\t1{demands}\n").repeat(120)
 }
@@ -82,7 +82,10 @@ fn files_at_and_above_their_limits() {
     write(16_385, 24_577);
     assert_eq!(printed(&folder), "L\t1\n");
     // Zeros in front count as bytes of the file.
-    let padded = format!("N\t{:010}\t0\t0\t1\t0\nQ\t5\t1\t3\t0\t0\t4\nS\t1\t1\n", 1);
+    let padded = format!(
+        "N\t{:010}\t0\t0\t1\t0\t0\nQ\t5\t1\t3\t0\t0\t4\t0\nS\t1\t1\n",
+        1
+    );
     fs::write(folder.join("network.tsv"), padded).unwrap();
     fs::write(folder.join("plan.tsv"), "P\t0000000001\t03\n").unwrap();
     assert_eq!(printed(&folder), ACCEPTED);

@@ -27,6 +27,21 @@ pub fn damaged_plans(maker: &mut Maker, scenario: &Scenario, count: usize) {
     }
 }
 
+/// Calls to carry on with some damage to one of the texts.
+pub fn damaged_carries(maker: &mut Maker, scenario: &Scenario, count: usize) {
+    for round in 0..count {
+        let boundary = 1 + maker.random.index(scenario.step_count());
+        let mut texts = scenario.texts_up_to(boundary);
+        let text = match round % 2 {
+            0 => &mut texts.plan,
+            _ => &mut texts.network,
+        };
+        *text = damage(&mut maker.random, text);
+        let question = maker.carry(scenario, texts, boundary);
+        maker.ask("damaged call to carry on", question, None);
+    }
+}
+
 /// Listings with some damage, and lines of a listing's characters.
 pub fn damaged_listings(maker: &mut Maker, scenario: &Scenario, count: usize) {
     for round in 0..count {
@@ -159,19 +174,20 @@ pub fn random_texts(maker: &mut Maker, count: usize) {
         let network: Vec<u8> = match round % 3 {
             0 => (0..length).map(|_| random.draw() as u8).collect(),
             1 => (0..length)
-                .map(|_| random.pick(b"NTGQMSP\t\t\t\t\n0123456789"))
+                .map(|_| random.pick(b"NTGQMHSP\t\t\t\t\n0123456789"))
                 .collect(),
             _ => {
                 let mut text = format!(
-                    "N\t{}\t{}\t{}\t{}\t{}\n",
+                    "N\t{}\t{}\t{}\t{}\t{}\t{}\n",
                     random.between(0, 3),
                     random.between(0, 1),
                     random.between(0, 1),
                     random.between(0, 2),
+                    random.between(0, 1),
                     random.between(0, 1)
                 );
                 for _ in 0..random.between(0, 5) {
-                    text.push(random.pick(&['T', 'G', 'Q', 'M', 'S']));
+                    text.push(random.pick(&['T', 'G', 'Q', 'M', 'H', 'S']));
                     for _ in 0..random.between(1, 11) {
                         text.push('\t');
                         text += &random.between(0, 12).to_string();

@@ -52,7 +52,7 @@ fn broken_forms(maker: &mut Maker, sheet: &Sheet, line: usize) -> Vec<(&'static 
     };
     with_letter(maker.random.pick(&BAD_LETTERS));
     with_letter(&sheet.lines[line][0].to_ascii_lowercase());
-    let other_letters: Vec<u8> = b"NTGQMSP"
+    let other_letters: Vec<u8> = b"NTGQMHSP"
         .iter()
         .copied()
         .filter(|&letter| sheet.lines[line][0] != [letter])
@@ -105,6 +105,7 @@ pub fn network_form(maker: &mut Maker, scenario: &Scenario) {
         network.signals.len(),
         network.links.len(),
         network.movements.len(),
+        network.past.len(),
         network.steps.len(),
     ] {
         if count > 0 {

@@ -28,8 +28,12 @@ fn held(network: &Network) -> Answer {
         }
     }
     let time: u64 = network.steps.iter().map(|step| step.length).sum();
-    let inside = network.links.iter().map(|link| link.standing).sum();
-    let mut doubled_time = 2 * time * inside;
+    let standing: u64 = network.links.iter().map(|link| link.standing).sum();
+    let waiting: u64 = network.links.iter().map(|link| link.waiting).sum();
+    let entered: u64 = network.past.iter().flat_map(|step| &step.entered).sum();
+    let left: u64 = network.past.iter().flat_map(|step| &step.left).sum();
+    let inside = standing + entered - left;
+    let mut doubled_time = 2 * time * (inside + waiting);
     let mut ends = 0;
     for step in &network.steps {
         ends += step.length;

@@ -45,6 +45,7 @@ pub fn exact_limits(maker: &mut Maker, scenario: &Scenario) {
     capacity(maker, scenario, link);
     exit_rate(maker, scenario, link);
     demand(maker, scenario, link);
+    waiting(maker, scenario, link);
     travel_time(maker, scenario, link);
     if !scenario.network.movements.is_empty() {
         let movement = maker.random.index(scenario.network.movements.len());
@@ -212,14 +213,16 @@ fn room_needed(scenario: &Scenario, link: usize) -> Vec<(usize, u64)> {
 
 /// Rule 18.
 fn capacity(maker: &mut Maker, scenario: &Scenario, link: usize) {
+    // The network itself must still pass.
     let standing = scenario.network.links[link].standing;
+    let lowest = standing.max(scenario.held_at_start(link));
     let values = room_needed(scenario, link);
     let needed = greatest(&values).expect("there is a step");
     let name = "capacity just kept";
     maker.kept(scenario, name, |network| {
-        network.links[link].capacity = needed.max(standing);
+        network.links[link].capacity = needed.max(lowest);
     });
-    if needed > standing {
+    if needed > lowest {
         let refusal = refused(18, first_step(&values, needed), link + 1);
         maker.broken(scenario, "18: capacity one below", refusal, |network| {
             network.links[link].capacity = needed - 1;
@@ -304,11 +307,34 @@ fn travel_time(maker: &mut Maker, scenario: &Scenario, link: usize) {
     maker.kept(scenario, "travel time just kept", |network| {
         network.links[link].travel_time = kept;
     });
-    if let Some(step) = early(kept + 1) {
-        let refusal = refused(17, step + 1, link + 1);
-        let name = "17: travel time one second above";
+    if let Some(boundary) = early(kept + 1) {
+        let (name, refusal) = match boundary {
+            0 => ("30: travel time one second above", refused(30, 0, 0)),
+            _ => (
+                "17: travel time one second above",
+                refused(17, boundary, link + 1),
+            ),
+        };
         maker.broken(scenario, name, refusal, |network| {
             network.links[link].travel_time = kept + 1;
+        });
+    }
+}
+
+/// Rule 15: what waits at the start lowered by as much as no step needs.
+fn waiting(maker: &mut Maker, scenario: &Scenario, link: usize) {
+    let values: Vec<(usize, u64)> = (0..scenario.step_count())
+        .map(|step| (step, scenario.outside(step + 1, link)))
+        .collect();
+    let spare = least(&values).expect("there is a step");
+    let waiting = scenario.network.links[link].waiting;
+    maker.kept(scenario, "waiting volume just kept", |network| {
+        network.links[link].waiting = waiting.saturating_sub(spare);
+    });
+    if waiting > spare {
+        let refusal = refused(15, first_step(&values, spare), link + 1);
+        maker.broken(scenario, "15: waiting one below", refusal, |network| {
+            network.links[link].waiting = waiting - spare - 1;
         });
     }
 }
@@ -335,7 +361,7 @@ fn tightened(scenario: &Scenario) -> Network {
     }
     for (index, link) in network.links.iter_mut().enumerate() {
         let needed = greatest(&room_needed(scenario, index)).unwrap_or(0);
-        link.capacity = needed.max(link.standing);
+        link.capacity = needed.max(link.standing).max(scenario.held_at_start(index));
         let rates = rates_needed(scenario, |step| scenario.plan[step].let_out[index]);
         link.exit_rate = greatest(&rates).unwrap_or(0);
     }
@@ -352,6 +378,7 @@ fn tightened(scenario: &Scenario) -> Network {
             step.demand[link] -= lowered;
             spare -= lowered;
         }
+        network.links[link].waiting -= network.links[link].waiting.min(spare);
     }
     network
 }

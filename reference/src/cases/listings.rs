@@ -2,7 +2,7 @@
 //! refusals 22 to 24.
 
 use super::scenario::greatest_common_divisor;
-use super::{refused, Answer, Buffer, Call, Ledger, Maker, Question, Random, Scenario, Sheet};
+use super::{refused, Call, Ledger, Maker, Question, Random, Scenario, Sheet};
 use crate::{PlanStep, Refusal};
 
 const GREATEST_VOLUME: u64 = u32::MAX as u64;
@@ -175,15 +175,7 @@ impl Maker {
         intended: Result<Vec<u8>, Refusal>,
     ) {
         let question = self.listing_question(scenario, listing, room);
-        let mut buffer = question.buffer.bytes();
-        let answer = match intended {
-            Ok(text) => {
-                buffer[..text.len()].copy_from_slice(&text);
-                Answer::Written(text.len() as u64)
-            }
-            Err(refusal) => Answer::Refused(refusal),
-        };
-        self.ask_about_buffer(name, question, answer, buffer);
+        self.ask_text(name, question, intended);
     }
 
     /// A listing of which nothing is known.
@@ -198,10 +190,7 @@ impl Maker {
             network: Sheet::of_network(&scenario.network).text(),
             plan: listing,
             ledger: Ledger::default(),
-            buffer: Buffer {
-                length: room,
-                fill: self.random.pick(&[0, b'x', b'\n', 255]),
-            },
+            buffer: self.draw_buffer(room),
             call: Call::PlanFromListing,
         }
     }

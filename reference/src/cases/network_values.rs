@@ -68,6 +68,8 @@ pub fn counts(maker: &mut Maker, scenario: &Scenario) {
         (4, "4294967295"),
         (5, "17"),
         (5, "4294967295"),
+        (6, "121"),
+        (6, "4294967295"),
     ] {
         let mut sheet = Sheet::of_network(&scenario.network);
         sheet.set(0, field, count.as_bytes());
@@ -90,6 +92,8 @@ pub fn counts(maker: &mut Maker, scenario: &Scenario) {
         (4, "120"),
         (5, "0"),
         (5, "16"),
+        (6, "0"),
+        (6, "120"),
     ] {
         let mut sheet = Sheet::of_network(&scenario.network);
         sheet.set(0, field, count.as_bytes());
@@ -111,7 +115,7 @@ pub fn counts(maker: &mut Maker, scenario: &Scenario) {
     );
     maker.ask_network(
         "1: largest counts and no other line",
-        texts.with_network(b"N\t24\t8\t64\t120\t0\n".to_vec()),
+        texts.with_network(b"N\t24\t8\t64\t120\t0\t0\n".to_vec()),
         Some(Answer::Refused(refused(1, 2, 0))),
     );
 }
@@ -327,6 +331,7 @@ pub fn links(maker: &mut Maker, scenario: &Scenario) {
         network.links[link].capacity = 2_000_000_000;
     });
     maker.near_miss(scenario, "capacity 0", |network| {
+        network.past.clear();
         network.links[link].capacity = 0;
         network.links[link].standing = 0;
     });
@@ -338,11 +343,13 @@ pub fn links(maker: &mut Maker, scenario: &Scenario) {
     }
     for travel_time in [1, 3600] {
         maker.near_miss(scenario, "travel time at its limit", |network| {
+            network.past.clear();
             network.links[link].travel_time = travel_time;
         });
     }
     let any = maker.random.between(1, 3600);
     maker.near_miss(scenario, "any travel time", |network| {
+        network.past.clear();
         network.links[link].travel_time = any;
     });
 
@@ -393,6 +400,7 @@ pub fn links(maker: &mut Maker, scenario: &Scenario) {
         network.links[link].standing = network.links[link].capacity + 1;
     });
     maker.near_miss(scenario, "standing equal to capacity", |network| {
+        network.past.clear();
         network.links[link].standing = network.links[link].capacity;
     });
     maker.breach(
@@ -540,7 +548,7 @@ pub fn movements(maker: &mut Maker, scenario: &Scenario) {
         },
     );
 
-    // After all `M` lines and before the first `S` line.
+    // After all `M` lines and before the first `H` or `S` line.
     let step_line = lines_before + movement_count;
     let mut sheet = Sheet::of_network(&with_wrong_share(network, movement));
     sheet.set(step_line, 0, b"X");
@@ -593,7 +601,8 @@ pub fn steps(maker: &mut Maker, scenario: &Scenario) {
         + network.trams.len()
         + network.signals.len()
         + network.links.len()
-        + network.movements.len();
+        + network.movements.len()
+        + network.past.len();
     let step = maker.random.index(network.steps.len());
     let link = maker.random.index(network.links.len());
     let place = Place {
@@ -721,7 +730,8 @@ impl BadField {
 }
 
 fn draw_bad_field(maker: &mut Maker, scenario: &Scenario, sheet: &Sheet, line: usize) -> BadField {
-    if maker.random.chance(40) {
+    // The values of a past step are judged after all lines.
+    if maker.random.chance(40) || sheet.lines[line][0] == b"H" {
         return BadField {
             line,
             field: maker.random.index(sheet.lines[line].len()),
@@ -732,7 +742,7 @@ fn draw_bad_field(maker: &mut Maker, scenario: &Scenario, sheet: &Sheet, line: u
     let network = &scenario.network;
     let last_demand = network.links.len() + 1;
     let values: &[(usize, &'static [u8])] = match sheet.lines[line][0][0] {
-        b'N' => &[(1, b"25"), (2, b"9"), (3, b"65"), (4, b"0"), (5, b"17")],
+        b'N' => &[(1, b"25"), (2, b"9"), (3, b"65"), (4, b"0"), (6, b"121")],
         b'T' => &[(1, b"0"), (1, b"9"), (3, b"0"), (4, b"0"), (4, b"121")],
         b'G' => &[(1, b"0"), (2, b"3601"), (4, b"0"), (5, b"4294967295")],
         b'Q' => &[
@@ -754,6 +764,7 @@ fn draw_bad_field(maker: &mut Maker, scenario: &Scenario, sheet: &Sheet, line: u
     let signals = trams + network.signals.len();
     let links = network.links.len();
     let movements = network.movements.len();
+    let past = network.past.len();
     // Items are counted from 1 after the lines of the other kinds.
     let (number, item) = match sheet.lines[line][0][0] {
         b'N' => (2, 0),
@@ -761,7 +772,7 @@ fn draw_bad_field(maker: &mut Maker, scenario: &Scenario, sheet: &Sheet, line: u
         b'G' => (3, line - trams),
         b'Q' => (4, line - signals),
         b'M' => (5, line - signals - links),
-        _ => (6, line - signals - links - movements),
+        _ => (6, line - signals - links - movements - past),
     };
     BadField {
         line,

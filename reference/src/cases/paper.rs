@@ -3,10 +3,10 @@
 use super::{refused, Answer, Maker, Texts};
 use crate::Totals;
 
-const NETWORK: &str = "N\t2\t1\t1\t4\t0\n\
+const NETWORK: &str = "N\t2\t1\t1\t4\t0\t0\n\
     G\t20\t60\t2\t2\t10\t20\t10\t30\t10\t30\n\
-    Q\t60000\t10\t0\t1\t1\t0\n\
-    Q\t60000\t10\t500\t0\t0\t0\n\
+    Q\t60000\t10\t0\t1\t1\t0\t0\n\
+    Q\t60000\t10\t500\t0\t0\t0\t0\n\
     M\t1\t2\t500\t1000\n\
     S\t10\t5000\t0\n\
     S\t10\t0\t0\n\

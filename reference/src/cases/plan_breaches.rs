@@ -360,11 +360,11 @@ fn too_little_entered(scenario: &Scenario, step: usize, breaches: &mut Vec<Breac
         }
         let entered = |row: usize| scenario.entered[row][link] - u64::from(row > step);
         let travel_time = scenario.network.links[link].travel_time;
-        let broken_in = scenario.first_early_departure(link, travel_time, entered);
-        if let Some(broken_in) = broken_in {
+        let boundary = scenario.first_early_departure(link, travel_time, entered);
+        if let Some(boundary) = boundary {
             let field = Field::Admitted(link);
             breaches.push(Breach {
-                broken_in,
+                broken_in: boundary - 1,
                 ..Breach::at_once(
                     17,
                     "17: one that left was not admitted before",
@@ -392,6 +392,25 @@ fn above_capacity(scenario: &Scenario, step: usize, breaches: &mut Vec<Breach>) 
             ));
         }
     }
+}
+
+/// The first steps of the plan with a breach in them, and what each is refused
+/// for.
+pub fn draw_breaches(
+    maker: &mut Maker,
+    scenario: &Scenario,
+    steps: usize,
+    count: usize,
+) -> Vec<(Vec<PlanStep>, Refusal)> {
+    let kinds = breaches(scenario).into_iter().flatten();
+    let mut breaches: Vec<Breach> = kinds.filter(|breach| breach.broken_in < steps).collect();
+    maker.random.shuffle(&mut breaches);
+    let broken = breaches.iter().take(count).map(|breach| {
+        let mut plan = scenario.plan[..steps].to_vec();
+        breach.apply(&mut plan);
+        (plan, breach.refusal())
+    });
+    broken.collect()
 }
 
 /// Each kind of breach, by its name, at some places.

@@ -1,7 +1,8 @@
 //! Random networks with plans that pass by construction: phases are chosen
 //! within the signals' limits, volumes are admitted, moved and let out within
 //! what demand, rates, shares, arrivals and capacity allow. Nothing of the
-//! judging code is used here.
+//! judging code is used here. A network with a past is what the simulation has
+//! left of a longer one (`carried`).
 
 use super::random::Random;
 use crate::{Link, Movement, Network, Phase, PlanStep, Signal, State, Step, Totals, Tram};
@@ -59,7 +60,28 @@ pub struct Moment {
 }
 
 impl Scenario {
+    /// With a past in about every second network that has room for one.
     pub fn make(random: &mut Random, size: Size, traffic: Traffic) -> Scenario {
+        let past = draw_past(random, size);
+        Scenario::make_with_past(random, size, traffic, past)
+    }
+
+    pub fn make_with_past(
+        random: &mut Random,
+        size: Size,
+        traffic: Traffic,
+        past: usize,
+    ) -> Scenario {
+        let steps = past + size.steps;
+        let whole = Scenario::make_from_start(random, Size { steps, ..size }, traffic);
+        if past == 0 {
+            whole
+        } else {
+            whole.carried(past)
+        }
+    }
+
+    fn make_from_start(random: &mut Random, size: Size, traffic: Traffic) -> Scenario {
         let lengths = draw_lengths(random, size.steps, traffic);
         let mut trams = draw_trams(random, size);
         let mut signals = Vec::new();
@@ -100,6 +122,7 @@ impl Scenario {
             signals,
             links,
             movements,
+            past: Vec::new(),
             steps,
         };
         simulate(random, network, traffic, &schedules)
@@ -140,16 +163,20 @@ impl Scenario {
     }
 
     /// The totals of the plan, from its volumes: the time is 2 x horizon x the
-    /// starting vehicles, and for each step (demand - let out) x the same weight.
+    /// starting vehicles, those waiting outside too, and for each step (demand -
+    /// let out) x the same weight.
     pub fn totals(&self) -> Totals {
         let volume =
             |part: fn(&PlanStep) -> &Vec<u64>| -> u64 { self.plan.iter().flat_map(part).sum() };
         let admitted = volume(|step| &step.admitted);
         let let_out = volume(|step| &step.let_out);
-        let start: u64 = self.network.links.iter().map(|link| link.standing).sum();
+        let start: u64 = (0..self.network.links.len())
+            .map(|link| self.held_at_start(link))
+            .sum();
+        let waiting: u64 = self.network.links.iter().map(|link| link.waiting).sum();
         let times = self.times();
         let horizon = times[self.step_count()];
-        let mut added = 2 * horizon * start;
+        let mut added = 2 * horizon * (start + waiting);
         let mut taken = 0;
         for (index, step) in self.network.steps.iter().enumerate() {
             let weight = 2 * (horizon - times[index + 1]) + step.length;
@@ -164,12 +191,19 @@ impl Scenario {
         }
     }
 
-    /// What waits outside a link after some steps: demand not yet admitted.
+    /// What a link holds at boundary 0.
+    pub fn held_at_start(&self, link: usize) -> u64 {
+        self.entered[0][link] - self.left[0][link]
+    }
+
+    /// What waits outside a link after some steps: what waited at the start and
+    /// demand, not yet admitted.
     pub fn outside(&self, steps: usize, link: usize) -> u64 {
         let network_steps = self.network.steps[..steps].iter();
         let demand: u64 = network_steps.map(|step| step.demand[link]).sum();
         let planned = self.plan[..steps].iter();
-        demand - planned.map(|step| step.admitted[link]).sum::<u64>()
+        let admitted: u64 = planned.map(|step| step.admitted[link]).sum();
+        self.network.links[link].waiting + demand - admitted
     }
 
     /// The state of a link (from index 0) at a boundary.
@@ -180,7 +214,7 @@ impl Scenario {
         }
     }
 
-    /// When what has arrived at a boundary had entered.
+    /// When what has arrived at a boundary had entered, if not in the past.
     pub fn entry(&self, boundary: usize, link: usize) -> Option<Moment> {
         let times = self.times();
         let entry_time = times[boundary].checked_sub(self.network.links[link].travel_time)?;
@@ -191,18 +225,36 @@ impl Scenario {
         })
     }
 
-    /// The first step (from index 0) after which more has left a link than has
-    /// arrived, with another travel time or with another number of entries.
+    /// The first boundary at which more has left a link than has arrived, with
+    /// another travel time or with another number of entries at the rows from 1
+    /// on.
     pub fn first_early_departure(
         &self,
         link: usize,
         travel_time: u64,
         entered: impl Fn(usize) -> u64,
     ) -> Option<usize> {
-        let times = self.times();
-        (0..self.step_count()).find(|&step| {
-            self.left[step + 1][link] > arrived(&times[..=step + 1], travel_time, &entered)
+        let past = self.network.past.len();
+        let lengths = self.network.past.iter().map(|step| step.length);
+        let steps = self.network.steps.iter().map(|step| step.length);
+        let times = boundary_times(lengths.chain(steps));
+        let entered_by = |place: usize| {
+            if place > past {
+                entered(place - past)
+            } else {
+                self.entered_in_past(link, place)
+            }
+        };
+        (0..=self.step_count()).find(|&boundary| {
+            let arrived = arrived(&times[..=past + boundary], travel_time, entered_by);
+            self.left[boundary][link] > arrived
         })
+    }
+
+    /// What had entered a link by a boundary of the past, counted from 0.
+    pub fn entered_in_past(&self, link: usize, boundary: usize) -> u64 {
+        let past = self.network.past[..boundary].iter();
+        self.network.links[link].standing + past.map(|step| step.entered[link]).sum::<u64>()
     }
 
     /// Whether a link's movements may go in a step (both from index 0).
@@ -339,7 +391,31 @@ fn draw_link(random: &mut Random, traffic: Traffic, signals: &[Signal], times: &
         signal,
         phase_mask,
         standing,
+        waiting: draw_waiting(random, traffic, times.len() - 1),
     }
+}
+
+/// Nothing mostly; never more than the demand that all steps could still have.
+fn draw_waiting(random: &mut Random, traffic: Traffic, steps: usize) -> u64 {
+    let most = 72_000_000 - 600_000 * steps as u64;
+    let any = random.between(0, 30_000);
+    let waiting = match traffic {
+        Traffic::Extreme => random.pick(&[0, most]),
+        _ if random.chance(60) => 0,
+        _ => random.pick(&[1, 1000, 5_000, any]),
+    };
+    waiting.min(most)
+}
+
+/// How many steps are past.
+fn draw_past(random: &mut Random, size: Size) -> usize {
+    let room = 120 - size.steps as u64;
+    if room == 0 || random.chance(50) {
+        return 0;
+    }
+    let many = room.min(40);
+    let most = random.pick(&[1, 3, 6, many]).min(room);
+    random.between(1, most) as usize
 }
 
 /// Movements between different pairs of links in rising order; as many as

@@ -19,6 +19,7 @@ impl Sheet {
                 network.movements.len() as u64,
                 network.steps.len() as u64,
                 network.trams.len() as u64,
+                network.past.len() as u64,
             ],
         );
         for tram in &network.trams {
@@ -49,6 +50,7 @@ impl Sheet {
                     link.signal,
                     link.phase_mask,
                     link.standing,
+                    link.waiting,
                 ],
             );
         }
@@ -57,6 +59,13 @@ impl Sheet {
                 b'M',
                 &[movement.from, movement.to, movement.rate, movement.share],
             );
+        }
+        for past in &network.past {
+            let mut numbers = vec![past.length];
+            for (&entered, &left) in past.entered.iter().zip(&past.left) {
+                numbers.extend([entered, left]);
+            }
+            sheet.push(b'H', &numbers);
         }
         for step in &network.steps {
             let mut numbers = vec![step.length];

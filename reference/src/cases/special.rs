@@ -2,7 +2,7 @@
 //! from all others and gives volume to all others.
 
 use super::{refused, Answer, Maker, Texts};
-use crate::{Link, Movement, Network, PlanStep, Step, Totals};
+use crate::{Link, Movement, Network, PastStep, PlanStep, Step, Totals};
 
 const LINKS: usize = 24;
 const CAPACITY: u64 = 2_000_000_000;
@@ -20,6 +20,7 @@ fn hub(shares: [u64; LINKS - 1], back: bool, steps: usize) -> Network {
         signal: 0,
         phase_mask: 0,
         standing,
+        waiting: 0,
     };
     let mut links = vec![link(CAPACITY / 2); LINKS];
     links[0] = link(CAPACITY);
@@ -47,6 +48,7 @@ fn hub(shares: [u64; LINKS - 1], back: bool, steps: usize) -> Network {
         signals: Vec::new(),
         links,
         movements,
+        past: Vec::new(),
         steps: vec![
             Step {
                 length: 60,
@@ -186,4 +188,59 @@ pub fn all_demand_at_once(maker: &mut Maker) {
     let intended = Some(Answer::Refused(refused(15, STEPS as usize, 1)));
     let texts = Texts::new(&network, &plan);
     maker.ask_plan("15: one more than all demand", texts, need, intended);
+}
+
+/// The highest number that a ledger can hold: 119 past steps, all that refusal
+/// 30 lets enter waits, and in the one step all of it is admitted and as much as
+/// can be is moved into the same link.
+pub fn highest_row(maker: &mut Maker) {
+    const PAST: u64 = 119;
+    const MOST: u64 = 72_000_000 + PAST * 13_800_000;
+    const MOVED: u64 = 600_000 * 23;
+    let mut network = hub([0; LINKS - 1], true, 1);
+    network.movements.drain(..LINKS - 1);
+    network.steps[0].demand[0] = 0;
+    network.links[0].waiting = MOST - 5;
+    let quiet = PastStep {
+        length: 60,
+        entered: vec![0; LINKS],
+        left: vec![0; LINKS],
+    };
+    network.past = vec![quiet; PAST as usize];
+    network.past[0].entered[0] = 5;
+    network.past[0].left[0] = MOST + MOVED;
+    let step = PlanStep {
+        masks: Vec::new(),
+        admitted: [&[MOST - 5], vec![0; LINKS - 1].as_slice()].concat(),
+        let_out: vec![0; LINKS],
+        moved: vec![600_000; LINKS - 1],
+    };
+
+    let start = CAPACITY - MOST - MOVED + 5 + 23 * CAPACITY / 2;
+    let counted = start + MOST - 5;
+    let totals = Totals {
+        admitted: MOST - 5,
+        let_out: 0,
+        inside: counted,
+        doubled_time: 60 * (2 * counted + DEMAND - 600_000),
+    };
+    let need = 2 * 2 * LINKS;
+    let mut ask = |name: &str, network: &Network, step: &PlanStep, intended: Answer| {
+        let texts = Texts::new(network, std::slice::from_ref(step));
+        maker.ask_plan(name, texts, need, Some(intended));
+    };
+    ask("highest row", &network, &step, Answer::PlanAccepted(totals));
+    let mut more = step.clone();
+    more.admitted[0] += 1;
+    let told = Answer::Refused(refused(15, 1, 1));
+    ask("15: one more than waits", &network, &more, told);
+    let mut fewer = network.clone();
+    fewer.past[1].left[0] = 1;
+    fewer.past[0].left[0] -= 2;
+    let told = Answer::Refused(refused(18, 1, 1));
+    ask("18: one more at the highest row", &fewer, &step, told);
+    let mut more = network;
+    more.links[0].waiting += 1;
+    let told = Answer::Refused(refused(30, 0, 0));
+    ask("30: one more at the highest row", &more, &step, told);
 }

@@ -1,5 +1,6 @@
 //! The state of one link, refusals 8 and 19 to 21.
 
+use super::past_states::past_contradictions;
 use super::scenario::Moment;
 use super::{refused, Answer, Call, Ledger, Maker, Scenario, Texts};
 use crate::State;
@@ -38,7 +39,7 @@ pub fn short_ledgers(maker: &mut Maker, scenario: &Scenario) {
 }
 
 impl Maker {
-    fn ask_state(
+    pub fn ask_state(
         &mut self,
         scenario: &Scenario,
         name: &str,
@@ -137,6 +138,9 @@ pub fn contradictions(maker: &mut Maker, scenario: &Scenario) {
                     length: scenario.network.steps[entry.boundary].length,
                 };
                 contradictions_inside_a_step(maker, scenario, &inside);
+            }
+            None if !scenario.network.past.is_empty() => {
+                past_contradictions(maker, scenario, boundary, link);
             }
             _ => contradictions_on_a_boundary(maker, scenario, boundary, link),
         }

@@ -29,11 +29,11 @@
 //! u32      number of given numbers at the ledger's start (at most its length),
 //!          or 0xFFFFFFFF for the same ones as in the case before; else the
 //!          numbers follow, a u32 each
-//! u32      length of the buffer, in bytes (0 unless the call is 4)
+//! u32      length of the buffer, in bytes (0 unless the call is 4 or 5)
 //! u32      what each byte of the buffer is before the call
 //! u32      call: 1 check a network, 2 check a plan, 3 state of one link,
-//!          4 plan from a listing
-//! u64      boundary (0 unless the call is 3)
+//!          4 plan from a listing, 5 carry on from a boundary
+//! u64      boundary (0 unless the call is 3 or 5)
 //! u64      link (0 unless the call is 3)
 //! u32      answer: 0 network accepted, 1 plan accepted, 2 state, 3 refused,
 //!          4 written
@@ -55,7 +55,7 @@
 //! as four bytes, the lowest first, then over the buffer's bytes: start with 0xCBF29CE484222325; for each
 //! byte, exclusive-or it in, then multiply by 0x100000001B3, modulo 2^64.
 //!
-//! In a few state cases the boundary or the link is above 4,294,967,295; a
+//! In a few cases of calls 3 and 5 the boundary or the link is above 4,294,967,295; a
 //! program whose call takes 32-bit numbers passes those over.
 
 use super::{checksum, Answer, Buffer, Call, Case, Ledger, Outcome, Question};
@@ -128,6 +128,7 @@ fn encode_case(bytes: &mut Vec<u8>, case: &Case, before: Option<&Question>) {
         Call::CheckPlan => (2, 0, 0),
         Call::LinkState { boundary, link } => (3, boundary, link),
         Call::PlanFromListing => (4, 0, 0),
+        Call::CarryOn { boundary } => (5, boundary, 0),
     };
     bytes.extend(call.to_le_bytes());
     bytes.extend(boundary.to_le_bytes());
@@ -236,6 +237,7 @@ impl<'a> Reader<'a> {
             2 => Call::CheckPlan,
             3 => Call::LinkState { boundary, link },
             4 => Call::PlanFromListing,
+            5 => Call::CarryOn { boundary },
             _ => return None,
         };
         let kind = self.u32()?;

@@ -53,7 +53,7 @@ fn r1_line_too_many_among_the_others() {
     }
     // A whole line too many shifts the lines below it.
     assert_network_refused(
-        &network().insert_line(5, "Q 60000 10 500 2 5 0").text(),
+        &network().insert_line(5, "Q 60000 10 500 2 5 0 0").text(),
         1,
         7,
         0,
@@ -200,7 +200,7 @@ fn r2_counts_outside_their_limits() {
         assert_network_refused(&network().set(1, field, count).keep(1).text(), 2, 1, 0);
     }
     assert_network_refused(
-        b"N\t4294967295\t4294967295\t4294967295\t4294967295\t0\n",
+        b"N\t4294967295\t4294967295\t4294967295\t4294967295\t0\t0\n",
         2,
         1,
         0,
@@ -210,14 +210,14 @@ fn r2_counts_outside_their_limits() {
 #[test]
 fn r2_near_misses() {
     // With the largest counts the first missing line is the second.
-    assert_network_refused(b"N\t24\t8\t64\t120\t0\n", 1, 2, 0);
-    assert_network_refused(b"N\t1\t0\t0\t1\t0\n", 1, 2, 0);
+    assert_network_refused(b"N\t24\t8\t64\t120\t0\t0\n", 1, 2, 0);
+    assert_network_refused(b"N\t1\t0\t0\t1\t0\t0\n", 1, 2, 0);
     // The smallest network.
-    assert_network_accepted(b"N\t1\t0\t0\t1\t0\nQ\t0\t1\t0\t0\t0\t0\nS\t1\t0\n");
+    assert_network_accepted(b"N\t1\t0\t0\t1\t0\t0\nQ\t0\t1\t0\t0\t0\t0\t0\nS\t1\t0\n");
     // The counts of the largest one, every line as small as can be.
-    let mut text = "N\t24\t8\t64\t120\t0\n".to_string();
+    let mut text = "N\t24\t8\t64\t120\t0\t0\n".to_string();
     text += &"G\t1\t1\t2\t1\t0\t0\t1\t1\t1\t1\n".repeat(8);
-    text += &"Q\t0\t1\t0\t0\t0\t0\n".repeat(24);
+    text += &"Q\t0\t1\t0\t0\t0\t0\t0\n".repeat(24);
     for from in 1..=16 {
         for to in 17..=19 {
             text += &format!("M\t{from}\t{to}\t1\t{}\n", if to == 17 { 250 } else { 375 });
@@ -259,7 +259,7 @@ fn r3_number_of_phases() {
 
 #[test]
 fn r3_bad_number_of_phases_comes_before_anything_later_in_the_line() {
-    let start = "N\t1\t1\t0\t1\t0\n";
+    let start = "N\t1\t1\t0\t1\t0\t0\n";
     for count in ["0", "1", "9", "4294967295", "0000000009", "01"] {
         let head = format!("{start}G\t20\t60\t{count}\t2\t10\t20");
         for tail in [
@@ -436,7 +436,7 @@ fn r4_signal() {
         3,
     );
     // No signal at all.
-    let text = b"N\t1\t0\t0\t1\t0\nQ\t0\t1\t0\t1\t1\t0\nS\t1\t0\n";
+    let text = b"N\t1\t0\t0\t1\t0\t0\nQ\t0\t1\t0\t1\t1\t0\t0\nS\t1\t0\n";
     assert_network_refused(text, 4, 2, 1);
 }
 
@@ -580,7 +580,7 @@ fn r6_length() {
     }
     // Up to 60 seconds where the phases allow it.
     let long = |length: u64| {
-        format!("N\t1\t1\t0\t1\t0\nG\t1\t100\t2\t1\t0\t0\t1\t61\t1\t61\nQ\t0\t3600\t0\t0\t0\t0\nS\t{length}\t0\n")
+        format!("N\t1\t1\t0\t1\t0\t0\nG\t1\t100\t2\t1\t0\t0\t1\t61\t1\t61\nQ\t0\t3600\t0\t0\t0\t0\t0\nS\t{length}\t0\n")
     };
     assert_network_accepted(long(1).as_bytes());
     assert_network_accepted(long(60).as_bytes());

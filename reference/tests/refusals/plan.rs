@@ -556,8 +556,9 @@ fn r17_standing_start_before_the_travel_time() {
 /// One link, a step of ten seconds in which 7 enter, one of twenty in which 13
 /// enter, and what leaves in each.
 fn early_departure(travel_time: u64, let_out: [u64; 2]) -> Option<(u64, u64, u64)> {
-    let network =
-        format!("N\t1\t0\t0\t2\t0\nQ\t60000\t{travel_time}\t1000\t0\t0\t5\nS\t10\t7\nS\t20\t13\n");
+    let network = format!(
+        "N\t1\t0\t0\t2\t0\t0\nQ\t60000\t{travel_time}\t1000\t0\t0\t5\t0\nS\t10\t7\nS\t20\t13\n"
+    );
     let plan = format!("P\t7\t{}\nP\t13\t{}\n", let_out[0], let_out[1]);
     let mut ledger = [FILL; 6];
     let answer = check_plan(network.as_bytes(), plan.as_bytes(), &mut ledger);
@@ -710,7 +711,7 @@ fn what_a_ledger_held_before_has_no_say() {
 
 #[test]
 fn the_smallest_plan() {
-    let network = b"N\t1\t0\t0\t1\t0\nQ\t5\t1\t3\t0\t0\t4\nS\t1\t1\n";
+    let network = b"N\t1\t0\t0\t1\t0\t0\nQ\t5\t1\t3\t0\t0\t4\t0\nS\t1\t1\n";
     let mut ledger = [FILL; 4];
     let totals = check_plan(network, b"P\t1\t3\n", &mut ledger).unwrap();
     assert_eq!(
@@ -730,7 +731,7 @@ fn volumes_above_half_of_32_bits() {
     // Link 1 is full with 2,000,000,000 and gets 600,000 a step from outside
     // for each 600,000 that it has let out the step before.
     let mut network =
-        "N\t1\t0\t0\t120\t0\nQ\t2000000000\t60\t10000\t0\t0\t2000000000\n".to_string();
+        "N\t1\t0\t0\t120\t0\t0\nQ\t2000000000\t60\t10000\t0\t0\t2000000000\t0\n".to_string();
     network += &"S\t60\t600000\n".repeat(120);
     let plan = "P\t0\t600000\n".to_string() + &"P\t600000\t600000\n".repeat(119);
     let mut ledger = [FILL; 242];

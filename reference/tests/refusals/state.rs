@@ -158,7 +158,8 @@ fn r21_other_links_and_rows_have_no_say() {
 /// tenths of the first step's volume have not arrived, at 40 three tenths of
 /// the last step's have.
 fn state_inside_a_step(ledger: [u32; 8], boundary: u64) -> Result<(u64, u64), Refusal> {
-    let network = b"N\t1\t0\t0\t3\t0\nQ\t60000\t14\t0\t0\t0\t0\nS\t10\t0\nS\t10\t0\nS\t20\t0\n";
+    let network =
+        b"N\t1\t0\t0\t3\t0\t0\nQ\t60000\t14\t0\t0\t0\t0\t0\nS\t10\t0\nS\t10\t0\nS\t20\t0\n";
     link_state(network, &ledger, boundary, 1)
         .map(|State { queued, in_transit }| (queued, in_transit))
 }
