@@ -44,7 +44,7 @@ impl Compared {
     }
 }
 
-/// Nothing where the library has no such call: its boundaries and links are of 32 bits.
+/// Nothing where the library has no such call: its boundaries and links are of 32 bits, and it may be an earlier one.
 pub fn compare(question: &Question) -> Option<Compared> {
     let asked = ask(question)?;
     let outcome = question.judge();
@@ -111,6 +111,11 @@ fn ask_library(question: &Question, ledger: &mut [u32], buffer: &mut [u8]) -> Op
         Call::PlanFromListing => {
             Given::Text(library::plan_from_listing(network, &question.plan, buffer))
         }
+        Call::CarryOn { boundary } => {
+            let boundary = u32::try_from(boundary).ok()?;
+            let plan = &question.plan;
+            Given::Text(library::carry_on(network, boundary, plan, ledger, buffer)?)
+        }
     })
 }
 
@@ -154,7 +159,7 @@ fn in_numbers(question: &Question, answer: Answer) -> Given {
                 in_transit: narrow(state.in_transit),
             })
         }
-        Call::PlanFromListing => {
+        Call::PlanFromListing | Call::CarryOn { .. } => {
             let length = match answer {
                 Answer::Written(length) => length as usize,
                 _ => 0,

@@ -43,6 +43,9 @@ fn mutate(random: &mut Random, question: &Question) -> Question {
     }
     if random.chance(40) && question.call != Call::PlanFromListing {
         mutated.call = draw_call(random);
+        if matches!(mutated.call, Call::CarryOn { .. }) {
+            mutated.buffer.length = draw_room(random, 2 * question.network.len());
+        }
     }
     mutated
 }
@@ -78,9 +81,12 @@ fn mutate_ledger(random: &mut Random, ledger: &Ledger) -> Ledger {
 }
 
 fn draw_call(random: &mut Random) -> Call {
-    match random.between(0, 3) {
+    match random.between(0, 4) {
         0 => Call::CheckNetwork,
         1 => Call::CheckPlan,
+        2 => Call::CarryOn {
+            boundary: draw_near(random, 9),
+        },
         _ => Call::LinkState {
             boundary: draw_near(random, 12),
             link: draw_near(random, 6),

@@ -9,6 +9,8 @@ mod compare;
 #[path = "../../../bindings/rust/src/library.rs"]
 mod declarations;
 mod inputs;
+#[cfg(feature = "carry_on")]
+mod later;
 mod library;
 
 use compare::{compare, Asked, Compared};
@@ -20,11 +22,12 @@ use std::process::ExitCode;
 /// After so many differences nothing more is learnt.
 const MOST_DIFFERENCES: u64 = 20;
 
-const CALLS: [&str; 4] = [
+const CALLS: [&str; 5] = [
     "check_network",
     "check_plan",
     "link_state",
     "plan_from_listing",
+    "carry_on",
 ];
 
 #[derive(Default)]
@@ -104,6 +107,7 @@ fn name_of(call: Call) -> &'static str {
         Call::CheckPlan => "check_plan",
         Call::LinkState { .. } => "link_state",
         Call::PlanFromListing => "plan_from_listing",
+        Call::CarryOn { .. } => "carry_on",
     }
 }
 
@@ -135,7 +139,7 @@ fn tell_place<T: PartialEq + Display>(name: &str, expected: &[T], given: &[T]) {
 
 fn report(counts: &Counts) {
     println!("answer\t{}", CALLS.join("\t"));
-    for number in (0..=6).chain(8..=29) {
+    for number in (0..=6).chain(8..=32) {
         let count = |call| counts.answers.get(&(call, number)).copied().unwrap_or(0);
         let columns = CALLS.map(|call| count(call).to_string());
         let name = if number == 0 {
