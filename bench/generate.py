@@ -6,7 +6,7 @@ generate.py random LINKS SIGNALS MOVEMENTS STEPS SEED FOLDER
 generate.py widest FOLDER
     the same at the greatest sizes, with numbers as long as the limits allow
 generate.py plan NETWORK SEED
-    prints a plan for a network text that is valid
+    prints a plan for a network text that is valid and has no past
 
 Volumes are in thousandths of a vehicle, times in seconds. Signals, links and phases are counted from 0 here.
 """
@@ -15,7 +15,7 @@ import math
 import os
 import random
 import sys
-from dataclasses import dataclass, field
+from dataclasses import dataclass, field, replace
 
 
 @dataclass
@@ -37,6 +37,7 @@ class Link:
     signal: int  # counted from 1; 0 for none
     mask: int
     standing: int
+    waiting: int = 0
 
 
 @dataclass
@@ -62,12 +63,20 @@ class Tram:
 
 
 @dataclass
+class PastStep:
+    length: int
+    entered: list
+    left: list
+
+
+@dataclass
 class Network:
     signals: list
     links: list
     movements: list
     steps: list
     trams: list = field(default_factory=list)
+    past: list = field(default_factory=list)
 
     def times(self):
         times = [0]
@@ -96,7 +105,7 @@ def record(letter, numbers):
 
 
 def network_text(network):
-    counted = [network.links, network.signals, network.movements, network.steps, network.trams]
+    counted = [network.links, network.signals, network.movements, network.steps, network.trams, network.past]
     text = record("N", map(len, counted))
     for tram in network.trams:
         text += record("T", [tram.signal + 1, tram.phase + 1, tram.first + 1, tram.last + 1])
@@ -105,9 +114,12 @@ def network_text(network):
         head = [signal.least_cycle, signal.greatest_cycle, len(signal.least)]
         text += record("G", head + [signal.phase + 1, signal.shown_for, signal.cycle_clock] + spans)
     for link in network.links:
-        text += record("Q", [link.capacity, link.travel_time, link.exit_rate, link.signal, link.mask, link.standing])
+        limits = [link.capacity, link.travel_time, link.exit_rate, link.signal, link.mask]
+        text += record("Q", limits + [link.standing, link.waiting])
     for movement in network.movements:
         text += record("M", [movement.origin + 1, movement.destination + 1, movement.rate, movement.share])
+    for step in network.past:
+        text += record("H", [step.length] + [volume for pair in zip(step.entered, step.left) for volume in pair])
     for step in network.steps:
         text += record("S", [step.length] + step.demand)
     return text
@@ -242,6 +254,39 @@ def make_plan(chance, network):
         plan.left.append(left)
         plan.steps.append(PlanStep(masks, admitted, let_out, moved))
     return plan
+
+
+def shown_at(signal, phases, lengths):
+    """The signal after it has shown these phases in steps of these lengths."""
+    phase, shown_for, clock = signal.phase, signal.shown_for, signal.cycle_clock
+    for shown, length in zip(phases, lengths):
+        changed = shown != phase
+        shown_for = length if changed else shown_for + length
+        clock = length if changed and shown == 0 else clock + length
+        phase = shown
+    return replace(signal, phase=phase, shown_for=shown_for, cycle_clock=clock)
+
+
+def carried(network, plan, boundary):
+    """The network and the plan from a boundary on; the steps before it are past."""
+    lengths = [step.length for step in network.steps[:boundary]]
+    masks = [step.masks for step in plan.steps[:boundary]]
+
+    def volumes(rows, n):
+        return [after - before for before, after in zip(rows[n], rows[n + 1])]
+
+    past = [PastStep(length, volumes(plan.entered, n), volumes(plan.left, n)) for n, length in enumerate(lengths)]
+    signals = []
+    for r, signal in enumerate(network.signals):
+        phases = [shown[r].bit_length() - 1 for shown in masks]
+        signals.append(shown_at(signal, phases, lengths))
+    links = []
+    for i, link in enumerate(network.links):
+        demand = sum(step.demand[i] for step in network.steps[:boundary])
+        admitted = sum(step.admitted[i] for step in plan.steps[:boundary])
+        links.append(replace(link, waiting=link.waiting + demand - admitted))
+    rest = Network(signals, links, network.movements, network.steps[boundary:], network.past + past)
+    return rest, Plan(plan.steps[boundary:], plan.entered[boundary:], plan.left[boundary:])
 
 
 def corridor_text(cells, demands):
