@@ -79,8 +79,9 @@ class Network:
     past: list = field(default_factory=list)
 
     def times(self):
+        """The times of all boundaries, from the start of the first past step on."""
         times = [0]
-        for step in self.steps:
+        for step in [*self.past, *self.steps]:
             times.append(times[-1] + step.length)
         return times
 
@@ -159,6 +160,8 @@ def read_network(text):
             network.links.append(Link(*numbers))
         elif letter == "M":
             network.movements.append(Movement(numbers[0] - 1, numbers[1] - 1, numbers[2], numbers[3]))
+        elif letter == "H":
+            network.past.append(PastStep(numbers[0], numbers[1::2], numbers[2::2]))
         elif letter == "S":
             network.steps.append(Step(numbers[0], numbers[1:]))
     return network
@@ -220,15 +223,18 @@ def make_plan(chance, network):
     phases = [shown_phases(chance, network, index) for index in range(len(network.signals))]
     from_link = [[j for j, m in enumerate(movements) if m.origin == i] for i in range(len(links))]
     plan = Plan([], [[link.standing for link in links]], [[0] * len(links)])
+    for step in network.past:
+        plan.entered.append([volume + new for volume, new in zip(plan.entered[-1], step.entered)])
+        plan.left.append([volume + new for volume, new in zip(plan.left[-1], step.left)])
     for n in range(1, len(lengths) + 1):
         length = lengths[n - 1]
         masks = [1 << shown[n - 1] for shown in phases]
-        entered, left = plan.entered[n - 1][:], plan.left[n - 1][:]
+        entered, left = plan.entered[-1][:], plan.left[-1][:]
         space = [link.capacity + left[i] - entered[i] for i, link in enumerate(links)]
         let_out, moved = [0] * len(links), [0] * len(movements)
         for i in chance.sample(range(len(links)), len(links)):
             link = links[i]
-            entry_time = times[n] - link.travel_time
+            entry_time = times[len(network.past) + n] - link.travel_time
             arrived = plan.entered[times.index(entry_time)][i] if entry_time >= 0 else link.standing
             queue = arrived - left[i]
             keep = chance.randint(0, queue // 2) if from_link[i] else 0
@@ -253,6 +259,7 @@ def make_plan(chance, network):
         plan.entered.append([volume + new for volume, new in zip(entered, admitted)])
         plan.left.append(left)
         plan.steps.append(PlanStep(masks, admitted, let_out, moved))
+    plan.entered, plan.left = plan.entered[len(network.past) :], plan.left[len(network.past) :]
     return plan
 
 
@@ -285,7 +292,7 @@ def carried(network, plan, boundary):
         demand = sum(step.demand[i] for step in network.steps[:boundary])
         admitted = sum(step.admitted[i] for step in plan.steps[:boundary])
         links.append(replace(link, waiting=link.waiting + demand - admitted))
-    rest = Network(signals, links, network.movements, network.steps[boundary:], network.past + past)
+    rest = Network(signals, links, network.movements, network.steps[boundary:], past=network.past + past)
     return rest, Plan(plan.steps[boundary:], plan.entered[boundary:], plan.left[boundary:])
 
 

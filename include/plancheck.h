@@ -2,8 +2,8 @@
  * plancheck.h: the plan check library (libplan_check_c.a).
  *
  * Decides whether a traffic-signal plan may run on a network under the Queue Transmission Model, and what travel time
- * it gives. Calls: check a network, what it has, check a plan, and the state of one link; beside them, a plan from a
- * solver's listing, a run of a corridor in cells, and a step of vehicles along a street.
+ * it gives. Calls: check a network, what it has, check a plan, the state of one link, and carry on from a boundary; beside
+ * them, a plan from a solver's listing, a run of a corridor in cells, and a step of vehicles along a street.
  *
  *     static uint32_t ledger[PLANCHECK_LEDGER_MAX];
  *
@@ -32,14 +32,16 @@
  * zeros may stand within the 10 digits: texts that differ only in them get the same answer. There is no byte after the
  * last line feed, and no terminating zero.
  *
- * The network text, for L links, R signals, M movements, K steps and T tram lines, in this order:
- *     N  L, R, M, K, T                                                                                    one line
+ * The network text, for L links, R signals, M movements, K steps, T tram lines and H past steps, in this order:
+ *     N  L, R, M, K, T, H                                                                                 one line
  *     T  signal, phase, first step, last step: in these steps a tram claims the signal                    T lines
  *     G  least cycle, greatest cycle, phases P, phase shown before the plan, seconds it has shown,
  *        seconds since phase 1 last began, then least and greatest time of each phase                     R lines
  *     Q  capacity, travel time, exit rate, signal (0: none), phase mask (bit k-1: phase k opens the link),
- *        volume standing at the start                                                                     L lines
+ *        volume standing at the start, before the past steps, volume waiting outside at time 0           L lines
  *     M  from link, to link, rate, share                                                                  M lines
+ *     H  length of a past step, then for each link the volumes that entered and that left in it,
+ *        oldest step first                                                                                H lines
  *     S  length, demand volume of each link                                                               K lines
  * The plan text, one line a step:
  *     P  mask shown by each signal, volume admitted on each link, volume let out of the network from each link,
@@ -63,25 +65,27 @@
  * belongs to boundary n and starts at index 2 * n * L. For link i it holds two cumulative volumes:
  *     ledger[2 * n * L + 2 * (i - 1)]        entered: the standing start and all that came onto the link by boundary n
  *     ledger[2 * n * L + 2 * (i - 1) + 1]    left: all that went from it by boundary n
+ * both counted from the first past step on.
  * A network needs PLANCHECK_LEDGER_LEN(L, K) numbers; PLANCHECK_LEDGER_MAX are enough for every network.
  *
  * DUTIES OF THE CALLER
  *   - A pointer is not NULL, except where its length is 0: then NULL will do, and so will any aligned address.
  *   - A text pointer is readable for its length in bytes; a ledger pointer is aligned for uint32_t and is readable
- *     (and, for plancheck_check_plan, writable) for its length in numbers. The buffer of plancheck_plan_from_listing is
- *     writable for its length in bytes, and overlaps neither text.
- *   - The ledger lent to plancheck_check_plan overlaps neither text. The texts may overlap each other.
+ *     (and, for plancheck_check_plan and plancheck_carry_on, writable) for its length in numbers. The buffer of
+ *     plancheck_plan_from_listing and of plancheck_carry_on is writable for its length in bytes, and overlaps neither
+ *     text nor the ledger.
+ *   - The ledger lent to a call that writes it overlaps neither text. The texts may overlap each other.
  *   - A pointer to doubles is aligned for double and is readable (the places of plancheck_step_vehicles also writable)
  *     for its length in doubles. The places overlap neither the advances nor the red lines.
- *   - No other thread writes to the texts, the ledger or the buffer, or reads the ledger of plancheck_check_plan or the
- *     buffer, during the call.
+ *   - No other thread writes to the texts, the ledger or the buffer, or reads a ledger or a buffer that the call writes,
+ *     during the call.
  * There are no others: any bytes in the texts, any numbers in the ledger and any lengths are allowed, and lead to a
  * refusal at worst.
  *
  * WHAT A CALL DOES NOT DO
  * It keeps nothing between calls and uses no heap, no global or static data, no file and no errno. The answer depends
- * on the arguments alone. The calls are re-entrant and may run in several threads at once, each plan check with a
- * ledger of its own. A call always returns, after work that grows linearly with the lengths of the texts and with
+ * on the arguments alone. The calls are re-entrant and may run in several threads at once, each that writes a ledger with
+ * one of its own. A call always returns, after work that grows linearly with the lengths of the texts and with
  * K * (R + L + M), of a listing too, of a corridor with cells * demands, and of a step with vehicles * red lines.
  * The library needs memcpy and memset from the C library, at most.
  *
@@ -92,6 +96,7 @@
  *     plancheck_network_counts       4,272    nothing
  *     plancheck_check_plan           7,920    the ledger: 4 * PLANCHECK_LEDGER_LEN(L, K), 23,232 at most
  *     plancheck_link_state           4,256    nothing
+ *     plancheck_carry_on             CARRY    the ledger: 4 * PLANCHECK_LEDGER_LEN(L, b); the buffer for the text
  *     plancheck_plan_from_listing   65,824    the buffer: PLANCHECK_WRITTEN_PLAN_MAX, 151,920, at most
  *     plancheck_run_cells            2,208    nothing
  *     plancheck_step_vehicles            8    nothing: the places are changed where they stand
@@ -104,8 +109,8 @@
  * ERRORS
  * A result has number 0 (PLANCHECK_OK), or the number of the first refusal in the order of judging, with the line and
  * the item that it names, 0 where it names none. Nothing else is reported: when number is not 0, every other member but
- * line and item is 0. Numbers 1 to 6 and 28 name a line of the network text, 9 to 18, 25 to 27 and 29 a line of the plan
- * text, 22 and 23 a line of the listing, 36 and 37 a line of the corridor text.
+ * line and item is 0. Numbers 1 to 6 and 28 name a line of the network text (30, the past as a whole, names none), 9 to
+ * 18, 25 to 27 and 29 a line of the plan text, 22 and 23 a line of the listing, 36 and 37 a line of the corridor text.
  * docs/REFUSALS.md says what to do about each.
  */
 #ifndef PLANCHECK_H
@@ -123,12 +128,14 @@ extern "C" {
 #define PLANCHECK_VERSION_MINOR 1
 #define PLANCHECK_VERSION_PATCH 0
 
-/* Limits of a network. Links and steps are at least 1; there may be no signals, no movements and no tram lines. */
+/* Limits of a network. Links and steps are at least 1; there may be no signals, movements, tram lines and past steps. Past
+   and present steps together are at most PLANCHECK_MAX_STEPS (30). */
 #define PLANCHECK_MAX_LINKS 24
 #define PLANCHECK_MAX_SIGNALS 8
 #define PLANCHECK_MAX_MOVEMENTS 64
 #define PLANCHECK_MAX_STEPS 120
 #define PLANCHECK_MAX_TRAMS 16
+#define PLANCHECK_MAX_PAST_STEPS 120
 
 /* Limits of a corridor in cells; both are at least 1. */
 #define PLANCHECK_MAX_CELLS 64
@@ -148,7 +155,7 @@ extern "C" {
  * The library takes texts of any length. No valid network text and no accepted plan text is longer than this, in bytes,
  * every number padded to 10 digits: a longer one may be turned down unread.
  */
-#define PLANCHECK_NETWORK_TEXT_MAX 40561
+#define PLANCHECK_NETWORK_TEXT_MAX 72252
 #define PLANCHECK_PLAN_TEXT_MAX 158640
 
 /* No plan text that plancheck_plan_from_listing writes is longer than this, in bytes. */
@@ -184,6 +191,10 @@ enum plancheck_number {
     PLANCHECK_MOVEMENT_VALUES = 5,
     /* Length not 1 to 60, or above the greatest time of some phase; a demand above 600000. Item: step. */
     PLANCHECK_STEP_VALUES = 6,
+    /* A past step's length not 1 to 60; past and present steps above 120 together; or a link that, when the past ends, has
+       left above arrived or holds more than its capacity, or whose past entries, waiting volume and demands exceed
+       72000000 + 13800000 * H. Judged last of the network's. No line, no item. */
+    PLANCHECK_PAST_VALUES = 30,
 
     /* Ledger. */
 
@@ -243,6 +254,13 @@ enum plancheck_number {
     /* The buffer is shorter than the plan text. */
     PLANCHECK_BUFFER_TOO_SHORT = 24,
 
+    /* Carrying on. No line, no item. */
+
+    /* The boundary is not 1 to K - 1. Judged after the network's, before 8. */
+    PLANCHECK_CARRY_BOUNDARY = 31,
+    /* The buffer is shorter than the network text that is carried on. Judged last. */
+    PLANCHECK_CARRY_BUFFER_TOO_SHORT = 32,
+
     /* Corridor text. No item. */
 
     /* A line is missing, unfinished, surplus, has a wrong letter, a bad number or a wrong number of fields, or a value is
@@ -296,7 +314,8 @@ typedef struct {
     uint64_t inside;       /* volume in the network at the end */
     uint64_t doubled_time; /* twice the travel time, in thousandths of a vehicle times seconds: the sum over the steps
                               of length * (volume under way at the step's start + at its end), which is in the network
-                              or waits outside: demand of the steps so far that was not admitted */
+                              or waits outside: who waited at time 0 and the demand of the steps so far, less what was
+                              admitted */
 } plancheck_plan_result;
 
 /* Answer of plancheck_link_state. 20 bytes. */
@@ -308,7 +327,7 @@ typedef struct {
     uint32_t in_transit; /* volume that has entered and has not arrived */
 } plancheck_link_result;
 
-/* Answer of plancheck_plan_from_listing. 24 bytes, of which the 4 after item are padding. */
+/* Answer of plancheck_plan_from_listing and plancheck_carry_on. 24 bytes, of which the 4 after item are padding. */
 typedef struct {
     uint32_t number; /* PLANCHECK_OK: the text is written */
     uint32_t line;
@@ -349,7 +368,7 @@ PLANCHECK_ASSERT(cells_flows, offsetof(plancheck_cells_result, flow_in) == 16);
 plancheck_version_result plancheck_version(void);
 
 /*
- * Checks a network text. Refusals 1 to 6 and 28.
+ * Checks a network text. Refusals 1 to 6, 28 and 30.
  *
  * Reads network[0 .. network_len - 1]. Writes nothing.
  */
@@ -357,15 +376,15 @@ plancheck_network_result plancheck_check_network(const uint8_t *network, size_t 
 
 /*
  * Checks a network text and tells what a valid one has: links, signals, movements, steps and tram lines, as its N line
- * says. Refusals 1 to 6 and 28. A ledger of PLANCHECK_LEDGER_LEN(links, steps) numbers is enough for it.
+ * says. Refusals 1 to 6, 28 and 30. A ledger of PLANCHECK_LEDGER_LEN(links, steps) numbers is enough for it.
  *
  * Reads network[0 .. network_len - 1]. Writes nothing.
  */
 plancheck_counts_result plancheck_network_counts(const uint8_t *network, size_t network_len);
 
 /*
- * Checks a plan on a network, and fills the ledger. Refusals 1 to 6, 8 to 18 and 25 to 29: those of the network (1 to 6 and
- * 28), then the ledger's length (8), then the plan line by line: the form of the line (9), then rules 10, 29, 11 to 15,
+ * Checks a plan on a network, and fills the ledger. Refusals 1 to 6, 8 to 18 and 25 to 30: those of the network (1 to 6, 28
+ * and 30), then the ledger's length (8), then the plan line by line: the form of the line (9), then rules 10, 29, 11 to 15,
  * 25 to 27 and 16 to 18 in this order, each over rising items.
  *
  * A plan text of no bytes means hold: it stands for K lines in which each signal keeps its shown phase and every volume
@@ -374,25 +393,42 @@ plancheck_counts_result plancheck_network_counts(const uint8_t *network, size_t 
  * Reads both texts. Writes rows of the ledger, as far as the plan passes:
  *     accepted, or refused with 9 for text after the last line     rows 0 to K
  *     refused at line n of the plan, n from 1 to K                 rows 0 to n - 1
- *     refused with 1 to 8 or 28                                    none
+ *     refused with 1 to 8, 28 or 30                                none
  * All other numbers of the ledger keep what they held. What the ledger held before has no influence on the answer.
  */
 plancheck_plan_result plancheck_check_plan(const uint8_t *network, size_t network_len, const uint8_t *plan,
                                            size_t plan_len, uint32_t *ledger, size_t ledger_len);
 
 /*
- * Tells what stands on one link at one boundary, from the ledger of an accepted plan. Refusals 1 to 6 and 28 of the
+ * Tells what stands on one link at one boundary, from the ledger of an accepted plan. Refusals 1 to 6, 28 and 30 of the
  * network, then 8, 19, 20 and 21. Where the travel time ends inside a step, the elapsed part of what entered in it has arrived,
  * taken evenly; what is queued is rounded down, and the rest is in transit.
  *
  * Reads the network text and the ledger: of the rows, at most those of the boundary and of the step one travel time
- * before. Writes nothing. A ledger of a refused plan is answered for the rows that were written.
+ * before; what arrived before time 0 is read from the network alone. Writes nothing. A ledger of a refused plan is answered for the rows that were written.
  */
 plancheck_link_result plancheck_link_state(const uint8_t *network, size_t network_len, const uint32_t *ledger,
                                            size_t ledger_len, uint32_t boundary, uint32_t link);
 
 /*
- * Writes the plan text of a solver's listing: a line for each step, all that no line names 0. Refusals 1 to 6 and 28 of
+ * Carries a network on from a boundary b, for a server that plans anew while traffic runs: judges a plan of b lines on the
+ * network cut to its first b steps, and writes the network text from b on. Its b steps are past there. A plan of K lines is
+ * accepted exactly when its first b are by this call and the rest is on the text that it writes; later rows of the ledger
+ * are then equal, and the doubled times add up.
+ *
+ * Refusals: those of the whole network (1 to 6, 28, 30), 31, then 8 for fewer than PLANCHECK_LEDGER_LEN(L, b) numbers, then
+ * the plan's on the cut network, then 32. An empty plan text means hold for b steps.
+ *
+ * Reads both texts. Writes rows 0 to b of the ledger as plancheck_check_plan does, also where 32 follows; and
+ * carried[0 .. length - 1], no leading zeros in it. The bytes past the text keep what they held, and a refusal leaves all of
+ * them as they were. PLANCHECK_NETWORK_TEXT_MAX bytes are always enough.
+ */
+plancheck_text_result plancheck_carry_on(const uint8_t *network, size_t network_len, uint32_t boundary,
+                                         const uint8_t *plan, size_t plan_len, uint32_t *ledger, size_t ledger_len,
+                                         uint8_t *carried, size_t carried_len);
+
+/*
+ * Writes the plan text of a solver's listing: a line for each step, all that no line names 0. Refusals 1 to 6, 28 and 30 of
  * the network, then 22 and 23 line by line, then 24. The plan itself is not judged: plancheck_check_plan does that.
  *
  * Reads both texts. Writes plan[0 .. length - 1], no leading zeros in it; the bytes past the text keep what they held,

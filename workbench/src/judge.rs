@@ -114,7 +114,7 @@ fn masks(network: &Network, plan: &[u8], steps: usize) -> Vec<Vec<u32>> {
 
 /// The totals at each boundary that passed: those of the plan's first lines on the network cut to as many steps. What is
 /// under way, inside or waiting outside, is told by the doubled travel time: each step adds its length times what is under
-/// way at its start and at its end. Nobody waits outside at boundary 0.
+/// way at its start and at its end. Who waits outside at boundary 0 stands in the `Q` lines.
 fn running(texts: &Texts, network: &Network, volumes: &[Vec<Volumes>], passed: usize) -> Result<Vec<Running>, Refusal> {
     let mut totals = Totals {
         admitted: 0,
@@ -122,8 +122,9 @@ fn running(texts: &Texts, network: &Network, volumes: &[Vec<Volumes>], passed: u
         inside: volumes[0].iter().map(|of_link| u64::from(of_link.held())).sum(),
         doubled_time: 0,
     };
-    let mut under_way = totals.inside;
-    let mut running = vec![Running { totals, outside: 0 }];
+    let outside = network.links.iter().map(|link| u64::from(link.waiting)).sum();
+    let mut under_way = totals.inside + outside;
+    let mut running = vec![Running { totals, outside }];
     let mut ledger = vec![0; MAX_LEDGER_LEN];
     for steps in 1..=passed {
         let time_before = totals.doubled_time;

@@ -20,6 +20,8 @@ pub struct Link {
     /// Counted from 1; 0 for none.
     pub signal: u32,
     pub mask: u32,
+    /// Volume that waits outside at time 0.
+    pub waiting: u32,
 }
 
 pub struct Movement {
@@ -91,6 +93,7 @@ impl Network {
                 exit_rate: field(2),
                 signal: field(3),
                 mask: field(4),
+                waiting: field(6),
             }),
             b'M' => self.movements.push(Movement {
                 line,

@@ -15,7 +15,7 @@ pub struct Volumes {
 /// ```
 /// use plancheck::{check_plan, required_ledger_len, Rows};
 ///
-/// let network = "N\t1\t0\t0\t2\t0\nQ\t60000\t10\t500\t0\t0\t0\nS\t10\t5000\nS\t10\t0\n";
+/// let network = "N\t1\t0\t0\t2\t0\t0\nQ\t60000\t10\t500\t0\t0\t0\t0\nS\t10\t5000\nS\t10\t0\n";
 /// let mut ledger = [0; required_ledger_len(1, 2)];
 /// check_plan(network.as_bytes(), b"P\t5000\t0\nP\t0\t2000\n", &mut ledger)?;
 ///

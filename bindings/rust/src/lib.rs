@@ -3,6 +3,7 @@
 #![deny(missing_docs)]
 #![warn(clippy::pedantic)]
 
+mod carry;
 mod cells;
 mod counts;
 mod ledger;
@@ -11,6 +12,7 @@ mod listing;
 mod refusal;
 mod traces;
 
+pub use carry::{carry_on, MAX_NETWORK_TEXT_LEN};
 pub use cells::{run_cells, CellsRun, MAX_CELLS};
 pub use counts::{library_version, network_counts, Counts, Version};
 pub use ledger::{Rows, Volumes};
@@ -28,6 +30,9 @@ pub const MAX_MOVEMENTS: usize = 64;
 pub const MAX_TRAMS: usize = 16;
 /// The greatest number of steps of a network; there is at least one.
 pub const MAX_STEPS: usize = 120;
+/// The greatest number of past steps of a network; there may be none, and past and present steps together are at most
+/// [`MAX_STEPS`].
+pub const MAX_PAST_STEPS: usize = 120;
 /// A ledger length that is enough for every network.
 pub const MAX_LEDGER_LEN: usize = required_ledger_len(MAX_LINKS, MAX_STEPS);
 
@@ -52,8 +57,8 @@ pub struct Totals {
     /// Volume in the network at the end.
     pub inside: u64,
     /// Twice the travel time, in thousandths of a vehicle times seconds: the sum over the steps of length × (volume
-    /// under way at the step's start + at its end), which is in the network or waits outside: demand of the steps so
-    /// far that was not admitted.
+    /// under way at the step's start + at its end), which is in the network or waits outside: who waited at time 0 and
+    /// the demand of the steps so far, less what was admitted.
     pub doubled_time: u64,
 }
 
@@ -70,16 +75,16 @@ pub struct LinkState {
 ///
 /// # Errors
 ///
-/// Refusals 1 to 6 and 28.
+/// Refusals 1 to 6, 28 and 30.
 ///
 /// # Examples
 ///
 /// ```
 /// // One link without a signal, one step of ten seconds.
-/// let network = "N\t1\t0\t0\t1\t0\nQ\t60000\t10\t500\t0\t0\t0\nS\t10\t0\n";
+/// let network = "N\t1\t0\t0\t1\t0\t0\nQ\t60000\t10\t500\t0\t0\t0\t0\nS\t10\t0\n";
 /// assert_eq!(plancheck::check_network(network.as_bytes()), Ok(()));
 ///
-/// let refusal = plancheck::check_network(b"N\t0\t0\t0\t1\t0\n").unwrap_err();
+/// let refusal = plancheck::check_network(b"N\t0\t0\t0\t1\t0\t0\n").unwrap_err();
 /// assert_eq!((refusal.number, refusal.line, refusal.item), (2, 1, 0));
 /// ```
 pub fn check_network(network: &[u8]) -> Result<(), Refusal> {
@@ -91,22 +96,22 @@ pub fn check_network(network: &[u8]) -> Result<(), Refusal> {
 /// Checks a plan on a network, and fills the ledger.
 ///
 /// Row n of the ledger belongs to boundary n and starts at index 2 × n × L: for each link what has entered, the
-/// standing start included, and what has left by then; [`Rows`] reads it by boundary and link. A refusal at line n of the
-/// plan leaves rows 0 to n − 1 written; refusals 1 to 8 and 28 leave the ledger as it was. All other numbers of the
+/// standing start and the past steps included, and what has left by then; [`Rows`] reads it by boundary and link. A refusal at line n of the
+/// plan leaves rows 0 to n − 1 written; refusals 1 to 8, 28 and 30 leave the ledger as it was. All other numbers of the
 /// ledger keep what they held.
 ///
 /// An empty plan text means hold: each signal keeps its shown phase and every volume is 0 in all K steps.
 ///
 /// # Errors
 ///
-/// Refusals 1 to 6 and 28 of the network, 8 for a ledger shorter than [`required_ledger_len`], 9 to 18, 25 to 27 and 29
-/// of the plan.
+/// Refusals 1 to 6, 28 and 30 of the network, 8 for a ledger shorter than [`required_ledger_len`], 9 to 18, 25 to 27 and
+/// 29 of the plan.
 ///
 /// # Examples
 ///
 /// ```
 /// // Five vehicles enter and leave one link without a signal.
-/// let network = "N\t1\t0\t0\t2\t0\nQ\t60000\t10\t500\t0\t0\t0\nS\t10\t5000\nS\t10\t0\n";
+/// let network = "N\t1\t0\t0\t2\t0\t0\nQ\t60000\t10\t500\t0\t0\t0\t0\nS\t10\t5000\nS\t10\t0\n";
 /// let plan = "P\t5000\t0\nP\t0\t5000\n";
 /// let mut ledger = [0; plancheck::required_ledger_len(1, 2)];
 ///
@@ -145,13 +150,13 @@ pub fn check_plan(network: &[u8], plan: &[u8], ledger: &mut [u32]) -> Result<Tot
 ///
 /// # Errors
 ///
-/// Refusals 1 to 6 and 28 of the network, 8 for a ledger shorter than [`required_ledger_len`], 19 for a boundary above K, 20
-/// for a link that is not 1 to L, 21 for a ledger that is not one of this network.
+/// Refusals 1 to 6, 28 and 30 of the network, 8 for a ledger shorter than [`required_ledger_len`], 19 for a boundary above
+/// K, 20 for a link that is not 1 to L, 21 for a ledger that is not one of this network.
 ///
 /// # Examples
 ///
 /// ```
-/// let network = "N\t1\t0\t0\t2\t0\nQ\t60000\t10\t500\t0\t0\t0\nS\t10\t5000\nS\t10\t0\n";
+/// let network = "N\t1\t0\t0\t2\t0\t0\nQ\t60000\t10\t500\t0\t0\t0\t0\nS\t10\t5000\nS\t10\t0\n";
 /// let ledger = [0, 0, 5000, 0, 5000, 2000];
 ///
 /// let state = plancheck::link_state(network.as_bytes(), &ledger, 1, 1)?;

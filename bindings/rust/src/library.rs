@@ -106,6 +106,18 @@ extern "C" {
         plan_len: usize,
     ) -> TextResult;
 
+    pub fn plancheck_carry_on(
+        network: *const u8,
+        network_len: usize,
+        boundary: u32,
+        plan: *const u8,
+        plan_len: usize,
+        ledger: *mut u32,
+        ledger_len: usize,
+        carried: *mut u8,
+        carried_len: usize,
+    ) -> TextResult;
+
     pub fn plancheck_run_cells(corridor: *const u8, corridor_len: usize) -> CellsResult;
 
     pub fn plancheck_step_vehicles(

@@ -15,14 +15,14 @@ pub const MAX_WRITTEN_PLAN_LEN: usize = 151_920;
 ///
 /// # Errors
 ///
-/// Refusals 1 to 6 and 28 of the network, 22 for a line that is malformed, repeated or names what the network does not
+/// Refusals 1 to 6, 28 and 30 of the network, 22 for a line that is malformed, repeated or names what the network does not
 /// have, 23 for a volume that is not whole or too large, 24 for a buffer shorter than the plan text.
 ///
 /// # Examples
 ///
 /// ```
 /// // One link without a signal, two steps of ten seconds.
-/// let network = "N\t1\t0\t0\t2\t0\nQ\t60000\t10\t500\t0\t0\t0\nS\t10\t5000\nS\t10\t0\n";
+/// let network = "N\t1\t0\t0\t2\t0\t0\nQ\t60000\t10\t500\t0\t0\t0\t0\nS\t10\t5000\nS\t10\t0\n";
 /// let mut plan = [0; 64];
 /// let length = plancheck::plan_from_listing(network.as_bytes(), b"o_1_2 0.5\ni_1_1 0.500\n", &mut plan)?;
 /// assert_eq!(&plan[..length], b"P\t5000\t0\nP\t0\t5000\n");

@@ -137,6 +137,8 @@ reasons! {
     MovementValues = 5, NETWORK, MOVEMENT,
         "a value of the movement is outside its limits, the pairs of links do not rise, or the link's shares do not sum to 1000";
     StepValues = 6, NETWORK, STEP, "the step's length or a demand is outside its limits";
+    PastValues = 30, None, None,
+        "the past is too long, a past step's length is outside its limits, or what the past brought to a link is more than it can have";
     LedgerTooShort = 8, None, None, "the ledger is too short";
     PlanForm = 9, PLAN, None,
         "a line is missing, unfinished or surplus, or has a wrong letter, a bad number or a wrong number of fields";
@@ -161,6 +163,8 @@ reasons! {
     ListingVolume = 23, LISTING, None,
         "a volume is not a whole number of thousandths of a vehicle, or is too large";
     BufferTooShort = 24, None, None, "the buffer is shorter than the plan text";
+    CarryBoundary = 31, None, None, "there is no such boundary inside the plan";
+    CarryBufferTooShort = 32, None, None, "the buffer is shorter than the text that is carried on";
     CorridorForm = 36, CORRIDOR, None,
         "a line is missing, unfinished or surplus, has a wrong letter, a bad number or a wrong number of fields, or is beyond its limits";
     StartVolume = 37, CORRIDOR, None, "the start is above the cell's holding limit";

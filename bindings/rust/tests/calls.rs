@@ -47,13 +47,13 @@ fn surplus_lines_are_told_at_the_line_after_the_last() {
 
 #[test]
 fn counts_that_would_overflow_are_refused() {
-    let network = b"N\t4294967295\t4294967295\t4294967295\t4294967295\t4294967295\n";
+    let network = b"N\t4294967295\t4294967295\t4294967295\t4294967295\t4294967295\t0\n";
     assert_eq!(check_network(network), Err(refusal(2, 1, 0)));
 }
 
 #[test]
 fn who_waits_outside_may_be_admitted_later() {
-    let network = b"N\t1\t0\t0\t2\t0\nQ\t60000\t10\t500\t0\t0\t0\nS\t10\t5000\nS\t10\t0\n";
+    let network = b"N\t1\t0\t0\t2\t0\t0\nQ\t60000\t10\t500\t0\t0\t0\t0\nS\t10\t5000\nS\t10\t0\n";
     let mut ledger = [7; required_ledger_len(1, 2)];
     let totals = check_plan(network, b"P\t0\t0\nP\t4000\t0\n", &mut ledger).unwrap();
     assert_eq!(
@@ -70,7 +70,7 @@ fn who_waits_outside_may_be_admitted_later() {
 #[test]
 fn trams_claim_their_phase() {
     let network = |tram: &str| {
-        format!("N\t1\t1\t0\t1\t1\n{tram}G\t20\t60\t2\t2\t10\t20\t10\t30\t10\t30\nQ\t0\t10\t0\t0\t0\t0\nS\t10\t0\n")
+        format!("N\t1\t1\t0\t1\t1\t0\n{tram}G\t20\t60\t2\t2\t10\t20\t10\t30\t10\t30\nQ\t0\t10\t0\t0\t0\t0\t0\nS\t10\t0\n")
     };
     let check =
         |tram: &str, plan: &[u8]| check_plan(network(tram).as_bytes(), plan, &mut [0; 4]).map(|totals| totals.admitted);

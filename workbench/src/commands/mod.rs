@@ -1,5 +1,6 @@
 //! The commands, one a file. A new one is a file with its `COMMAND`, and a line in each of the two lists here.
 
+mod carry;
 mod cells;
 mod check;
 mod explain;
@@ -18,6 +19,7 @@ pub const ALL: &[Command] = &[
     report::COMMAND,
     states::COMMAND,
     rank::COMMAND,
+    carry::COMMAND,
     listing::COMMAND,
     cells::COMMAND,
     make::COMMAND,

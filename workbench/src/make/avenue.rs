@@ -95,6 +95,7 @@ impl Avenue {
             self.movements.len(),
             self.steps.len(),
             self.trams.len(),
+            0, // no past steps
         ];
         write_record(&mut text, 'N', &counts.map(index));
         for tram in &self.trams {
@@ -104,7 +105,7 @@ impl Avenue {
             write_record(&mut text, 'G', &signal.numbers());
         }
         for link in &self.links {
-            let shut = [link.signal, link.mask, link.standing];
+            let shut = [link.signal, link.mask, link.standing, 0]; // nobody waits outside at the start
             write_record(
                 &mut text,
                 'Q',
