@@ -18,10 +18,10 @@ pub record Case : Type 0 where
 -- the corridor of the paper, with its shown seconds, cycle clock, and first link's capacity and travel time left open
 abbrev pub corridor : String → String → String → String → String
 corridor shownFor clock capacity travel =
-    "N\t2\t1\t1\t4\t0\n"
+    "N\t2\t1\t1\t4\t0\t0\n"
     ++ "G\t20\t60\t2\t2\t" ++ shownFor ++ "\t" ++ clock ++ "\t10\t30\t10\t30\n"
-    ++ "Q\t" ++ capacity ++ "\t" ++ travel ++ "\t0\t1\t1\t0\n"
-    ++ "Q\t60000\t10\t500\t0\t0\t0\n"
+    ++ "Q\t" ++ capacity ++ "\t" ++ travel ++ "\t0\t1\t1\t0\t0\n"
+    ++ "Q\t60000\t10\t500\t0\t0\t0\t0\n"
     ++ "M\t1\t2\t500\t1000\n"
     ++ "S\t10\t5000\t0\n" ++ "S\t10\t0\t0\n" ++ "S\t10\t0\t0\n" ++ "S\t10\t0\t0\n"
 

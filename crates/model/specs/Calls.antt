@@ -1,7 +1,7 @@
 -- The calls: their answers, and the ledger after a plan's check. Assumes nothing.
 use Prim.Native.Nat.{ℕ, suc, _+_, _*_, _-_, _/_}
 use mathlib.Core.Bool.{Bool, true, false, cond}
-use mathlib.Core.List.{List, _++_}
+use mathlib.Core.List.{List, [], _++_}
 use lib.Dec.{leb, ltb, eqb}
 use lib.ListN.{length, getD, drop}
 use Rattle.search.specs.declared.Verdict.{Verdict}
@@ -14,8 +14,8 @@ use Rattle.model.specs.declared.LinkAnswer.{LinkAnswer}
 use Rattle.model.specs.declared.LinkAnswer.the-variants as link-answer
 use Rattle.model.specs.Test.{_and_, _or_, within}
 use Rattle.model.specs.Sum.{sum, only, joined}
-use Rattle.model.specs.Network.{linkCount, stepCount, travelTime, standing, stepLength, time, arrivalStep, elapsed}
-use Rattle.model.specs.Flows.{totals, row}
+use Rattle.model.specs.Network.{linkCount, stepCount, pastCount, onTimeline, travelTime, standing, timelineLength, time, timelineTime, arrivalStep, elapsed}
+use Rattle.model.specs.Flows.{timelineEntered, totals, row}
 use Rattle.model.specs.Table.{networkChecks, ledgerChecks, lineChecks, planChecks}
 
 -- ---- check a network
@@ -61,25 +61,30 @@ module _ (network : List Line) (ledger : List ℕ) (boundary link : ℕ) where
   unfoldable pub ledgerLeft : ℕ
   ledgerLeft = getD ledger (2 * boundary * linkCount network + 2 * (link - 1) + 1) 0
 
-  -- the step in which the travel time ends, its length, and the seconds of it that have elapsed by then
+  -- the step of the timeline in which the travel time ends, its length, and the seconds of it that have elapsed by then
   unfoldable pub endStep : ℕ
   endStep = arrivalStep network boundary (link - 1)
 
   unfoldable pub endLength : ℕ
-  endLength = stepLength network endStep
+  endLength = timelineLength network endStep
 
   unfoldable pub endElapsed : ℕ
   endElapsed = elapsed network boundary (link - 1)
 
-  -- arrived × that step's length, so that nothing is rounded: read from the ledger and, before the travel time, from the `Q` line
+  -- entered at boundary m of the timeline, for what has arrived: before time 0 by the network alone (in which no plan has a say), from then on by the ledger
+  unfoldable pub arrivalEntered : ℕ → ℕ
+  arrivalEntered m =
+      cond (ltb (time network boundary) (travelTime network (link - 1))) (timelineEntered network [] m (link - 1)) (ledgerEntered (m - pastCount network))
+
+  -- arrived × that step's length, so that nothing is rounded; before the timeline has run for the travel time by the `Q` line
   unfoldable pub scaledArrived : ℕ
   scaledArrived =
-      cond (ltb (time network boundary) (travelTime network (link - 1))) (standing network (link - 1) * endLength)
-      (ledgerEntered endStep * endLength + (ledgerEntered (suc endStep) - ledgerEntered endStep) * endElapsed)
+      cond (ltb (timelineTime network (onTimeline network boundary)) (travelTime network (link - 1))) (standing network (link - 1) * endLength)
+      (arrivalEntered endStep * endLength + (arrivalEntered (suc endStep) - arrivalEntered endStep) * endElapsed)
 
   -- the entered count does not fall over a step inside which the travel time ends
   unfoldable pub risesInside : Bool
-  risesInside = eqb endElapsed 0 or leb (ledgerEntered endStep) (ledgerEntered (suc endStep))
+  risesInside = eqb endElapsed 0 or leb (arrivalEntered endStep) (arrivalEntered (suc endStep))
 
   -- arrived, rounded down
   unfoldable pub ledgerArrived : ℕ

@@ -1,4 +1,5 @@
--- What the lines of a plan text say on a network, and the traffic reckoned from them. Step n leads from boundary n to boundary n + 1. Assumes nothing.
+-- What the lines of a plan text say on a network, and the traffic reckoned from them. Step n leads from boundary n to boundary n + 1; n counts the plan's steps and
+-- boundaries, m the timeline's. Assumes nothing.
 use Prim.Native.Nat.{ℕ, zero, suc, _+_, _*_, _-_}
 use mathlib.Core.List.{List, [], _∷_, _++_}
 use mathlib.Core.Bool.{Bool, cond}
@@ -8,12 +9,12 @@ use Rattle.model.specs.declared.Signal.{Signal}
 use Rattle.model.specs.declared.Totals.{Totals}
 use Rattle.model.specs.Test.{_or_}
 use Rattle.model.specs.Sum.{sum, only}
-use Rattle.model.specs.Network.{entry, linkCount, signalCount, movementCount, signal, travelTime, signalOf, phaseMask, standing, fromLink, toLink, stepLength, time, arrivalStep, elapsed, demand, ordinary}
+use Rattle.model.specs.Network.{entry, linkCount, signalCount, movementCount, pastCount, onTimeline, signal, travelTime, signalOf, phaseMask, standing, waitingAtStart, fromLink, toLink, timelineLength, pastEntries, pastExits, stepLength, timelineTime, arrivalStep, elapsed, demand, ordinary}
 use Rattle.model.specs.Signals.{phaseOf, opens, after}
 
--- the demand of link i in the first n steps, and of all links in step n
+-- what has come to the entry of link i by boundary n: what waits at the start, and the demand of the first n steps; and the demand of all links in step n
 unfoldable pub offered : List Line → ℕ → ℕ → ℕ
-offered network n i = sum n (λ m. demand network m i)
+offered network n i = waitingAtStart network i + sum n (λ k. demand network k i)
 
 unfoldable pub allDemand : List Line → ℕ → ℕ
 allDemand network n = sum (linkCount network) (demand network n)
@@ -59,21 +60,35 @@ module _ (network plan : List Line) where
   unfoldable pub outflow : ℕ → ℕ → ℕ
   outflow n i = letOut n i + movedFrom n i
 
-  -- entered(n): the standing start plus all admitted and moved into the link in the first n steps
-  unfoldable pub entered : ℕ → ℕ → ℕ
-  entered n i = standing network i + sum n (λ m. inflow m i)
+  -- the same in step m of the timeline: of a past step as its `H` line says
+  unfoldable pub timelineInflow : ℕ → ℕ → ℕ
+  timelineInflow m i = cond (ltb m (pastCount network)) (pastEntries network m i) (inflow (m - pastCount network) i)
 
-  -- left(n): all let out or moved from the link in the first n steps
+  unfoldable pub timelineOutflow : ℕ → ℕ → ℕ
+  timelineOutflow m i = cond (ltb m (pastCount network)) (pastExits network m i) (outflow (m - pastCount network) i)
+
+  -- the two curves at boundary m of the timeline: the standing start plus what entered in its first m steps, and what left in them
+  unfoldable pub timelineEntered : ℕ → ℕ → ℕ
+  timelineEntered m i = standing network i + sum m (λ k. timelineInflow k i)
+
+  unfoldable pub timelineLeft : ℕ → ℕ → ℕ
+  timelineLeft m i = sum m (λ k. timelineOutflow k i)
+
+  -- entered(n) and left(n): the standing start and all that entered in the past, plus all admitted and moved into the link in the first n steps; all that left in
+  -- the past, and all let out or moved from the link in them
+  unfoldable pub entered : ℕ → ℕ → ℕ
+  entered n i = timelineEntered (onTimeline network n) i
+
   unfoldable pub left : ℕ → ℕ → ℕ
-  left n i = sum n (λ m. outflow m i)
+  left n i = timelineLeft (onTimeline network n) i
 
   -- Whether a volume is at most arrived(n): what entered by the start of the step in which the travel time ends, plus the elapsed part of that step's volume,
-  -- taken evenly. Both sides are multiplied by that step's length, so that nothing is rounded. Before the travel time: the standing start.
+  -- taken evenly. Both sides are multiplied by that step's length, so that nothing is rounded. Before the timeline has run for the travel time: the standing start.
   unfoldable pub hasArrived : ℕ → ℕ → ℕ → Bool
   hasArrived volume n i =
       let a = arrivalStep network n i in
-      cond (ltb (time network n) (travelTime network i)) (leb volume (standing network i))
-      (leb (volume * stepLength network a) (entered a i * stepLength network a + inflow a i * elapsed network n i))
+      cond (ltb (timelineTime network (onTimeline network n)) (travelTime network i)) (leb volume (standing network i))
+      (leb (volume * timelineLength network a) (timelineEntered a i * timelineLength network a + timelineInflow a i * elapsed network n i))
 
   -- what link i holds at boundary n, and all links: the vehicles in the network
   unfoldable pub held : ℕ → ℕ → ℕ
@@ -84,7 +99,7 @@ module _ (network plan : List Line) where
 
   -- what was admitted on link i in the first n steps; what waits outside at boundary n, with demand as its arrival; and all that do
   unfoldable pub taken : ℕ → ℕ → ℕ
-  taken n i = sum n (λ m. admitted m i)
+  taken n i = sum n (λ k. admitted k i)
 
   unfoldable pub waits : ℕ → ℕ → ℕ
   waits n i = offered network n i - taken n i
@@ -105,7 +120,7 @@ module _ (network plan : List Line) where
 
   -- the doubled travel time of the first n steps: length × (vehicles under way at its start + at its end), over the steps
   unfoldable pub doubledTime : ℕ → ℕ
-  doubledTime n = sum n (λ m. stepLength network m * (underWay m + underWay (suc m)))
+  doubledTime n = sum n (λ k. stepLength network k * (underWay k + underWay (suc k)))
 
   -- the four totals of the first n steps: admitted, let out, vehicles in the network at their end, doubled travel time
   unfoldable pub totals : ℕ → Totals

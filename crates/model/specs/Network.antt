@@ -1,5 +1,6 @@
 -- What the lines of a network text say ("The two texts"). Lines, signals, links, movements and steps are counted from 0 here, phases from 1.
--- Assumes nothing.
+-- The timeline is the past steps (`H` lines) and behind them the plan's (`S` lines), lines whose first number is a length. Step m of the timeline leads from its
+-- boundary m to m + 1; step n and boundary n of the plan are its step and boundary `onTimeline n`. Assumes nothing.
 use Prim.Native.Nat.{ℕ, zero, suc, _+_, _*_, _-_}
 use mathlib.Core.List.{List, [], _∷_}
 use mathlib.Core.Bool.{cond, Bool}
@@ -10,7 +11,7 @@ use Rattle.model.specs.declared.Signal.{Signal}
 use Rattle.model.specs.Test.{_and_, within}
 use Rattle.model.specs.Sum.{sum, list}
 
--- the limits: links, signals, movements, steps, tram lines
+-- the limits: links, signals, movements, steps, tram lines, past steps
 abbrev pub maxLinks : ℕ
 maxLinks = 24
 
@@ -25,6 +26,9 @@ maxSteps = 120
 
 abbrev pub maxTrams : ℕ
 maxTrams = 16
+
+abbrev pub maxPast : ℕ
+maxPast = 120
 
 -- number k of line i
 unfoldable pub entry : List Line → ℕ → ℕ → ℕ
@@ -41,7 +45,7 @@ tramPhase [] r n = 0
 tramPhase (tram ∷ more) r n = cond (covers tram r n) (number tram 1) (tramPhase more r n)
 
 module _ (network : List Line) where
-  -- the `N` line: L, R, M, K, and the count of `T` lines
+  -- the `N` line: L, R, M, K, and the counts of `T` and `H` lines
   unfoldable pub linkCount : ℕ
   linkCount = entry network 0 0
 
@@ -57,7 +61,14 @@ module _ (network : List Line) where
   unfoldable pub tramCount : ℕ
   tramCount = entry network 0 4
 
-  -- the places of the `T`, `G`, `Q`, `M` and `S` lines
+  unfoldable pub pastCount : ℕ
+  pastCount = entry network 0 5
+
+  -- step n, and boundary n, of the plan on the timeline
+  unfoldable pub onTimeline : ℕ → ℕ
+  onTimeline n = pastCount + n
+
+  -- the places of the `T`, `G`, `Q` and `M` lines, of the timeline's (`H`, then `S`), and of the `S` lines
   unfoldable pub tramLine : ℕ → ℕ
   tramLine k = 1 + k
 
@@ -70,8 +81,11 @@ module _ (network : List Line) where
   unfoldable pub movementLine : ℕ → ℕ
   movementLine j = 1 + (tramCount + (signalCount + (linkCount + j)))
 
+  unfoldable pub timelineLine : ℕ → ℕ
+  timelineLine m = 1 + (tramCount + (signalCount + (linkCount + (movementCount + m))))
+
   unfoldable pub stepLine : ℕ → ℕ
-  stepLine n = 1 + (tramCount + (signalCount + (linkCount + (movementCount + n))))
+  stepLine n = timelineLine (onTimeline n)
 
   -- the `T` lines
   unfoldable pub trams : List Line
@@ -112,8 +126,12 @@ module _ (network : List Line) where
   unfoldable pub phaseMask : ℕ → ℕ
   phaseMask i = entry network (linkLine i) 4
 
+  -- what stood on it at the start of the timeline, and what waits outside at boundary 0 (T-09)
   unfoldable pub standing : ℕ → ℕ
   standing i = entry network (linkLine i) 5
+
+  unfoldable pub waitingAtStart : ℕ → ℕ
+  waitingAtStart i = entry network (linkLine i) 6
 
   -- movement j, by its `M` line; its links are numbered from 1
   unfoldable pub fromLink : ℕ → ℕ
@@ -128,9 +146,19 @@ module _ (network : List Line) where
   unfoldable pub share : ℕ → ℕ
   share j = entry network (movementLine j) 3
 
+  -- step m of the timeline: its length; the volume that entered link i and that left it, if it is a past step, by its `H` line
+  unfoldable pub timelineLength : ℕ → ℕ
+  timelineLength m = entry network (timelineLine m) 0
+
+  unfoldable pub pastEntries : ℕ → ℕ → ℕ
+  pastEntries m i = entry network (timelineLine m) (1 + 2 * i)
+
+  unfoldable pub pastExits : ℕ → ℕ → ℕ
+  pastExits m i = entry network (timelineLine m) (2 + 2 * i)
+
   -- step n, by its `S` line
   unfoldable pub stepLength : ℕ → ℕ
-  stepLength n = entry network (stepLine n) 0
+  stepLength n = timelineLength (onTimeline n)
 
   unfoldable pub demand : ℕ → ℕ → ℕ
   demand n i = entry network (stepLine n) (1 + i)
@@ -139,14 +167,18 @@ module _ (network : List Line) where
   unfoldable pub time : ℕ → ℕ
   time n = sum n stepLength
 
-  -- the last of the first n steps that starts by time x
+  -- the seconds from the timeline's start to its boundary m
+  unfoldable pub timelineTime : ℕ → ℕ
+  timelineTime m = sum m timelineLength
+
+  -- the last of the timeline's first m steps that starts by x seconds from its start
   unfoldable pub stepAt : ℕ → ℕ → ℕ
   stepAt zero x = zero
-  stepAt (suc n) x = cond (leb (time n) x) n (stepAt n x)
+  stepAt (suc m) x = cond (leb (timelineTime m) x) m (stepAt m x)
 
-  -- the step in which t(n) minus the travel time of link i lies, and the seconds of it that have elapsed by then; 0 before the travel time
+  -- the step of the timeline in which t(n) minus the travel time of link i lies, and the seconds of it that have elapsed by then; 0 where that is before the timeline
   unfoldable pub arrivalStep : ℕ → ℕ → ℕ
-  arrivalStep n i = stepAt n (time n - travelTime i)
+  arrivalStep n i = stepAt (onTimeline n) (timelineTime (onTimeline n) - travelTime i)
 
   unfoldable pub elapsed : ℕ → ℕ → ℕ
-  elapsed n i = time n - travelTime i - time (arrivalStep n i)
+  elapsed n i = timelineTime (onTimeline n) - travelTime i - timelineTime (arrivalStep n i)

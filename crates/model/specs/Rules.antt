@@ -1,16 +1,16 @@
--- The rules, each a test: refusals 2 to 6 and 28 of a network's values, and rules 10 to 18, 25 to 27 and 29 of step n. Assumes nothing.
+-- The rules, each a test: refusals 2 to 6, 28 and 30 of a network's values, and rules 10 to 18, 25 to 27 and 29 of step n. Assumes nothing.
 use Prim.Native.Nat.{ℕ, zero, suc, _+_, _*_, _-_, _^_}
 use mathlib.Core.Bool.{Bool, true, not, cond}
-use mathlib.Core.List.{List}
+use mathlib.Core.List.{List, []}
 use lib.Dec.{leb, ltb, eqb}
 use lib.ListN.{getD}
 use Rattle.records.specs.Lines.{Line, noLine, number}
 use Rattle.model.specs.declared.Signal.{Signal}
 use Rattle.model.specs.Test.{_and_, _or_, within, every}
 use Rattle.model.specs.Sum.{sum, only}
-use Rattle.model.specs.Network.{maxLinks, maxSignals, maxMovements, maxSteps, maxTrams, linkCount, signalCount, movementCount, stepCount, tramCount, tramLine, trams, tramPhase, ordinary, signal, capacity, travelTime, exitRate, signalOf, phaseMask, standing, fromLink, toLink, rate, share, stepLength, demand}
+use Rattle.model.specs.Network.{maxLinks, maxSignals, maxMovements, maxSteps, maxTrams, maxPast, linkCount, signalCount, movementCount, stepCount, tramCount, pastCount, tramLine, trams, tramPhase, ordinary, signal, capacity, travelTime, exitRate, signalOf, phaseMask, standing, fromLink, toLink, rate, share, timelineLength, pastEntries, stepLength, demand}
 use Rattle.model.specs.Signals.{greatestTime, showsOnePhase, keepsOrder, keepsLeastTime, keepsGreatestTime, keepsCycle}
-use Rattle.model.specs.Flows.{offered, taken, letOut, moved, shownIn, signalAt, isOpen, movedFrom, entered, left, hasArrived}
+use Rattle.model.specs.Flows.{offered, taken, letOut, moved, shownIn, signalAt, isOpen, movedFrom, entered, left, hasArrived, held}
 
 -- 3, P: 2 to 8 phases
 unfoldable pub validPhases : Signal → Bool
@@ -35,11 +35,11 @@ unfoldable pub tramExists : ℕ → ℕ → Line → Bool
 tramExists R K t = within 1 (number t 0) R and leb 1 (number t 2) and within (number t 2) (number t 3) K
 
 module _ (network : List Line) where
-  -- 2: L 1 to 24, R 0 to 8, M 0 to 64, K 1 to 120, 0 to 16 `T` lines
+  -- 2: L 1 to 24, R 0 to 8, M 0 to 64, K 1 to 120, 0 to 16 `T` lines, 0 to 120 `H` lines
   unfoldable pub validCounts : Bool
   validCounts =
       within 1 (linkCount network) maxLinks and leb (signalCount network) maxSignals and leb (movementCount network) maxMovements
-      and within 1 (stepCount network) maxSteps and leb (tramCount network) maxTrams
+      and within 1 (stepCount network) maxSteps and leb (tramCount network) maxTrams and leb (pastCount network) maxPast
 
   -- `T` line k
   abbrev pub tram : ℕ → Line
@@ -97,6 +97,21 @@ module _ (network : List Line) where
       and every (signalCount network) (λ r. every (signal network r .phases) (λ k. leb (stepLength network n) (getD (signal network r .greatest) k 0)))
       and every (linkCount network) (λ i. leb (demand network n i) 600_000)
 
+  -- 30, link i when the past ends, in which no plan has a say: it has left at most what has arrived and holds at most its capacity; and past entries, waiting volume
+  -- and demands are at most 72,000,000 (120 × 600,000) + 13,800,000 (23 × 10,000 × 60) × `H` lines
+  unfoldable pub validPastOf : ℕ → Bool
+  validPastOf i =
+      hasArrived network [] (left network [] 0 i) 0 i
+      and leb (held network [] 0 i) (capacity network i)
+      and leb (sum (pastCount network) (λ m. pastEntries network m i) + offered network (stepCount network) i) (72_000_000 + 13_800_000 * pastCount network)
+
+  -- 30: the length of a past step is 1 to 60, past and present steps are at most 120 together, and each link's past is good
+  unfoldable pub validPast : Bool
+  validPast =
+      every (pastCount network) (λ m. within 1 (timelineLength network m) 60)
+      and leb (pastCount network + stepCount network) maxSteps
+      and every (linkCount network) validPastOf
+
 module _ (network plan : List Line) (n : ℕ) where
   -- 10 of signal r, in every step
   unfoldable pub rule10 : ℕ → Bool
@@ -119,7 +134,7 @@ module _ (network plan : List Line) (n : ℕ) where
   unfoldable pub rule14 : ℕ → Bool
   rule14 r = not (ordinary network n r) or keepsCycle (signalAt network plan n r) (shownIn network plan n r) (stepLength network n)
 
-  -- 15 (C2), link i: admitted by the step's end is at most demand by then
+  -- 15 (C2), link i: admitted by the step's end is at most what has come to the entry by then
   unfoldable pub rule15 : ℕ → Bool
   rule15 i = leb (taken network plan (suc n) i) (offered network (suc n) i)
 

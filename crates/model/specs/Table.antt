@@ -7,8 +7,8 @@ use lib.Dec.{leb, eqb}
 use lib.ListN.{length, getD}
 use Rattle.search.specs.Checks.{Checks, check, each, _then_, Rule, table}
 use Rattle.records.specs.Lines.{Line, noLine, isRecord, startsAs}
-use Rattle.model.specs.Network.{linkCount, signalCount, movementCount, stepCount, tramCount, tramLine, signalLine, linkLine, movementLine, stepLine, signal}
-use Rattle.model.specs.Rules.{validPhases, validSignal, validCounts, validTram, validTramPhase, validLink, validMovement, lastMovement, validShares, validStep, rule10, rule11, rule12, rule13, rule14, rule15, rule16, rule17, rule18, rule25, rule26, rule27, rule29}
+use Rattle.model.specs.Network.{linkCount, signalCount, movementCount, stepCount, tramCount, pastCount, tramLine, signalLine, linkLine, movementLine, timelineLine, stepLine, signal}
+use Rattle.model.specs.Rules.{validPhases, validSignal, validCounts, validTram, validTramPhase, validLink, validMovement, lastMovement, validShares, validStep, validPast, rule10, rule11, rule12, rule13, rule14, rule15, rule16, rule17, rule18, rule25, rule26, rule27, rule29}
 
 -- line i is there, is ended, and has the letter and k numbers
 unfoldable pub isForm : List Line → ℕ → ℕ → ℕ → Bool
@@ -35,6 +35,9 @@ letterQ = 81
 abbrev pub letterM : ℕ
 letterM = 77
 
+abbrev pub letterH : ℕ
+letterH = 72
+
 abbrev pub letterS : ℕ
 letterS = 83
 
@@ -44,7 +47,7 @@ letterP = 80
 module _ (network : List Line) where
   -- the `N` line
   unfoldable pub countChecks : Checks
-  countChecks = recordChecks network 0 letterN 5 2 0 (validCounts network)
+  countChecks = recordChecks network 0 letterN 6 2 0 (validCounts network)
 
   -- `T` line k
   unfoldable pub tramChecks : ℕ → Checks
@@ -64,7 +67,7 @@ module _ (network : List Line) where
 
   -- `Q` line i
   unfoldable pub linkChecks : ℕ → Checks
-  linkChecks i = recordChecks network (linkLine network i) letterQ 6 4 (suc i) (validLink network i)
+  linkChecks i = recordChecks network (linkLine network i) letterQ 7 4 (suc i) (validLink network i)
 
   -- `M` line j
   unfoldable pub movementChecks : ℕ → Checks
@@ -74,6 +77,10 @@ module _ (network : List Line) where
   unfoldable pub shareChecks : ℕ → Checks
   shareChecks i =
       check 5 (movementLine network (lastMovement network (movementCount network) i)) (lastMovement network (movementCount network) i) (validShares network i)
+
+  -- `H` line m: its form
+  unfoldable pub pastChecks : ℕ → Checks
+  pastChecks m = check 1 (suc (timelineLine network m)) 0 (isForm network (timelineLine network m) letterH (1 + 2 * linkCount network))
 
   -- `S` line n
   unfoldable pub stepChecks : ℕ → Checks
@@ -89,8 +96,10 @@ module _ (network : List Line) where
       then each (linkCount network) linkChecks
       then each (movementCount network) movementChecks
       then each (linkCount network) shareChecks
+      then each (pastCount network) pastChecks
       then each (stepCount network) stepChecks
       then check 1 (suc (stepLine network (stepCount network))) 0 (eqb (length network) (stepLine network (stepCount network)))
+      then check 30 0 0 (validPast network)
 
   -- 8: the ledger has 2 × (K+1) × L numbers
   unfoldable pub ledgerChecks : ℕ → Checks
