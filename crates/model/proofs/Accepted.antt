@@ -7,10 +7,10 @@ use native.Mathlib.Omega.{arith}
 use Rattle.search.specs.Checks.{Hold, table}
 use Rattle.records.specs.Lines.{Line}
 use Rattle.model.specs.Network.{linkCount, signalCount, movementCount, stepCount, tramCount, signal}
-use Rattle.model.specs.Rules.{validPhases, validSignal, validCounts, validTram, validTramPhase, validLink, validMovement, validShares, validStep, rule10, rule11, rule12, rule13, rule14, rule15, rule16, rule17, rule18, rule25, rule26, rule27, rule29}
-use Rattle.model.specs.Table.{countChecks, tramChecks, signalChecks, tramPhaseChecks, linkChecks, movementChecks, shareChecks, stepChecks, networkChecks, signalRules, limitRules, sumRules, lineChecks, planLineChecks, planChecks}
+use Rattle.model.specs.Rules.{validPhases, validSignal, validCounts, validTram, validTramPhase, validLink, validMovement, validShares, validStep, validPast, rule10, rule11, rule12, rule13, rule14, rule15, rule16, rule17, rule18, rule25, rule26, rule27, rule29}
+use Rattle.model.specs.Table.{countChecks, tramChecks, signalChecks, tramPhaseChecks, linkChecks, movementChecks, shareChecks, pastChecks, stepChecks, networkChecks, signalRules, limitRules, sumRules, lineChecks, planLineChecks, planChecks}
 
--- refusals 2 to 6 and 28 do not arise
+-- refusals 2 to 6, 28 and 30 do not arise
 pub record ValidNetwork (network : List Line) : Type 0 where
   pub counts : validCounts network ≡ true
   pub trams : (k : ℕ) → k < tramCount network → validTram network k ≡ true
@@ -21,6 +21,7 @@ pub record ValidNetwork (network : List Line) : Type 0 where
   pub movements : (j : ℕ) → j < movementCount network → validMovement network j ≡ true
   pub shares : (i : ℕ) → i < linkCount network → validShares network i ≡ true
   pub steps : (n : ℕ) → n < stepCount network → validStep network n ≡ true
+  pub past : validPast network ≡ true
 
 -- step n keeps rules 10 to 18, 25 to 27 and 29
 pub record LawfulStep (network plan : List Line) (n : ℕ) : Type 0 where
@@ -44,8 +45,8 @@ pub record AcceptedPlan (network plan : List Line) : Type 0 where
   pub lawful : (n : ℕ) → n < stepCount network → LawfulStep network plan n
 
 pub valid-network : (network : List Line) → Hold (networkChecks network) → ValidNetwork network
-unfolding Hold networkChecks countChecks tramChecks signalChecks tramPhaseChecks linkChecks movementChecks shareChecks stepChecks
-valid-network network (counts, (trams, (signals, (tramPhases, (links, (movements, (shares, (steps, ended)))))))) =
+unfolding Hold networkChecks countChecks tramChecks signalChecks tramPhaseChecks linkChecks movementChecks shareChecks pastChecks stepChecks
+valid-network network (counts, (trams, (signals, (tramPhases, (links, (movements, (shares, (forms, (steps, (ended, past)))))))))) =
     record {
       counts = counts .1;
       trams = λ k l. trams k l .1;
@@ -56,6 +57,7 @@ valid-network network (counts, (trams, (signals, (tramPhases, (links, (movements
       movements = λ j l. movements j l .1;
       shares = shares;
       steps = λ n l. steps n l .1;
+      past = past;
     }
 
 pub lawful-step : (network plan : List Line) (n : ℕ) → Hold (lineChecks network plan n) → LawfulStep network plan n

@@ -1,6 +1,6 @@
 -- How large the sums of a plan can be, for a program that forms them in words of 32 and 64 bits: right after the limits of its volumes have passed at a step.
 -- At most 23 movements lead into a link, and from one, since (from, to) rises and from is not to. One step may admit all that waits, so what has entered is
--- bounded by all demand so far. Assumes nothing.
+-- bounded by what came to the entry and by refusal 30. Assumes nothing.
 use mathlib.Core.Path.{_≡_, refl, sym, ap, _∙_}
 use mathlib.Core.Bool.{Bool, true, false, cond}
 use mathlib.Core.Logic.{_⊎_, inl, inr, ⊎-elim, _≢_}
@@ -14,16 +14,17 @@ use borrow.Author.Tests.{leb-true, ltb-true, eqb-true, eqb-false, not-true, lt-l
 use Rattle.search.specs.Checks.{Hold}
 use Rattle.records.specs.Lines.{Line}
 use Rattle.model.specs.Sum.{sum, only}
-use Rattle.model.specs.Network.{linkCount, movementCount, stepCount, exitRate, fromLink, toLink, rate, stepLength, demand}
+use Rattle.model.specs.Network.{linkCount, movementCount, stepCount, pastCount, exitRate, fromLink, toLink, rate, pastEntries, stepLength}
 use Rattle.model.specs.Flows.{offered, admitted, letOut, moved, movedInto, movedFrom, inflow, outflow, entered, left, held, vehicles, taken, waits, outside, underWay, allAdmitted, allLetOut, doubledTime}
 use Rattle.model.specs.Rules.{pairRises, validMovement, rule15, rule18, rule25, rule26}
 use Rattle.model.specs.Table.{networkChecks}
 use Rattle.model.proofs.Tests.{and-left, and-right, or-cases}
 use Rattle.model.proofs.Sums.{sum-bound, sum-add, sum-swap}
 use Rattle.model.proofs.Accepted.{ValidNetwork, LawfulStep, valid-network}
-use Rattle.model.proofs.Limits.{counts, link-limits, movement-limits, step-limits}
-use Rattle.model.proofs.Flow.{held-capacity}
-use Rattle.model.proofs.Waiting.{taken-offered}
+use Rattle.model.proofs.Limits.{counts, link-limits, movement-limits, step-limits, past-limits}
+use Rattle.model.proofs.Timeline.{entered-start, entered-by, left-by}
+use Rattle.model.proofs.Flow.{held-capacity, left-entered}
+use Rattle.model.proofs.Waiting.{offered-more, taken-offered}
 
 -- numbers at the places of a test, each at most b, whose ranks rise and lie between 1 and c: there are at most c of them
 ranked-sum : (test : ℕ → Bool) (rank f : ℕ → ℕ) (b m c : ℕ)
@@ -159,20 +160,26 @@ module _ (network plan : List Line) (holds : Hold (networkChecks network)) where
     unfolding allLetOut
     all-let-out-small = omega (arith, sum-bound (linkCount network) 600_000 (letOut network plan n) let-out-small, counts network valid .links)
 
-  -- ---- what has been offered in n steps, and what of it can wait
-  pub offered-small : (n : ℕ) → n ≤ stepCount network → (i : ℕ) → i < linkCount network → offered network n i ≤ n * 600_000
-  unfolding offered
-  offered-small n h i l = sum-bound n 600_000 (λ m. demand network m i) (λ m u. step-limits network valid m (omega arith) .demand-limit i l)
+  -- ---- what has come to the entry by boundary n, with all that entered in the past; and what of it can wait
+  offered-fits : (n : ℕ) → n ≤ stepCount network → (i : ℕ) → i < linkCount network
+      → sum (pastCount network) (λ m. pastEntries network m i) + offered network n i ≤ 72_000_000 + 13_800_000 * pastCount network
+  offered-fits n h i l = omega (arith, past-limits network valid i l .few, offered-more network n (stepCount network) i h)
 
-  pub outside-small : (n : ℕ) → n ≤ stepCount network → outside network plan n ≤ 1_728_000_000
+  pub offered-small : (n : ℕ) → n ≤ stepCount network → (i : ℕ) → i < linkCount network → offered network n i ≤ 1_714_200_000
+  offered-small n h i l = omega (arith, offered-fits n h i l, counts network valid .together, counts network valid .some-step)
+
+  pub outside-small : (n : ℕ) → n ≤ stepCount network → outside network plan n ≤ 41_140_800_000
   unfolding outside waits
   outside-small n h =
       omega (
         arith,
-        sum-bound (linkCount network) 72_000_000 (λ i. offered network n i - taken network plan n i)
-            (λ i l. omega (arith, offered-small n h i l, counts network valid .steps)),
+        sum-bound (linkCount network) 1_714_200_000 (λ i. offered network n i - taken network plan n i) (λ i l. omega (arith, offered-small n h i l)),
         counts network valid .links,
       )
+
+  -- row 0
+  start-fits : (i : ℕ) → i < linkCount network → (entered network plan 0 i ≤ 2_072_000_000 + 13_800_000 * pastCount network) × (left network plan 0 i ≤ entered network plan 0 i)
+  start-fits i l = (omega (arith, entered-start network plan i, offered-fits 0 (omega arith) i l, link-limits network valid i l), left-entered network plan valid 0 i (omega arith) l (λ m k. absurd (omega arith)))
 
   -- ---- n steps that keep the limits
   module _ (n : ℕ) (h : n ≤ stepCount network) (keeps : (m : ℕ) → m < n → KeepsLimits network plan m) where
@@ -180,39 +187,49 @@ module _ (network plan : List Line) (holds : Hold (networkChecks network)) where
     each-step f c small = sum-bound n c f (λ m l. small m (omega arith) (keeps m l))
 
     -- one step may admit all that waits, but no more is taken than was offered
-    taken-fits : (i : ℕ) → i < linkCount network → taken network plan n i ≤ n * 600_000
-    taken-fits i l = omega (arith, taken-offered network plan n i (λ m u. keeps m u .admissions i l), offered-small n h i l)
+    taken-small : (i : ℕ) → i < linkCount network → taken network plan n i ≤ offered network n i
+    taken-small i l = taken-offered network plan n i (λ m u. keeps m u .admissions i l)
 
-    entered-fits : (i : ℕ) → i < linkCount network → entered network plan n i ≤ 2_000_000_000 + n * 14_400_000
-    unfolding entered inflow taken
-    entered-fits i l =
+    pub entered-small : (i : ℕ) → i < linkCount network → entered network plan n i ≤ 3_728_000_000
+    unfolding inflow taken
+    entered-small i l =
         omega (
           arith,
+          entered-by network plan n i,
+          entered-start network plan i,
           sum-add n (λ m. admitted network plan m i) (λ m. movedInto network plan m i),
-          taken-fits i l,
+          taken-small i l,
+          offered-fits n h i l,
           each-step (λ m. movedInto network plan m i) 13_800_000 (λ m u k. moved-into-small m u k i),
           link-limits network valid i l,
+          counts network valid .together,
         )
 
-    left-fits : (i : ℕ) → i < linkCount network → left network plan n i ≤ n * 14_400_000
-    unfolding left
-    left-fits i l = each-step (λ m. outflow network plan m i) 14_400_000 (λ m u k. outflow-small m u k i l)
+    left-small : (i : ℕ) → i < linkCount network → left network plan n i ≤ 3_800_000_000
+    left-small i l =
+        omega (
+          arith,
+          left-by network plan n i,
+          start-fits i l,
+          each-step (λ m. outflow network plan m i) 14_400_000 (λ m u k. outflow-small m u k i l),
+          counts network valid .together,
+        )
 
     -- numbers of 32 bits
     pub entered-word : (i : ℕ) → i < linkCount network → entered network plan n i < 4_294_967_296
-    entered-word i l = omega (arith, entered-fits i l, counts network valid .steps)
+    entered-word i l = omega (arith, entered-small i l)
 
     pub left-word : (i : ℕ) → i < linkCount network → left network plan n i < 4_294_967_296
-    left-word i l = omega (arith, left-fits i l, counts network valid .steps)
+    left-word i l = omega (arith, left-small i l)
 
-    pub admitted-total-small : sum n (allAdmitted network plan) ≤ n * 14_400_000
+    pub admitted-total-small : sum n (allAdmitted network plan) ≤ 41_140_800_000
     unfolding allAdmitted taken
     admitted-total-small =
         omega (
           arith,
           sum-swap n (linkCount network) (λ m i. admitted network plan m i),
-          sum-bound (linkCount network) (n * 600_000) (λ i. sum n (λ m. admitted network plan m i)) taken-fits,
-          mul-le-mul-right (n * 600_000) (counts network valid .links),
+          sum-bound (linkCount network) 1_714_200_000 (λ i. sum n (λ m. admitted network plan m i)) (λ i l. omega (arith, taken-small i l, offered-small n h i l)),
+          counts network valid .links,
         )
 
     pub let-out-total-small : sum n (allLetOut network plan) ≤ n * 14_400_000
@@ -227,16 +244,16 @@ module _ (network plan : List Line) (holds : Hold (networkChecks network)) where
         (λ i l. omega (arith, held-capacity network plan valid n i l (λ m k. keeps m k i l), link-limits network valid i l .capacity-limit))
 
   under-way-small : (n : ℕ) → n ≤ stepCount network → ((m : ℕ) → m < n → (i : ℕ) → i < linkCount network → rule18 network plan m i ≡ true)
-      → underWay network plan n ≤ 49_728_000_000
+      → underWay network plan n ≤ 89_140_800_000
   unfolding underWay
   under-way-small n h keeps = omega (arith, vehicles-small n keeps, outside-small n h, counts network valid .links)
 
   pub doubled-small : (n : ℕ) → n ≤ stepCount network → ((m : ℕ) → m < n → (i : ℕ) → i < linkCount network → rule18 network plan m i ≡ true)
-      → doubledTime network plan n ≤ n * 5_967_360_000_000
+      → doubledTime network plan n ≤ n * 10_696_896_000_000
   unfolding doubledTime
   doubled-small n h keeps =
-      sum-bound n 5_967_360_000_000 (λ m. stepLength network m * (underWay network plan m + underWay network plan (suc m)))
+      sum-bound n 10_696_896_000_000 (λ m. stepLength network m * (underWay network plan m + underWay network plan (suc m)))
       (λ m l. le-trans (mul-le-mul (step-limits network valid m (omega arith) .length-limit) (both m l)) (omega arith))
     where
-      both : (m : ℕ) → m < n → underWay network plan m + underWay network plan (suc m) ≤ 99_456_000_000
+      both : (m : ℕ) → m < n → underWay network plan m + underWay network plan (suc m) ≤ 178_281_600_000
       both m l = omega (arith, under-way-small m (omega arith) (λ k u. keeps k (omega arith)), under-way-small (suc m) (omega arith) (λ k u. keeps k (omega arith)))

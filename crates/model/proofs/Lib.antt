@@ -10,6 +10,7 @@ pub mod Accepted
 pub mod Limits
 pub mod Sums
 pub mod Times
+pub mod Timeline
 pub mod Arrived
 pub mod Flow
 pub mod Waiting

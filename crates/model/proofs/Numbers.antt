@@ -17,7 +17,7 @@ use Rattle.search.proofs.Laws.{refused-first}
 use Rattle.records.specs.Lines.{Line}
 use Rattle.model.specs.declared.LinkAnswer.the-variants as link-answer
 use Rattle.model.specs.Test.{_and_, every}
-use Rattle.model.specs.Table.{countChecks, tramChecks, signalChecks, tramPhaseChecks, linkChecks, movementChecks, shareChecks, stepChecks, networkChecks, ledgerChecks, signalRules, limitRules, sumRules, lineChecks, planLineChecks, planChecks}
+use Rattle.model.specs.Table.{countChecks, tramChecks, signalChecks, tramPhaseChecks, linkChecks, movementChecks, shareChecks, pastChecks, stepChecks, networkChecks, ledgerChecks, signalRules, limitRules, sumRules, lineChecks, planLineChecks, planChecks}
 use Rattle.model.specs.Guarantees.{CanArise, NetworkPromises, StatePromises}
 use Rattle.model.specs.Calls.{checkNetwork, stateChecks, linkAnswer, linkState}
 use Rattle.model.proofs.Tests.{and-left, and-right, every-at}
@@ -49,8 +49,8 @@ refused-number c r h v = broken-number c r h (refused-first c r v)
 
 -- ---- the checks of the three calls
 pub network-numbered : (network : List Line) → Numbered (networkChecks network)
-unfolding Numbered networkChecks countChecks tramChecks signalChecks tramPhaseChecks linkChecks movementChecks shareChecks stepChecks
-network-numbered network = search needs depth 12
+unfolding Numbered networkChecks countChecks tramChecks signalChecks tramPhaseChecks linkChecks movementChecks shareChecks pastChecks stepChecks
+network-numbered network = search needs depth 14
 
 -- a table whose rules have such numbers
 table-numbered : (line : ℕ) (rules : List Rule) → every (length rules) (λ k. arises (ruleAt rules k .number)) ≡ true → Numbered (table line rules)

@@ -20,7 +20,7 @@ use Rattle.model.proofs.Written.{ledger-promises}
 use Rattle.model.proofs.Numbers.{refused-number, plan-numbered}
 use Rattle.model.proofs.Accepted.{AcceptedPlan, accepted-plan}
 use Rattle.model.proofs.Integers.{signed-sum}
-use Rattle.model.proofs.Flow.{left-over, left-entered, within-capacity, balance}
+use Rattle.model.proofs.Flow.{left-over, left-within, within-capacity, balance}
 use Rattle.model.proofs.TravelTime.{admitted-demand, travel-time}
 use Rattle.model.proofs.Shut.{shut-passes-nothing}
 use Rattle.model.proofs.Red.{red-greens, red-least, red-greatest}
@@ -38,7 +38,7 @@ module _ (network plan : List Line) (accepted : AcceptedPlan network plan) where
         cycle-least = λ r l a b c red s. cycle-least network plan r accepted l red s;
         cycle-greatest = λ r l a b c red s. cycle-greatest network plan r accepted l red s;
         balanced = balance network plan accepted;
-        left-entered = left-entered network plan accepted;
+        left-entered = left-within network plan accepted;
         holds-capacity = within-capacity network plan accepted;
         left-arrived = left-over network plan accepted;
         shut-passes-nothing = shut-passes-nothing network plan accepted;

@@ -59,6 +59,12 @@ sum-more f m (suc n) h = go (eq-or-lt-of-le h) (sum-more f m n)
     go (inl e) ih = rw e (omega arith)
     go (inr l) ih = omega (arith, ih (omega arith))
 
+-- the first b, and n more
+pub sum-split : (b n : ℕ) (f : ℕ → ℕ) → sum (b + n) f ≡ sum b f + sum n (λ k. f (b + k))
+unfolding sum
+sum-split b zero f = let e : b + 0 ≡ b = omega arith in rw e (omega arith)
+sum-split b (suc n) f = let e : b + suc n ≡ suc (b + n) = omega arith in rw e (omega (arith, sum-split b n f))
+
 -- past the place, nothing
 sum-past : (n t x : ℕ) → n < t → sum n (λ i. only (eqb t (suc i)) x) ≡ 0
 unfolding sum

@@ -7,8 +7,8 @@ use native.Mathlib.Omega.{arith}
 use Rattle.records.specs.Lines.{Line}
 use Rattle.model.specs.Sum.{sum}
 use Rattle.model.specs.Network.{linkCount, stepCount, stepLength, time}
-use Rattle.model.specs.Flows.{offered, allDemand, taken, vehicles, underWay, allLetOut, doubledTime}
-use Rattle.model.specs.Guarantees.{weight}
+use Rattle.model.specs.Flows.{offered, allDemand, taken, underWay, allLetOut, doubledTime}
+use Rattle.model.specs.Guarantees.{weight, startingVehicles}
 use Rattle.model.proofs.Sums.{sum-ext, sum-weight}
 use Rattle.model.proofs.Times.{time-suc, time-mono}
 use Rattle.model.proofs.Accepted.{AcceptedPlan}
@@ -43,15 +43,15 @@ module _ (network plan : List Line) (accepted : AcceptedPlan network plan) where
   unfolding underWay
   under-way-step n h = omega (arith, balance-step network plan accepted n h, outside-step network plan n (λ m i u. admitted-demand m i (omega arith)))
 
-  under-way-by : (m : ℕ) → m ≤ stepCount network → underWay network plan m + sum m (allLetOut network plan) ≡ vehicles network plan 0 + sum m (allDemand network)
-  unfolding underWay sum
+  under-way-by : (m : ℕ) → m ≤ stepCount network → underWay network plan m + sum m (allLetOut network plan) ≡ startingVehicles network plan + sum m (allDemand network)
+  unfolding underWay startingVehicles sum
   under-way-by zero h = omega (arith, outside-start network plan)
   under-way-by (suc m) h = omega (arith, under-way-by m (omega arith), under-way-step m h)
 
   -- of the first m steps
   travel-time-by : (m : ℕ) → m ≤ stepCount network
       → doubledTime network plan m + sum m (λ n. allLetOut network plan n * weightBy network m n)
-      ≡ 2 * time network m * vehicles network plan 0 + sum m (λ n. allDemand network n * weightBy network m n)
+      ≡ 2 * time network m * startingVehicles network plan + sum m (λ n. allDemand network n * weightBy network m n)
   unfolding doubledTime sum
   travel-time-by zero h = unfold time in omega arith
   travel-time-by (suc m) h =
@@ -60,12 +60,12 @@ module _ (network plan : List Line) (accepted : AcceptedPlan network plan) where
         travel-time-by m (omega arith),
         weigh-more network (allLetOut network plan) m,
         weigh-more network (allDemand network) m,
-        ap (λ x. 2 * x * vehicles network plan 0) (time-suc network m),
+        ap (λ x. 2 * x * startingVehicles network plan) (time-suc network m),
         ap (λ x. stepLength network m * x) (under-way-by m (omega arith)),
         ap (λ x. stepLength network m * x) (under-way-step m h),
       )
 
   pub travel-time : doubledTime network plan (stepCount network) + sum (stepCount network) (λ n. allLetOut network plan n * weight network n)
-      ≡ 2 * time network (stepCount network) * vehicles network plan 0 + sum (stepCount network) (λ n. allDemand network n * weight network n)
+      ≡ 2 * time network (stepCount network) * startingVehicles network plan + sum (stepCount network) (λ n. allDemand network n * weight network n)
   unfolding weight weightBy
   travel-time = travel-time-by (stepCount network) (le-refl _)

@@ -7,16 +7,21 @@ use native.Mathlib.Omega.{arith}
 use borrow.Author.Tests.{leb-true}
 use Rattle.records.specs.Lines.{Line}
 use Rattle.model.specs.Sum.{sum}
-use Rattle.model.specs.Network.{linkCount, demand}
+use Rattle.model.specs.Network.{linkCount, waitingAtStart, demand}
 use Rattle.model.specs.Flows.{offered, allDemand, admitted, taken, waits, outside, allAdmitted}
 use Rattle.model.specs.Rules.{rule15}
-use Rattle.model.proofs.Sums.{sum-ext, sum-zero, sum-add}
+use Rattle.model.proofs.Sums.{sum-ext, sum-add, sum-more}
 
-module _ (network plan : List Line) where
+module _ (network : List Line) where
   pub offered-suc : (n i : ℕ) → offered network (suc n) i ≡ offered network n i + demand network n i
   unfolding offered sum
-  offered-suc n i = refl
+  offered-suc n i = omega arith
 
+  pub offered-more : (m n i : ℕ) → m ≤ n → offered network m i ≤ offered network n i
+  unfolding offered
+  offered-more m n i h = omega (arith, sum-more (λ k. demand network k i) m n h)
+
+module _ (network plan : List Line) where
   pub taken-suc : (n i : ℕ) → taken network plan (suc n) i ≡ taken network plan n i + admitted network plan n i
   unfolding taken sum
   taken-suc n i = refl
@@ -32,10 +37,10 @@ module _ (network plan : List Line) where
   unfolding waits
   waits-rest n i h = omega arith
 
-  -- nobody waits at the start
-  pub outside-start : outside network plan 0 ≡ 0
-  unfolding outside waits offered taken sum
-  outside-start = sum-zero (linkCount network)
+  -- at the start what the `Q` lines say
+  pub outside-start : outside network plan 0 ≡ sum (linkCount network) (waitingAtStart network)
+  unfolding outside waits offered taken
+  outside-start = sum-ext (linkCount network) _ (waitingAtStart network) (λ i l. unfold sum in omega arith)
 
   -- those outside after a step: its demand has come, what it admits has gone in
   pub outside-step : (n : ℕ) → ((m i : ℕ) → m ≤ suc n → i < linkCount network → taken network plan m i ≤ offered network m i)
@@ -56,6 +61,6 @@ module _ (network plan : List Line) where
             arith,
             waits-rest n i (h n i (omega arith) l),
             waits-rest (suc n) i (h (suc n) i (omega arith) l),
-            offered-suc n i,
+            offered-suc network n i,
             taken-suc n i,
           )
