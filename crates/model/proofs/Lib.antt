@@ -3,6 +3,7 @@ pub mod Texts
 pub mod Cases
 pub mod MoreCases
 pub mod TramCases
+pub mod PastCases
 pub mod LedgerCases
 pub mod Witness
 pub mod Tests
