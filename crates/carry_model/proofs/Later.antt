@@ -1,0 +1,29 @@
+-- Refusals told some lines later. Assumes nothing.
+use mathlib.Core.Path.{_≡_, refl, sym, ap, ap₂, _∙_}
+use mathlib.Core.Bool.{Bool, true, false}
+use mathlib.Core.List.{List}
+use Prim.Native.Nat.{ℕ, zero, suc, _+_}
+use native.Mathlib.Omega.{arith}
+use Rattle.search.specs.declared.Verdict.{Verdict}
+use Rattle.search.specs.declared.Verdict.the-variants.{Passes, Refused}
+use Rattle.search.specs.Checks.{Rule, orElse, firstFrom, checked, verdict, table}
+use Rattle.search.proofs.Laws.{first-same}
+use Rattle.carry_model.specs.CarriesOn.{later}
+
+pub later-or-else : (a : ℕ) (v w : Verdict) → orElse (later a v) (later a w) ≡ later a (orElse v w)
+unfolding later orElse
+later-or-else a Passes w = refl
+later-or-else a (Refused r) w = refl
+
+pub later-checked : (a : ℕ) (b : Bool) (x y z : ℕ) → checked b x (a + y) z ≡ later a (checked b x y z)
+unfolding later checked
+later-checked a true x y z = refl
+later-checked a false x y z = refl
+
+-- a search whose verdicts are told later, from another index on
+pub later-first : (a d : ℕ) (f g : ℕ → Verdict) (n i : ℕ) → ((k : ℕ) → f (d + k) ≡ later a (g k)) → firstFrom f n (d + i) ≡ later a (firstFrom g n i)
+unfolding firstFrom
+later-first a d f g zero i h = unfold later in refl
+later-first a d f g (suc n) i h =
+    let e : d + i + 1 ≡ d + (i + 1) = omega arith in
+    rw (h i, e, later-first a d f g n (i + 1) h) (later-or-else a (g i) (firstFrom g n (i + 1)))

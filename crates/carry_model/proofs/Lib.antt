@@ -1,0 +1,3 @@
+pub mod GoesOn
+pub mod Later
+pub mod Lines
