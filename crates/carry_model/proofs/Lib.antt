@@ -1,3 +1,5 @@
 pub mod GoesOn
 pub mod Later
 pub mod Lines
+pub mod Trams
+pub mod Parts
