@@ -3,3 +3,5 @@ pub mod Later
 pub mod Lines
 pub mod Trams
 pub mod Parts
+pub mod Signals
+pub mod Clipped
