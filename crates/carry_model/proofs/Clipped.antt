@@ -84,7 +84,10 @@ module _ (a c : ℕ) where
 
   pub clip-apart : (t u : Line) → apart t u ≡ true → apart (clipLine a c t) (clipLine a c u) ≡ true
   unfolding apart clip recordLine number numberOf _or_
-  clip-apart t u h = weaken _ _ _ _ _ (before (number t 3) (number u 2)) (before (number u 3) (number t 2)) h
+  clip-apart t u h =
+      weaken (not (eqb (number t 0) (number u 0))) (ltb (number t 3) (number u 2)) (ltb (number u 3) (number t 2))
+      (ltb (min (number t 3) c - a) (max (number u 2) (suc a) - a)) (ltb (min (number u 3) c - a) (max (number t 2) (suc a) - a))
+      (before (number t 3) (number u 2)) (before (number u 3) (number t 2)) h
     where
       weaken : (x y z y′ z′ : Bool) → (y ≡ true → y′ ≡ true) → (z ≡ true → z′ ≡ true) → x or y or z ≡ true → x or y′ or z′ ≡ true
       weaken true y z y′ z′ f g e = refl

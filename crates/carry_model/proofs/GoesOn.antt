@@ -231,7 +231,7 @@ module _ (network plan other rest : List Line) (a : ℕ) (p : GoesOn network pla
   taken-same n i h =
       omega (arith, sum-split a n (λ k. admitted network plan k i), sum-ext n (λ k. admitted other rest k i) (λ k. admitted network plan (a + k) i) (λ k u. admitted-same k (omega arith) i))
 
-  offered-same : (n i : ℕ) → n ≤ stepCount other → i < linkCount network → offered other n i + taken network plan a i ≡ offered network (a + n) i
+  pub offered-same : (n i : ℕ) → n ≤ stepCount other → i < linkCount network → offered other n i + taken network plan a i ≡ offered network (a + n) i
   unfolding offered waits
   offered-same n i h l =
       omega (

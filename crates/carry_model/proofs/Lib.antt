@@ -5,3 +5,4 @@ pub mod Trams
 pub mod Parts
 pub mod Signals
 pub mod Clipped
+pub mod PartValid

@@ -87,7 +87,7 @@ module _ (network : List Line) (valid : ValidNetwork network) where
   past-limits i l = let v = every-at (linkCount network) (validPastOf network) (and-right _ _ (valid .past)) i l in search (leb-true, and-left, and-right) depth 9
 
   -- the length of a step of the timeline, past or present
-  timeline-length : (m : ℕ) → m < onTimeline network (stepCount network) → (1 ≤ timelineLength network m) × (timelineLength network m ≤ 60)
+  pub timeline-length : (m : ℕ) → m < onTimeline network (stepCount network) → (1 ≤ timelineLength network m) × (timelineLength network m ≤ 60)
   unfolding validPast onTimeline within stepLength
   timeline-length m l = elim (decLe (pastCount network) m) [
     | yes h ↦
