@@ -2,6 +2,7 @@ pub mod GoesOn
 pub mod Later
 pub mod Lines
 pub mod Trams
+pub mod Agree
 pub mod Parts
 pub mod Signals
 pub mod Clipped

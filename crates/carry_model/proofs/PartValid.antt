@@ -68,17 +68,18 @@ module _ (network plan : List Line) (a c : ℕ) (holds : Hold (networkChecks net
   abbrev P : List Line
   P = networkLines X
 
-  pub taken-at : (i : ℕ) → i < linkCount network → taken network plan a i ≤ offered network a i
+  taken-at : (i : ℕ) → i < linkCount network → taken network plan a i ≤ offered network a i
   taken-at i l = taken-offered network plan a i (λ m w. keeps m w .keeps15 i l)
 
-  pub part-goes-on : (rest : List Line) → ((n k : ℕ) → n < c - a → entry rest n k ≡ entry plan (a + n) k) → GoesOn network plan P rest a
-  part-goes-on rest planned = goes-on network plan a c formed h rest taken-at planned
+  pub part-goes-on : (whole rest : List Line) → ((n k : ℕ) → n < a → entry plan n k ≡ entry whole n k) → ((n k : ℕ) → n < c - a → entry rest n k ≡ entry whole (a + n) k)
+      → GoesOn network whole P rest a
+  part-goes-on whole rest agree planned = goes-on network plan a c formed h whole rest agree taken-at planned
 
   abbrev rest : List Line
   rest = drop a plan
 
   g : GoesOn network plan P rest a
-  g = part-goes-on rest (λ n k w. unfold entry in ap (λ t. number t k) (getD-drop a plan n noLine))
+  g = part-goes-on plan rest (λ n k w. refl) (λ n k w. unfold entry in ap (λ t. number t k) (getD-drop a plan n noLine))
 
   L : linkCount P ≡ linkCount network
   L = part-links network plan a c formed h

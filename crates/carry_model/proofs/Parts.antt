@@ -22,6 +22,7 @@ use Rattle.network_text.proofs.Formed.{Formed, none-past}
 use Rattle.carry_model.specs.Part.{clipped, signalNumbers, linkNumbers, movementNumbers, pastNumbers, stepNumbers, part}
 use Rattle.carry_model.proofs.Trams.{clipped-phase}
 use Rattle.carry_model.proofs.GoesOn.{GoesOn}
+use Rattle.carry_model.proofs.Agree.{timeline-inflow-agree, timeline-outflow-agree, signal-agree, taken-agree, waits-agree}
 
 -- ---- lists
 list-same : (n : ℕ) (f g : ℕ → ℕ) → ((k : ℕ) → k < n → f k ≡ g k) → list n f ≡ list n g
@@ -247,11 +248,11 @@ module _ (network plan : List Line) (a c : ℕ) (formed : Formed network) (some 
       let e : 2 + 2 * i ≡ 1 + (2 * i + 1) = omega arith in
       ap (entry P (timelineLine P m)) e ∙ past-number m (2 * i + 1) h ∙ pairs-at (timelineInflow network plan m) (timelineOutflow network plan m) (linkCount network) i l .1
 
-  -- ---- the part goes on from boundary a
-  pub goes-on : (rest : List Line) → ((i : ℕ) → i < linkCount network → taken network plan a i ≤ offered network a i)
-      → ((n k : ℕ) → n < c - a → entry rest n k ≡ entry plan (a + n) k)
-      → GoesOn network plan P rest a
-  goes-on rest few planned =
+  -- ---- the part goes on from boundary a of any plan whose first a lines are these
+  pub goes-on : (whole rest : List Line) → ((n k : ℕ) → n < a → entry plan n k ≡ entry whole n k) → ((i : ℕ) → i < linkCount network → taken network plan a i ≤ offered network a i)
+      → ((n k : ℕ) → n < c - a → entry rest n k ≡ entry whole (a + n) k)
+      → GoesOn network whole P rest a
+  goes-on whole rest agree few planned =
       record {
         links = part-links;
         signals = part-signals;
@@ -260,13 +261,13 @@ module _ (network plan : List Line) (a c : ℕ) (formed : Formed network) (some 
         some-step = omega (arith, part-steps);
         link = part-link;
         movement = part-movement;
-        state = part-signal;
-        waiting-at = part-waiting;
-        taken-at = few;
+        state = λ r l. part-signal r l ∙ signal-agree network plan whole a agree a r (omega arith);
+        waiting-at = λ i l. part-waiting i l ∙ waits-agree network plan whole a agree i;
+        taken-at = λ i l. rw (← (taken-agree network plan whole a agree i)) (few i l);
         lengths = λ m u. part-length m (omega (arith, part-steps));
         demands = λ n i u l. part-demand n i (omega (arith, part-steps)) l;
-        past-in = part-past-in;
-        past-out = part-past-out;
+        past-in = λ m i u l. part-past-in m i u l ∙ timeline-inflow-agree network plan whole a agree m i u;
+        past-out = λ m i u l. part-past-out m i u l ∙ timeline-outflow-agree network plan whole a agree m i u;
         tram = λ n r u. part-tram-lines r n (omega (arith, part-steps));
         planned = λ n k u. planned n k (omega (arith, part-steps));
       }

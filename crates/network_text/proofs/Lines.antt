@@ -64,7 +64,7 @@ module _ (numbers : NetworkNumbers) where
   one-line : recordLine letterN (countNumbers numbers) ≡ getD (recordLines letterN 1 (λ k. countNumbers numbers)) 0 noLine
   one-line = unfold recordLines in refl
 
-  counts-at : (k : ℕ) → entry N 0 k ≡ getD (countNumbers numbers) k 0
+  pub counts-at : (k : ℕ) → entry N 0 k ≡ getD (countNumbers numbers) k 0
   unfolding entry networkLines
   counts-at k = ap (λ (l : Line). number l k) one-line ∙ entry-back letterN 1 (λ j. countNumbers numbers) 0 (omega arith) k
 
