@@ -7,3 +7,4 @@ pub mod Parts
 pub mod Signals
 pub mod Clipped
 pub mod PartValid
+pub mod Theorem
