@@ -8,3 +8,5 @@ pub mod Signals
 pub mod Clipped
 pub mod PartValid
 pub mod Theorem
+pub mod Hold
+pub mod CarriesOn

@@ -21,7 +21,7 @@ unfolding verdict table
 table-later a line rules =
     later-first a 0 _ _ (length rules) 0
     (λ k l u. let e : 0 + k ≡ k = omega arith in
-        rw e (later-first a 0 _ _ (ruleAt rules k .items) 0 (λ i l u. let z : 0 + i ≡ i = omega arith in rw z (later-checked a (ruleAt rules k .holds i) (ruleAt rules k .number) line (suc i)))))
+    rw e (later-first a 0 _ _ (ruleAt rules k .items) 0 (λ i l u. let z : 0 + i ≡ i = omega arith in rw z (later-checked a (ruleAt rules k .holds i) (ruleAt rules k .number) line (suc i)))))
 
 module _ (network plan other rest : List Line) (a : ℕ) (p : GoesOn network plan other rest a) (valid : ValidNetwork network)
     (same : (n : ℕ) → n < stepCount other → getD rest n noLine ≡ getD plan (a + n) noLine) (n : ℕ) (h : n < stepCount other) where

@@ -25,7 +25,7 @@ use Rattle.carry_model.proofs.GoesOn.{GoesOn}
 use Rattle.carry_model.proofs.Agree.{timeline-inflow-agree, timeline-outflow-agree, signal-agree, taken-agree, waits-agree}
 
 -- ---- lists
-list-same : (n : ℕ) (f g : ℕ → ℕ) → ((k : ℕ) → k < n → f k ≡ g k) → list n f ≡ list n g
+pub list-same : (n : ℕ) (f g : ℕ → ℕ) → ((k : ℕ) → k < n → f k ≡ g k) → list n f ≡ list n g
 unfolding list
 list-same zero f g h = refl
 list-same (suc n) f g h = ap₂ (λ xs x. xs ++ (x ∷ [])) (list-same n f g (λ k l. h k (omega arith))) (h n (omega arith))
