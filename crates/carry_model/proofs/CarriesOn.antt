@@ -15,7 +15,7 @@ use Rattle.model.specs.Network.{stepCount}
 use Rattle.model.specs.Table.{networkChecks, lineChecks, planLineChecks, planChecks}
 use Rattle.model.specs.Hold.{meant}
 use Rattle.model.proofs.Tests.{and-left, and-right}
-use Rattle.carry_model.specs.Part.{cut, carried}
+use Rattle.carry_model.specs.Part.{cut}
 use Rattle.carry_model.specs.Call.{boundaryChecks, carryChecks}
 use Rattle.carry_model.specs.CarriesOn.{Accepts, Carries, next, Parted, CarriesOn}
 use Rattle.carry_model.proofs.Theorem as theorem

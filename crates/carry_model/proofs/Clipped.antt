@@ -1,21 +1,19 @@
 -- Where the clipped tram lines come from, and that refusal 28 does not arise of them. Assumes nothing.
-use mathlib.Core.Path.{_≡_, refl, ap, _∙_}
+use mathlib.Core.Path.{_≡_, refl}
 use mathlib.Core.Bool.{Bool, true, false, cond, not}
-use mathlib.Core.Logic.{_⊎_, inl, inr}
 use mathlib.Core.List.{List, [], _∷_}
 use Prim.Native.Nat.{ℕ, zero, suc, _-_, _≤_, _<_, min, max}
 use native.Mathlib.Omega.{arith}
-use lib.Dec.{leb, ltb, eqb}
+use lib.Dec.{ltb, eqb}
 use lib.ListN.{length, getD}
 use borrow.Author.Tests.{leb-true, le-leb, ltb-true, lt-ltb}
 use Rattle.records.specs.Lines.{Line, noLine, number, numberOf}
 use Rattle.record_writer.specs.Records.{recordLine}
-use Rattle.model.specs.Test.{_and_, _or_, within}
+use Rattle.model.specs.Test.{_or_, within}
 use Rattle.model.specs.Rules.{apart, tramExists}
-use Rattle.model.specs.Table.{letterT}
-use Rattle.model.proofs.Tests.{and-left, and-right, or-cases}
+use Rattle.model.proofs.Tests.{and-left}
 use Rattle.carry_model.specs.Part.{meets, clip, clipped}
-use Rattle.carry_model.proofs.Trams.{is-within, clipLine}
+use Rattle.carry_model.proofs.Trams.{clipLine}
 use Rattle.carry_model.proofs.Signals.{and-both}
 
 module _ (a c : ℕ) where

@@ -9,7 +9,7 @@ use lib.Dec.{leb, eqb}
 use borrow.Author.Tests.{le-leb, lt-leb, lt-ltb, le-ltb}
 use Rattle.records.specs.Lines.{Line}
 use Rattle.model.specs.declared.Signal.{Signal}
-use Rattle.model.specs.Sum.{sum, only}
+use Rattle.model.specs.Sum.{only}
 use Rattle.model.specs.Test.{_or_}
 use Rattle.model.specs.Signals.{phaseOf, opens}
 use Rattle.model.specs.Network.{entry, linkCount, signalCount, movementCount, stepCount, pastCount, onTimeline, linkLine, movementLine, trams, signal, capacity, travelTime, exitRate, signalOf, phaseMask, standing, waitingAtStart, fromLink, toLink, rate, share, timelineLength, pastEntries, pastExits, stepLength, demand, timelineTime, stepAt, arrivalStep, elapsed, tramPhase, ordinary}

@@ -1,12 +1,11 @@
 -- An empty plan means hold (T-07): the lines that it stands for on the whole network are those on the cut network and those on the carried one. Assumes nothing.
-use mathlib.Core.Path.{_≡_, refl, sym, ap, ap₂, _∙_}
+use mathlib.Core.Path.{_≡_, sym, ap, ap₂, _∙_}
 use mathlib.Core.List.{List, [], _∷_, _++_, append-assoc, append-nil}
-use Prim.Native.Nat.{ℕ, zero, suc, _+_, _*_, _-_, _^_, _≤_, _<_}
+use Prim.Native.Nat.{ℕ, zero, suc, _+_, _*_, _-_, _≤_, _<_}
 use native.Mathlib.Decide.{decLt}
 use native.Mathlib.Omega.{arith}
-use borrow.Author.Tests.{lt-ltb, le-ltb}
-use lib.Dec.{ltb}
-use lib.ListN.{length, getD, take, drop}
+use borrow.Author.Tests.{le-ltb}
+use lib.ListN.{take, drop}
 use lib.Seq.{getD-take, take-at, drop-at}
 use Rattle.search.specs.Checks.{verdict, Hold}
 use Rattle.search.specs.declared.Verdict.the-variants.{Passes}
@@ -14,7 +13,6 @@ use Rattle.records.specs.Lines.{Line, noLine, number}
 use Rattle.record_writer.specs.Records.{recordLine, recordLines}
 use Rattle.record_writer.proofs.Records.{lines-count}
 use Rattle.model.specs.declared.Signal.{Signal}
-use Rattle.model.specs.Sum.{only, list}
 use Rattle.model.specs.Network.{entry, linkCount, signalCount, movementCount, stepCount, signal}
 use Rattle.model.specs.Flows.{signalAt}
 use Rattle.model.specs.Table.{letterP, networkChecks, lineChecks}

@@ -15,10 +15,10 @@ use Rattle.record_writer.proofs.Records.{entry-back}
 use Rattle.model.specs.declared.Signal.{Signal}
 use Rattle.model.specs.Sum.{sum, only}
 use Rattle.model.specs.Test.{_and_, within, every}
-use Rattle.model.specs.Network.{entry, linkCount, signalCount, movementCount, stepCount, tramCount, pastCount, onTimeline, tramLine, signalLine, linkLine, movementLine, timelineLine, stepLine, trams, signal, capacity, travelTime, exitRate, signalOf, phaseMask, standing, fromLink, toLink, rate, share, timelineLength, pastEntries, stepLength, demand, time}
+use Rattle.model.specs.Network.{entry, linkCount, signalCount, movementCount, stepCount, tramCount, pastCount, onTimeline, tramLine, signalLine, timelineLine, stepLine, trams, signal, capacity, travelTime, signalOf, phaseMask, standing, fromLink, share, timelineLength, pastEntries, stepLength, demand, time}
 use Rattle.model.specs.Flows.{offered, signalAt, admitted, movedInto, inflow, timelineInflow, timelineOutflow, timelineEntered, entered, left, hasArrived, held, taken}
 use Rattle.model.specs.Rules.{validPhases, validCounts, apart, tramExists, tram, validTram, validTramPhase, validMask, validLink, pairRises, validMovement, lastMovement, validShares, validStep, validPastOf, validPast}
-use Rattle.model.specs.Table.{letterN, letterT, letterG, letterQ, letterM, letterH, letterS, networkChecks}
+use Rattle.model.specs.Table.{letterT, letterG, letterH, letterS, networkChecks}
 use Rattle.model.proofs.Tests.{and-left, and-right, every-at, every-same}
 use Rattle.model.proofs.Sums.{sum-ext, sum-add, sum-bound, list-length}
 use Rattle.model.proofs.Accepted.{ValidNetwork, LawfulStep, valid-network}
@@ -28,11 +28,11 @@ use Rattle.model.proofs.Arrived.{arrived-past}
 use Rattle.model.proofs.Flow.{left-arrived, held-capacity}
 use Rattle.model.proofs.Waiting.{offered-more, taken-offered}
 use Rattle.model.proofs.Bounds.{lawful-limits, moved-into-small}
-use Rattle.model.proofs.Shown.{kept, same-phases}
-use Rattle.network_text.specs.NetworkText.{NetworkNumbers, networkLines, tramNumbers}
+use Rattle.model.proofs.Shown.{kept}
+use Rattle.network_text.specs.NetworkText.{NetworkNumbers, networkLines}
 use Rattle.network_text.proofs.Lines.{Says, count-form, all-lines, tram-says, signal-says, link-says, movement-says, past-says, step-says}
 use Rattle.network_text.proofs.Formed.{Formed, formed-of-holds, holds-of-valid}
-use Rattle.carry_model.specs.Part.{meets, clip, clipped, signalNumbers, linkNumbers, movementNumbers, pastNumbers, stepNumbers, part}
+use Rattle.carry_model.specs.Part.{meets, clip, clipped, linkNumbers, movementNumbers, pastNumbers, stepNumbers, part}
 use Rattle.carry_model.proofs.GoesOn.{GoesOn, capacity-same, travel-same, exit-same, signal-of-same, mask-same, standing-same, from-same, to-same, rate-same, share-same, phases-same, length-same, left-same, held-same, arrived-same, offered-same}
 use Rattle.carry_model.proofs.Trams.{is-within, clipLine}
 use Rattle.carry_model.proofs.Clipped.{origin, Comes, comes, origin-rises, clipped-length, clip-exists, clip-apart}

@@ -3,7 +3,7 @@ use mathlib.Core.Path.{_≡_, refl, _∙_}
 use mathlib.Core.Bool.{Bool, true, false, cond, not, _||_, and-eq-true-iff}
 use mathlib.Core.Logic.{_⊎_, inl, inr}
 use mathlib.Core.List.{List}
-use Prim.Native.Nat.{ℕ, zero, suc, _+_, _^_, _≤_, _<_}
+use Prim.Native.Nat.{ℕ, zero, suc, _^_, _≤_, _<_}
 use native.Mathlib.Omega.{arith}
 use lib.Dec.{leb, eqb}
 use lib.ListN.{getD}
@@ -11,7 +11,7 @@ use borrow.Author.Tests.{leb-true, le-leb, eqb-true, eqb-false, eq-eqb, not-true
 use Rattle.records.specs.Lines.{Line}
 use Rattle.model.specs.declared.Signal.{Signal}
 use Rattle.model.specs.Test.{_and_, _or_, within, every}
-use Rattle.model.specs.Network.{signalCount, stepLength, signal, ordinary}
+use Rattle.model.specs.Network.{signalCount, stepLength, ordinary}
 use Rattle.model.specs.Signals.{after, greatestTime, shownForAfter, clockAfter, beginsCycle, keepsGreatestTime, keepsCycle, phaseOf}
 use Rattle.model.specs.Flows.{shownIn, signalAt}
 use Rattle.model.specs.Rules.{validSignal, rule10, rule13, rule14}

@@ -1,27 +1,23 @@
 -- The theorem of T-09. Assumes nothing.
 use mathlib.Core.Path.{_≡_, refl, sym, ap, ap₂, _∙_}
 use mathlib.Core.Logic.{_↔_}
-use mathlib.Core.Bool.{true}
 use mathlib.Core.List.{List, []}
 use Prim.Native.Nat.{ℕ, suc, _+_, _*_, _-_, _≤_, _<_}
 use native.Mathlib.Nat.{mul-le-mul-right}
 use native.Mathlib.Omega.{arith}
-use lib.Dec.{leb}
 use lib.ListN.{length, getD, take, drop, length-drop}
 use lib.Seq.{getD-take, getD-drop, length-take-le}
 use borrow.Author.Tests.{le-leb, eq-eqb}
-use Rattle.search.specs.declared.Refusal.{Refusal}
 use Rattle.search.specs.declared.Verdict.{Verdict}
 use Rattle.search.specs.declared.Verdict.the-variants.{Passes, Refused}
-use Rattle.search.specs.Checks.{Checks, check, _then_, orElse, firstFrom, verdict, Hold}
+use Rattle.search.specs.Checks.{orElse, firstFrom, verdict, Hold}
 use Rattle.search.proofs.Laws.{or-else-first, or-else-second, or-else-passes, or-else-refused, first-split, first-same, first-all, checked-passes, hold-of-passes, passes-of-hold}
-use Rattle.records.specs.Lines.{Line, noLine, number, lines}
+use Rattle.records.specs.Lines.{Line, noLine, number}
 use Rattle.model.specs.Sum.{sum}
 use Rattle.model.specs.Network.{entry, linkCount, stepCount}
 use Rattle.model.specs.Flows.{doubledTime, row}
 use Rattle.model.specs.Table.{networkChecks, ledgerChecks, lineChecks, planLineChecks, planChecks}
 use Rattle.model.proofs.Accepted.{LawfulStep, valid-network, lawful-step}
-use Rattle.network_text.specs.NetworkText.{networkLines}
 use Rattle.network_text.proofs.Formed.{formed-of-holds}
 use Rattle.network_text.proofs.Fits.{valid-reads-back}
 use Rattle.carry_model.specs.Part.{part, cut, carried, carriedText}

@@ -1,23 +1,22 @@
 -- Every number of a valid network fits a field, so that a valid network that is given by its numbers reads back from its text. Assumes nothing.
-use mathlib.Core.Path.{_≡_, refl, sym, ap, _∙_}
-use mathlib.Core.Bool.{Bool, true, false, cond}
-use mathlib.Core.Logic.{_⊎_, inl, inr}
+use mathlib.Core.Path.{_≡_, refl}
+use mathlib.Core.Bool.{true, cond}
 use mathlib.Core.List.{List, []}
 use Prim.Native.Nat.{ℕ, zero, suc, _+_, _*_, _-_, _/_, _%_, _^_, _≤_, _<_}
 use native.Mathlib.Nat.{le-trans, pow-le-pow-right}
 use native.Mathlib.Decide.{decLe}
 use native.Mathlib.Omega.{arith}
 use lib.Dec.{leb, ltb, eqb}
-use lib.ListN.{length, getD}
+use lib.ListN.{getD}
 use borrow.Author.Tests.{leb-true, ltb-true, eqb-true, ne-eqb}
 use Rattle.search.specs.Checks.{Hold}
 use Rattle.records.specs.Field.{largest}
 use Rattle.records.specs.Lines.{Line, noLine, number, isRecord, lines}
-use Rattle.model.specs.Sum.{sum, list}
+use Rattle.model.specs.Sum.{sum}
 use Rattle.model.specs.Test.{_and_, within, every}
 use Rattle.model.specs.Network.{entry, linkCount, signalCount, movementCount, stepCount, tramCount, pastCount, onTimeline, tramLine, signalLine, linkLine, movementLine, timelineLine, stepLine, signal, capacity, travelTime, exitRate, signalOf, phaseMask, standing, waitingAtStart, fromLink, toLink, rate, share, timelineLength, pastEntries, pastExits, stepLength, demand}
-use Rattle.model.specs.Flows.{offered, entered, left}
-use Rattle.model.specs.Rules.{validPhases, validSignal, validCounts, tram, tramExists, validTram, validTramPhase, validMask, validLink, validMovement}
+use Rattle.model.specs.Flows.{offered}
+use Rattle.model.specs.Rules.{validPhases, validSignal, validCounts, tram, tramExists, validTram, validTramPhase, validMask, validLink}
 use Rattle.model.specs.Table.{letterN, letterT, letterG, letterQ, letterM, letterH, letterS, networkChecks}
 use Rattle.model.proofs.Tests.{and-left, and-right, every-at}
 use Rattle.model.proofs.Sums.{sum-more, list-at}
@@ -25,7 +24,7 @@ use Rattle.model.proofs.Accepted.{ValidNetwork, valid-network}
 use Rattle.model.proofs.Limits.{counts, link-limits, movement-limits, step-limits, past-limits, timeline-length}
 use Rattle.model.proofs.Timeline.{entered-start, left-start}
 use Rattle.model.proofs.Flow.{left-entered}
-use Rattle.network_text.specs.NetworkText.{NetworkNumbers, countNumbers, tramNumbers, networkLines, networkText}
+use Rattle.network_text.specs.NetworkText.{NetworkNumbers, networkLines, networkText}
 use Rattle.network_text.proofs.Lines.{Fits, Says, link-count, signal-count, movement-count, step-count, tram-count, past-count, counts-at, tram-says, signal-says, link-says, movement-says, past-says, step-says, reads-back}
 use Rattle.network_text.proofs.Formed.{Formed, formed-of-holds, none-past}
 

@@ -1,13 +1,13 @@
 -- What the lines of a network that is given by its numbers say, and that its text reads back as them. Assumes nothing.
-use mathlib.Core.Path.{_≡_, refl, sym, ap, ap₂, _∙_}
+use mathlib.Core.Path.{_≡_, refl, sym, ap, _∙_}
 use mathlib.Core.Bool.{true}
 use mathlib.Core.List.{List, [], _∷_, _++_, map}
-use Prim.Native.Nat.{ℕ, zero, suc, _+_, _*_, _<_}
+use Prim.Native.Nat.{ℕ, zero, suc, _+_, _<_}
 use native.Mathlib.Omega.{arith}
-use lib.ListN.{length, getD, take, drop, length-append, List·getD-append}
+use lib.ListN.{length, getD, length-append, List·getD-append}
 use lib.Seq.{getD-append-add, take-at}
 use Rattle.records.specs.Lines.{Line, noLine, number, isRecord, lines}
-use Rattle.record_writer.specs.Records.{recordText, recordTexts, recordLine, recordLines}
+use Rattle.record_writer.specs.Records.{recordLine, recordLines}
 use Rattle.record_writer.proofs.Records.{Small, record-back, records-back, text-back, lines-count, entry-back, form-back}
 use Rattle.model.specs.Network.{entry, linkCount, signalCount, movementCount, stepCount, tramCount, pastCount, onTimeline, tramLine, signalLine, linkLine, movementLine, timelineLine, stepLine, trams}
 use Rattle.model.specs.Table.{letterN, letterT, letterG, letterQ, letterM, letterH, letterS}
