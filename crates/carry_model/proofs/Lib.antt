@@ -8,5 +8,6 @@ pub mod Signals
 pub mod Clipped
 pub mod PartValid
 pub mod Theorem
+pub mod Cut
 pub mod Hold
 pub mod CarriesOn
