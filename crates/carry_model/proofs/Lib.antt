@@ -1,3 +1,5 @@
+pub mod Opened
+pub mod Cases
 pub mod GoesOn
 pub mod Later
 pub mod Lines
