@@ -1,5 +1,6 @@
 pub mod Opened
 pub mod Cases
+pub mod Readings
 pub mod GoesOn
 pub mod Later
 pub mod Lines
