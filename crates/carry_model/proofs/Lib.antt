@@ -14,3 +14,4 @@ pub mod Theorem
 pub mod Cut
 pub mod Hold
 pub mod CarriesOn
+pub mod Promises
