@@ -1,11 +1,11 @@
 -- The theorem of T-09, whole. Assumes nothing.
-use mathlib.Core.Path.{_≡_}
+use mathlib.Core.Path.{_≡_, _∙_}
 use mathlib.Core.Logic.{_↔_}
-use mathlib.Core.List.{List, []}
-use Prim.Native.Nat.{ℕ, _-_, _≤_, _<_}
+use mathlib.Core.List.{List, [], _++_}
+use Prim.Native.Nat.{ℕ, _+_, _-_, _≤_, _<_}
 use native.Mathlib.Omega.{arith}
-use lib.ListN.{take, drop}
-use borrow.Author.Tests.{leb-true}
+use lib.ListN.{length, take, drop}
+use borrow.Author.Tests.{leb-true, eqb-true}
 use Rattle.search.specs.declared.Verdict.the-variants.{Passes}
 use Rattle.search.specs.Checks.{verdict, Hold}
 use Rattle.search.proofs.Laws.{hold-of-passes, passes-of-hold}
@@ -15,11 +15,12 @@ use Rattle.model.specs.Network.{stepCount}
 use Rattle.model.specs.Table.{networkChecks, lineChecks, planLineChecks, planChecks}
 use Rattle.model.specs.Hold.{meant}
 use Rattle.model.proofs.Tests.{and-left, and-right}
-use Rattle.carry_model.specs.Part.{cut}
+use Rattle.carry_model.specs.Part.{cut, carriedText}
 use Rattle.carry_model.specs.Call.{boundaryChecks, carryChecks}
 use Rattle.carry_model.specs.CarriesOn.{Accepts, Carries, next, Parted, CarriesOn}
 use Rattle.carry_model.proofs.Theorem as theorem
 use Rattle.carry_model.proofs.Theorem.{cut-steps, carried-holds, reads-back}
+use Rattle.carry_model.proofs.Twice.{carried-twice}
 use Rattle.carry_model.proofs.Hold.{held-first, held-rest}
 
 module _ (network : List Line) where
@@ -29,6 +30,7 @@ module _ (network : List Line) where
     first : 1 ≤ b
     last : b < stepCount network
     passes : (n : ℕ) → n < b → verdict (lineChecks (cut network b) plan n) ≡ Passes
+    lines : length plan ≡ b
 
   of-checks : (plan : List Line) (b size room : ℕ) → Hold (carryChecks network plan b size room) → Carried plan b
   unfolding Hold carryChecks boundaryChecks planChecks planLineChecks within
@@ -40,6 +42,7 @@ module _ (network : List Line) where
         holds = holds;
         first = first;
         last = last;
+        lines = eqb-true (length plan) (stepCount (cut network b)) ended ∙ cut-steps network b holds first last;
         passes = λ n l. passes-of-hold (lineChecks (cut network b) plan n) (judged n (omega (arith, cut-steps network b holds first last)));
       }
 
@@ -50,6 +53,12 @@ module _ (network : List Line) where
   valid plan b size room h =
       let c = carried-of plan b size room h in
       rw (reads-back network b (c .holds) (c .first) (c .last) plan (c .passes)) (passes-of-hold _ (carried-holds network b (c .holds) (c .first) (c .last) plan (c .passes)))
+
+  twice : (plan more : List Line) (b c size room : ℕ) → Carries network plan b size room → c < stepCount network - b
+      → carriedText (next network plan b) more c ≡ carriedText network (plan ++ more) (b + c)
+  twice plan more b c size room h u =
+      let k = carried-of plan b size room h in
+      rw (reads-back network b (k .holds) (k .first) (k .last) plan (k .passes)) (carried-twice network b (k .holds) (k .first) (k .last) plan (k .passes) more (k .lines) c u)
 
   -- ---- an empty plan
   module _ (b size room : ℕ) (parted : Parted network (meant network []) b size room) where
@@ -86,4 +95,5 @@ module _ (network : List Line) where
         refused = theorem.refused network;
         valid = valid;
         held = held;
+        twice = twice;
       }

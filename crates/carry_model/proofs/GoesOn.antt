@@ -55,7 +55,7 @@ module _ (network plan other rest : List Line) (a : ℕ) (p : GoesOn network pla
   abbrev total : ℕ
   total = pastCount network + a + stepCount other
 
-  on-timeline-same : (n : ℕ) → onTimeline other n ≡ onTimeline network (a + n)
+  pub on-timeline-same : (n : ℕ) → onTimeline other n ≡ onTimeline network (a + n)
   unfolding onTimeline
   on-timeline-same n = omega (arith, p .past)
 
@@ -162,7 +162,7 @@ module _ (network plan other rest : List Line) (a : ℕ) (p : GoesOn network pla
 
   -- ---- the curves
   module _ (i : ℕ) (l : i < linkCount network) where
-    timeline-inflow-same : (m : ℕ) → m < total → timelineInflow other rest m i ≡ timelineInflow network plan m i
+    pub timeline-inflow-same : (m : ℕ) → m < total → timelineInflow other rest m i ≡ timelineInflow network plan m i
     unfolding timelineInflow
     timeline-inflow-same m h = elim (decLe (suc m) (pastCount other)) [
       | yes u ↦ rw (lt-ltb m (pastCount other) u) (p .past-in m i (omega (arith, p .past)) l)
@@ -172,7 +172,7 @@ module _ (network plan other rest : List Line) (a : ℕ) (p : GoesOn network pla
           (inflow-same (m - pastCount other) (omega (arith, p .past)) i)
     ]
 
-    timeline-outflow-same : (m : ℕ) → m < total → timelineOutflow other rest m i ≡ timelineOutflow network plan m i
+    pub timeline-outflow-same : (m : ℕ) → m < total → timelineOutflow other rest m i ≡ timelineOutflow network plan m i
     unfolding timelineOutflow
     timeline-outflow-same m h = elim (decLe (suc m) (pastCount other)) [
       | yes u ↦ rw (lt-ltb m (pastCount other) u) (p .past-out m i (omega (arith, p .past)) l)
@@ -221,7 +221,7 @@ module _ (network plan other rest : List Line) (a : ℕ) (p : GoesOn network pla
           rw (arrival-same, elapsed-same, on-timeline-same n, time-same (onTimeline network (a + n)) (by-total n h), travel-same i l, standing-same i l, p .lengths s arrival-within, timeline-entered-same s (omega (arith, arrival-within)), timeline-inflow-same s arrival-within)
 
   -- ---- the signals and the volumes that wait
-  signal-same : (n r : ℕ) → n ≤ stepCount other → r < signalCount network → signalAt other rest n r ≡ signalAt network plan (a + n) r
+  pub signal-same : (n r : ℕ) → n ≤ stepCount other → r < signalCount network → signalAt other rest n r ≡ signalAt network plan (a + n) r
   unfolding signalAt
   signal-same zero r h l = let e : a + 0 ≡ a = omega arith in rw e (p .state r l)
   signal-same (suc n) r h l = rw (next n, ordinary-same n h r, signal-same n r (omega arith) l, shown-same n h r l, length-same n h)
@@ -242,7 +242,7 @@ module _ (network plan other rest : List Line) (a : ℕ) (p : GoesOn network pla
         p .waiting-at i l,
       )
 
-  waits-same : (n i : ℕ) → n ≤ stepCount other → i < linkCount network → waits other rest n i ≡ waits network plan (a + n) i
+  pub waits-same : (n i : ℕ) → n ≤ stepCount other → i < linkCount network → waits other rest n i ≡ waits network plan (a + n) i
   unfolding waits
   waits-same n i h l = omega (arith, taken-same n i h, offered-same n i h l)
 

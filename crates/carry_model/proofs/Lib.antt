@@ -12,6 +12,7 @@ pub mod Clipped
 pub mod PartValid
 pub mod Theorem
 pub mod Cut
+pub mod Twice
 pub mod Hold
 pub mod CarriesOn
 pub mod Promises

@@ -2,7 +2,7 @@
 use Prim.Native.Nat.{ℕ, suc, _+_, _*_, _-_, _≤_, _<_}
 use mathlib.Core.Path.{_≡_}
 use mathlib.Core.Logic.{_↔_}
-use mathlib.Core.List.{List, []}
+use mathlib.Core.List.{List, [], _++_}
 use lib.ListN.{length, take, drop}
 use Rattle.search.specs.declared.Verdict.{Verdict}
 use Rattle.search.specs.declared.Verdict.the-variants.{Passes, Refused}
@@ -60,3 +60,6 @@ pub record CarriesOn (network : List Line) : Type 0 where
   pub held : (b size room : ℕ) → Parted network (meant network []) b size room
       → Accepts network (meant network []) size
       ↔ (Carries network (meant (cut network b) []) b size room × Accepts (next network (meant (cut network b) []) b) (meant (next network (meant (cut network b) []) b) []) size)
+  -- to carry on twice is to carry on once
+  pub twice : (plan more : List Line) (b c size room : ℕ) → Carries network plan b size room → c < stepCount network - b
+      → carriedText (next network plan b) more c ≡ carriedText network (plan ++ more) (b + c)

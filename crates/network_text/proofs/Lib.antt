@@ -1,3 +1,4 @@
 pub mod Lines
 pub mod Formed
 pub mod Fits
+pub mod Same
