@@ -83,7 +83,7 @@ module _ (b c K : ℕ) where
       go true e ih = rw (meets-twice t e, clip-twice t, ih)
       go false e ih = rw (meets-before t e) ih
 
-joined-same : (n : ℕ) (f g : ℕ → List ℕ) → ((k : ℕ) → k < n → f k ≡ g k) → joined n f ≡ joined n g
+pub joined-same : (n : ℕ) (f g : ℕ → List ℕ) → ((k : ℕ) → k < n → f k ≡ g k) → joined n f ≡ joined n g
 unfolding joined
 joined-same zero f g h = refl
 joined-same (suc n) f g h = ap₂ (λ xs ys. xs ++ ys) (joined-same n f g (λ k l. h k (omega arith))) (h n (omega arith))

@@ -20,7 +20,7 @@ pub record SameNumbers (x y : NetworkNumbers) : Type 0 where
   pub past-step : (m : ℕ) → m < y .past → x .past-step m ≡ y .past-step m
   pub step : (n : ℕ) → n < y .steps → x .step n ≡ y .step n
 
-texts-same : (letter n : ℕ) (f g : ℕ → List ℕ) → ((k : ℕ) → k < n → f k ≡ g k) → recordTexts letter n f ≡ recordTexts letter n g
+pub texts-same : (letter n : ℕ) (f g : ℕ → List ℕ) → ((k : ℕ) → k < n → f k ≡ g k) → recordTexts letter n f ≡ recordTexts letter n g
 unfolding recordTexts
 texts-same letter zero f g h = refl
 texts-same letter (suc n) f g h = ap₂ (λ xs ns. xs ++ recordText letter ns) (texts-same letter n f g (λ k l. h k (omega arith))) (h n (omega arith))
