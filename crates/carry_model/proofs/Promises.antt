@@ -1,23 +1,32 @@
 -- What the call promises beside the theorem: padding plays no part, and the number of a refusal is one that can arise. Assumes nothing.
-use mathlib.Core.Path.{_≡_}
+use mathlib.Core.Path.{_≡_, refl, sym, ap, _∙_}
 use mathlib.Core.List.{List}
 use Prim.Native.Nat.{ℕ}
+use lib.ListN.{length, take}
+use lib.Seq.{take-at}
 use borrow.Author.Needs.{needs}
 use Rattle.search.specs.declared.Refusal.{Refusal}
-use Rattle.search.specs.declared.Verdict.the-variants.{Refused}
+use Rattle.search.specs.declared.Verdict.{Verdict}
+use Rattle.search.specs.declared.Verdict.the-variants.{Passes, Refused}
 use Rattle.search.specs.Checks.{verdict}
-use Rattle.records.specs.Lines.{Line}
+use Rattle.records.specs.Lines.{Line, lines}
+use Rattle.records.specs.Reading.{over}
 use Rattle.records.proofs.Padding.{same-lines}
-use Rattle.model.specs.Guarantees.{CanArise}
+use Rattle.model.specs.Table.{networkChecks}
+use Rattle.model.specs.Calls.{checkNetwork}
 use Rattle.model.proofs.Numbers.{Numbered, refused-number, network-numbered, plan-numbered}
-use Rattle.carry_model.specs.Part.{cut}
-use Rattle.carry_model.specs.Call.{boundaryChecks, carryChecks}
+use Rattle.carry_model.specs.declared.CarryAnswer.{CarryAnswer}
+use Rattle.carry_model.specs.declared.CarryAnswer.the-variants as answers
+use Rattle.carry_model.specs.Part.{cut, carriedText}
+use Rattle.carry_model.specs.Call.{boundaryChecks, carryChecks, carryAnswer, carryOn, carryLedger, writtenBytes, carryBuffer}
+use Rattle.carry_model.specs.CarriesOn.{CarriedOn}
+use Rattle.carry_model.proofs.CarriesOn.{carries-on}
 use Rattle.carry_model.specs.Padding.{PaddingIgnored}
 
 pub padding-ignored : (network paddedNetwork plan paddedPlan : List ℕ) → PaddingIgnored network paddedNetwork plan paddedPlan
 padding-ignored network paddedNetwork plan paddedPlan =
     record {
-      same-verdict = λ n p b size room. rw (same-lines network paddedNetwork n, same-lines plan paddedPlan p);
+      same-answer = λ n p b size room. rw (same-lines network paddedNetwork n, same-lines plan paddedPlan p);
       same-ledger = λ n p b before. rw (same-lines network paddedNetwork n, same-lines plan paddedPlan p);
       same-buffer = λ n p b size before. rw (same-lines network paddedNetwork n, same-lines plan paddedPlan p);
     }
@@ -27,5 +36,44 @@ module _ (network plan : List Line) (b size room : ℕ) where
   unfolding Numbered carryChecks boundaryChecks
   carry-numbered = search (needs, network-numbered network, plan-numbered (cut network b) plan size)
 
-  pub carry-number : (r : Refusal) → verdict (carryChecks network plan b size room) ≡ Refused r → CanArise (r .number)
-  carry-number r h = refused-number (carryChecks network plan b size room) r carry-numbered h
+  -- the verdict by the answer
+  of-written : (v : Verdict) (end : ℕ) → carryAnswer network plan b v ≡ answers.Written end → (v ≡ Passes) × (end ≡ length (carriedText network plan b))
+  unfolding carryAnswer
+  of-written Passes end h = (refl, cc)
+  of-written (Refused r) end h = (cc, cc)
+
+  of-refused : (v : Verdict) (r : Refusal) → carryAnswer network plan b v ≡ answers.Refused r → v ≡ Refused r
+  unfolding carryAnswer
+  of-refused Passes r h = cc
+  of-refused (Refused q) r h = cc
+
+-- an answer, a ledger and a buffer that are those of the definitions
+pub carried-on : (network plan : List Line) (b : ℕ) (ledger buffer : List ℕ) {ledgerAfter bufferAfter : List ℕ} {answer : CarryAnswer}
+    → answer ≡ carryOn network plan b (length ledger) (length buffer) → ledgerAfter ≡ carryLedger network plan b ledger → bufferAfter ≡ carryBuffer network plan b (length ledger) buffer
+    → CarriedOn network plan b ledger ledgerAfter buffer bufferAfter answer
+unfolding carryOn checkNetwork carryBuffer
+carried-on network plan b ledger buffer {bufferAfter = after} {answer = answer} told rows holds =
+    record {
+      told = told;
+      rows = rows;
+      holds = holds;
+      written = text;
+      written-valid = λ end e.
+          ap (λ t. verdict (networkChecks (lines t))) (text end e)
+          ∙ carries-on network .valid plan b (length ledger) (length buffer) (of-written network plan b (length ledger) (length buffer) _ end (sym told ∙ e) .0);
+      carries-on = carries-on network;
+      refused-number = λ r e. refused-number _ r (carry-numbered network plan b (length ledger) (length buffer)) (of-refused network plan b (length ledger) (length buffer) _ r (sym told ∙ e));
+    }
+  where
+    bytes-of : (v : Verdict) → v ≡ Passes → writtenBytes network plan b v buffer ≡ over (carriedText network plan b) buffer
+    bytes-of Passes e = unfold writtenBytes in refl
+    bytes-of (Refused r) e = cc
+
+    front : (text old : List ℕ) → take (length text) (over text old) ≡ text
+    front text old = unfold over in take-at text _ (length text) refl
+
+    text : (end : ℕ) → answer ≡ answers.Written end → take end after ≡ carriedText network plan b
+    text end e =
+        let w = of-written network plan b (length ledger) (length buffer) _ end (sym told ∙ e) in
+        let after-is : after ≡ over (carriedText network plan b) buffer = holds ∙ bytes-of _ (w .0) in
+        rw (after-is, w .1) (front (carriedText network plan b) buffer)

@@ -6,7 +6,7 @@ use mathlib.Core.List.{List}
 use lib.Dec.{leb}
 use lib.ListN.{length}
 use Rattle.search.specs.declared.Verdict.{Verdict}
-use Rattle.search.specs.declared.Verdict.the-variants.{Passes, Refused}
+use Rattle.search.specs.declared.Verdict.the-variants as verdicts
 use Rattle.search.specs.Checks.{Checks, check, _then_, verdict}
 use Rattle.records.specs.Lines.{Line, lines}
 use Rattle.records.specs.Reading.{over}
@@ -15,6 +15,8 @@ use Rattle.model.specs.Network.{stepCount}
 use Rattle.model.specs.Table.{networkChecks, planChecks}
 use Rattle.model.specs.Calls.{isPassed, ledgerAfter}
 use Rattle.model.specs.Hold.{meant}
+use Rattle.carry_model.specs.declared.CarryAnswer.{CarryAnswer}
+use Rattle.carry_model.specs.declared.CarryAnswer.the-variants.{Written, Refused}
 use Rattle.carry_model.specs.Part.{cut, carriedText}
 
 -- the lines of a plan text; an empty one means that the cut network holds (T-07)
@@ -33,14 +35,22 @@ module _ (network plan : List Line) (b : ℕ) where
       then planChecks (cut network b) plan ledgerSize
       then check 32 0 0 (leb (length (carriedText network plan b)) room)
 
+  -- the answer: how long the text is
+  unfoldable pub carryAnswer : Verdict → CarryAnswer
+  carryAnswer verdicts.Passes = Written (length (carriedText network plan b))
+  carryAnswer (verdicts.Refused r) = Refused r
+
+  unfoldable pub carryOn : ℕ → ℕ → CarryAnswer
+  carryOn ledgerSize room = carryAnswer (verdict (carryChecks ledgerSize room))
+
   -- the ledger after the call
   unfoldable pub carryLedger : List ℕ → List ℕ
   carryLedger old = cond (isPassed (verdict (boundaryChecks network b))) (ledgerAfter (cut network b) plan old) old
 
   -- the buffer after it: the text, and the bytes past it as they were; untouched by a refusal
   unfoldable pub writtenBytes : Verdict → List ℕ → List ℕ
-  writtenBytes Passes old = over (carriedText network plan b) old
-  writtenBytes (Refused r) old = old
+  writtenBytes verdicts.Passes old = over (carriedText network plan b) old
+  writtenBytes (verdicts.Refused r) old = old
 
   unfoldable pub carryBuffer : ℕ → List ℕ → List ℕ
   carryBuffer ledgerSize old = writtenBytes (verdict (carryChecks ledgerSize (length old))) old

@@ -4,6 +4,7 @@ use mathlib.Core.Path.{_≡_}
 use mathlib.Core.Logic.{_↔_}
 use mathlib.Core.List.{List, [], _++_}
 use lib.ListN.{length, take, drop}
+use Rattle.search.specs.declared.Refusal.{Refusal}
 use Rattle.search.specs.declared.Verdict.{Verdict}
 use Rattle.search.specs.declared.Verdict.the-variants.{Passes, Refused}
 use Rattle.search.specs.Checks.{refusal, orElse, verdict}
@@ -11,9 +12,14 @@ use Rattle.records.specs.Lines.{Line, lines}
 use Rattle.model.specs.Network.{linkCount, stepCount}
 use Rattle.model.specs.Flows.{doubledTime, row}
 use Rattle.model.specs.Table.{networkChecks, planChecks}
+use Rattle.model.specs.Calls.{checkNetwork}
 use Rattle.model.specs.Hold.{meant}
+use Rattle.model.specs.Guarantees.{CanArise}
+use Rattle.carry_model.specs.declared.CarryAnswer.{CarryAnswer}
+use Rattle.carry_model.specs.declared.CarryAnswer.the-variants as answers
+use Rattle.carry_model.specs.declared.CarryAnswer.the-variants.{Written}
 use Rattle.carry_model.specs.Part.{cut, carriedText}
-use Rattle.carry_model.specs.Call.{carryChecks}
+use Rattle.carry_model.specs.Call.{carryChecks, carryOn, carryLedger, carryBuffer}
 
 -- a verdict whose line is told so many lines later
 unfoldable pub later : ℕ → Verdict → Verdict
@@ -63,3 +69,14 @@ pub record CarriesOn (network : List Line) : Type 0 where
   -- to carry on twice is to carry on once
   pub twice : (plan more : List Line) (b c size room : ℕ) → Carries network plan b size room → c < stepCount network - b
       → carriedText (next network plan b) more c ≡ carriedText network (plan ++ more) (b + c)
+
+-- What the call promises of a plan, the ledger and the buffer before and after it, and its answer: all are those of the definitions; a text that was written is a valid
+-- network; the theorem; and a refusal's number is one that can arise.
+pub record CarriedOn (network plan : List Line) (b : ℕ) (ledger ledgerAfter buffer bufferAfter : List ℕ) (answer : CarryAnswer) : Type 0 where
+  pub told : answer ≡ carryOn network plan b (length ledger) (length buffer)
+  pub rows : ledgerAfter ≡ carryLedger network plan b ledger
+  pub holds : bufferAfter ≡ carryBuffer network plan b (length ledger) buffer
+  pub written : (end : ℕ) → answer ≡ Written end → take end bufferAfter ≡ carriedText network plan b
+  pub written-valid : (end : ℕ) → answer ≡ Written end → checkNetwork (lines (take end bufferAfter)) ≡ Passes
+  pub carries-on : CarriesOn network
+  pub refused-number : (r : Refusal) → answer ≡ answers.Refused r → CanArise (r .number)

@@ -2,17 +2,15 @@
 use Prim.Native.Nat.{ℕ}
 use mathlib.Core.Path.{_≡_}
 use mathlib.Core.List.{List}
-use Rattle.search.specs.Checks.{verdict}
 use Rattle.records.specs.Lines.{lines}
 use Rattle.records.specs.Padding.{SameText}
-use Rattle.carry_model.specs.Call.{plannedOn, carryChecks, carryLedger, carryBuffer}
+use Rattle.carry_model.specs.Call.{plannedOn, carryOn, carryLedger, carryBuffer}
 
 -- For a network text and a plan text, and two texts that differ from them only in padding:
 pub record PaddingIgnored (network paddedNetwork plan paddedPlan : List ℕ) : Type 0 where
-  -- the verdict, with its refusal's number, line and item
-  pub same-verdict : SameText network paddedNetwork → SameText plan paddedPlan → (b size room : ℕ)
-      → verdict (carryChecks (lines network) (plannedOn (lines network) b plan) b size room)
-      ≡ verdict (carryChecks (lines paddedNetwork) (plannedOn (lines paddedNetwork) b paddedPlan) b size room)
+  -- the answer: how long the text is, or the refusal's number, line and item
+  pub same-answer : SameText network paddedNetwork → SameText plan paddedPlan → (b size room : ℕ)
+      → carryOn (lines network) (plannedOn (lines network) b plan) b size room ≡ carryOn (lines paddedNetwork) (plannedOn (lines paddedNetwork) b paddedPlan) b size room
   -- every number of the ledger, and every byte of the buffer, whatever they held before
   pub same-ledger : SameText network paddedNetwork → SameText plan paddedPlan → (b : ℕ) (before : List ℕ)
       → carryLedger (lines network) (plannedOn (lines network) b plan) b before ≡ carryLedger (lines paddedNetwork) (plannedOn (lines paddedNetwork) b paddedPlan) b before
