@@ -8,9 +8,9 @@ use native.Mathlib.Decide.{decLe}
 use native.Mathlib.Omega.{arith}
 use lib.ListN.{length, getD, List·getD-eq-default}
 use Rattle.records.specs.Lines.{Line, noLine, isRecord}
-use Rattle.model.specs.Network.{linkCount, signalCount, movementCount, tramCount, tramLine, signalLine, linkLine, movementLine, stepLine}
+use Rattle.model.specs.Network.{linkCount, signalCount, movementCount, tramCount, pastCount, onTimeline, tramLine, signalLine, linkLine, movementLine, timelineLine, stepLine}
 use Rattle.tables.specs.declared.Counts.{Counts}
-use Rattle.tables.specs.Places.{tramLineIn, signalLineIn, linkLineIn, movementLineIn, stepLineIn}
+use Rattle.tables.specs.Places.{tramLineIn, signalLineIn, linkLineIn, movementLineIn, timelineLineIn, stepLineIn}
 use Rattle.tables.specs.Tables.{CountsHold}
 
 pub record-within : (letter n : ℕ) (text : List Line) (i : ℕ) → isRecord letter n (getD text i noLine) ≡ true → i < length text
@@ -37,8 +37,12 @@ module _ {network : List Line} {counts : Counts} (c : CountsHold network counts)
   unfolding movementLine
   movement-line-is = omega arith
 
+  pub timeline-line-is : timelineLineIn counts i ≡ timelineLine network i
+  unfolding timelineLine
+  timeline-line-is = omega arith
+
   pub step-line-is : stepLineIn counts i ≡ stepLine network i
-  unfolding stepLine
+  unfolding stepLine timelineLine onTimeline
   step-line-is = omega arith
 
 module _ (network : List Line) where
@@ -54,6 +58,10 @@ module _ (network : List Line) where
   unfolding linkLine movementLine
   movements-after-links = omega arith
 
-  pub steps-after-movements : movementLine network (movementCount network) ≡ stepLine network 0
-  unfolding movementLine stepLine
-  steps-after-movements = omega arith
+  pub past-after-movements : movementLine network (movementCount network) ≡ timelineLine network 0
+  unfolding movementLine timelineLine
+  past-after-movements = omega arith
+
+  pub steps-after-past : timelineLine network (pastCount network) ≡ stepLine network 0
+  unfolding timelineLine stepLine onTimeline
+  steps-after-past = omega arith

@@ -5,10 +5,10 @@ use mathlib.Core.List.{List}
 use native.Mathlib.Omega.{arith}
 use lib.ListN.{getD}
 use Rattle.records.specs.Lines.{Line}
-use Rattle.model.specs.Network.{linkCount, signalCount, movementCount, capacity, travelTime, exitRate, signalOf, phaseMask, standing, fromLink, toLink, rate, share, stepLength, demand}
+use Rattle.model.specs.Network.{linkCount, signalCount, movementCount, capacity, travelTime, exitRate, signalOf, phaseMask, standing, waitingAtStart, onTimeline, fromLink, toLink, rate, share, timelineLine, stepLine, timelineLength, pastEntries, pastExits, stepLength, demand}
 use Rattle.model.specs.Flows.{shownMask, admitted, letOut, moved}
-use Rattle.tables.specs.Fields.{linkFields, capacityIn, travelTimeIn, exitRateIn, signalIn, phaseMaskIn, standingIn, linkIn, rateIn, shareIn, lengthIn, demandIn}
-use Rattle.tables.specs.Tables.{LinkTable, MovementTable, StepNumbers, PlanNumbers}
+use Rattle.tables.specs.Fields.{linkFields, capacityIn, travelTimeIn, exitRateIn, signalIn, phaseMaskIn, standingIn, waitingAtStartIn, linkIn, rateIn, shareIn, pastEntriesIn, pastExitsIn, lengthIn, demandIn}
+use Rattle.tables.specs.Tables.{LinkTable, MovementTable, PastNumbers, StepNumbers, PlanNumbers}
 
 module _ {network : List Line} {links : List ℕ} (t : LinkTable network links) (i : ℕ) (h : i < linkCount network) where
   pub capacity-at : capacityIn links i ≡ capacity network i
@@ -35,6 +35,10 @@ module _ {network : List Line} {links : List ℕ} (t : LinkTable network links) 
   unfolding standing
   standing-at = t .holds i 5 h (omega arith)
 
+  pub waiting-at-start-at : waitingAtStartIn links i ≡ waitingAtStart network i
+  unfolding waitingAtStart
+  waiting-at-start-at = t .holds i 6 h (omega arith)
+
 module _ {network : List Line} {movements : List ℕ} (t : MovementTable network movements) (j : ℕ) (h : j < movementCount network) where
   pub from-link-at : linkIn movements 0 j ≡ fromLink network j
   unfolding fromLink
@@ -52,9 +56,23 @@ module _ {network : List Line} {movements : List ℕ} (t : MovementTable network
   unfolding share
   share-at = t .holds j 3 h (omega arith)
 
+module _ {network : List Line} {m : ℕ} {past : List ℕ} (t : PastNumbers network m past) where
+  pub past-length-at : lengthIn past ≡ timelineLength network m
+  unfolding timelineLength
+  past-length-at = t .holds 0 (omega arith)
+
+  module _ (i : ℕ) (h : i < linkCount network) where
+    pub past-entries-at : pastEntriesIn past i ≡ pastEntries network m i
+    unfolding pastEntries
+    past-entries-at = t .holds (1 + 2 * i) (omega arith)
+
+    pub past-exits-at : pastExitsIn past i ≡ pastExits network m i
+    unfolding pastExits
+    past-exits-at = t .holds (2 + 2 * i) (omega arith)
+
 module _ {network : List Line} {n : ℕ} {step : List ℕ} (t : StepNumbers network n step) where
   pub step-length-at : lengthIn step ≡ stepLength network n
-  unfolding stepLength
+  unfolding stepLength timelineLength stepLine
   step-length-at = t .holds 0 (omega arith)
 
   pub demand-at : (i : ℕ) → i < linkCount network → demandIn step i ≡ demand network n i

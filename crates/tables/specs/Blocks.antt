@@ -7,8 +7,8 @@ use lib.ListN.{length, getD}
 use Rattle.search.specs.Checks.{Checks, each, firstFrom, verdict}
 use Rattle.records.specs.Lines.{Line, lines}
 use Rattle.records.specs.Reading.{Starts}
-use Rattle.model.specs.Network.{entry, linkCount, signalCount, movementCount, stepCount, tramCount, tramLine, signalLine, linkLine, movementLine, stepLine}
-use Rattle.model.specs.Table.{recordChecks, tramChecks, signalChecks, linkChecks, movementChecks, stepChecks}
+use Rattle.model.specs.Network.{entry, linkCount, signalCount, movementCount, stepCount, tramCount, pastCount, tramLine, signalLine, linkLine, movementLine, timelineLine, stepLine}
+use Rattle.model.specs.Table.{recordChecks, tramChecks, signalChecks, linkChecks, movementChecks, pastChecks, stepChecks}
 
 -- the place of line i of a block, how many lines there are, and the checks of line i
 pub record Block : Type 0 where
@@ -44,7 +44,7 @@ pub record TableTo (text : List ℕ) (b : Block) (width size at i : ℕ) (table 
   pub room : length table ≡ size
   pub rows : RowsTo (lines text) b width i table
 
--- the `T`, `G`, `Q`, `M` and `S` lines
+-- the `T`, `G`, `Q`, `M`, `H` and `S` lines
 abbrev pub tramBlock : List Line → Block
 tramBlock network = record { place = tramLine network; count = tramCount network; checks = tramChecks network }
 
@@ -56,6 +56,9 @@ linkBlock network = record { place = linkLine network; count = linkCount network
 
 abbrev pub movementBlock : List Line → Block
 movementBlock network = record { place = movementLine network; count = movementCount network; checks = movementChecks network }
+
+abbrev pub pastBlock : List Line → Block
+pastBlock network = record { place = timelineLine network; count = pastCount network; checks = pastChecks network }
 
 abbrev pub stepBlock : List Line → Block
 stepBlock network = record { place = stepLine network; count = stepCount network; checks = stepChecks network }

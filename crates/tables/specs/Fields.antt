@@ -12,7 +12,7 @@ abbrev pub tramFields : ℕ
 tramFields = 4
 
 abbrev pub linkFields : ℕ
-linkFields = 6
+linkFields = 7
 
 abbrev pub movementFields : ℕ
 movementFields = 4
@@ -28,6 +28,9 @@ movementTableSize = movementFields * maxMovements
 
 abbrev pub timeTableSize : ℕ
 timeTableSize = maxSteps + 1
+
+abbrev pub pastSize : ℕ
+pastSize = 1 + 2 * maxLinks
 
 abbrev pub stepSize : ℕ
 stepSize = 1 + maxLinks
@@ -61,6 +64,9 @@ phaseMaskIn links i = getD links (linkFields * i + 4) 0
 abbrev pub standingIn : List ℕ → ℕ → ℕ
 standingIn links i = getD links (linkFields * i + 5) 0
 
+abbrev pub waitingAtStartIn : List ℕ → ℕ → ℕ
+waitingAtStartIn links i = getD links (linkFields * i + 6) 0
+
 -- movement j, by the table of the `M` lines: the link that it leaves (side 0) or enters (side 1)
 abbrev pub linkIn : List ℕ → ℕ → ℕ → ℕ
 linkIn movements side j = getD movements (movementFields * j + side) 0
@@ -70,6 +76,13 @@ rateIn movements j = getD movements (movementFields * j + 2) 0
 
 abbrev pub shareIn : List ℕ → ℕ → ℕ
 shareIn movements j = getD movements (movementFields * j + 3) 0
+
+-- the numbers of an `H` line: what entered link i in its step, and what left it; its length stands first, as in an `S` line
+abbrev pub pastEntriesIn : List ℕ → ℕ → ℕ
+pastEntriesIn past i = getD past (1 + 2 * i) 0
+
+abbrev pub pastExitsIn : List ℕ → ℕ → ℕ
+pastExitsIn past i = getD past (2 + 2 * i) 0
 
 -- the numbers of an `S` line: its length, and the demand of link i
 abbrev pub lengthIn : List ℕ → ℕ

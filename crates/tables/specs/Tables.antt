@@ -12,13 +12,13 @@ use Rattle.records.specs.Lines.{Line, lines}
 use Rattle.records.specs.Reading.{Starts}
 use Rattle.model.specs.declared.Signal.{Signal}
 use Rattle.model.specs.Test.{every}
-use Rattle.model.specs.Network.{maxSignals, entry, linkCount, signalCount, movementCount, stepCount, tramCount, tramLine, signalLine, linkLine, movementLine, stepLine, signal, time}
+use Rattle.model.specs.Network.{maxSignals, entry, linkCount, signalCount, movementCount, stepCount, tramCount, pastCount, onTimeline, tramLine, signalLine, linkLine, movementLine, timelineLine, stepLine, signal, timelineTime}
 use Rattle.tables.specs.declared.Counts.{Counts}
 use Rattle.tables.specs.declared.Reading.{Reading}
 use Rattle.tables.specs.declared.Stage.{Stage}
 use Rattle.tables.specs.declared.Stage.the-variants.{Passed, Refused}
 use Rattle.tables.specs.Places.{Few}
-use Rattle.tables.specs.Fields.{tramFields, linkFields, movementFields, tramTableSize, linkTableSize, movementTableSize, timeTableSize, stepSize, lineSize}
+use Rattle.tables.specs.Fields.{tramFields, linkFields, movementFields, tramTableSize, linkTableSize, movementTableSize, timeTableSize, pastSize, stepSize, lineSize}
 
 -- the verdict on a stage: some lines pass, or one of them is refused
 unfoldable pub stageVerdict : Stage → Verdict
@@ -37,6 +37,7 @@ pub record CountsHold (network : List Line) (counts : Counts) : Type 0 where
   pub movements : counts .movements ≡ movementCount network
   pub steps : counts .steps ≡ stepCount network
   pub trams : counts .trams ≡ tramCount network
+  pub past : counts .past ≡ pastCount network
   pub few : Few counts
   pub some-links : 1 ≤ counts .links
   pub some-steps : 1 ≤ counts .steps
@@ -49,8 +50,10 @@ movedTo reading next =
       next = next;
       «trams_at» = reading .«trams_at»;
       «signals_at» = reading .«signals_at»;
+      «past_at» = reading .«past_at»;
       «steps_at» = reading .«steps_at»;
       shortest = reading .shortest;
+      timed = reading .timed;
     }
 
 -- what stands past the signals of a list
@@ -96,7 +99,7 @@ pub record TramTable (network : List Line) (trams : List ℕ) : Type 0 where
   pub size : length trams ≡ tramTableSize
   pub holds : (k f : ℕ) → k < tramCount network → f < tramFields → getD trams (tramFields * k + f) 0 ≡ entry network (tramLine network k) f
 
--- six numbers a link, as its `Q` line has them
+-- seven numbers a link, as its `Q` line has them
 pub record LinkTable (network : List Line) (links : List ℕ) : Type 0 where
   pub size : length links ≡ linkTableSize
   pub holds : (i k : ℕ) → i < linkCount network → k < linkFields → getD links (linkFields * i + k) 0 ≡ entry network (linkLine network i) k
@@ -106,10 +109,15 @@ pub record MovementTable (network : List Line) (movements : List ℕ) : Type 0 w
   pub size : length movements ≡ movementTableSize
   pub holds : (j k : ℕ) → j < movementCount network → k < movementFields → getD movements (movementFields * j + k) 0 ≡ entry network (movementLine network j) k
 
--- the time of each boundary
+-- the time of each boundary of the timeline
 pub record TimeTable (network : List Line) (times : List ℕ) : Type 0 where
   pub size : length times ≡ timeTableSize
-  pub holds : (n : ℕ) → n ≤ stepCount network → getD times n 0 ≡ time network n
+  pub holds : (m : ℕ) → m ≤ onTimeline network (stepCount network) → getD times m 0 ≡ timelineTime network m
+
+-- the numbers of the `H` line of step m of the timeline
+pub record PastNumbers (network : List Line) (m : ℕ) (past : List ℕ) : Type 0 where
+  pub size : length past ≡ pastSize
+  pub holds : (k : ℕ) → k < 1 + 2 * linkCount network → getD past k 0 ≡ entry network (timelineLine network m) k
 
 -- the numbers of the `S` line of step n
 pub record StepNumbers (network : List Line) (n : ℕ) (step : List ℕ) : Type 0 where

@@ -3,9 +3,9 @@
 ghost use mathlib.Core.Path.{_≡_};
 ghost use Prim.Native.Nat.{_+_, _*_, _<_, _≤_};
 ghost use lib.ListN.{length};
-ghost use Rattle.model.specs.Network.{maxLinks, maxSignals, maxMovements, maxSteps, maxTrams};
-ghost use Rattle.tables.specs.Places.{tramLineIn, signalLineIn, linkLineIn, movementLineIn, stepLineIn, planWidth, Few};
-ghost use Rattle.tables.specs.Fields.{tramTableSize, tramIn, linkTableSize, movementTableSize, stepSize, lineSize, capacityIn, travelTimeIn, exitRateIn, signalIn, phaseMaskIn, standingIn, linkIn, rateIn, shareIn, lengthIn, demandIn, admittedIn, letOutIn, movedIn, enteredIn, leftIn, enteredAt, leftAt, RowHeld};
+ghost use Rattle.model.specs.Network.{maxLinks, maxSignals, maxMovements, maxSteps, maxTrams, maxPast};
+ghost use Rattle.tables.specs.Places.{tramLineIn, signalLineIn, linkLineIn, movementLineIn, timelineLineIn, stepLineIn, planWidth, Few};
+ghost use Rattle.tables.specs.Fields.{tramTableSize, tramIn, linkTableSize, movementTableSize, stepSize, lineSize, capacityIn, travelTimeIn, exitRateIn, signalIn, phaseMaskIn, standingIn, waitingAtStartIn, linkIn, rateIn, shareIn, lengthIn, demandIn, admittedIn, letOutIn, movedIn, enteredIn, leftIn, enteredAt, leftAt, RowHeld};
 ghost use Rattle.tables.specs.Rows.{RowRead, HeadRead};
 ghost use Rattle.tables.specs.Tables.{movedTo};
 use records::LineRead;
@@ -21,18 +21,22 @@ pub const MAX_STEPS: usize = 120;
 
 pub const MAX_TRAMS: usize = 16;
 
-// How many numbers a `T`, a `Q`, an `M`, an `S` and a `P` line have at most.
+pub const MAX_PAST: usize = 120;
+
+// How many numbers a `T`, a `Q`, an `M`, an `H`, an `S` and a `P` line have at most.
 pub const TRAM_FIELDS: usize = 4;
 
-pub const LINK_FIELDS: usize = 6;
+pub const LINK_FIELDS: usize = 7;
 
 pub const MOVEMENT_FIELDS: usize = 4;
+
+pub const PAST_SIZE: usize = 1 + 2 * MAX_LINKS;
 
 pub const STEP_SIZE: usize = 1 + MAX_LINKS;
 
 pub const LINE_SIZE: usize = MAX_SIGNALS + 2 * MAX_LINKS + MAX_MOVEMENTS;
 
-// The sizes of the tables of all tram lines, all links, all movements, the time of each boundary, and of a row of the ledger.
+// The sizes of the tables of all tram lines, all links, all movements, the time of each boundary of the timeline, and of a row of the ledger.
 pub const TRAM_TABLE_SIZE: usize = TRAM_FIELDS * MAX_TRAMS;
 
 pub const LINK_TABLE_SIZE: usize = LINK_FIELDS * MAX_LINKS;
@@ -50,17 +54,20 @@ pub struct Counts {
     pub movements: usize,
     pub steps: usize,
     pub trams: usize,
+    pub past: usize,
 }
 
-// How far a network text has been read while its lines pass: its counts, the place of the next line, the places where its `T`, its `G` and its `S` lines start,
-// and the shortest of all greatest times.
+// How far a network text has been read while its lines pass: its counts, the place of the next line, the places where its `T`, its `G`, its `H` and its `S` lines
+// start, the shortest of all greatest times, and whether the lengths of the past steps and the number of all steps are valid (30).
 pub struct Reading {
     pub counts: Counts,
     pub next: usize,
     pub trams_at: usize,
     pub signals_at: usize,
+    pub past_at: usize,
     pub steps_at: usize,
     pub shortest: u32,
+    pub timed: bool,
 }
 
 // What the reading of some lines of a network text says: they pass, or one of them is refused.
@@ -108,11 +115,18 @@ impl Counts {
         1 + (self.trams + (self.signals + (self.links + j)))
     }
 
+    pub fn timeline_line(self, m: usize) -> usize
+        requires { ⌜ Few self × (m ≤ maxPast + maxSteps) ⌝ }
+        ensures { λ p. ⌜ p ≡ timelineLineIn self m ⌝ }
+    {
+        1 + (self.trams + (self.signals + (self.links + (self.movements + m))))
+    }
+
     pub fn step_line(self, n: usize) -> usize
         requires { ⌜ Few self × (n ≤ maxSteps) ⌝ }
         ensures { λ p. ⌜ p ≡ stepLineIn self n ⌝ }
     {
-        1 + (self.trams + (self.signals + (self.links + (self.movements + n))))
+        self.timeline_line(self.past + n)
     }
 
     pub fn plan_width(self) -> usize
@@ -225,6 +239,13 @@ pub fn standing(links: &[u32], i: usize) -> u32
     ensures { λ r. ⌜ r ≡ standingIn (now (links .entry)) i ⌝ }
 {
     links[LINK_FIELDS * i + 5]
+}
+
+pub fn waiting_at_start(links: &[u32], i: usize) -> u32
+    requires { ⌜ (i < maxLinks) × (length (now links) ≡ linkTableSize) ⌝ }
+    ensures { λ r. ⌜ r ≡ waitingAtStartIn (now (links .entry)) i ⌝ }
+{
+    links[LINK_FIELDS * i + 6]
 }
 
 // A movement's numbers, as its `M` line has them: the link, from 1, that it leaves (side 0) or enters (side 1), its rate and its share.
