@@ -27,7 +27,7 @@ use Rattle.tables.specs.Rows.{RowRead}
 use Rattle.tables.specs.Blocks.{blockChecks, PassedTo, Records, RowsTo, TableTo, movementBlock}
 use Rattle.tables.specs.Tables.{Judged, CountsHold, MovementTable, movedTo}
 use Rattle.tables.proofs.Tables.{from-link-at, share-at}
-use Rattle.tables.proofs.Places.{movement-line-is, steps-after-movements}
+use Rattle.tables.proofs.Places.{movement-line-is, past-after-movements}
 use Rattle.tables.proofs.Blocks.{passed-all, passed-stop, passed-next, block-end, records-malformed, records-invalid, records-next, table-begin, table-room, table-rows, table-next}
 use Rattle.tables.proofs.Stages.{judged-refused, judged-passed, reached-next}
 use Rattle.network_links.specs.Movements.{pairRisesIn, validMovementIn, lastMovementIn, shareSumIn, validSharesIn, shareChecksIn, MovementsKnown}
@@ -126,7 +126,7 @@ module _ {text : List ℕ} {reading : Reading} {movements₀ : List ℕ} (asked 
         rw e
         (judged-passed (passed-all (inv .read .passed) past)
         (record {
-          reached = reached-next (asked .reached) (rw steps-after-movements at (block-end (inv .read) past));
+          reached = reached-next (asked .reached) (rw past-after-movements at (block-end (inv .read) past));
           table = record { size = inv .room; holds = λ i k l. inv .rows .numbers i k (omega arith) };
         }))
 

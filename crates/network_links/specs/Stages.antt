@@ -4,7 +4,7 @@ use mathlib.Core.Path.{_≡_}
 use mathlib.Core.List.{List}
 use lib.ListN.{length}
 use Rattle.records.specs.Lines.{lines}
-use Rattle.model.specs.Network.{linkLine, movementLine, stepLine}
+use Rattle.model.specs.Network.{linkLine, movementLine, timelineLine}
 use Rattle.tables.specs.declared.Counts.{Counts}
 use Rattle.tables.specs.declared.Reading.{Reading}
 use Rattle.tables.specs.Places.{Few}
@@ -25,7 +25,7 @@ pub record MovementsAsked (text : List ℕ) (reading : Reading) (movements : Lis
   pub room : length movements ≡ movementTableSize
 
 pub record MovementsHeld (text movements : List ℕ) (reading : Reading) : Type 0 where
-  pub reached : Reached text (stepLine (lines text) 0) reading
+  pub reached : Reached text (timelineLine (lines text) 0) reading
   pub table : MovementTable (lines text) movements
 
 -- the shares are judged by the table alone

@@ -13,7 +13,7 @@ use Rattle.records.specs.declared.LineRead.the-variants.{Next, Malformed}
 use Rattle.records.specs.Lines.{lines}
 use Rattle.records.proofs.Laws.{starts-first}
 use Rattle.model.specs.Test.{within}
-use Rattle.model.specs.Network.{entry, linkCount, signalCount, movementCount, stepCount, tramCount, tramLine}
+use Rattle.model.specs.Network.{entry, linkCount, signalCount, movementCount, stepCount, tramCount, pastCount, tramLine}
 use Rattle.model.specs.Rules.{validCounts}
 use Rattle.model.specs.Table.{letterN, countChecks}
 use Rattle.model.proofs.Tests.{and-left, and-right}
@@ -35,9 +35,9 @@ module _ {text old fields : List ℕ} {r : LineRead} (row : RowRead letterN coun
     number-at k h = let z : k ≡ 0 + k = omega arith in ap (λ x. getD fields x 0) z ∙ row .held next e 0 (starts-first text) .numbers k h
 
     judged : v ≡ validCounts (lines text)
-    unfolding validCountsIn validCounts linkCount signalCount movementCount stepCount tramCount
+    unfolding validCountsIn validCounts linkCount signalCount movementCount stepCount tramCount pastCount
     judged =
-        told ∙ rw (c, number-at 0 (omega arith), number-at 1 (omega arith), number-at 2 (omega arith), number-at 3 (omega arith), number-at 4 (omega arith))
+        told ∙ rw (c, number-at 0 (omega arith), number-at 1 (omega arith), number-at 2 (omega arith), number-at 3 (omega arith), number-at 4 (omega arith), number-at 5 (omega arith))
 
     pub counts-invalid : not v ≡ true → {q : Refusal} → q ≡ refusal 2 1 0 → Judged (countChecks (lines text)) (CountsHeld text) (Refused q)
     unfolding countChecks
@@ -52,10 +52,11 @@ module _ {text old fields : List ℕ} {r : LineRead} (row : RowRead letterN coun
         let movements : counts .movements ≡ movementCount (lines text) = ap (λ (c : Counts). c .movements) c ∙ unfold movementCount in number-at 2 (omega arith) in
         let steps : counts .steps ≡ stepCount (lines text) = ap (λ (c : Counts). c .steps) c ∙ unfold stepCount in number-at 3 (omega arith) in
         let trams : counts .trams ≡ tramCount (lines text) = ap (λ (c : Counts). c .trams) c ∙ unfold tramCount in number-at 4 (omega arith) in
-        search (leb-true, and-left, and-right) depth 10
+        let past : counts .past ≡ pastCount (lines text) = ap (λ (c : Counts). c .past) c ∙ unfold pastCount in number-at 5 (omega arith) in
+        search (leb-true, and-left, and-right) depth 12
 
     pub counts-passed : not v ≡ false
-        → Judged (countChecks (lines text)) (CountsHeld text) (Passed (record { counts = counts; next = next; «trams_at» = next; «signals_at» = next; «steps_at» = next; shortest = 0 }))
+        → Judged (countChecks (lines text)) (CountsHeld text) (Passed (record { counts = counts; next = next; «trams_at» = next; «signals_at» = next; «past_at» = next; «steps_at» = next; shortest = 0; timed = false }))
     unfolding countChecks tramLine
     counts-passed n =
         let w = sym judged ∙ not-false v n in

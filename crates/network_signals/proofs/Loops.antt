@@ -85,7 +85,7 @@ module _ {text : List ℕ} {reading : Reading} {phases₀ : List ℕ} (asked : S
 
   module _ {phases : List ℕ} {at shortest r : ℕ} (inv : SignalsTo text phases at shortest r) where
     pub signals-done : reading .counts .signals ≤ r → Judged (blockChecks (signalBlock (lines text))) (SignalsHeld text phases)
-        (Passed (record { counts = reading .counts; next = at; «trams_at» = reading .«trams_at»; «signals_at» = reading .next; «steps_at» = reading .«steps_at»; shortest = shortest }))
+        (Passed (record { counts = reading .counts; next = at; «trams_at» = reading .«trams_at»; «signals_at» = reading .next; «past_at» = reading .«past_at»; «steps_at» = reading .«steps_at»; shortest = shortest; timed = reading .timed }))
     signals-done h =
         let past : signalCount (lines text) ≤ r = omega (arith, asked .counted .signals) in
         let end : r ≡ signalCount (lines text) = omega (arith, inv .read .passed .within) in

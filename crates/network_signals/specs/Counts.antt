@@ -7,25 +7,25 @@ use lib.ListN.{getD}
 use Rattle.records.specs.Lines.{lines}
 use Rattle.records.specs.Reading.{Starts}
 use Rattle.model.specs.Test.{_and_, within}
-use Rattle.model.specs.Network.{maxLinks, maxSignals, maxMovements, maxSteps, maxTrams, tramLine}
+use Rattle.model.specs.Network.{maxLinks, maxSignals, maxMovements, maxSteps, maxTrams, maxPast, tramLine}
 use Rattle.tables.specs.declared.Counts.{Counts}
 use Rattle.tables.specs.declared.Reading.{Reading}
 use Rattle.tables.specs.Tables.{CountsHold}
 
 -- how many numbers the line has
 abbrev pub countFields : ℕ
-countFields = 5
+countFields = 6
 
 -- the counts by these numbers
 abbrev pub countsFrom : List ℕ → Counts
 countsFrom fields =
-    record { links = getD fields 0 0; signals = getD fields 1 0; movements = getD fields 2 0; steps = getD fields 3 0; trams = getD fields 4 0 }
+    record { links = getD fields 0 0; signals = getD fields 1 0; movements = getD fields 2 0; steps = getD fields 3 0; trams = getD fields 4 0; past = getD fields 5 0 }
 
--- 2: L 1 to 24, R 0 to 8, M 0 to 64, K 1 to 120, 0 to 16 `T` lines
+-- 2: L 1 to 24, R 0 to 8, M 0 to 64, K 1 to 120, 0 to 16 `T` lines, 0 to 120 `H` lines
 unfoldable pub validCountsIn : Counts → Bool
 validCountsIn counts =
     within 1 (counts .links) maxLinks and leb (counts .signals) maxSignals and leb (counts .movements) maxMovements and within 1 (counts .steps) maxSteps
-    and leb (counts .trams) maxTrams
+    and leb (counts .trams) maxTrams and leb (counts .past) maxPast
 
 -- what is held where the `N` line passes: its counts, and the place of the line after it
 pub record CountsHeld (text : List ℕ) (reading : Reading) : Type 0 where

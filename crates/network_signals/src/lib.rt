@@ -17,6 +17,7 @@ use search::Refusal;
 use tables::Counts;
 use tables::MAX_LINKS;
 use tables::MAX_MOVEMENTS;
+use tables::MAX_PAST;
 use tables::MAX_SIGNALS;
 use tables::MAX_STEPS;
 use tables::MAX_TRAMS;
@@ -24,7 +25,7 @@ use tables::Reading;
 use tables::Stage;
 
 // How many numbers an `N` line has, a `G` line before those of its phases, and a `G` line at most: eight phases.
-const COUNT_FIELDS: usize = 5;
+const COUNT_FIELDS: usize = 6;
 
 const HEAD_FIELDS: usize = 6;
 
@@ -39,6 +40,7 @@ fn valid_counts(counts: Counts) -> bool
         & (counts.movements <= MAX_MOVEMENTS)
         & ((1 <= counts.steps) & (counts.steps <= MAX_STEPS))
         & (counts.trams <= MAX_TRAMS)
+        & (counts.past <= MAX_PAST)
 }
 
 // The counts of an `N` line's numbers.
@@ -52,6 +54,7 @@ fn counts_from(fields: &[u32]) -> Counts
         movements: tables::index(fields[2]),
         steps: tables::index(fields[3]),
         trams: tables::index(fields[4]),
+        past: tables::index(fields[5]),
     }
 }
 
@@ -73,8 +76,10 @@ pub fn read_counts(text: &[u8]) -> Stage
         next,
         trams_at: next,
         signals_at: next,
+        past_at: next,
         steps_at: next,
         shortest: 0,
+        timed: false,
     })
 }
 
@@ -239,8 +244,10 @@ pub fn read_signals(text: &[u8], reading: Reading, phases: &mut [u32]) -> Stage
         next: place,
         trams_at: reading.trams_at,
         signals_at: reading.next,
+        past_at: reading.past_at,
         steps_at: reading.steps_at,
         shortest,
+        timed: reading.timed,
     })
 }
 

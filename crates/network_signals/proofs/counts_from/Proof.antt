@@ -33,6 +33,12 @@ shared-slice-read-index-5 c = search needs
 index-requires-5 : tie.Need-index-requires-5
 index-requires-5 c κs = search needs
 
+shared-slice-read-index-6 : tie.Need-shared-slice-read-index-6
+shared-slice-read-index-6 c = search needs
+
+index-requires-6 : tie.Need-index-requires-6
+index-requires-6 c κs = search needs
+
 returns : tie.Need-returns
 returns c = cc
 
@@ -50,4 +56,6 @@ counts-from-spec =
     index-requires-4
     shared-slice-read-index-5
     index-requires-5
+    shared-slice-read-index-6
+    index-requires-6
     returns)
