@@ -1,3 +1,4 @@
 pub mod Arrivals
+pub mod Timed
 pub mod Boundaries
 pub mod Cursors

@@ -1,15 +1,28 @@
-// When what entered a link has gone its travel time: the step in which the travel time before a boundary ends, by a table of the boundaries' times, and what has
-// arrived by then.
+// When what entered a link has gone its travel time: the step in which the travel time before a boundary ends, by a table of the times of the timeline's
+// boundaries, and what has arrived by then. Steps and boundaries are the timeline's here.
 ghost use mathlib.Core.Path.{_≡_};
 ghost use Prim.Native.Nat.{_+_, _-_, _<_, _≤_};
 ghost use lib.ListN.{length, getD};
 ghost use Rattle.arrivals.specs.Arrivals.{arrivalStepIn, secondsIn, elapsedIn, scaledIn, Cursor, ArrivalsAsked, Arrived};
+ghost use Rattle.arrivals.specs.Timed.{TimeAsked, TimeSet};
 
 // a − b, cut off at 0.
 fn minus(a: u32, b: u32) -> u32
     ensures { λ r. ⌜ r ≡ a - b ⌝ }
 {
     if a < b { 0 } else { a - b }
+}
+
+// Sets the time at the end of step `m`, if that lasts 1 to 60 seconds and so do all before it; else the table is left as it is.
+pub fn next_time(times: &mut [u32], m: usize, seconds: u32, timed: bool) -> bool
+    requires { ⌜ TimeAsked (now times) m timed ⌝ }
+    ensures { λ r. ⌜ TimeSet (now (times .entry)) m seconds timed r (now (times .exit)) ⌝ }
+{
+    let valid = timed & ((1 <= seconds) & (seconds <= 60));
+    if valid {
+        times[m + 1] = times[m] + seconds;
+    }
+    valid
 }
 
 // The step in which `boundary`'s time minus the travel time lies: the cursor of one link, which starts at a step that was found before and only moves on, so
