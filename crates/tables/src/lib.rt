@@ -7,6 +7,7 @@ ghost use Rattle.model.specs.Network.{maxLinks, maxSignals, maxMovements, maxSt
 ghost use Rattle.tables.specs.Places.{tramLineIn, signalLineIn, linkLineIn, movementLineIn, timelineLineIn, stepLineIn, planWidth, Few};
 ghost use Rattle.tables.specs.Fields.{tramTableSize, tramIn, linkTableSize, movementTableSize, stepSize, lineSize, capacityIn, travelTimeIn, exitRateIn, signalIn, phaseMaskIn, standingIn, waitingAtStartIn, linkIn, rateIn, shareIn, lengthIn, demandIn, admittedIn, letOutIn, movedIn, enteredIn, leftIn, enteredAt, leftAt, RowHeld};
 ghost use Rattle.tables.specs.Rows.{RowRead, HeadRead};
+ghost use Rattle.tables.specs.Sums.{Summed};
 ghost use Rattle.tables.specs.Tables.{movedTo};
 use records::LineRead;
 use search::Refusal;
@@ -187,6 +188,23 @@ pub fn read_head(
 {
     let end = start + width;
     records::head_at(text, at, letter, &mut table[start..end])
+}
+
+// Adds the numbers of a line that stand behind its first to sums, up to the first sum that does not fit 32 bits; whether all do.
+pub fn add_numbers(line: &[u32], count: usize, sums: &mut [u32]) -> bool
+    requires { ⌜ (count < length (now line)) × (count ≤ length (now sums)) ⌝ }
+    ensures { λ r. ⌜ Summed (now (line .entry)) count (now (sums .entry)) r (now (sums .exit)) ⌝ }
+{
+    let mut k = 0;
+    while k < count {
+        let number = line[1 + k];
+        if 4294967295 < wide(sums[k]) + wide(number) {
+            return false;
+        }
+        sums[k] = sums[k] + number;
+        k += 1;
+    }
+    true
 }
 
 // A number of a tram line, as its `T` line has it: signal, phase, first step and last step.
