@@ -3,9 +3,10 @@ use Prim.Native.Nat.{ℕ, _+_, _*_, _≤_, _<_}
 use mathlib.Core.Path.{_≡_}
 use mathlib.Core.Bool.{Bool, true}
 use mathlib.Core.List.{List}
+use lib.Dec.{leb}
 use lib.ListN.{length, getD, set}
 use Rattle.records.specs.Lines.{Line}
-use Rattle.model.specs.Test.{_and_, within}
+use Rattle.model.specs.Test.{_and_, within, every}
 use Rattle.model.specs.Network.{maxSteps, pastCount, stepCount, timelineLength, timelineTime}
 use Rattle.tables.specs.Fields.{timeTableSize}
 
@@ -19,6 +20,10 @@ pub record TimeSet (before : List ℕ) (m seconds : ℕ) (timed result : Bool) (
   pub told : result ≡ (timed and within 1 seconds 60)
   pub size : length after ≡ length before
   pub time-set : result ≡ true → after ≡ set before (m + 1) (getD before m 0 + seconds)
+
+-- 30: the first m steps of the timeline last 1 to 60 seconds, and all its steps are at most 120
+unfoldable pub validLengths : List Line → ℕ → Bool
+validLengths network m = every m (λ k. within 1 (timelineLength network k) 60) and leb (pastCount network + stepCount network) maxSteps
 
 -- The first m steps of the timeline are timed: all its steps are few enough, these last 1 to 60 seconds, and their boundaries' times are set.
 pub record TimedTo (network : List Line) (timed : Bool) (m : ℕ) (times : List ℕ) : Type 0 where

@@ -4,13 +4,9 @@ use mathlib.Core.Path.{_≡_, refl, sym, ap, _∙_}
 use mathlib.Core.Bool.{Bool, true, false, not}
 use mathlib.Core.List.{List}
 use native.Mathlib.Numerals.{add-one}
-use native.Mathlib.Decide.{ℕ-discrete}
 use native.Mathlib.Omega.{arith}
 use borrow.Author.Tests.{not-true, not-false}
-use lib.ListN.{length, getD, set, length-set}
-use lib.Seq.{getD-set-same, getD-set-other}
-use mir.Syntax.{w32}
-use mir.Val.{Fits}
+use lib.ListN.{length, getD}
 use Rattle.search.specs.declared.Refusal.{Refusal}
 use Rattle.search.specs.Checks.{refusal}
 use Rattle.records.specs.declared.LineRead.{LineRead}
@@ -18,27 +14,30 @@ use Rattle.records.specs.declared.LineRead.the-variants.{Next, Malformed}
 use Rattle.records.specs.Lines.{Line, lines}
 use Rattle.records.specs.Reading.{Starts}
 use Rattle.model.specs.Sum.{sum}
-use Rattle.model.specs.Network.{maxLinks, linkCount, stepCount, stepLine, time}
+use Rattle.model.specs.Test.{_and_, within}
+use Rattle.model.specs.Network.{maxLinks, linkCount, pastCount, stepCount, onTimeline, timelineLine, stepLine, stepLength, timelineLength, demand}
 use Rattle.model.specs.Rules.{validStep}
 use Rattle.model.specs.Table.{isForm, letterS, stepChecks}
-use Rattle.model.proofs.Times.{time-suc}
 use Rattle.tables.specs.declared.Reading.{Reading}
 use Rattle.tables.specs.declared.Stage.the-variants.{Passed, Refused}
 use Rattle.tables.specs.Places.{stepLineIn}
-use Rattle.tables.specs.Fields.{timeTableSize, stepSize, lengthIn}
+use Rattle.tables.specs.Fields.{stepSize, lengthIn}
 use Rattle.tables.specs.Rows.{LineHeld, RowRead}
+use Rattle.tables.specs.Sums.{Summed}
 use Rattle.tables.specs.Blocks.{blockChecks, ReadTo, Records, stepBlock}
 use Rattle.tables.specs.Tables.{Judged, StepNumbers}
-use Rattle.tables.proofs.Tables.{step-length-at}
+use Rattle.tables.proofs.Tables.{step-length-at, demand-at}
 use Rattle.tables.proofs.Places.{step-line-is}
 use Rattle.tables.proofs.Blocks.{passed-all, block-begin, block-end, records-malformed, records-invalid, records-next}
 use Rattle.tables.proofs.Stages.{judged-refused, judged-passed}
+use Rattle.arrivals.specs.Timed.{TimeAsked, TimeSet, TimedTo}
+use Rattle.arrivals.proofs.Timed.{time-ready, timed-next}
 use Rattle.network_steps.specs.Steps.{validStepIn, LoadAsked, Loaded, StepsAsked, StepsHeld}
-use Rattle.network_steps.proofs.Values.{step-short, valid-step-is}
+use Rattle.network_steps.proofs.Values.{step-within, demand-few, valid-step-is}
 
 -- ---- one line
 step-line-suc : (network : List Line) (n : ℕ) → stepLine network (suc n) ≡ suc (stepLine network n)
-unfolding stepLine
+unfolding stepLine timelineLine onTimeline
 step-line-suc network n = omega arith
 
 held-numbers : {text : List ℕ} {n next links : ℕ} {step : List ℕ} → LineHeld letterS (1 + links) text (stepLine (lines text) n) next 0 step
@@ -75,38 +74,49 @@ step-records : (network : List Line) → Records network (stepBlock network) let
 unfolding stepChecks
 step-records network = record { shape = λ n. refl; follow = step-line-suc network }
 
--- n lines have passed, and the times of the boundaries 0 to n are set
-pub record StepsTo (text times step : List ℕ) (at n : ℕ) : Type 0 where
+-- n lines have passed: the times up to their last boundary are set, and their demands are summed up
+pub record StepsTo (text : List ℕ) (timed : Bool) (times demands step : List ℕ) (at n : ℕ) : Type 0 where
   pub read : ReadTo text (stepBlock (lines text)) at n
-  pub room : length times ≡ timeTableSize
   pub step-room : length step ≡ stepSize
-  pub holds : (m : ℕ) → m ≤ n → getD times m 0 ≡ time (lines text) m
-  pub short : time (lines text) n ≤ 60 * n
+  pub timed-to : TimedTo (lines text) timed (pastCount (lines text) + n) times
+  pub demand-room : length demands ≡ maxLinks
+  pub demanded : (i : ℕ) → i < linkCount (lines text) → getD demands i 0 ≡ sum n (λ k. demand (lines text) k i)
+  pub small : (i : ℕ) → i < linkCount (lines text) → sum n (λ k. demand (lines text) k i) ≤ 600_000 * n
 
-module _ {text : List ℕ} {reading : Reading} {times₀ : List ℕ} (asked : StepsAsked text reading times₀) where
-  pub steps-begin : {step : List ℕ} → length step ≡ stepSize → StepsTo text (set times₀ 0 0) step (reading .next) 0
-  unfolding time sum
+module _ {text : List ℕ} {reading : Reading} {times₀ demands₀ : List ℕ} (asked : StepsAsked text reading times₀ demands₀) where
+  few-links : linkCount (lines text) ≤ maxLinks
+  few-links = omega (arith, asked .reached .counted .links, asked .reached .counted .few .links)
+
+  pub steps-begin : {step : List ℕ} → length step ≡ stepSize → StepsTo text (reading .timed) times₀ demands₀ step (reading .next) 0
+  unfolding sum
   steps-begin size =
+      let z : pastCount (lines text) + 0 ≡ pastCount (lines text) = omega arith in
       record {
         read = block-begin (asked .reached .starts);
-        room = length-set times₀ 0 0 ∙ asked .size;
         step-room = size;
-        holds = λ m l. let z : m ≡ 0 = omega arith in rw (z, getD-set-same times₀ 0 0 0 (omega (arith, asked .size)));
-        short = omega arith;
+        timed-to = rw z (asked .timed-past);
+        demand-room = asked .demand-room;
+        demanded = λ i l. asked .none i (omega (arith, few-links));
+        small = λ i l. omega arith;
       }
 
-  module _ {times step : List ℕ} {at n : ℕ} (inv : StepsTo text times step at n) where
+  module _ {times demands step : List ℕ} {at n : ℕ} (inv : StepsTo text (reading .timed) times demands step at n) where
     pub steps-done : reading .counts .steps ≤ n
-        → Judged (blockChecks (stepBlock (lines text))) (StepsHeld text times)
-        (Passed (record { counts = reading .counts; next = at; «trams_at» = reading .«trams_at»; «signals_at» = reading .«signals_at»; «steps_at» = reading .next; shortest = reading .shortest }))
+        → Judged (blockChecks (stepBlock (lines text))) (StepsHeld text times demands)
+        (Passed (record { counts = reading .counts; next = at; «trams_at» = reading .«trams_at»; «signals_at» = reading .«signals_at»; «past_at» = reading .«past_at»; «steps_at» = reading .next; shortest = reading .shortest; timed = reading .timed }))
     steps-done h =
         let past : stepCount (lines text) ≤ n = omega (arith, asked .reached .counted .steps) in
+        let all : n ≡ stepCount (lines text) = omega (arith, inv .read .passed .within) in
         let r = asked .reached in
         judged-passed (passed-all (inv .read .passed) past)
         (record {
           reached = record { counted = r .counted; starts = block-end (inv .read) past; trams-start = r .trams-start; signals-start = r .signals-start; shortest-time = r .shortest-time };
           steps-start = r .starts;
-          table = record { size = inv .room; holds = λ m l. inv .holds m (omega arith) };
+          past-start = asked .past-start;
+          told = asked .told;
+          timed-all = rw all at (inv .timed-to);
+          demand-room = inv .demand-room;
+          demanded = λ i l. inv .demanded i l ∙ ap (λ k. sum k (λ n. demand (lines text) n i)) all;
         })
 
     module _ (h : n < reading .counts .steps) {r : LineRead} {after : List ℕ} (row : RowRead letterS (1 + reading .counts .links) text at 0 step r after) where
@@ -120,8 +130,14 @@ module _ {text : List ℕ} {reading : Reading} {times₀ : List ℕ} (asked : St
       told-line l = omega (arith, step-line-is (asked .reached .counted) n)
 
       pub steps-malformed : r ≡ Malformed → {line : ℕ} {q : Refusal} → line ≡ stepLineIn (reading .counts) n → q ≡ refusal 1 (line + 1) 0
-          → Judged (blockChecks (stepBlock (lines text))) (StepsHeld text times) (Refused q)
+          → Judged (blockChecks (stepBlock (lines text))) (StepsHeld text times demands) (Refused q)
       steps-malformed e l t = rw (t, told-line l) (judged-refused (records-malformed (inv .read) (step-records (lines text)) below own e))
+
+      pub time-asked : {m : ℕ} → m ≡ reading .counts .past + n → TimeAsked times m (reading .timed)
+      time-asked e = rw (e, asked .reached .counted .past) (time-ready (inv .timed-to) (omega (arith, below)))
+
+      pub sums-asked : (reading .counts .links < length after) × (reading .counts .links ≤ length demands)
+      sums-asked = (omega (arith, row .size, inv .step-room, asked .reached .counted .few .links), omega (arith, inv .demand-room, asked .reached .counted .few .links))
 
       module _ {next : ℕ} (e : r ≡ Next next) {v : Bool} (told : v ≡ validStepIn after (reading .counts .links) (reading .shortest)) where
         numbers : StepNumbers (lines text) n after
@@ -131,7 +147,7 @@ module _ {text : List ℕ} {reading : Reading} {times₀ : List ℕ} (asked : St
         judged = told ∙ valid-step-is numbers (asked .reached .shortest-time) (asked .reached .counted .links)
 
         pub steps-invalid : not v ≡ true → {line : ℕ} {q : Refusal} → line ≡ stepLineIn (reading .counts) n → q ≡ refusal 6 (line + 1) (n + 1)
-            → Judged (blockChecks (stepBlock (lines text))) (StepsHeld text times) (Refused q)
+            → Judged (blockChecks (stepBlock (lines text))) (StepsHeld text times demands) (Refused q)
         steps-invalid b l t =
             rw (t, told-line l, add-one)
             (judged-refused (records-invalid (inv .read) (step-records (lines text)) below own e (sym judged ∙ not-true v b)))
@@ -140,28 +156,44 @@ module _ {text : List ℕ} {reading : Reading} {times₀ : List ℕ} (asked : St
           passed : validStep (lines text) n ≡ true
           passed = sym judged ∙ not-false v b
 
-          time-next : getD times n 0 + seconds ≡ time (lines text) (n + 1)
-          time-next = omega (arith, inv .holds n (omega arith), step-length-at numbers, time-suc (lines text) n, ap (time (lines text)) (add-one n))
+          lasts : seconds ≡ timelineLength (lines text) (pastCount (lines text) + n)
+          lasts = s ∙ step-length-at numbers ∙ (unfold stepLength onTimeline in refl)
 
-          short : time (lines text) (n + 1) ≤ 60 * (n + 1)
-          short = omega (arith, inv .holds n (omega arith), step-length-at numbers, time-next, step-short (lines text) n passed, inv .short)
+          -- a valid step stays timed where the past is
+          same-timed : {result : Bool} → result ≡ (reading .timed and within 1 seconds 60) → result ≡ reading .timed
+          unfolding _and_
+          same-timed q = q ∙ ap (λ w. reading .timed and w) (ap (λ x. within 1 x 60) (s ∙ step-length-at numbers) ∙ step-within (lines text) n passed) ∙ by (reading .timed)
+            where
+              by : (c : Bool) → c and true ≡ c
+              by true = refl
+              by false = refl
 
-          -- the time of the next boundary is at most 120 × 60
-          pub time-fits : Fits w32 (getD times n 0 + seconds)
-          time-fits = record { fits = omega (arith, time-next, short, asked .reached .counted .few .steps) }
+          timed-more : {m : ℕ} → m ≡ reading .counts .past + n → {result : Bool} {times′ : List ℕ} → TimeSet times m seconds (reading .timed) result times′
+              → TimedTo (lines text) (reading .timed) (pastCount (lines text) + (n + 1)) times′
+          timed-more q got =
+              let p : pastCount (lines text) + n + 1 ≡ pastCount (lines text) + (n + 1) = omega arith in
+              rw (same-timed (got .told), p) at (timed-next (inv .timed-to) (omega (arith, below)) lasts (rw (q, asked .reached .counted .past) at got))
 
-          pub steps-next : StepsTo text (set times (n + 1) (getD times n 0 + seconds)) after next (n + 1)
-          steps-next =
+          -- no sum of demands is too large
+          summed : {result : Bool} {demands′ : List ℕ} → Summed after (reading .counts .links) demands result demands′ → result ≡ true
+          summed {result} got = go result refl
+            where
+              go : (c : Bool) → result ≡ c → result ≡ true
+              go true q = q
+              go false q =
+                  let o = got .overflows q in
+                  let l : o .at < linkCount (lines text) = omega (arith, o .below, asked .reached .counted .links) in
+                  absurd (omega (arith, o .over, inv .demanded (o .at) l, inv .small (o .at) l, demand-at numbers (o .at) l, demand-few (lines text) n passed (o .at) l, asked .reached .counted .few .steps, below))
+
+          pub steps-next : {m : ℕ} → m ≡ reading .counts .past + n → {timed : Bool} {times′ : List ℕ} → TimeSet times m seconds (reading .timed) timed times′
+              → {fit : Bool} {demands′ : List ℕ} → Summed after (reading .counts .links) demands fit demands′ → StepsTo text (reading .timed) times′ demands′ after next (n + 1)
+          unfolding sum
+          steps-next q got sums =
               record {
                 read = records-next (inv .read) (step-records (lines text)) below own e passed;
-                room = length-set times (n + 1) _ ∙ inv .room;
                 step-room = row .size ∙ inv .step-room;
-                holds = λ m l. elim (ℕ-discrete m (n + 1)) [
-                  | yes q ↦ rw (q, getD-set-same times (n + 1) (getD times n 0 + seconds) 0 room) time-next
-                  | no q ↦ rw (getD-set-other times (n + 1) m (getD times n 0 + seconds) 0 q) (inv .holds m (omega arith))
-                ];
-                short = short;
+                timed-to = timed-more q got;
+                demand-room = sums .size ∙ inv .demand-room;
+                demanded = λ i l. rw (add-one n) (omega (arith, sums .added (summed sums) i (omega (arith, asked .reached .counted .links)), inv .demanded i l, demand-at numbers i l));
+                small = λ i l. rw (add-one n) (omega (arith, inv .small i l, demand-few (lines text) n passed i l));
               }
-            where
-              room : n + 1 < length times
-              room = omega (arith, inv .room, asked .reached .counted .few .steps)

@@ -11,9 +11,9 @@ use borrow.Author.Tests.{leb-true, le-leb, lt-leb}
 use lib.Dec.{leb}
 use Rattle.records.specs.Lines.{Line}
 use Rattle.model.specs.Test.{_and_, within, every}
-use Rattle.model.specs.Network.{linkCount, stepLength}
+use Rattle.model.specs.Network.{linkCount, stepLength, demand}
 use Rattle.model.specs.Rules.{validStep}
-use Rattle.model.proofs.Tests.{and-left, and-right, every-same}
+use Rattle.model.proofs.Tests.{and-left, and-right, every-at, every-same}
 use Rattle.tables.specs.Fields.{demandIn}
 use Rattle.tables.specs.Tables.{Shortest, StepNumbers}
 use Rattle.tables.proofs.Tables.{step-length-at, demand-at}
@@ -53,9 +53,14 @@ within-high : (low x high : ℕ) → within low x high ≡ true → x ≤ high
 unfolding within
 within-high low x high e = leb-true x high (and-right _ _ e)
 
-pub step-short : (network : List Line) (n : ℕ) → validStep network n ≡ true → stepLength network n ≤ 60
-unfolding validStep
-step-short network n v = within-high 1 _ 60 (and-left _ _ (and-left _ _ v))
+module _ (network : List Line) (n : ℕ) (v : validStep network n ≡ true) where
+  pub step-within : within 1 (stepLength network n) 60 ≡ true
+  unfolding validStep
+  step-within = and-left _ _ (and-left _ _ v)
+
+  pub demand-few : (i : ℕ) → i < linkCount network → demand network n i ≤ 600_000
+  unfolding validStep
+  demand-few i l = leb-true _ _ (every-at (linkCount network) (λ i. leb (demand network n i) 600_000) (and-right _ _ v) i l)
 
 and-same : (a : Bool) {b c : Bool} → (a ≡ true → b ≡ c) → a and b ≡ a and c
 unfolding _and_

@@ -1,19 +1,21 @@
 -- The numbers of one `S` line, its length and then the demand of each link, and what the functions that read such lines ask and promise. Assumes nothing.
-use Prim.Native.Nat.{ℕ, _+_, _≤_}
+use Prim.Native.Nat.{ℕ, _+_, _≤_, _<_}
 use mathlib.Core.Path.{_≡_}
 use mathlib.Core.Bool.{Bool, true}
 use mathlib.Core.List.{List}
 use lib.Dec.{leb}
-use lib.ListN.{length}
+use lib.ListN.{length, getD}
 use Rattle.records.specs.Lines.{lines}
 use Rattle.records.specs.Reading.{Starts}
+use Rattle.model.specs.Sum.{sum}
 use Rattle.model.specs.Test.{_and_, within, every}
-use Rattle.model.specs.Network.{maxLinks, stepCount, stepLine}
+use Rattle.model.specs.Network.{maxLinks, linkCount, pastCount, stepCount, timelineLine, stepLine, demand}
 use Rattle.model.specs.Table.{isForm, letterS}
 use Rattle.tables.specs.declared.Reading.{Reading}
-use Rattle.tables.specs.Fields.{timeTableSize, stepSize, lengthIn, demandIn}
+use Rattle.tables.specs.Fields.{stepSize, lengthIn, demandIn}
 use Rattle.tables.specs.Rows.{LineHeld}
-use Rattle.tables.specs.Tables.{Reached, TimeTable}
+use Rattle.tables.specs.Tables.{Reached}
+use Rattle.arrivals.specs.Timed.{validLengths, TimedTo}
 
 -- 6: each demand is at most 600,000
 unfoldable pub validDemandsIn : List ℕ → ℕ → Bool
@@ -37,12 +39,20 @@ pub record Loaded (text : List ℕ) (at links next : ℕ) (step : List ℕ) : Ty
   pub held : (line : ℕ) → Starts text at line → LineHeld letterS (1 + links) text line next 0 step
 
 -- what the reading of all `S` lines asks ..
-pub record StepsAsked (text : List ℕ) (reading : Reading) (times : List ℕ) : Type 0 where
+pub record StepsAsked (text : List ℕ) (reading : Reading) (times demands : List ℕ) : Type 0 where
   pub reached : Reached text (stepLine (lines text) 0) reading
-  pub size : length times ≡ timeTableSize
+  pub past-start : Starts text (reading .«past_at») (timelineLine (lines text) 0)
+  pub told : reading .timed ≡ validLengths (lines text) (pastCount (lines text))
+  pub timed-past : TimedTo (lines text) (reading .timed) (pastCount (lines text)) times
+  pub demand-room : length demands ≡ maxLinks
+  pub none : (i : ℕ) → i < maxLinks → getD demands i 0 ≡ 0
 
 -- .. and what is held where they pass
-pub record StepsHeld (text times : List ℕ) (reading : Reading) : Type 0 where
+pub record StepsHeld (text times demands : List ℕ) (reading : Reading) : Type 0 where
   pub reached : Reached text (stepLine (lines text) (stepCount (lines text))) reading
   pub steps-start : Starts text (reading .«steps_at») (stepLine (lines text) 0)
-  pub table : TimeTable (lines text) times
+  pub past-start : Starts text (reading .«past_at») (timelineLine (lines text) 0)
+  pub told : reading .timed ≡ validLengths (lines text) (pastCount (lines text))
+  pub timed-all : TimedTo (lines text) (reading .timed) (pastCount (lines text) + stepCount (lines text)) times
+  pub demand-room : length demands ≡ maxLinks
+  pub demanded : (i : ℕ) → i < linkCount (lines text) → getD demands i 0 ≡ sum (stepCount (lines text)) (λ n. demand (lines text) n i)

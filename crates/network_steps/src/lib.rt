@@ -1,4 +1,4 @@
-// The `S` lines of a network text: their form and values (refusals 1 and 6), and the time of each boundary.
+// The `S` lines of a network text: their form and values (refusals 1 and 6), the time of each boundary, and the demand of each link in all steps.
 ghost use mathlib.Core.Path.{_≡_};
 ghost use Prim.Native.Nat.{_≤_};
 ghost use lib.ListN.{length};
@@ -49,17 +49,16 @@ pub fn load_step(text: &[u8], at: usize, links: usize, step: &mut [u32]) -> usiz
     }
 }
 
-// Refusals 1 and 6: reads the `S` lines, and sets the time of each boundary.
-pub fn read_steps(text: &[u8], reading: Reading, times: &mut [u32]) -> Stage
-    requires { ⌜ StepsAsked (now text) reading (now times) ⌝ }
-    ensures { λ r. ⌜ Judged (blockChecks (stepBlock (lines (now (text .entry))))) (StepsHeld (now (text .entry)) (now (times .exit))) r ⌝ }
+// Refusals 1 and 6: reads the `S` lines, sets the time of each boundary, if the past is timed, and sums up the demands of each link.
+pub fn read_steps(text: &[u8], reading: Reading, times: &mut [u32], demands: &mut [u32]) -> Stage
+    requires { ⌜ StepsAsked (now text) reading (now times) (now demands) ⌝ }
+    ensures { λ r. ⌜ Judged (blockChecks (stepBlock (lines (now (text .entry))))) (StepsHeld (now (text .entry)) (now (times .exit)) (now (demands .exit))) r ⌝ }
 {
     let counts = reading.counts;
     let links = counts.links;
     let mut step = [0u32; STEP_SIZE];
     let mut place = reading.next;
     let mut n = 0;
-    times[0] = 0;
     while n < counts.steps {
         let line = counts.step_line(n) + 1;
         let read = tables::read_row(text, place, b'S', &mut step, 0, 1 + links);
@@ -69,7 +68,9 @@ pub fn read_steps(text: &[u8], reading: Reading, times: &mut [u32]) -> Stage
         if !valid_step(&step, links, reading.shortest) {
             return Stage::Refused(Refusal::new(6, line, n + 1));
         }
-        times[n + 1] = times[n] + tables::step_length(&step);
+        let seconds = tables::step_length(&step);
+        arrivals::next_time(times, counts.past + n, seconds, reading.timed);
+        tables::add_numbers(&step, links, demands);
         place = next;
         n += 1;
     }
@@ -78,7 +79,9 @@ pub fn read_steps(text: &[u8], reading: Reading, times: &mut [u32]) -> Stage
         next: place,
         trams_at: reading.trams_at,
         signals_at: reading.signals_at,
+        past_at: reading.past_at,
         steps_at: reading.next,
         shortest: reading.shortest,
+        timed: reading.timed,
     })
 }

@@ -1,18 +1,16 @@
--- `network_steps::read_steps` meets its contract. Assumes nothing.
+-- `network_steps::read_steps` meets its contract. The invariant: n lines have passed, and their times and demands are reckoned. Assumes nothing.
 use Prim.Native.Nat.{_-_}
+use mathlib.Core.Path.{refl}
+use Rattle.network_steps.proofs.Steps.{StepsTo, steps-begin, steps-malformed, steps-invalid, time-asked, sums-asked, steps-next, steps-done}
 use borrow.Author.Needs.{needs}
-use Rattle.network_steps.proofs.Steps.{StepsTo, steps-begin, steps-malformed, steps-invalid, time-fits, steps-next, steps-done}
 use Rattle.network_steps.proofs.read_steps.Statement.{statement}
 use Rattle.network_steps.proofs.read_steps.Tie as tie
 
 abbrev Inv-loop : tie.InvT-loop
-Inv-loop text reading times₀ counts links step₀ place₀ n₀ times step place n = StepsTo text times step place n
+Inv-loop text reading times₀ demands₀ counts links step₀ place₀ n₀ times demands step place n = StepsTo text (reading .timed) times demands step place n
 
 abbrev μ-loop : tie.MeasureT-loop
-μ-loop text reading times₀ counts links step₀ place₀ n₀ times step place n = counts .steps - n
-
-slice-write-times : tie.Need-slice-write-times Inv-loop μ-loop
-slice-write-times c = search needs
+μ-loop text reading times₀ demands₀ counts links step₀ place₀ n₀ times demands step place n = counts .steps - n
 
 loop-holds : tie.Need-loop-holds Inv-loop μ-loop
 loop-holds c = search (steps-begin, needs)
@@ -44,6 +42,9 @@ new-requires c κs = search needs
 same-length : tie.Need-same-length Inv-loop μ-loop
 same-length c = search needs
 
+same-length-2 : tie.Need-same-length-2 Inv-loop μ-loop
+same-length-2 c = search needs
+
 returns : tie.Need-returns Inv-loop μ-loop
 returns c = search (steps-malformed, needs)
 
@@ -59,17 +60,14 @@ add-new c = search needs
 new-requires-2 : tie.Need-new-requires-2 Inv-loop μ-loop
 new-requires-2 c κs = search needs
 
-same-length-2 : tie.Need-same-length-2 Inv-loop μ-loop
-same-length-2 c = search needs
+same-length-3 : tie.Need-same-length-3 Inv-loop μ-loop
+same-length-3 c = search needs
+
+same-length-4 : tie.Need-same-length-4 Inv-loop μ-loop
+same-length-4 c = search needs
 
 returns-2 : tie.Need-returns-2 Inv-loop μ-loop
 returns-2 c = search (steps-invalid, needs)
-
-mul-times : tie.Need-mul-times Inv-loop μ-loop
-mul-times c = search needs
-
-slice-read-times : tie.Need-slice-read-times Inv-loop μ-loop
-slice-read-times c = search needs
 
 slice-aggregate-step-length : tie.Need-slice-aggregate-step-length Inv-loop μ-loop
 slice-aggregate-step-length c = search needs
@@ -77,17 +75,17 @@ slice-aggregate-step-length c = search needs
 step-length-requires : tie.Need-step-length-requires Inv-loop μ-loop
 step-length-requires c κs = search needs
 
-add-times : tie.Need-add-times Inv-loop μ-loop
-add-times c = search (time-fits, needs)
+add-next-time : tie.Need-add-next-time Inv-loop μ-loop
+add-next-time c = search needs
 
-add-times-2 : tie.Need-add-times-2 Inv-loop μ-loop
-add-times-2 c = search needs
+next-time-requires : tie.Need-next-time-requires Inv-loop μ-loop
+next-time-requires c κs = search (time-asked, needs)
 
-mul-times-2 : tie.Need-mul-times-2 Inv-loop μ-loop
-mul-times-2 c = search needs
+slice-aggregate-add-numbers : tie.Need-slice-aggregate-add-numbers Inv-loop μ-loop
+slice-aggregate-add-numbers c = search needs
 
-slice-write-times-2 : tie.Need-slice-write-times-2 Inv-loop μ-loop
-slice-write-times-2 c = search needs
+add-numbers-requires : tie.Need-add-numbers-requires Inv-loop μ-loop
+add-numbers-requires c κs = sums-asked (c .before .before .before .before .before .before .before .before .before .before .before .before .before .before .before .before .before .before .before .before .before .before .before .before .before .before .pre) (c .before .before .before .before .before .before .before .before .before .before .before .before .before .before .before .before .before .before .before .before .before .loop .inv) (search needs) (c .before .before .before .before .before .before .before .before .before .before .before .before .before .before .before .before .read-row .ensures)
 
 add-n : tie.Need-add-n Inv-loop μ-loop
 add-n c = search needs
@@ -96,10 +94,13 @@ loop-less : tie.Need-loop-less Inv-loop μ-loop
 loop-less c = search needs
 
 loop-again : tie.Need-loop-again Inv-loop μ-loop
-loop-again c = search (steps-next, needs)
+loop-again c = steps-next (c .before .before .before .before .before .before .before .before .before .before .before .before .before .before .before .before .before .before .before .before .before .before .before .before .before .before .before .before .before .pre) (c .before .before .before .before .before .before .before .before .before .before .before .before .before .before .before .before .before .before .before .before .before .before .before .before .loop .inv) (search needs) (c .before .before .before .before .before .before .before .before .before .before .before .before .before .before .before .before .before .before .before .read-row .ensures) (c .before .before .before .before .before .before .before .before .before .before .before .before .before .before .before .before .read .given .1) (c .before .before .before .before .before .before .before .before .before .before .before .before .before .valid-step .ensures) (c .before .before .before .before .before .before .before .before .before .before .before .before .if2 .left) (c .before .before .before .before .before .before .before .before .before .before .step-length .ensures) refl (c .before .before .before .before .before .before .before .next-time .ensures) (c .before .before .add-numbers .ensures)
 
-same-length-3 : tie.Need-same-length-3 Inv-loop μ-loop
-same-length-3 c = search needs
+same-length-5 : tie.Need-same-length-5 Inv-loop μ-loop
+same-length-5 c = search needs
+
+same-length-6 : tie.Need-same-length-6 Inv-loop μ-loop
+same-length-6 c = search needs
 
 returns-3 : tie.Need-returns-3 Inv-loop μ-loop
 returns-3 c = search (steps-done, needs)
@@ -110,7 +111,6 @@ read-steps-spec =
     (tie.spec
     Inv-loop
     μ-loop
-    slice-write-times
     loop-holds
     step-line-requires
     add-line
@@ -121,23 +121,24 @@ read-steps-spec =
     enum-told
     new-requires
     same-length
+    same-length-2
     returns
     slice-aggregate-valid-step
     valid-step-requires
     add-new
     new-requires-2
-    same-length-2
+    same-length-3
+    same-length-4
     returns-2
-    mul-times
-    slice-read-times
     slice-aggregate-step-length
     step-length-requires
-    add-times
-    add-times-2
-    mul-times-2
-    slice-write-times-2
+    add-next-time
+    next-time-requires
+    slice-aggregate-add-numbers
+    add-numbers-requires
     add-n
     loop-less
     loop-again
-    same-length-3
+    same-length-5
+    same-length-6
     returns-3)
