@@ -1,0 +1,4 @@
+pub mod Reading
+pub mod Keeping
+pub mod Loading
+pub mod Moving
