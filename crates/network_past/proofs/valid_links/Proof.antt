@@ -1,0 +1,39 @@
+-- `network_past::valid_links` meets its contract. The invariant: whether the first i links are valid. Assumes nothing.
+use Prim.Native.Nat.{_-_, _≤_}
+use mathlib.Core.Path.{_≡_}
+use Rattle.model.specs.Test.{_and_}
+use Rattle.network_past.specs.Past.{validLinksIn}
+use Rattle.network_past.proofs.End.{links-none, links-more, links-all}
+use borrow.Author.Needs.{needs}
+use Rattle.network_past.proofs.valid_links.Statement.{statement}
+use Rattle.network_past.proofs.valid_links.Tie as tie
+
+abbrev Inv-loop : tie.InvT-loop
+Inv-loop counts links times demands row arrivals curves valid₀ i₀ valid i = (i ≤ counts .links) × (valid ≡ validLinksIn counts links times demands row arrivals curves i)
+
+abbrev μ-loop : tie.MeasureT-loop
+μ-loop counts links times demands row arrivals curves valid₀ i₀ valid i = counts .links - i
+
+loop-holds : tie.Need-loop-holds Inv-loop μ-loop
+loop-holds c = search (links-none, needs)
+
+valid-past-requires : tie.Need-valid-past-requires Inv-loop μ-loop
+valid-past-requires c κs = search needs
+
+add-i : tie.Need-add-i Inv-loop μ-loop
+add-i c = search needs
+
+loop-less : tie.Need-loop-less Inv-loop μ-loop
+loop-less c = search needs
+
+loop-again : tie.Need-loop-again Inv-loop μ-loop
+unfolding _and_
+loop-again c = search (links-more, needs)
+
+returns : tie.Need-returns Inv-loop μ-loop
+returns c = search (links-all, needs)
+
+pub valid-links-spec : {M : Type 1} → statement M
+valid-links-spec =
+    tie.close
+    (tie.spec Inv-loop μ-loop loop-holds valid-past-requires add-i loop-less loop-again returns)
