@@ -2,7 +2,6 @@
 use Prim.Native.Nat.{ℕ}
 use mathlib.Core.Path.{_≡_, sym, _∙_}
 use mathlib.Core.List.{List}
-use native.Mathlib.Omega.{arith}
 use lib.ListN.{length}
 use Rattle.search.specs.declared.Refusal.{Refusal}
 use Rattle.search.specs.declared.Verdict.{Verdict}
@@ -10,7 +9,7 @@ use Rattle.search.specs.declared.Verdict.the-variants as verdicts
 use Rattle.search.specs.Checks.{Checks, each, _then_, verdict}
 use Rattle.search.proofs.Laws.{or-else-passes, or-else-refused, hold-of-passes}
 use Rattle.records.specs.Lines.{lines}
-use Rattle.model.specs.Network.{maxSignals, linkCount, stepCount}
+use Rattle.model.specs.Network.{maxSignals, linkCount}
 use Rattle.model.specs.Table.{countChecks, shareChecks, networkChecks}
 use Rattle.model.specs.Calls.{checkNetwork}
 use Rattle.model.specs.Guarantees.{NetworkPromises}
@@ -18,7 +17,7 @@ use Rattle.model.proofs.Numbers.{network-promises}
 use Rattle.tables.specs.declared.Reading.{Reading}
 use Rattle.tables.specs.declared.Stage.{Stage}
 use Rattle.tables.specs.declared.Stage.the-variants.{Passed, Refused}
-use Rattle.tables.specs.Blocks.{blockChecks, linkBlock, movementBlock, stepBlock}
+use Rattle.tables.specs.Blocks.{blockChecks, linkBlock, movementBlock}
 use Rattle.tables.specs.Tables.{Judged}
 use Rattle.tables.proofs.Stages.{judged-refused, verdict-passed, verdict-refused}
 use Rattle.network_signals.specs.Counts.{CountsHeld}
@@ -26,10 +25,9 @@ use Rattle.network_signals.specs.Stages.{SignalsHeld}
 use Rattle.network_links.specs.Movements.{shareChecksIn}
 use Rattle.network_links.specs.Stages.{LinksAsked, LinksHeld, MovementsAsked, MovementsHeld, SharesAsked}
 use Rattle.network_links.proofs.Movements.{shares-asked, shares-checked}
-use Rattle.network_steps.specs.Steps.{StepsAsked, StepsHeld}
-use Rattle.network.specs.Loading.{firstChecks, FirstAsked, endChecks, EndAsked, Rooms, Loaded}
+use Rattle.network.specs.Loading.{firstChecks, FirstAsked, endChecks, timelineChecks, TimelineAsked, TimelineHeld, Rooms, Loaded}
 use Rattle.network.proofs.First.{first-joined}
-use Rattle.network.proofs.End.{lines-within}
+use Rattle.network.proofs.Timeline.{link-limits}
 
 -- ---- what is left to judge: the whole is refused where what is left of it is, and passes where nothing is left
 abbrev Left : List ℕ → Checks → Type 0
@@ -46,14 +44,8 @@ module _ (text : List ℕ) (first rest : Checks) (l : Left text (first then rest
 
 -- the checks from each stage on
 module _ (text : List ℕ) where
-  abbrev fromEnd : Checks
-  fromEnd = endChecks (lines text)
-
-  abbrev fromSteps : Checks
-  fromSteps = blockChecks (stepBlock (lines text)) then fromEnd
-
   abbrev fromShares : Checks
-  fromShares = each (linkCount (lines text)) (shareChecks (lines text)) then fromSteps
+  fromShares = each (linkCount (lines text)) (shareChecks (lines text)) then timelineChecks (lines text)
 
   abbrev fromMovements : Checks
   fromMovements = blockChecks (movementBlock (lines text)) then fromShares
@@ -119,50 +111,40 @@ module _ {text links₀ movements₀ times₀ : List ℕ} (rooms : Rooms links�
 
                 module _ {shared : Stage} (j₄ : Judged (each (atShares .counts .links) (shareChecksIn movements (atShares .counts))) (λ after. after ≡ atShares) shared) where
                   pub shares-stop : {Held : Reading → Type 0} {r : Refusal} → shared ≡ Refused r → Judged (networkChecks (lines text)) Held shared
-                  shares-stop e = stop text _ (fromSteps text) left₄ e (sym checked ∙ verdict-refused j₄ e)
+                  shares-stop e = stop text _ (timelineChecks (lines text)) left₄ e (sym checked ∙ verdict-refused j₄ e)
 
                   module _ {atSteps : Reading} (e₅ : shared ≡ Passed atSteps) where
-                    pub steps-asked : StepsAsked text atSteps times₀
-                    steps-asked = record { reached = rw (j₄ .held _ e₅) (j₃ .held _ e₄ .reached); size = rooms .time-room }
+                    pub timeline-asked : TimelineAsked text atSteps links times₀
+                    timeline-asked =
+                        record {
+                          reached = rw (j₄ .held _ e₅) (j₃ .held _ e₄ .reached);
+                          link-table = j₂ .held _ e₃ .table;
+                          limits = link-limits (lines text) (verdict-passed j₂ e₃);
+                          room = rooms .time-room;
+                        }
 
-                    left₅ : Left text (fromSteps text)
-                    left₅ = on text _ (fromSteps text) left₄ (sym checked ∙ verdict-passed j₄ e₅)
+                    left₅ : Left text (timelineChecks (lines text))
+                    left₅ = on text _ (timelineChecks (lines text)) left₄ (sym checked ∙ verdict-passed j₄ e₅)
 
-                    module _ {times : List ℕ} {stepped : Stage} (j₅ : Judged (blockChecks (stepBlock (lines text))) (StepsHeld text times) stepped) where
-                      pub steps-stop : {Held : Reading → Type 0} {r : Refusal} → stepped ≡ Refused r → Judged (networkChecks (lines text)) Held stepped
-                      steps-stop e = stop text _ (fromEnd text) left₅ e (verdict-refused j₅ e)
-
-                      module _ {atEnd : Reading} (e₆ : stepped ≡ Passed atEnd) where
-                        pub end-asked : EndAsked text atEnd
-                        end-asked =
-                            let held = j₅ .held _ e₆ in
-                            record {
-                              reached = held .reached;
-                              within = lines-within (lines text) (omega (arith, held .reached .counted .some-steps, held .reached .counted .steps)) (verdict-passed j₅ e₆);
-                            }
-
-                        left₆ : Left text (fromEnd text)
-                        left₆ = on text _ (fromEnd text) left₅ (verdict-passed j₅ e₆)
-
-                        module _ {ended : Stage} (j₆ : Judged (endChecks (lines text)) (λ after. after ≡ atEnd) ended) where
-                          pub network-judged : Judged (networkChecks (lines text)) (Loaded text links movements times) ended
-                          network-judged =
-                              record {
-                                told = j₆ .told ∙ sym left₆;
-                                held = λ after e.
-                                    let held = j₅ .held _ e₆ in
-                                    rw (j₆ .held after e)
-                                    (record {
-                                      counted = held .reached .counted;
-                                      trams-start = held .reached .trams-start;
-                                      signals-start = held .reached .signals-start;
-                                      steps-start = held .steps-start;
-                                      link-table = j₂ .held _ e₃ .table;
-                                      movement-table = j₃ .held _ e₄ .table;
-                                      time-table = held .table;
-                                      holds = hold-of-passes (networkChecks (lines text)) (left₆ ∙ verdict-passed j₆ e);
-                                    });
-                              }
+                    module _ {times : List ℕ} {timed : Stage} (j₅ : Judged (timelineChecks (lines text)) (TimelineHeld text times) timed) where
+                      pub network-judged : Judged (networkChecks (lines text)) (Loaded text links movements times) timed
+                      network-judged =
+                          record {
+                            told = j₅ .told ∙ sym left₅;
+                            held = λ after e.
+                                let held = j₅ .held after e in
+                                record {
+                                  counted = held .counted;
+                                  trams-start = held .trams-start;
+                                  signals-start = held .signals-start;
+                                  past-start = held .past-start;
+                                  steps-start = held .steps-start;
+                                  link-table = j₂ .held _ e₃ .table;
+                                  movement-table = j₃ .held _ e₄ .table;
+                                  time-table = held .time-table;
+                                  holds = hold-of-passes (networkChecks (lines text)) (left₅ ∙ verdict-passed j₅ e);
+                                };
+                          }
 
 -- ---- the answer
 module _ {text : List ℕ} {stage : Stage} {links movements times : List ℕ} (got : Judged (networkChecks (lines text)) (Loaded text links movements times) stage) where

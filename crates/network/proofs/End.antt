@@ -12,7 +12,7 @@ use Rattle.search.proofs.Laws.{first-all, checked-passes, checked-refused, hold
 use Rattle.records.specs.Lines.{Line, lines}
 use Rattle.records.specs.Reading.{atEnd}
 use Rattle.records.proofs.Laws.{starts-end}
-use Rattle.model.specs.Network.{linkCount, stepCount, stepLine}
+use Rattle.model.specs.Network.{linkCount, stepCount, onTimeline, timelineLine, stepLine}
 use Rattle.model.specs.Table.{isForm, letterS, stepChecks}
 use Rattle.tables.specs.declared.Reading.{Reading}
 use Rattle.tables.specs.declared.Stage.the-variants.{Passed, Refused}
@@ -25,7 +25,7 @@ use Rattle.network.specs.Loading.{endChecks, EndAsked}
 
 -- all lines of a network whose `S` lines pass are there
 pub lines-within : (network : List Line) → 1 ≤ stepCount network → verdict (blockChecks (stepBlock network)) ≡ Passes → stepLine network (stepCount network) ≤ length network
-unfolding verdict Hold stepChecks isForm stepLine
+unfolding verdict Hold stepChecks isForm stepLine timelineLine onTimeline
 lines-within network some e =
     let last = stepCount network - 1 in
     let h : Hold (stepChecks network last) = hold-of-passes (stepChecks network last) (first-all (λ n. verdict (stepChecks network n)) (stepCount network) e last (omega arith)) in

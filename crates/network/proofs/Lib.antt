@@ -1,3 +1,4 @@
 mod First
+mod Timeline
 mod End
 mod Chain

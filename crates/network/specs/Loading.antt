@@ -1,5 +1,5 @@
 -- What the reading of a whole network asks and holds. Assumes nothing.
-use Prim.Native.Nat.{ℕ, suc, _≤_}
+use Prim.Native.Nat.{ℕ, suc, _≤_, _<_}
 use mathlib.Core.Path.{_≡_}
 use mathlib.Core.List.{List}
 use lib.Dec.{eqb}
@@ -7,12 +7,13 @@ use lib.ListN.{length}
 use Rattle.search.specs.Checks.{Checks, check, each, _then_, Hold}
 use Rattle.records.specs.Lines.{Line, lines}
 use Rattle.records.specs.Reading.{Starts}
-use Rattle.model.specs.Network.{maxSignals, stepCount, tramCount, tramLine, signalLine, stepLine}
+use Rattle.model.specs.Network.{maxSignals, linkCount, stepCount, tramCount, tramLine, signalLine, timelineLine, stepLine, capacity, standing, travelTime}
 use Rattle.model.specs.Table.{tramPhaseChecks, networkChecks}
 use Rattle.tables.specs.declared.Reading.{Reading}
-use Rattle.tables.specs.Blocks.{blockChecks, tramBlock, signalBlock}
+use Rattle.tables.specs.Blocks.{blockChecks, tramBlock, signalBlock, pastBlock, stepBlock}
 use Rattle.tables.specs.Fields.{linkTableSize, movementTableSize, timeTableSize}
 use Rattle.tables.specs.Tables.{Reached, CountsHold, LinkTable, MovementTable, TimeTable}
+use Rattle.network_past.specs.Past.{pastEndChecks}
 
 -- the `T` and the `G` lines, and the phases of the `T` lines
 abbrev pub firstChecks : List Line → Checks
@@ -34,17 +35,38 @@ pub record EndAsked (text : List ℕ) (reading : Reading) : Type 0 where
   pub reached : Reached text (stepLine (lines text) (stepCount (lines text))) reading
   pub within : stepLine (lines text) (stepCount (lines text)) ≤ length (lines text)
 
+-- the `H` and the `S` lines, the end, and the past
+abbrev pub timelineChecks : List Line → Checks
+timelineChecks network = blockChecks (pastBlock network) then blockChecks (stepBlock network) then endChecks network then pastEndChecks network
+
+-- the text after the `M` lines, whose links have passed
+pub record TimelineAsked (text : List ℕ) (reading : Reading) (links times : List ℕ) : Type 0 where
+  pub reached : Reached text (timelineLine (lines text) 0) reading
+  pub link-table : LinkTable (lines text) links
+  pub limits : (i : ℕ) → i < linkCount (lines text) → (capacity (lines text) i ≤ 2_000_000_000) × ((standing (lines text) i ≤ capacity (lines text) i) × (1 ≤ travelTime (lines text) i))
+  pub room : length times ≡ timeTableSize
+
+-- the whole text has passed
+pub record TimelineHeld (text times : List ℕ) (reading : Reading) : Type 0 where
+  pub counted : CountsHold (lines text) (reading .counts)
+  pub trams-start : Starts text (reading .«trams_at») (tramLine (lines text) 0)
+  pub signals-start : Starts text (reading .«signals_at») (signalLine (lines text) 0)
+  pub past-start : Starts text (reading .«past_at») (timelineLine (lines text) 0)
+  pub steps-start : Starts text (reading .«steps_at») (stepLine (lines text) 0)
+  pub time-table : TimeTable (lines text) times
+
 -- the room of the tables of the largest network
 pub record Rooms (links movements times : List ℕ) : Type 0 where
   pub link-room : length links ≡ linkTableSize
   pub movement-room : length movements ≡ movementTableSize
   pub time-room : length times ≡ timeTableSize
 
--- a network that has passed: its counts, the places where its `T`, its `G` and its `S` lines start, and its tables
+-- a network that has passed: its counts, the places where its `T`, its `G`, its `H` and its `S` lines start, and its tables
 pub record Loaded (text links movements times : List ℕ) (reading : Reading) : Type 0 where
   pub counted : CountsHold (lines text) (reading .counts)
   pub trams-start : Starts text (reading .«trams_at») (tramLine (lines text) 0)
   pub signals-start : Starts text (reading .«signals_at») (signalLine (lines text) 0)
+  pub past-start : Starts text (reading .«past_at») (timelineLine (lines text) 0)
   pub steps-start : Starts text (reading .«steps_at») (stepLine (lines text) 0)
   pub link-table : LinkTable (lines text) links
   pub movement-table : MovementTable (lines text) movements

@@ -1,4 +1,4 @@
-// Reads a whole network text into tables and judges it: refusals 1 to 6 and 28.
+// Reads a whole network text into tables and judges it: refusals 1 to 6, 28 and 30.
 ghost use mathlib.Core.Path.{_≡_};
 ghost use Rattle.records.specs.Lines.{lines};
 ghost use Rattle.model.specs.Table.{networkChecks};
@@ -6,10 +6,11 @@ ghost use Rattle.model.specs.Calls.{checkNetwork};
 ghost use Rattle.model.specs.Guarantees.{NetworkPromises};
 ghost use Rattle.tables.specs.Tables.{Judged};
 ghost use Rattle.network_signals.specs.Stages.{SignalsHeld};
-ghost use Rattle.network.specs.Loading.{firstChecks, FirstAsked, endChecks, EndAsked, Rooms, Loaded};
+ghost use Rattle.network.specs.Loading.{firstChecks, FirstAsked, endChecks, EndAsked, timelineChecks, TimelineAsked, TimelineHeld, Rooms, Loaded};
 use search::Refusal;
 use search::Verdict;
 use tables::LINK_TABLE_SIZE;
+use tables::MAX_LINKS;
 use tables::MAX_SIGNALS;
 use tables::MOVEMENT_TABLE_SIZE;
 use tables::Reading;
@@ -46,7 +47,28 @@ fn read_trams_and_signals(text: &[u8], reading: Reading, phases: &mut [u32]) -> 
     network_trams::check_tram_phases(&trams, phases, reading)
 }
 
-// Reads a network into tables of its links, its movements and the time of each boundary, and judges it: refusals 1 to 6 and 28.
+// The `H` and the `S` lines, the end of the text and, last of all, what the past must keep (30).
+fn read_timeline(text: &[u8], reading: Reading, links: &[u32], times: &mut [u32]) -> Stage
+    requires { ⌜ TimelineAsked (now text) reading (now links) (now times) ⌝ }
+    ensures { λ r. ⌜ Judged (timelineChecks (lines (now (text .entry)))) (TimelineHeld (now (text .entry)) (now (times .exit))) r ⌝ }
+{
+    let mut demands = [0u32; MAX_LINKS];
+    let stage = network_past::read_past(text, reading, times);
+    let Stage::Passed(reading) = stage else {
+        return stage;
+    };
+    let stage = network_steps::read_steps(text, reading, times, &mut demands);
+    let Stage::Passed(reading) = stage else {
+        return stage;
+    };
+    let stage = check_end(text, reading);
+    let Stage::Passed(reading) = stage else {
+        return stage;
+    };
+    network_past::check_past(text, reading, links, times, &demands)
+}
+
+// Reads a network into tables of its links, its movements and the time of each boundary of the timeline, and judges it: refusals 1 to 6, 28 and 30.
 pub fn load_network(
     text: &[u8],
     links: &mut [u32],
@@ -77,14 +99,10 @@ pub fn load_network(
     let Stage::Passed(reading) = stage else {
         return stage;
     };
-    let stage = network_steps::read_steps(text, reading, times);
-    let Stage::Passed(reading) = stage else {
-        return stage;
-    };
-    check_end(text, reading)
+    read_timeline(text, reading, links, times)
 }
 
-// Check a network: refusals 1 to 6 and 28.
+// Check a network: refusals 1 to 6, 28 and 30.
 pub fn check_network(text: &[u8]) -> Verdict
     ensures { λ r. ⌜ r ≡ checkNetwork (lines (now (text .entry))) ⌝ }
     ensures { λ r. ⌜ NetworkPromises r ⌝ }

@@ -1,6 +1,6 @@
 -- `network::load_network` meets its contract. Assumes nothing.
 use borrow.Author.Needs.{needs}
-use Rattle.network.proofs.Chain.{counts-stop, signals-asked, signals-stop, links-asked, links-stop, movements-asked, movements-stop, shares-ready, shares-stop, steps-asked, steps-stop, end-asked, network-judged}
+use Rattle.network.proofs.Chain.{counts-stop, signals-asked, signals-stop, links-asked, links-stop, movements-asked, movements-stop, shares-ready, shares-stop, timeline-asked, network-judged}
 use Rattle.network.proofs.load_network.Statement.{statement}
 use Rattle.network.proofs.load_network.Tie as tie
 
@@ -148,29 +148,11 @@ returns-5 c =
     let s = r1 .before .before .before .before .before in
     shares-stop (s .pre) (r1 .read-counts .ensures) (p1 .stage .given .1) (r2 .read-trams-and-signals .ensures) (p2 .stage2 .given .1) (r3 .read-links .ensures) (p3 .stage3 .given .1) (r4 .read-movements .ensures) (p4 .stage4 .given .1) (r5 .check-shares .ensures) (c .enum-told5 .given .1)
 
-read-steps-requires : tie.Need-read-steps-requires
-read-steps-requires c κs =
-    let p5 = c .before .before in
-    let r5 = p5 .before .before in
-    let p4 = r5 .before .before .before in
-    let r4 = p4 .before .before .before .before in
-    let p3 = r4 .before .before .before in
-    let r3 = p3 .before .before .before .before in
-    let p2 = r3 .before .before .before .before in
-    let r2 = p2 .before .before .before in
-    let p1 = r2 .before .before .before in
-    let r1 = p1 .before .before in
-    let s = r1 .before .before .before .before .before in
-    steps-asked (s .pre) (r1 .read-counts .ensures) (p1 .stage .given .1) (r2 .read-trams-and-signals .ensures) (p2 .stage2 .given .1) (r3 .read-links .ensures) (p3 .stage3 .given .1) (r4 .read-movements .ensures) (p4 .stage4 .given .1) (r5 .check-shares .ensures) (p5 .stage5 .given .1)
-
-enum-known-stage-6 : tie.Need-enum-known-stage-6
-enum-known-stage-6 c = search needs
-
-enum-told-6 : tie.Need-enum-told-6
-enum-told-6 c = search needs
+read-timeline-requires : tie.Need-read-timeline-requires
+read-timeline-requires c κs = timeline-asked (c .before .before .before .before .before .before .before .before .before .before .before .before .before .before .before .before .before .before .before .before .before .before .before .before .before .before .before .before .before .before .before .before .before .before .before .before .pre) (c .before .before .before .before .before .before .before .before .before .before .before .before .before .before .before .before .before .before .before .before .before .before .before .before .before .before .before .before .before .before .before .read-counts .ensures) (c .before .before .before .before .before .before .before .before .before .before .before .before .before .before .before .before .before .before .before .before .before .before .before .before .before .before .before .before .before .stage .given .1) (c .before .before .before .before .before .before .before .before .before .before .before .before .before .before .before .before .before .before .before .before .before .before .before .before .before .before .read-trams-and-signals .ensures) (c .before .before .before .before .before .before .before .before .before .before .before .before .before .before .before .before .before .before .before .before .before .before .before .stage2 .given .1) (c .before .before .before .before .before .before .before .before .before .before .before .before .before .before .before .before .before .before .before .read-links .ensures) (c .before .before .before .before .before .before .before .before .before .before .before .before .before .before .before .stage3 .given .1) (c .before .before .before .before .before .before .before .before .before .before .before .before .read-movements .ensures) (c .before .before .before .before .before .before .before .before .stage4 .given .1) (c .before .before .before .before .before .check-shares .ensures) (c .before .before .before .stage5 .given .1)
 
 same-length-6 : tie.Need-same-length-6
-same-length-6 c = c .before .before .before .before .before .before .before .before .before .before .before .before .before .before .before .before .before .before .before .before .before .before .before .read-links .kept .1 .1 .1 .0
+same-length-6 c = c .before .before .before .before .before .before .before .before .before .before .before .before .before .before .before .before .before .before .before .before .before .before .read-links .kept .1 .1 .1 .0
 
 same-length-7 : tie.Need-same-length-7
 same-length-7 c = search needs
@@ -179,64 +161,7 @@ same-length-8 : tie.Need-same-length-8
 same-length-8 c = search needs
 
 returns-6 : tie.Need-returns-6
-returns-6 c =
-    let r6 = c .before .before .before .before in
-    let p5 = r6 .before .before .before in
-    let r5 = p5 .before .before in
-    let p4 = r5 .before .before .before in
-    let r4 = p4 .before .before .before .before in
-    let p3 = r4 .before .before .before in
-    let r3 = p3 .before .before .before .before in
-    let p2 = r3 .before .before .before .before in
-    let r2 = p2 .before .before .before in
-    let p1 = r2 .before .before .before in
-    let r1 = p1 .before .before in
-    let s = r1 .before .before .before .before .before in
-    steps-stop (s .pre) (r1 .read-counts .ensures) (p1 .stage .given .1) (r2 .read-trams-and-signals .ensures) (p2 .stage2 .given .1) (r3 .read-links .ensures) (p3 .stage3 .given .1) (r4 .read-movements .ensures) (p4 .stage4 .given .1) (r5 .check-shares .ensures) (p5 .stage5 .given .1) (r6 .read-steps .ensures) (c .enum-told6 .given .1)
-
-check-end-requires : tie.Need-check-end-requires
-check-end-requires c κs =
-    let p6 = c .before in
-    let r6 = p6 .before .before .before .before in
-    let p5 = r6 .before .before .before in
-    let r5 = p5 .before .before in
-    let p4 = r5 .before .before .before in
-    let r4 = p4 .before .before .before .before in
-    let p3 = r4 .before .before .before in
-    let r3 = p3 .before .before .before .before in
-    let p2 = r3 .before .before .before .before in
-    let r2 = p2 .before .before .before in
-    let p1 = r2 .before .before .before in
-    let r1 = p1 .before .before in
-    let s = r1 .before .before .before .before .before in
-    end-asked (s .pre) (r1 .read-counts .ensures) (p1 .stage .given .1) (r2 .read-trams-and-signals .ensures) (p2 .stage2 .given .1) (r3 .read-links .ensures) (p3 .stage3 .given .1) (r4 .read-movements .ensures) (p4 .stage4 .given .1) (r5 .check-shares .ensures) (p5 .stage5 .given .1) (r6 .read-steps .ensures) (p6 .stage6 .given .1)
-
-same-length-9 : tie.Need-same-length-9
-same-length-9 c = c .before .before .before .before .before .before .before .before .before .before .before .before .before .before .before .before .before .before .before .before .before .before .before .before .before .read-links .kept .1 .1 .1 .0
-
-same-length-10 : tie.Need-same-length-10
-same-length-10 c = c .before .before .before .before .before .before .before .before .before .before .before .before .before .before .before .before .before .before .read-movements .kept .1 .1 .0
-
-same-length-11 : tie.Need-same-length-11
-same-length-11 c = search needs
-
-returns-7 : tie.Need-returns-7
-returns-7 c =
-    let r7 = c in
-    let p6 = r7 .before .before in
-    let r6 = p6 .before .before .before .before in
-    let p5 = r6 .before .before .before in
-    let r5 = p5 .before .before in
-    let p4 = r5 .before .before .before in
-    let r4 = p4 .before .before .before .before in
-    let p3 = r4 .before .before .before in
-    let r3 = p3 .before .before .before .before in
-    let p2 = r3 .before .before .before .before in
-    let r2 = p2 .before .before .before in
-    let p1 = r2 .before .before .before in
-    let r1 = p1 .before .before in
-    let s = r1 .before .before .before .before .before in
-    network-judged (s .pre) (r1 .read-counts .ensures) (p1 .stage .given .1) (r2 .read-trams-and-signals .ensures) (p2 .stage2 .given .1) (r3 .read-links .ensures) (p3 .stage3 .given .1) (r4 .read-movements .ensures) (p4 .stage4 .given .1) (r5 .check-shares .ensures) (p5 .stage5 .given .1) (r6 .read-steps .ensures) (p6 .stage6 .given .1) (r7 .check-end .ensures)
+returns-6 c = network-judged (c .before .before .before .before .before .before .before .before .before .before .before .before .before .before .before .before .before .before .before .before .before .before .before .before .before .before .before .before .before .before .before .before .before .before .before .before .before .before .before .pre) (c .before .before .before .before .before .before .before .before .before .before .before .before .before .before .before .before .before .before .before .before .before .before .before .before .before .before .before .before .before .before .before .before .before .before .read-counts .ensures) (c .before .before .before .before .before .before .before .before .before .before .before .before .before .before .before .before .before .before .before .before .before .before .before .before .before .before .before .before .before .before .before .before .stage .given .1) (c .before .before .before .before .before .before .before .before .before .before .before .before .before .before .before .before .before .before .before .before .before .before .before .before .before .before .before .before .before .read-trams-and-signals .ensures) (c .before .before .before .before .before .before .before .before .before .before .before .before .before .before .before .before .before .before .before .before .before .before .before .before .before .before .stage2 .given .1) (c .before .before .before .before .before .before .before .before .before .before .before .before .before .before .before .before .before .before .before .before .before .before .read-links .ensures) (c .before .before .before .before .before .before .before .before .before .before .before .before .before .before .before .before .before .before .stage3 .given .1) (c .before .before .before .before .before .before .before .before .before .before .before .before .before .before .before .read-movements .ensures) (c .before .before .before .before .before .before .before .before .before .before .before .stage4 .given .1) (c .before .before .before .before .before .before .before .before .check-shares .ensures) (c .before .before .before .before .before .before .stage5 .given .1) (c .before .before .read-timeline .ensures)
 
 pub load-network-spec : {M : Type 1} → statement M
 load-network-spec =
@@ -269,15 +194,8 @@ load-network-spec =
     same-length-4
     same-length-5
     returns-5
-    read-steps-requires
-    enum-known-stage-6
-    enum-told-6
+    read-timeline-requires
     same-length-6
     same-length-7
     same-length-8
-    returns-6
-    check-end-requires
-    same-length-9
-    same-length-10
-    same-length-11
-    returns-7)
+    returns-6)

@@ -44,7 +44,7 @@ same-length-2 : tie.Need-same-length-2
 same-length-2 c = search needs
 
 returns-3 : tie.Need-returns-3
-returns-3 c = search (first-judged, needs)
+returns-3 c = first-judged (c .before .before .before .before .before .before .before .before .before .before .before .before .before .before .before .before .before .before .pre) (c .before .before .before .before .before .before .before .before .before .before .before .before .before .before .read-trams .ensures) (c .before .before .before .before .before .before .before .before .before .before .before .stage .given .1) (c .before .before .before .before .before .before .before .before .read-signals .ensures) (c .before .before .before .before .stage2 .given .1) (c .check-tram-phases .ensures)
 
 pub read-trams-and-signals-spec : {M : Type 1} → statement M
 read-trams-and-signals-spec =
