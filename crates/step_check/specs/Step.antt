@@ -23,7 +23,7 @@ rowFrom counts ledger n = take (length ledger - 2 * n * counts .links) (drop (2 
 abbrev pub madeRow : Counts → List ℕ → List ℕ → List ℕ → List ℕ → ℕ → List ℕ
 madeRow counts line movements ledger row n = nextRow counts line movements (rowFrom counts ledger n) ++ drop (2 * counts .links) row
 
-module _ (counts : Counts) (signals : List Signal) (line step links movements phases asked ledger times arrivals row : List ℕ) (n : ℕ) where
+module _ (counts : Counts) (signals : List Signal) (line step links movements phases asked ledger times arrivals curves row : List ℕ) (n : ℕ) where
   -- the verdicts on rules 10, 29 and 11 to 14, on 15 and 25 to 27, and on 16 to 18, told at line n + 1 of the plan
   unfoldable pub signalVerdict : Verdict
   signalVerdict = verdict (table (suc n) (signalRulesIn signals (counts .signals) phases asked (lengthIn step)))
@@ -32,7 +32,7 @@ module _ (counts : Counts) (signals : List Signal) (line step links movements ph
   limitVerdict = verdict (table (suc n) (limitRulesIn counts line step links movements phases))
 
   unfoldable pub sumVerdict : Verdict
-  sumVerdict = verdict (table (suc n) (sumRulesIn counts line links movements (rowFrom counts ledger n) (madeRow counts line movements ledger row n) ledger times arrivals (suc n)))
+  sumVerdict = verdict (table (suc n) (sumRulesIn counts line links movements (rowFrom counts ledger n) (madeRow counts line movements ledger row n) ledger times arrivals curves (suc n)))
 
   -- What the judgement of step n asks: the tables; and that the sums fit once the limits of the volumes have passed.
   pub record JudgeAsked : Type 0 where
@@ -41,7 +41,7 @@ module _ (counts : Counts) (signals : List Signal) (line step links movements ph
     pub few-steps : n < maxSteps
     pub room : 2 * n * counts .links ≤ length ledger
     pub fits : limitVerdict ≡ Passes → Fits counts line movements (rowFrom counts ledger n) row
-    pub sums : limitVerdict ≡ Passes → SumTables counts line links movements (rowFrom counts ledger n) (madeRow counts line movements ledger row n) ledger times arrivals (suc n)
+    pub sums : limitVerdict ≡ Passes → SumTables counts line links movements (rowFrom counts ledger n) (madeRow counts line movements ledger row n) ledger times arrivals curves (suc n)
 
   -- .. and promises: the first broken rule; and where all are kept, the row after the step
   pub record Judged (result : Verdict) (after : List ℕ) : Type 0 where

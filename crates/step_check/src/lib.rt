@@ -17,12 +17,13 @@ pub fn judge_step(
     ledger: &[u32],
     times: &[u32],
     arrivals: &[usize],
+    curves: &[u32],
     row: &mut [u32],
     counts: Counts,
     n: usize,
 ) -> Verdict
-    requires { ⌜ JudgeAsked counts signals (now line) (now step) (now links) (now movements) (now phases) (now asked) (now ledger) (now times) (now arrivals) (now row) n ⌝ }
-    ensures { λ r. ⌜ Judged counts signals (now (line .entry)) (now (step .entry)) (now (links .entry)) (now (movements .entry)) (now (phases .entry)) (now (asked .entry)) (now (ledger .entry)) (now (times .entry)) (now (arrivals .entry)) (now (row .entry)) n r (now (row .exit)) ⌝ }
+    requires { ⌜ JudgeAsked counts signals (now line) (now step) (now links) (now movements) (now phases) (now asked) (now ledger) (now times) (now arrivals) (now curves) (now row) n ⌝ }
+    ensures { λ r. ⌜ Judged counts signals (now (line .entry)) (now (step .entry)) (now (links .entry)) (now (movements .entry)) (now (phases .entry)) (now (asked .entry)) (now (ledger .entry)) (now (times .entry)) (now (arrivals .entry)) (now (curves .entry)) (now (row .entry)) n r (now (row .exit)) ⌝ }
 {
     let number = (n + 1) as u32;
     let found = step_signals::first_signal_break(
@@ -60,6 +61,7 @@ pub fn judge_step(
         ledger,
         times,
         arrivals,
+        curves,
         counts,
         n + 1,
     )

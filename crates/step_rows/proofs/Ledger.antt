@@ -1,17 +1,29 @@
 -- The rows of a ledger, read through a part of it or from a row that is lent. Assumes nothing.
-use mathlib.Core.Path.{_≡_, refl, ap, _∙_}
+use mathlib.Core.Path.{_≡_, refl, sym, ap, _∙_}
 use mathlib.Core.List.{List, [], _∷_, _++_}
-use Prim.Native.Nat.{ℕ, zero, suc, _+_, _*_, _≤_, _<_}
+use Prim.Native.Nat.{ℕ, zero, suc, _+_, _*_, _-_, _/_, _%_, _≤_, _<_}
+use native.Mathlib.Decide.{decLe, ℕ-discrete}
 use native.Mathlib.Omega.{arith}
-use lib.ListN.{getD, take, drop, List·getD-append}
-use lib.Seq.{getD-drop, getD-take}
+use lib.ListN.{length, getD, take, drop, List·getD-append}
+use lib.Seq.{getD-drop, getD-take, getD-append-add, ext-getD}
 use Rattle.records.specs.Lines.{Line}
 use Rattle.model.specs.Sum.{joined}
 use Rattle.model.specs.Network.{linkCount}
 use Rattle.model.specs.Flows.{entered, left, rowOf, row}
 use Rattle.model.specs.Calls.{written}
-use Rattle.model.proofs.Rows.{length-row, row-at, written-at, written-next}
+use Rattle.model.proofs.Rows.{length-row, row-at, written-at, length-written, written-next}
 use Rattle.step_rows.specs.Rows.{pairs, RowHolds}
+
+-- past row 0 a ledger with this row alone is as it was
+written-past : (network plan : List Line) (old : List ℕ) (k : ℕ) → 2 * linkCount network ≤ k → getD (written network plan old 1) k 0 ≡ getD old k 0
+unfolding written joined
+written-past network plan old k h =
+    let z : 2 * 1 * linkCount network ≡ 2 * linkCount network = omega arith in
+    let e : k ≡ length (row network plan 0) + (k - 2 * linkCount network) = omega (arith, length-row network plan 0) in
+    let f : 2 * linkCount network + (k - 2 * linkCount network) ≡ k = omega arith in
+    rw z
+    (ap (λ x. getD (row network plan 0 ++ drop (2 * linkCount network) old) x 0) e ∙ getD-append-add (row network plan 0) (drop (2 * linkCount network) old) (k - 2 * linkCount network) 0
+    ∙ getD-drop (2 * linkCount network) old (k - 2 * linkCount network) 0 ∙ ap (λ x. getD old x 0) f)
 
 module _ (network plan : List Line) where
   row-of-pairs : (n k : ℕ) → rowOf network plan n k ≡ pairs (entered network plan n) (left network plan n) k
@@ -42,10 +54,31 @@ module _ (network plan : List Line) where
             ∙ ap (λ x. getD (written network plan old m) x 0) e ∙ written-at network plan old m n i h u .1;
       }
 
-  -- `write_start` and `write_row` leave the ledger of the paper with one row more
-  pub first-written : (old : List ℕ) {out : List ℕ} → out ≡ row network plan 0 ++ drop (2 * linkCount network) old → out ≡ written network plan old 1
-  unfolding written joined
-  first-written old e = let z : 2 * 1 * linkCount network ≡ 2 * linkCount network = omega arith in e ∙ rw z
+  -- a ledger whose front is row 0 is that of the paper with this row
+  pub first-written : (old out : List ℕ) → length out ≡ length old → 2 * linkCount network ≤ length old → RowHolds network plan 0 out
+      → ((k : ℕ) → 2 * linkCount network ≤ k → getD out k 0 ≡ getD old k 0) → out ≡ written network plan old 1
+  first-written old out size room holds kept = ext-getD 0 out (written network plan old 1) (size ∙ sym (length-written network plan old 1 (omega arith))) (λ k l. by k)
+    where
+      in-row : (k : ℕ) → k < 2 * linkCount network → getD out k 0 ≡ getD (written network plan old 1) k 0
+      in-row k l =
+          let i = k / 2 in
+          let u : i < linkCount network = omega arith in
+          let at = written-at network plan old 1 0 i (omega arith) u in
+          elim (ℕ-discrete (k % 2) 0) [
+            | yes z ↦
+                let e : k ≡ 2 * i = omega arith in
+                let f : 2 * 0 * linkCount network + 2 * i ≡ 2 * i = omega arith in
+                rw e (holds .entered-at i u ∙ sym (rw f at (at .0)))
+            | no z ↦
+                let e : k ≡ 2 * i + 1 = omega arith in
+                let f : 2 * 0 * linkCount network + 2 * i + 1 ≡ 2 * i + 1 = omega arith in
+                rw e (holds .left-at i u ∙ sym (rw f at (at .1)))
+          ]
+
+      by : (k : ℕ) → getD out k 0 ≡ getD (written network plan old 1) k 0
+      by k = elim (decLe (2 * linkCount network) k) [ yes h ↦ kept k h ∙ sym (written-past network plan old k h) | no h ↦ in-row k (omega arith) ]
+
+  -- `write_row` leaves the ledger of the paper with one row more
 
   pub next-written : (old cells : List ℕ) (m : ℕ) {ledger out : List ℕ} → ledger ≡ written network plan old m → take (2 * linkCount network) cells ≡ row network plan m
       → out ≡ take (2 * m * linkCount network) ledger ++ (take (2 * linkCount network) cells ++ drop (2 * m * linkCount network + 2 * linkCount network) ledger)

@@ -5,7 +5,7 @@ use Prim.Native.Nat.{ℕ, _+_, _*_, _<_}
 use native.Mathlib.Omega.{arith}
 use lib.ListN.{length, getD, drop, List·getD-append}
 use Rattle.tables.specs.declared.Counts.{Counts}
-use Rattle.step_rows.specs.Rows.{baseEntered, baseLeft, nextEntered, nextLeft, nextRow, startRow, pairs, Base, Fits, Room, Added}
+use Rattle.step_rows.specs.Rows.{baseEntered, baseLeft, nextEntered, nextLeft, nextRow, pairs, Base, Fits, Room, Added}
 use Rattle.step_rows.proofs.Lists.{length-pairs, pairs-left, begun-entered, begun-left, begun-rest, begun-length, begun-is}
 
 module _ (counts : Counts) (line movements previous d : List ℕ) (fits : Fits counts line movements previous d) where
@@ -48,10 +48,6 @@ module _ (counts : Counts) (line movements previous d : List ℕ) (fits : Fits c
         (λ i l. omega (arith, added .entered i l, base-entered i l))
         (λ i l. omega (arith, added .left i l, base-left i l))
         (λ k l. added .rest k l ∙ ap (λ r. getD r k 0) e ∙ begun-rest _ _ d (counts .links) k l)
-
-pub length-start : (counts : Counts) (links : List ℕ) → length (startRow counts links) ≡ 2 * counts .links
-unfolding startRow
-length-start counts links = length-pairs _ _ (counts .links)
 
 pub length-next : (counts : Counts) (line movements previous : List ℕ) → length (nextRow counts line movements previous) ≡ 2 * counts .links
 unfolding nextRow

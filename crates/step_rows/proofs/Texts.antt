@@ -11,13 +11,13 @@ use Rattle.tables.specs.declared.Counts.{Counts}
 use Rattle.model.specs.Sum.{sum, only}
 use Rattle.model.specs.Network.{linkCount, movementCount}
 use Rattle.model.specs.Flows.{admitted, letOut, moved, movedInto, movedFrom, inflow, outflow, entered, left, row, held, vehicles, allAdmitted, allLetOut}
-use Rattle.tables.specs.Tables.{CountsHold, LinkTable, MovementTable, PlanNumbers}
-use Rattle.tables.proofs.Tables.{standing-at, from-link-at, to-link-at, admitted-at, let-out-at, moved-at}
+use Rattle.tables.specs.Tables.{CountsHold, MovementTable, PlanNumbers}
+use Rattle.tables.proofs.Tables.{from-link-at, to-link-at, admitted-at, let-out-at, moved-at}
 use Rattle.model.proofs.Sums.{sum-ext}
 use Rattle.model.proofs.Accepted.{ValidNetwork}
 use Rattle.model.proofs.Limits.{movement-limits}
-use Rattle.step_rows.specs.Rows.{movedBy, nextEntered, nextLeft, nextRow, startRow, pairs, Ends, Named, Fits, RowHolds}
-use Rattle.step_rows.proofs.Sums.{sum-none}
+use Rattle.model.proofs.Timeline.{entered-suc, left-suc}
+use Rattle.step_rows.specs.Rows.{movedBy, nextEntered, nextLeft, nextRow, pairs, Ends, Named, Fits, RowHolds}
 use Rattle.step_rows.proofs.Lists.{pairs-ext}
 use Rattle.step_rows.proofs.Next.{length-next}
 use Rattle.step_rows.proofs.Ledger.{row-pairs, row-holds}
@@ -31,15 +31,6 @@ module _ {network : List Line} {counts : Counts} (counted : CountsHold network c
       ends : (j : ℕ) → j < movementCount network → Ends counts movements j
       ends j l =
           omega (arith, from-link-at t j l, to-link-at t j l, movement-limits network valid j l)
-
-  -- row 0
-  pub start-row-is : {links : List ℕ} → LinkTable network links → (plan : List Line) → startRow counts links ≡ row network plan 0
-  unfolding startRow entered left
-  start-row-is {links} t plan =
-      rw (counted .links)
-      (pairs-ext _ _ (entered network plan 0) (left network plan 0) (linkCount network)
-      (λ i l. standing-at t i l ∙ omega (arith, sum-none (λ m. inflow network plan m i))) (λ i l. sym (sum-none (λ m. outflow network plan m i)))
-      ∙ sym (row-pairs network plan 0))
 
   module _ {plan : List Line} {n : ℕ} {line : List ℕ} (numbers : PlanNumbers network plan n line) where
     pub admitted-is : (i : ℕ) → i < linkCount network → admittedIn counts line i ≡ admitted network plan n i
@@ -75,12 +66,12 @@ module _ {network : List Line} {counts : Counts} (counted : CountsHold network c
 
       module _ {previous : List ℕ} (before : RowHolds network plan n previous) where
         pub next-entered-is : (i : ℕ) → i < linkCount network → nextEntered counts line movements previous i ≡ entered network plan (suc n) i
-        unfolding nextEntered entered sum inflow
-        next-entered-is i l = omega (arith, before .entered-at i l, admitted-is i l, moved-into-is i)
+        unfolding nextEntered inflow
+        next-entered-is i l = omega (arith, entered-suc network plan n i, before .entered-at i l, admitted-is i l, moved-into-is i)
 
         pub next-left-is : (i : ℕ) → i < linkCount network → nextLeft counts line movements previous i ≡ left network plan (suc n) i
-        unfolding nextLeft left sum outflow
-        next-left-is i l = omega (arith, before .left-at i l, let-out-is i l, moved-from-is i)
+        unfolding nextLeft outflow
+        next-left-is i l = omega (arith, left-suc network plan n i, before .left-at i l, let-out-is i l, moved-from-is i)
 
         pub next-row-is : nextRow counts line movements previous ≡ row network plan (suc n)
         unfolding nextRow

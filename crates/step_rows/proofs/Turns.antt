@@ -1,16 +1,15 @@
 -- One turn of each loop over a row. Assumes nothing.
 use mathlib.Core.Path.{_≡_, ap₂}
 use mathlib.Core.List.{List, _++_}
-use Prim.Native.Nat.{ℕ, _+_, _*_, _-_, _≤_, _<_}
+use Prim.Native.Nat.{ℕ, _+_, _*_, _-_, _<_}
 use native.Mathlib.Omega.{arith}
-use lib.ListN.{length, drop, set}
+use lib.ListN.{drop, set}
 use Rattle.model.specs.Sum.{sum}
 use Rattle.tables.specs.declared.Counts.{Counts}
-use Rattle.tables.specs.Fields.{rowSize, standingIn, admittedIn, letOutIn, enteredIn, leftIn}
+use Rattle.tables.specs.Fields.{admittedIn, letOutIn, enteredIn, leftIn}
 use Rattle.step_rows.specs.Rows.{pairs, baseEntered, baseLeft, Base}
 use Rattle.step_rows.proofs.Lists.{begun-turn}
 use Rattle.step_rows.proofs.Sums.{sum-next}
-use Rattle.model.specs.Network.{maxLinks}
 
 -- the row begins with one link more
 module _ {counts : Counts} {line previous d : List ℕ} (base : Base counts line previous d) {n : ℕ} (h : n < counts .links) where
@@ -24,10 +23,6 @@ module _ {counts : Counts} {line previous d : List ℕ} (base : Base counts line
       → p ≡ pairs (baseEntered counts line previous) (baseLeft counts line previous) n ++ drop (2 * n) d
       → set (set p (2 * n) (e + a)) (2 * n + 1) (l + o) ≡ pairs (baseEntered counts line previous) (baseLeft counts line previous) (n + 1) ++ drop (2 * (n + 1)) d
   base-turn was more gone out q = begun-turn _ _ d n q (omega (arith, base .row-size, base .few .links)) (ap₂ _+_ was more) (ap₂ _+_ gone out)
-
-pub start-turn : (links d : List ℕ) (n : ℕ) {count s : ℕ} {p : List ℕ} → count ≤ maxLinks → length d ≡ rowSize → n < count → s ≡ standingIn links n
-    → p ≡ pairs (standingIn links) (λ k. 0) n ++ drop (2 * n) d → set (set p (2 * n) s) (2 * n + 1) 0 ≡ pairs (standingIn links) (λ k. 0) (n + 1) ++ drop (2 * (n + 1)) d
-start-turn links d n few size h e q = begun-turn (standingIn links) (λ k. 0) d n q (omega arith) e (omega arith)
 
 -- what one link more holds
 pub held-turn : (row : List ℕ) (n : ℕ) {total e l x : ℕ} → total ≡ sum n (λ k. enteredIn row k - leftIn row k) → e ≡ enteredIn row n → l ≡ leftIn row n → x ≡ e - l

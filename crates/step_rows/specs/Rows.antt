@@ -11,7 +11,7 @@ use Rattle.model.specs.Network.{linkCount}
 use Rattle.model.specs.Flows.{entered, left}
 use Rattle.tables.specs.declared.Counts.{Counts}
 use Rattle.tables.specs.Places.{Few}
-use Rattle.tables.specs.Fields.{lineSize, movementTableSize, rowSize, standingIn, linkIn, admittedIn, letOutIn, movedIn, enteredIn, leftIn}
+use Rattle.tables.specs.Fields.{lineSize, movementTableSize, rowSize, linkIn, admittedIn, letOutIn, movedIn, enteredIn, leftIn}
 
 -- what the first m movements take from link i (side 0), or bring into it (side 1): a movement is from, to, rate, share
 abbrev pub movedBy : Counts → List ℕ → List ℕ → ℕ → ℕ → ℕ → ℕ
@@ -41,10 +41,6 @@ pairs e l (suc n) = pairs e l n ++ (e n ∷ l n ∷ [])
 unfoldable pub nextRow : Counts → List ℕ → List ℕ → List ℕ → List ℕ
 nextRow counts line movements previous =
     pairs (nextEntered counts line movements previous) (nextLeft counts line movements previous) (counts .links)
-
--- row 0: the standing start has entered each link, nothing has left
-unfoldable pub startRow : Counts → List ℕ → List ℕ
-startRow counts links = pairs (λ i. standingIn links i) (λ i. 0) (counts .links)
 
 -- movement j leaves one of the links and enters one of them
 pub record Ends (counts : Counts) (movements : List ℕ) (j : ℕ) : Type 0 where

@@ -6,10 +6,9 @@ ghost use lib.ListN.{length, getD, set, take, drop};
 ghost use Rattle.model.specs.Network.{maxLinks, maxMovements};
 ghost use Rattle.model.specs.Sum.{sum};
 ghost use Rattle.tables.specs.Places.{Few};
-ghost use Rattle.tables.specs.Fields.{linkTableSize, movementTableSize, rowSize, linkIn, enteredIn, leftIn};
-ghost use Rattle.step_rows.specs.Rows.{pairs, baseEntered, baseLeft, nextRow, startRow, Named, Base, Fits, Added, Room};
+ghost use Rattle.tables.specs.Fields.{movementTableSize, linkIn, enteredIn, leftIn};
+ghost use Rattle.step_rows.specs.Rows.{pairs, baseEntered, baseLeft, nextRow, Named, Base, Fits, Added, Room};
 use tables::Counts;
-use tables::ROW_SIZE;
 use tables::admitted;
 use tables::entered;
 use tables::index;
@@ -17,7 +16,6 @@ use tables::left;
 use tables::let_out;
 use tables::link_of;
 use tables::moved;
-use tables::standing;
 use tables::wide;
 
 // The link, from 0, that movement j leaves (side 0) or enters (side 1).
@@ -83,19 +81,6 @@ pub fn next_row(previous: &[u32], line: &[u32], movements: &[u32], counts: Count
     add_movements(row, line, movements, counts);
 }
 
-// Row 0: the standing start of each link, and nothing has left.
-fn start_row(links: &[u32], counts: Counts, row: &mut [u32])
-    requires { ⌜ (counts .links ≤ maxLinks) × (length (now links) ≡ linkTableSize) × (length (now row) ≡ rowSize) ⌝ }
-    ensures { λ _. ⌜ now (row .exit) ≡ startRow counts (now (links .entry)) ++ drop (2 * counts .links) (now (row .entry)) ⌝ }
-{
-    let mut i: usize = 0;
-    while i < counts.links {
-        row[2 * i] = standing(links, i);
-        row[2 * i + 1] = 0;
-        i += 1;
-    }
-}
-
 // The first count numbers of a row go to the front of a part of the ledger.
 fn copy_row(part: &mut [u32], row: &[u32], count: usize)
     requires { ⌜ (count ≤ length (now row)) × (count ≤ length (now part)) ⌝ }
@@ -114,16 +99,6 @@ pub fn write_row(ledger: &mut [u32], at: usize, row: &[u32], count: usize)
     ensures { λ _. ⌜ now (ledger .exit) ≡ take at (now (ledger .entry)) ++ (take count (now (row .entry)) ++ drop (at + count) (now (ledger .entry))) ⌝ }
 {
     copy_row(&mut ledger[at..], row, count);
-}
-
-// Row 0 goes into the ledger.
-pub fn write_start(ledger: &mut [u32], links: &[u32], counts: Counts)
-    requires { ⌜ (counts .links ≤ maxLinks) × (length (now links) ≡ linkTableSize) × (2 * counts .links ≤ length (now ledger)) ⌝ }
-    ensures { λ _. ⌜ now (ledger .exit) ≡ startRow counts (now (links .entry)) ++ drop (2 * counts .links) (now (ledger .entry)) ⌝ }
-{
-    let mut row = [0u32; ROW_SIZE];
-    start_row(links, counts, &mut row);
-    write_row(ledger, 0, &row, 2 * counts.links);
 }
 
 // The sum of count numbers of a line from index first on: what a step admits, or lets out, on all links.

@@ -11,15 +11,15 @@ use Rattle.tables.specs.declared.Counts.{Counts}
 use Rattle.tables.specs.Places.{Few}
 use Rattle.step_sums.specs.Sums.{keepsShare, leavesArrived, fitsCapacity, sumItems, sumTest, sumRuleIn, sumRulesIn}
 
-module _ (counts : Counts) (line links movements previous row ledger times arrivals : List ℕ) (boundary : ℕ) where
+module _ (counts : Counts) (line links movements previous row ledger times arrivals curves : List ℕ) (boundary : ℕ) where
   -- past rule 18 there is none to break
-  pub no-sum-test : (k item : ℕ) → 3 ≤ k → true ≡ sumTest counts line links movements previous row ledger times arrivals boundary k item
+  pub no-sum-test : (k item : ℕ) → 3 ≤ k → true ≡ sumTest counts line links movements previous row ledger times arrivals curves boundary k item
   unfolding sumTest
   no-sum-test k item h =
-      sym (List·getD-eq-default (keepsShare counts line movements item ∷ leavesArrived counts links row ledger times arrivals boundary item ∷ fitsCapacity links previous row item ∷ []) true h)
+      sym (List·getD-eq-default (keepsShare counts line movements item ∷ leavesArrived counts links row ledger times arrivals curves boundary item ∷ fitsCapacity links previous row item ∷ []) true h)
 
   pub sum-rule-is : (k : ℕ) → k < 3
-      → ruleAt (sumRulesIn counts line links movements previous row ledger times arrivals boundary) k ≡ sumRuleIn counts line links movements previous row ledger times arrivals boundary k
+      → ruleAt (sumRulesIn counts line links movements previous row ledger times arrivals curves boundary) k ≡ sumRuleIn counts line links movements previous row ledger times arrivals curves boundary k
   unfolding sumRulesIn
   sum-rule-is zero h = refl
   sum-rule-is (suc zero) h = refl

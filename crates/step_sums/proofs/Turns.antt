@@ -6,13 +6,14 @@ use Prim.Native.Nat.{ℕ, suc, _+_, _*_, _-_, _≤_, _<_}
 use native.Mathlib.Nat.{eq-or-lt-of-le, mul-le-mul-right}
 use native.Mathlib.Decide.{decLe}
 use native.Mathlib.Omega.{arith}
-use borrow.Author.Tests.{le-leb, lt-leb, eq-eqb, ne-eqb}
+use borrow.Author.Tests.{le-leb, lt-leb, lt-ltb, le-ltb, eq-eqb, ne-eqb}
 use lib.Dec.{leb}
+use lib.ListN.{getD}
 use Rattle.tables.specs.declared.Counts.{Counts}
 use Rattle.tables.specs.Fields.{linkIn, shareIn, letOutIn, movedIn, enteredIn, leftIn, enteredAt, RowHeld}
 use Rattle.arrivals.specs.Arrivals.{secondsIn, elapsedIn, Rising}
 use Rattle.step_rows.specs.Rows.{movedBy, nextLeft}
-use Rattle.step_sums.specs.Sums.{keepsShare, enteredAfter, ShareTables, ArrivalRows}
+use Rattle.step_sums.specs.Sums.{keepsShare, enteredBefore, enteredAfter, ShareTables, ArrivalRows}
 
 -- a sum in place of a difference
 pub leb-over : (a b c : ℕ) → leb a (c + b) ≡ leb (a - b) c
@@ -23,12 +24,12 @@ leb-over a b c = elim (decLe a (c + b)) [
 
 -- ---- rule 17
 -- the ledger has the rows before the boundary
-pub row-before : {counts : Counts} {row ledger : List ℕ} {boundary m i : ℕ} → ArrivalRows counts row ledger boundary → m < boundary → i < counts .links
+pub row-before : {counts : Counts} {row ledger curves : List ℕ} {boundary m i : ℕ} → ArrivalRows counts row ledger curves boundary → m < boundary → i < counts .links
     → RowHeld ledger (counts .links) m i
 row-before {counts} r h l =
     record { few-boundaries = omega (arith, r .last); few-links = r .few-links; within = l; rows = omega (arith, r .rows, mul-le-mul-right (2 * counts .links) h) }
 
-pub row-after : {counts : Counts} {row ledger : List ℕ} {boundary step i : ℕ} → ArrivalRows counts row ledger boundary → step < boundary → (step + 1 ≡ boundary → ⊥) → i < counts .links
+pub row-after : {counts : Counts} {row ledger curves : List ℕ} {boundary step i : ℕ} → ArrivalRows counts row ledger curves boundary → step < boundary → (step + 1 ≡ boundary → ⊥) → i < counts .links
     → RowHeld ledger (counts .links) (step + 1) i
 row-after {boundary = boundary} {step} r h n l = row-before r (go (eq-or-lt-of-le h)) l
   where
@@ -36,15 +37,27 @@ row-after {boundary = boundary} {step} r h n l = row-before r (go (eq-or-lt-of-l
     go (inl e) = absurd (n (omega arith))
     go (inr u) = omega arith
 
--- entered at the end of the last step, and of an earlier one
-module _ (counts : Counts) (row ledger : List ℕ) (boundary step i : ℕ) {r : ℕ} where
-  pub after-last : step + 1 ≡ boundary → r ≡ enteredIn row i → r ≡ enteredAfter counts row ledger boundary step i
-  unfolding enteredAfter
-  after-last e q = rw (eq-eqb (step + 1) boundary e) q
+-- entered at the start of a past step, and of a later one; at its end; and at that of the last
+module _ (counts : Counts) (row ledger curves : List ℕ) (boundary step i : ℕ) {r : ℕ} where
+  pub before-past : step < counts .past → r ≡ getD curves (2 * i) 0 → r ≡ enteredBefore counts ledger curves step i
+  unfolding enteredBefore
+  before-past h q = rw (lt-ltb step (counts .past) h) q
 
-  pub after-earlier : (step + 1 ≡ boundary → ⊥) → r ≡ enteredAt ledger (counts .links) (step + 1) i → r ≡ enteredAfter counts row ledger boundary step i
+  pub before-later : counts .past ≤ step → r ≡ enteredAt ledger (counts .links) (step - counts .past) i → r ≡ enteredBefore counts ledger curves step i
+  unfolding enteredBefore
+  before-later h q = rw (le-ltb step (counts .past) h) q
+
+  pub after-past : step < counts .past → r ≡ getD curves (2 * i + 1) 0 → r ≡ enteredAfter counts row ledger curves boundary step i
   unfolding enteredAfter
-  after-earlier e q = rw (ne-eqb (step + 1) boundary e) q
+  after-past h q = rw (lt-ltb step (counts .past) h) q
+
+  pub after-last : counts .past ≤ step → step - counts .past + 1 ≡ boundary → r ≡ enteredIn row i → r ≡ enteredAfter counts row ledger curves boundary step i
+  unfolding enteredAfter
+  after-last h e q = rw (le-ltb step (counts .past) h, eq-eqb (step - counts .past + 1) boundary e) q
+
+  pub after-earlier : counts .past ≤ step → (step - counts .past + 1 ≡ boundary → ⊥) → r ≡ enteredAt ledger (counts .links) (step - counts .past + 1) i → r ≡ enteredAfter counts row ledger curves boundary step i
+  unfolding enteredAfter
+  after-earlier h e q = rw (le-ltb step (counts .past) h, ne-eqb (step - counts .past + 1) boundary e) q
 
 -- no time is past two hours, so neither is a difference
 module _ {times : List ℕ} {boundary : ℕ} (r : Rising times boundary) (step : ℕ) where

@@ -1,13 +1,13 @@
 -- Rules 16 to 18 at one step, as tests of the program's tables: the numbers of the step's `P` line, the links and movements of the network, the rows before and
--- after the step, the ledger, the boundaries' times, and the step in which the travel time of each link ends. Links and movements are counted from 0, a movement's links from 1. Assumes nothing.
+-- after the step, the ledger, the times of the timeline's boundaries, the step of the timeline in which the travel time of each link ends, and its curve where that is a past one. Links and movements are counted from 0, a movement's links from 1. Assumes nothing.
 use mathlib.Core.Path.{_≡_}
 use mathlib.Core.Bool.{Bool, true, cond}
 use mathlib.Core.List.{List, [], _∷_}
 use Prim.Native.Nat.{ℕ, _+_, _*_, _-_, _≤_, _<_}
-use lib.Dec.{leb, eqb}
+use lib.Dec.{leb, ltb, eqb}
 use lib.ListN.{length, getD}
 use Rattle.search.specs.Checks.{Rule}
-use Rattle.model.specs.Network.{maxLinks, maxSteps}
+use Rattle.model.specs.Network.{maxLinks, maxSteps, maxPast}
 use Rattle.tables.specs.declared.Counts.{Counts}
 use Rattle.tables.specs.Places.{Few}
 use Rattle.tables.specs.Fields.{linkTableSize, lineSize, rowSize, capacityIn, travelTimeIn, linkIn, shareIn, movedIn, enteredIn, leftIn, enteredAt}
@@ -19,16 +19,22 @@ unfoldable pub keepsShare : Counts → List ℕ → List ℕ → ℕ → Bool
 keepsShare counts line movements j =
     leb (1000 * movedIn counts line j) (shareIn movements j * movedBy counts line movements 0 (counts .movements) (linkIn movements 0 j - 1))
 
--- entered of link i at the end of a step: by the row after the step that is judged, where it is that step, else by the ledger
-unfoldable pub enteredAfter : Counts → List ℕ → List ℕ → ℕ → ℕ → ℕ → ℕ
-enteredAfter counts row ledger boundary step i = cond (eqb (step + 1) boundary) (enteredIn row i) (enteredAt ledger (counts .links) (step + 1) i)
+-- entered of link i at the start of a step of the timeline: of a past one by its curve, of a later one by the ledger
+unfoldable pub enteredBefore : Counts → List ℕ → List ℕ → ℕ → ℕ → ℕ
+enteredBefore counts ledger curves step i = cond (ltb step (counts .past)) (getD curves (2 * i) 0) (enteredAt ledger (counts .links) (step - counts .past) i)
+
+-- and at its end: by the row after the step that is judged, where it is that step
+unfoldable pub enteredAfter : Counts → List ℕ → List ℕ → List ℕ → ℕ → ℕ → ℕ → ℕ
+enteredAfter counts row ledger curves boundary step i =
+    cond (ltb step (counts .past)) (getD curves (2 * i + 1) 0)
+    (cond (eqb (step - counts .past + 1) boundary) (enteredIn row i) (enteredAt ledger (counts .links) (step - counts .past + 1) i))
 
 -- 17, link i: what has left it by the boundary after the step is at most what has arrived, both × the length of the step in which the travel time ends
-unfoldable pub leavesArrived : Counts → List ℕ → List ℕ → List ℕ → List ℕ → List ℕ → ℕ → ℕ → Bool
-leavesArrived counts links row ledger times arrivals boundary i =
+unfoldable pub leavesArrived : Counts → List ℕ → List ℕ → List ℕ → List ℕ → List ℕ → List ℕ → ℕ → ℕ → Bool
+leavesArrived counts links row ledger times arrivals curves boundary i =
     let a = getD arrivals i 0 in
     leb (leftIn row i * secondsIn times a)
-    (scaledIn (enteredAt ledger (counts .links) a i) (enteredAfter counts row ledger boundary a i) (secondsIn times a) (elapsedIn times a boundary (travelTimeIn links i)))
+    (scaledIn (enteredBefore counts ledger curves a i) (enteredAfter counts row ledger curves boundary a i) (secondsIn times a) (elapsedIn times a (counts .past + boundary) (travelTimeIn links i)))
 
 -- 18, link i: entered after the step − left before it ≤ capacity
 unfoldable pub fitsCapacity : List ℕ → List ℕ → List ℕ → ℕ → Bool
@@ -38,18 +44,18 @@ fitsCapacity links previous row i = leb (enteredIn row i - leftIn previous i) (c
 abbrev pub sumItems : Counts → ℕ → ℕ
 sumItems counts k = getD (counts .movements ∷ counts .links ∷ counts .links ∷ []) k 0
 
-unfoldable pub sumTest : Counts → List ℕ → List ℕ → List ℕ → List ℕ → List ℕ → List ℕ → List ℕ → List ℕ → ℕ → ℕ → ℕ → Bool
-sumTest counts line links movements previous row ledger times arrivals boundary k item =
-    getD (keepsShare counts line movements item ∷ leavesArrived counts links row ledger times arrivals boundary item ∷ fitsCapacity links previous row item ∷ []) k true
+unfoldable pub sumTest : Counts → List ℕ → List ℕ → List ℕ → List ℕ → List ℕ → List ℕ → List ℕ → List ℕ → List ℕ → ℕ → ℕ → ℕ → Bool
+sumTest counts line links movements previous row ledger times arrivals curves boundary k item =
+    getD (keepsShare counts line movements item ∷ leavesArrived counts links row ledger times arrivals curves boundary item ∷ fitsCapacity links previous row item ∷ []) k true
 
-abbrev pub sumRuleIn : Counts → List ℕ → List ℕ → List ℕ → List ℕ → List ℕ → List ℕ → List ℕ → List ℕ → ℕ → ℕ → Rule
-sumRuleIn counts line links movements previous row ledger times arrivals boundary k =
-    record { number = 16 + k; items = sumItems counts k; holds = sumTest counts line links movements previous row ledger times arrivals boundary k }
+abbrev pub sumRuleIn : Counts → List ℕ → List ℕ → List ℕ → List ℕ → List ℕ → List ℕ → List ℕ → List ℕ → List ℕ → ℕ → ℕ → Rule
+sumRuleIn counts line links movements previous row ledger times arrivals curves boundary k =
+    record { number = 16 + k; items = sumItems counts k; holds = sumTest counts line links movements previous row ledger times arrivals curves boundary k }
 
 -- the table of rules 16 to 18
-unfoldable pub sumRulesIn : Counts → List ℕ → List ℕ → List ℕ → List ℕ → List ℕ → List ℕ → List ℕ → List ℕ → ℕ → List Rule
-sumRulesIn counts line links movements previous row ledger times arrivals boundary =
-    let rule = sumRuleIn counts line links movements previous row ledger times arrivals boundary in
+unfoldable pub sumRulesIn : Counts → List ℕ → List ℕ → List ℕ → List ℕ → List ℕ → List ℕ → List ℕ → List ℕ → List ℕ → ℕ → List Rule
+sumRulesIn counts line links movements previous row ledger times arrivals curves boundary =
+    let rule = sumRuleIn counts line links movements previous row ledger times arrivals curves boundary in
     rule 0 ∷ rule 1 ∷ rule 2 ∷ []
 
 -- the tables that rule 16 reads: left in the row is what the line makes of the row before
@@ -62,21 +68,23 @@ pub record ShareTables (counts : Counts) (line movements previous row : List ℕ
   pub left-made : (i : ℕ) → i < counts .links → leftIn row i ≡ nextLeft counts line movements previous i
 
 -- the rows that rule 17 reads: the ledger has those before the boundary, and the row after the step is that of the boundary
-pub record ArrivalRows (counts : Counts) (row ledger : List ℕ) (boundary : ℕ) : Type 0 where
+pub record ArrivalRows (counts : Counts) (row ledger curves : List ℕ) (boundary : ℕ) : Type 0 where
   pub few-links : counts .links ≤ maxLinks
+  pub few-past : counts .past ≤ maxPast
   pub last : boundary ≤ maxSteps
   pub row-size : length row ≡ rowSize
+  pub curve-size : length curves ≡ rowSize
   pub rows : 2 * boundary * counts .links ≤ length ledger
 
 -- the tables that rule 17 reads: each travel time ends in a step before the boundary
-pub record ArrivalTables (counts : Counts) (links row ledger times arrivals : List ℕ) (boundary : ℕ) : Type 0 where
-  pub held : ArrivalRows counts row ledger boundary
+pub record ArrivalTables (counts : Counts) (links row ledger times arrivals curves : List ℕ) (boundary : ℕ) : Type 0 where
+  pub held : ArrivalRows counts row ledger curves boundary
   pub links-size : length links ≡ linkTableSize
   pub arrivals-size : length arrivals ≡ maxLinks
-  pub rising : Rising times boundary
-  pub before : (i : ℕ) → i < counts .links → getD arrivals i 0 < boundary
+  pub rising : Rising times (counts .past + boundary)
+  pub before : (i : ℕ) → i < counts .links → getD arrivals i 0 < counts .past + boundary
 
 -- the tables that rules 16 to 18 read
-pub record SumTables (counts : Counts) (line links movements previous row ledger times arrivals : List ℕ) (boundary : ℕ) : Type 0 where
+pub record SumTables (counts : Counts) (line links movements previous row ledger times arrivals curves : List ℕ) (boundary : ℕ) : Type 0 where
   pub share : ShareTables counts line movements previous row
-  pub arrival : ArrivalTables counts links row ledger times arrivals boundary
+  pub arrival : ArrivalTables counts links row ledger times arrivals curves boundary

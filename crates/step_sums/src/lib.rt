@@ -6,7 +6,7 @@ ghost use Rattle.search.specs.Checks.{verdict, table};
 ghost use Rattle.model.specs.Network.{maxLinks};
 ghost use Rattle.tables.specs.Places.{Few};
 ghost use Rattle.tables.specs.Fields.{linkTableSize, lineSize, rowSize, letOutIn, leftIn};
-ghost use Rattle.step_sums.specs.Sums.{keepsShare, enteredAfter, leavesArrived, fitsCapacity, sumItems, sumTest, sumRulesIn, ShareTables, ArrivalRows, ArrivalTables, SumTables};
+ghost use Rattle.step_sums.specs.Sums.{keepsShare, enteredBefore, enteredAfter, leavesArrived, fitsCapacity, sumItems, sumTest, sumRulesIn, ShareTables, ArrivalRows, ArrivalTables, SumTables};
 use search::Refusal;
 use search::Verdict;
 use tables::Counts;
@@ -48,20 +48,45 @@ fn keeps_share(
     tables::times(1000, moved(line, counts, j)) <= tables::times(share(movements, j), all)
 }
 
-// Entered of link i at the end of a step that is at most the last: of the row after the last step, or of the ledger, which has the rows before that.
-fn entered_after(
+// Entered of link i at the start of a step of the timeline: a past one's as its curve has it, a later one's as the ledger has it.
+fn entered_before(
     row: &[u32],
     ledger: &[u32],
+    curves: &[u32],
     counts: Counts,
     boundary: usize,
     step: usize,
     i: usize,
 ) -> u32
-    requires { ⌜ ArrivalRows counts (now row) (now ledger) boundary ⌝ }
-    requires { ⌜ (step < boundary) × (i < counts .links) ⌝ }
-    ensures { λ r. ⌜ r ≡ enteredAfter counts (now (row .entry)) (now (ledger .entry)) boundary step i ⌝ }
+    requires { ⌜ ArrivalRows counts (now row) (now ledger) (now curves) boundary ⌝ }
+    requires { ⌜ (step < counts .past + boundary) × (i < counts .links) ⌝ }
+    ensures { λ r. ⌜ r ≡ enteredBefore counts (now (ledger .entry)) (now (curves .entry)) step i ⌝ }
 {
-    let after = step + 1;
+    if step < counts.past {
+        return curves[2 * i];
+    }
+    entered_at(ledger, counts.links, step - counts.past, i)
+}
+
+// Entered of link i at the end of a step that is at most the last: of the row after the last step, or of the ledger, which has the rows before that; of a past
+// step as its curve has it.
+fn entered_after(
+    row: &[u32],
+    ledger: &[u32],
+    curves: &[u32],
+    counts: Counts,
+    boundary: usize,
+    step: usize,
+    i: usize,
+) -> u32
+    requires { ⌜ ArrivalRows counts (now row) (now ledger) (now curves) boundary ⌝ }
+    requires { ⌜ (step < counts .past + boundary) × (i < counts .links) ⌝ }
+    ensures { λ r. ⌜ r ≡ enteredAfter counts (now (row .entry)) (now (ledger .entry)) (now (curves .entry)) boundary step i ⌝ }
+{
+    if step < counts.past {
+        return curves[2 * i + 1];
+    }
+    let after = step - counts.past + 1;
     if after == boundary {
         return entered(row, i);
     }
@@ -76,19 +101,20 @@ fn leaves_arrived(
     ledger: &[u32],
     times: &[u32],
     arrivals: &[usize],
+    curves: &[u32],
     counts: Counts,
     boundary: usize,
     i: usize,
 ) -> bool
-    requires { ⌜ ArrivalTables counts (now links) (now row) (now ledger) (now times) (now arrivals) boundary ⌝ }
+    requires { ⌜ ArrivalTables counts (now links) (now row) (now ledger) (now times) (now arrivals) (now curves) boundary ⌝ }
     requires { ⌜ i < counts .links ⌝ }
-    ensures { λ r. ⌜ r ≡ leavesArrived counts (now (links .entry)) (now (row .entry)) (now (ledger .entry)) (now (times .entry)) (now (arrivals .entry)) boundary i ⌝ }
+    ensures { λ r. ⌜ r ≡ leavesArrived counts (now (links .entry)) (now (row .entry)) (now (ledger .entry)) (now (times .entry)) (now (arrivals .entry)) (now (curves .entry)) boundary i ⌝ }
 {
     let step = arrivals[i];
-    let start = entered_at(ledger, counts.links, step, i);
-    let end = entered_after(row, ledger, counts, boundary, step, i);
+    let start = entered_before(row, ledger, curves, counts, boundary, step, i);
+    let end = entered_after(row, ledger, curves, counts, boundary, step, i);
     let seconds = arrivals::seconds(times, step);
-    let elapsed = arrivals::elapsed(times, step, boundary, travel_time(links, i));
+    let elapsed = arrivals::elapsed(times, step, counts.past + boundary, travel_time(links, i));
     tables::times(left(row, i), seconds) <= arrivals::scaled_arrived(start, end, seconds, elapsed)
 }
 
@@ -121,16 +147,27 @@ fn sum_test(
     ledger: &[u32],
     times: &[u32],
     arrivals: &[usize],
+    curves: &[u32],
     counts: Counts,
     boundary: usize,
 ) -> bool
-    requires { ⌜ SumTables counts (now line) (now links) (now movements) (now previous) (now row) (now ledger) (now times) (now arrivals) boundary ⌝ }
+    requires { ⌜ SumTables counts (now line) (now links) (now movements) (now previous) (now row) (now ledger) (now times) (now arrivals) (now curves) boundary ⌝ }
     requires { ⌜ item < sumItems counts k ⌝ }
-    ensures { λ r. ⌜ r ≡ sumTest counts (now (line .entry)) (now (links .entry)) (now (movements .entry)) (now (previous .entry)) (now (row .entry)) (now (ledger .entry)) (now (times .entry)) (now (arrivals .entry)) boundary k item ⌝ }
+    ensures { λ r. ⌜ r ≡ sumTest counts (now (line .entry)) (now (links .entry)) (now (movements .entry)) (now (previous .entry)) (now (row .entry)) (now (ledger .entry)) (now (times .entry)) (now (arrivals .entry)) (now (curves .entry)) boundary k item ⌝ }
 {
     match k {
         0 => keeps_share(line, movements, previous, row, counts, item),
-        1 => leaves_arrived(links, row, ledger, times, arrivals, counts, boundary, item),
+        1 => leaves_arrived(
+            links,
+            row,
+            ledger,
+            times,
+            arrivals,
+            curves,
+            counts,
+            boundary,
+            item,
+        ),
         2 => fits_capacity(links, previous, row, item),
         _ => true,
     }
@@ -146,11 +183,12 @@ pub fn first_sum_break(
     ledger: &[u32],
     times: &[u32],
     arrivals: &[usize],
+    curves: &[u32],
     counts: Counts,
     boundary: usize,
 ) -> Verdict
-    requires { ⌜ SumTables counts (now line) (now links) (now movements) (now previous) (now row) (now ledger) (now times) (now arrivals) boundary ⌝ }
-    ensures { λ r. ⌜ r ≡ verdict (table boundary (sumRulesIn counts (now (line .entry)) (now (links .entry)) (now (movements .entry)) (now (previous .entry)) (now (row .entry)) (now (ledger .entry)) (now (times .entry)) (now (arrivals .entry)) boundary)) ⌝ }
+    requires { ⌜ SumTables counts (now line) (now links) (now movements) (now previous) (now row) (now ledger) (now times) (now arrivals) (now curves) boundary ⌝ }
+    ensures { λ r. ⌜ r ≡ verdict (table boundary (sumRulesIn counts (now (line .entry)) (now (links .entry)) (now (movements .entry)) (now (previous .entry)) (now (row .entry)) (now (ledger .entry)) (now (times .entry)) (now (arrivals .entry)) (now (curves .entry)) boundary)) ⌝ }
 {
     let mut found = Verdict::Passes;
     'judge: for k in 0..3 {
@@ -167,6 +205,7 @@ pub fn first_sum_break(
                 ledger,
                 times,
                 arrivals,
+                curves,
                 counts,
                 boundary,
             ) {

@@ -7,7 +7,7 @@ use native.Mathlib.Decide.{decLe}
 use native.Mathlib.Omega.{arith}
 use borrow.Author.Tests.{leb-true, le-leb, lt-leb}
 use lib.Dec.{leb}
-use lib.ListN.{length, replicate, length-replicate, getD-replicate}
+use lib.ListN.{length}
 use Rattle.search.specs.Checks.{Hold}
 use Rattle.records.specs.Lines.{Line}
 use Rattle.model.specs.Sum.{sum}
@@ -20,9 +20,9 @@ use Rattle.model.proofs.Bounds.{offered-small}
 use Rattle.model.proofs.Waiting.{offered-suc, taken-suc}
 use Rattle.tables.specs.declared.Counts.{Counts}
 use Rattle.tables.specs.Fields.{admittedIn}
-use Rattle.tables.specs.Tables.{CountsHold, StepNumbers, PlanNumbers}
-use Rattle.tables.proofs.Tables.{step-length-at, demand-at, admitted-at}
-use Rattle.waiting.specs.Waiting.{waitingIn, offerIn, AddAsked, Offers, WaitsAsked, Waits, WaitingTable, StepOffers}
+use Rattle.tables.specs.Tables.{CountsHold, LinkTable, StepNumbers, PlanNumbers}
+use Rattle.tables.proofs.Tables.{waiting-at-start-at, step-length-at, demand-at, admitted-at}
+use Rattle.waiting.specs.Waiting.{waitingIn, offerIn, FirstWaits, AddAsked, Offers, WaitsAsked, Waits, WaitingTable, StepOffers}
 
 -- the same added to both sides
 leb-plus : (a b c : ℕ) → leb a b ≡ leb (c + a) (b + c)
@@ -31,14 +31,10 @@ leb-plus a b c = elim (decLe a b) [
   | no h ↦ lt-leb a b (omega arith) ∙ sym (lt-leb (c + a) (b + c) (omega arith))
 ]
 
--- nobody waits at the start
-pub waiting-first : (network plan : List Line) (waiting : List ℕ) → waiting ≡ replicate maxLinks 0 → linkCount network ≤ maxLinks → WaitingTable network plan 0 waiting
+-- who waits at the start
+pub waiting-first : {network : List Line} (plan : List Line) {links waiting : List ℕ} → LinkTable network links → FirstWaits links (linkCount network) waiting → WaitingTable network plan 0 waiting
 unfolding offered taken sum
-waiting-first network plan waiting zeros few =
-    record {
-      size = rw zeros (length-replicate {A = ℕ} maxLinks 0);
-      holds = λ i l. rw zeros (omega (arith, getD-replicate {A = ℕ} maxLinks i 0 0 (omega arith)));
-    }
+waiting-first plan t w = record { size = w .size; holds = λ i l. omega (arith, w .starts i l, waiting-at-start-at t i l) }
 
 module _ {network plan : List Line} {n : ℕ} {counts : Counts} (counted : CountsHold network counts) where
   -- those who wait and those who come fit 32 bits
@@ -50,7 +46,7 @@ module _ {network plan : List Line} {n : ℕ} {counts : Counts} (counted : Count
         size = w .size;
         step-size = s .size;
         fits = λ i l. let l′ : i < linkCount network = omega (arith, counted .links) in
-            omega (arith, w .holds i l′, demand-at s i l′, offered-suc network plan n i, offered-small network plan holds (suc n) h i l′, counted .steps, counted .few .steps);
+            omega (arith, w .holds i l′, demand-at s i l′, offered-suc network n i, offered-small network plan holds (suc n) h i l′, counted .steps, counted .few .steps);
       }
 
   -- all who wait
@@ -65,7 +61,7 @@ module _ {network plan : List Line} {n : ℕ} {counts : Counts} (counted : Count
       record {
         size = o .size;
         lasts = o .lasts ∙ step-length-at s;
-        holds = λ i l. omega (arith, o .offers i (omega (arith, counted .links)), w .holds i l, demand-at s i l, offered-suc network plan n i);
+        holds = λ i l. omega (arith, o .offers i (omega (arith, counted .links)), w .holds i l, demand-at s i l, offered-suc network n i);
       }
 
   module _ {line step : List ℕ} (numbers : PlanNumbers network plan n line) (offers : StepOffers network plan n step) where

@@ -4,12 +4,42 @@ use mathlib.Core.Path.{_≡_, refl, _∙_}
 use mathlib.Core.Logic.{_⊎_, inl, inr}
 use mathlib.Core.List.{List}
 use native.Mathlib.Nat.{eq-or-lt-of-le}
+use native.Mathlib.Decide.{ℕ-discrete}
 use native.Mathlib.Omega.{arith}
-use lib.ListN.{set, length-set}
+use lib.ListN.{length, set, length-set}
 use lib.Seq.{getD-set-same, getD-set-other}
 use Rattle.tables.specs.declared.Counts.{Counts}
-use Rattle.tables.specs.Fields.{demandIn, admittedIn}
-use Rattle.waiting.specs.Waiting.{waitingIn, offerIn, AddAsked, Offers, WaitsAsked, Waits}
+use Rattle.tables.specs.Fields.{waitingAtStartIn, demandIn, admittedIn}
+use Rattle.waiting.specs.Waiting.{waitingIn, offerIn, FirstAsked, FirstWaits, AddAsked, Offers, WaitsAsked, Waits}
+
+-- those who wait at the first n entries at the start are told
+pub record FirstTo (links : List ℕ) (count : ℕ) (waiting : List ℕ) (n : ℕ) : Type 0 where
+  pub asked : FirstAsked links count waiting
+  pub within : n ≤ count
+  pub told : FirstWaits links n waiting
+
+module _ (links : List ℕ) (count : ℕ) where
+  pub first-begin : {waiting : List ℕ} → FirstAsked links count waiting → FirstTo links count waiting 0
+  first-begin a = record { asked = a; within = omega arith; told = record { size = a .size; starts = λ i l. absurd (omega arith) } }
+
+  module _ {waiting : List ℕ} {n : ℕ} (m : FirstTo links count waiting n) where
+    pub first-more : n < count → {v : ℕ} → v ≡ waitingAtStartIn links n → FirstTo links count (set waiting n v) (n + 1)
+    first-more h {v} e =
+        let size : length (set waiting n v) ≡ 24 = length-set waiting n v ∙ m .told .size in
+        record {
+          asked = record { few = m .asked .few; link-size = m .asked .link-size; size = size };
+          within = omega arith;
+          told = record {
+            size = size;
+            starts = λ i l. elim (ℕ-discrete i n) [
+              | yes q ↦ rw (q, getD-set-same waiting n v 0 (omega (arith, m .told .size, m .asked .few))) e
+              | no q ↦ getD-set-other waiting n i v 0 q ∙ m .told .starts i (omega arith)
+            ];
+          };
+        }
+
+    pub first-all : count ≤ n → FirstWaits links count waiting
+    first-all h = let e : n ≡ count = omega (arith, m .within) in rw e at (m .told)
 
 -- those who wait have been added to the demand of the first n links
 pub record Adding (links : ℕ) (waiting before step : List ℕ) (n : ℕ) : Type 0 where

@@ -1,4 +1,4 @@
--- The vehicles that wait at the entries, by the program's tables: one number a link, the demand of the steps so far that was not admitted. While a step is judged,
+-- The vehicles that wait at the entries, by the program's tables: one number a link, who waited at the start and the demand of the steps so far, that was not admitted. While a step is judged,
 -- they stand in the numbers of its `S` line, added to each link's demand. Assumes nothing.
 use Prim.Native.Nat.{ℕ, suc, _+_, _-_, _≤_, _<_}
 use mathlib.Core.Path.{_≡_}
@@ -9,7 +9,7 @@ use Rattle.model.specs.Network.{maxLinks, linkCount, stepLength}
 use Rattle.model.specs.Flows.{offered, taken}
 use Rattle.tables.specs.declared.Counts.{Counts}
 use Rattle.tables.specs.Places.{Few}
-use Rattle.tables.specs.Fields.{stepSize, lineSize, lengthIn, demandIn, admittedIn}
+use Rattle.tables.specs.Fields.{linkTableSize, stepSize, lineSize, waitingAtStartIn, lengthIn, demandIn, admittedIn}
 
 -- who waits at the entry of link i, by the table; and who is there in a step, where its `S` line has the demand
 abbrev pub waitingIn : List ℕ → ℕ → ℕ
@@ -17,6 +17,16 @@ waitingIn waiting i = getD waiting i 0
 
 abbrev pub offerIn : List ℕ → ℕ → ℕ
 offerIn step i = demandIn step i
+
+-- what the table at the start asks, and gives for the first n links
+pub record FirstAsked (links : List ℕ) (count : ℕ) (waiting : List ℕ) : Type 0 where
+  pub few : count ≤ maxLinks
+  pub link-size : length links ≡ linkTableSize
+  pub size : length waiting ≡ maxLinks
+
+pub record FirstWaits (links : List ℕ) (n : ℕ) (waiting : List ℕ) : Type 0 where
+  pub size : length waiting ≡ maxLinks
+  pub starts : (i : ℕ) → i < n → waitingIn waiting i ≡ waitingAtStartIn links i
 
 -- what adding those who wait to a step's demand asks ..
 pub record AddAsked (links : ℕ) (waiting step : List ℕ) : Type 0 where

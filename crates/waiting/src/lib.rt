@@ -1,7 +1,19 @@
-// The vehicles that wait at the entries: on each link the demand of the steps so far that was not admitted. The table of those who wait has one number a link.
-ghost use Rattle.waiting.specs.Waiting.{AddAsked, Offers, WaitsAsked, Waits};
+// The vehicles that wait at the entries: on each link who waited at the start, and the demand of the steps so far, that was not admitted. The table of those who wait has one number a link.
+ghost use Rattle.waiting.specs.Waiting.{FirstAsked, FirstWaits, AddAsked, Offers, WaitsAsked, Waits};
 use tables::Counts;
 use tables::admitted;
+
+// Who waits at the start, as the `Q` lines have it.
+pub fn first_waiting(links: &[u32], count: usize, waiting: &mut [u32])
+    requires { ⌜ FirstAsked (now links) count (now waiting) ⌝ }
+    ensures { λ _. ⌜ FirstWaits (now (links .entry)) count (now (waiting .exit)) ⌝ }
+{
+    let mut i: usize = 0;
+    while i < count {
+        waiting[i] = tables::waiting_at_start(links, i);
+        i += 1;
+    }
+}
 
 // Who is at the entries in a step: the numbers of its `S` line, with those who wait added to each link's demand.
 pub fn add_waiting(waiting: &[u32], links: usize, step: &mut [u32])

@@ -11,18 +11,18 @@ use Rattle.step_sums.proofs.first_sum_break.Statement.{statement}
 use Rattle.step_sums.proofs.first_sum_break.Tie as tie
 
 abbrev Inv-loop : tie.InvT-loop
-Inv-loop line links movements previous row ledger times arrivals counts boundary found₀ k items item₀ found item =
-    (item ≤ items) × (items ≡ sumItems counts k) × (found ≡ Passes) × ItemsLeft boundary (sumRulesIn counts line links movements previous row ledger times arrivals boundary) k item
+Inv-loop line links movements previous row ledger times arrivals curves counts boundary found₀ k items item₀ found item =
+    (item ≤ items) × (items ≡ sumItems counts k) × (found ≡ Passes) × ItemsLeft boundary (sumRulesIn counts line links movements previous row ledger times arrivals curves boundary) k item
 
 abbrev μ-loop : tie.MeasureT-loop
-μ-loop line links movements previous row ledger times arrivals counts boundary found₀ k items item₀ found item = items - item
+μ-loop line links movements previous row ledger times arrivals curves counts boundary found₀ k items item₀ found item = items - item
 
 abbrev Inv-judge : tie.InvT-judge
-Inv-judge line links movements previous row ledger times arrivals counts boundary found₀ k₀ found k =
-    (k ≤ 3) × (found ≡ Passes) × RulesLeft boundary (sumRulesIn counts line links movements previous row ledger times arrivals boundary) k
+Inv-judge line links movements previous row ledger times arrivals curves counts boundary found₀ k₀ found k =
+    (k ≤ 3) × (found ≡ Passes) × RulesLeft boundary (sumRulesIn counts line links movements previous row ledger times arrivals curves boundary) k
 
 abbrev μ-judge : tie.MeasureT-judge
-μ-judge line links movements previous row ledger times arrivals counts boundary found₀ k₀ found k = 3 - k
+μ-judge line links movements previous row ledger times arrivals curves counts boundary found₀ k₀ found k = 3 - k
 
 judge-holds : tie.Need-judge-holds Inv-loop μ-loop Inv-judge μ-judge
 judge-holds c = (omega arith, refl, rules-first _ _)
@@ -39,23 +39,23 @@ loop-holds c =
 sum-test-requires : tie.Need-sum-test-requires Inv-loop μ-loop Inv-judge μ-judge
 sum-test-requires c κs = (search needs, omega (arith, c .before .loop .inv .1))
 
-cast-t18 : tie.Need-cast-t18 Inv-loop μ-loop Inv-judge μ-judge
-cast-t18 c = search needs
+cast-t19 : tie.Need-cast-t19 Inv-loop μ-loop Inv-judge μ-judge
+cast-t19 c = search needs
 
-add-t19 : tie.Need-add-t19 Inv-loop μ-loop Inv-judge μ-judge
-add-t19 c = search needs
+add-t20 : tie.Need-add-t20 Inv-loop μ-loop Inv-judge μ-judge
+add-t20 c = search needs
 
-cast-t20 : tie.Need-cast-t20 Inv-loop μ-loop Inv-judge μ-judge
-cast-t20 c = search needs
+cast-t21 : tie.Need-cast-t21 Inv-loop μ-loop Inv-judge μ-judge
+cast-t21 c = search needs
 
-add-t21 : tie.Need-add-t21 Inv-loop μ-loop Inv-judge μ-judge
-add-t21 c =
-    let h = few-sum-items (c .before .before .before .before .before .before .before .before .before .before .before .before .before .before .before .args .counts) (c .before .before .before .before .before .before .judge .k) (c .before .before .before .before .before .before .before .before .before .before .before .before .before .before .before .pre .share .few) in
+add-t22 : tie.Need-add-t22 Inv-loop μ-loop Inv-judge μ-judge
+add-t22 c =
+    let h = few-sum-items (c .before .before .before .before .before .before .before .before .before .before .before .before .before .before .before .before .args .counts) (c .before .before .before .before .before .before .judge .k) (c .before .before .before .before .before .before .before .before .before .before .before .before .before .before .before .before .pre .share .few) in
     omega (arith, c .before .before .before .loop .inv .1)
 
-cast-t22 : tie.Need-cast-t22 Inv-loop μ-loop Inv-judge μ-judge
-cast-t22 c =
-    let h = few-sum-items (c .before .before .before .before .before .before .before .before .before .before .before .before .before .before .before .args .counts) (c .before .before .before .before .before .before .judge .k) (c .before .before .before .before .before .before .before .before .before .before .before .before .before .before .before .pre .share .few) in
+cast-t23 : tie.Need-cast-t23 Inv-loop μ-loop Inv-judge μ-judge
+cast-t23 c =
+    let h = few-sum-items (c .before .before .before .before .before .before .before .before .before .before .before .before .before .before .before .before .args .counts) (c .before .before .before .before .before .before .judge .k) (c .before .before .before .before .before .before .before .before .before .before .before .before .before .before .before .before .pre .share .few) in
     omega (arith, c .before .before .before .loop .inv .1)
 
 add-item : tie.Need-add-item Inv-loop μ-loop Inv-judge μ-judge
@@ -67,7 +67,7 @@ loop-less c = search needs
 loop-again : tie.Need-loop-again Inv-loop μ-loop Inv-judge μ-judge
 loop-again c =
     let w = c .before .before .before .loop .inv in
-    (omega arith, w .1, w .2, items-next (sum-rule-is _ _ _ _ _ _ _ _ _ _ _ (omega arith)) (w .3) (omega arith) (c .before .sum-test .ensures) (c .if1 .left))
+    (omega arith, w .1, w .2, items-next (sum-rule-is _ _ _ _ _ _ _ _ _ _ _ _ (omega arith)) (w .3) (omega arith) (c .before .sum-test .ensures) (c .if1 .left))
 
 add-k : tie.Need-add-k Inv-loop μ-loop Inv-judge μ-judge
 add-k c = search needs
@@ -78,7 +78,7 @@ judge-less c = search needs
 judge-again : tie.Need-judge-again Inv-loop μ-loop Inv-judge μ-judge
 judge-again c =
     let w = c .before .loop .inv in
-    (omega arith, w .2, items-done (sum-rule-is _ _ _ _ _ _ _ _ _ _ _ (omega arith)) (w .3) (omega arith))
+    (omega arith, w .2, items-done (sum-rule-is _ _ _ _ _ _ _ _ _ _ _ _ (omega arith)) (w .3) (omega arith))
 
 returns : tie.Need-returns Inv-loop μ-loop Inv-judge μ-judge
 unfolding sumRulesIn
@@ -89,7 +89,7 @@ returns c =
 returns-2 : tie.Need-returns-2 Inv-loop μ-loop Inv-judge μ-judge
 returns-2 c =
     let w = c .before .before .before .loop .inv in
-    items-hit (sum-rule-is _ _ _ _ _ _ _ _ _ _ _ (omega arith)) (w .3) (omega arith) (c .before .sum-test .ensures) (c .if1 .taken)
+    items-hit (sum-rule-is _ _ _ _ _ _ _ _ _ _ _ _ (omega arith)) (w .3) (omega arith) (c .before .sum-test .ensures) (c .if1 .taken)
 
 pub first-sum-break-spec : {M : Type 1} → statement M
 first-sum-break-spec =
@@ -103,11 +103,11 @@ first-sum-break-spec =
     sum-items-requires
     loop-holds
     sum-test-requires
-    cast-t18
-    add-t19
-    cast-t20
-    add-t21
-    cast-t22
+    cast-t19
+    add-t20
+    cast-t21
+    add-t22
+    cast-t23
     add-item
     loop-less
     loop-again

@@ -1,7 +1,7 @@
 -- `step_sums::leaves_arrived` meets its contract. Assumes nothing.
-use borrow.Author.Needs.{needs}
 use Rattle.step_sums.specs.Sums.{leavesArrived}
-use Rattle.step_sums.proofs.Turns.{row-before, seconds-small, elapsed-small}
+use Rattle.step_sums.proofs.Turns.{seconds-small, elapsed-small}
+use borrow.Author.Needs.{needs}
 use Rattle.step_sums.proofs.leaves_arrived.Statement.{statement}
 use Rattle.step_sums.proofs.leaves_arrived.Tie as tie
 
@@ -11,30 +11,23 @@ mul-step c = search needs
 shared-slice-read-step : tie.Need-shared-slice-read-step
 shared-slice-read-step c = search needs
 
-entered-at-requires : tie.Need-entered-at-requires
-entered-at-requires c κs =
-    let s = c .before .before .before .before .before .before in
-    row-before (s .pre .0 .held) (s .pre .0 .before (s .args .i) (s .pre .1)) (s .pre .1)
+entered-before-requires : tie.Need-entered-before-requires
+entered-before-requires c κs = (c .before .before .before .before .before .before .before .pre .0 .held, (c .before .before .before .before .before .before .before .pre .0 .before (c .before .before .before .before .before .before .before .args .i) (c .before .before .before .before .before .before .before .pre .1), c .before .before .before .before .before .before .before .pre .1))
 
 entered-after-requires : tie.Need-entered-after-requires
-entered-after-requires c κs =
-    let s = c .before .before .before .before .before .before .before in
-    (s .pre .0 .held, (s .pre .0 .before (s .args .i) (s .pre .1), s .pre .1))
+entered-after-requires c κs = (c .before .before .before .before .before .before .before .before .pre .0 .held, (c .before .before .before .before .before .before .before .before .pre .0 .before (c .before .before .before .before .before .before .before .before .args .i) (c .before .before .before .before .before .before .before .before .pre .1), c .before .before .before .before .before .before .before .before .pre .1))
 
 seconds-requires : tie.Need-seconds-requires
-seconds-requires c κs =
-    let s = c .before .before .before .before .before .before .before .before in
-    let h = s .pre .0 .before (s .args .i) (s .pre .1) in
-    search needs
+seconds-requires c κs = let h = c .before .before .before .before .before .before .before .before .before .pre .0 .before (c .before .before .before .before .before .before .before .before .before .args .i) (c .before .before .before .before .before .before .before .before .before .pre .1) in search needs
+
+add-elapsed : tie.Need-add-elapsed
+add-elapsed c = search needs
 
 travel-time-requires : tie.Need-travel-time-requires
 travel-time-requires c κs = search needs
 
 elapsed-requires : tie.Need-elapsed-requires
-elapsed-requires c κs =
-    let s = c .before .before .before .before .before .before .before .before .before .before in
-    let h = s .pre .0 .before (s .args .i) (s .pre .1) in
-    search needs
+elapsed-requires c κs = let h = c .before .before .before .before .before .before .before .before .before .before .before .before .pre .0 .before (c .before .before .before .before .before .before .before .before .before .before .before .before .args .i) (c .before .before .before .before .before .before .before .before .before .before .before .before .pre .1) in search needs
 
 left-requires : tie.Need-left-requires
 left-requires c κs = search needs
@@ -43,20 +36,11 @@ times-requires : tie.Need-times-requires
 times-requires c κs = search needs
 
 scaled-arrived-requires : tie.Need-scaled-arrived-requires
-scaled-arrived-requires c κs =
-    let s = c .before .before .before .before .before .before .before .before .before .before .before .before .before in
-    let h = s .pre .0 .before (s .args .i) (s .pre .1) in
-    (seconds-small (s .pre .0 .rising) _ h (c .before .before .before .before .seconds .ensures), elapsed-small (s .pre .0 .rising) _ _ (c .before .before .elapsed .ensures))
+scaled-arrived-requires c κs = let h = c .before .before .before .before .before .before .before .before .before .before .before .before .before .before .before .pre .0 .before (c .before .before .before .before .before .before .before .before .before .before .before .before .before .before .before .args .i) (c .before .before .before .before .before .before .before .before .before .before .before .before .before .before .before .pre .1) in (seconds-small (c .before .before .before .before .before .before .before .before .before .before .before .before .before .before .before .pre .0 .rising) _ h (c .before .before .before .before .before .seconds .ensures), elapsed-small (c .before .before .before .before .before .before .before .before .before .before .before .before .before .before .before .pre .0 .rising) _ _ (c .before .before .elapsed .ensures))
 
 returns : tie.Need-returns
 unfolding leavesArrived
-returns c =
-    let at = c .before .before .before .before .before .before .before in
-    let after = c .before .before .before .before .before .before in
-    let length = c .before .before .before .before .before in
-    let travel = c .before .before .before .before in
-    let over = c .before .before .before in
-    rw (c .before .times .ensures, c .scaled-arrived .ensures, c .before .before .left .ensures, at .entered-at .ensures, after .entered-after .ensures, over .elapsed .ensures, travel .travel-time .ensures, length .seconds .ensures)
+returns c = rw (c .before .times .ensures, c .scaled-arrived .ensures, c .before .before .left .ensures, c .before .before .before .before .before .before .before .before .entered-before .ensures, c .before .before .before .before .before .before .before .entered-after .ensures, c .before .before .before .elapsed .ensures, c .before .before .before .before .travel-time .ensures, c .before .before .before .before .before .before .seconds .ensures)
 
 pub leaves-arrived-spec : {M : Type 1} → statement M
 leaves-arrived-spec =
@@ -64,9 +48,10 @@ leaves-arrived-spec =
     (tie.spec
     mul-step
     shared-slice-read-step
-    entered-at-requires
+    entered-before-requires
     entered-after-requires
     seconds-requires
+    add-elapsed
     travel-time-requires
     elapsed-requires
     left-requires

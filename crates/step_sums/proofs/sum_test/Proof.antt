@@ -8,17 +8,17 @@ use Rattle.step_sums.proofs.sum_test.Statement.{statement}
 use Rattle.step_sums.proofs.sum_test.Tie as tie
 
 keeps-share-requires : tie.Need-keeps-share-requires
-keeps-share-requires c κs = (c .before .before .before .before .before .before .before .before .before .pre .0 .share, rw (c .match .keys1) at (c .before .before .before .before .before .before .before .before .before .pre .1))
+keeps-share-requires c κs = (c .before .before .before .before .before .before .before .before .before .before .pre .0 .share, rw (c .match .keys1) at (c .before .before .before .before .before .before .before .before .before .before .pre .1))
 
 leaves-arrived-requires : tie.Need-leaves-arrived-requires
 leaves-arrived-requires c κs =
-    (c .before .before .before .before .before .before .before .before .before .pre .0 .arrival, rw (c .match .keys2) at (c .before .before .before .before .before .before .before .before .before .pre .1))
+    (c .before .before .before .before .before .before .before .before .before .before .pre .0 .arrival, rw (c .match .keys2) at (c .before .before .before .before .before .before .before .before .before .before .pre .1))
 
 fits-capacity-requires : tie.Need-fits-capacity-requires
 fits-capacity-requires c κs =
-    let asked = c .before .before .before .before .before .before .before .before .before .pre .0 in
-    let i = c .before .before .before .before .before .before .before .before .before .args .item in
-    let h : i < c .before .before .before .before .before .before .before .before .before .args .counts .links = rw (c .match .keys3) at (c .before .before .before .before .before .before .before .before .before .pre .1) in
+    let asked = c .before .before .before .before .before .before .before .before .before .before .pre .0 in
+    let i = c .before .before .before .before .before .before .before .before .before .before .args .item in
+    let h : i < c .before .before .before .before .before .before .before .before .before .before .args .counts .links = rw (c .match .keys3) at (c .before .before .before .before .before .before .before .before .before .before .pre .1) in
     search needs
 
 returns : tie.Need-returns
@@ -34,7 +34,7 @@ unfolding sumTest
 returns-3 c = rw (c .before .match .keys3) (c .fits-capacity .ensures)
 
 returns-4 : tie.Need-returns-4
-returns-4 c = no-sum-test _ _ _ _ _ _ _ _ _ _ _ _ (omega arith)
+returns-4 c = no-sum-test _ _ _ _ _ _ _ _ _ _ _ _ _ (omega arith)
 
 pub sum-test-spec : {M : Type 1} → statement M
 sum-test-spec =

@@ -1,0 +1,34 @@
+-- `step_sums::entered_before` meets its contract. Assumes nothing.
+use Rattle.step_sums.proofs.Turns.{row-before, before-past, before-later}
+use borrow.Author.Needs.{needs}
+use Rattle.step_sums.proofs.entered_before.Statement.{statement}
+use Rattle.step_sums.proofs.entered_before.Tie as tie
+
+mul-result : tie.Need-mul-result
+mul-result c = search needs
+
+mul-result-2 : tie.Need-mul-result-2
+mul-result-2 c = search needs
+
+shared-slice-read-result : tie.Need-shared-slice-read-result
+shared-slice-read-result c = search needs
+
+returns : tie.Need-returns
+returns c = search (before-past, needs)
+
+entered-at-requires : tie.Need-entered-at-requires
+entered-at-requires c κs = row-before (c .before .before .before .before .before .before .pre .0) (search needs) (c .before .before .before .before .before .before .pre .1 .1)
+
+returns-2 : tie.Need-returns-2
+returns-2 c = search (before-later, needs)
+
+pub entered-before-spec : {M : Type 1} → statement M
+entered-before-spec =
+    tie.close
+    (tie.spec
+    mul-result
+    mul-result-2
+    shared-slice-read-result
+    returns
+    entered-at-requires
+    returns-2)
