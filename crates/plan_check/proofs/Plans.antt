@@ -36,7 +36,7 @@ use Rattle.network.specs.Loading.{Loaded}
 use Rattle.step_rows.specs.Rows.{startRow}
 use Rattle.step_rows.proofs.Texts.{start-row-is}
 use Rattle.step_rows.proofs.Ledger.{first-written}
-use Rattle.plan_steps.specs.State.{RunAsked, RunGot}
+use Rattle.plan_steps.specs.Steps.{RunAsked, RunGot}
 use Rattle.plan_steps.proofs.Ledger.{written-again}
 use Rattle.plan_check.specs.Plan.{PlanGot}
 

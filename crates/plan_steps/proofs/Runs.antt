@@ -24,7 +24,7 @@ use Rattle.model.specs.declared.PlanAnswer.the-variants as plan-answer
 use Rattle.model.specs.Sum.{joined}
 use Rattle.model.specs.Network.{maxLinks, linkCount, stepCount, signal}
 use Rattle.model.specs.Flows.{signalAt, totals}
-use Rattle.model.specs.Table.{isForm, letterP, ledgerChecks, lineChecks}
+use Rattle.model.specs.Table.{isForm, letterP, ledgerChecks, lineChecks, planLineChecks}
 use Rattle.model.specs.Hold.{planOf}
 use Rattle.model.specs.Calls.{planAnswer, written, ledgerAfter}
 use Rattle.model.specs.Guarantees.{RowDue}
@@ -44,7 +44,8 @@ use Rattle.step_rows.proofs.Ledger.{row-holds}
 use Rattle.plan_steps.specs.declared.State.{State}
 use Rattle.plan_steps.specs.declared.Taken.{Taken}
 use Rattle.plan_steps.specs.Totals.{heldIn}
-use Rattle.plan_steps.specs.State.{StateAt, StepAsked, StepGot, finished, RunAsked, RunGot, Running}
+use Rattle.plan_steps.specs.State.{StateAt, StepAsked, StepGot, finished}
+use Rattle.plan_steps.specs.Steps.{RunAsked, RunGot, StepsAsked, Stopped, AllTaken, StepsGot, Running}
 use Rattle.plan_steps.proofs.Verdicts.{formed, plan-stops, plan-surplus, plan-passes}
 use Rattle.plan_steps.proofs.PlanLines.{plan-ends}
 use Rattle.plan_steps.proofs.Ledger.{written-again}
@@ -91,46 +92,51 @@ module _ (plan : List ℕ) (at steps : ℕ) (t : Totals) (b : Bool) (e : b ≡ a
   unfolding finished
   finish-more h = rw (← e, h)
 
--- ---- the loop
-pub held-asked : {networkText planText : List ℕ} {reading : Reading} {links movements times old : List ℕ}
-    → RunAsked networkText planText reading links movements times old → (reading .counts .links ≤ maxLinks) × (2 * reading .counts .links ≤ length old)
-held-asked {networkText} a =
-    let m : 1 ≤ suc (stepCount (lines networkText)) = omega arith in
-    (a .tables .counted .few .links, omega (arith, a .tables .counted .links, a .room, mul-le-mul-right (2 * linkCount (lines networkText)) m))
+-- ---- the first steps
+module _ {networkText planText : List ℕ} {reading : Reading} {steps : ℕ} {links movements times waiting old : List ℕ} (a : StepsAsked networkText planText reading steps links movements times waiting old) where
+  pub held-asked : (reading .counts .links ≤ maxLinks) × (2 * reading .counts .links ≤ length old)
+  held-asked =
+      let m : 1 ≤ suc steps = omega arith in
+      (a .tables .counted .few .links, omega (arith, a .tables .counted .links, a .room, mul-le-mul-right (2 * linkCount (lines networkText)) m))
 
-pub running-first : {networkText planText : List ℕ} {reading : Reading} {links movements times old : List ℕ}
-    → RunAsked networkText planText reading links movements times old → (held : ℕ) → held ≡ heldIn (reading .counts) old → (arrivals waiting : List ℕ) → arrivals ≡ replicate maxLinks 0
-    → waiting ≡ replicate maxLinks 0 → (signals : List Signal) → SignalTable (lines networkText) signals
-    → Running networkText planText (reading .counts) (reading .«trams_at») links movements times old
-    (record { boundary = 0; «step_at» = reading .«steps_at»; «plan_at» = 0; signals = signals; totals = record { admitted = 0; «let_out» = 0; inside = held; «doubled_time» = 0 }; outside = 0 }) arrivals waiting old
-running-first {networkText} {planText} {reading} {old = old} a held e arrivals waiting zeros none signals table =
-    let net = lines networkText in
-    let pln = planOf networkText planText in
-    let few : linkCount net ≤ maxLinks = omega (arith, a .tables .counted .links, a .tables .counted .few .links) in
-    record {
-      tables = a .tables;
-      state-at = record {
-        within = omega arith;
-        passed = λ m l. absurd (omega arith);
-        step-starts = a .steps-start;
-        plan-starts = λ h. starts-first planText;
-        signals-at = signals-first net pln signals (valid-network net (a .tables .holds)) table;
-        totals-at = totals-first net pln (a .tables .holds) (reading .counts) (a .tables .counted) old (begins net pln old (a .rows)) held e;
-        outside-at = sym (outside-start net pln);
-        waiting-at = waiting-first net pln waiting none few;
-        arrivals-at = record {
-          size = rw zeros (length-replicate {A = ℕ} maxLinks 0);
-          holds = λ i l. rw zeros (getD-replicate {A = ℕ} maxLinks i 0 0 (omega arith) ∙ omega (arith, arrival-step-le net 0 i));
+  pub running-first : (held : ℕ) → held ≡ heldIn (reading .counts) old → (arrivals : List ℕ) → arrivals ≡ replicate maxLinks 0 → (signals : List Signal) → SignalTable (lines networkText) signals
+      → Running networkText planText (reading .counts) (reading .«trams_at») steps links movements times old
+      (record {
+        verdict = Passes;
+        state =
+            record { boundary = 0; «step_at» = reading .«steps_at»; «plan_at» = 0; signals = signals; totals = record { admitted = 0; «let_out» = 0; inside = held; «doubled_time» = 0 }; outside = 0 };
+      }) arrivals waiting old
+  running-first held e arrivals zeros signals table =
+      let net = lines networkText in
+      let pln = planOf networkText planText in
+      let few : linkCount net ≤ maxLinks = omega (arith, a .tables .counted .links, a .tables .counted .few .links) in
+      record {
+        tables = a .tables;
+        passes = refl;
+        state-at = record {
+          within = omega arith;
+          passed = λ m l. absurd (omega arith);
+          step-starts = a .steps-start;
+          plan-starts = λ h. starts-first planText;
+          signals-at = signals-first net pln signals (valid-network net (a .tables .holds)) table;
+          totals-at = totals-first net pln (a .tables .holds) (reading .counts) (a .tables .counted) old (begins net pln old (a .rows)) held e;
+          outside-at = sym (outside-start net pln);
+          waiting-at = a .waiting-start;
+          arrivals-at = record {
+            size = rw zeros (length-replicate {A = ℕ} maxLinks 0);
+            holds = λ i l. rw zeros (getD-replicate {A = ℕ} maxLinks i 0 0 (omega arith) ∙ omega (arith, arrival-step-le net 0 i));
+          };
+          rows = a .rows;
         };
-        rows = a .rows;
+        few-steps = a .few-steps;
+        within = omega arith;
+        since = a .rows;
+        long = refl;
         room = a .room;
-      };
-      since = a .rows;
-      long = refl;
-    }
+      }
 
-module _ {networkText planText : List ℕ} {counts : Counts} {tramsAt : ℕ} {links movements times old : List ℕ} {state : State} {arrivals waiting ledger : List ℕ}
-    (r : Running networkText planText counts tramsAt links movements times old state arrivals waiting ledger) where
+module _ {networkText planText : List ℕ} {counts : Counts} {tramsAt steps : ℕ} {links movements times old : List ℕ} {taken : Taken} {arrivals waiting ledger : List ℕ}
+    (r : Running networkText planText counts tramsAt steps links movements times old taken arrivals waiting ledger) where
   abbrev net : List Line
   net = lines networkText
 
@@ -138,93 +144,150 @@ module _ {networkText planText : List ℕ} {counts : Counts} {tramsAt : ℕ} {li
   pln = planOf networkText planText
 
   abbrev n : ℕ
-  n = state .boundary
+  n = taken .state .boundary
 
-  pub running-asked : n < counts .steps → StepAsked networkText planText counts tramsAt links movements times arrivals waiting ledger state
-  running-asked h = record { tables = r .tables; state-at = r .state-at; more = omega (arith, r .tables .counted .steps) }
-
-  -- row n is due, and all that are due are written where the next is not
-  due : RowDue net pln (length old) n
-  due =
+  pub running-asked : n < steps → StepAsked networkText planText counts tramsAt links movements times arrivals waiting ledger (taken .state)
+  running-asked h =
       record {
-        in-plan = r .state-at .within;
-        network-holds = r .tables .holds;
-        ledger-holds = unfold Hold ledgerChecks in le-leb _ _ (rw (r .long) at (r .state-at .room));
-        steps-hold = λ m l. hold-of-passes (lineChecks net pln m) (r .state-at .passed m l);
+        tables = r .tables;
+        state-at = r .state-at;
+        more = omega (arith, r .few-steps);
+        room = let m : suc (suc n) ≤ suc steps = omega arith in omega (arith, r .room, r .long, mul-le-mul-right (2 * linkCount net) m);
       }
 
-  rows-are : (RowDue net pln (length old) (suc n) → ⊥) → ledger ≡ ledgerAfter net pln old
-  unfolding ledgerAfter
-  rows-are h = r .since ∙ ap (written net pln old) (sym (rows-until net pln (length old) n due h))
-
-  module _ {taken : Taken} {arrivals′ waiting′ ledger′ : List ℕ} (got : StepGot networkText planText ledger state taken arrivals′ waiting′ ledger′) (h : n < counts .steps) where
-    more : n < stepCount net
-    more = omega (arith, r .tables .counted .steps)
-
+  module _ {after : Taken} {arrivals′ waiting′ ledger′ : List ℕ} (got : StepGot networkText planText ledger (taken .state) after arrivals′ waiting′ ledger′) (h : n < steps) where
     -- a step is refused
-    pub run-refused : {q : Refusal} → taken .verdict ≡ Refused q → RunGot networkText planText old (plan-answer.Refused q) ledger′
-    run-refused {q} e =
-        let b = sym (got .told) ∙ e in
-        let v = plan-stops net pln n q (r .state-at .passed) more b in
+    pub steps-stopped : {q : Refusal} → after .verdict ≡ Refused q → StepsGot networkText planText old steps after waiting′ ledger′
+    steps-stopped {q} e =
         record {
-          answered = rw v (unfold planAnswer in refl);
-          rows = got .kept q e ∙ rows-are (λ d. refused-fails (lineChecks net pln n) q b (d .steps-hold n (omega arith)));
-          some-row = omega (arith, due-written net pln (length old) n due);
+          stopped = λ q′ e′. record { step = n; within = h; passed = r .state-at .passed; refused = sym (got .told) ∙ e′; rows = got .kept q′ e′ ∙ r .since };
+          reached = λ p. let z : _≡_ {A = ℕ} 0 1 = cc in absurd (omega arith);
         }
 
     -- it passes
-    pub running-next : taken .verdict ≡ Passes → Running networkText planText counts tramsAt links movements times old (taken .state) arrivals′ waiting′ ledger′
+    pub running-next : after .verdict ≡ Passes → Running networkText planText counts tramsAt steps links movements times old after arrivals′ waiting′ ledger′
     running-next e =
-        let m : taken .state .boundary ≡ suc n = got .boundary e ∙ add-one n in
+        let m : after .state .boundary ≡ suc n = got .boundary e ∙ add-one n in
         let w = got .row-more e in
         record {
           tables = r .tables;
+          passes = e;
           state-at = got .reached e;
+          few-steps = r .few-steps;
+          within = omega (arith, m);
           since = rw m (w ∙ ap (λ x. written net pln x (suc (suc n))) (r .since) ∙ written-again net pln old (suc n) (suc (suc n)) (omega arith));
-          long = ap length w ∙ length-written net pln ledger (suc (suc n)) (room-next (got .reached e) m w) ∙ r .long;
+          long = ap length w ∙ length-written net pln ledger (suc (suc n)) (running-asked h .room) ∙ r .long;
+          room = r .room;
         }
-      where
-        room-next : StateAt networkText planText (taken .state) arrivals′ waiting′ ledger′ → taken .state .boundary ≡ suc n → ledger′ ≡ written net pln ledger (suc (suc n)) → 2 * suc (suc n) * linkCount net ≤ length ledger
-        room-next at m w = let k : suc (suc n) ≤ suc (stepCount net) = omega (arith, more) in omega (arith, r .state-at .room, mul-le-mul-right (2 * linkCount net) k)
 
-    pub running-less : taken .verdict ≡ Passes → counts .steps - taken .state .boundary < counts .steps - n
+    pub running-less : after .verdict ≡ Passes → steps - after .state .boundary < steps - n
     running-less e = omega (arith, got .boundary e)
 
-  -- ---- all steps have passed
-  is-all : counts .steps ≤ n → n ≡ stepCount net
-  is-all h = omega (arith, r .state-at .within, r .tables .counted .steps)
-
-  passed-all : counts .steps ≤ n → (m : ℕ) → m < stepCount net → verdict (lineChecks net pln m) ≡ Passes
-  passed-all h m l = r .state-at .passed m (omega (arith, is-all h))
-
-  pub run-finished : {answer : PlanAnswer} → counts .steps ≤ n → answer ≡ finished planText (state .«plan_at») (counts .steps) (state .totals) → RunGot networkText planText old answer ledger
-  run-finished {answer} h f = go (eqb (length pln) (stepCount net)) refl
+  -- all of them have passed
+  pub steps-taken : steps ≤ n → StepsGot networkText planText old steps taken waiting ledger
+  steps-taken h =
+      record {
+        stopped = λ q e. let p = r .passes in let z : _≡_ {A = ℕ} 0 1 = cc in absurd (omega arith);
+        reached = λ p. rw (← is) all;
+      }
     where
-      at-end : (b : Bool) → eqb (length pln) (stepCount net) ≡ b → atEnd planText (state .«plan_at») ≡ b
-      at-end b e = plan-ends networkText planText (state .«plan_at») n (r .state-at .plan-starts) (lines-within net pln n (r .state-at .passed)) (is-all h) ∙ ap (eqb (length pln)) (is-all h) ∙ e
+      is : n ≡ steps
+      is = omega (arith, r .within)
 
-      made : (b : Bool) → eqb (length pln) (stepCount net) ≡ b → answer ≡ cond b (plan-answer.Accepted (state .totals)) (plan-answer.Refused (refusal 9 (counts .steps + 1) 0))
-      made b e = f ∙ (unfold finished in ap (λ x. cond x (plan-answer.Accepted (state .totals)) (plan-answer.Refused (refusal 9 (counts .steps + 1) 0))) (at-end b e))
-
-      accepted-is : plan-answer.Accepted (state .totals) ≡ planAnswer net pln Passes
-      accepted-is = unfold planAnswer in ap plan-answer.Accepted (r .state-at .totals-at ∙ ap (totals net pln) (is-all h))
-
-      refused-is : (q : Refusal) → plan-answer.Refused q ≡ planAnswer net pln (Refused q)
-      refused-is q = unfold planAnswer in refl
-
-      go : (b : Bool) → eqb (length pln) (stepCount net) ≡ b → RunGot networkText planText old answer ledger
-      go true e =
-          let v = plan-passes net pln (passed-all h) e in
+      all : AllTaken networkText planText old n (taken .state) waiting ledger
+      all =
           record {
-            answered = made true e ∙ accepted-is ∙ ap (planAnswer net pln) (sym v);
-            rows = rows-are (λ d. omega (arith, is-all h, d .in-plan));
-            some-row = omega (arith, due-written net pln (length old) n due);
+            passed = r .state-at .passed;
+            plan-starts = r .state-at .plan-starts;
+            signals-at = r .state-at .signals-at;
+            totals-at = r .state-at .totals-at;
+            waiting-at = r .state-at .waiting-at;
+            rows = r .since;
           }
-      go false e =
-          let v = plan-surplus net pln (passed-all h) e in
-          let k : counts .steps + 1 ≡ suc (stepCount net) = omega (arith, r .tables .counted .steps) in
-          record {
-            answered = made false e ∙ ap (λ x. plan-answer.Refused (refusal 9 x 0)) k ∙ refused-is (refusal 9 (suc (stepCount net)) 0) ∙ ap (planAnswer net pln) (sym v);
-            rows = rows-are (λ d. omega (arith, is-all h, d .in-plan));
-            some-row = omega (arith, due-written net pln (length old) n due);
-          }
+
+-- ---- all steps
+module _ {networkText planText : List ℕ} {reading : Reading} {links movements times old : List ℕ} (a : RunAsked networkText planText reading links movements times old) where
+  abbrev network : List Line
+  network = lines networkText
+
+  abbrev plan : List Line
+  plan = planOf networkText planText
+
+  few-links : linkCount network ≤ maxLinks
+  few-links = omega (arith, a .tables .counted .links, a .tables .counted .few .links)
+
+  pub steps-asked : (waiting : List ℕ) → waiting ≡ replicate maxLinks 0 → StepsAsked networkText planText reading (reading .counts .steps) links movements times waiting old
+  steps-asked waiting none =
+      record {
+        tables = a .tables;
+        signals-asked = a .signals-asked;
+        steps-start = a .steps-start;
+        few-steps = omega (arith, a .tables .counted .steps);
+        waiting-start = waiting-first network plan waiting none few-links;
+        rows = a .rows;
+        room = rw (a .tables .counted .steps) (a .room);
+      }
+
+  -- row n is due, and all that are due are written where the next is not
+  due : (n : ℕ) → n ≤ stepCount network → ((m : ℕ) → m < n → verdict (lineChecks network plan m) ≡ Passes) → RowDue network plan (length old) n
+  due n h passed =
+      record {
+        in-plan = h;
+        network-holds = a .tables .holds;
+        ledger-holds = unfold Hold ledgerChecks in le-leb _ _ (a .room);
+        steps-hold = λ m l. hold-of-passes (lineChecks network plan m) (passed m l);
+      }
+
+  rows-are : {ledger : List ℕ} (n : ℕ) → RowDue network plan (length old) n → (RowDue network plan (length old) (suc n) → ⊥) → ledger ≡ written network plan old (suc n) → ledger ≡ ledgerAfter network plan old
+  unfolding ledgerAfter
+  rows-are n d h since = since ∙ ap (written network plan old) (sym (rows-until network plan (length old) n d h))
+
+  module _ {taken : Taken} {waiting ledger : List ℕ} (got : StepsGot networkText planText old (reading .counts .steps) taken waiting ledger) where
+    -- a step is refused
+    pub run-refused : {q : Refusal} → taken .verdict ≡ Refused q → RunGot networkText planText old (plan-answer.Refused q) ledger
+    run-refused {q} e =
+        let s = got .stopped q e in
+        let more : s .step < stepCount network = omega (arith, s .within, a .tables .counted .steps) in
+        let d = due (s .step) (omega arith) (s .passed) in
+        record {
+          answered = rw (plan-stops network plan (s .step) q (s .passed) more (s .refused)) (unfold planAnswer in refl);
+          rows = rows-are (s .step) d (λ e. refused-fails (lineChecks network plan (s .step)) q (s .refused) (e .steps-hold (s .step) (omega arith))) (s .rows);
+          some-row = omega (arith, due-written network plan (length old) (s .step) d);
+        }
+
+    -- all have passed
+    pub run-finished : {answer : PlanAnswer} → taken .verdict ≡ Passes → answer ≡ finished planText (taken .state .«plan_at») (reading .counts .steps) (taken .state .totals) → RunGot networkText planText old answer ledger
+    run-finished {answer} p f = go (eqb (length plan) (stepCount network)) refl
+      where
+        all : AllTaken networkText planText old (stepCount network) (taken .state) waiting ledger
+        all = rw (a .tables .counted .steps) at (got .reached p)
+
+        at-end : (b : Bool) → eqb (length plan) (stepCount network) ≡ b → atEnd planText (taken .state .«plan_at») ≡ b
+        at-end b e = plan-ends networkText planText (taken .state .«plan_at») (stepCount network) (all .plan-starts) (lines-within network plan (stepCount network) (all .passed)) refl ∙ e
+
+        made : (b : Bool) → eqb (length plan) (stepCount network) ≡ b → answer ≡ cond b (plan-answer.Accepted (taken .state .totals)) (plan-answer.Refused (refusal 9 (reading .counts .steps + 1) 0))
+        made b e = f ∙ (unfold finished in ap (λ x. cond x (plan-answer.Accepted (taken .state .totals)) (plan-answer.Refused (refusal 9 (reading .counts .steps + 1) 0))) (at-end b e))
+
+        accepted-is : plan-answer.Accepted (taken .state .totals) ≡ planAnswer network plan Passes
+        accepted-is = unfold planAnswer in ap plan-answer.Accepted (all .totals-at)
+
+        refused-is : (q : Refusal) → plan-answer.Refused q ≡ planAnswer network plan (Refused q)
+        refused-is q = unfold planAnswer in refl
+
+        last-due : RowDue network plan (length old) (stepCount network)
+        last-due = due (stepCount network) (omega arith) (all .passed)
+
+        got-by : answer ≡ planAnswer network plan (verdict (planLineChecks network plan)) → RunGot networkText planText old answer ledger
+        got-by e =
+            record {
+              answered = e;
+              rows = rows-are (stepCount network) last-due (λ d. omega (arith, d .in-plan)) (all .rows);
+              some-row = omega (arith, due-written network plan (length old) (stepCount network) last-due);
+            }
+
+        go : (b : Bool) → eqb (length plan) (stepCount network) ≡ b → RunGot networkText planText old answer ledger
+        go true e = got-by (made true e ∙ accepted-is ∙ ap (planAnswer network plan) (sym (plan-passes network plan (all .passed) e)))
+        go false e =
+            let k : reading .counts .steps + 1 ≡ suc (stepCount network) = omega (arith, a .tables .counted .steps) in
+            got-by (made false e ∙ ap (λ x. plan-answer.Refused (refusal 9 x 0)) k ∙ refused-is (refusal 9 (suc (stepCount network)) 0)
+            ∙ ap (planAnswer network plan) (sym (plan-surplus network plan (all .passed) e)))

@@ -155,10 +155,10 @@ module _ {networkText planText : List ℕ} {counts : Counts} {tramsAt : ℕ} {li
   place-small = let m : 2 * (n + 1) ≤ 240 = omega (arith, step-few) in omega (arith, mul-le-mul-right (counts .links) m, counted .few .links)
 
   room-after : 2 * suc (suc n) * linkCount net ≤ length ledger
-  room-after = let m : suc (suc n) ≤ suc (stepCount net) = omega (arith, asked .more) in omega (arith, asked .state-at .room, mul-le-mul-right (2 * linkCount net) m)
+  room-after = asked .room
 
   room-before : 2 * n * counts .links ≤ length ledger
-  room-before = rw (counted .links) (omega (arith, asked .state-at .room, mul-le-mul-right (2 * linkCount net) (asked .state-at .within)))
+  room-before = rw (counted .links) (omega (arith, room-after))
 
   row-room : 2 * linkCount net ≤ length ledger - 2 * n * counts .links
   row-room = rw (counted .links) (omega (arith, room-after))
@@ -387,7 +387,6 @@ module _ {networkText planText : List ℕ} {counts : Counts} {tramsAt : ℕ} {li
                           waiting-at = rw is-next (waiting-at stay);
                           rows = rw is-next
                               (rows-written ∙ sym (written-again net pln ledger (suc (suc n)) (suc (suc n)) (omega arith)) ∙ ap (λ x. written net pln x (suc (suc n))) (sym rows-written));
-                          room = rw (ap length rows-written ∙ length-written net pln ledger (suc (suc n)) room-after) (asked .state-at .room);
                         }
 
                     pub step-kept : StepGot networkText planText ledger state (record { verdict = v; state = next }) arrivals′ waiting′ ledger′

@@ -1,3 +1,4 @@
 pub mod Totals
 pub mod PlanLine
 pub mod State
+pub mod Steps

@@ -53,7 +53,6 @@ pub record StateAt (networkText planText : List ℕ) (state : State) (arrivals w
   pub arrivals-at : ArrivalTable (lines networkText) (state .boundary) arrivals
   pub waiting-at : WaitingTable (lines networkText) (planOf networkText planText) (state .boundary) waiting
   pub rows : ledger ≡ written (lines networkText) (planOf networkText planText) ledger (suc (state .boundary))
-  pub room : 2 * suc (stepCount (lines networkText)) * linkCount (lines networkText) ≤ length ledger
 
 -- what the state after a step that is kept asks, by the step's tables ..
 pub record NextAsked (state : State) (counts : Counts) (step line phases asked row waiting : List ℕ) : Type 0 where
@@ -73,11 +72,12 @@ pub record NextGot (state : State) (counts : Counts) (step line phases asked row
   pub totals : next .totals ≡ totalsAfter (state .totals) (state .outside) (next .outside) counts line step row
   pub outside : next .outside ≡ sum (counts .links) (waitingIn waiting)
 
--- what taking the next step asks ..
+-- what taking the next step asks, with room for the row after it ..
 pub record StepAsked (networkText planText : List ℕ) (counts : Counts) (tramsAt : ℕ) (links movements times arrivals waiting ledger : List ℕ) (state : State) : Type 0 where
   pub tables : Tables networkText counts tramsAt links movements times
   pub state-at : StateAt networkText planText state arrivals waiting ledger
   pub more : state .boundary < stepCount (lines networkText)
+  pub room : 2 * suc (suc (state .boundary)) * linkCount (lines networkText) ≤ length ledger
 
 -- .. and promises: the verdict on the step's line; where it is refused, the ledger is what it was, and where it passes, the next state is reached and the ledger
 -- has one row more
@@ -91,24 +91,3 @@ pub record StepGot (networkText planText old : List ℕ) (state : State) (taken 
 -- the answer once all steps have passed: the plan's text is at its end, or one line more is refused
 unfoldable pub finished : List ℕ → ℕ → ℕ → Totals → PlanAnswer
 finished plan at steps t = cond (atEnd plan at) (plan-answer.Accepted t) (plan-answer.Refused (refusal 9 (steps + 1) 0))
-
--- what taking all steps asks, with row 0 in the ledger ..
-pub record RunAsked (networkText planText : List ℕ) (reading : Reading) (links movements times ledger : List ℕ) : Type 0 where
-  pub tables : Tables networkText (reading .counts) (reading .«trams_at») links movements times
-  pub signals-asked : LoadAsked networkText reading
-  pub steps-start : Starts networkText (reading .«steps_at») (stepLine (lines networkText) 0)
-  pub rows : ledger ≡ written (lines networkText) (planOf networkText planText) ledger 1
-  pub room : 2 * suc (stepCount (lines networkText)) * linkCount (lines networkText) ≤ length ledger
-
--- .. and promises: the answer, and the ledger with the rows of the steps that have passed
-pub record RunGot (networkText planText old : List ℕ) (answer : PlanAnswer) (ledger : List ℕ) : Type 0 where
-  pub answered : answer ≡ planAnswer (lines networkText) (planOf networkText planText) (verdict (planLineChecks (lines networkText) (planOf networkText planText)))
-  pub rows : ledger ≡ ledgerAfter (lines networkText) (planOf networkText planText) old
-  pub some-row : 1 ≤ rowsWritten (lines networkText) (planOf networkText planText) (length old)
-
--- the state while the steps are taken, since the ledger was `old`
-pub record Running (networkText planText : List ℕ) (counts : Counts) (tramsAt : ℕ) (links movements times old : List ℕ) (state : State) (arrivals waiting ledger : List ℕ) : Type 0 where
-  pub tables : Tables networkText counts tramsAt links movements times
-  pub state-at : StateAt networkText planText state arrivals waiting ledger
-  pub since : ledger ≡ written (lines networkText) (planOf networkText planText) old (suc (state .boundary))
-  pub long : length ledger ≡ length old

@@ -1,7 +1,8 @@
 // The steps of a plan, taken one after another: each is read, judged and, where every rule is kept, written into the ledger.
 ghost use mathlib.Core.Path.{_≡_};
 ghost use Prim.Native.Nat.{_+_, _*_, _≤_};
-ghost use Rattle.plan_steps.specs.State.{NextAsked, NextGot, StepAsked, StepGot, RunAsked, RunGot, finished};
+ghost use Rattle.plan_steps.specs.State.{NextAsked, NextGot, StepAsked, StepGot, finished};
+ghost use Rattle.plan_steps.specs.Steps.{StepsAsked, StepsGot, RunAsked, RunGot};
 ghost use Rattle.plan_steps.specs.PlanLine.{LineAsked, LineGot};
 ghost use Rattle.plan_steps.specs.Totals.{totalsAfter, TotalsAsked};
 ghost use Rattle.model.specs.Network.{maxSteps};
@@ -198,24 +199,25 @@ fn finish(plan: &[u8], at: usize, steps: usize, totals: Totals) -> PlanAnswer
     }
 }
 
-// Takes the steps one after another, up to the first that is refused; the ledger has row 0. A plan with more lines than steps is refused after the last. The
-// signals are loaded here, straight into the first state: one copy of them less on the stack.
-pub fn run_steps(
+// Takes the first steps, so many, one after another, up to the first that is refused; the ledger has row 0. The signals are loaded here, straight into the
+// first state: one copy of them less on the stack.
+pub fn take_steps(
     network: &[u8],
     plan: &[u8],
     reading: Reading,
+    steps: usize,
     links: &[u32],
     movements: &[u32],
     times: &[u32],
+    waiting: &mut [u32],
     ledger: &mut [u32],
-) -> PlanAnswer
-    requires { ⌜ RunAsked (now network) (now plan) reading (now links) (now movements) (now times) (now ledger) ⌝ }
-    ensures { λ r. ⌜ RunGot (now (network .entry)) (now (plan .entry)) (now (ledger .entry)) r (now (ledger .exit)) ⌝ }
+) -> Taken
+    requires { ⌜ StepsAsked (now network) (now plan) reading steps (now links) (now movements) (now times) (now waiting) (now ledger) ⌝ }
+    ensures { λ r. ⌜ StepsGot (now (network .entry)) (now (plan .entry)) (now (ledger .entry)) steps r (now (waiting .exit)) (now (ledger .exit)) ⌝ }
 {
     let counts = reading.counts;
     let trams_at = reading.trams_at;
     let mut arrivals = [0usize; MAX_LINKS];
-    let mut waiting = [0u32; MAX_LINKS];
     let totals = Totals {
         admitted: 0,
         let_out: 0,
@@ -234,7 +236,7 @@ pub fn run_steps(
         verdict: Verdict::Passes,
         state,
     };
-    while taken.state.boundary < counts.steps {
+    while taken.state.boundary < steps {
         let state = taken.state;
         taken = take_step(
             network,
@@ -245,15 +247,48 @@ pub fn run_steps(
             movements,
             times,
             &mut arrivals,
-            &mut waiting,
+            waiting,
             ledger,
             state,
         );
         let verdict = taken.verdict;
-        if let Verdict::Refused(refusal) = verdict {
-            return PlanAnswer::Refused(refusal);
-        }
+        let Verdict::Passes = verdict else {
+            return taken;
+        };
+    }
+    taken
+}
+
+// Takes all steps; the ledger has row 0. A plan with more lines than steps is refused after the last.
+pub fn run_steps(
+    network: &[u8],
+    plan: &[u8],
+    reading: Reading,
+    links: &[u32],
+    movements: &[u32],
+    times: &[u32],
+    ledger: &mut [u32],
+) -> PlanAnswer
+    requires { ⌜ RunAsked (now network) (now plan) reading (now links) (now movements) (now times) (now ledger) ⌝ }
+    ensures { λ r. ⌜ RunGot (now (network .entry)) (now (plan .entry)) (now (ledger .entry)) r (now (ledger .exit)) ⌝ }
+{
+    let mut waiting = [0u32; MAX_LINKS];
+    let steps = reading.counts.steps;
+    let taken = take_steps(
+        network,
+        plan,
+        reading,
+        steps,
+        links,
+        movements,
+        times,
+        &mut waiting,
+        ledger,
+    );
+    let verdict = taken.verdict;
+    if let Verdict::Refused(refusal) = verdict {
+        return PlanAnswer::Refused(refusal);
     }
     let totals = taken.state.totals;
-    finish(plan, taken.state.plan_at, counts.steps, totals)
+    finish(plan, taken.state.plan_at, steps, totals)
 }
