@@ -69,12 +69,12 @@ module _ (network plan : List Line) (holds : Hold (networkChecks network)) (coun
           step-size = so .size;
           row-size = rs;
           short = omega (arith, so .lasts, step-limits network valid n more .length-limit);
-          few-admitted = rw at (omega (arith, admitted-total-small network plan holds n h keeps-limits, mul-le-mul-right 14_400_000 few-steps));
+          few-admitted = rw at (admitted-total-small network plan holds n h keeps-limits);
           few-let-out = rw at (omega (arith, let-out-total-small network plan holds n h keeps-limits, mul-le-mul-right 14_400_000 few-steps));
           few-inside = rw at (omega (arith, vehicles-small network plan holds n keeps-18, mul-le-mul-right 2_000_000_000 few-links));
           few-before = rw eb (outside-small network plan holds n h);
           few-after = rw ea (outside-small network plan holds (suc n) more);
-          little-time = rw at (omega (arith, doubled-small network plan holds n h keeps-18, mul-le-mul-right 5_967_360_000_000 few-steps));
+          little-time = rw at (omega (arith, doubled-small network plan holds n h keeps-18, mul-le-mul-right 10_696_896_000_000 few-steps));
         }
       where
         few-steps : n ≤ maxSteps

@@ -2,14 +2,14 @@
 use Prim.Native.Nat.{ℕ, zero, suc, _+_, _*_, _-_, _≤_, _<_}
 use mathlib.Core.Path.{_≡_, refl, sym, ap, _∙_}
 use mathlib.Core.Bool.{Bool, true, false, cond}
-use mathlib.Core.List.{List}
+use mathlib.Core.List.{List, []}
 use native.Mathlib.Decide.{decLe}
 use native.Mathlib.Nat.{mul-le-mul-right}
 use native.Mathlib.Numerals.{add-one}
 use native.Mathlib.Omega.{arith}
 use borrow.Author.Tests.{le-leb}
 use lib.Dec.{eqb}
-use lib.ListN.{length, drop, replicate, length-replicate, getD-replicate, List·getD-eq-default}
+use lib.ListN.{length, getD, replicate, length-replicate, getD-replicate, List·getD-eq-default}
 use Rattle.search.specs.declared.Refusal.{Refusal}
 use Rattle.search.specs.declared.Verdict.the-variants.{Passes, Refused}
 use Rattle.search.specs.Checks.{refusal, verdict, Hold}
@@ -21,26 +21,31 @@ use Rattle.model.specs.declared.Signal.{Signal}
 use Rattle.model.specs.declared.Totals.{Totals}
 use Rattle.model.specs.declared.PlanAnswer.{PlanAnswer}
 use Rattle.model.specs.declared.PlanAnswer.the-variants as plan-answer
-use Rattle.model.specs.Sum.{joined}
-use Rattle.model.specs.Network.{maxLinks, linkCount, stepCount, signal}
-use Rattle.model.specs.Flows.{signalAt, totals}
-use Rattle.model.specs.Table.{isForm, letterP, ledgerChecks, lineChecks, planLineChecks}
+use Rattle.model.specs.Sum.{sum}
+use Rattle.model.specs.Network.{maxLinks, linkCount, stepCount, pastCount, onTimeline, signal}
+use Rattle.model.specs.Flows.{timelineLeft, left, signalAt, totals}
+use Rattle.model.specs.Table.{isForm, letterP, networkChecks, ledgerChecks, lineChecks, planLineChecks}
 use Rattle.model.specs.Hold.{planOf}
 use Rattle.model.specs.Calls.{planAnswer, written, ledgerAfter}
 use Rattle.model.specs.Guarantees.{RowDue}
 use Rattle.model.proofs.Accepted.{ValidNetwork, valid-network}
 use Rattle.model.proofs.Rows.{length-written}
-use Rattle.model.proofs.Waiting.{outside-start}
-use Rattle.model.proofs.Times.{arrival-step-le}
+use Rattle.model.proofs.Bounds.{left-word}
+use Rattle.model.proofs.Times.{on-timeline-mono}
+use Rattle.model.proofs.Timeline.{past-entered, start-left}
 use Rattle.model.proofs.Written.{refused-fails, due-written, rows-until}
 use Rattle.tables.specs.declared.Counts.{Counts}
 use Rattle.tables.specs.declared.Reading.{Reading}
 use Rattle.tables.specs.Tables.{SignalTable}
-use Rattle.waiting.proofs.Texts.{waiting-first}
+use Rattle.tables.specs.Fields.{rowSize}
+use Rattle.arrivals.proofs.Boundaries.{times-rise}
+use Rattle.past_curves.specs.Curves.{pastLeft, PastAsked, PastLoaded}
+use Rattle.waiting.specs.Waiting.{FirstAsked, FirstWaits, WaitingTable}
+use Rattle.waiting.proofs.Texts.{waiting-first, outside-is}
 use Rattle.step_signals.specs.Step.{SignalsAt}
 use Rattle.step_signals.proofs.Rules.{ready-first}
 use Rattle.step_rows.specs.Rows.{RowHolds}
-use Rattle.step_rows.proofs.Ledger.{row-holds}
+use Rattle.step_rows.proofs.Ledger.{first-written}
 use Rattle.plan_steps.specs.declared.State.{State}
 use Rattle.plan_steps.specs.declared.Taken.{Taken}
 use Rattle.plan_steps.specs.Totals.{heldIn}
@@ -49,11 +54,16 @@ use Rattle.plan_steps.specs.Steps.{RunAsked, RunGot, StepsAsked, Stopped
 use Rattle.plan_steps.proofs.Verdicts.{formed, plan-stops, plan-surplus, plan-passes}
 use Rattle.plan_steps.proofs.PlanLines.{plan-ends}
 use Rattle.plan_steps.proofs.Ledger.{written-again}
-use Rattle.plan_steps.proofs.Adding.{totals-first}
+use Rattle.plan_steps.proofs.Adding.{outside-sum, totals-first}
+use Rattle.plan_steps.proofs.Steps.{past-form, entered-at-start, past-fits}
 
--- a ledger that has row 0 begins with it
-begins : (network plan : List Line) (ledger : List ℕ) → ledger ≡ written network plan ledger 1 → RowHolds network plan 0 ledger
-begins network plan ledger h = row-holds network plan 0 (drop (2 * 1 * linkCount network) ledger) (h ∙ (unfold written joined in refl))
+-- what had left a link when the past ended
+left-at-start : (network : List Line) (i : ℕ) → pastLeft network (pastCount network) i ≡ left network [] 0 i
+unfolding left onTimeline
+left-at-start network i = let z : pastCount network + 0 ≡ pastCount network = omega arith in ap (λ m. timelineLeft network [] m i) (sym z)
+
+left-fits : (network : List Line) → Hold (networkChecks network) → (i : ℕ) → i < linkCount network → pastLeft network (pastCount network) i < 4294967296
+left-fits network holds i l = omega (arith, left-at-start network i, left-word network [] holds 0 (omega arith) (λ k u. absurd (omega arith)) i l)
 
 -- the signals before the plan
 signals-first : (network plan : List Line) (signals : List Signal) → ValidNetwork network → SignalTable network signals → SignalsAt network plan 0 signals
@@ -93,50 +103,124 @@ module _ (plan : List ℕ) (at steps : ℕ) (t : Totals) (b : Bool) (e : b ≡ a
   finish-more h = rw (← e, h)
 
 -- ---- the first steps
-module _ {networkText planText : List ℕ} {reading : Reading} {steps : ℕ} {links movements times waiting old : List ℕ} (a : StepsAsked networkText planText reading steps links movements times waiting old) where
-  pub held-asked : (reading .counts .links ≤ maxLinks) × (2 * reading .counts .links ≤ length old)
-  held-asked =
-      let m : 1 ≤ suc steps = omega arith in
-      (a .tables .counted .few .links, omega (arith, a .tables .counted .links, a .room, mul-le-mul-right (2 * linkCount (lines networkText)) m))
+module _ {networkText planText : List ℕ} {reading : Reading} {steps : ℕ} {links movements times waiting₀ old : List ℕ} (a : StepsAsked networkText planText reading steps links movements times waiting₀ old) where
+  abbrev netw : List Line
+  netw = lines networkText
 
-  pub running-first : (held : ℕ) → held ≡ heldIn (reading .counts) old → (arrivals : List ℕ) → arrivals ≡ replicate maxLinks 0 → (signals : List Signal) → SignalTable (lines networkText) signals
-      → Running networkText planText (reading .counts) (reading .«trams_at») steps links movements times old
-      (record {
-        verdict = Passes;
-        state =
-            record { boundary = 0; «step_at» = reading .«steps_at»; «plan_at» = 0; signals = signals; totals = record { admitted = 0; «let_out» = 0; inside = held; «doubled_time» = 0 }; outside = 0 };
-      }) arrivals waiting old
-  running-first held e arrivals zeros signals table =
-      let net = lines networkText in
-      let pln = planOf networkText planText in
-      let few : linkCount net ≤ maxLinks = omega (arith, a .tables .counted .links, a .tables .counted .few .links) in
+  abbrev plnn : List Line
+  plnn = planOf networkText planText
+
+  start-room : 2 * linkCount netw ≤ length old
+  start-room = let m : 1 ≤ suc steps = omega arith in omega (arith, a .room, mul-le-mul-right (2 * linkCount netw) m)
+
+  at-start : onTimeline netw 0 ≡ pastCount netw
+  unfolding onTimeline
+  at-start = omega arith
+
+  pub past-asked : (arrivals curves places : List ℕ) → arrivals ≡ replicate maxLinks 0 → length curves ≡ rowSize → length places ≡ maxLinks
+      → PastAsked networkText (reading .«past_at») (reading .counts) links times old arrivals curves places
+  past-asked arrivals curves places zeros c p =
       record {
-        tables = a .tables;
-        passes = refl;
-        state-at = record {
-          within = omega arith;
-          passed = λ m l. absurd (omega arith);
-          step-starts = a .steps-start;
-          plan-starts = λ h. starts-first planText;
-          signals-at = signals-first net pln signals (valid-network net (a .tables .holds)) table;
-          totals-at = totals-first net pln (a .tables .holds) (reading .counts) (a .tables .counted) old (begins net pln old (a .rows)) held e;
-          outside-at = sym (outside-start net pln);
-          waiting-at = a .waiting-start;
-          arrivals-at = record {
-            size = rw zeros (length-replicate {A = ℕ} maxLinks 0);
-            holds = λ i l. rw zeros (getD-replicate {A = ℕ} maxLinks i 0 0 (omega arith) ∙ omega (arith, arrival-step-le net 0 i));
-          };
-          rows = a .rows;
-        };
-        few-steps = a .few-steps;
-        within = omega arith;
-        since = a .rows;
-        long = refl;
-        room = a .room;
+        counted = a .tables .counted;
+        starts = a .past-start;
+        forms = past-form netw (a .tables .holds);
+        link-table = a .tables .link-table;
+        time-table = a .tables .time-table;
+        rising = rw (a .tables .counted .past, ← at-start) (times-rise (a .tables .holds) (a .tables .time-table) (onTimeline netw 0) (on-timeline-mono netw 0 (stepCount netw) (omega arith)));
+        row-room = omega (arith, start-room, a .tables .counted .links);
+        arrival-size = rw zeros (length-replicate {A = ℕ} maxLinks 0);
+        none = λ i l. rw zeros (getD-replicate {A = ℕ} maxLinks i 0 0 l);
+        rooms = record { curve-size = c; place-size = p };
       }
 
-module _ {networkText planText : List ℕ} {counts : Counts} {tramsAt steps : ℕ} {links movements times old : List ℕ} {taken : Taken} {arrivals waiting ledger : List ℕ}
-    (r : Running networkText planText counts tramsAt steps links movements times old taken arrivals waiting ledger) where
+  pub first-waiting-asked : FirstAsked links (reading .counts .links) waiting₀
+  first-waiting-asked = record { few = a .tables .counted .few .links; link-size = a .tables .link-table .size; size = a .waiting-size }
+
+  module _ {ledger arrivals curves places : List ℕ} {fit : Bool} (loaded : PastLoaded networkText (reading .counts) old fit ledger arrivals curves places) where
+    -- every number of row 0 fits 32 bits
+    fits : fit ≡ true
+    fits = go fit refl
+      where
+        go : (b : Bool) → fit ≡ b → fit ≡ true
+        go true e = e
+        go false e = let o = loaded .overflows e in absurd (o .over (past-fits netw (a .tables .holds) (o .link) (o .below) (pastCount netw) (omega arith)) (left-fits netw (a .tables .holds) (o .link) (o .below)))
+
+    row-first : RowHolds netw plnn 0 ledger
+    row-first =
+        record {
+          entered-at = λ i l. loaded .row-held fits .entered-by i l ∙ past-entered netw [] plnn (pastCount netw) i (omega arith) ∙ sym (entered-at-start netw plnn i);
+          left-at = λ i l. loaded .row-held fits .left-by i l ∙ left-at-start netw i ∙ start-left netw [] plnn i;
+        }
+
+    first : ledger ≡ written netw plnn old 1
+    first = first-written netw plnn old ledger (loaded .size) start-room row-first (λ k l. loaded .kept k (omega (arith, a .tables .counted .links)))
+
+    since-self : ledger ≡ written netw plnn ledger 1
+    since-self = first ∙ sym (written-again netw plnn old 1 1 (omega arith)) ∙ ap (λ x. written netw plnn x 1) (sym first)
+
+    -- what is written on top of row 0 is written since the ledger was lent
+    since-lent : (m : ℕ) → 1 ≤ m → written netw plnn ledger m ≡ written netw plnn old m
+    since-lent m h = ap (λ x. written netw plnn x m) first ∙ written-again netw plnn old 1 m h
+
+    pub steps-since : {taken : Taken} {waiting ledger′ : List ℕ} → StepsGot networkText planText ledger steps taken waiting ledger′ → StepsGot networkText planText old steps taken waiting ledger′
+    steps-since got =
+        record {
+          stopped = λ r e. let s = got .stopped r e in
+              record { step = s .step; within = s .within; passed = s .passed; refused = s .refused; rows = s .rows ∙ since-lent (suc (s .step)) (omega arith) };
+          reached = λ e. let s = got .reached e in
+              record {
+                passed = s .passed;
+                plan-starts = s .plan-starts;
+                signals-at = s .signals-at;
+                totals-at = s .totals-at;
+                waiting-at = s .waiting-at;
+                rows = s .rows ∙ since-lent (suc steps) (omega arith);
+              };
+        }
+
+    pub held-asked : (reading .counts .links ≤ maxLinks) × (2 * reading .counts .links ≤ length ledger)
+    held-asked = (a .tables .counted .few .links, omega (arith, a .tables .counted .links, loaded .size, start-room))
+
+    module _ {waiting : List ℕ} (waits : FirstWaits links (reading .counts .links) waiting) where
+      waiting-start : WaitingTable netw plnn 0 waiting
+      waiting-start = waiting-first plnn (a .tables .link-table) (rw (a .tables .counted .links) at waits)
+
+      pub sum-asked : (reading .counts .links ≤ maxLinks) × (0 + reading .counts .links ≤ length waiting)
+      sum-asked = (a .tables .counted .few .links, omega (arith, waits .size, a .tables .counted .few .links))
+
+      pub running-first : (held : ℕ) → held ≡ heldIn (reading .counts) ledger → (out : ℕ) → out ≡ sum (reading .counts .links) (λ i. getD waiting (0 + i) 0) → (signals : List Signal) → SignalTable netw signals
+          → Running networkText planText (reading .counts) (reading .«trams_at») steps links movements times ledger
+          (record {
+            verdict = Passes;
+            state =
+                record { boundary = 0; «step_at» = reading .«steps_at»; «plan_at» = 0; signals = signals; totals = record { admitted = 0; «let_out» = 0; inside = held; «doubled_time» = 0 }; outside = out };
+          }) arrivals curves places waiting ledger
+      running-first held e out o signals table =
+          record {
+            tables = a .tables;
+            passes = refl;
+            state-at = record {
+              within = omega arith;
+              passed = λ m l. absurd (omega arith);
+              step-starts = a .steps-start;
+              plan-starts = λ h. starts-first planText;
+              signals-at = signals-first netw plnn signals (valid-network netw (a .tables .holds)) table;
+              totals-at = totals-first netw plnn (a .tables .holds) (reading .counts) (a .tables .counted) ledger row-first held e;
+              outside-at = outside-sum (reading .counts .links) waiting o ∙ outside-is (a .tables .counted) waiting-start;
+              waiting-at = waiting-start;
+              arrivals-at = loaded .arrivals-at;
+              curves-at = loaded .curves-at fits;
+              rows = since-self;
+            };
+            few-steps = a .few-steps;
+            within = omega arith;
+            since = since-self;
+            long = refl;
+            room = omega (arith, loaded .size, a .room);
+          }
+
+module _ {networkText planText : List ℕ} {counts : Counts} {tramsAt steps : ℕ} {links movements times old : List ℕ} {taken : Taken} {arrivals curves places waiting ledger : List ℕ}
+    (r : Running networkText planText counts tramsAt steps links movements times old taken arrivals curves places waiting ledger) where
   abbrev net : List Line
   net = lines networkText
 
@@ -146,7 +230,7 @@ module _ {networkText planText : List ℕ} {counts : Counts} {tramsAt steps : �
   abbrev n : ℕ
   n = taken .state .boundary
 
-  pub running-asked : n < steps → StepAsked networkText planText counts tramsAt links movements times arrivals waiting ledger (taken .state)
+  pub running-asked : n < steps → StepAsked networkText planText counts tramsAt links movements times arrivals curves places waiting ledger (taken .state)
   running-asked h =
       record {
         tables = r .tables;
@@ -155,7 +239,7 @@ module _ {networkText planText : List ℕ} {counts : Counts} {tramsAt steps : �
         room = let m : suc (suc n) ≤ suc steps = omega arith in omega (arith, r .room, r .long, mul-le-mul-right (2 * linkCount net) m);
       }
 
-  module _ {after : Taken} {arrivals′ waiting′ ledger′ : List ℕ} (got : StepGot networkText planText ledger (taken .state) after arrivals′ waiting′ ledger′) (h : n < steps) where
+  module _ {after : Taken} {arrivals′ curves′ places′ waiting′ ledger′ : List ℕ} (got : StepGot networkText planText ledger (taken .state) after arrivals′ curves′ places′ waiting′ ledger′) (h : n < steps) where
     -- a step is refused
     pub steps-stopped : {q : Refusal} → after .verdict ≡ Refused q → StepsGot networkText planText old steps after waiting′ ledger′
     steps-stopped {q} e =
@@ -165,7 +249,7 @@ module _ {networkText planText : List ℕ} {counts : Counts} {tramsAt steps : �
         }
 
     -- it passes
-    pub running-next : after .verdict ≡ Passes → Running networkText planText counts tramsAt steps links movements times old after arrivals′ waiting′ ledger′
+    pub running-next : after .verdict ≡ Passes → Running networkText planText counts tramsAt steps links movements times old after arrivals′ curves′ places′ waiting′ ledger′
     running-next e =
         let m : after .state .boundary ≡ suc n = got .boundary e ∙ add-one n in
         let w = got .row-more e in
@@ -213,18 +297,15 @@ module _ {networkText planText : List ℕ} {reading : Reading} {links movements 
   abbrev plan : List Line
   plan = planOf networkText planText
 
-  few-links : linkCount network ≤ maxLinks
-  few-links = omega (arith, a .tables .counted .links, a .tables .counted .few .links)
-
-  pub steps-asked : (waiting : List ℕ) → waiting ≡ replicate maxLinks 0 → StepsAsked networkText planText reading (reading .counts .steps) links movements times waiting old
-  steps-asked waiting none =
+  pub steps-asked : (waiting : List ℕ) → length waiting ≡ maxLinks → StepsAsked networkText planText reading (reading .counts .steps) links movements times waiting old
+  steps-asked waiting size =
       record {
         tables = a .tables;
         signals-asked = a .signals-asked;
+        past-start = a .past-start;
         steps-start = a .steps-start;
         few-steps = omega (arith, a .tables .counted .steps);
-        waiting-start = waiting-first network plan waiting none few-links;
-        rows = a .rows;
+        waiting-size = size;
         room = rw (a .tables .counted .steps) (a .room);
       }
 

@@ -3,7 +3,7 @@ use Prim.Native.Nat.{ℕ, suc, _+_, _*_, _-_, _≤_, _<_}
 use mathlib.Core.Path.{_≡_, refl, sym, ap, ap₂, _∙_}
 use mathlib.Core.Bool.{Bool, true, false, cond}
 use mathlib.Core.Logic.{_⊎_, inl, inr}
-use mathlib.Core.List.{List, _++_}
+use mathlib.Core.List.{List, [], _++_}
 use native.Mathlib.Numerals.{add-one}
 use native.Mathlib.Nat.{eq-or-lt-of-le, mul-le-mul-right}
 use native.Mathlib.Decide.{decLe, decLt}
@@ -21,10 +21,10 @@ use Rattle.records.specs.Lines.{Line, lines}
 use Rattle.model.specs.declared.Signal.{Signal}
 use Rattle.model.specs.Test.{_or_}
 use Rattle.model.specs.Signals.{phaseOf, after as signalAfter}
-use Rattle.model.specs.Network.{maxSignals, arrivalStep, linkCount, signalCount, movementCount, stepCount, tramCount, tramLine, stepLine, stepLength, ordinary, signal, maxSteps}
-use Rattle.model.specs.Flows.{shownMask, shownIn, signalAt, outside}
+use Rattle.model.specs.Network.{maxSignals, linkCount, signalCount, movementCount, stepCount, tramCount, tramLine, timelineLine, onTimeline, pastCount, stepLine, stepLength, ordinary, signal, maxSteps}
+use Rattle.model.specs.Flows.{shownMask, shownIn, signalAt, timelineEntered, entered, outside}
 use Rattle.model.specs.Rules.{rule10, rule13, rule14}
-use Rattle.model.specs.Table.{isForm, letterT, letterS, letterP, tramChecks, networkChecks, stepChecks, limitRules, lineChecks}
+use Rattle.model.specs.Table.{isForm, letterT, letterH, letterS, letterP, tramChecks, pastChecks, networkChecks, stepChecks, limitRules, lineChecks}
 use Rattle.model.specs.Hold.{planOf}
 use Rattle.model.specs.Calls.{written}
 use borrow.Author.Tests.{leb-true}
@@ -33,12 +33,14 @@ use Rattle.model.proofs.Limits.{step-limits}
 use Rattle.model.proofs.Bounds.{KeepsLimits, lawful-limits, entered-word, left-word}
 use Rattle.model.proofs.Phases.{phase-of-le}
 use Rattle.model.proofs.Shown.{same-phases}
+use Rattle.model.proofs.Timeline.{timeline-entered-more}
 use Rattle.model.proofs.Rows.{length-written}
 use Rattle.tables.specs.declared.Counts.{Counts}
 use Rattle.tables.specs.Fields.{tramFields, lineSize, stepSize, rowSize, lengthIn}
 use Rattle.tables.specs.Tables.{noSignal, CountsHold, StepNumbers, PlanNumbers}
 use Rattle.tables.proofs.Tables.{travel-time-at, shown-mask-at}
-use Rattle.arrivals.specs.Arrivals.{arrivalStepIn, ArrivalsAsked, Arrived, ArrivalTable}
+use Rattle.arrivals.specs.Arrivals.{ArrivalTable}
+use Rattle.past_curves.specs.Curves.{pastEntered, pastLeft, PastForms, NextAsked as PastNextAsked, NextGot as PastNextGot}
 use Rattle.arrivals.proofs.Boundaries.{arrival-is, cursor-ready}
 use Rattle.waiting.specs.Waiting.{AddAsked, Offers, WaitsAsked, Waits, WaitingTable, StepOffers}
 use Rattle.waiting.proofs.Texts.{add-ready, step-offers, outside-is, next-ready, waiting-next}
@@ -67,7 +69,22 @@ use Rattle.plan_steps.proofs.Verdicts.{formed, line-malformed, line-for
 -- a network that has passed has the form of an `S` line at each step
 step-form : (network : List Line) → Hold (networkChecks network) → (n : ℕ) → n < stepCount network → isForm network (stepLine network n) letterS (1 + linkCount network) ≡ true
 unfolding Hold networkChecks stepChecks
-step-form network (counts, (trams, (signals, (phases, (links, (movements, (shares, (steps, rest)))))))) n l = steps n l .0
+step-form network (counts, (trams, (signals, (phases, (links, (movements, (shares, (past, (steps, rest))))))))) n l = steps n l .0
+
+-- of an `H` line at each past step
+pub past-form : (network : List Line) → Hold (networkChecks network) → PastForms network
+unfolding Hold networkChecks pastChecks
+past-form network (counts, (trams, (signals, (phases, (links, (movements, (shares, (past, rest)))))))) m l = past m l
+
+-- what had entered a link when the past ended
+pub entered-at-start : (network plan : List Line) (i : ℕ) → entered network plan 0 i ≡ timelineEntered network plan (pastCount network) i
+unfolding entered onTimeline
+entered-at-start network plan i = let z : pastCount network + 0 ≡ pastCount network = omega arith in ap (λ m. timelineEntered network plan m i) z
+
+-- the volumes of the past fit 32 bits
+pub past-fits : (network : List Line) → Hold (networkChecks network) → (i : ℕ) → i < linkCount network → (m : ℕ) → m ≤ pastCount network → pastEntered network m i < 4294967296
+past-fits network holds i l m h =
+    omega (arith, timeline-entered-more network [] m (pastCount network) i h, entered-at-start network [] i, entered-word network [] holds 0 (omega arith) (λ k u. absurd (omega arith)) i l)
 
 -- and of a `T` line at each tram line
 tram-form : (network : List Line) → Hold (networkChecks network) → (k : ℕ) → k < tramCount network → isForm network (tramLine network k) letterT tramFields ≡ true
@@ -109,8 +126,8 @@ module _ (network plan : List Line) (n : ℕ) (signals signals′ : List Signal)
   signals-next : SignalsAt network plan (suc n) signals′
   signals-next = record { size = moved .size; holds = stepped; ready = λ r l. rw (stepped r l) (ready-next r l) }
 
-module _ {networkText planText : List ℕ} {counts : Counts} {tramsAt : ℕ} {links movements times arrivals waiting ledger : List ℕ} {state : State}
-    (asked : StepAsked networkText planText counts tramsAt links movements times arrivals waiting ledger state) where
+module _ {networkText planText : List ℕ} {counts : Counts} {tramsAt : ℕ} {links movements times arrivals curves places waiting ledger : List ℕ} {state : State}
+    (asked : StepAsked networkText planText counts tramsAt links movements times arrivals curves places waiting ledger state) where
   abbrev net : List Line
   net = lines networkText
 
@@ -199,7 +216,7 @@ module _ {networkText planText : List ℕ} {counts : Counts} {tramsAt : ℕ} {li
       size = ap length zeros ∙ length-replicate {A = ℕ} lineSize 0
 
       -- the line has not the form of a `P` line
-      pub step-malformed : result ≡ Malformed → StepGot networkText planText ledger state (record { verdict = Refused (refusal 9 (n + 1) 0); state = state }) arrivals waiting ledger
+      pub step-malformed : result ≡ Malformed → StepGot networkText planText ledger state (record { verdict = Refused (refusal 9 (n + 1) 0); state = state }) arrivals curves places waiting ledger
       step-malformed e =
           let v = line-malformed net pln n (line-bad networkText planText valid counted (asked .more) (asked .state-at .plan-starts) (asked .state-at .signals-at) no-number size read e) in
           record {
@@ -217,14 +234,23 @@ module _ {networkText planText : List ℕ} {counts : Counts} {tramsAt : ℕ} {li
         is-formed : formed net pln n ≡ true
         is-formed = line-good networkText planText valid counted (asked .more) (asked .state-at .plan-starts) (asked .state-at .signals-at) no-number size read e
 
-        pub arrivals-asked : ArrivalsAsked times links (counts .links) (n + 1) arrivals
+        at-next : counts .past + n + 1 ≡ onTimeline net (suc n)
+        unfolding onTimeline
+        at-next = omega (arith, counted .past)
+
+        pub arrivals-asked : PastNextAsked networkText counts links times (counts .past + n + 1) arrivals curves places
         arrivals-asked =
             record {
-              few = counted .few .links;
-              link-size = asked .tables .link-table .size;
-              size = asked .state-at .arrivals-at .size;
+              tables = record {
+                counted = counted;
+                link-size = asked .tables .link-table .size;
+                forms = past-form net (asked .tables .holds);
+                fits = past-fits net (asked .tables .holds);
+              };
+              arrival-size = asked .state-at .arrivals-at .size;
               cursors = λ i l. let l′ : i < linkCount net = omega (arith, counted .links) in
-                  cursor-ready (asked .tables .holds) (asked .tables .time-table) n i (asked .more) step-few (asked .state-at .arrivals-at .holds i l′) (travel-time-at (asked .tables .link-table) i l′);
+                  rw at-next (cursor-ready (asked .tables .holds) (asked .tables .time-table) n i (asked .more) (asked .state-at .arrivals-at .holds i l′) (travel-time-at (asked .tables .link-table) i l′));
+              curves-at = asked .state-at .curves-at;
             }
 
         module _ {phases₀ phases : List ℕ} (showing : ShownPhases (state .signals) (counts .signals) line phases₀ phases) {claims : List ℕ} (told : TramPhases net n claims) where
@@ -240,22 +266,21 @@ module _ {networkText planText : List ℕ} {counts : Counts} {tramsAt : ℕ} {li
                     ∙ ap₂ phaseOf (shown-mask-at plan-numbers r l) (ap (λ s. s .phases) (asked .state-at .signals-at .holds r l) ∙ same-phases net pln r n);
               }
 
-          module _ {arrivals′ : List ℕ} (moved : Arrived times links (counts .links) (n + 1) arrivals′) where
+          module _ {arrivals′ curves′ places′ : List ℕ} (moved : PastNextGot networkText counts links times (counts .past + n + 1) arrivals′ curves′ places′) where
             arrivals-at : ArrivalTable net (suc n) arrivals′
             arrivals-at =
                 record {
-                  size = moved .size;
-                  holds = λ i l. moved .arrived i (omega (arith, counted .links))
-                      ∙ ap (arrivalStepIn times (n + 1)) (travel-time-at (asked .tables .link-table) i l)
-                      ∙ arrival-is (asked .tables .holds) (asked .tables .time-table) (n + 1) i (omega (arith, asked .more)) ∙ ap (λ x. arrivalStep net x i) (add-one n);
+                  size = moved .steps-at .size;
+                  holds = λ i l. moved .steps-at .arrived i (omega (arith, counted .links))
+                      ∙ rw (at-next, travel-time-at (asked .tables .link-table) i l) (arrival-is (asked .tables .time-table) (suc n) i (asked .more));
                 }
 
             module _ (row : List ℕ) (row-size : length row ≡ rowSize) where
-              limits-are : limitVerdict counts (state .signals) line step links movements phases claims ledger times arrivals′ row n ≡ verdict (table (suc n) (limitRules net pln n))
+              limits-are : limitVerdict counts (state .signals) line step links movements phases claims ledger times arrivals′ curves′ row n ≡ verdict (table (suc n) (limitRules net pln n))
               unfolding limitVerdict
               limits-are = limit-rules-are valid counted plan-numbers (asked .tables .link-table) (asked .tables .movement-table) offers shown (suc n)
 
-              keeps : limitVerdict counts (state .signals) line step links movements phases claims ledger times arrivals′ row n ≡ Passes → (m : ℕ) → m < suc n → KeepsLimits net pln m
+              keeps : limitVerdict counts (state .signals) line step links movements phases claims ledger times arrivals′ curves′ row n ≡ Passes → (m : ℕ) → m < suc n → KeepsLimits net pln m
               keeps v m l = go (let l′ : m ≤ n = omega arith in eq-or-lt-of-le l′)
                 where
                   go : (m ≡ n) ⊎ (m < n) → KeepsLimits net pln m
@@ -270,7 +295,7 @@ module _ {networkText planText : List ℕ} {counts : Counts} {tramsAt : ℕ} {li
                   length-append (nextRow counts line movements (rowFrom counts ledger n)) _
                   ∙ omega (arith, length-next counts line movements (rowFrom counts ledger n), length-drop (2 * counts .links) row, row-size, counted .few .links)
 
-              pub judge-asked : JudgeAsked counts (state .signals) line step links movements phases claims ledger times arrivals′ row n
+              pub judge-asked : JudgeAsked counts (state .signals) line step links movements phases claims ledger times arrivals′ curves′ row n
               judge-asked =
                   let tables = line-tables valid counted plan-numbers (asked .tables .link-table) (asked .tables .movement-table) offers shown in
                   record {
@@ -289,11 +314,11 @@ module _ {networkText planText : List ℕ} {counts : Counts} {tramsAt : ℕ} {li
                         next-row-fits counted plan-numbers (asked .tables .movement-table) before (movements-named counted (asked .tables .movement-table) valid) previous-size row-size
                         (entered-word net pln (asked .tables .holds) (suc n) (asked .more) (keeps v)) (left-word net pln (asked .tables .holds) (suc n) (asked .more) (keeps v));
                     sums = λ v.
-                        sum-tables (asked .tables .holds) counted plan-numbers (asked .tables .link-table) (asked .tables .movement-table) before after ledger (asked .state-at .rows) (asked .tables .time-table) arrivals-at (asked .more)
+                        sum-tables (asked .tables .holds) counted plan-numbers (asked .tables .link-table) (asked .tables .movement-table) before after ledger (asked .state-at .rows) (asked .tables .time-table) arrivals-at (moved .curves-at) (asked .more)
                         (drop (2 * counts .links) row) refl made-size previous-size (omega (arith, room-after));
                   }
 
-              module _ {v : Verdict} {row′ : List ℕ} (got : Judged counts (state .signals) line step links movements phases claims ledger times arrivals′ row n v row′) where
+              module _ {v : Verdict} {row′ : List ℕ} (got : Judged counts (state .signals) line step links movements phases claims ledger times arrivals′ curves′ row n v row′) where
                 -- the judgement is the paper's verdict on the line
                 line-judged : v ≡ verdict (lineChecks net pln n)
                 unfolding signalVerdict sumVerdict
@@ -301,10 +326,10 @@ module _ {networkText planText : List ℕ} {counts : Counts} {tramsAt : ℕ} {li
                     got .told
                     ∙ ap₂ orElse (signal-rules-are (counted .signals) (asked .state-at .signals-at) shown claimed (offers .lasts) (suc n))
                     (ap₂ orElse limits-are
-                    (sum-rules-are (asked .tables .holds) counted plan-numbers (asked .tables .link-table) (asked .tables .movement-table) before after ledger (asked .state-at .rows) (asked .tables .time-table) arrivals-at (asked .more)))
+                    (sum-rules-are (asked .tables .holds) counted plan-numbers (asked .tables .link-table) (asked .tables .movement-table) before after ledger (asked .state-at .rows) (asked .tables .time-table) arrivals-at (moved .curves-at) (asked .more)))
                     ∙ sym (line-formed net pln n is-formed)
 
-                pub step-refused : {r : Refusal} → v ≡ Refused r → StepGot networkText planText ledger state (record { verdict = v; state = state }) arrivals′ waiting ledger
+                pub step-refused : {r : Refusal} → v ≡ Refused r → StepGot networkText planText ledger state (record { verdict = v; state = state }) arrivals′ curves′ places′ waiting ledger
                 step-refused q =
                     record {
                       told = line-judged;
@@ -369,7 +394,7 @@ module _ {networkText planText : List ℕ} {counts : Counts} {tramsAt : ℕ} {li
                     is-next : next .boundary ≡ suc n
                     is-next = on .boundary ∙ add-one n
 
-                    state-next : StateAt networkText planText next arrivals′ waiting′ ledger′
+                    state-next : StateAt networkText planText next arrivals′ curves′ places′ waiting′ ledger′
                     state-next =
                         record {
                           within = rw is-next (omega (arith, asked .more));
@@ -384,12 +409,13 @@ module _ {networkText planText : List ℕ} {counts : Counts} {tramsAt : ℕ} {li
                               (rw made after));
                           outside-at = rw is-next outside-next;
                           arrivals-at = rw is-next arrivals-at;
+                          curves-at = moved .curves-at;
                           waiting-at = rw is-next (waiting-at stay);
                           rows = rw is-next
                               (rows-written ∙ sym (written-again net pln ledger (suc (suc n)) (suc (suc n)) (omega arith)) ∙ ap (λ x. written net pln x (suc (suc n))) (sym rows-written));
                         }
 
-                    pub step-kept : StepGot networkText planText ledger state (record { verdict = v; state = next }) arrivals′ waiting′ ledger′
+                    pub step-kept : StepGot networkText planText ledger state (record { verdict = v; state = next }) arrivals′ curves′ places′ waiting′ ledger′
                     step-kept =
                         record {
                           told = line-judged;

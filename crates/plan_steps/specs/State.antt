@@ -24,6 +24,7 @@ use Rattle.tables.specs.Fields.{lengthIn}
 use Rattle.tables.specs.Tables.{CountsHold, LinkTable, MovementTable, TimeTable}
 use Rattle.network_signals.specs.Stages.{LoadAsked}
 use Rattle.arrivals.specs.Arrivals.{ArrivalTable}
+use Rattle.past_curves.specs.Curves.{CurvesAt}
 use Rattle.waiting.specs.Waiting.{waitingIn, WaitingTable}
 use Rattle.step_signals.specs.Ready.{AllReady}
 use Rattle.step_signals.specs.Step.{Advanced, SignalsAt}
@@ -42,7 +43,7 @@ pub record Tables (networkText : List ℕ) (counts : Counts) (tramsAt : ℕ) (li
 
 -- The state at a boundary: the steps before it have passed, the lines of the next start at its places (an empty plan text has none), its signals and totals and those who wait are the paper's, and
 -- the ledger has the rows up to the boundary.
-pub record StateAt (networkText planText : List ℕ) (state : State) (arrivals waiting ledger : List ℕ) : Type 0 where
+pub record StateAt (networkText planText : List ℕ) (state : State) (arrivals curves places waiting ledger : List ℕ) : Type 0 where
   pub within : state .boundary ≤ stepCount (lines networkText)
   pub passed : (m : ℕ) → m < state .boundary → verdict (lineChecks (lines networkText) (planOf networkText planText) m) ≡ Passes
   pub step-starts : Starts networkText (state .«step_at») (stepLine (lines networkText) (state .boundary))
@@ -51,6 +52,7 @@ pub record StateAt (networkText planText : List ℕ) (state : State) (arrivals w
   pub totals-at : state .totals ≡ totals (lines networkText) (planOf networkText planText) (state .boundary)
   pub outside-at : state .outside ≡ outside (lines networkText) (planOf networkText planText) (state .boundary)
   pub arrivals-at : ArrivalTable (lines networkText) (state .boundary) arrivals
+  pub curves-at : CurvesAt networkText arrivals curves places
   pub waiting-at : WaitingTable (lines networkText) (planOf networkText planText) (state .boundary) waiting
   pub rows : ledger ≡ written (lines networkText) (planOf networkText planText) ledger (suc (state .boundary))
 
@@ -73,19 +75,19 @@ pub record NextGot (state : State) (counts : Counts) (step line phases asked row
   pub outside : next .outside ≡ sum (counts .links) (waitingIn waiting)
 
 -- what taking the next step asks, with room for the row after it ..
-pub record StepAsked (networkText planText : List ℕ) (counts : Counts) (tramsAt : ℕ) (links movements times arrivals waiting ledger : List ℕ) (state : State) : Type 0 where
+pub record StepAsked (networkText planText : List ℕ) (counts : Counts) (tramsAt : ℕ) (links movements times arrivals curves places waiting ledger : List ℕ) (state : State) : Type 0 where
   pub tables : Tables networkText counts tramsAt links movements times
-  pub state-at : StateAt networkText planText state arrivals waiting ledger
+  pub state-at : StateAt networkText planText state arrivals curves places waiting ledger
   pub more : state .boundary < stepCount (lines networkText)
   pub room : 2 * suc (suc (state .boundary)) * linkCount (lines networkText) ≤ length ledger
 
 -- .. and promises: the verdict on the step's line; where it is refused, the ledger is what it was, and where it passes, the next state is reached and the ledger
 -- has one row more
-pub record StepGot (networkText planText old : List ℕ) (state : State) (taken : Taken) (arrivals waiting ledger : List ℕ) : Type 0 where
+pub record StepGot (networkText planText old : List ℕ) (state : State) (taken : Taken) (arrivals curves places waiting ledger : List ℕ) : Type 0 where
   pub told : taken .verdict ≡ verdict (lineChecks (lines networkText) (planOf networkText planText) (state .boundary))
   pub kept : (r : Refusal) → taken .verdict ≡ Refused r → ledger ≡ old
   pub boundary : taken .verdict ≡ Passes → taken .state .boundary ≡ state .boundary + 1
-  pub reached : taken .verdict ≡ Passes → StateAt networkText planText (taken .state) arrivals waiting ledger
+  pub reached : taken .verdict ≡ Passes → StateAt networkText planText (taken .state) arrivals curves places waiting ledger
   pub row-more : taken .verdict ≡ Passes → ledger ≡ written (lines networkText) (planOf networkText planText) old (suc (suc (state .boundary)))
 
 -- the answer once all steps have passed: the plan's text is at its end, or one line more is refused

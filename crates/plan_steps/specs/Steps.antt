@@ -9,7 +9,7 @@ use Rattle.search.specs.Checks.{verdict}
 use Rattle.records.specs.Lines.{lines}
 use Rattle.records.specs.Reading.{Starts}
 use Rattle.model.specs.declared.PlanAnswer.{PlanAnswer}
-use Rattle.model.specs.Network.{linkCount, stepCount, stepLine}
+use Rattle.model.specs.Network.{maxLinks, linkCount, stepCount, timelineLine, stepLine}
 use Rattle.model.specs.Flows.{totals}
 use Rattle.model.specs.Table.{lineChecks, planLineChecks}
 use Rattle.model.specs.Hold.{planOf}
@@ -23,12 +23,12 @@ use Rattle.plan_steps.specs.declared.State.{State}
 use Rattle.plan_steps.specs.declared.Taken.{Taken}
 use Rattle.plan_steps.specs.State.{Tables, StateAt}
 
--- what taking all steps asks, with row 0 in the ledger ..
+-- what taking all steps asks ..
 pub record RunAsked (networkText planText : List ℕ) (reading : Reading) (links movements times ledger : List ℕ) : Type 0 where
   pub tables : Tables networkText (reading .counts) (reading .«trams_at») links movements times
   pub signals-asked : LoadAsked networkText reading
+  pub past-start : Starts networkText (reading .«past_at») (timelineLine (lines networkText) 0)
   pub steps-start : Starts networkText (reading .«steps_at») (stepLine (lines networkText) 0)
-  pub rows : ledger ≡ written (lines networkText) (planOf networkText planText) ledger 1
   pub room : 2 * suc (stepCount (lines networkText)) * linkCount (lines networkText) ≤ length ledger
 
 -- .. and promises: the answer, and the ledger with the rows of the steps that have passed
@@ -37,14 +37,14 @@ pub record RunGot (networkText planText old : List ℕ) (answer : PlanAnswer) (l
   pub rows : ledger ≡ ledgerAfter (lines networkText) (planOf networkText planText) old
   pub some-row : 1 ≤ rowsWritten (lines networkText) (planOf networkText planText) (length old)
 
--- what taking the first steps asks: room for their rows alone, and who waits before them
+-- what taking the first steps asks: room for their rows alone
 pub record StepsAsked (networkText planText : List ℕ) (reading : Reading) (steps : ℕ) (links movements times waiting ledger : List ℕ) : Type 0 where
   pub tables : Tables networkText (reading .counts) (reading .«trams_at») links movements times
   pub signals-asked : LoadAsked networkText reading
+  pub past-start : Starts networkText (reading .«past_at») (timelineLine (lines networkText) 0)
   pub steps-start : Starts networkText (reading .«steps_at») (stepLine (lines networkText) 0)
   pub few-steps : steps ≤ stepCount (lines networkText)
-  pub waiting-start : WaitingTable (lines networkText) (planOf networkText planText) 0 waiting
-  pub rows : ledger ≡ written (lines networkText) (planOf networkText planText) ledger 1
+  pub waiting-size : length waiting ≡ maxLinks
   pub room : 2 * suc steps * linkCount (lines networkText) ≤ length ledger
 
 -- a step is refused, after steps that pass: the ledger has the rows up to it
@@ -70,10 +70,10 @@ pub record StepsGot (networkText planText old : List ℕ) (steps : ℕ) (taken :
   pub reached : taken .verdict ≡ Passes → AllTaken networkText planText old steps (taken .state) waiting ledger
 
 -- the state while they are taken
-pub record Running (networkText planText : List ℕ) (counts : Counts) (tramsAt steps : ℕ) (links movements times old : List ℕ) (taken : Taken) (arrivals waiting ledger : List ℕ) : Type 0 where
+pub record Running (networkText planText : List ℕ) (counts : Counts) (tramsAt steps : ℕ) (links movements times old : List ℕ) (taken : Taken) (arrivals curves places waiting ledger : List ℕ) : Type 0 where
   pub tables : Tables networkText counts tramsAt links movements times
   pub passes : taken .verdict ≡ Passes
-  pub state-at : StateAt networkText planText (taken .state) arrivals waiting ledger
+  pub state-at : StateAt networkText planText (taken .state) arrivals curves places waiting ledger
   pub few-steps : steps ≤ stepCount (lines networkText)
   pub within : taken .state .boundary ≤ steps
   pub since : ledger ≡ written (lines networkText) (planOf networkText planText) old (suc (taken .state .boundary))

@@ -30,9 +30,9 @@ pub record TotalsAsked (t : Totals) (before after : ℕ) (counts : Counts) (line
   pub step-size : length step ≡ stepSize
   pub row-size : length row ≡ rowSize
   pub short : lengthIn step ≤ 60
-  pub few-admitted : t .admitted ≤ 1_728_000_000
+  pub few-admitted : t .admitted ≤ 41_140_800_000
   pub few-let-out : t .«let_out» ≤ 1_728_000_000
   pub few-inside : t .inside ≤ 48_000_000_000
-  pub few-before : before ≤ 1_728_000_000
-  pub few-after : after ≤ 1_728_000_000
-  pub little-time : t .«doubled_time» ≤ 716_083_200_000_000
+  pub few-before : before ≤ 41_140_800_000
+  pub few-after : after ≤ 41_140_800_000
+  pub little-time : t .«doubled_time» ≤ 1_283_627_520_000_000

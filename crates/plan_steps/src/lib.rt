@@ -39,8 +39,8 @@ pub struct Taken {
 
 // Length × (vehicles under way at the step's start + at its end).
 fn travel_time(seconds: u32, start: u64, end: u64) -> u64
-    requires { ⌜ (seconds ≤ 60) × (start ≤ 104807215080) × (end ≤ 104807215080) ⌝ }
-    ensures { λ r. ⌜ (r ≡ seconds * (start + end)) × (r ≤ 12576865809600) ⌝ }
+    requires { ⌜ (seconds ≤ 60) × (start ≤ 144220015080) × (end ≤ 144220015080) ⌝ }
+    ensures { λ r. ⌜ (r ≡ seconds * (start + end)) × (r ≤ 17306401809600) ⌝ }
 {
     wide(seconds) * (start + end)
 }
@@ -134,12 +134,14 @@ fn take_step(
     movements: &[u32],
     times: &[u32],
     arrivals: &mut [usize],
+    curves: &mut [u32],
+    places: &mut [usize],
     waiting: &mut [u32],
     ledger: &mut [u32],
     mut state: State,
 ) -> Taken
-    requires { ⌜ StepAsked (now network) (now plan) counts «trams_at» (now links) (now movements) (now times) (now arrivals) (now waiting) (now ledger) state ⌝ }
-    ensures { λ r. ⌜ StepGot (now (network .entry)) (now (plan .entry)) (now (ledger .entry)) state r (now (arrivals .exit)) (now (waiting .exit)) (now (ledger .exit)) ⌝ }
+    requires { ⌜ StepAsked (now network) (now plan) counts «trams_at» (now links) (now movements) (now times) (now arrivals) (now curves) (now places) (now waiting) (now ledger) state ⌝ }
+    ensures { λ r. ⌜ StepGot (now (network .entry)) (now (plan .entry)) (now (ledger .entry)) state r (now (arrivals .exit)) (now (curves .exit)) (now (places .exit)) (now (waiting .exit)) (now (ledger .exit)) ⌝ }
 {
     let mut step = [0u32; STEP_SIZE];
     let mut line = [0u32; LINE_SIZE];
@@ -157,7 +159,16 @@ fn take_step(
     };
     step_signals::shown_phases(signals, counts.signals, &line, &mut phases);
     network_trams::tram_phases(network, trams_at, counts.trams, n, &mut asked);
-    arrivals::next_arrivals(times, links, counts.links, n + 1, arrivals);
+    past_curves::next_arrivals(
+        network,
+        counts,
+        links,
+        times,
+        counts.past + n + 1,
+        arrivals,
+        curves,
+        places,
+    );
     let verdict = step_check::judge_step(
         signals,
         &line,
@@ -169,6 +180,7 @@ fn take_step(
         ledger,
         times,
         arrivals,
+        curves,
         &mut row,
         counts,
         n,
@@ -199,8 +211,8 @@ fn finish(plan: &[u8], at: usize, steps: usize, totals: Totals) -> PlanAnswer
     }
 }
 
-// Takes the first steps, so many, one after another, up to the first that is refused; the ledger has row 0. The signals are loaded here, straight into the
-// first state: one copy of them less on the stack.
+// Takes the first steps, so many, one after another, up to the first that is refused: row 0 is written, and the past gives what arrives before time 0. `waiting`
+// has who waits after them. The signals are loaded here, straight into the first state: one copy of them less on the stack.
 pub fn take_steps(
     network: &[u8],
     plan: &[u8],
@@ -218,6 +230,20 @@ pub fn take_steps(
     let counts = reading.counts;
     let trams_at = reading.trams_at;
     let mut arrivals = [0usize; MAX_LINKS];
+    let mut curves = [0u32; ROW_SIZE];
+    let mut places = [0usize; MAX_LINKS];
+    past_curves::load_past(
+        network,
+        reading.past_at,
+        counts,
+        links,
+        times,
+        ledger,
+        &mut arrivals,
+        &mut curves,
+        &mut places,
+    );
+    waiting::first_waiting(links, counts.links, waiting);
     let totals = Totals {
         admitted: 0,
         let_out: 0,
@@ -230,7 +256,7 @@ pub fn take_steps(
         plan_at: 0,
         signals: network_signals::load_signals(network, reading),
         totals,
-        outside: 0,
+        outside: step_rows::sum_of(waiting, 0, counts.links),
     };
     let mut taken = Taken {
         verdict: Verdict::Passes,
@@ -247,6 +273,8 @@ pub fn take_steps(
             movements,
             times,
             &mut arrivals,
+            &mut curves,
+            &mut places,
             waiting,
             ledger,
             state,
@@ -259,7 +287,7 @@ pub fn take_steps(
     taken
 }
 
-// Takes all steps; the ledger has row 0. A plan with more lines than steps is refused after the last.
+// Takes all steps. A plan with more lines than steps is refused after the last.
 pub fn run_steps(
     network: &[u8],
     plan: &[u8],

@@ -9,7 +9,7 @@ slice-aggregate-take-steps : tie.Need-slice-aggregate-take-steps
 slice-aggregate-take-steps c = search needs
 
 take-steps-requires : tie.Need-take-steps-requires
-take-steps-requires c κs = steps-asked (c .before .before .before .before .before .before .before .before .pre) _ refl
+take-steps-requires c κs = steps-asked (c .before .before .before .before .before .before .before .before .pre) _ (search needs)
 
 enum-known-verdict : tie.Need-enum-known-verdict
 enum-known-verdict c = search needs

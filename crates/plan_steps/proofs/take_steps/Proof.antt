@@ -3,63 +3,87 @@ use Prim.Native.Nat.{_-_}
 use mathlib.Core.Path.{refl, sym, _∙_}
 use native.Mathlib.Omega.{arith}
 use Rattle.plan_steps.specs.Steps.{Running}
-use Rattle.plan_steps.proofs.Runs.{held-asked, running-first, running-asked, steps-stopped, running-less, running-next, steps-taken}
+use Rattle.plan_steps.proofs.Runs.{past-asked, first-waiting-asked, held-asked, sum-asked, running-first, steps-since, running-asked, steps-stopped, running-less, running-next, steps-taken}
 use borrow.Author.Needs.{needs}
 use Rattle.plan_steps.proofs.take_steps.Statement.{statement}
 use Rattle.plan_steps.proofs.take_steps.Tie as tie
 
 abbrev Inv-loop : tie.InvT-loop
-Inv-loop network plan steps links movements times waiting₀ ledger₀ counts trams-at arrivals₀ taken₀ waiting ledger arrivals taken =
-    Running network plan counts trams-at steps links movements times ledger₀ taken arrivals waiting ledger
+Inv-loop network plan steps links movements times waiting₀ ledger₀ counts trams-at arrivals₀ curves₀ places₀ taken₀ waiting ledger arrivals curves places taken =
+    Running network plan counts trams-at steps links movements times ledger₀ taken arrivals curves places waiting ledger
 
 abbrev μ-loop : tie.MeasureT-loop
-μ-loop network plan steps links movements times waiting₀ ledger₀ counts trams-at arrivals₀ taken₀ waiting ledger arrivals taken =
+μ-loop network plan steps links movements times waiting₀ ledger₀ counts trams-at arrivals₀ curves₀ places₀ taken₀ waiting ledger arrivals curves places taken =
     steps - taken .state .boundary
 
 held-in-requires : tie.Need-held-in-requires Inv-loop μ-loop
-held-in-requires c κs = held-asked (c .before .before .before .before .before .before .before .before .before .pre)
+held-in-requires c κs = held-asked (c .before .before .before .before .before .before .before .before .before .before .before .before .before .before .before .before .before .before .before .before .before .before .before .pre) (c .before .before .before .before .before .before .before .before .before .before .load-past .ensures)
 
 load-signals-requires : tie.Need-load-signals-requires Inv-loop μ-loop
-load-signals-requires c κs = c .before .before .before .before .before .before .before .before .before .before .pre .signals-asked
+load-signals-requires c κs = c .before .before .before .before .before .before .before .before .before .before .before .before .before .before .before .before .before .before .before .before .before .before .before .before .pre .signals-asked
 
 loop-holds : tie.Need-loop-holds Inv-loop μ-loop
-loop-holds c = running-first (c .before .before .before .before .before .before .before .before .before .before .before .pre) _ (c .before .held-in .ensures .0) _ refl _ (c .load-signals .ensures)
+loop-holds c = running-first (c .before .before .before .before .before .before .before .before .before .before .before .before .before .before .before .before .before .before .before .before .before .before .before .before .before .before .before .pre) (c .before .before .before .before .before .before .before .before .before .before .before .before .before .before .load-past .ensures) (c .before .before .before .before .before .before .before .first-waiting .ensures) _ (c .before .before .before .held-in .ensures .0) _ (c .sum-of .ensures .0) _ (c .before .before .load-signals .ensures)
 
 slice-aggregate-take-step : tie.Need-slice-aggregate-take-step Inv-loop μ-loop
 slice-aggregate-take-step c = sym (c .before .before .before .before .loop .inv .state-at .arrivals-at .size)
 
 take-step-requires : tie.Need-take-step-requires Inv-loop μ-loop
-take-step-requires c κs = running-asked (c .before .before .before .before .before .before .loop .inv) (omega arith)
+take-step-requires c κs = running-asked (c .before .before .before .before .before .before .before .before .loop .inv) (omega arith)
 
 enum-told : tie.Need-enum-told Inv-loop μ-loop
 enum-told c = search needs
 
 loop-less : tie.Need-loop-less Inv-loop μ-loop
-loop-less c = running-less (c .before .before .before .before .before .before .before .before .before .before .before .before .before .before .loop .inv) (c .before .before .before .before .before .before .before .take-step .ensures) (omega arith) (c .enum-told .given .1)
+loop-less c = running-less (c .before .before .before .before .before .before .before .before .before .before .before .before .before .before .before .before .before .before .loop .inv) (c .before .before .before .before .before .before .before .before .before .take-step .ensures) (omega arith) (c .enum-told .given .1)
 
 loop-again : tie.Need-loop-again Inv-loop μ-loop
-loop-again c = running-next (c .before .before .before .before .before .before .before .before .before .before .before .before .before .before .loop .inv) (c .before .before .before .before .before .before .before .take-step .ensures) (omega arith) (c .enum-told .given .1)
+loop-again c = running-next (c .before .before .before .before .before .before .before .before .before .before .before .before .before .before .before .before .before .before .loop .inv) (c .before .before .before .before .before .before .before .before .before .take-step .ensures) (omega arith) (c .enum-told .given .1)
 
 enum-told-2 : tie.Need-enum-told-2 Inv-loop μ-loop
 enum-told-2 c = search needs
 
 same-length : tie.Need-same-length Inv-loop μ-loop
-same-length c = c .before .before .before .before .before .before .before .take-step .kept .1 .1 .1 .1 .1 .1 .1 .1 .0 ∙ c .before .before .before .before .before .before .before .before .before .before .before .before .before .before .loop .inv .state-at .waiting-at .size ∙ sym (c .before .before .before .before .before .before .before .before .before .before .before .before .before .before .before .before .before .before .before .before .before .before .before .before .before .before .pre .waiting-start .size)
+same-length c = omega (arith, c .before .before .before .before .before .before .before .before .before .take-step .kept .1 .1 .1 .1 .1 .1 .1 .1 .1 .1 .0, c .before .before .before .before .before .before .before .before .before .before .before .before .before .before .before .before .before .before .loop .inv .state-at .waiting-at .size, c .before .before .before .before .before .before .before .before .before .before .before .before .before .before .before .before .before .before .before .before .before .before .before .before .before .before .before .before .before .before .before .before .before .before .before .before .before .before .before .before .before .before .before .before .before .before .pre .waiting-size)
 
 same-length-2 : tie.Need-same-length-2 Inv-loop μ-loop
-same-length-2 c = search needs
+same-length-2 c = omega (arith, c .before .before .before .before .before .before .before .before .before .take-step .kept .1 .1 .1 .1 .1 .1 .1 .1 .1 .1 .1 .0, c .before .before .before .before .before .before .before .before .before .before .before .before .before .before .before .before .before .before .loop .inv .long, c .before .before .before .before .before .before .before .before .before .before .before .before .before .before .before .before .before .before .before .before .before .before .before .before .before .before .before .before .before .before .before .before .before .load-past .ensures .size)
 
 returns : tie.Need-returns Inv-loop μ-loop
-returns c = steps-stopped (c .before .before .before .before .before .before .before .before .before .before .before .before .before .before .loop .inv) (c .before .before .before .before .before .before .before .take-step .ensures) (omega arith) (c .enum-told2 .given .1)
+returns c = steps-since (c .before .before .before .before .before .before .before .before .before .before .before .before .before .before .before .before .before .before .before .before .before .before .before .before .before .before .before .before .before .before .before .before .before .before .before .before .before .before .before .before .before .before .before .before .before .before .pre) (c .before .before .before .before .before .before .before .before .before .before .before .before .before .before .before .before .before .before .before .before .before .before .before .before .before .before .before .before .before .before .before .before .before .load-past .ensures) (steps-stopped (c .before .before .before .before .before .before .before .before .before .before .before .before .before .before .before .before .before .before .loop .inv) (c .before .before .before .before .before .before .before .before .before .take-step .ensures) (omega arith) (c .enum-told2 .given .1))
 
 same-length-3 : tie.Need-same-length-3 Inv-loop μ-loop
-same-length-3 c = search needs
+same-length-3 c = omega (arith, c .before .before .loop .inv .state-at .waiting-at .size, c .before .before .before .before .before .before .before .before .before .before .before .before .before .before .before .before .before .before .before .before .before .before .before .before .before .before .before .before .before .before .pre .waiting-size)
 
 same-length-4 : tie.Need-same-length-4 Inv-loop μ-loop
-same-length-4 c = search needs
+same-length-4 c = omega (arith, c .before .before .loop .inv .long, c .before .before .before .before .before .before .before .before .before .before .before .before .before .before .before .before .before .load-past .ensures .size)
 
 returns-2 : tie.Need-returns-2 Inv-loop μ-loop
-returns-2 c = steps-taken (c .before .before .loop .inv) (omega arith)
+returns-2 c = steps-since (c .before .before .before .before .before .before .before .before .before .before .before .before .before .before .before .before .before .before .before .before .before .before .before .before .before .before .before .before .before .before .pre) (c .before .before .before .before .before .before .before .before .before .before .before .before .before .before .before .before .before .load-past .ensures) (steps-taken (c .before .before .loop .inv) (omega arith))
+
+slice-aggregate-load-past : tie.Need-slice-aggregate-load-past Inv-loop μ-loop
+slice-aggregate-load-past c = search needs
+
+slice-aggregate-load-past-2 : tie.Need-slice-aggregate-load-past-2 Inv-loop μ-loop
+slice-aggregate-load-past-2 c = search needs
+
+slice-aggregate-load-past-3 : tie.Need-slice-aggregate-load-past-3 Inv-loop μ-loop
+slice-aggregate-load-past-3 c = search needs
+
+load-past-requires : tie.Need-load-past-requires Inv-loop μ-loop
+load-past-requires c κs = past-asked (c .before .before .before .before .before .before .before .before .before .before .before .before .pre) _ _ _ refl (search needs) (search needs)
+
+first-waiting-requires : tie.Need-first-waiting-requires Inv-loop μ-loop
+first-waiting-requires c κs = first-waiting-asked (c .before .before .before .before .before .before .before .before .before .before .before .before .before .before .before .before .before .before .before .pre)
+
+sum-of-requires : tie.Need-sum-of-requires Inv-loop μ-loop
+sum-of-requires c κs = sum-asked (c .before .before .before .before .before .before .before .before .before .before .before .before .before .before .before .before .before .before .before .before .before .before .before .before .before .before .pre) (c .before .before .before .before .before .before .before .before .before .before .before .before .before .load-past .ensures) (c .before .before .before .before .before .before .first-waiting .ensures)
+
+slice-aggregate-take-step-2 : tie.Need-slice-aggregate-take-step-2 Inv-loop μ-loop
+slice-aggregate-take-step-2 c = sym (c .before .before .before .before .before .loop .inv .state-at .curves-at .rooms .curve-size)
+
+slice-aggregate-take-step-3 : tie.Need-slice-aggregate-take-step-3 Inv-loop μ-loop
+slice-aggregate-take-step-3 c = sym (c .before .before .before .before .before .before .loop .inv .state-at .curves-at .rooms .place-size)
 
 pub take-steps-spec : {M : Type 1} → statement M
 take-steps-spec =
@@ -67,10 +91,18 @@ take-steps-spec =
     (tie.spec
     Inv-loop
     μ-loop
+    slice-aggregate-load-past
+    slice-aggregate-load-past-2
+    slice-aggregate-load-past-3
+    load-past-requires
+    first-waiting-requires
     held-in-requires
     load-signals-requires
+    sum-of-requires
     loop-holds
     slice-aggregate-take-step
+    slice-aggregate-take-step-2
+    slice-aggregate-take-step-3
     take-step-requires
     enum-told
     loop-less
