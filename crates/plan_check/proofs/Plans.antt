@@ -1,14 +1,13 @@
 -- The whole check of a plan. Assumes nothing.
 use Prim.Native.Nat.{ℕ, suc, _+_, _*_, _≤_, _<_}
-use mathlib.Core.Path.{_≡_, refl, sym, ap, ap₂, _∙_}
+use mathlib.Core.Path.{_≡_, refl, sym, ap, _∙_}
 use mathlib.Core.Bool.{true, false}
-use mathlib.Core.List.{List, _++_}
+use mathlib.Core.List.{List}
 use native.Mathlib.Numerals.{add-one}
-use native.Mathlib.Nat.{mul-le-mul-right}
 use native.Mathlib.Omega.{arith}
 use borrow.Author.Tests.{le-leb, lt-leb}
 use lib.Dec.{leb}
-use lib.ListN.{length, drop}
+use lib.ListN.{length}
 use Rattle.search.specs.declared.Refusal.{Refusal}
 use Rattle.search.specs.declared.Verdict.the-variants as verdicts
 use Rattle.search.specs.Checks.{refusal, verdict, Hold}
@@ -16,28 +15,23 @@ use Rattle.search.proofs.Laws.{passes-of-hold, or-else-passes, or-else-refused,
 use Rattle.records.specs.Lines.{Line, lines}
 use Rattle.model.specs.declared.PlanAnswer.{PlanAnswer}
 use Rattle.model.specs.declared.PlanAnswer.the-variants as plan-answer
-use Rattle.model.specs.Network.{maxLinks, linkCount, stepCount}
+use Rattle.model.specs.Network.{linkCount, stepCount}
 use Rattle.model.specs.Table.{networkChecks, ledgerChecks, planLineChecks, planChecks}
 use Rattle.model.specs.Hold.{planOf, EmptyHolds}
-use Rattle.model.specs.Calls.{planAnswer, checkPlan, rowsWritten, written, ledgerAfter}
+use Rattle.model.specs.Calls.{planAnswer, checkPlan, ledgerAfter}
 use Rattle.model.specs.Guarantees.{RowDue, Promises}
-use Rattle.model.proofs.Rows.{written-none, length-written}
+use Rattle.model.proofs.Rows.{written-none}
 use Rattle.model.proofs.Written.{refused-fails, rows-none}
 use Rattle.model.proofs.Promises.{promises}
 use Rattle.model.proofs.Hold.{empty-holds}
 use Rattle.tables.specs.declared.Reading.{Reading}
 use Rattle.tables.specs.declared.Stage.{Stage}
 use Rattle.tables.specs.declared.Stage.the-variants as stages
-use Rattle.tables.specs.Fields.{linkTableSize}
 use Rattle.tables.specs.Tables.{Judged}
 use Rattle.tables.proofs.Stages.{verdict-refused}
 use Rattle.network_signals.specs.Stages.{LoadAsked}
 use Rattle.network.specs.Loading.{Loaded}
-use Rattle.step_rows.specs.Rows.{startRow}
-use Rattle.step_rows.proofs.Texts.{start-row-is}
-use Rattle.step_rows.proofs.Ledger.{first-written}
 use Rattle.plan_steps.specs.Steps.{RunAsked, RunGot}
-use Rattle.plan_steps.proofs.Ledger.{written-again}
 use Rattle.plan_check.specs.Plan.{PlanGot}
 
 -- a refusal of the network, or of the ledger's length, writes nothing
@@ -97,44 +91,23 @@ module _ (networkText planText links movements times old : List ℕ) (reading : 
     room : 2 * suc (stepCount net) * linkCount net ≤ length old
     room = rw needed at h
 
-    start-room : 2 * linkCount net ≤ length old
-    start-room = let m : 1 ≤ suc (stepCount net) = omega arith in omega (arith, room, mul-le-mul-right (2 * linkCount net) m)
+    pub run-asked : RunAsked networkText planText reading links movements times old
+    run-asked =
+        record {
+          tables = record { holds = loaded .holds; counted = loaded .counted; trams-start = loaded .trams-start; link-table = loaded .link-table; movement-table = loaded .movement-table; time-table = loaded .time-table };
+          signals-asked = signals-asked loaded;
+          past-start = loaded .past-start;
+          steps-start = loaded .steps-start;
+          room = room;
+        }
 
-    pub start-asked : (reading .counts .links ≤ maxLinks) × (length links ≡ linkTableSize) × (2 * reading .counts .links ≤ length old)
-    start-asked = (loaded .counted .few .links, loaded .link-table .size, omega (arith, loaded .counted .links, start-room))
-
-    module _ (ledger : List ℕ) (start : ledger ≡ startRow (reading .counts) links ++ drop (2 * reading .counts .links) old) where
-      first : ledger ≡ written net pln old 1
-      first = first-written net pln old (start ∙ ap₂ (λ x y. x ++ drop (2 * y) old) (start-row-is (loaded .counted) (loaded .link-table) pln) (loaded .counted .links))
-
-      same-length : length ledger ≡ length old
-      same-length = ap length first ∙ length-written net pln old 1 (omega (arith, start-room))
-
-      pub run-asked : RunAsked networkText planText reading links movements times ledger
-      run-asked =
-          record {
-            tables = record { holds = loaded .holds; counted = loaded .counted; trams-start = loaded .trams-start; link-table = loaded .link-table; movement-table = loaded .movement-table; time-table = loaded .time-table };
-            signals-asked = signals-asked loaded;
-            steps-start = loaded .steps-start;
-            rows = first ∙ sym (written-again net pln old 1 1 (omega arith)) ∙ ap (λ x. written net pln x 1) (sym first);
-            room = rw same-length room;
-          }
-
-      pub plan-run : {answer : PlanAnswer} {after : List ℕ} → RunGot networkText planText ledger answer after → PlanGot networkText planText old answer after
-      plan-run got =
-          let v = plan-lines net pln (length old) valid (le-leb _ _ room) in
-          record {
-            answered = got .answered ∙ ap (planAnswer net pln) (sym v) ∙ checked;
-            written-rows = got .rows ∙ rows-are got;
-          }
-        where
-          checked : planAnswer net pln (verdict (planChecks net pln (length old))) ≡ checkPlan net pln (length old)
-          checked = unfold checkPlan in refl
-
-          rows-are : {answer : PlanAnswer} {after : List ℕ} → RunGot networkText planText ledger answer after → ledgerAfter net pln ledger ≡ ledgerAfter net pln old
-          rows-are got =
-              unfold ledgerAfter in
-              ap₂ (λ x m. written net pln x (rowsWritten net pln m)) first same-length ∙ written-again net pln old 1 _ (rw same-length at (got .some-row))
+    pub plan-run : {answer : PlanAnswer} {after : List ℕ} → RunGot networkText planText old answer after → PlanGot networkText planText old answer after
+    plan-run got =
+        let v = plan-lines net pln (length old) valid (le-leb _ _ room) in
+        record {
+          answered = got .answered ∙ ap (planAnswer net pln) (sym v) ∙ (unfold checkPlan in refl);
+          written-rows = got .rows;
+        }
 
 -- a network's refusal
 planned : (network plan : List Line) (size : ℕ) (r : Refusal) → verdict (networkChecks network) ≡ verdicts.Refused r → verdict (planChecks network plan size) ≡ verdicts.Refused r

@@ -32,11 +32,10 @@ fn judge_plan(
     if ledger.len() < 2 * (counts.steps + 1) * counts.links {
         return PlanAnswer::Refused(Refusal::new(8, 0, 0));
     }
-    step_rows::write_start(ledger, links, counts);
     plan_steps::run_steps(network, plan, reading, links, movements, times, ledger)
 }
 
-// Check a plan: refusals 1 to 6, 8 to 18, and 25 to 29. A refusal writes only row 0 and the rows of steps that had passed.
+// Check a plan: refusals 1 to 6, 8 to 18, and 25 to 30. A refusal writes only row 0 and the rows of steps that had passed.
 pub fn check_plan(network: &[u8], plan: &[u8], ledger: &mut [u32]) -> PlanAnswer
     ensures { λ r. ⌜ r ≡ checkPlan (lines (now (network .entry))) (planOf (now (network .entry)) (now (plan .entry))) (length (now (ledger .entry))) ⌝ }
     ensures { λ r. ⌜ now (ledger .exit) ≡ ledgerAfter (lines (now (network .entry))) (planOf (now (network .entry)) (now (plan .entry))) (now (ledger .entry)) ⌝ }

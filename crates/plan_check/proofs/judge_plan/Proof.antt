@@ -15,34 +15,27 @@ mul-if1 c = search needs
 
 mul-if1-2 : tie.Need-mul-if1-2
 mul-if1-2 c =
-    let s = c .before .before .before .before .before .before .before .before .before in
-    let few = s .pre .counted .few in
-    let h : 2 * (s .args .reading .counts .steps + 1) ≤ 242 = omega (arith, few .steps) in
-    omega (arith, mul-le-mul-right (s .args .reading .counts .links) h, few .links)
+    let few = c .before .before .before .before .before .before .before .before .before .pre .counted .few in
+    let h : 2 * (c .before .before .before .before .before .before .before .before .before .args .reading .counts .steps + 1) ≤ 242 = omega (arith, few .steps) in
+    omega (arith, mul-le-mul-right (c .before .before .before .before .before .before .before .before .before .args .reading .counts .links) h, few .links)
 
 new-requires : tie.Need-new-requires
 new-requires c κs = search needs
 
 returns : tie.Need-returns
 returns c =
-    let s = c .before .before .before .before .before .before .before .before .before .before .before in
-    rw (c .new .ensures) (plan-short _ (s .args .plan .now) _ _ _ (s .args .ledger .now) _ (s .pre) (c .before .if1 .taken))
-
-write-start-requires : tie.Need-write-start-requires
-write-start-requires c κs = search needs
+    rw (c .new .ensures) (plan-short _ (c .before .before .before .before .before .before .before .before .before .before .before .args .plan .now) _ _ _ (c .before .before .before .before .before .before .before .before .before .before .before .args .ledger .now) _ (c .before .before .before .before .before .before .before .before .before .before .before .pre) (c .before .if1 .taken))
 
 run-steps-requires : tie.Need-run-steps-requires
 run-steps-requires c κs =
-    let s = c .before .before .before .before .before .before .before .before .before .before .before .before .before .before .before in
-    run-asked _ (s .args .plan .now) _ _ _ (s .args .ledger .now) _ (s .pre) (c .before .before .before .before .before .if1 .left) _ (c .before .before .before .write-start .ensures)
+    run-asked _ (c .before .before .before .before .before .before .before .before .before .before .before .args .plan .now) _ _ _ (c .before .before .before .before .before .before .before .before .before .before .before .args .ledger .now) _ (c .before .before .before .before .before .before .before .before .before .before .before .pre) (c .before .if1 .left)
 
 same-length : tie.Need-same-length
 same-length c = search needs
 
 returns-2 : tie.Need-returns-2
 returns-2 c =
-    let s = c .before .before .before .before .before .before .before .before .before .before .before .before .before .before .before .before .before .before in
-    plan-run _ (s .args .plan .now) _ _ _ (s .args .ledger .now) _ (s .pre) (c .before .before .before .before .before .before .before .before .if1 .left) _ (c .before .before .before .before .before .before .write-start .ensures) (c .before .before .run-steps .ensures)
+    plan-run _ (c .before .before .before .before .before .before .before .before .before .before .before .before .before .before .args .plan .now) _ _ _ (c .before .before .before .before .before .before .before .before .before .before .before .before .before .before .args .ledger .now) _ (c .before .before .before .before .before .before .before .before .before .before .before .before .before .before .pre) (c .before .before .before .before .if1 .left) (c .before .before .run-steps .ensures)
 
 pub judge-plan-spec : {M : Type 1} → statement M
 judge-plan-spec =
@@ -53,7 +46,6 @@ judge-plan-spec =
     mul-if1-2
     new-requires
     returns
-    write-start-requires
     run-steps-requires
     same-length
     returns-2)
