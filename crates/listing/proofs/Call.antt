@@ -42,6 +42,8 @@ use Rattle.listing.specs.Tables.{hasIn, secondsIn, TablesAsked, ListingG
 use Rattle.listing.specs.Numbers.{textIn, Kept, LinesAsked}
 use Rattle.listing.specs.Writing.{answerOf, bytesOf, Told, roomVerdict, StoredGot, WriteGot, NetworkAsked, ListingWritten}
 use Rattle.listing.proofs.Theorem.{reads-back}
+use Rattle.plan_times.specs.Times.{ShiftAsked, Shifted}
+use Rattle.plan_times.proofs.Times.{shift-asked, plan-times}
 use Rattle.listing.proofs.Whole.{verdict-same, text-same}
 
 -- ---- 24, and the text
@@ -206,10 +208,13 @@ answer-number network listing size r h =
     refused-number (writeChecks network listing size) r (write-numbered network listing size) (of-answer network listing _ r h)
 
 module _ (text : List ℕ) (r : Stage) (links movements times : List ℕ) (g : Judged (networkChecks (lines text)) (Loaded text links movements times) r) where
-  pub plan-asked : (reading : Reading) → r ≡ stages.Passed reading → NetworkAsked text reading times
-  plan-asked reading e =
+  pub times-asked : (reading : Reading) → r ≡ stages.Passed reading → ShiftAsked times (reading .counts .past) (reading .counts .steps)
+  times-asked reading e = let l = g .held reading e in shift-asked (l .counted) (l .holds) (l .time-table)
+
+  pub plan-asked : (reading : Reading) → r ≡ stages.Passed reading → (after : List ℕ) → Shifted times (reading .counts .past) (reading .counts .steps) after → NetworkAsked text reading after
+  plan-asked reading e after s =
       let l = g .held reading e in
-      record { counted = l .counted; trams-start = l .trams-start; signals-start = l .signals-start; time-table = l .time-table; holds = l .holds }
+      record { counted = l .counted; trams-start = l .trams-start; signals-start = l .signals-start; time-table = plan-times (l .counted) (l .holds) (l .time-table) s; holds = l .holds }
 
   module _ (listing : List Entry) (old : List ℕ) where
     pub plan-refused : (q : Refusal) → r ≡ stages.Refused q → PlanGot (lines text) listing old (Refused q) old

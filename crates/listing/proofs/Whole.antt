@@ -19,7 +19,8 @@ use Rattle.model.specs.Table.{letterP}
 use Rattle.model.proofs.Tests.{and-right}
 use Rattle.tables.specs.declared.Counts.{Counts}
 use Rattle.tables.specs.Places.{planWidth}
-use Rattle.tables.specs.Tables.{CountsHold, PhaseTable, TimeTable}
+use Rattle.tables.specs.Tables.{CountsHold, PhaseTable}
+use Rattle.plan_times.specs.Times.{PlanTimes}
 use Rattle.tables.specs.Fields.{lineSize}
 use Rattle.listing_lines.specs.declared.Variable.{Variable}
 use Rattle.listing_lines.specs.declared.Variable.the-variants.{Shown, Admitted, LetOut, Moved}
@@ -79,7 +80,7 @@ checks-same has has′ sec sec′ listing h s =
     first-same _ _ (length listing) 0 (λ k _ _. entry-same has has′ sec sec′ listing k (lineAt listing k) h s)
 
 -- ---- the tables of a network
-module _ (network : List Line) (counts : Counts) (phases times : List ℕ) (c : CountsHold network counts) (p : PhaseTable network phases) (t : TimeTable network times) where
+module _ (network : List Line) (counts : Counts) (phases times : List ℕ) (c : CountsHold network counts) (p : PhaseTable network phases) (t : PlanTimes network times) where
   has-same : (v : Variable) → hasIn counts phases v ≡ hasVariable network v
   unfolding hasIn hasVariable hasPhaseIn
   has-same (Shown r k n) = rw (c .steps, c .signals) (ap (λ (x : Bool). x and within 1 n (stepCount network)) (go (within 1 r (signalCount network)) refl))

@@ -14,7 +14,8 @@ use Rattle.model.specs.Network.{tramLine, signalLine}
 use Rattle.model.specs.Table.{networkChecks}
 use Rattle.tables.specs.declared.Counts.{Counts}
 use Rattle.tables.specs.declared.Reading.{Reading}
-use Rattle.tables.specs.Tables.{CountsHold, TimeTable}
+use Rattle.tables.specs.Tables.{CountsHold}
+use Rattle.plan_times.specs.Times.{PlanTimes}
 use Rattle.listing_lines.specs.declared.Entry.{Entry}
 use Rattle.listing.specs.declared.ListingAnswer.{ListingAnswer}
 use Rattle.listing.specs.declared.ListingAnswer.the-variants.{Written, Refused}
@@ -50,12 +51,12 @@ pub record WriteGot (counts : Counts) (phases times : List ℕ) (listing : List 
   pub passed : verdict (each (length listing) (entryChecksBy (hasIn counts phases) (secondsIn times) listing)) ≡ verdicts.Passes
       → (numbers : List ℕ) × (seen : List ℕ) × Stored (secondsIn times) listing (length listing) numbers seen × StoredGot (textIn numbers counts) old answer new
 
--- a network that has passed
+-- a network that has passed, with the times of its plan's boundaries
 pub record NetworkAsked (text : List ℕ) (reading : Reading) (times : List ℕ) : Type 0 where
   pub counted : CountsHold (lines text) (reading .counts)
   pub trams-start : Starts text (reading .«trams_at») (tramLine (lines text) 0)
   pub signals-start : Starts text (reading .«signals_at») (signalLine (lines text) 0)
-  pub time-table : TimeTable (lines text) times
+  pub time-table : PlanTimes (lines text) times
   pub holds : Hold (networkChecks (lines text))
 
 abbrev pub ListingWritten : List Line → List Entry → List ℕ → ListingAnswer → List ℕ → Type 0

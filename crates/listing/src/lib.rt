@@ -462,7 +462,7 @@ fn write_on_network(
     }
 }
 
-// The plan text of a solver's listing: refusals 1 to 6, then 22 and 23 line by line, then 24.
+// The plan text of a solver's listing: refusals 1 to 6, 28 and 30, then 22 and 23 line by line, then 24.
 pub fn plan_from_listing(network: &[u8], listing: &[u8], out: &mut [u8]) -> ListingAnswer
     ensures { λ r. ⌜ PlanGot (lines (now (network .entry))) (entries (now (listing .entry))) (now (out .entry)) r (now (out .exit)) ⌝ }
 {
@@ -470,7 +470,11 @@ pub fn plan_from_listing(network: &[u8], listing: &[u8], out: &mut [u8]) -> List
     let mut movements = [0u32; MOVEMENT_TABLE_SIZE];
     let mut times = [0u32; TIME_TABLE_SIZE];
     match network::load_network(network, &mut links, &mut movements, &mut times) {
-        Stage::Passed(reading) => write_on_network(network, reading, listing, &times, out),
+        Stage::Passed(reading) => {
+            let counts = reading.counts;
+            plan_times::from_start(&mut times, counts.past, counts.steps);
+            write_on_network(network, reading, listing, &times, out)
+        }
         Stage::Refused(refusal) => ListingAnswer::Refused(refusal),
     }
 }

@@ -1,5 +1,5 @@
 -- `listing::plan_from_listing` meets its contract. Assumes nothing.
-use Rattle.listing.proofs.Call.{plan-refused, plan-asked, plan-written}
+use Rattle.listing.proofs.Call.{plan-refused, times-asked, plan-asked, plan-written}
 use borrow.Author.Needs.{needs}
 use Rattle.listing.proofs.plan_from_listing.Statement.{statement}
 use Rattle.listing.proofs.plan_from_listing.Tie as tie
@@ -18,6 +18,12 @@ load-network-requires c κs = search needs
 
 enum-known-reading : tie.Need-enum-known-reading
 enum-known-reading c = search needs
+
+slice-aggregate-from-start : tie.Need-slice-aggregate-from-start
+slice-aggregate-from-start c = search needs
+
+from-start-requires : tie.Need-from-start-requires
+from-start-requires c κs = search times-asked
 
 slice-aggregate-write-on-network : tie.Need-slice-aggregate-write-on-network
 slice-aggregate-write-on-network c = search needs
@@ -46,6 +52,8 @@ plan-from-listing-spec =
     slice-aggregate-load-network-3
     load-network-requires
     enum-known-reading
+    slice-aggregate-from-start
+    from-start-requires
     slice-aggregate-write-on-network
     write-on-network-requires
     enum-known-refusal
