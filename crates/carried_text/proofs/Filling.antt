@@ -1,0 +1,161 @@
+-- Numbers that go to the front of a row, one after another. Assumes nothing.
+use Prim.Native.Nat.{ℕ, zero, suc, _+_, _*_, _-_, _≤_, _<_}
+use mathlib.Core.Path.{_≡_, refl, sym, ap, ap₂, _∙_}
+use mathlib.Core.List.{List, [], _∷_, _++_, append-assoc}
+use native.Mathlib.Numerals.{add-one}
+use native.Mathlib.Nat.{mul-le-mul-right}
+use native.Mathlib.Omega.{arith}
+use lib.ListN.{length, getD, set, take, drop, length-append, length-set}
+use lib.Seq.{length-take-le, take-suc, take-length, take-at, drop-cons, drop-set-lt, set-at, append-snoc}
+use Rattle.records.specs.Reading.{over}
+use Rattle.model.specs.declared.Signal.{Signal}
+use Rattle.model.specs.Sum.{joined}
+use Rattle.tables.specs.Fields.{pastSize, enteredAt, leftAt, RowHeld}
+use Rattle.carry_model.specs.Part.{signalNumbers}
+use Rattle.carry_model.proofs.Parts.{pairs-length}
+use Rattle.carried_text.specs.Rows.{volumesIn, Rising, VolumesAsked}
+
+over-next : (a old : List ℕ) (x n : ℕ) → length a ≡ n → n < length old → set (over a old) n x ≡ over (a ++ (x ∷ [])) old
+unfolding over
+over-next a old x n e h =
+    let g : length (a ++ (x ∷ [])) ≡ suc n = omega (arith, length-append a (x ∷ [])) in
+    rw (g, e, drop-cons old n 0) (set-at a (getD old n 0) (drop (suc n) old) x n e ∙ sym (append-snoc a x (drop (suc n) old)))
+
+over-pair : (a old : List ℕ) (x y n m : ℕ) → length a ≡ n → m ≡ n + 1 → m < length old → set (set (over a old) n x) m y ≡ over (a ++ (x ∷ y ∷ [])) old
+over-pair a old x y n m e d h =
+    ap (λ (z : List ℕ). set z m y) (over-next a old x n e (omega arith))
+    ∙ over-next (a ++ (x ∷ [])) old y m (omega (arith, length-append a (x ∷ []))) h
+    ∙ ap (λ (z : List ℕ). over z old) (append-assoc a (x ∷ []) (y ∷ []))
+
+-- the numbers are the row's again, as many as were put there
+pub front-is : (ns old row : List ℕ) (w : ℕ) → row ≡ over ns old → length ns ≡ w → take w row ≡ ns
+unfolding over
+front-is ns old row w e l = ap (take w) e ∙ take-at ns _ w l
+
+-- ---- `widen`: the first k numbers stand in the table
+pub record WideTo (row old numbers : List ℕ) (k : ℕ) : Type 0 where
+  pub few : k ≤ length row
+  pub size : length numbers ≡ length old
+  pub is : numbers ≡ over (take k row) old
+
+pub wide-none : (row old : List ℕ) → WideTo row old old 0
+unfolding over
+wide-none row old = record { few = omega arith; size = refl; is = refl }
+
+module _ {row old numbers : List ℕ} {k : ℕ} (room : length row ≤ length old) (w : WideTo row old numbers k) where
+  pub wide-next : k < length row → {x : ℕ} → x ≡ getD row k 0 → WideTo row old (set numbers k x) (k + 1)
+  wide-next h {x} e =
+      let t : take (k + 1) row ≡ take k row ++ (x ∷ []) = rw (add-one, e) (take-suc row k 0 h) in
+      record {
+        few = omega arith;
+        size = length-set numbers k x ∙ w .size;
+        is = ap (λ (z : List ℕ). set z k x) (w .is) ∙ over-next (take k row) old x k (len h) (omega arith) ∙ ap (λ (z : List ℕ). over z old) (sym t);
+      }
+    where
+      len : k < length row → length (take k row) ≡ k
+      len h = length-take-le k row (omega arith)
+
+  pub wide-all : length row ≤ k → numbers ≡ over row old
+  wide-all h = let z : k ≡ length row = omega (arith, w .few) in w .is ∙ ap (λ (x : List ℕ). over x old) (rw z (take-length row))
+
+-- ---- `fill_signal`: six numbers, and those of the first k phases
+abbrev signalTo : Signal → ℕ → List ℕ
+signalTo s k =
+    s .«least_cycle» ∷ s .«greatest_cycle» ∷ s .phases ∷ s .shown ∷ s .«shown_for» ∷ s .«cycle_clock»
+    ∷ joined k (λ j. getD (s .least) j 0 ∷ getD (s .greatest) j 0 ∷ [])
+
+abbrev sixSet : Signal → List ℕ → List ℕ
+sixSet s old =
+    set (set (set (set (set (set old 0 (s .«least_cycle»)) 1 (s .«greatest_cycle»)) 2 (s .phases)) 3 (s .shown)) 4 (s .«shown_for»)) 5 (s .«cycle_clock»)
+
+pub record SignalTo (s : Signal) (old row : List ℕ) (k : ℕ) : Type 0 where
+  pub few : k ≤ s .phases
+  pub old-size : length old ≡ 22
+  pub size : length row ≡ 22
+  pub is : row ≡ over (signalTo s k) old
+
+module _ (s : Signal) where
+  pub signal-none : (old : List ℕ) → length old ≡ 22 → SignalTo s (sixSet s old) (sixSet s old) 0
+  unfolding over joined
+  signal-none [] h = absurd (omega arith)
+  signal-none (a ∷ []) h = absurd (omega arith)
+  signal-none (a ∷ b ∷ []) h = absurd (omega arith)
+  signal-none (a ∷ b ∷ c ∷ []) h = absurd (omega arith)
+  signal-none (a ∷ b ∷ c ∷ d ∷ []) h = absurd (omega arith)
+  signal-none (a ∷ b ∷ c ∷ d ∷ e ∷ []) h = absurd (omega arith)
+  signal-none (a ∷ b ∷ c ∷ d ∷ e ∷ f ∷ more) h = record { few = omega arith; old-size = h; size = h; is = refl }
+
+  pub signal-next : {old row : List ℕ} {k : ℕ} → SignalTo s old row k → {phases : ℕ} → phases ≡ s .phases → k < phases → s .phases ≤ 8
+      → {x y : ℕ} → x ≡ getD (s .least) k 0 → y ≡ getD (s .greatest) k 0 → SignalTo s old (set (set row (6 + 2 * k) x) (7 + 2 * k) y) (k + 1)
+  unfolding joined
+  signal-next {old} {row} {k} t i h few {x} {y} p q =
+      let l : length (signalTo s k) ≡ 6 + 2 * k = omega (arith, pairs-length (λ j. getD (s .least) j 0) (λ j. getD (s .greatest) j 0) k) in
+      record {
+        few = omega arith;
+        old-size = t .old-size;
+        size = length-set (set row (6 + 2 * k) x) (7 + 2 * k) y ∙ length-set row (6 + 2 * k) x ∙ t .size;
+        is = ap (λ (z : List ℕ). set (set z (6 + 2 * k) x) (7 + 2 * k) y) (t .is)
+            ∙ over-pair (signalTo s k) old x y (6 + 2 * k) (7 + 2 * k) l (omega arith) (omega (arith, t .old-size))
+            ∙ rw (add-one, p, q) refl;
+      }
+
+  -- the first six are written over
+  over-six : (ns old : List ℕ) → 6 ≤ length ns → over ns (sixSet s old) ≡ over ns old
+  unfolding over
+  over-six ns old h =
+      let n = length ns in
+      ap (λ (z : List ℕ). ns ++ z)
+      (drop-set-lt n _ 5 _ (omega arith) ∙ drop-set-lt n _ 4 _ (omega arith) ∙ drop-set-lt n _ 3 _ (omega arith) ∙ drop-set-lt n _ 2 _ (omega arith) ∙ drop-set-lt n _ 1 _ (omega arith) ∙ drop-set-lt n old 0 _ (omega arith))
+
+  pub signal-all : (old : List ℕ) {row : List ℕ} {k : ℕ} → SignalTo s (sixSet s old) row k → {phases : ℕ} → phases ≡ s .phases → phases ≤ k → row ≡ over (signalNumbers s) old
+  unfolding signalNumbers
+  signal-all old {row} {k} t i h =
+      let z : k ≡ s .phases = omega (arith, t .few) in t .is ∙ ap (λ j. over (signalTo s j) (sixSet s old)) z ∙ over-six (signalTo s (s .phases)) old (omega arith)
+
+-- ---- `fill_volumes`: the step's length, and the volumes of the first k links
+pub record VolumesTo (ledger : List ℕ) (links n : ℕ) (old row : List ℕ) (k : ℕ) : Type 0 where
+  pub few : k ≤ links
+  pub size : length row ≡ pastSize
+  pub is : row ≡ over (getD old 0 0 ∷ joined k (volumesIn ledger links n)) old
+
+pub volumes-length : (ledger : List ℕ) (links n k : ℕ) → length (joined k (volumesIn ledger links n)) ≡ 2 * k
+unfolding volumesIn
+volumes-length ledger links n k = pairs-length (λ i. enteredAt ledger links (n + 1) i - enteredAt ledger links n i) (λ i. leftAt ledger links (n + 1) i - leftAt ledger links n i) k
+
+module _ {ledger : List ℕ} {links b n : ℕ} where
+  pub volumes-none : (old : List ℕ) → VolumesAsked ledger links b n old → VolumesTo ledger links n old old 0
+  unfolding over joined
+  volumes-none [] a = absurd (omega (arith, a .size))
+  volumes-none (x ∷ old) a = record { few = omega arith; size = a .size; is = refl }
+
+  module _ {old : List ℕ} {k : ℕ} (a : VolumesAsked ledger links b n old) where
+    pub held-before : k < links → RowHeld ledger links n k
+    held-before h = let w = a .rising in record { few-boundaries = omega (arith, w .few-steps, a .before); few-links = w .few-links; within = h; rows = omega (arith, w .rows, mul-le-mul-right (2 * links) (a .before)) }
+
+    pub held-after : k < links → RowHeld ledger links (n + 1) k
+    held-after h = let w = a .rising in record { few-boundaries = omega (arith, w .few-steps, a .before); few-links = w .few-links; within = h; rows = omega (arith, w .rows, mul-le-mul-right (2 * links) (a .before)) }
+
+    pub entered-rises : k < links → {p x : ℕ} → p ≡ enteredAt ledger links n k → x ≡ enteredAt ledger links (n + 1) k → p ≤ x
+    entered-rises h d e = omega (arith, a .rising .entered n k (a .before) h)
+
+    pub left-rises : k < links → {q y : ℕ} → q ≡ leftAt ledger links n k → y ≡ leftAt ledger links (n + 1) k → q ≤ y
+    left-rises h d e = omega (arith, a .rising .left n k (a .before) h)
+
+  module _ {old row : List ℕ} {k : ℕ} (a : VolumesAsked ledger links b n old) where
+    module _ (t : VolumesTo ledger links n old row k) (h : k < links) where
+      pub volumes-next : {p q x y : ℕ} → p ≡ enteredAt ledger links n k → q ≡ leftAt ledger links n k → x ≡ enteredAt ledger links (n + 1) k → y ≡ leftAt ledger links (n + 1) k
+          → VolumesTo ledger links n old (set (set row (1 + 2 * k) (x - p)) (2 + 2 * k) (y - q)) (k + 1)
+      unfolding joined
+      volumes-next {p} {q} {x} {y} d e f g =
+          let l : length (getD old 0 0 ∷ joined k (volumesIn ledger links n)) ≡ 1 + 2 * k = omega (arith, volumes-length ledger links n k) in
+          let v : ((x - p) ∷ (y - q) ∷ []) ≡ volumesIn ledger links n k = unfold volumesIn in rw (d, e, f, g) refl in
+          record {
+            few = omega arith;
+            size = length-set (set row (1 + 2 * k) (x - p)) (2 + 2 * k) (y - q) ∙ length-set row (1 + 2 * k) (x - p) ∙ t .size;
+            is = ap (λ (z : List ℕ). set (set z (1 + 2 * k) (x - p)) (2 + 2 * k) (y - q)) (t .is)
+                ∙ over-pair (getD old 0 0 ∷ joined k (volumesIn ledger links n)) old (x - p) (y - q) (1 + 2 * k) (2 + 2 * k) l (omega arith) (omega (arith, a .size, a .rising .few-links))
+                ∙ rw add-one (ap (λ (z : List ℕ). over (getD old 0 0 ∷ (joined k (volumesIn ledger links n) ++ z)) old) v);
+          }
+
+    pub volumes-all : VolumesTo ledger links n old row k → links ≤ k → row ≡ over (getD old 0 0 ∷ joined links (volumesIn ledger links n)) old
+    volumes-all t h = let z : k ≡ links = omega (arith, t .few) in t .is ∙ ap (λ j. over (getD old 0 0 ∷ joined j (volumesIn ledger links n)) old) z

@@ -1,0 +1,6 @@
+mod Put
+mod Filling
+mod Reading
+mod Trams
+mod Lines
+mod Whole

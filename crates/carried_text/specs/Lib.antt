@@ -1,0 +1,4 @@
+pub mod Put
+pub mod Rows
+pub mod Trams
+pub mod Carried

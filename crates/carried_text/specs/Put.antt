@@ -1,0 +1,22 @@
+-- A text put line by line at a place of a buffer, as far as there is room. Assumes nothing.
+use Prim.Native.Nat.{ℕ, _+_, _*_, _≤_}
+use mathlib.Core.Path.{_≡_}
+use mathlib.Core.List.{List}
+use lib.ListN.{length}
+use Rattle.record_writer.specs.Writing.{putAt}
+use Rattle.tables.specs.Fields.{pastSize}
+
+-- how long a line is at most: an `H` line has the most numbers
+abbrev pub longest : ℕ
+longest = 2 + 21 * pastSize
+
+-- A text of so many lines was put at a place: it is written there if it ends within the buffer, and where it ends is told in any case.
+pub record Put (count : ℕ) (text : List ℕ) (at : ℕ) (old new : List ℕ) (end : ℕ) : Type 0 where
+  pub ends : end ≡ at + length text
+  pub few : length text ≤ longest * count
+  pub size : length new ≡ length old
+  pub is : end ≤ length old → new ≡ putAt at text old
+
+-- so many lines from a place on are few enough to be counted
+abbrev pub Early : ℕ → ℕ → Type 0
+Early count at = at + longest * count ≤ 1_000_000
