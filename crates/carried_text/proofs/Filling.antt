@@ -1,6 +1,6 @@
 -- Numbers that go to the front of a row, one after another. Assumes nothing.
-use Prim.Native.Nat.{ℕ, zero, suc, _+_, _*_, _-_, _≤_, _<_}
-use mathlib.Core.Path.{_≡_, refl, sym, ap, ap₂, _∙_}
+use Prim.Native.Nat.{ℕ, suc, _+_, _*_, _-_, _≤_, _<_}
+use mathlib.Core.Path.{_≡_, refl, sym, ap, _∙_}
 use mathlib.Core.List.{List, [], _∷_, _++_, append-assoc}
 use native.Mathlib.Numerals.{add-one}
 use native.Mathlib.Nat.{mul-le-mul-right}
@@ -13,7 +13,7 @@ use Rattle.model.specs.Sum.{joined}
 use Rattle.tables.specs.Fields.{pastSize, enteredAt, leftAt, RowHeld}
 use Rattle.carry_model.specs.Part.{signalNumbers}
 use Rattle.carry_model.proofs.Parts.{pairs-length}
-use Rattle.carried_text.specs.Rows.{volumesIn, Rising, VolumesAsked}
+use Rattle.carried_text.specs.Rows.{volumesIn, VolumesAsked}
 
 over-next : (a old : List ℕ) (x n : ℕ) → length a ≡ n → n < length old → set (over a old) n x ≡ over (a ++ (x ∷ [])) old
 unfolding over

@@ -1,9 +1,8 @@
 -- Lines that have passed, read again and put as they are. Assumes nothing.
 use Prim.Native.Nat.{ℕ, zero, suc, _+_, _*_, _≤_, _<_}
-use mathlib.Core.Path.{_≡_, refl, sym, ap, ap₂, _∙_}
-use mathlib.Core.Bool.{Bool, true, false}
+use mathlib.Core.Path.{_≡_, refl, ap, ap₂, _∙_}
+use mathlib.Core.Bool.{true}
 use mathlib.Core.List.{List, [], _∷_, _++_}
-use native.Mathlib.Numerals.{add-one}
 use native.Mathlib.Omega.{arith}
 use lib.ListN.{length, getD, take}
 use lib.Seq.{take-suc}
@@ -16,8 +15,7 @@ use Rattle.model.specs.Sum.{list, joined}
 use Rattle.model.specs.Network.{entry}
 use Rattle.model.specs.Table.{isForm, letterH, letterS}
 use Rattle.tables.specs.Fields.{pastSize}
-use Rattle.tables.specs.Rows.{LineHeld, RowRead}
-use Rattle.carried_text.specs.declared.Places.{Places}
+use Rattle.tables.specs.Rows.{RowRead}
 use Rattle.carried_text.specs.Put.{longest, Put, Early}
 use Rattle.carried_text.specs.Rows.{volumesIn, ReadAgain, Copied, StepsPut, Rising, VolumesAsked}
 use Rattle.carried_text.proofs.Put.{lines-none, lines-more, part-size}

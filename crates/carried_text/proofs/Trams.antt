@@ -1,15 +1,14 @@
 -- The tram lines that are left behind a boundary, one after another. Assumes nothing.
-use Prim.Native.Nat.{ℕ, zero, suc, _+_, _*_, _-_, _≤_, _<_, max, min}
-use mathlib.Core.Path.{_≡_, refl, sym, ap, ap₂, _∙_}
+use Prim.Native.Nat.{ℕ, suc, _+_, _-_, _≤_, _<_, max, min}
+use mathlib.Core.Path.{_≡_, refl, sym, ap, _∙_}
 use mathlib.Core.Bool.{Bool, true, false, cond}
 use mathlib.Core.List.{List, [], _∷_, _++_, append-assoc, append-nil}
 use native.Mathlib.Decide.{decLe}
 use native.Mathlib.Numerals.{add-one}
 use native.Mathlib.Omega.{arith}
 use borrow.Author.Tests.{lt-ltb, le-ltb, le-leb, lt-leb}
-use lib.Dec.{ltb, leb}
 use lib.ListN.{length, getD, take, drop, length-append, length-take, length-drop}
-use lib.Seq.{take-suc, take-length, take-all, getD-take, getD-drop}
+use lib.Seq.{take-suc, take-all, getD-take, getD-drop}
 use Rattle.records.specs.Lines.{Line, lines, noLine, number}
 use Rattle.records.specs.Reading.{Starts}
 use Rattle.record_writer.specs.Records.{recordText}
@@ -18,7 +17,7 @@ use Rattle.model.specs.Table.{isForm, letterT}
 use Rattle.tables.specs.Fields.{tramFields}
 use Rattle.tables.proofs.Places.{record-within}
 use Rattle.carry_model.specs.Part.{meets, clip, clipped}
-use Rattle.carried_text.specs.Put.{longest, Put, Early}
+use Rattle.carried_text.specs.Put.{Put, Early}
 use Rattle.carried_text.specs.Rows.{ReadAgain}
 use Rattle.carried_text.specs.Trams.{leftOf, tramTexts, TramsAsked}
 use Rattle.carried_text.proofs.Put.{put-none, puts-more}

@@ -3,14 +3,12 @@ use Prim.Native.Nat.{ℕ, zero, suc, _+_, _*_, _-_, _≤_, _<_}
 use mathlib.Core.Path.{_≡_, refl, sym, ap, ap₂, _∙_}
 use mathlib.Core.Bool.{true, false}
 use mathlib.Core.List.{List, [], _∷_, _++_, append-assoc, append-nil}
-use native.Mathlib.Nat.{mul-le-mul-right}
 use native.Mathlib.Numerals.{add-one}
 use native.Mathlib.Omega.{arith}
 use borrow.Author.Tests.{leb-true, le-leb, lt-leb}
 use lib.Dec.{leb}
 use lib.ListN.{length, getD, take, drop, length-take}
-use Rattle.search.specs.Checks.{Hold}
-use Rattle.records.specs.Lines.{Line, lines, noLine, number}
+use Rattle.records.specs.Lines.{Line, lines}
 use Rattle.records.specs.Reading.{Starts, over}
 use Rattle.record_writer.specs.Records.{recordText, recordTexts}
 use Rattle.record_writer.specs.Writing.{putAt}
@@ -18,10 +16,10 @@ use Rattle.record_writer.proofs.Laws.{records-same}
 use Rattle.model.specs.declared.Signal.{Signal}
 use Rattle.model.specs.Test.{within}
 use Rattle.model.specs.Sum.{list, joined}
-use Rattle.model.specs.Network.{entry, linkCount, signalCount, movementCount, stepCount, tramCount, pastCount, onTimeline, tramLine, timelineLine, stepLine, trams, signal, capacity, travelTime, timelineLength, pastEntries, pastExits, stepLength, demand}
+use Rattle.model.specs.Network.{entry, linkCount, signalCount, movementCount, stepCount, tramCount, pastCount, onTimeline, tramLine, timelineLine, stepLine, trams, timelineLength, pastEntries, pastExits, stepLength, demand}
 use Rattle.model.specs.Rules.{tramExists, tram, validTram, validPhases}
-use Rattle.model.specs.Flows.{signalAt, timelineInflow, timelineOutflow, inflow, outflow, entered, left, waits}
-use Rattle.model.specs.Table.{isForm, letterN, letterT, letterG, letterQ, letterM, letterH, letterS, networkChecks}
+use Rattle.model.specs.Flows.{signalAt, timelineInflow, timelineOutflow, entered, left}
+use Rattle.model.specs.Table.{isForm, letterN, letterT, letterG, letterQ, letterM, letterH, letterS}
 use Rattle.model.specs.Calls.{written}
 use Rattle.model.proofs.Tests.{and-left, and-right}
 use Rattle.model.proofs.Accepted.{ValidNetwork, valid-network}
@@ -31,13 +29,12 @@ use Rattle.model.proofs.Rows.{written-at}
 use Rattle.tables.specs.declared.Counts.{Counts}
 use Rattle.tables.specs.declared.Reading.{Reading}
 use Rattle.tables.specs.Places.{Few}
-use Rattle.tables.specs.Fields.{tramFields, pastSize, enteredAt, leftAt}
-use Rattle.tables.specs.Tables.{CountsHold, noSignal}
+use Rattle.tables.specs.Fields.{pastSize, enteredAt, leftAt}
+use Rattle.tables.specs.Tables.{noSignal}
 use Rattle.tables.proofs.Tables.{capacity-at, travel-time-at, exit-rate-at, signal-of-at, phase-mask-at, standing-at, from-link-at, to-link-at, rate-at, share-at}
 use Rattle.network_text.specs.NetworkText.{countNumbers, networkText}
 use Rattle.network_text.proofs.Formed.{Formed, formed-of-holds}
 use Rattle.carry_model.specs.Part.{clipped, signalNumbers, linkNumbers, movementNumbers, pastNumbers, stepNumbers, part, carriedText}
-use Rattle.carry_model.proofs.Parts.{list-same}
 use Rattle.carry_model.proofs.Clipped.{clipped-length}
 use Rattle.carried_text.specs.declared.CarriedAnswer.the-variants.{Written, TooShort}
 use Rattle.carried_text.specs.declared.Places.{Places}

@@ -5,7 +5,7 @@ use mathlib.Core.Bool.{true, cond}
 use mathlib.Core.List.{List, [], _∷_, _++_}
 use lib.Dec.{ltb}
 use lib.ListN.{getD}
-use Rattle.records.specs.Lines.{Line, lines}
+use Rattle.records.specs.Lines.{lines}
 use Rattle.records.specs.Reading.{Starts}
 use Rattle.record_writer.specs.Records.{recordText}
 use Rattle.model.specs.Network.{maxSteps, maxTrams, entry, stepCount, tramCount, tramLine}

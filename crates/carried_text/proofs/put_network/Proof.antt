@@ -1,7 +1,6 @@
 -- `carried_text::put_network` meets its contract. Assumes nothing.
 use Rattle.carried_text.proofs.Whole.{trams-asked, counts-asked, trams-ready, signals-ready, links-ready, movements-ready, past-ready, steps-ready, rest-ready, all-size, all-put}
 use native.Mathlib.Omega.{arith}
-use borrow.Author.Needs.{needs}
 use Rattle.carried_text.proofs.put_network.Statement.{statement}
 use Rattle.carried_text.proofs.put_network.Tie as tie
 
