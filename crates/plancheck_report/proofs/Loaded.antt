@@ -18,30 +18,36 @@ use Rattle.tables.specs.declared.Stage.{Stage}
 use Rattle.tables.specs.declared.Stage.the-variants.{Passed, Refused}
 use Rattle.tables.specs.Tables.{Judged, stageVerdict}
 use Rattle.network.specs.Loading.{Loaded}
+use Rattle.plan_times.specs.Times.{ShiftAsked, Shifted}
+use Rattle.plan_times.proofs.Times.{shift-asked, plan-times}
 use Rattle.plancheck_report.specs.Boundaries.{ledgerNumbers, RowsAsked, BoundariesAsked}
 
 module _ {text : List ℕ} {result : Stage} {links movements times : List ℕ} (got : Judged (networkChecks (lines text)) (Loaded text links movements times) result) where
   module _ {reading : Reading} (e : result ≡ Passed reading) where
-    pub rows-asked : {out ledger : List ℕ} {at : ℕ} → BoundariesAsked out at (lines text) ledger → RowsAsked out at (reading .counts) times ledger
-    rows-asked {out} {ledger} asked =
-        let l = got .held reading e in
-        let c = l .counted in
+    pub times-asked : ShiftAsked times (reading .counts .past) (reading .counts .steps)
+    times-asked = let l = got .held reading e in shift-asked (l .counted) (l .holds) (l .time-table)
+
+    pub rows-asked : {after : List ℕ} → Shifted times (reading .counts .past) (reading .counts .steps) after → {out ledger : List ℕ} {at : ℕ} → BoundariesAsked out at (lines text) ledger
+        → RowsAsked out at (reading .counts) after ledger
+    rows-asked s {out} {ledger} asked =
+        let c = got .held reading e .counted in
         record {
           few = c .few;
-          all-times = l .time-table .size;
+          all-times = s .size;
           rows = rw (c .steps, c .links) (asked .rows);
           room = asked .room;
         }
 
-    pub rows-told : (ledger : List ℕ) {old new : List ℕ} {at answer : ℕ}
-        → Wrote (recordTexts 66 (suc (reading .counts .steps)) (ledgerNumbers (reading .counts .links) (λ n. getD times n 0) ledger)) at old new answer
+    pub rows-told : {after : List ℕ} → Shifted times (reading .counts .past) (reading .counts .steps) after → (ledger : List ℕ) {old new : List ℕ} {at answer : ℕ}
+        → Wrote (recordTexts 66 (suc (reading .counts .steps)) (ledgerNumbers (reading .counts .links) (λ n. getD after n 0) ledger)) at old new answer
         → Wrote (recordTexts 66 (suc (stepCount (lines text))) (ledgerNumbers (linkCount (lines text)) (time (lines text)) ledger)) at old new answer
     unfolding ledgerNumbers
-    rows-told ledger w =
+    rows-told {after} s ledger w =
         let l = got .held reading e in
+        let t = plan-times (l .counted) (l .holds) (l .time-table) s in
         let c = l .counted in
-        let same : recordTexts 66 (suc (reading .counts .steps)) (ledgerNumbers (reading .counts .links) (λ n. getD times n 0) ledger) ≡ recordTexts 66 (suc (stepCount (lines text))) (ledgerNumbers (linkCount (lines text)) (time (lines text)) ledger) =
-        rw (c .steps, c .links) (records-same 66 _ _ (suc (stepCount (lines text))) (λ n h. ap (λ t. n ∷ t ∷ take (2 * linkCount (lines text)) (drop (2 * n * linkCount (lines text)) ledger)) (l .time-table .holds n (omega arith)))) in
+        let same : recordTexts 66 (suc (reading .counts .steps)) (ledgerNumbers (reading .counts .links) (λ n. getD after n 0) ledger) ≡ recordTexts 66 (suc (stepCount (lines text))) (ledgerNumbers (linkCount (lines text)) (time (lines text)) ledger) =
+        rw (c .steps, c .links) (records-same 66 _ _ (suc (stepCount (lines text))) (λ n h. ap (λ t. n ∷ t ∷ take (2 * linkCount (lines text)) (drop (2 * n * linkCount (lines text)) ledger)) (t .holds n (omega arith)))) in
         rw same at w
 
   -- a network whose checks hold is loaded

@@ -73,7 +73,11 @@ fn write_boundaries(out: &mut [u8], at: usize, network: &[u8], ledger: &[u32]) -
     let mut movements = [0u32; MOVEMENT_TABLE_SIZE];
     let mut times = [0u32; TIME_TABLE_SIZE];
     match network::load_network(network, &mut links, &mut movements, &mut times) {
-        Stage::Passed(reading) => write_rows(out, at, reading.counts, &times, ledger),
+        Stage::Passed(reading) => {
+            let counts = reading.counts;
+            plan_times::from_start(&mut times, counts.past, counts.steps);
+            write_rows(out, at, counts, &times, ledger)
+        }
         Stage::Refused(_) => at,
     }
 }

@@ -1,5 +1,5 @@
--- `plancheck_report::write_boundaries` meets its contract: the counts and times are those of the text, and the refusal can't come. Assumes nothing.
-use Rattle.plancheck_report.proofs.Loaded.{rows-asked, rows-told, not-refused}
+-- `plancheck_report::write_boundaries` meets its contract. The counts and times are those of the text, and the refusal can't come. Assumes nothing.
+use Rattle.plancheck_report.proofs.Loaded.{times-asked, rows-asked, rows-told, not-refused}
 use borrow.Author.Needs.{needs}
 use Rattle.plancheck_report.proofs.write_boundaries.Statement.{statement}
 use Rattle.plancheck_report.proofs.write_boundaries.Tie as tie
@@ -19,11 +19,17 @@ load-network-requires c κs = search needs
 enum-known-reading : tie.Need-enum-known-reading
 enum-known-reading c = search needs
 
+slice-aggregate-from-start : tie.Need-slice-aggregate-from-start
+slice-aggregate-from-start c = search needs
+
+from-start-requires : tie.Need-from-start-requires
+from-start-requires c κs = times-asked (c .before .before .before .before .before .before .before .before .load-network .ensures) (c .before .before .before .reading .given .1)
+
 slice-aggregate-write-rows : tie.Need-slice-aggregate-write-rows
 slice-aggregate-write-rows c = search needs
 
 write-rows-requires : tie.Need-write-rows-requires
-write-rows-requires c κs = rows-asked (c .before .before .before .before .before .before .before .before .load-network .ensures) (c .before .before .before .reading .given .1) (c .before .before .before .before .before .before .before .before .before .before .before .before .before .before .before .pre)
+write-rows-requires c κs = rows-asked (c .before .before .before .before .before .before .before .before .before .before .before .before .load-network .ensures) (c .before .before .before .before .before .before .before .reading .given .1) (c .before .before .before .from-start .ensures) (c .before .before .before .before .before .before .before .before .before .before .before .before .before .before .before .before .before .before .before .pre)
 
 enum-told : tie.Need-enum-told
 enum-told c = search needs
@@ -32,7 +38,7 @@ same-length : tie.Need-same-length
 same-length c = search needs
 
 returns : tie.Need-returns
-returns c = rows-told (c .before .before .before .before .before .before .before .before .before .before .before .load-network .ensures) (c .before .before .before .before .before .before .reading .given .1) (c .before .before .before .before .before .before .before .before .before .before .before .before .before .before .before .before .before .before .args .ledger .now) (c .before .before .write-rows .ensures)
+returns c = rows-told (c .before .before .before .before .before .before .before .before .before .before .before .before .before .before .before .load-network .ensures) (c .before .before .before .before .before .before .before .before .before .before .reading .given .1) (c .before .before .before .before .before .before .from-start .ensures) (c .before .before .before .before .before .before .before .before .before .before .before .before .before .before .before .before .before .before .before .before .before .before .args .ledger .now) (c .before .before .write-rows .ensures)
 
 returns-2 : tie.Need-returns-2
 returns-2 c = absurd (not-refused (c .before .before .before .before .before .load-network .ensures) (c .enum-told .given .1) (c .before .before .before .before .before .before .before .before .before .before .before .before .pre))
@@ -46,6 +52,8 @@ write-boundaries-spec =
     slice-aggregate-load-network-3
     load-network-requires
     enum-known-reading
+    slice-aggregate-from-start
+    from-start-requires
     slice-aggregate-write-rows
     write-rows-requires
     enum-told
