@@ -1,12 +1,12 @@
 -- On the ledger that the check of an accepted plan leaves, the state of every link is told at every boundary, never 21, and it is that of the plan. Assumes nothing.
-use Prim.Native.Nat.{ℕ, zero, suc, _+_, _*_, _-_, _/_, _≤_, _<_}
+use Prim.Native.Nat.{ℕ, suc, _+_, _*_, _-_, _/_, _≤_, _<_}
 use mathlib.Core.Path.{_≡_, refl, sym, ap, _∙_}
-use mathlib.Core.Bool.{Bool, true, false, _||_, cond}
-use mathlib.Core.List.{List}
+use mathlib.Core.Bool.{Bool, true, false}
+use mathlib.Core.List.{List, []}
 use native.Mathlib.Nat.{mul-comm, div-mul-le-self, div-le-of-le-mul, le-div-iff-mul-le, lt-div-mul-add}
 use native.Mathlib.Decide.{decLe}
 use native.Mathlib.Omega.{arith}
-use borrow.Author.Tests.{leb-true, le-leb, lt-leb, lt-ltb, le-ltb}
+use borrow.Author.Tests.{leb-true, ltb-true, ltb-false, le-leb, lt-leb}
 use lib.Dec.{leb, ltb, eqb}
 use lib.ListN.{length}
 use Rattle.search.specs.Checks.{Hold}
@@ -15,36 +15,28 @@ use Rattle.records.specs.Lines.{Line}
 use Rattle.model.specs.declared.Totals.{Totals}
 use Rattle.model.specs.declared.PlanAnswer.the-variants.{Accepted}
 use Rattle.model.specs.Sum.{sum}
-use Rattle.model.specs.Network.{linkCount, stepCount, travelTime, standing, stepLength, time, arrivalStep, elapsed}
-use Rattle.model.specs.Flows.{inflow, entered, left, hasArrived, held}
-use Rattle.model.specs.Rules.{rule17}
+use Rattle.model.specs.Test.{_or_}
+use Rattle.model.specs.Network.{linkCount, stepCount, pastCount, onTimeline, travelTime, standing, timelineLength, time, timelineTime, arrivalStep, elapsed}
+use Rattle.model.specs.Flows.{timelineInflow, timelineEntered, entered, left, hasArrived, held}
 use Rattle.model.specs.Table.{networkChecks, ledgerChecks, planChecks}
-use Rattle.model.specs.Calls.{checkPlan, written, ledgerAfter, ledgerEntered, ledgerLeft, endStep, endLength, endElapsed, scaledArrived, risesInside, linkState}
+use Rattle.model.specs.Calls.{checkPlan, written, ledgerAfter, ledgerEntered, ledgerLeft, endStep, endLength, endElapsed, arrivalEntered, scaledArrived, risesInside, linkState}
 use Rattle.model.proofs.Accepted.{AcceptedPlan, accepted-plan}
-use Rattle.model.proofs.Times.{arrival-step-le, arrival-step-lt, elapsed-early}
-use Rattle.model.proofs.Arrived.{arrival-first, arrived-start, arrived-by-step}
-use Rattle.model.proofs.Flow.{entered-suc, scaled-entered}
-use Rattle.model.proofs.Limits.{counts, link-limits, step-limits}
+use Rattle.model.proofs.Times.{on-timeline-mono, on-timeline-suc, arrival-step-le, arrival-step-lt, arrival-in-plan, arrival-in-past, elapsed-early}
+use Rattle.model.proofs.Timeline.{timeline-entered-suc, past-entered}
+use Rattle.model.proofs.Arrived.{scaledBy, arrival-first, arrived-by-step}
+use Rattle.model.proofs.Flow.{lasts, scaled-entered, left-arrived}
+use Rattle.model.proofs.Limits.{counts, link-limits, timeline-lasts, first-lasts}
 use Rattle.model.proofs.Rows.{written-at, length-written}
 use Rattle.model.proofs.Written.{rows-all}
 use Rattle.model.proofs.Promises.{promises}
+use Rattle.arrivals.specs.Arrivals.{scaledIn}
 use Rattle.link_state.specs.declared.Arrival.{Arrival}
-use Rattle.link_state.specs.State.{PlanState}
-use Rattle.link_state.proofs.Ledger.{state-told}
-use Rattle.link_state.proofs.State.{ledgerArrival, state-is}
-use Rattle.model.specs.Test.{_or_}
+use Rattle.link_state.specs.State.{PlanState, ledgerArrival}
+use Rattle.link_state.proofs.Ledger.{arrival-of, state-told}
+use Rattle.link_state.proofs.State.{state-is}
 
--- left has arrived at every boundary of an accepted plan
-left-arrived : (network plan : List Line) → AcceptedPlan network plan → (n i : ℕ) → n ≤ stepCount network → i < linkCount network
-    → hasArrived network plan (left network plan n i) n i ≡ true
-left-arrived network plan accepted zero i h l =
-    let none : left network plan 0 i ≡ 0 = unfold left sum in refl in
-    let start : time network 0 ≡ 0 = unfold time sum in refl in
-    arrived-start network plan (left network plan 0 i) 0 i (omega (arith, link-limits network (accepted .valid) i l .some-travel))
-    ∙ rw none (le-leb 0 (standing network i) (omega arith))
-left-arrived network plan accepted (suc n) i h l = unfold rule17 in accepted .lawful n h .keeps17 i l
-
-either : (b : Bool) → b || true ≡ true
+either : (b : Bool) → b or true ≡ true
+unfolding _or_
 either true = refl
 either false = refl
 
@@ -82,50 +74,93 @@ module _ (network plan : List Line) (old : List ℕ) (holds : Hold (planChecks n
     a = arrivalStep network boundary i
 
     abbrev s : ℕ
-    s = stepLength network a
+    s = timelineLength network a
 
     abbrev scaled : ℕ
-    scaled = entered network plan a i * s + inflow network plan a i * elapsed network boundary i
+    scaled = scaledBy network plan boundary i
 
     accepted : AcceptedPlan network plan
     accepted = accepted-plan network plan (length old) holds
 
-    inner : suc a ≤ stepCount network
-    inner = elim (decLe 1 boundary) [
-      | yes u ↦ omega (arith, arrival-step-lt network boundary i u)
-      | no u ↦ omega (arith, arrival-step-le network boundary i, counts network (accepted .valid) .some-step)
-    ]
+    some-step : 1 ≤ stepCount network
+    some-step = counts network (accepted .valid) .some-step
+
+    some-travel : 1 ≤ travelTime network i
+    some-travel = link-limits network (accepted .valid) i inside .some-travel
+
+    first-lasting : 1 ≤ timelineLength network 0
+    first-lasting = first-lasts network (accepted .valid)
 
     some : 1 ≤ s
-    some = step-limits network (accepted .valid) a inner .some-time
+    some = lasts network plan (timeline-lasts network (accepted .valid)) some-step boundary i early some-travel
 
-    -- what the ledger says is what the plan says
+    start-entered : {m : ℕ} → m ≡ 0 → timelineEntered network plan m i ≡ standing network i
+    unfolding timelineEntered sum
+    start-entered e = rw e (omega arith)
+
+    -- the end of the step is a boundary of the timeline
+    inner : suc a ≤ onTimeline network (stepCount network)
+    inner = elim (decLe 1 (onTimeline network boundary)) [
+      | yes u ↦ omega (arith, arrival-step-lt network boundary i u, on-timeline-mono network boundary (stepCount network) early)
+      | no u ↦ omega (arith, arrival-step-le network boundary i, on-timeline-mono network 1 (stepCount network) some-step, on-timeline-suc network 0)
+    ]
+
+    -- what the ledger has of a boundary of the timeline from time 0 on
+    entered-plan : (m : ℕ) → pastCount network ≤ m → m ≤ onTimeline network (stepCount network)
+        → timelineEntered network plan m i ≡ ledgerEntered network (ledgerAfter network plan old) boundary link (m - pastCount network)
+    unfolding entered onTimeline
+    entered-plan m h l =
+        let e : pastCount network + (m - pastCount network) ≡ m = omega arith in
+        ap (λ x. timelineEntered network plan x i) (sym e) ∙ sym (entered-is (m - pastCount network) (omega arith))
+
+    -- what the network and the ledger say is what the plan says
     arrival-is : ledgerArrival network (ledgerAfter network plan old) boundary link ≡ record { scaled = scaled; seconds = s; rises = true }
-    unfolding scaledArrived risesInside endLength endElapsed endStep _or_
+    unfolding scaledArrived risesInside endLength endElapsed endStep arrivalEntered
     arrival-is =
-        let part : entered network plan (suc a) i - entered network plan a i ≡ inflow network plan a i = omega (arith, entered-suc network plan a i) in
-        let up : leb (entered network plan a i) (entered network plan (suc a) i) ≡ true =
-        le-leb (entered network plan a i) (entered network plan (suc a) i) (omega (arith, entered-suc network plan a i)) in
-        rw (entered-is a (omega (arith, inner)), entered-is (suc a) inner, part, up, either (eqb (elapsed network boundary i) 0)) (ap (λ x. record { scaled = x; seconds = s; rises = true }) whole)
+        sym
+        (arrival-of (ltb (timelineTime network (onTimeline network boundary)) (travelTime network i)) (ltb (time network boundary) (travelTime network i)) (standing network i) s (elapsed network boundary i)
+        (timelineEntered network [] a i) (timelineEntered network [] (suc a) i) (ledgerEntered network (ledgerAfter network plan old) boundary link (a - pastCount network))
+        (ledgerEntered network (ledgerAfter network plan old) boundary link (suc a - pastCount network)) (timelineEntered network plan a i) (timelineEntered network plan (suc a) i) at-start in-past in-plan)
+        ∙ whole
       where
-        whole : cond (ltb (time network boundary) (travelTime network i)) (standing network i * s) scaled ≡ scaled
-        whole = elim (decLe (travelTime network i) (time network boundary)) [
-          | yes u ↦ rw (le-ltb (time network boundary) (travelTime network i) u)
-          | no u ↦
-              let v : time network boundary < travelTime network i = omega arith in
-              let start : entered network plan 0 i ≡ standing network i = unfold entered sum in omega arith in
-              rw (lt-ltb (time network boundary) (travelTime network i) v, elapsed-early network boundary i v, arrival-first network (accepted .valid) boundary i v, start) (omega arith)
-        ]
+        at-start : ltb (timelineTime network (onTimeline network boundary)) (travelTime network i) ≡ true → (timelineEntered network plan a i ≡ standing network i) × (elapsed network boundary i ≡ 0)
+        at-start p = (start-entered (arrival-first network first-lasting boundary i (ltb-true _ _ p)), elapsed-early network boundary i (ltb-true _ _ p))
+
+        in-past : ltb (timelineTime network (onTimeline network boundary)) (travelTime network i) ≡ false → ltb (time network boundary) (travelTime network i) ≡ true
+            → (timelineEntered network plan a i ≡ timelineEntered network [] a i) × (timelineEntered network plan (suc a) i ≡ timelineEntered network [] (suc a) i)
+        in-past p q =
+            let u = arrival-in-past network boundary i (ltb-true _ _ q) (ltb-false _ _ p) in
+            (past-entered network plan [] a i (omega arith), past-entered network plan [] (suc a) i u)
+
+        in-plan : ltb (timelineTime network (onTimeline network boundary)) (travelTime network i) ≡ false → ltb (time network boundary) (travelTime network i) ≡ false
+            → (timelineEntered network plan a i ≡ ledgerEntered network (ledgerAfter network plan old) boundary link (a - pastCount network))
+            × (timelineEntered network plan (suc a) i ≡ ledgerEntered network (ledgerAfter network plan old) boundary link (suc a - pastCount network))
+        in-plan p q =
+            let u = arrival-in-plan network boundary i some-travel (ltb-false _ _ q) in
+            (entered-plan a u (omega (arith, inner)), entered-plan (suc a) (omega arith) inner)
+
+        whole : _≡_ {A = Arrival}
+            (record {
+              scaled = scaledIn (timelineEntered network plan a i) (timelineEntered network plan (suc a) i) s (elapsed network boundary i);
+              seconds = s;
+              rises = eqb (elapsed network boundary i) 0 or leb (timelineEntered network plan a i) (timelineEntered network plan (suc a) i);
+            })
+            (record { scaled = scaled; seconds = s; rises = true })
+        whole =
+            let part : timelineEntered network plan (suc a) i - timelineEntered network plan a i ≡ timelineInflow network plan a i = omega (arith, timeline-entered-suc network plan a i) in
+            let up : leb (timelineEntered network plan a i) (timelineEntered network plan (suc a) i) ≡ true =
+            le-leb (timelineEntered network plan a i) (timelineEntered network plan (suc a) i) (omega (arith, timeline-entered-suc network plan a i)) in
+            rw (part, up, either (eqb (elapsed network boundary i) 0))
 
     test : (v : ℕ) → hasArrived network plan v boundary i ≡ leb (v * s) scaled
-    test v = arrived-by-step network plan (accepted .valid) v boundary i
+    test v = arrived-by-step network plan first-lasting v boundary i
 
     plan-state : PlanState network plan boundary i (linkState network (ledgerAfter network plan old) boundary link)
     unfolding held
     plan-state =
         let q = scaled / s in
-        let gone = leb-true _ _ (sym (test (left network plan boundary i)) ∙ left-arrived network plan accepted boundary i early inside) in
-        let come = scaled-entered network plan (accepted .valid) boundary i early inside in
+        let gone = leb-true _ _ (sym (test (left network plan boundary i)) ∙ left-arrived network plan (accepted .valid) boundary i inside (λ m l. accepted .lawful m (omega arith) .keeps17 i inside)) in
+        let come = scaled-entered network plan (timeline-lasts network (accepted .valid)) some-step boundary i early some-travel in
         let long : 2 * suc (stepCount network) * linkCount network ≤ length (ledgerAfter network plan old) =
         rw (after-is, length-written network plan old (suc (stepCount network)) room) room in
         let same = state-is network (ledgerAfter network plan old) boundary link (passes-of-hold (networkChecks network) network-holds) long early first last in

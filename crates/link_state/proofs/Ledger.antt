@@ -1,108 +1,256 @@
--- What is read of one link in a ledger. Assumes nothing.
+-- What is read of one link in the past and in a ledger. Assumes nothing.
 use Prim.Native.Nat.{ℕ, suc, _+_, _*_, _-_, _/_, _≤_, _<_}
-use mathlib.Core.Path.{_≡_, refl}
-use mathlib.Core.Bool.{true, false, not}
-use mathlib.Core.List.{List}
+use mathlib.Core.Path.{_≡_, refl, sym, ap, ap₂, _∙_}
+use mathlib.Core.Bool.{Bool, true, false, not, cond}
+use mathlib.Core.List.{List, []}
+use native.Mathlib.Numerals.{add-one}
 use native.Mathlib.Nat.{mul-le-mul-right, mul-comm, le-div-iff-mul-le, div-le-of-le-mul}
 use native.Mathlib.Decide.{decLe}
 use native.Mathlib.Omega.{arith}
-use borrow.Author.Tests.{le-leb, lt-leb, lt-ltb, le-ltb, not-true, not-false}
+use borrow.Author.Tests.{le-leb, lt-leb, ltb-true, ltb-false, not-true, not-false}
+use lib.Dec.{leb, ltb, eqb}
 use lib.ListN.{length, getD}
 use Rattle.search.specs.Checks.{refusal}
+use Rattle.records.specs.Lines.{Line, lines}
 use Rattle.model.specs.declared.LinkAnswer.{LinkAnswer}
 use Rattle.model.specs.declared.LinkAnswer.the-variants.{State, Refused}
-use Rattle.model.specs.Test.{_and_}
-use Rattle.tables.specs.declared.Counts.{Counts}
+use Rattle.model.specs.Sum.{sum}
+use Rattle.model.specs.Test.{_and_, _or_}
+use Rattle.model.specs.Network.{linkCount, stepCount, pastCount, onTimeline, travelTime, standing, timelineLength, time, timelineTime, arrivalStep, elapsed}
+use Rattle.model.specs.Flows.{timelineEntered}
+use Rattle.model.specs.Calls.{ledgerEntered, endStep, endLength, endElapsed, arrivalEntered, scaledArrived, risesInside}
+use Rattle.model.proofs.Arrived.{arrival-first}
+use Rattle.model.proofs.Accepted.{ValidNetwork, valid-network}
+use Rattle.model.proofs.Limits.{counts, link-limits, timeline-lasts}
+use Rattle.model.proofs.Times.{timeline-time, on-timeline-mono, on-timeline-suc, arrival-step-le, arrival-step-lt, arrival-in-plan, arrival-in-past, elapsed-early}
+use Rattle.tables.specs.declared.Reading.{Reading}
 use Rattle.tables.specs.Fields.{travelTimeIn, standingIn, enteredAt, RowHeld}
-use Rattle.arrivals.specs.Arrivals.{arrivalStepIn, secondsIn, elapsedIn, Cursor}
-use Rattle.arrivals.proofs.Arrivals.{arrival-lt, arrival-le}
+use Rattle.tables.proofs.Tables.{travel-time-at, standing-at}
+use Rattle.arrivals.specs.Arrivals.{arrivalStepIn, secondsIn, elapsedIn, scaledIn, Cursor}
+use Rattle.arrivals.proofs.Boundaries.{times-rise, arrival-is, elapsed-at, seconds-is}
+use Rattle.past_curves.specs.declared.Curve.{Curve}
+use Rattle.past_curves.specs.Curves.{CurveTo, ReadAsked}
+use Rattle.plan_steps.proofs.Steps.{past-form, past-fits}
 use Rattle.link_state.specs.declared.Arrival.{Arrival}
-use Rattle.link_state.specs.State.{enteredBy, EnteredAsked, arrivalIn, ArrivalAsked, stateFrom, StateAsked}
+use Rattle.link_state.specs.State.{Tabled, ArrivalAsked, OverAsked, EnteredOver, ledgerArrival, stateFrom}
 
--- the step in which a travel time ends is one of the network's
-step-within : (times : List ℕ) (n travel steps : ℕ) → 1 ≤ steps → n ≤ steps → arrivalStepIn times n travel < steps
-step-within times n travel steps some early = elim (decLe 1 n) [
-  | yes u ↦ omega (arith, arrival-lt times n travel u)
-  | no u ↦ omega (arith, arrival-le times n travel)
-]
+-- What has arrived by a curve, before the timeline has run for the travel time, before time 0, and from then on. Before the travel time nothing has elapsed, so
+-- that the end of the curve plays no part.
+pub arrival-of : (b c : Bool) (stood seconds over x y p q start stop : ℕ) → (b ≡ true → (start ≡ stood) × (over ≡ 0)) → (b ≡ false → c ≡ true → (start ≡ x) × (stop ≡ y))
+    → (b ≡ false → c ≡ false → (start ≡ p) × (stop ≡ q))
+    → _≡_ {A = Arrival} (record { scaled = scaledIn start stop seconds over; seconds = seconds; rises = eqb over 0 or leb start stop })
+    (record { scaled = cond b (stood * seconds) (cond c x p * seconds + (cond c y q - cond c x p) * over); seconds = seconds; rises = eqb over 0 or leb (cond c x p) (cond c y q) })
+unfolding _or_
+arrival-of true c stood seconds over x y p q start stop f g h =
+    let w : stood * seconds + (stop - stood) * 0 ≡ stood * seconds = omega arith in
+    rw (f refl .0, f refl .1, w)
+arrival-of false true stood seconds over x y p q start stop f g h = rw (g refl refl .0, g refl refl .1)
+arrival-of false false stood seconds over x y p q start stop f g h = rw (h refl refl .0, h refl refl .1)
 
--- ---- what is asked of the rows of a link that is one of the network's, at one of its boundaries
-module _ {counts : Counts} {links times : List ℕ} (asked : StateAsked counts links times) {ledger : List ℕ} {size : ℕ}
-    (sized : size ≡ 2 * (counts .steps + 1) * counts .links) (long : size ≤ length ledger) {boundary link : ℕ} (early : boundary ≤ counts .steps)
-    (first : 1 ≤ link) (last : link ≤ counts .links) where
-  row-of : (n : ℕ) → n ≤ counts .steps → RowHeld ledger (counts .links) n (link - 1)
-  row-of n h =
-      let l : n + 1 ≤ counts .steps + 1 = omega arith in
-      record {
-        few-boundaries = omega (arith, asked .few-steps);
-        few-links = asked .few-links;
-        within = omega arith;
-        rows = omega (arith, mul-le-mul-right (2 * counts .links) l);
-      }
+-- ---- the step in which a travel time ends
+module _ {text : List ℕ} {reading : Reading} {links times : List ℕ} (t : Tabled text reading links times) where
+  valid : ValidNetwork (lines text)
+  valid = valid-network (lines text) (t .holds)
 
-  pub row-held : RowHeld ledger (counts .links) boundary (link - 1)
-  row-held = row-of boundary early
+  step-inside : (n i : ℕ) → n ≤ stepCount (lines text) → arrivalStep (lines text) n i < onTimeline (lines text) (stepCount (lines text))
+  step-inside n i h = elim (decLe 1 (onTimeline (lines text) n)) [
+    | yes u ↦ omega (arith, arrival-step-lt (lines text) n i u, on-timeline-mono (lines text) n (stepCount (lines text)) h)
+    | no u ↦
+        omega (arith, arrival-step-le (lines text) n i, on-timeline-mono (lines text) 1 (stepCount (lines text)) (counts (lines text) valid .some-step), on-timeline-suc (lines text) 0)
+  ]
 
-  pub arrival-asked : ArrivalAsked links times ledger (counts .links) boundary (link - 1)
-  arrival-asked =
-      record {
-        steps = counts .steps;
-        some-step = asked .some-step;
-        early = early;
-        held = row-of (counts .steps) (omega arith);
-        size = asked .size;
-        rising = asked .rising;
-      }
+  pub arrival-step-lasts : (n i : ℕ) → n ≤ stepCount (lines text) → 1 ≤ timelineLength (lines text) (arrivalStep (lines text) n i)
+  arrival-step-lasts n i h = timeline-lasts (lines text) valid (arrivalStep (lines text) n i) (step-inside n i h)
 
--- the step in which the travel time ends lasts
-pub arrival-lasts : {counts : Counts} {links times : List ℕ} → StateAsked counts links times → (ledger : List ℕ) (count : ℕ) {boundary : ℕ} → boundary ≤ counts .steps → (i : ℕ)
-    → {arrival : Arrival} → arrival ≡ arrivalIn links times ledger count boundary i → 1 ≤ arrival .seconds
-unfolding arrivalIn
-arrival-lasts {counts} {links} {times} asked ledger count {boundary} early i e =
-    let step = arrivalStepIn times boundary (travelTimeIn links i) in
-    rw e (asked .lasts step (step-within times boundary (travelTimeIn links i) (counts .steps) (asked .some-step) early))
+-- ---- what is read of an arrival
+module _ {text : List ℕ} {reading : Reading} {links times ledger : List ℕ} {n i : ℕ} (asked : ArrivalAsked text reading links times ledger n i) where
+  abbrev net : List Line
+  net = lines text
 
--- ---- what has arrived
-module _ {links times ledger : List ℕ} {count n i : ℕ} (asked : ArrivalAsked links times ledger count n i) (travel : ℕ) where
-  pub cursor-first : Cursor times 0 n travel
-  cursor-first =
-      let r = asked .rising in
-      record {
-        rising = record { room = omega (arith, r .room, asked .early); rises = λ k h. r .rises k (omega (arith, asked .early)); small = λ k h. r .small k (omega (arith, asked .early)) };
-        behind = omega arith;
-      }
+  abbrev a : ℕ
+  a = arrivalStep net n i
 
-  module _ (step : ℕ) (e : step ≡ arrivalStepIn times n travel) where
-    below : step < asked .steps
-    below = rw e (step-within times n travel (asked .steps) (asked .some-step) (asked .early))
+  t : Tabled text reading links times
+  t = asked .tabled
 
-    row-by : (m : ℕ) → m ≤ asked .steps → RowHeld ledger count m i
-    row-by m h =
-        let l : suc m ≤ suc (asked .steps) = omega arith in
-        let r = asked .held in
-        record { few-boundaries = omega (arith, r .few-boundaries); few-links = r .few-links; within = r .within; rows = omega (arith, r .rows, mul-le-mul-right (2 * count) l) }
+  pub on-time : reading .counts .past + n ≡ onTimeline net n
+  unfolding onTimeline
+  on-time = omega (arith, t .counted .past)
 
-    pub entered-asked : EnteredAsked links times ledger count n i step
-    entered-asked = record { held = row-by step (omega (arith, below)); size = asked .size; room = omega (arith, asked .rising .room, asked .early) }
+  on-last : onTimeline net n ≤ onTimeline net (stepCount net)
+  on-last = on-timeline-mono net n (stepCount net) (asked .early)
 
-    pub end-held : RowHeld ledger count (step + 1) i
-    end-held = row-by (step + 1) (omega (arith, below))
+  together : onTimeline net (stepCount net) ≤ 120
+  unfolding onTimeline
+  together = counts net (valid t) .together
 
-    pub times-room : (step + 1 < length times) × (n < length times)
-    times-room = (omega (arith, below, asked .rising .room), omega (arith, asked .rising .room, asked .early))
+  past-few : reading .counts .past ≤ onTimeline net n
+  past-few = omega (arith, on-time)
 
-    -- no time is past two hours, so neither is a difference
-    pub short : {seconds elapsed : ℕ} → seconds ≡ secondsIn times step → elapsed ≡ elapsedIn times step n travel → (seconds ≤ 7200) × (elapsed ≤ 7200)
-    short p q = (omega (arith, asked .rising .small (step + 1) (omega (arith, below))), omega (arith, asked .rising .small n (asked .early)))
+  pub few-at : reading .counts .past + n ≤ 120
+  few-at = omega (arith, on-time, on-last, together)
 
-module _ (links times ledger : List ℕ) (count n i step : ℕ) {travel r : ℕ} (t : travel ≡ travelTimeIn links i) where
-  pub by-start : getD times n 0 < travel → r ≡ standingIn links i → r ≡ enteredBy links times ledger count n i step
-  unfolding enteredBy
-  by-start h e = rw (lt-ltb (getD times n 0) (travelTimeIn links i) (omega arith)) e
+  pub small-link : i < 24
+  small-link = omega (arith, asked .link, t .counted .links, t .counted .few .links)
 
-  pub by-ledger : travel ≤ getD times n 0 → r ≡ enteredAt ledger count step i → r ≡ enteredBy links times ledger count n i step
-  unfolding enteredBy
-  by-ledger h e = rw (le-ltb (getD times n 0) (travelTimeIn links i) (omega arith)) e
+  travel-is : travelTimeIn links i ≡ travelTime net i
+  travel-is = travel-time-at (t .link-table) i (asked .link)
+
+  pub times-room : (reading .counts .past + n < length times) × (reading .counts .past < length times)
+  times-room = (omega (arith, t .time-table .size, few-at), omega (arith, t .time-table .size, few-at))
+
+  -- the seconds since time 0
+  since-past : getD times (reading .counts .past + n) 0 ≡ getD times (reading .counts .past) 0 + time net n
+  since-past =
+      let z : getD times (reading .counts .past + n) 0 ≡ timelineTime net (onTimeline net n) = rw on-time (t .time-table .holds (onTimeline net n) on-last) in
+      let p : getD times (reading .counts .past) 0 ≡ timelineTime net (pastCount net) = rw (t .counted .past) (t .time-table .holds (pastCount net) (omega (arith, on-last, past-few, t .counted .past))) in
+      omega (arith, z, p, timeline-time net n)
+
+  pub since-fits : getD times (reading .counts .past) 0 ≤ getD times (reading .counts .past + n) 0
+  since-fits = omega (arith, since-past)
+
+  pub cursor-first : (travel : ℕ) → Cursor times 0 (reading .counts .past + n) travel
+  cursor-first travel = record { rising = rw on-time (times-rise (t .holds) (t .time-table) (onTimeline net n) on-last); behind = omega arith }
+
+  module _ {travel : ℕ} (u : travel ≡ travelTimeIn links i) {step : ℕ} (e : step ≡ arrivalStepIn times (reading .counts .past + n) travel) where
+    is-step : step ≡ a
+    is-step = e ∙ rw (u, on-time, travel-is) (arrival-is (t .time-table) n i (asked .early))
+
+    pub over-asked : OverAsked text reading links times ledger n i step
+    over-asked = record { asked = asked; is-step = is-step }
+
+    inside : a < onTimeline net (stepCount net)
+    inside = step-inside t n i (asked .early)
+
+    pub step-room : step + 1 < length times
+    step-room = omega (arith, is-step, inside, together, t .time-table .size)
+
+    pub elapsed-room : (step < length times) × (reading .counts .past + n < length times)
+    elapsed-room = (omega (arith, step-room), times-room .0)
+
+    module _ {seconds : ℕ} (s : seconds ≡ secondsIn times step) {over : ℕ} (o : over ≡ elapsedIn times step (reading .counts .past + n) travel) where
+      seconds-are : seconds ≡ timelineLength net a
+      seconds-are = s ∙ rw is-step (seconds-is (t .time-table) a inside)
+
+      over-is : over ≡ elapsed net n i
+      over-is = o ∙ rw (is-step, u, on-time, travel-is) (elapsed-at (t .time-table) n i (asked .early))
+
+      -- no time is past two hours, so neither is a difference
+      pub short : (seconds ≤ 7200) × (over ≤ 7200)
+      short =
+          let r = times-rise (t .holds) (t .time-table) (onTimeline net (stepCount net)) (omega arith) in
+          (omega (arith, s, r .small (step + 1) (omega (arith, is-step, inside))), omega (arith, o, r .small (reading .counts .past + n) (omega (arith, on-time, on-last))))
+
+      pub arrival-told : {curve : Curve} → EnteredOver net ledger n i curve → {scaled : ℕ} → scaled ≡ scaledIn (curve .start) (curve .stop) seconds over
+          → _≡_ {A = Arrival} (record { scaled = scaled; seconds = seconds; rises = eqb over 0 or leb (curve .start) (curve .stop) }) (ledgerArrival net ledger n (i + 1))
+      unfolding scaledArrived risesInside endLength endElapsed endStep arrivalEntered ledgerEntered
+      arrival-told {curve} got c =
+          let z : i + 1 - 1 ≡ i = omega arith in
+          rw (c, seconds-are, over-is, z)
+          (arrival-of (ltb (timelineTime net (onTimeline net n)) (travelTime net i)) (ltb (time net n) (travelTime net i)) (standing net i) (timelineLength net a) (elapsed net n i)
+          (timelineEntered net [] a i) (timelineEntered net [] (suc a) i) (enteredAt ledger (linkCount net) (a - pastCount net) i) (enteredAt ledger (linkCount net) (suc a - pastCount net) i)
+          (curve .start) (curve .stop)
+          (λ p. (got .by-start (ltb-true _ _ p), elapsed-early net n i (ltb-true _ _ p)))
+          (λ p q. got .by-past (ltb-true _ _ q) (ltb-false _ _ p))
+          (λ p q. got .by-ledger (ltb-false _ _ q)))
+
+-- ---- the returns of `entered_over`
+module _ {text : List ℕ} {reading : Reading} {links times ledger : List ℕ} {n i step : ℕ} (given : OverAsked text reading links times ledger n i step) where
+  abbrev netw : List Line
+  netw = lines text
+
+  own : ArrivalAsked text reading links times ledger n i
+  own = given .asked
+
+  tab : Tabled text reading links times
+  tab = own .tabled
+
+  some-travel : 1 ≤ travelTime netw i
+  some-travel = link-limits netw (valid tab) i (own .link) .some-travel
+
+  module _ {travel : ℕ} (u : travel ≡ travelTimeIn links i) where
+    travels : travel ≡ travelTime netw i
+    travels = u ∙ travel-is own
+
+    -- an arrival before time 0
+    module _ (h : getD times (reading .counts .past + n) 0 - getD times (reading .counts .past) 0 < travel) {stood : ℕ} (s : stood ≡ standingIn links i) where
+      before : time netw n < travelTime netw i
+      before = omega (arith, since-past own, travels)
+
+      stands : stood ≡ standing netw i
+      stands = s ∙ standing-at (tab .link-table) i (own .link)
+
+      abbrev first : Curve
+      first = record { start = stood; stop = stood; place = reading .«past_at» }
+
+      pub no-past : reading .counts .past ≤ step → EnteredOver netw ledger n i first
+      no-past l =
+          record {
+            by-start = λ e. stands;
+            by-past = λ e f. absurd (omega (arith, arrival-in-past netw n i e f, given .is-step, tab .counted .past));
+            by-ledger = λ e. absurd (omega (arith, before));
+          }
+
+      start-is : timelineEntered netw [] 0 i ≡ standing netw i
+      unfolding timelineEntered sum
+      start-is = omega arith
+
+      module _ (l : step < reading .counts .past) where
+        pub read-asked : ReadAsked text (reading .counts .links) i 0 (step + 1) first
+        read-asked =
+            record {
+              counted = tab .counted .links;
+              few = tab .counted .few .links;
+              link = omega (arith, own .link, tab .counted .links);
+              onward = omega arith;
+              within = omega (arith, tab .counted .past);
+              forms = past-form netw (tab .holds);
+              fits = λ m q. past-fits netw (tab .holds) i (own .link) m (omega (arith, tab .counted .past));
+              curve-from = record { starts = tab .past-start; began = λ m q. absurd (omega arith); ended = stands ∙ sym start-is };
+            }
+
+        pub past-told : {curve : Curve} → CurveTo text i (step + 1) curve → EnteredOver netw ledger n i curve
+        past-told {curve} c =
+            let s : curve .start ≡ timelineEntered netw [] (arrivalStep netw n i) i = c .began (arrivalStep netw n i) (omega (arith, given .is-step)) in
+            record {
+              by-start = λ e. s ∙ ap (λ m. timelineEntered netw [] m i) (arrival-first netw (timeline-lasts netw (valid tab) 0 (omega (arith, step-inside tab n i (own .early)))) n i e) ∙ start-is;
+              by-past = λ e f. (s, c .ended ∙ ap (λ m. timelineEntered netw [] m i) (omega (arith, given .is-step)));
+              by-ledger = λ e. absurd (omega (arith, before));
+            }
+
+    -- one from time 0 on
+    module _ (h : travel ≤ getD times (reading .counts .past + n) 0 - getD times (reading .counts .past) 0) where
+      since : travelTime netw i ≤ time netw n
+      since = omega (arith, since-past own, travels)
+
+      pub in-plan : reading .counts .past ≤ step
+      in-plan = omega (arith, arrival-in-plan netw n i some-travel since, given .is-step, tab .counted .past)
+
+      pub row-few : step < 120
+      row-few = omega (arith, given .is-step, step-inside tab n i (own .early), together own)
+
+      pub row-held : (k : ℕ) → k ≤ step - reading .counts .past + 1 → RowHeld ledger (reading .counts .links) k i
+      unfolding onTimeline
+      row-held k l =
+          let m : suc k ≤ suc (stepCount netw) = omega (arith, in-plan, given .is-step, step-inside tab n i (own .early), tab .counted .past) in
+          record {
+            few-boundaries = omega (arith, tab .counted .steps, tab .counted .few .steps);
+            few-links = tab .counted .few .links;
+            within = omega (arith, own .link, tab .counted .links);
+            rows = rw (tab .counted .links) (omega (arith, own .room, mul-le-mul-right (2 * linkCount netw) m));
+          }
+
+      pub plan-told : {start stop : ℕ} → start ≡ enteredAt ledger (reading .counts .links) (step - reading .counts .past) i → stop ≡ enteredAt ledger (reading .counts .links) (step - reading .counts .past + 1) i
+          → EnteredOver netw ledger n i (record { start = start; stop = stop; place = 0 })
+      plan-told p q =
+          record {
+            by-start = λ e. absurd (omega (arith, timeline-time netw n, since));
+            by-past = λ e f. absurd (omega (arith, since));
+            by-ledger = λ e. (
+              p ∙ ap₂ (λ c k. enteredAt ledger c k i) (tab .counted .links) (omega (arith, given .is-step, tab .counted .past)),
+              q ∙ ap₂ (λ c k. enteredAt ledger c k i) (tab .counted .links) (omega (arith, given .is-step, tab .counted .past, in-plan)),
+            );
+          }
 
 -- ---- 21, or the state
 module _ (entered left : ℕ) (arrival : Arrival) where

@@ -4,10 +4,10 @@ use mathlib.Core.Path.{_≡_, refl, sym, ap, _∙_}
 use mathlib.Core.Bool.{Bool, true, false, cond}
 use mathlib.Core.List.{List}
 use native.Mathlib.Numerals.{add-one}
-use native.Mathlib.Decide.{decLe}
+use native.Mathlib.Nat.{mul-le-mul-right}
 use native.Mathlib.Omega.{arith}
-use borrow.Author.Tests.{le-leb, lt-leb, ltb-true}
-use lib.Dec.{leb, ltb, eqb}
+use borrow.Author.Tests.{le-leb, lt-leb}
+use lib.Dec.{leb}
 use lib.ListN.{length}
 use Rattle.search.specs.declared.Refusal.{Refusal}
 use Rattle.search.specs.declared.Verdict.{Verdict}
@@ -15,30 +15,24 @@ use Rattle.search.specs.declared.Verdict.the-variants as verdicts
 use Rattle.search.specs.Checks.{refusal, orElse, checked, verdict}
 use Rattle.search.proofs.Laws.{or-else-passes, or-else-refused, checked-passes, checked-refused, passes-of-hold}
 use Rattle.records.specs.Lines.{Line, lines}
-use Rattle.tables.specs.declared.Counts.{Counts}
 use Rattle.model.specs.declared.LinkAnswer.{LinkAnswer}
 use Rattle.model.specs.declared.LinkAnswer.the-variants.{State, Refused}
-use Rattle.model.specs.Test.{_and_, _or_, within}
-use Rattle.model.specs.Network.{linkCount, stepCount, travelTime, standing, stepLength, time, arrivalStep, elapsed}
+use Rattle.model.specs.Test.{_and_, within}
+use Rattle.model.specs.Network.{linkCount, stepCount}
 use Rattle.model.specs.Table.{networkChecks, ledgerChecks}
-use Rattle.model.specs.Calls.{ledgerEntered, ledgerLeft, endStep, endLength, endElapsed, scaledArrived, risesInside, ledgerArrived, stateChecks, linkAnswer, linkState}
+use Rattle.model.specs.Calls.{ledgerEntered, ledgerLeft, endStep, endLength, scaledArrived, risesInside, ledgerArrived, stateChecks, linkAnswer, linkState}
 use Rattle.model.specs.Guarantees.{StatePromises}
-use Rattle.model.proofs.Times.{arrival-step-le, arrival-step-lt, elapsed-early}
-use Rattle.model.proofs.Accepted.{valid-network}
-use Rattle.model.proofs.Limits.{step-limits}
 use Rattle.model.proofs.Numbers.{state-promises}
-use Rattle.tables.proofs.Tables.{travel-time-at, standing-at}
-use Rattle.arrivals.specs.Arrivals.{scaledIn}
-use Rattle.arrivals.proofs.Boundaries.{times-rise, arrival-is, seconds-is, elapsed-at}
 use Rattle.tables.specs.declared.Reading.{Reading}
 use Rattle.tables.specs.declared.Stage.{Stage}
 use Rattle.tables.specs.declared.Stage.the-variants as stages
-use Rattle.tables.proofs.Stages.{verdict-refused}
+use Rattle.tables.specs.Fields.{enteredAt, leftAt, RowHeld}
 use Rattle.tables.specs.Tables.{Judged}
+use Rattle.tables.proofs.Stages.{verdict-refused}
 use Rattle.network.specs.Loading.{Loaded}
-use Rattle.link_state.specs.State.{enteredBy, arrivalIn, stateFrom, StateAsked, StateTold, Tabled}
+use Rattle.link_state.specs.State.{Tabled, ArrivalAsked, ledgerArrival, stateFrom}
 use Rattle.link_state.specs.declared.Arrival.{Arrival}
-use Rattle.tables.specs.Fields.{enteredAt, leftAt}
+use Rattle.link_state.proofs.Ledger.{arrival-step-lasts}
 
 -- ---- 20: whether a link is one of the network's
 within-true : (low x high : ℕ) → low ≤ x → x ≤ high → within low x high ≡ true
@@ -57,15 +51,6 @@ within-above low x high h l = rw (le-leb low x h, lt-leb x high l)
 module _ (network : List Line) (ledger : List ℕ) (boundary link : ℕ) where
   abbrev long-enough : Bool
   long-enough = leb (2 * suc (stepCount network) * linkCount network) (length ledger)
-
-  -- what has arrived, by the ledger
-  abbrev pub ledgerArrival : Arrival
-  ledgerArrival =
-      record {
-        scaled = scaledArrived network ledger boundary link;
-        seconds = endLength network ledger boundary link;
-        rises = risesInside network ledger boundary link;
-      }
 
   abbrev agrees : Bool
   agrees =
@@ -120,26 +105,19 @@ module _ (network : List Line) (ledger : List ℕ) (boundary link : ℕ) where
         by-agreement false = refl
 
         pub state-is : 1 ≤ link → link ≤ linkCount network
-            → stateFrom (ledgerEntered network ledger boundary link boundary) (ledgerLeft network ledger boundary link) ledgerArrival
+            → stateFrom (ledgerEntered network ledger boundary link boundary) (ledgerLeft network ledger boundary link) (ledgerArrival network ledger boundary link)
             ≡ linkState network ledger boundary link
         unfolding stateFrom linkState ledgerArrived
         state-is first last =
             let inside = within-true 1 link (linkCount network) first last in
             sym (ap (linkAnswer network ledger boundary link) (to20 ∙ or-else-passes _ _ (checked-passes _ 20 0 0 inside)) ∙ by-agreement agrees)
 
--- before the travel time nothing has elapsed, so that the row after the first plays no part
-early-form : (b : Bool) (stands start end seconds over : ℕ) → (b ≡ true → over ≡ 0)
-    → _≡_ {A = Arrival} (record { scaled = scaledIn (cond b stands start) end seconds over; seconds = seconds; rises = eqb over 0 or leb (cond b stands start) end })
-    (record { scaled = cond b (stands * seconds) (scaledIn start end seconds over); seconds = seconds; rises = eqb over 0 or leb start end })
-unfolding _or_
-early-form true stands start end seconds over h =
-    let w : stands * seconds + (end - stands) * 0 ≡ stands * seconds = omega arith in
-    rw (h refl, w)
-early-form false stands start end seconds over h = refl
-
 -- ---- by the tables
-module _ {network : List Line} {counts : Counts} {links times : List ℕ} (t : Tabled network counts links times) (ledger : List ℕ) (boundary link : ℕ)
-    {size : ℕ} (sized : size ≡ 2 * (counts .steps + 1) * counts .links) where
+module _ {text : List ℕ} {reading : Reading} {links times : List ℕ} (t : Tabled text reading links times) (ledger : List ℕ) (boundary link : ℕ)
+    {size : ℕ} (sized : size ≡ 2 * (reading .counts .steps + 1) * reading .counts .links) where
+  abbrev network : List Line
+  network = lines text
+
   passed : verdict (networkChecks network) ≡ verdicts.Passes
   passed = passes-of-hold (networkChecks network) (t .holds)
 
@@ -153,71 +131,61 @@ module _ {network : List Line} {counts : Counts} {links times : List ℕ} (t : T
     room : 2 * suc (stepCount network) * linkCount network ≤ length ledger
     room = omega (arith, rows-are)
 
-    pub past-told : counts .steps < boundary → {r : LinkAnswer} → r ≡ Refused (refusal 19 0 0) → r ≡ linkState network ledger boundary link
+    pub past-told : reading .counts .steps < boundary → {r : LinkAnswer} → r ≡ Refused (refusal 19 0 0) → r ≡ linkState network ledger boundary link
     past-told h e = e ∙ boundary-past network ledger boundary link passed room (omega (arith, t .counted .steps))
 
-    module _ (early : boundary ≤ counts .steps) where
+    module _ (early : boundary ≤ reading .counts .steps) where
       reached : boundary ≤ stepCount network
       reached = omega (arith, t .counted .steps)
 
       pub below-told : link < 1 → {r : LinkAnswer} → r ≡ Refused (refusal 20 0 0) → r ≡ linkState network ledger boundary link
       below-told h e = e ∙ no-link network ledger boundary link passed room reached (within-below 1 link (linkCount network) h)
 
-      pub above-told : 1 ≤ link → counts .links < link → {r : LinkAnswer} → r ≡ Refused (refusal 20 0 0) → r ≡ linkState network ledger boundary link
+      pub above-told : 1 ≤ link → reading .counts .links < link → {r : LinkAnswer} → r ≡ Refused (refusal 20 0 0) → r ≡ linkState network ledger boundary link
       above-told h l e = e ∙ no-link network ledger boundary link passed room reached (within-above 1 link (linkCount network) h (omega (arith, t .counted .links)))
 
-      arrival-told : link - 1 < linkCount network
-          → arrivalIn links times ledger (linkCount network) boundary (link - 1) ≡ ledgerArrival network ledger boundary link
-      unfolding arrivalIn enteredBy scaledArrived risesInside endLength endElapsed endStep ledgerEntered _or_
-      arrival-told h =
-          let i = link - 1 in
-          let a = arrivalStep network boundary i in
-          let inside : a < stepCount network = elim (decLe 1 boundary) [
-            | yes u ↦ omega (arith, arrival-step-lt network boundary i u)
-            | no u ↦ omega (arith, arrival-step-le network boundary i, t .counted .some-steps, t .counted .steps)
-          ] in
-          rw (travel-time-at (t .link-table) i h, arrival-is (t .holds) (t .time-table) boundary i reached, elapsed-at (t .holds) (t .time-table) boundary i reached, seconds-is (t .holds) (t .time-table) a inside, t .time-table .holds boundary reached, standing-at (t .link-table) i h, add-one a)
-          (early-form (ltb (time network boundary) (travelTime network i)) (standing network i) (ledgerEntered network ledger boundary link a) (ledgerEntered network ledger boundary link (suc a)) (stepLength network a) (elapsed network boundary i) (λ e. elapsed-early network boundary i (ltb-true _ _ e)))
+      module _ (first : 1 ≤ link) (last : link ≤ reading .counts .links) where
+        pub row-held : RowHeld ledger (reading .counts .links) boundary (link - 1)
+        row-held =
+            let m : suc boundary ≤ suc (stepCount network) = omega (arith, reached) in
+            record {
+              few-boundaries = omega (arith, t .counted .few .steps);
+              few-links = t .counted .few .links;
+              within = omega arith;
+              rows = rw (t .counted .links) (omega (arith, room, mul-le-mul-right (2 * linkCount network) m));
+            }
 
-      pub found-told : 1 ≤ link → link ≤ counts .links → {entered left : ℕ} {arrival : Arrival} {r : LinkAnswer}
-          → entered ≡ enteredAt ledger (counts .links) boundary (link - 1) → left ≡ leftAt ledger (counts .links) boundary (link - 1)
-          → arrival ≡ arrivalIn links times ledger (counts .links) boundary (link - 1)
-          → r ≡ stateFrom entered left arrival → r ≡ linkState network ledger boundary link
-      unfolding ledgerEntered ledgerLeft
-      found-told h l e f a q =
-          let last : link ≤ linkCount network = omega (arith, t .counted .links) in
-          q ∙ rw (e, f, a, t .counted .links, arrival-told (omega arith)) (state-is network ledger boundary link passed room reached h last)
+        pub arrival-asked : ArrivalAsked text reading links times ledger boundary (link - 1)
+        arrival-asked = record { tabled = t; early = reached; link = omega (arith, t .counted .links); room = room }
 
--- ---- what a loaded network gives
-state-asked : {network : List Line} {counts : Counts} {links times : List ℕ} → Tabled network counts links times → StateAsked counts links times
-state-asked {network} {counts} t =
-    record {
-      few-links = t .counted .few .links;
-      few-steps = t .counted .few .steps;
-      some-step = t .counted .some-steps;
-      size = t .link-table .size;
-      rising = times-rise (t .holds) (t .time-table) (counts .steps) (omega (arith, t .counted .steps)) (omega (arith, t .counted .few .steps));
-      lasts = λ m h. let l : m < stepCount network = omega (arith, t .counted .steps) in
-          rw (seconds-is (t .holds) (t .time-table) m l) (step-limits network (valid-network network (t .holds)) m l .some-time);
-    }
+        own : link - 1 + 1 ≡ link
+        own = omega arith
+
+        pub arrival-lasts : {arrival : Arrival} → arrival ≡ ledgerArrival network ledger boundary (link - 1 + 1) → 1 ≤ arrival .seconds
+        unfolding endLength endStep
+        arrival-lasts e = rw (e, own) (arrival-step-lasts t boundary (link - 1) reached)
+
+        pub found-told : {entered left : ℕ} {arrival : Arrival} {r : LinkAnswer}
+            → entered ≡ enteredAt ledger (reading .counts .links) boundary (link - 1) → left ≡ leftAt ledger (reading .counts .links) boundary (link - 1)
+            → arrival ≡ ledgerArrival network ledger boundary (link - 1 + 1)
+            → r ≡ stateFrom entered left arrival → r ≡ linkState network ledger boundary link
+        unfolding ledgerEntered ledgerLeft
+        found-told e f a q = q ∙ rw (e, f, a, own, t .counted .links) (state-is network ledger boundary link passed room reached first (omega (arith, t .counted .links)))
 
 promised : (network : List Line) (ledger : List ℕ) (boundary link : ℕ) {answer : LinkAnswer} → answer ≡ linkState network ledger boundary link
     → (answer ≡ linkState network ledger boundary link) × StatePromises answer
 promised network ledger boundary link e = (e, rw e (state-promises network ledger boundary link))
 
 module _ {text : List ℕ} {stage : Stage} {links movements times : List ℕ} (got : Judged (networkChecks (lines text)) (Loaded text links movements times) stage) where
-  tabled : {reading : Reading} → stage ≡ stages.Passed reading → Tabled (lines text) (reading .counts) links times
+  pub tabled : {reading : Reading} → stage ≡ stages.Passed reading → Tabled text reading links times
   tabled {reading} e =
       let l = got .held reading e in
-      record { counted = l .counted; link-table = l .link-table; time-table = l .time-table; holds = l .holds }
+      record { counted = l .counted; past-start = l .past-start; link-table = l .link-table; time-table = l .time-table; holds = l .holds }
 
   pub refused-told : (ledger : List ℕ) (boundary link : ℕ) {r : Refusal} → stage ≡ stages.Refused r
       → (Refused r ≡ linkState (lines text) ledger boundary link) × StatePromises (Refused r)
   refused-told ledger boundary link {r} e = promised (lines text) ledger boundary link (network-refused (lines text) ledger boundary link r (verdict-refused got e))
 
-  pub told-by : (ledger : List ℕ) (boundary link : ℕ) {answer : LinkAnswer} {reading : Reading} → stage ≡ stages.Passed reading
-      → StateTold (reading .counts) links times ledger boundary link answer → (answer ≡ linkState (lines text) ledger boundary link) × StatePromises answer
-  told-by ledger boundary link e t = promised (lines text) ledger boundary link (t .told (lines text) (tabled e))
-
-  pub asked-by : {reading : Reading} → stage ≡ stages.Passed reading → StateAsked (reading .counts) links times
-  asked-by e = state-asked (tabled e)
+  pub told-by : (ledger : List ℕ) (boundary link : ℕ) {answer : LinkAnswer} → answer ≡ linkState (lines text) ledger boundary link
+      → (answer ≡ linkState (lines text) ledger boundary link) × StatePromises answer
+  told-by ledger boundary link e = promised (lines text) ledger boundary link e

@@ -1,17 +1,18 @@
 // The call that tells the state of one link by a network text and a ledger.
 ghost use mathlib.Core.Path.{_≡_};
-ghost use Prim.Native.Nat.{_≤_};
+ghost use Prim.Native.Nat.{_+_, _≤_};
 ghost use Rattle.records.specs.Lines.{lines};
 ghost use Rattle.search.specs.Checks.{refusal};
 ghost use Rattle.model.specs.declared.LinkAnswer.the-variants.{Refused};
 ghost use Rattle.model.specs.Calls.{linkState};
 ghost use Rattle.model.specs.Guarantees.{StatePromises};
-ghost use Rattle.link_state.specs.State.{enteredBy, EnteredAsked, arrivalIn, ArrivalAsked, stateFrom, StateAsked, StateTold};
+ghost use Rattle.link_state.specs.State.{Tabled, OverAsked, EnteredOver, ledgerArrival, ArrivalAsked, stateFrom};
 use model::LinkAnswer;
+use past_curves::Curve;
 use search::Refusal;
-use tables::Counts;
 use tables::LINK_TABLE_SIZE;
 use tables::MOVEMENT_TABLE_SIZE;
+use tables::Reading;
 use tables::Stage;
 use tables::TIME_TABLE_SIZE;
 
@@ -23,48 +24,67 @@ struct Arrival {
     rises: bool,
 }
 
-// What had entered link `i` by the start of the step in which its travel time before boundary `n` ends: as the ledger has it, and before the travel time what
-// stood on the link at the start.
-fn entered_by(
+// What had entered link `i` by the start and by the end of the timeline's step in which its travel time before boundary `n` ends: before time 0 by the network
+// alone, from then on as the ledger has it.
+fn entered_over(
+    text: &[u8],
+    reading: Reading,
     links: &[u32],
     times: &[u32],
     ledger: &[u32],
-    count: usize,
     n: usize,
     i: usize,
     step: usize,
-) -> u32
-    requires { ⌜ EnteredAsked (now links) (now times) (now ledger) count n i step ⌝ }
-    ensures { λ r. ⌜ r ≡ enteredBy (now (links .entry)) (now (times .entry)) (now (ledger .entry)) count n i step ⌝ }
+) -> Curve
+    requires { ⌜ OverAsked (now text) reading (now links) (now times) (now ledger) n i step ⌝ }
+    ensures { λ r. ⌜ EnteredOver (lines (now (text .entry))) (now (ledger .entry)) n i r ⌝ }
 {
-    if times[n] < tables::travel_time(links, i) {
-        return tables::standing(links, i);
+    let counts = reading.counts;
+    let past = counts.past;
+    if times[past + n] - times[past] < tables::travel_time(links, i) {
+        let stood = tables::standing(links, i);
+        let curve = Curve {
+            start: stood,
+            stop: stood,
+            place: reading.past_at,
+        };
+        if past <= step {
+            return curve;
+        }
+        return past_curves::read_on(text, counts.links, i, 0, step + 1, curve);
     }
-    tables::entered_at(ledger, count, step, i)
+    let row = step - past;
+    Curve {
+        start: tables::entered_at(ledger, counts.links, row, i),
+        stop: tables::entered_at(ledger, counts.links, row + 1, i),
+        place: 0,
+    }
 }
 
 // What has arrived at the end of link `i` by boundary `n`.
-fn arrival_in(
+fn arrival_by(
+    text: &[u8],
+    reading: Reading,
     links: &[u32],
     times: &[u32],
     ledger: &[u32],
-    count: usize,
     n: usize,
     i: usize,
 ) -> Arrival
-    requires { ⌜ ArrivalAsked (now links) (now times) (now ledger) count n i ⌝ }
-    ensures { λ r. ⌜ r ≡ arrivalIn (now (links .entry)) (now (times .entry)) (now (ledger .entry)) count n i ⌝ }
+    requires { ⌜ ArrivalAsked (now text) reading (now links) (now times) (now ledger) n i ⌝ }
+    ensures { λ r. ⌜ r ≡ ledgerArrival (lines (now (text .entry))) (now (ledger .entry)) n (i + 1) ⌝ }
 {
     let travel = tables::travel_time(links, i);
-    let step = arrivals::arrival_step(times, 0, n, travel);
-    let start = entered_by(links, times, ledger, count, n, i, step);
-    let end = tables::entered_at(ledger, count, step + 1, i);
+    let counts = reading.counts;
+    let at = counts.past + n;
+    let step = arrivals::arrival_step(times, 0, at, travel);
+    let curve = entered_over(text, reading, links, times, ledger, n, i, step);
     let seconds = arrivals::seconds(times, step);
-    let elapsed = arrivals::elapsed(times, step, n, travel);
+    let elapsed = arrivals::elapsed(times, step, at, travel);
     Arrival {
-        scaled: arrivals::scaled_arrived(start, end, seconds, elapsed),
+        scaled: arrivals::scaled_arrived(curve.start, curve.stop, seconds, elapsed),
         seconds,
-        rises: (elapsed == 0) | (start <= end),
+        rises: (elapsed == 0) | (curve.start <= curve.stop),
     }
 }
 
@@ -100,16 +120,18 @@ fn refused(number: u32) -> LinkAnswer
 
 // The state by the tables of a network that has passed: refusals 8, 19, 20 and 21.
 fn state_by(
-    counts: Counts,
+    text: &[u8],
+    reading: Reading,
     links: &[u32],
     times: &[u32],
     ledger: &[u32],
     boundary: u32,
     link: u32,
 ) -> LinkAnswer
-    requires { ⌜ StateAsked counts (now links) (now times) ⌝ }
-    ensures { λ r. ⌜ StateTold counts (now (links .entry)) (now (times .entry)) (now (ledger .entry)) boundary link r ⌝ }
+    requires { ⌜ Tabled (now text) reading (now links) (now times) ⌝ }
+    ensures { λ r. ⌜ r ≡ linkState (lines (now (text .entry))) (now (ledger .entry)) boundary link ⌝ }
 {
+    let counts = reading.counts;
     let count = counts.links;
     let steps = counts.steps;
     if ledger.len() < tables::row_start(steps + 1, count) {
@@ -129,10 +151,14 @@ fn state_by(
     let i = number - 1;
     let entered = tables::entered_at(ledger, count, n, i);
     let left = tables::left_at(ledger, count, n, i);
-    state_from(entered, left, arrival_in(links, times, ledger, count, n, i))
+    state_from(
+        entered,
+        left,
+        arrival_by(text, reading, links, times, ledger, n, i),
+    )
 }
 
-// State of one link at a boundary: refusals 1 to 6 of the network, 8 of the ledger, then 19, 20 and 21.
+// State of one link at a boundary: refusals 1 to 6, 28 and 30 of the network, 8 of the ledger, then 19, 20 and 21.
 pub fn link_state(network: &[u8], ledger: &[u32], boundary: u32, link: u32) -> LinkAnswer
     ensures { λ r. ⌜ r ≡ linkState (lines (now (network .entry))) (now (ledger .entry)) boundary link ⌝ }
     ensures { λ r. ⌜ StatePromises r ⌝ }
@@ -142,7 +168,7 @@ pub fn link_state(network: &[u8], ledger: &[u32], boundary: u32, link: u32) -> L
     let mut times = [0u32; TIME_TABLE_SIZE];
     match network::load_network(network, &mut links, &mut movements, &mut times) {
         Stage::Passed(reading) => {
-            state_by(reading.counts, &links, &times, ledger, boundary, link)
+            state_by(network, reading, &links, &times, ledger, boundary, link)
         }
         Stage::Refused(refusal) => LinkAnswer::Refused(refusal),
     }

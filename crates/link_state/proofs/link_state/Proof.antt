@@ -1,6 +1,6 @@
 -- `link_state::link_state` meets its contract. Assumes nothing.
+use Rattle.link_state.proofs.State.{tabled, told-by, refused-told}
 use borrow.Author.Needs.{needs}
-use Rattle.link_state.proofs.State.{asked-by, told-by, refused-told}
 use Rattle.link_state.proofs.link_state.Statement.{statement}
 use Rattle.link_state.proofs.link_state.Tie as tie
 
@@ -26,13 +26,13 @@ slice-aggregate-state-by-2 : tie.Need-slice-aggregate-state-by-2
 slice-aggregate-state-by-2 c = search needs
 
 state-by-requires : tie.Need-state-by-requires
-state-by-requires c κs = search (asked-by, needs)
+state-by-requires c κs = tabled (c .before .before .before .before .before .before .before .before .load-network .ensures) (c .before .before .before .reading .given .1)
 
 enum-known-refusal : tie.Need-enum-known-refusal
 enum-known-refusal c = search needs
 
 returns : tie.Need-returns
-returns c = told-by (c .before .before .before .before .before .before .before .before .before .load-network .ensures) _ _ _ (c .before .before .before .before .reading .given .1) (c .state-by .ensures)
+returns c = told-by (c .before .before .before .before .before .before .before .before .before .load-network .ensures) _ _ _ (c .state-by .ensures)
 
 returns-2 : tie.Need-returns-2
 returns-2 c = refused-told (c .before .before .before .before .before .before .load-network .ensures) _ _ _ (c .before .refusal .given .1)
