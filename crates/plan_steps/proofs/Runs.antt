@@ -76,7 +76,7 @@ signals-first network plan signals valid t =
     }
 
 -- a line that has passed is there
-lines-within : (network plan : List Line) (n : ℕ) → ((m : ℕ) → m < n → verdict (lineChecks network plan m) ≡ Passes) → n ≤ length plan
+pub lines-within : (network plan : List Line) (n : ℕ) → ((m : ℕ) → m < n → verdict (lineChecks network plan m) ≡ Passes) → n ≤ length plan
 lines-within network plan zero h = omega arith
 lines-within network plan (suc m) h = elim (decLe (length plan) m) [
   | yes l ↦ let z : _≡_ {A = ℕ} 0 1 = none l in absurd (omega arith)

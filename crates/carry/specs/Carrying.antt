@@ -1,0 +1,24 @@
+-- What carrying on from a boundary asks and promises of a network that has passed. Assumes nothing.
+use Prim.Native.Nat.{ℕ, suc, _*_, _≤_, _<_}
+use mathlib.Core.Path.{_≡_}
+use mathlib.Core.List.{List}
+use lib.ListN.{length}
+use Rattle.records.specs.Lines.{lines}
+use Rattle.model.specs.Network.{linkCount, stepCount}
+use Rattle.tables.specs.declared.Reading.{Reading}
+use Rattle.network.specs.Loading.{Loaded}
+use Rattle.carry_model.specs.declared.CarryAnswer.{CarryAnswer}
+use Rattle.carry_model.specs.Call.{plannedOn, carryOn, carryLedger, carryBuffer}
+
+-- a boundary of the plan, and room for the rows up to it
+pub record StepsAsked (networkText : List ℕ) (b : ℕ) (reading : Reading) (links movements times ledger : List ℕ) : Type 0 where
+  pub loaded : Loaded networkText links movements times reading
+  pub first : 1 ≤ b
+  pub last : b < stepCount (lines networkText)
+  pub room : 2 * suc b * linkCount (lines networkText) ≤ length ledger
+
+-- the answer, the ledger and the buffer are those of the definitions
+pub record CarryGot (networkText planText : List ℕ) (b : ℕ) (ledger ledgerAfter buffer bufferAfter : List ℕ) (answer : CarryAnswer) : Type 0 where
+  pub told : answer ≡ carryOn (lines networkText) (plannedOn (lines networkText) b planText) b (length ledger) (length buffer)
+  pub rows : ledgerAfter ≡ carryLedger (lines networkText) (plannedOn (lines networkText) b planText) b ledger
+  pub holds : bufferAfter ≡ carryBuffer (lines networkText) (plannedOn (lines networkText) b planText) b (length ledger) buffer

@@ -1,0 +1,135 @@
+// Carry on from a boundary (T-09): the call `carry_on`.
+ghost use Rattle.records.specs.Lines.{lines};
+ghost use Rattle.network.specs.Loading.{Loaded};
+ghost use Rattle.carry_model.specs.Call.{plannedOn};
+ghost use Rattle.carry_model.specs.CarriesOn.{CarriedOn};
+ghost use Rattle.carry.specs.Carrying.{StepsAsked, CarryGot};
+use carried_text::CarriedAnswer;
+use carry_model::CarryAnswer;
+use search::Refusal;
+use search::Verdict;
+use tables::LINK_TABLE_SIZE;
+use tables::MAX_LINKS;
+use tables::MOVEMENT_TABLE_SIZE;
+use tables::Reading;
+use tables::Stage;
+use tables::TIME_TABLE_SIZE;
+
+// Takes the plan's steps up to the boundary, and writes the text from there on: 9 for a line behind them, and 32 last.
+fn carry_steps(
+    network: &[u8],
+    boundary: usize,
+    plan: &[u8],
+    reading: Reading,
+    links: &[u32],
+    movements: &[u32],
+    times: &[u32],
+    ledger: &mut [u32],
+    carried: &mut [u8],
+) -> CarryAnswer
+    requires { ⌜ StepsAsked (now network) boundary reading (now links) (now movements) (now times) (now ledger) ⌝ }
+    ensures { λ r. ⌜ CarryGot (now (network .entry)) (now (plan .entry)) boundary (now (ledger .entry)) (now (ledger .exit)) (now (carried .entry)) (now (carried .exit)) r ⌝ }
+{
+    let mut waiting = [0u32; MAX_LINKS];
+    let taken = plan_steps::take_steps(
+        network,
+        plan,
+        reading,
+        boundary,
+        links,
+        movements,
+        times,
+        &mut waiting,
+        ledger,
+    );
+    let verdict = taken.verdict;
+    if let Verdict::Refused(refusal) = verdict {
+        return CarryAnswer::Refused(refusal);
+    }
+    if !records::is_end(plan, taken.state.plan_at) {
+        return CarryAnswer::Refused(Refusal::new(9, boundary + 1, 0));
+    }
+    let signals = taken.state.signals;
+    match carried_text::write_carried(
+        network,
+        reading,
+        boundary,
+        signals,
+        links,
+        movements,
+        &waiting,
+        ledger,
+        carried,
+    ) {
+        CarriedAnswer::Written(length) => CarryAnswer::Written(length),
+        CarriedAnswer::TooShort => CarryAnswer::Refused(Refusal::new(32, 0, 0)),
+    }
+}
+
+// Carries a network that has passed on from a boundary: 31, then 8 for as many steps, then the steps.
+fn carry_from(
+    network: &[u8],
+    boundary: usize,
+    plan: &[u8],
+    reading: Reading,
+    links: &[u32],
+    movements: &[u32],
+    times: &[u32],
+    ledger: &mut [u32],
+    carried: &mut [u8],
+) -> CarryAnswer
+    requires { ⌜ Loaded (now network) (now links) (now movements) (now times) reading ⌝ }
+    ensures { λ r. ⌜ CarryGot (now (network .entry)) (now (plan .entry)) boundary (now (ledger .entry)) (now (ledger .exit)) (now (carried .entry)) (now (carried .exit)) r ⌝ }
+{
+    let counts = reading.counts;
+    if boundary < 1 {
+        return CarryAnswer::Refused(Refusal::new(31, 0, 0));
+    }
+    if counts.steps <= boundary {
+        return CarryAnswer::Refused(Refusal::new(31, 0, 0));
+    }
+    if ledger.len() < 2 * (boundary + 1) * counts.links {
+        return CarryAnswer::Refused(Refusal::new(8, 0, 0));
+    }
+    carry_steps(
+        network,
+        boundary,
+        plan,
+        reading,
+        links,
+        movements,
+        times,
+        ledger,
+        carried,
+    )
+}
+
+// Carry on from a boundary: judges a plan of as many lines on the network cut to as many steps, and writes the network text from the boundary on. Refusals: those
+// of the whole network (1 to 6, 28, 30), 31, 8, the plan's, 32.
+pub fn carry_on(
+    network: &[u8],
+    boundary: u32,
+    plan: &[u8],
+    ledger: &mut [u32],
+    carried: &mut [u8],
+) -> CarryAnswer
+    ensures { λ r. ⌜ CarriedOn (lines (now (network .entry))) (plannedOn (lines (now (network .entry))) boundary (now (plan .entry))) boundary (now (ledger .entry)) (now (ledger .exit)) (now (carried .entry)) (now (carried .exit)) r ⌝ }
+{
+    let mut links = [0u32; LINK_TABLE_SIZE];
+    let mut movements = [0u32; MOVEMENT_TABLE_SIZE];
+    let mut times = [0u32; TIME_TABLE_SIZE];
+    match network::load_network(network, &mut links, &mut movements, &mut times) {
+        Stage::Refused(refusal) => CarryAnswer::Refused(refusal),
+        Stage::Passed(reading) => carry_from(
+            network,
+            tables::index(boundary),
+            plan,
+            reading,
+            &links,
+            &movements,
+            &times,
+            ledger,
+            carried,
+        ),
+    }
+}
