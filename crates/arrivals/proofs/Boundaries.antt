@@ -1,10 +1,9 @@
 -- The steps by the table of times are the paper's, where the table holds a network's times. Assumes nothing.
-use Prim.Native.Nat.{ℕ, zero, suc, _+_, _*_, _-_, _≤_, _<_}
-use mathlib.Core.Path.{_≡_, refl, ap, _∙_}
+use Prim.Native.Nat.{ℕ, zero, suc, _+_, _-_, _≤_, _<_}
+use mathlib.Core.Path.{_≡_, refl, ap}
 use mathlib.Core.List.{List}
 use native.Mathlib.Numerals.{add-one}
 use native.Mathlib.Omega.{arith}
-use lib.ListN.{getD}
 use Rattle.search.specs.Checks.{Hold}
 use Rattle.records.specs.Lines.{Line}
 use Rattle.model.specs.Network.{stepCount, pastCount, onTimeline, travelTime, timelineLength, timelineTime, stepAt, arrivalStep, elapsed}
@@ -14,7 +13,7 @@ use Rattle.model.proofs.Limits.{counts, timeline-small}
 use Rattle.model.proofs.Accepted.{valid-network}
 use Rattle.tables.specs.Tables.{TimeTable}
 use Rattle.arrivals.specs.Arrivals.{stepAtIn, arrivalStepIn, secondsIn, elapsedIn, Rising, Cursor}
-use Rattle.arrivals.proofs.Arrivals.{arrival-rises, arrival-le}
+use Rattle.arrivals.proofs.Arrivals.{arrival-rises}
 
 module _ {network : List Line} {times : List ℕ} (t : TimeTable network times) where
   step-is : (m x : ℕ) → m ≤ onTimeline network (stepCount network) → stepAtIn times m x ≡ stepAt network m x

@@ -2,7 +2,7 @@
 // boundaries, and what has arrived by then. Steps and boundaries are the timeline's here.
 ghost use mathlib.Core.Path.{_≡_};
 ghost use Prim.Native.Nat.{_+_, _-_, _<_, _≤_};
-ghost use lib.ListN.{length, getD};
+ghost use lib.ListN.{length};
 ghost use Rattle.arrivals.specs.Arrivals.{arrivalStepIn, secondsIn, elapsedIn, scaledIn, Cursor, ArrivalsAsked, Arrived};
 ghost use Rattle.arrivals.specs.Timed.{TimeAsked, TimeSet};
 

@@ -3,7 +3,6 @@ use Prim.Native.Nat.{ℕ, suc, _+_, _*_, _-_, _/_, _≤_, _<_}
 use mathlib.Core.Path.{_≡_, refl, sym, ap, ap₂, _∙_}
 use mathlib.Core.Bool.{Bool, true, false, not, cond}
 use mathlib.Core.List.{List, []}
-use native.Mathlib.Numerals.{add-one}
 use native.Mathlib.Nat.{mul-le-mul-right, mul-comm, le-div-iff-mul-le, div-le-of-le-mul}
 use native.Mathlib.Decide.{decLe}
 use native.Mathlib.Omega.{arith}
@@ -30,7 +29,7 @@ use Rattle.arrivals.specs.Arrivals.{arrivalStepIn, secondsIn, elapsedIn, scaled
 use Rattle.arrivals.proofs.Boundaries.{times-rise, arrival-is, elapsed-at, seconds-is}
 use Rattle.past_curves.specs.declared.Curve.{Curve}
 use Rattle.past_curves.specs.Curves.{CurveTo, ReadAsked}
-use Rattle.plan_steps.proofs.Steps.{past-form, past-fits}
+use Rattle.past_curves.proofs.Valid.{past-form, past-fits}
 use Rattle.link_state.specs.declared.Arrival.{Arrival}
 use Rattle.link_state.specs.State.{Tabled, ArrivalAsked, OverAsked, EnteredOver, ledgerArrival, stateFrom}
 
@@ -73,7 +72,7 @@ module _ {text : List ℕ} {reading : Reading} {links times ledger : List ℕ} {
   t : Tabled text reading links times
   t = asked .tabled
 
-  pub on-time : reading .counts .past + n ≡ onTimeline net n
+  on-time : reading .counts .past + n ≡ onTimeline net n
   unfolding onTimeline
   on-time = omega (arith, t .counted .past)
 
@@ -87,11 +86,8 @@ module _ {text : List ℕ} {reading : Reading} {links times ledger : List ℕ} {
   past-few : reading .counts .past ≤ onTimeline net n
   past-few = omega (arith, on-time)
 
-  pub few-at : reading .counts .past + n ≤ 120
+  few-at : reading .counts .past + n ≤ 120
   few-at = omega (arith, on-time, on-last, together)
-
-  pub small-link : i < 24
-  small-link = omega (arith, asked .link, t .counted .links, t .counted .few .links)
 
   travel-is : travelTimeIn links i ≡ travelTime net i
   travel-is = travel-time-at (t .link-table) i (asked .link)

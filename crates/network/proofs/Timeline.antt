@@ -1,18 +1,18 @@
 -- The `H` lines, the `S` lines, the end of the text and the past, one after another. Assumes nothing.
-use Prim.Native.Nat.{ℕ, _+_, _≤_, _<_}
-use mathlib.Core.Path.{_≡_, refl, sym, ap, _∙_}
+use Prim.Native.Nat.{ℕ, _≤_, _<_}
+use mathlib.Core.Path.{_≡_, sym, _∙_}
 use mathlib.Core.Bool.{true}
 use mathlib.Core.List.{List}
 use native.Mathlib.Omega.{arith}
 use borrow.Author.Tests.{leb-true}
-use lib.ListN.{length, getD, replicate, length-replicate, getD-replicate}
+use lib.ListN.{replicate, length-replicate, getD-replicate}
 use Rattle.search.specs.declared.Refusal.{Refusal}
 use Rattle.search.specs.declared.Verdict.the-variants as verdicts
 use Rattle.search.specs.Checks.{Hold, verdict}
 use Rattle.search.proofs.Laws.{or-else-passes, or-else-refused, hold-of-passes}
 use Rattle.records.specs.Lines.{Line, lines}
 use Rattle.model.specs.Test.{within}
-use Rattle.model.specs.Network.{maxLinks, linkCount, pastCount, stepCount, onTimeline, capacity, standing, travelTime}
+use Rattle.model.specs.Network.{maxLinks, linkCount, onTimeline, capacity, standing, travelTime}
 use Rattle.model.specs.Rules.{validLink, validPast}
 use Rattle.model.specs.Table.{linkChecks, pastChecks}
 use Rattle.model.proofs.Tests.{and-left, and-right}

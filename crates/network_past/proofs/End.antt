@@ -1,12 +1,12 @@
 -- 30 after all lines. Assumes nothing.
-use Prim.Native.Nat.{ℕ, zero, suc, _+_, _*_, _-_, _≤_, _<_}
-use mathlib.Core.Path.{_≡_, refl, sym, ap, ap₂, _∙_}
+use Prim.Native.Nat.{ℕ, _+_, _*_, _-_, _≤_, _<_}
+use mathlib.Core.Path.{_≡_, refl, sym, ap, _∙_}
 use mathlib.Core.Bool.{Bool, true, false, not}
 use mathlib.Core.List.{List, []}
 use native.Mathlib.Numerals.{add-one}
 use native.Mathlib.Omega.{arith}
 use borrow.Author.Tests.{leb-true, not-true, not-false}
-use lib.ListN.{length, getD, replicate, length-replicate, getD-replicate}
+use lib.ListN.{length, replicate, length-replicate, getD-replicate}
 use Rattle.search.specs.declared.Refusal.{Refusal}
 use Rattle.search.specs.Checks.{refusal, verdict}
 use Rattle.search.proofs.Laws.{checked-passes, checked-refused}
@@ -30,7 +30,7 @@ use Rattle.arrivals.specs.Arrivals.{Rising}
 use Rattle.arrivals.specs.Timed.{validLengths, TimedTo}
 use Rattle.arrivals.proofs.Timed.{timed-table, timed-rise}
 use Rattle.past_curves.specs.Curves.{pastEntered, pastLeft, PastAsked, PastOverflows, PastLoaded}
-use Rattle.network_past.specs.Past.{validPastIn, validLinksIn, LinksAsked, TestAsked, pastEndChecks, EndAsked}
+use Rattle.network_past.specs.Past.{validPastIn, validLinksIn, LinksAsked, pastEndChecks, EndAsked}
 use Rattle.network_past.proofs.Links.{valid-is}
 
 -- ---- the turns of `valid_links`

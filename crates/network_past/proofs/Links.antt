@@ -1,30 +1,29 @@
 -- 30 of one link by the program's tables is the paper's. Assumes nothing.
-use Prim.Native.Nat.{ℕ, zero, suc, _+_, _*_, _-_, _≤_, _<_}
-use mathlib.Core.Path.{_≡_, refl, sym, ap, ap₂, _∙_}
-use mathlib.Core.Bool.{Bool, true, false}
+use Prim.Native.Nat.{ℕ, suc, _+_, _*_, _-_, _≤_, _<_}
+use mathlib.Core.Path.{_≡_, sym, ap, ap₂, _∙_}
+use mathlib.Core.Bool.{true}
 use mathlib.Core.List.{List, []}
 use native.Mathlib.Decide.{decLe}
-use native.Mathlib.Numerals.{add-one}
 use native.Mathlib.Omega.{arith}
-use borrow.Author.Tests.{leb-true, le-leb, lt-leb}
+use borrow.Author.Tests.{le-leb, lt-leb}
 use lib.Dec.{leb}
 use lib.ListN.{length, getD}
 use Rattle.records.specs.Lines.{Line, lines}
 use Rattle.model.specs.Sum.{sum}
-use Rattle.model.specs.Test.{_and_, every}
-use Rattle.model.specs.Network.{linkCount, pastCount, stepCount, onTimeline, standing, capacity, travelTime, timelineLength, pastEntries, waitingAtStart, demand, arrivalStep, elapsed}
+use Rattle.model.specs.Test.{_and_}
+use Rattle.model.specs.Network.{linkCount, pastCount, stepCount, onTimeline, capacity, timelineLength, pastEntries, waitingAtStart, demand, arrivalStep, elapsed}
 use Rattle.model.specs.Flows.{offered, timelineEntered, timelineInflow, timelineLeft, entered, left, held, hasArrived}
 use Rattle.model.specs.Rules.{validPastOf}
-use Rattle.model.proofs.Arrived.{scaledBy, arrived-by-step}
+use Rattle.model.proofs.Arrived.{arrived-by-step}
 use Rattle.model.proofs.Timeline.{timeline-entered-suc, entered-start}
 use Rattle.model.proofs.Times.{arrival-step-lt, arrival-step-le}
 use Rattle.tables.specs.declared.Counts.{Counts}
-use Rattle.tables.specs.Fields.{enteredIn, leftIn, standingIn, capacityIn, waitingAtStartIn, travelTimeIn}
+use Rattle.tables.specs.Fields.{enteredIn, leftIn, standingIn, waitingAtStartIn, travelTimeIn}
 use Rattle.tables.specs.Tables.{CountsHold, LinkTable, TimeTable}
 use Rattle.tables.proofs.Tables.{capacity-at, travel-time-at, standing-at, waiting-at-start-at}
 use Rattle.arrivals.specs.Arrivals.{secondsIn, elapsedIn, scaledIn, ArrivalTable}
 use Rattle.arrivals.proofs.Boundaries.{seconds-is, elapsed-at}
-use Rattle.past_curves.specs.Curves.{pastEntered, pastLeft, PastRow, CurvesAt}
+use Rattle.past_curves.specs.Curves.{PastRow, CurvesAt}
 use Rattle.network_past.specs.Past.{validPastIn, TestAsked}
 
 -- ---- the needs of `valid_past`

@@ -1,14 +1,12 @@
 -- Row 0 at the start of the timeline, and the curves of the links as they are kept. Assumes nothing.
 use Prim.Native.Nat.{ℕ, _+_, _*_, _-_, _≤_, _<_}
-use mathlib.Core.Path.{_≡_, refl, ap, _∙_}
-use mathlib.Core.Logic.{_⊎_, inl, inr}
+use mathlib.Core.Path.{_≡_, refl, _∙_}
 use mathlib.Core.List.{List}
 use native.Mathlib.Decide.{ℕ-discrete}
 use native.Mathlib.Omega.{arith}
 use lib.ListN.{length, getD, set, length-set}
 use lib.Seq.{getD-set-same, getD-set-other}
-use Rattle.tables.specs.Fields.{standingIn, pastEntriesIn, enteredIn, leftIn}
-use Rattle.past_curves.specs.declared.Curve.{Curve}
+use Rattle.tables.specs.Fields.{standingIn, pastEntriesIn, enteredIn}
 use Rattle.past_curves.specs.Curves.{StartAsked, Started, curveIn, CurveRooms, KeepAsked, KeptAt, Kept, KeepAllAsked, KeptAll}
 
 -- ---- two numbers of link i set in a table, and one

@@ -1,4 +1,5 @@
 pub mod Reading
+pub mod Valid
 pub mod Keeping
 pub mod Loading
 pub mod Moving

@@ -1,6 +1,6 @@
 -- Row 0 and the curves at boundary 0, one `H` line after another. Assumes nothing.
 use Prim.Native.Nat.{ℕ, suc, _+_, _*_, _-_, _/_, _%_, _≤_, _<_}
-use mathlib.Core.Path.{_≡_, refl, sym, ap, _∙_}
+use mathlib.Core.Path.{_≡_, refl, ap, _∙_}
 use mathlib.Core.Bool.{Bool, true, false, not}
 use mathlib.Core.List.{List, []}
 use native.Mathlib.Decide.{ℕ-discrete}
@@ -13,20 +13,20 @@ use Rattle.records.specs.declared.LineRead.the-variants.{Next, Malformed}
 use Rattle.records.specs.Lines.{Line, lines}
 use Rattle.records.specs.Reading.{Starts}
 use Rattle.model.specs.Sum.{sum}
-use Rattle.model.specs.Network.{maxLinks, linkCount, pastCount, onTimeline, timelineLine, pastExits}
+use Rattle.model.specs.Network.{linkCount, pastCount, onTimeline, timelineLine, pastExits}
 use Rattle.model.specs.Flows.{timelineEntered, timelineLeft, timelineOutflow}
 use Rattle.model.specs.Table.{letterH}
 use Rattle.model.proofs.Sums.{sum-more}
 use Rattle.model.proofs.Timeline.{past-outflow, timeline-entered-more}
 use Rattle.tables.specs.declared.Counts.{Counts}
-use Rattle.tables.specs.Fields.{pastSize, pastEntriesIn, pastExitsIn, enteredIn, leftIn}
+use Rattle.tables.specs.Fields.{pastSize, pastEntriesIn, enteredIn, leftIn}
 use Rattle.tables.specs.Rows.{RowRead}
 use Rattle.tables.specs.Sums.{Overflow, Summed}
 use Rattle.tables.specs.Tables.{PastNumbers}
 use Rattle.tables.proofs.Tables.{standing-at, travel-time-at, past-entries-at, past-exits-at}
-use Rattle.arrivals.specs.Arrivals.{arrivalStepIn, ArrivalsAsked, Arrived, ArrivalTable}
+use Rattle.arrivals.specs.Arrivals.{ArrivalsAsked, Arrived, ArrivalTable}
 use Rattle.arrivals.proofs.Boundaries.{arrival-is}
-use Rattle.past_curves.specs.Curves.{pastEntered, pastLeft, CurveTo, StartAsked, Started, curveIn, CurveRooms, KeepAllAsked, KeptAll, CurvesAt, PastAsked, PastRow, PastOverflows, PastLoaded}
+use Rattle.past_curves.specs.Curves.{pastEntered, pastLeft, CurveTo, StartAsked, Started, curveIn, CurveRooms, KeepAllAsked, KeptAll, PastAsked, PastRow, PastOverflows, PastLoaded}
 use Rattle.past_curves.proofs.Reading.{past-never, past-numbers, past-next, entered-past}
 
 -- what leaves in a past step, and by more steps no less

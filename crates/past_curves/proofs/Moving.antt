@@ -1,6 +1,6 @@
 -- The links moved on from one boundary to the next. Assumes nothing.
-use Prim.Native.Nat.{ℕ, suc, _+_, _*_, _-_, _≤_, _<_}
-use mathlib.Core.Path.{_≡_, refl, sym, ap, _∙_}
+use Prim.Native.Nat.{ℕ, _+_, _-_, _≤_, _<_}
+use mathlib.Core.Path.{_≡_, refl, ap, _∙_}
 use mathlib.Core.List.{List}
 use native.Mathlib.Decide.{ℕ-discrete}
 use native.Mathlib.Omega.{arith}
@@ -12,7 +12,7 @@ use Rattle.tables.specs.declared.Counts.{Counts}
 use Rattle.tables.specs.Fields.{travelTimeIn}
 use Rattle.arrivals.specs.Arrivals.{arrivalStepIn, Cursor}
 use Rattle.past_curves.specs.declared.Curve.{Curve}
-use Rattle.past_curves.specs.Curves.{CurveTo, ReadAsked, curveIn, CurveRooms, CurvesAt, MoveAsked, Moved, NextAsked, NextGot}
+use Rattle.past_curves.specs.Curves.{CurveTo, ReadAsked, curveIn, CurveRooms, MoveAsked, Moved, NextAsked, NextGot}
 use Rattle.past_curves.proofs.Keeping.{pairSet, rooms-set, curve-set, curve-other}
 
 -- ---- `move_link`

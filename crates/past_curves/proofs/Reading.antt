@@ -1,6 +1,6 @@
 -- The `H` lines read again for one link. Assumes nothing.
 use Prim.Native.Nat.{ℕ, suc, _+_, _*_, _≤_, _<_}
-use mathlib.Core.Path.{_≡_, refl, sym, ap, _∙_}
+use mathlib.Core.Path.{_≡_, sym, ap, _∙_}
 use mathlib.Core.Bool.{Bool, true, false}
 use mathlib.Core.List.{List, []}
 use native.Mathlib.Numerals.{add-one}
@@ -77,9 +77,6 @@ module _ {text : List ℕ} {links i from to : ℕ} {curve : Curve} (asked : Read
 
       pub read-never : r ≡ Malformed → {result : Curve} → CurveTo text i to result
       read-never e = absurd (past-never m (inv .curve-to .starts) wide row (asked .forms) below e)
-
-      pub field-room : 1 + 2 * i < length after
-      field-room = omega (arith, row .size, inv .size, asked .few, asked .link)
 
       module _ {next : ℕ} (e : r ≡ Next next) where
         entered-next : stop + getD after (1 + 2 * i) 0 ≡ pastEntered (lines text) (suc m) i

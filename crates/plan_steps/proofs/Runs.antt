@@ -23,14 +23,13 @@ use Rattle.model.specs.declared.PlanAnswer.{PlanAnswer}
 use Rattle.model.specs.declared.PlanAnswer.the-variants as plan-answer
 use Rattle.model.specs.Sum.{sum}
 use Rattle.model.specs.Network.{maxLinks, linkCount, stepCount, pastCount, onTimeline, signal}
-use Rattle.model.specs.Flows.{timelineLeft, left, signalAt, totals}
-use Rattle.model.specs.Table.{isForm, letterP, networkChecks, ledgerChecks, lineChecks, planLineChecks}
+use Rattle.model.specs.Flows.{signalAt, totals}
+use Rattle.model.specs.Table.{isForm, letterP, ledgerChecks, lineChecks, planLineChecks}
 use Rattle.model.specs.Hold.{planOf}
 use Rattle.model.specs.Calls.{planAnswer, written, ledgerAfter}
 use Rattle.model.specs.Guarantees.{RowDue}
 use Rattle.model.proofs.Accepted.{ValidNetwork, valid-network}
 use Rattle.model.proofs.Rows.{length-written}
-use Rattle.model.proofs.Bounds.{left-word}
 use Rattle.model.proofs.Times.{on-timeline-mono}
 use Rattle.model.proofs.Timeline.{past-entered, start-left}
 use Rattle.model.proofs.Written.{refused-fails, due-written, rows-until}
@@ -39,31 +38,22 @@ use Rattle.tables.specs.declared.Reading.{Reading}
 use Rattle.tables.specs.Tables.{SignalTable}
 use Rattle.tables.specs.Fields.{rowSize}
 use Rattle.arrivals.proofs.Boundaries.{times-rise}
-use Rattle.past_curves.specs.Curves.{pastLeft, PastAsked, PastLoaded}
+use Rattle.past_curves.specs.Curves.{PastAsked, PastLoaded}
 use Rattle.waiting.specs.Waiting.{FirstAsked, FirstWaits, WaitingTable}
 use Rattle.waiting.proofs.Texts.{waiting-first, outside-is}
 use Rattle.step_signals.specs.Step.{SignalsAt}
 use Rattle.step_signals.proofs.Rules.{ready-first}
 use Rattle.step_rows.specs.Rows.{RowHolds}
 use Rattle.step_rows.proofs.Ledger.{first-written}
-use Rattle.plan_steps.specs.declared.State.{State}
 use Rattle.plan_steps.specs.declared.Taken.{Taken}
 use Rattle.plan_steps.specs.Totals.{heldIn}
-use Rattle.plan_steps.specs.State.{StateAt, StepAsked, StepGot, finished}
-use Rattle.plan_steps.specs.Steps.{RunAsked, RunGot, StepsAsked, Stopped, AllTaken, StepsGot, Running}
+use Rattle.plan_steps.specs.State.{StepAsked, StepGot, finished}
+use Rattle.plan_steps.specs.Steps.{RunAsked, RunGot, StepsAsked, AllTaken, StepsGot, Running}
 use Rattle.plan_steps.proofs.Verdicts.{formed, plan-stops, plan-surplus, plan-passes}
 use Rattle.plan_steps.proofs.PlanLines.{plan-ends}
 use Rattle.plan_steps.proofs.Ledger.{written-again}
 use Rattle.plan_steps.proofs.Adding.{outside-sum, totals-first}
-use Rattle.plan_steps.proofs.Steps.{past-form, entered-at-start, past-fits}
-
--- what had left a link when the past ended
-left-at-start : (network : List Line) (i : ℕ) → pastLeft network (pastCount network) i ≡ left network [] 0 i
-unfolding left onTimeline
-left-at-start network i = let z : pastCount network + 0 ≡ pastCount network = omega arith in ap (λ m. timelineLeft network [] m i) (sym z)
-
-left-fits : (network : List Line) → Hold (networkChecks network) → (i : ℕ) → i < linkCount network → pastLeft network (pastCount network) i < 4294967296
-left-fits network holds i l = omega (arith, left-at-start network i, left-word network [] holds 0 (omega arith) (λ k u. absurd (omega arith)) i l)
+use Rattle.past_curves.proofs.Valid.{past-form, entered-at-start, past-fits, left-at-start, left-fits}
 
 -- the signals before the plan
 signals-first : (network plan : List Line) (signals : List Signal) → ValidNetwork network → SignalTable network signals → SignalsAt network plan 0 signals

@@ -3,7 +3,7 @@ use Prim.Native.Nat.{ℕ, suc, _+_, _*_, _-_, _≤_, _<_}
 use mathlib.Core.Path.{_≡_, refl, sym, ap, ap₂, _∙_}
 use mathlib.Core.Bool.{Bool, true, false, cond}
 use mathlib.Core.Logic.{_⊎_, inl, inr}
-use mathlib.Core.List.{List, [], _++_}
+use mathlib.Core.List.{List, _++_}
 use native.Mathlib.Numerals.{add-one}
 use native.Mathlib.Nat.{eq-or-lt-of-le, mul-le-mul-right}
 use native.Mathlib.Decide.{decLe, decLt}
@@ -21,10 +21,10 @@ use Rattle.records.specs.Lines.{Line, lines}
 use Rattle.model.specs.declared.Signal.{Signal}
 use Rattle.model.specs.Test.{_or_}
 use Rattle.model.specs.Signals.{phaseOf, after as signalAfter}
-use Rattle.model.specs.Network.{maxSignals, linkCount, signalCount, movementCount, stepCount, tramCount, tramLine, timelineLine, onTimeline, pastCount, stepLine, stepLength, ordinary, signal, maxSteps}
-use Rattle.model.specs.Flows.{shownMask, shownIn, signalAt, timelineEntered, entered, outside}
+use Rattle.model.specs.Network.{maxSignals, linkCount, signalCount, stepCount, tramCount, tramLine, onTimeline, stepLine, stepLength, ordinary, signal, maxSteps}
+use Rattle.model.specs.Flows.{shownMask, shownIn, signalAt, outside}
 use Rattle.model.specs.Rules.{rule10, rule13, rule14}
-use Rattle.model.specs.Table.{isForm, letterT, letterH, letterS, letterP, tramChecks, pastChecks, networkChecks, stepChecks, limitRules, lineChecks}
+use Rattle.model.specs.Table.{isForm, letterT, letterS, tramChecks, networkChecks, stepChecks, limitRules, lineChecks}
 use Rattle.model.specs.Hold.{planOf}
 use Rattle.model.specs.Calls.{written}
 use borrow.Author.Tests.{leb-true}
@@ -33,14 +33,13 @@ use Rattle.model.proofs.Limits.{step-limits}
 use Rattle.model.proofs.Bounds.{KeepsLimits, lawful-limits, entered-word, left-word}
 use Rattle.model.proofs.Phases.{phase-of-le}
 use Rattle.model.proofs.Shown.{same-phases}
-use Rattle.model.proofs.Timeline.{timeline-entered-more}
-use Rattle.model.proofs.Rows.{length-written}
 use Rattle.tables.specs.declared.Counts.{Counts}
 use Rattle.tables.specs.Fields.{tramFields, lineSize, stepSize, rowSize, lengthIn}
 use Rattle.tables.specs.Tables.{noSignal, CountsHold, StepNumbers, PlanNumbers}
 use Rattle.tables.proofs.Tables.{travel-time-at, shown-mask-at}
 use Rattle.arrivals.specs.Arrivals.{ArrivalTable}
-use Rattle.past_curves.specs.Curves.{pastEntered, pastLeft, PastForms, NextAsked as PastNextAsked, NextGot as PastNextGot}
+use Rattle.past_curves.proofs.Valid.{past-form, past-fits}
+use Rattle.past_curves.specs.Curves.{NextAsked as PastNextAsked, NextGot as PastNextGot}
 use Rattle.arrivals.proofs.Boundaries.{arrival-is, cursor-ready}
 use Rattle.waiting.specs.Waiting.{AddAsked, Offers, WaitsAsked, Waits, WaitingTable, StepOffers}
 use Rattle.waiting.proofs.Texts.{add-ready, step-offers, outside-is, next-ready, waiting-next}
@@ -70,21 +69,6 @@ use Rattle.plan_steps.proofs.Verdicts.{formed, line-malformed, line-for
 step-form : (network : List Line) → Hold (networkChecks network) → (n : ℕ) → n < stepCount network → isForm network (stepLine network n) letterS (1 + linkCount network) ≡ true
 unfolding Hold networkChecks stepChecks
 step-form network (counts, (trams, (signals, (phases, (links, (movements, (shares, (past, (steps, rest))))))))) n l = steps n l .0
-
--- of an `H` line at each past step
-pub past-form : (network : List Line) → Hold (networkChecks network) → PastForms network
-unfolding Hold networkChecks pastChecks
-past-form network (counts, (trams, (signals, (phases, (links, (movements, (shares, (past, rest)))))))) m l = past m l
-
--- what had entered a link when the past ended
-pub entered-at-start : (network plan : List Line) (i : ℕ) → entered network plan 0 i ≡ timelineEntered network plan (pastCount network) i
-unfolding entered onTimeline
-entered-at-start network plan i = let z : pastCount network + 0 ≡ pastCount network = omega arith in ap (λ m. timelineEntered network plan m i) z
-
--- the volumes of the past fit 32 bits
-pub past-fits : (network : List Line) → Hold (networkChecks network) → (i : ℕ) → i < linkCount network → (m : ℕ) → m ≤ pastCount network → pastEntered network m i < 4294967296
-past-fits network holds i l m h =
-    omega (arith, timeline-entered-more network [] m (pastCount network) i h, entered-at-start network [] i, entered-word network [] holds 0 (omega arith) (λ k u. absurd (omega arith)) i l)
 
 -- and of a `T` line at each tram line
 tram-form : (network : List Line) → Hold (networkChecks network) → (k : ℕ) → k < tramCount network → isForm network (tramLine network k) letterT tramFields ≡ true

@@ -15,14 +15,12 @@ use Rattle.model.specs.declared.PlanAnswer.the-variants as plan-answer
 use Rattle.model.specs.Sum.{sum}
 use Rattle.model.specs.Network.{maxLinks, maxSignals, maxSteps, linkCount, stepCount, tramLine, stepLine}
 use Rattle.model.specs.Flows.{outside, totals}
-use Rattle.model.specs.Table.{networkChecks, lineChecks, planLineChecks}
+use Rattle.model.specs.Table.{networkChecks, lineChecks}
 use Rattle.model.specs.Hold.{planOf}
-use Rattle.model.specs.Calls.{planAnswer, rowsWritten, written, ledgerAfter}
+use Rattle.model.specs.Calls.{written}
 use Rattle.tables.specs.declared.Counts.{Counts}
-use Rattle.tables.specs.declared.Reading.{Reading}
 use Rattle.tables.specs.Fields.{lengthIn}
 use Rattle.tables.specs.Tables.{CountsHold, LinkTable, MovementTable, TimeTable}
-use Rattle.network_signals.specs.Stages.{LoadAsked}
 use Rattle.arrivals.specs.Arrivals.{ArrivalTable}
 use Rattle.past_curves.specs.Curves.{CurvesAt}
 use Rattle.waiting.specs.Waiting.{waitingIn, WaitingTable}

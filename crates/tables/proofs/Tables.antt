@@ -5,7 +5,7 @@ use mathlib.Core.List.{List}
 use native.Mathlib.Omega.{arith}
 use lib.ListN.{getD}
 use Rattle.records.specs.Lines.{Line}
-use Rattle.model.specs.Network.{linkCount, signalCount, movementCount, capacity, travelTime, exitRate, signalOf, phaseMask, standing, waitingAtStart, onTimeline, fromLink, toLink, rate, share, timelineLine, stepLine, timelineLength, pastEntries, pastExits, stepLength, demand}
+use Rattle.model.specs.Network.{linkCount, signalCount, movementCount, capacity, travelTime, exitRate, signalOf, phaseMask, standing, waitingAtStart, fromLink, toLink, rate, share, stepLine, timelineLength, pastEntries, pastExits, stepLength, demand}
 use Rattle.model.specs.Flows.{shownMask, admitted, letOut, moved}
 use Rattle.tables.specs.Fields.{linkFields, capacityIn, travelTimeIn, exitRateIn, signalIn, phaseMaskIn, standingIn, waitingAtStartIn, linkIn, rateIn, shareIn, pastEntriesIn, pastExitsIn, lengthIn, demandIn}
 use Rattle.tables.specs.Tables.{LinkTable, MovementTable, PastNumbers, StepNumbers, PlanNumbers}

@@ -4,7 +4,6 @@ use Rattle.tables.proofs.Sums.{SummedTo, sums-begin, sums-over, sums-ne
 use borrow.Author.Needs.{needs}
 use Rattle.tables.proofs.add_numbers.Statement.{statement}
 use Rattle.tables.proofs.add_numbers.Tie as tie
-use Rattle.tables.proofs.wide.Reads as wide-reads
 
 abbrev Inv-loop : tie.InvT-loop
 Inv-loop line count sums₀ k₀ sums k = SummedTo line count sums₀ sums k
