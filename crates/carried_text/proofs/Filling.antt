@@ -1,16 +1,17 @@
 -- Numbers that go to the front of a row, one after another. Assumes nothing.
-use Prim.Native.Nat.{ℕ, suc, _+_, _*_, _-_, _≤_, _<_}
+use Prim.Native.Nat.{ℕ, zero, suc, _+_, _*_, _-_, _≤_, _<_}
 use mathlib.Core.Path.{_≡_, refl, sym, ap, _∙_}
 use mathlib.Core.List.{List, [], _∷_, _++_, append-assoc}
 use native.Mathlib.Numerals.{add-one}
 use native.Mathlib.Nat.{mul-le-mul-right}
 use native.Mathlib.Omega.{arith}
-use lib.ListN.{length, getD, set, take, drop, length-append, length-set}
-use lib.Seq.{length-take-le, take-suc, take-length, take-at, drop-cons, drop-set-lt, set-at, append-snoc}
+use lib.ListN.{length, getD, set, take, drop, length-append, length-drop, length-set}
+use lib.Seq.{length-take-le, take-suc, take-length, take-at, drop-cons, set-at, append-snoc, getD-drop}
 use Rattle.records.specs.Reading.{over}
 use Rattle.model.specs.declared.Signal.{Signal}
 use Rattle.model.specs.Sum.{joined}
-use Rattle.tables.specs.Fields.{pastSize, enteredAt, leftAt, RowHeld}
+use Rattle.tables.specs.Fields.{signalFields, tableSignal, pastSize, enteredAt, leftAt, RowHeld}
+use Rattle.tables.proofs.Signals.{numbers-same, least-time-in, greatest-time-in}
 use Rattle.carry_model.specs.Part.{signalNumbers}
 use Rattle.carry_model.proofs.Parts.{pairs-length}
 use Rattle.carried_text.specs.Rows.{volumesIn, VolumesAsked}
@@ -58,59 +59,54 @@ module _ {row old numbers : List ℕ} {k : ℕ} (room : length row ≤ length ol
   pub wide-all : length row ≤ k → numbers ≡ over row old
   wide-all h = let z : k ≡ length row = omega (arith, w .few) in w .is ∙ ap (λ (x : List ℕ). over x old) (rw z (take-length row))
 
--- ---- `fill_signal`: six numbers, and those of the first k phases
+-- ---- a row of the table of `G` lines: six numbers, and those of the first k phases
 abbrev signalTo : Signal → ℕ → List ℕ
 signalTo s k =
     s .«least_cycle» ∷ s .«greatest_cycle» ∷ s .phases ∷ s .shown ∷ s .«shown_for» ∷ s .«cycle_clock»
     ∷ joined k (λ j. getD (s .least) j 0 ∷ getD (s .greatest) j 0 ∷ [])
 
-abbrev sixSet : Signal → List ℕ → List ℕ
-sixSet s old =
-    set (set (set (set (set (set old 0 (s .«least_cycle»)) 1 (s .«greatest_cycle»)) 2 (s .phases)) 3 (s .shown)) 4 (s .«shown_for»)) 5 (s .«cycle_clock»)
+first-six : (row : List ℕ) → 6 ≤ length row → take 6 row ≡ signalTo (tableSignal row 0) 0
+unfolding tableSignal joined
+first-six [] h = absurd (omega arith)
+first-six (a ∷ []) h = absurd (omega arith)
+first-six (a ∷ b ∷ []) h = absurd (omega arith)
+first-six (a ∷ b ∷ c ∷ []) h = absurd (omega arith)
+first-six (a ∷ b ∷ c ∷ d ∷ []) h = absurd (omega arith)
+first-six (a ∷ b ∷ c ∷ d ∷ e ∷ []) h = absurd (omega arith)
+first-six (a ∷ b ∷ c ∷ d ∷ e ∷ f ∷ more) h = refl
 
-pub record SignalTo (s : Signal) (old row : List ℕ) (k : ℕ) : Type 0 where
-  pub few : k ≤ s .phases
-  pub old-size : length old ≡ 22
-  pub size : length row ≡ 22
-  pub is : row ≡ over (signalTo s k) old
+row-front : (row : List ℕ) → signalFields ≤ length row → (k : ℕ) → k ≤ 8 → take (6 + 2 * k) row ≡ signalTo (tableSignal row 0) k
+unfolding joined
+row-front row h zero l = first-six row (omega arith)
+row-front row h (suc k) l =
+    let n = 6 + 2 * k in
+    let s = tableSignal row 0 in
+    let more : 6 + 2 * suc k ≡ suc (suc n) = omega arith in
+    let at-least : signalFields * 0 + (6 + 2 * k) ≡ n = omega arith in
+    let at-greatest : signalFields * 0 + (7 + 2 * k) ≡ suc n = omega arith in
+    let least : getD row n 0 ≡ getD (s .least) k 0 = ap (λ x. getD row x 0) (sym at-least) ∙ least-time-in row 0 k (omega arith) in
+    let greatest : getD row (suc n) 0 ≡ getD (s .greatest) k 0 = ap (λ x. getD row x 0) (sym at-greatest) ∙ greatest-time-in row 0 k (omega arith) in
+    ap (λ x. take x row) more
+    ∙ take-suc row (suc n) 0 (omega arith)
+    ∙ ap (λ (z : List ℕ). z ++ (getD row (suc n) 0 ∷ [])) (take-suc row n 0 (omega arith))
+    ∙ append-assoc (take n row) (getD row n 0 ∷ []) (getD row (suc n) 0 ∷ [])
+    ∙ ap (λ (z : List ℕ). z ++ (getD row n 0 ∷ getD row (suc n) 0 ∷ [])) (row-front row h k (omega arith))
+    ∙ rw (least, greatest) refl
 
-module _ (s : Signal) where
-  pub signal-none : (old : List ℕ) → length old ≡ 22 → SignalTo s (sixSet s old) (sixSet s old) 0
-  unfolding over joined
-  signal-none [] h = absurd (omega arith)
-  signal-none (a ∷ []) h = absurd (omega arith)
-  signal-none (a ∷ b ∷ []) h = absurd (omega arith)
-  signal-none (a ∷ b ∷ c ∷ []) h = absurd (omega arith)
-  signal-none (a ∷ b ∷ c ∷ d ∷ []) h = absurd (omega arith)
-  signal-none (a ∷ b ∷ c ∷ d ∷ e ∷ []) h = absurd (omega arith)
-  signal-none (a ∷ b ∷ c ∷ d ∷ e ∷ f ∷ more) h = record { few = omega arith; old-size = h; size = h; is = refl }
-
-  pub signal-next : {old row : List ℕ} {k : ℕ} → SignalTo s old row k → {phases : ℕ} → phases ≡ s .phases → k < phases → s .phases ≤ 8
-      → {x y : ℕ} → x ≡ getD (s .least) k 0 → y ≡ getD (s .greatest) k 0 → SignalTo s old (set (set row (6 + 2 * k) x) (7 + 2 * k) y) (k + 1)
-  unfolding joined
-  signal-next {old} {row} {k} t i h few {x} {y} p q =
-      let l : length (signalTo s k) ≡ 6 + 2 * k = omega (arith, pairs-length (λ j. getD (s .least) j 0) (λ j. getD (s .greatest) j 0) k) in
-      record {
-        few = omega arith;
-        old-size = t .old-size;
-        size = length-set (set row (6 + 2 * k) x) (7 + 2 * k) y ∙ length-set row (6 + 2 * k) x ∙ t .size;
-        is = ap (λ (z : List ℕ). set (set z (6 + 2 * k) x) (7 + 2 * k) y) (t .is)
-            ∙ over-pair (signalTo s k) old x y (6 + 2 * k) (7 + 2 * k) l (omega arith) (omega (arith, t .old-size))
-            ∙ rw (add-one, p, q) refl;
-      }
-
-  -- the first six are written over
-  over-six : (ns old : List ℕ) → 6 ≤ length ns → over ns (sixSet s old) ≡ over ns old
-  unfolding over
-  over-six ns old h =
-      let n = length ns in
-      ap (λ (z : List ℕ). ns ++ z)
-      (drop-set-lt n _ 5 _ (omega arith) ∙ drop-set-lt n _ 4 _ (omega arith) ∙ drop-set-lt n _ 3 _ (omega arith) ∙ drop-set-lt n _ 2 _ (omega arith) ∙ drop-set-lt n _ 1 _ (omega arith) ∙ drop-set-lt n old 0 _ (omega arith))
-
-  pub signal-all : (old : List ℕ) {row : List ℕ} {k : ℕ} → SignalTo s (sixSet s old) row k → {phases : ℕ} → phases ≡ s .phases → phases ≤ k → row ≡ over (signalNumbers s) old
-  unfolding signalNumbers
-  signal-all old {row} {k} t i h =
-      let z : k ≡ s .phases = omega (arith, t .few) in t .is ∙ ap (λ j. over (signalTo s j) (sixSet s old)) z ∙ over-six (signalTo s (s .phases)) old (omega arith)
+-- the numbers of a signal's `G` line are the front of its row
+pub signal-row : (signals : List ℕ) (r : ℕ) → signalFields * r + signalFields ≤ length signals → tableSignal signals r .phases ≤ 8
+    → take (6 + 2 * tableSignal signals r .phases) (drop (signalFields * r) signals) ≡ signalNumbers (tableSignal signals r)
+unfolding signalNumbers
+signal-row signals r h few =
+    row-front (drop (signalFields * r) signals) (omega (arith, length-drop (signalFields * r) signals)) (tableSignal signals r .phases) few
+    ∙ ap (λ s. signalTo s (tableSignal signals r .phases)) (sym same)
+  where
+    same : tableSignal signals r ≡ tableSignal (drop (signalFields * r) signals) 0
+    same =
+        unfold tableSignal in
+        numbers-same _ _
+        (λ k l. let e : signalFields * r + (signalFields * 0 + k) ≡ signalFields * r + k = omega arith in
+        sym (getD-drop (signalFields * r) signals (signalFields * 0 + k) 0 ∙ ap (λ x. getD signals x 0) e))
 
 -- ---- `fill_volumes`: the step's length, and the volumes of the first k links
 pub record VolumesTo (ledger : List ℕ) (links n : ℕ) (old row : List ℕ) (k : ℕ) : Type 0 where

@@ -3,20 +3,17 @@ use Prim.Native.Nat.{ℕ, _+_, _*_, _-_, _≤_, _<_}
 use mathlib.Core.Path.{_≡_, ap, _∙_}
 use mathlib.Core.List.{List, [], _∷_}
 use native.Mathlib.Omega.{arith}
-use lib.ListN.{length, getD, take}
-use Rattle.records.specs.Reading.{over}
-use Rattle.record_writer.specs.Records.{recordText, recordTexts}
-use Rattle.model.specs.declared.Signal.{Signal}
+use lib.ListN.{length, getD, take, drop}
+use Rattle.record_writer.specs.Records.{recordText}
 use Rattle.model.specs.Table.{letterN, letterG, letterQ, letterM}
 use Rattle.tables.specs.declared.Counts.{Counts}
-use Rattle.tables.specs.Fields.{pastSize, capacityIn, travelTimeIn, exitRateIn, signalIn, phaseMaskIn, standingIn, linkIn, rateIn, shareIn}
-use Rattle.tables.specs.Tables.{noSignal}
+use Rattle.tables.specs.Fields.{signalFields, tableSignal, pastSize, capacityIn, travelTimeIn, exitRateIn, signalIn, phaseMaskIn, standingIn, linkIn, rateIn, shareIn}
 use Rattle.carry_model.specs.Part.{signalNumbers}
 use Rattle.carry_model.proofs.Parts.{signal-length}
 use Rattle.carried_text.specs.Put.{Put, Early}
 use Rattle.carried_text.specs.Rows.{countRow, linkRow, movementRow, SignalsAsked}
-use Rattle.carried_text.proofs.Put.{LinesTo, rows-none, rows-early, rows-next, rows-all}
-use Rattle.carried_text.proofs.Filling.{front-is}
+use Rattle.carried_text.proofs.Put.{LinesTo, rows-early, rows-next}
+use Rattle.carried_text.proofs.Filling.{signal-row}
 
 pub counts-put : (counts : Counts) (b trams : ℕ) {old new : List ℕ} {end : ℕ}
     → Put 1 (recordText letterN (counts .links ∷ counts .signals ∷ counts .movements ∷ (counts .steps - b) ∷ trams ∷ (counts .past + b) ∷ [])) 0 old new end
@@ -37,35 +34,28 @@ pub movements-next : (movements : List ℕ) {count at end j : ℕ} {old out : Li
 movements-next movements t h p q r s put = rows-next t h (unfold movementRow in (rw (p, q, r, s) at put))
 
 -- the `G` line of signal k
-pub record SignalsTo (signals : List Signal) (count at : ℕ) (old row out : List ℕ) (end k : ℕ) : Type 0 where
-  pub row-size : length row ≡ 22
-  pub lines : LinesTo letterG (λ r. signalNumbers (getD signals r noSignal)) count at old out end k
+module _ {signals : List ℕ} {count at : ℕ} (asked : SignalsAsked signals count at) {old out : List ℕ} {end k : ℕ}
+    (t : LinesTo letterG (λ r. signalNumbers (tableSignal signals r)) count at old out end k) (h : k < count) {phases wide : ℕ} (p : phases ≡ tableSignal signals k .phases) (w : wide ≡ phases) where
+  pub signal-few : 6 + 2 * wide ≤ signalFields
+  signal-few = omega (arith, asked .phases k h)
 
-module _ {signals : List Signal} {count at : ℕ} {old : List ℕ} where
-  pub signals-none : {row : List ℕ} → length row ≡ 22 → SignalsTo signals count at old row old at 0
-  signals-none l = record { row-size = l; lines = rows-none }
+  pub signal-within : signalFields * k + signalFields ≤ length signals
+  signal-within = omega (arith, asked .size, asked .few)
 
-  module _ {row out : List ℕ} {end k : ℕ} (t : SignalsTo signals count at old row out end k) where
-    pub signals-all : count ≤ k → Put count (recordTexts letterG count (λ r. signalNumbers (getD signals r noSignal))) at old out end
-    signals-all h = rows-all (t .lines) h
+  abbrev stop : ℕ
+  stop = signalFields * k + (6 + 2 * wide)
 
-    module _ (asked : SignalsAsked signals count at) (h : k < count) where
-      pub signal-asked : (getD signals k noSignal .phases ≤ 8) × (length row ≡ 22)
-      signal-asked = (asked .phases k h, t .row-size)
+  -- the part of the table that is put
+  abbrev row : List ℕ
+  row = take (stop - signalFields * k) (drop (signalFields * k) signals)
 
-      module _ {filled : List ℕ} (e : filled ≡ over (signalNumbers (getD signals k noSignal)) row) {x : ℕ} (q : x ≡ getD signals k noSignal .phases) where
-        pub signal-few : 6 + 2 * x ≤ 22
-        signal-few = omega (arith, asked .phases k h)
+  same : row ≡ signalNumbers (tableSignal signals k)
+  same =
+      let e : stop - signalFields * k ≡ 6 + 2 * tableSignal signals k .phases = omega arith in
+      ap (λ x. take x (drop (signalFields * k) signals)) e ∙ signal-row signals k signal-within (asked .phases k h)
 
-        same : take (6 + 2 * x) filled ≡ signalNumbers (getD signals k noSignal)
-        same = front-is (signalNumbers (getD signals k noSignal)) row filled (6 + 2 * x) e (omega (arith, signal-length (getD signals k noSignal)))
+  pub signal-early : (length row ≤ pastSize) × Early 1 end
+  signal-early = (omega (arith, ap length same, signal-length (tableSignal signals k), asked .phases k h), rows-early t (asked .early) h)
 
-        pub signal-part : 6 + 2 * x ≡ length (take (6 + 2 * x) filled)
-        signal-part = omega (arith, ap length same, signal-length (getD signals k noSignal))
-
-        pub signal-early : (length (take (6 + 2 * x) filled) ≤ pastSize) × Early 1 end
-        signal-early = (omega (arith, signal-part, signal-few), rows-early (t .lines) (asked .early) h)
-
-        pub signals-next : length filled ≡ length row → {new : List ℕ} {next : ℕ} → Put 1 (recordText letterG (take (6 + 2 * x) filled)) end out new next
-            → SignalsTo signals count at old filled new next (k + 1)
-        signals-next l put = record { row-size = l ∙ t .row-size; lines = rows-next (t .lines) h (rw same at put) }
+  pub signals-next : {new : List ℕ} {next : ℕ} → Put 1 (recordText letterG row) end out new next → LinesTo letterG (λ r. signalNumbers (tableSignal signals r)) count at old new next (k + 1)
+  signals-next put = rows-next t h (rw same at put)

@@ -29,8 +29,7 @@ use Rattle.model.proofs.Rows.{written-at}
 use Rattle.tables.specs.declared.Counts.{Counts}
 use Rattle.tables.specs.declared.Reading.{Reading}
 use Rattle.tables.specs.Places.{Few}
-use Rattle.tables.specs.Fields.{pastSize, enteredAt, leftAt}
-use Rattle.tables.specs.Tables.{noSignal}
+use Rattle.tables.specs.Fields.{tableSignal, pastSize, enteredAt, leftAt}
 use Rattle.tables.proofs.Tables.{capacity-at, travel-time-at, exit-rate-at, signal-of-at, phase-mask-at, standing-at, from-link-at, to-link-at, rate-at, share-at}
 use Rattle.network_text.specs.NetworkText.{countNumbers, networkText}
 use Rattle.network_text.proofs.Formed.{Formed, formed-of-holds}
@@ -88,7 +87,7 @@ unfolding putAt over
 put-first text old = let z : 0 + length text ≡ length text = omega arith in rw z refl
 
 -- ---- what is asked of each block
-module _ {text : List ℕ} {reading : Reading} {b : ℕ} {signals : List Signal} {links movements waiting ledger : List ℕ} (a : CarryAsked text reading b signals links movements waiting ledger) where
+module _ {text : List ℕ} {reading : Reading} {b : ℕ} {signals links movements waiting ledger : List ℕ} (a : CarryAsked text reading b signals links movements waiting ledger) where
   abbrev net : List Line
   net = lines text
 
@@ -128,9 +127,9 @@ module _ {text : List ℕ} {reading : Reading} {b : ℕ} {signals : List Signal}
   counts-asked e = (a .counted .few, omega (arith, a .within, a .counted .steps), omega (arith, left-few, a .counted .few .trams))
 
   pub signals-asked : {at : ℕ} → Early (C .signals) at → SignalsAsked signals (C .signals) at
-  signals-asked e = record { few = a .counted .few .signals; phases = λ r l. eight r (omega (arith, a .counted .signals)); early = e }
+  signals-asked e = record { few = a .counted .few .signals; size = a .signals-size; phases = λ r l. eight r (omega (arith, a .counted .signals)); early = e }
     where
-      eight : (r : ℕ) → r < signalCount net → getD signals r noSignal .phases ≤ 8
+      eight : (r : ℕ) → r < signalCount net → tableSignal signals r .phases ≤ 8
       eight r h = unfold validPhases within in
           rw (ap (λ (s : Signal). s .phases) (a .stands .signals-at r h) ∙ same-phases net (a .plan) r b) (leb-true _ _ (and-right _ _ (valid .phases r h)))
 
@@ -242,7 +241,7 @@ module _ {text : List ℕ} {reading : Reading} {b : ℕ} {signals : List Signal}
     unfolding countRow countNumbers part onTimeline
     counts-same e = let c = a .counted in rw (c .links, c .signals, c .movements, c .steps, c .past, e) refl
 
-    signals-same : recordTexts letterG (C .signals) (λ r. signalNumbers (getD signals r noSignal)) ≡ recordTexts letterG (signalCount net) (λ r. signalNumbers (signalAt net plan b r))
+    signals-same : recordTexts letterG (C .signals) (λ r. signalNumbers (tableSignal signals r)) ≡ recordTexts letterG (signalCount net) (λ r. signalNumbers (signalAt net plan b r))
     signals-same = rw (a .counted .signals) (records-same letterG _ _ (signalCount net) (λ r l. ap signalNumbers (s .signals-at r l)))
 
     links-same : recordTexts letterQ (C .links) (linkRow links waiting) ≡ recordTexts letterQ (linkCount net) (linkNumbers net plan b (stepCount net))
@@ -298,7 +297,7 @@ module _ {text : List ℕ} {reading : Reading} {b : ℕ} {signals : List Signal}
       (counted : left ≡ length (clipped b (stepCount net) (trams net)))
       (p₁ : Put 1 (recordText letterN (countRow C b left)) 0 old o₁ e₁)
       (p₂ : Put (C .trams) (tramTexts (clipped b (stepCount net) (trams net))) e₁ o₁ o₂ e₂)
-      (p₃ : Put (C .signals) (recordTexts letterG (C .signals) (λ r. signalNumbers (getD signals r noSignal))) e₂ o₂ o₃ e₃)
+      (p₃ : Put (C .signals) (recordTexts letterG (C .signals) (λ r. signalNumbers (tableSignal signals r))) e₂ o₂ o₃ e₃)
       (p₄ : Put (C .links) (recordTexts letterQ (C .links) (linkRow links waiting)) e₃ o₃ o₄ e₄)
       (p₅ : Put (C .movements) (recordTexts letterM (C .movements) (movementRow movements)) e₄ o₄ o₅ e₅)
       (p₆ : Copied text (reading .«past_at») letterH (1 + 2 * C .links) (C .past) e₅ o₅ o₆ e₆)
@@ -307,7 +306,7 @@ module _ {text : List ℕ} {reading : Reading} {b : ℕ} {signals : List Signal}
     whole-text : (plan : List Line) → StandsAt net plan b signals waiting ledger
         → recordText letterN (countRow C b left)
         ++ (tramTexts (clipped b (stepCount net) (trams net))
-        ++ (recordTexts letterG (C .signals) (λ r. signalNumbers (getD signals r noSignal))
+        ++ (recordTexts letterG (C .signals) (λ r. signalNumbers (tableSignal signals r))
         ++ (recordTexts letterQ (C .links) (linkRow links waiting)
         ++ (recordTexts letterM (C .movements) (movementRow movements)
         ++ ((recordTexts letterH (C .past) (λ k. list (1 + 2 * C .links) (entry net (timelineLine net 0 + k)))
@@ -341,7 +340,7 @@ module _ {text : List ℕ} {reading : Reading} {b : ℕ} {signals : List Signal}
         record { long = omega (arith, p .ends, ap length e); is = λ h. p .is h ∙ put-first _ old ∙ ap (λ (x : List ℕ). over x old) e }
 
 -- ---- the text is measured, and then written if there is room
-module _ (text : List ℕ) {b : ℕ} {signals : List Signal} {waiting ledger none none′ : List ℕ} {size : ℕ} where
+module _ (text : List ℕ) {b : ℕ} {signals waiting ledger none none′ : List ℕ} {size : ℕ} where
   pub short-written : (old : List ℕ) → TextPut text b signals waiting ledger none none′ size → length old < size → TextWritten text b signals waiting ledger old TooShort old
   short-written old p h plan s =
       let e : leb (length (carriedText (lines text) plan b)) (length old) ≡ false = lt-leb (length (carriedText (lines text) plan b)) (length old) (omega (arith, p plan s .long)) in

@@ -8,30 +8,31 @@ use lib.ListN.{length, getD}
 use Rattle.search.specs.Checks.{Hold}
 use Rattle.records.specs.Lines.{Line, lines}
 use Rattle.records.specs.Reading.{Starts, over}
-use Rattle.model.specs.declared.Signal.{Signal}
 use Rattle.model.specs.Network.{maxLinks, linkCount, signalCount, stepCount, tramLine, timelineLine, stepLine}
 use Rattle.model.specs.Flows.{signalAt, waits}
 use Rattle.model.specs.Table.{networkChecks}
 use Rattle.model.specs.Calls.{written}
 use Rattle.tables.specs.declared.Reading.{Reading}
-use Rattle.tables.specs.Tables.{CountsHold, LinkTable, MovementTable, noSignal}
+use Rattle.tables.specs.Fields.{signalTableSize, tableSignal}
+use Rattle.tables.specs.Tables.{CountsHold, LinkTable, MovementTable}
 use Rattle.carry_model.specs.Part.{carriedText}
 use Rattle.carried_text.specs.declared.CarriedAnswer.{CarriedAnswer}
 use Rattle.carried_text.specs.declared.CarriedAnswer.the-variants.{Written, TooShort}
 
 -- the signals, those who wait, and the ledger's rows at boundary b of a plan
-pub record StandsAt (network plan : List Line) (b : ℕ) (signals : List Signal) (waiting ledger : List ℕ) : Type 0 where
-  pub signals-at : (r : ℕ) → r < signalCount network → getD signals r noSignal ≡ signalAt network plan b r
+pub record StandsAt (network plan : List Line) (b : ℕ) (signals waiting ledger : List ℕ) : Type 0 where
+  pub signals-at : (r : ℕ) → r < signalCount network → tableSignal signals r ≡ signalAt network plan b r
   pub waiting-at : (i : ℕ) → i < linkCount network → getD waiting i 0 ≡ waits network plan b i
   pub rows : ledger ≡ written network plan ledger (suc b)
 
 -- a network text that has passed, with its tables and where its lines start, and how it stands at a boundary of some plan
-pub record CarryAsked (text : List ℕ) (reading : Reading) (b : ℕ) (signals : List Signal) (links movements waiting ledger : List ℕ) : Type 0 where
+pub record CarryAsked (text : List ℕ) (reading : Reading) (b : ℕ) (signals links movements waiting ledger : List ℕ) : Type 0 where
   pub holds : Hold (networkChecks (lines text))
   pub counted : CountsHold (lines text) (reading .counts)
   pub trams-start : Starts text (reading .«trams_at») (tramLine (lines text) 0)
   pub past-start : Starts text (reading .«past_at») (timelineLine (lines text) 0)
   pub steps-start : Starts text (reading .«steps_at») (stepLine (lines text) 0)
+  pub signals-size : length signals ≡ signalTableSize
   pub link-table : LinkTable (lines text) links
   pub movement-table : MovementTable (lines text) movements
   pub waiting-size : length waiting ≡ maxLinks
@@ -45,7 +46,7 @@ pub record PutWhole (text old new : List ℕ) (size : ℕ) : Type 0 where
   pub long : size ≡ length text
   pub is : size ≤ length old → new ≡ over text old
 
-abbrev pub TextPut : List ℕ → ℕ → List Signal → List ℕ → List ℕ → List ℕ → List ℕ → ℕ → Type 0
+abbrev pub TextPut : List ℕ → ℕ → List ℕ → List ℕ → List ℕ → List ℕ → List ℕ → ℕ → Type 0
 TextPut text b signals waiting ledger old new size =
     (plan : List Line) → StandsAt (lines text) plan b signals waiting ledger → PutWhole (carriedText (lines text) plan b) old new size
 
@@ -54,6 +55,6 @@ pub record WrittenWhole (text old : List ℕ) (answer : CarriedAnswer) (new : Li
   pub answered : answer ≡ cond (leb (length text) (length old)) (Written (length text)) TooShort
   pub holds : new ≡ cond (leb (length text) (length old)) (over text old) old
 
-abbrev pub TextWritten : List ℕ → ℕ → List Signal → List ℕ → List ℕ → List ℕ → CarriedAnswer → List ℕ → Type 0
+abbrev pub TextWritten : List ℕ → ℕ → List ℕ → List ℕ → List ℕ → List ℕ → CarriedAnswer → List ℕ → Type 0
 TextWritten text b signals waiting ledger old answer new =
     (plan : List Line) → StandsAt (lines text) plan b signals waiting ledger → WrittenWhole (carriedText (lines text) plan b) old answer new

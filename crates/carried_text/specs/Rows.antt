@@ -7,14 +7,12 @@ use lib.ListN.{length, getD}
 use Rattle.records.specs.Lines.{lines}
 use Rattle.records.specs.Reading.{Starts}
 use Rattle.record_writer.specs.Records.{recordTexts}
-use Rattle.model.specs.declared.Signal.{Signal}
 use Rattle.model.specs.Sum.{list, joined}
 use Rattle.model.specs.Network.{maxLinks, maxSignals, maxMovements, maxSteps, entry}
 use Rattle.model.specs.Table.{isForm, letterH, letterS}
 use Rattle.tables.specs.declared.Counts.{Counts}
-use Rattle.tables.specs.Fields.{linkTableSize, movementTableSize, pastSize, capacityIn, travelTimeIn, exitRateIn, signalIn, phaseMaskIn, standingIn, linkIn, rateIn, shareIn, enteredAt, leftAt}
+use Rattle.tables.specs.Fields.{signalTableSize, tableSignal, linkTableSize, movementTableSize, pastSize, capacityIn, travelTimeIn, exitRateIn, signalIn, phaseMaskIn, standingIn, linkIn, rateIn, shareIn, enteredAt, leftAt}
 use Rattle.tables.specs.Rows.{LineHeld}
-use Rattle.tables.specs.Tables.{noSignal}
 use Rattle.carried_text.specs.declared.Places.{Places}
 use Rattle.carried_text.specs.Put.{Put, Early}
 
@@ -49,9 +47,10 @@ Copied text from letter width count at old new end =
     (first : ℕ) → Starts text from first → ((k : ℕ) → k < count → isForm (lines text) (first + k) letter width ≡ true)
     → Put count (recordTexts letter count (λ k. list width (entry (lines text) (first + k)))) at old new end
 
-pub record SignalsAsked (signals : List Signal) (count at : ℕ) : Type 0 where
+pub record SignalsAsked (signals : List ℕ) (count at : ℕ) : Type 0 where
   pub few : count ≤ maxSignals
-  pub phases : (r : ℕ) → r < count → getD signals r noSignal .phases ≤ 8
+  pub size : length signals ≡ signalTableSize
+  pub phases : (r : ℕ) → r < count → tableSignal signals r .phases ≤ 8
   pub early : Early count at
 
 pub record LinksAsked (links waiting : List ℕ) (count at : ℕ) : Type 0 where

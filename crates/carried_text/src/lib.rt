@@ -11,22 +11,18 @@ ghost use Rattle.model.specs.Sum.{joined};
 ghost use Rattle.model.specs.Network.{maxTrams, stepCount, trams};
 ghost use Rattle.model.specs.Table.{letterN, letterG, letterQ, letterM};
 ghost use Rattle.tables.specs.Places.{Few};
-ghost use Rattle.tables.specs.Fields.{pastSize, tramFields};
-ghost use Rattle.tables.specs.Tables.{noSignal};
+ghost use Rattle.tables.specs.Fields.{tramFields, tableSignal, pastSize};
 ghost use Rattle.carry_model.specs.Part.{clipped, signalNumbers};
 ghost use Rattle.carried_text.specs.Put.{Put, Early};
 ghost use Rattle.carried_text.specs.Rows.{countRow, linkRow, movementRow, volumesIn, ReadAgain, Copied, SignalsAsked, LinksAsked, MovementsAsked, Rising, VolumesAsked, StepsPut};
 ghost use Rattle.carried_text.specs.Carried.{CarryAsked, TextPut, TextWritten};
 ghost use Rattle.carried_text.specs.Trams.{leftOf, tramTexts, TramsAsked};
-use model::Signal;
 use records::LineRead;
 use tables::Counts;
 use tables::PAST_SIZE;
 use tables::Reading;
+use tables::SIGNAL_FIELDS;
 use tables::TRAM_FIELDS;
-
-// How many numbers a `G` line has at most: six, and two for each phase.
-const SIGNAL_SIZE: usize = 6 + 2 * 8;
 
 // The answer: how long the written text is, or that the buffer is too short for it.
 pub enum CarriedAnswer {
@@ -198,39 +194,17 @@ fn put_trams(
     end
 }
 
-// A signal's numbers, as its `G` line has them, go to the front of a row.
-fn fill_signal(signal: Signal, row: &mut [u32])
-    requires { ⌜ (signal .phases ≤ 8) × (length (now row) ≡ 22) ⌝ }
-    ensures { λ _. ⌜ now (row .exit) ≡ over (signalNumbers signal) (now (row .entry)) ⌝ }
+// Puts the `G` lines, with the signals as they stand at the boundary: each is the front of its row, as far as its phases go.
+fn put_signals(signals: &[u32], count: usize, out: &mut [u8], at: usize) -> usize
+    requires { ⌜ SignalsAsked (now signals) count at ⌝ }
+    ensures { λ r. ⌜ Put count (recordTexts letterG count (λ k. signalNumbers (tableSignal (now (signals .entry)) k))) at (now (out .entry)) (now (out .exit)) r ⌝ }
 {
-    row[0] = signal.least_cycle;
-    row[1] = signal.greatest_cycle;
-    row[2] = signal.phases;
-    row[3] = signal.shown;
-    row[4] = signal.shown_for;
-    row[5] = signal.cycle_clock;
-    let phases = tables::index(signal.phases);
-    let mut k = 0;
-    while k < phases {
-        row[6 + 2 * k] = signal.least[k];
-        row[7 + 2 * k] = signal.greatest[k];
-        k += 1;
-    }
-}
-
-// Puts the `G` lines, with the signals as they stand at the boundary.
-fn put_signals(signals: [Signal; 8], count: usize, out: &mut [u8], at: usize) -> usize
-    requires { ⌜ SignalsAsked signals count at ⌝ }
-    ensures { λ r. ⌜ Put count (recordTexts letterG count (λ k. signalNumbers (getD signals k noSignal))) at (now (out .entry)) (now (out .exit)) r ⌝ }
-{
-    let mut row = [0u32; SIGNAL_SIZE];
     let mut end = at;
     let mut k = 0;
     while k < count {
-        let signal = signals[k];
-        fill_signal(signal, &mut row);
-        let width = 6 + 2 * tables::index(signal.phases);
-        end = put_line(b'G', &row[..width], out, end);
+        let start = SIGNAL_FIELDS * k;
+        let stop = start + (6 + 2 * tables::index(tables::phase_count(signals, k)));
+        end = put_line(b'G', &signals[start..stop], out, end);
         k += 1;
     }
     end
@@ -326,15 +300,15 @@ fn put_network(
     network: &[u8],
     reading: Reading,
     boundary: usize,
-    signals: [Signal; 8],
+    signals: &[u32],
     links: &[u32],
     movements: &[u32],
     waiting: &[u32],
     ledger: &[u32],
     out: &mut [u8],
 ) -> usize
-    requires { ⌜ CarryAsked (now network) reading boundary signals (now links) (now movements) (now waiting) (now ledger) ⌝ }
-    ensures { λ r. ⌜ TextPut (now (network .entry)) boundary signals (now (waiting .entry)) (now (ledger .entry)) (now (out .entry)) (now (out .exit)) r ⌝ }
+    requires { ⌜ CarryAsked (now network) reading boundary (now signals) (now links) (now movements) (now waiting) (now ledger) ⌝ }
+    ensures { λ r. ⌜ TextPut (now (network .entry)) boundary (now (signals .entry)) (now (waiting .entry)) (now (ledger .entry)) (now (out .entry)) (now (out .exit)) r ⌝ }
 {
     let counts = reading.counts;
     let left = count_trams(network, reading.trams_at, counts.trams, boundary);
@@ -372,15 +346,15 @@ pub fn write_carried(
     network: &[u8],
     reading: Reading,
     boundary: usize,
-    signals: [Signal; 8],
+    signals: &[u32],
     links: &[u32],
     movements: &[u32],
     waiting: &[u32],
     ledger: &[u32],
     out: &mut [u8],
 ) -> CarriedAnswer
-    requires { ⌜ CarryAsked (now network) reading boundary signals (now links) (now movements) (now waiting) (now ledger) ⌝ }
-    ensures { λ r. ⌜ TextWritten (now (network .entry)) boundary signals (now (waiting .entry)) (now (ledger .entry)) (now (out .entry)) r (now (out .exit)) ⌝ }
+    requires { ⌜ CarryAsked (now network) reading boundary (now signals) (now links) (now movements) (now waiting) (now ledger) ⌝ }
+    ensures { λ r. ⌜ TextWritten (now (network .entry)) boundary (now (signals .entry)) (now (waiting .entry)) (now (ledger .entry)) (now (out .entry)) r (now (out .exit)) ⌝ }
 {
     let mut nowhere = [0u8; 1];
     let length = put_network(

@@ -8,7 +8,7 @@ use native.Mathlib.Numerals.{add-one}
 use native.Mathlib.Omega.{arith}
 use borrow.Author.Tests.{le-leb, lt-leb, eq-eqb}
 use lib.Dec.{leb, eqb}
-use lib.ListN.{length, getD}
+use lib.ListN.{length, getD, replicate, length-replicate}
 use lib.Seq.{getD-take}
 use Rattle.search.specs.declared.Refusal.{Refusal}
 use Rattle.search.specs.declared.Verdict.{Verdict}
@@ -18,7 +18,6 @@ use Rattle.search.proofs.Laws.{passes-of-hold, hold-of-passes, or-else-passes, 
 use Rattle.records.specs.Lines.{Line, noLine, split, linesOf, lines, number}
 use Rattle.records.specs.Reading.{Starts, atEnd, over}
 use Rattle.records.proofs.Laws.{some-lines, starts-end, end-of-none}
-use Rattle.model.specs.declared.Signal.{Signal}
 use Rattle.model.specs.Test.{_and_, within}
 use Rattle.model.specs.Network.{entry, maxLinks, linkCount, stepCount}
 use Rattle.model.specs.Flows.{offered, waits}
@@ -32,13 +31,13 @@ use Rattle.model.proofs.Written.{refused-fails, rows-none, rows-until}
 use Rattle.tables.specs.declared.Reading.{Reading}
 use Rattle.tables.specs.declared.Stage.{Stage}
 use Rattle.tables.specs.declared.Stage.the-variants as stages
+use Rattle.tables.specs.Fields.{signalTableSize}
 use Rattle.tables.specs.Tables.{Judged}
 use Rattle.tables.proofs.Stages.{verdict-refused}
-use Rattle.network_signals.specs.Stages as signal-stages
 use Rattle.network.specs.Loading.{Loaded}
 use Rattle.plan_steps.specs.declared.Taken.{Taken}
 use Rattle.plan_steps.specs.Steps as steps
-use Rattle.plan_steps.proofs.Runs.{lines-within}
+use Rattle.plan_steps.proofs.Runs.{zeros-blank, lines-within}
 use Rattle.plan_steps.proofs.Ledger.{written-again}
 use Rattle.carried_text.specs.declared.CarriedAnswer.{CarriedAnswer}
 use Rattle.carried_text.specs.declared.CarriedAnswer.the-variants as carried-answers
@@ -193,13 +192,17 @@ module _ (networkText planText : List ℕ) (b : ℕ) (buffer : List ℕ) {readin
       let d = cut-due network b is-valid (a .first) (a .last) whole first same (length ledger) n h (a .room) (λ m l. hold-of-passes (lineChecks network whole m) (passed m l)) in
       rows ∙ sym (cut-written network b is-valid (a .first) (a .last) whole first same ledger (suc n) (omega arith)) ∙ ap (written (cut network b) first ledger) (sym (rows-until (cut network b) first (length ledger) n d last))
 
-  pub steps-asked : {waiting : List ℕ} → length waiting ≡ maxLinks → steps.StepsAsked networkText planText reading b links movements times waiting ledger
+  pub steps-asked : {signals : List ℕ} → signals ≡ replicate signalTableSize 0 → {waiting : List ℕ} → length waiting ≡ maxLinks → steps.StepsAsked networkText planText reading b links movements times signals waiting ledger
   unfolding Hold networkChecks
-  steps-asked size =
+  steps-asked {signals} zeros size =
       let loaded = a .loaded in
       record {
         tables = record { holds = loaded .holds; counted = loaded .counted; trams-start = loaded .trams-start; link-table = loaded .link-table; movement-table = loaded .movement-table; time-table = loaded .time-table };
-        signals-asked = record { starts = loaded .signals-start; counted = loaded .counted; passed = passes-of-hold _ (loaded .holds .1 .1 .0) };
+        signals-asked = record {
+          on-text = record { starts = loaded .signals-start; counted = loaded .counted; passed = passes-of-hold _ (loaded .holds .1 .1 .0) };
+          size = rw zeros (length-replicate {A = ℕ} signalTableSize 0);
+          blank = zeros-blank signals zeros;
+        };
         past-start = loaded .past-start;
         steps-start = loaded .steps-start;
         few-steps = omega (arith, a .last);
@@ -207,7 +210,7 @@ module _ (networkText planText : List ℕ) (b : ℕ) (buffer : List ℕ) {readin
         room = a .room;
       }
 
-  module _ {taken : Taken} {waiting ledger′ : List ℕ} (got : steps.StepsGot networkText planText ledger b taken waiting ledger′) where
+  module _ {taken : Taken} {signals waiting ledger′ : List ℕ} (got : steps.StepsGot networkText planText ledger b taken signals waiting ledger′) where
     -- a step is refused
     pub step-refused : {r : Refusal} → taken .verdict ≡ verdicts.Refused r → CarryGot networkText planText b ledger ledger′ buffer buffer (Refused r)
     step-refused {r} e =
@@ -220,7 +223,7 @@ module _ (networkText planText : List ℕ) (b : ℕ) (buffer : List ℕ) {readin
         (s .rows))
 
     module _ (p : taken .verdict ≡ verdicts.Passes) where
-      all : steps.AllTaken networkText planText ledger b (taken .state) waiting ledger′
+      all : steps.AllTaken networkText planText ledger b (taken .state) signals waiting ledger′
       all = got .reached p
 
       rows-all : ledger′ ≡ ledgerAfter (cut network b) first ledger
@@ -247,7 +250,7 @@ module _ (networkText planText : List ℕ) (b : ℕ) (buffer : List ℕ) {readin
       unfolding entry
       agree n k h = ap (λ (l : Line). number l k) (sym (same n h))
 
-      stands : StandsAt network first b (taken .state .signals) waiting ledger′
+      stands : StandsAt network first b signals waiting ledger′
       unfolding waits
       stands =
           record {
@@ -261,7 +264,7 @@ module _ (networkText planText : List ℕ) (b : ℕ) (buffer : List ℕ) {readin
               sym (cut-written network b is-valid (a .first) (a .last) whole first same old (suc b) (omega arith))
               ∙ cut-written network b is-valid (a .first) (a .last) first first (λ n h. refl) old (suc b) (omega arith)
 
-      pub write-asked : length ledger′ ≡ length ledger → CarryAsked networkText reading b (taken .state .signals) links movements waiting ledger′
+      pub write-asked : length ledger′ ≡ length ledger → CarryAsked networkText reading b signals links movements waiting ledger′
       write-asked long =
           let loaded = a .loaded in
           record {
@@ -270,6 +273,7 @@ module _ (networkText planText : List ℕ) (b : ℕ) (buffer : List ℕ) {readin
             trams-start = loaded .trams-start;
             past-start = loaded .past-start;
             steps-start = loaded .steps-start;
+            signals-size = all .signals-at .size;
             link-table = loaded .link-table;
             movement-table = loaded .movement-table;
             waiting-size = all .waiting-at .size;
@@ -280,7 +284,7 @@ module _ (networkText planText : List ℕ) (b : ℕ) (buffer : List ℕ) {readin
           }
 
       module _ (e : atEnd planText (taken .state .«plan_at») ≡ true) {answer : CarriedAnswer} {buffer′ : List ℕ}
-          (text : TextWritten networkText b (taken .state .signals) waiting ledger′ buffer answer buffer′) where
+          (text : TextWritten networkText b signals waiting ledger′ buffer answer buffer′) where
         accepted : verdict (planChecks (cut network b) first (length ledger)) ≡ verdicts.Passes
         accepted = lines-judged ∙ checked-passes _ 9 (suc b) 0 (sym at-end ∙ e)
 

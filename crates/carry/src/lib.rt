@@ -12,6 +12,7 @@ use tables::LINK_TABLE_SIZE;
 use tables::MAX_LINKS;
 use tables::MOVEMENT_TABLE_SIZE;
 use tables::Reading;
+use tables::SIGNAL_TABLE_SIZE;
 use tables::Stage;
 use tables::TIME_TABLE_SIZE;
 
@@ -30,6 +31,7 @@ fn carry_steps(
     requires { ⌜ StepsAsked (now network) boundary reading (now links) (now movements) (now times) (now ledger) ⌝ }
     ensures { λ r. ⌜ CarryGot (now (network .entry)) (now (plan .entry)) boundary (now (ledger .entry)) (now (ledger .exit)) (now (carried .entry)) (now (carried .exit)) r ⌝ }
 {
+    let mut signals = [0u32; SIGNAL_TABLE_SIZE];
     let mut waiting = [0u32; MAX_LINKS];
     let taken = plan_steps::take_steps(
         network,
@@ -39,6 +41,7 @@ fn carry_steps(
         links,
         movements,
         times,
+        &mut signals,
         &mut waiting,
         ledger,
     );
@@ -49,12 +52,11 @@ fn carry_steps(
     if !records::is_end(plan, taken.state.plan_at) {
         return CarryAnswer::Refused(Refusal::new(9, boundary + 1, 0));
     }
-    let signals = taken.state.signals;
     match carried_text::write_carried(
         network,
         reading,
         boundary,
-        signals,
+        &signals,
         links,
         movements,
         &waiting,

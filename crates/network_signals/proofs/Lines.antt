@@ -26,10 +26,11 @@ use Rattle.tables.specs.declared.Reading.{Reading}
 use Rattle.tables.specs.declared.Stage.the-variants.{Passed, Refused}
 use Rattle.tables.specs.Places.{signalLineIn}
 use Rattle.tables.specs.Rows.{RowRead, HeadRead}
+use Rattle.tables.specs.Fields.{signalFields}
 use Rattle.tables.specs.Tables.{Judged, movedTo}
 use Rattle.tables.proofs.Places.{signal-line-is}
 use Rattle.tables.proofs.Stages.{judged-refused, judged-passed}
-use Rattle.network_signals.specs.Signals.{headFields, signalFields, signalFrom}
+use Rattle.network_signals.specs.Signals.{headFields, signalFrom}
 use Rattle.network_signals.specs.Stages.{SignalAsked, SignalHeld}
 use Rattle.network_signals.proofs.Values.{signal-read}
 

@@ -1,16 +1,16 @@
 -- The turns and the returns of the loops over the `G` lines, each in the form of a need. Assumes nothing.
-use Prim.Native.Nat.{ℕ, _+_, _≤_, _<_}
+use Prim.Native.Nat.{ℕ, _+_, _-_, _*_, _≤_, _<_}
 use mathlib.Core.Path.{_≡_, refl, ap, _∙_}
 use mathlib.Core.Logic.{⊎-elim}
-use mathlib.Core.List.{List}
+use mathlib.Core.List.{List, _++_}
 use native.Mathlib.Decide.{decLe}
 use native.Mathlib.Nat.{eq-or-lt-of-le, le-of-suc-le-suc}
 use native.Mathlib.Numerals.{add-one}
 use native.Mathlib.Omega.{arith}
 use borrow.Author.Tests.{le-leb}
 use lib.Dec.{leb}
-use lib.ListN.{length, getD, set, replicate, length-set, length-replicate, getD-replicate, List·getD-eq-default}
-use lib.Seq.{getD-set-same, getD-set-other}
+use lib.ListN.{length, take, drop, getD, set, replicate, length-set, getD-replicate, List·getD-eq-default, List·getD-append}
+use lib.Seq.{getD-set-same, getD-set-other, getD-take, getD-drop}
 use Rattle.search.specs.declared.Refusal.{Refusal}
 use Rattle.search.specs.Checks.{verdict}
 use Rattle.search.proofs.Laws.{first-all}
@@ -24,11 +24,14 @@ use Rattle.tables.specs.declared.Reading.{Reading}
 use Rattle.tables.specs.declared.Stage.{Stage}
 use Rattle.tables.specs.declared.Stage.the-variants.{Passed, Refused}
 use Rattle.tables.specs.Blocks.{blockChecks, ReadTo, signalBlock}
-use Rattle.tables.specs.Tables.{Judged, noSignal, SignalTable, movedTo}
+use Rattle.tables.specs.Fields.{signalFields, signalTableSize, tableSignal}
+use Rattle.tables.specs.Tables.{Judged, SignalTable, movedTo}
 use Rattle.tables.proofs.Places.{links-after-signals}
+use Rattle.tables.proofs.Rows.{part-long, part-past, part-below, part-above, part-size}
+use Rattle.tables.proofs.Signals.{numbers-same}
 use Rattle.tables.proofs.Blocks.{passed-all, passed-stop, block-begin, block-end, block-next}
 use Rattle.tables.proofs.Stages.{judged-refused, judged-passed, verdict-passed, verdict-refused}
-use Rattle.network_signals.specs.Signals.{headFields, signalFields, signalFrom, shortestTime}
+use Rattle.network_signals.specs.Signals.{headFields, signalFrom, shortestTime}
 use Rattle.network_signals.specs.Stages.{Clear, SignalAsked, SignalHeld, SignalsAsked, SignalsHeld, LoadAsked}
 use Rattle.network_signals.proofs.Values.{shortest-all}
 
@@ -132,44 +135,82 @@ module _ {text : List ℕ} {reading : Reading} {phases₀ : List ℕ} (asked : S
             }
 
 -- ---- the lines are loaded
--- the first r of them are loaded
-pub record LoadedTo (text : List ℕ) (signals : List Signal) (at r : ℕ) : Type 0 where
+-- the first r of them are loaded, and the rows of the others are 0
+pub record LoadedTo (text signals : List ℕ) (at r : ℕ) : Type 0 where
   pub within : r ≤ signalCount (lines text)
   pub starts : Starts text at (signalLine (lines text) r)
-  pub size : length signals ≡ maxSignals
-  pub holds : (i : ℕ) → i < r → getD signals i noSignal ≡ signal (lines text) i
+  pub size : length signals ≡ signalTableSize
+  pub holds : (i : ℕ) → i < r → tableSignal signals i ≡ signal (lines text) i
+  pub blank : (k : ℕ) → signalFields * r ≤ k → getD signals k 0 ≡ 0
 
-module _ {text : List ℕ} {reading : Reading} (asked : LoadAsked text reading) where
-  pub loaded-none : (s : Signal) → LoadedTo text (replicate maxSignals s) (reading .«signals_at») 0
-  loaded-none s = record { within = omega arith; starts = asked .starts; size = length-replicate maxSignals s; holds = λ i h. absurd (omega arith) }
+module _ {text : List ℕ} {reading : Reading} {signals₀ : List ℕ} (asked : LoadAsked text reading signals₀) where
+  pub loaded-none : LoadedTo text signals₀ (reading .«signals_at») 0
+  loaded-none =
+      record { within = omega arith; starts = asked .on-text .starts; size = asked .size; holds = λ i h. absurd (omega arith); blank = λ k l. asked .blank k }
 
-  module _ {signals : List Signal} {at r : ℕ} (inv : LoadedTo text signals at r) where
+  module _ {signals : List ℕ} {at r : ℕ} (inv : LoadedTo text signals at r) where
     pub loaded-all : reading .counts .signals ≤ r → SignalTable (lines text) signals
     loaded-all h =
-        let end : r ≡ signalCount (lines text) = omega (arith, inv .within, asked .counted .signals) in
+        let end : r ≡ signalCount (lines text) = omega (arith, inv .within, asked .on-text .counted .signals) in
         record { size = inv .size; holds = rw end at (inv .holds) }
 
     module _ (h : r < reading .counts .signals) where
-      pub loaded-asked : {moved : Reading} → moved ≡ movedTo reading at → SignalAsked text moved r (replicate signalFields 0)
-      loaded-asked e = rw e (record { starts = inv .starts; counted = asked .counted; few = omega (arith, asked .counted .few .signals); clear = zeros-clear })
+      -- the row of signal r
+      abbrev row : List ℕ
+      row = take (signalFields * r + signalFields - signalFields * r) (drop (signalFields * r) signals)
 
-      module _ {fields : List ℕ} {stage : Stage} (got : Judged (signalChecks (lines text) r) (SignalHeld text r fields) stage) where
-        pub loaded-next : {passed : Reading} → stage ≡ Passed passed → {s : Signal} → s ≡ signalFrom fields → LoadedTo text (set signals r s) (passed .next) (r + 1)
-        loaded-next {passed} e {s} q =
+      pub row-within : signalFields * r + signalFields ≤ length signals
+      row-within = omega (arith, inv .size, asked .on-text .counted .few .signals)
+
+      row-clear : Clear headFields row
+      row-clear =
+          record {
+            size = part-long signals row (signalFields * r) signalFields row-within refl;
+            rest = λ k l. elim (decLe signalFields k) [
+              | yes g ↦ List·getD-eq-default row 0 (omega (arith, part-long signals row (signalFields * r) signalFields row-within refl))
+              | no g ↦ getD-take (signalFields * r + signalFields - signalFields * r) (drop (signalFields * r) signals) k 0 (omega arith)
+                  ∙ getD-drop (signalFields * r) signals k 0
+                  ∙ inv .blank (signalFields * r + k) (omega arith)
+            ];
+          }
+
+      pub loaded-asked : {moved : Reading} → moved ≡ movedTo reading at → SignalAsked text moved r row
+      loaded-asked e = rw e (record { starts = inv .starts; counted = asked .on-text .counted; few = omega (arith, asked .on-text .counted .few .signals); clear = row-clear })
+
+      module _ {fields : List ℕ} (kept : length fields ≡ length row) {stage : Stage} (got : Judged (signalChecks (lines text) r) (SignalHeld text r fields) stage) where
+        -- the table with the row read
+        abbrev next : List ℕ
+        next = take (signalFields * r) signals ++ (fields ++ drop (signalFields * r + signalFields - signalFields * r) (drop (signalFields * r) signals))
+
+        next-size : length next ≡ signalTableSize
+        next-size = part-size signals fields (signalFields * r) signalFields row-within kept ∙ inv .size
+
+        read-here : tableSignal next r ≡ signalFrom fields
+        unfolding tableSignal
+        read-here =
+            numbers-same _ _
+            (λ k l. part-past signals fields (signalFields * r) signalFields row-within kept k
+            ∙ List·getD-append fields _ 0 k (omega (arith, kept, part-long signals fields (signalFields * r) signalFields row-within kept)))
+
+        kept-below : (i : ℕ) → i < r → tableSignal next i ≡ tableSignal signals i
+        unfolding tableSignal
+        kept-below i j = numbers-same _ _ (λ k l. part-below signals fields (signalFields * r) signalFields row-within kept (signalFields * i + k) (omega arith))
+
+        pub loaded-next : {passed : Reading} → stage ≡ Passed passed → LoadedTo text next (passed .next) (r + 1)
+        loaded-next {passed} e =
             record {
-              within = omega (arith, asked .counted .signals);
+              within = omega (arith, asked .on-text .counted .signals);
               starts = rw add-one (got .held passed e .starts);
-              size = length-set signals r s ∙ inv .size;
-              holds = below-next (λ i. getD (set signals r s) i noSignal ≡ signal (lines text) i) r
-                  (λ i j. getD-set-other signals r i s noSignal (λ z. omega arith) ∙ inv .holds i j)
-                  (getD-set-same signals r s noSignal (omega (arith, inv .size, asked .counted .few .signals)) ∙ line-signal got e q);
+              size = next-size;
+              holds = below-next (λ i. tableSignal next i ≡ signal (lines text) i) r (λ i j. kept-below i j ∙ inv .holds i j) (read-here ∙ got .held passed e .signals);
+              blank = λ k l. part-above signals fields (signalFields * r) signalFields row-within kept k (omega arith) ∙ inv .blank k (omega arith);
             }
 
         -- lines that have passed are not refused
-        pub loaded-stop : {q : Refusal} → stage ≡ Refused q → SignalTable (lines text) signals
+        pub loaded-stop : {q : Refusal} → stage ≡ Refused q → SignalTable (lines text) next
         unfolding verdict
         loaded-stop e =
-            let one = first-all (λ i. verdict (signalChecks (lines text) i)) (signalCount (lines text)) (asked .passed) r (omega (arith, asked .counted .signals)) in
+            let one = first-all (λ i. verdict (signalChecks (lines text) i)) (signalCount (lines text)) (asked .on-text .passed) r (omega (arith, asked .on-text .counted .signals)) in
             let other = verdict-refused got e in
             let z : _≡_ {A = ℕ} 0 1 = cc in
             absurd (omega arith)

@@ -14,7 +14,8 @@ use Rattle.model.specs.Test.{_and_, _or_, within, every}
 use Rattle.model.specs.Sum.{list}
 use Rattle.model.specs.Network.{entry, signalLine, signal}
 use Rattle.model.specs.Rules.{validSignal}
-use Rattle.network_signals.specs.Signals.{signalBy, signalFrom, validTime, validTimes, lesser, shortestTime}
+use Rattle.tables.specs.Fields.{signalBy}
+use Rattle.network_signals.specs.Signals.{signalFrom, validTime, validTimes, lesser, shortestTime}
 
 -- the times of one phase more
 pub times-more : (s : Signal) (k : ℕ) (valid time : Bool) → valid ≡ validTimes s k → time ≡ validTime (getD (s .least) k 0) (getD (s .greatest) k 0)

@@ -1,34 +1,18 @@
 -- What is read of the `G` lines. Assumes nothing.
 use Prim.Native.Nat.{ℕ, zero, suc}
 use mathlib.Core.Bool.{Bool, cond}
-use mathlib.Core.List.{List, [], _∷_}
+use mathlib.Core.List.{List}
 use lib.Dec.{leb, ltb}
 use lib.ListN.{getD}
 use Rattle.model.specs.declared.Signal.{Signal}
 use Rattle.model.specs.Test.{_and_, within, every}
+use Rattle.tables.specs.Fields.{signalBy}
 
--- how many numbers a `G` line has before those of its phases, and at most
+-- how many numbers a `G` line has before those of its phases
 abbrev pub headFields : ℕ
 headFields = 6
 
-abbrev pub signalFields : ℕ
-signalFields = 22
-
--- a signal by its numbers
-abbrev pub signalBy : (ℕ → ℕ) → Signal
-signalBy number =
-    record {
-      «least_cycle» = number 0;
-      «greatest_cycle» = number 1;
-      phases = number 2;
-      shown = number 3;
-      «shown_for» = number 4;
-      «cycle_clock» = number 5;
-      least = number 6 ∷ number 8 ∷ number 10 ∷ number 12 ∷ number 14 ∷ number 16 ∷ number 18 ∷ number 20 ∷ [];
-      greatest = number 7 ∷ number 9 ∷ number 11 ∷ number 13 ∷ number 15 ∷ number 17 ∷ number 19 ∷ number 21 ∷ [];
-    }
-
--- by those of a `G` line, where what the line lacks of eight phases is 0
+-- a signal by the numbers of a `G` line, where what the line lacks of eight phases is 0
 abbrev pub signalFrom : List ℕ → Signal
 signalFrom fields = signalBy (λ k. getD fields k 0)
 

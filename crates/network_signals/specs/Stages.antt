@@ -9,9 +9,10 @@ use Rattle.records.specs.Lines.{lines}
 use Rattle.records.specs.Reading.{Starts}
 use Rattle.model.specs.Network.{maxSignals, tramLine, signalLine, linkLine, signal}
 use Rattle.tables.specs.declared.Reading.{Reading}
+use Rattle.tables.specs.Fields.{signalFields, signalTableSize}
 use Rattle.tables.specs.Blocks.{blockChecks, signalBlock}
 use Rattle.tables.specs.Tables.{CountsHold, PhaseTable, Reached}
-use Rattle.network_signals.specs.Signals.{headFields, signalFields, signalFrom}
+use Rattle.network_signals.specs.Signals.{headFields, signalFrom}
 
 -- the numbers of one `G` line from n on are 0
 pub record Clear (n : ℕ) (fields : List ℕ) : Type 0 where
@@ -43,8 +44,14 @@ pub record SignalsHeld (text phases : List ℕ) (reading : Reading) : Type 0 whe
   pub reached : Reached text (linkLine (lines text) 0) reading
   pub phase-table : PhaseTable (lines text) phases
 
--- `G` lines that have passed are loaded again
-pub record LoadAsked (text : List ℕ) (reading : Reading) : Type 0 where
+-- `G` lines that have passed
+pub record SignalsPassed (text : List ℕ) (reading : Reading) : Type 0 where
   pub starts : Starts text (reading .«signals_at») (signalLine (lines text) 0)
   pub counted : CountsHold (lines text) (reading .counts)
   pub passed : verdict (blockChecks (signalBlock (lines text))) ≡ Passes
+
+-- they are loaded again, into a table of zeros
+pub record LoadAsked (text : List ℕ) (reading : Reading) (signals : List ℕ) : Type 0 where
+  pub on-text : SignalsPassed text reading
+  pub size : length signals ≡ signalTableSize
+  pub blank : (k : ℕ) → getD signals k 0 ≡ 0

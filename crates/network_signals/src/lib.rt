@@ -6,10 +6,11 @@ ghost use Rattle.records.specs.Lines.{lines};
 ghost use Rattle.model.specs.Test.{within};
 ghost use Rattle.model.specs.Rules.{validSignal};
 ghost use Rattle.model.specs.Table.{countChecks, signalChecks};
+ghost use Rattle.tables.specs.Fields.{signalFields};
 ghost use Rattle.tables.specs.Tables.{Judged, SignalTable};
 ghost use Rattle.tables.specs.Blocks.{blockChecks, signalBlock};
 ghost use Rattle.network_signals.specs.Counts.{countFields, countsFrom, validCountsIn, CountsHeld};
-ghost use Rattle.network_signals.specs.Signals.{signalFields, signalFrom, validTime, validTimes, lesser, shortestTime};
+ghost use Rattle.network_signals.specs.Signals.{signalFrom, validTime, validTimes, lesser, shortestTime};
 ghost use Rattle.network_signals.specs.Stages.{SignalAsked, SignalHeld, SignalsAsked, SignalsHeld, LoadAsked};
 use model::Signal;
 use records::LineRead;
@@ -22,14 +23,13 @@ use tables::MAX_SIGNALS;
 use tables::MAX_STEPS;
 use tables::MAX_TRAMS;
 use tables::Reading;
+use tables::SIGNAL_FIELDS;
 use tables::Stage;
 
-// How many numbers an `N` line has, a `G` line before those of its phases, and a `G` line at most: eight phases.
+// How many numbers an `N` line has, and a `G` line before those of its phases.
 const COUNT_FIELDS: usize = 6;
 
 const HEAD_FIELDS: usize = 6;
-
-const SIGNAL_FIELDS: usize = HEAD_FIELDS + 2 * 8;
 
 // Refusal 2.
 fn valid_counts(counts: Counts) -> bool
@@ -251,25 +251,22 @@ pub fn read_signals(text: &[u8], reading: Reading, phases: &mut [u32]) -> Stage
     })
 }
 
-// The signals of the `G` lines, once these have passed, so that none of them is refused here.
-pub fn load_signals(text: &[u8], reading: Reading) -> [Signal; 8]
-    requires { ⌜ LoadAsked (now text) reading ⌝ }
-    ensures { λ r. ⌜ SignalTable (lines (now (text .entry))) r ⌝ }
+// The numbers of the `G` lines into a table of zeros, once these lines have passed, so that none of them is refused here.
+pub fn load_signals(text: &[u8], reading: Reading, signals: &mut [u32])
+    requires { ⌜ LoadAsked (now text) reading (now signals) ⌝ }
+    ensures { λ _. ⌜ SignalTable (lines (now (text .entry))) (now (signals .exit)) ⌝ }
 {
-    let unread = signal_from(&[0u32; SIGNAL_FIELDS]); // stands past the signals that there are
     let counts = reading.counts;
-    let mut signals = [unread; 8];
     let mut place = reading.signals_at;
     let mut r = 0;
     while r < counts.signals {
-        let mut fields = [0u32; SIGNAL_FIELDS];
-        let stage = read_signal(text, reading.moved_to(place), r, &mut fields);
+        let start = SIGNAL_FIELDS * r;
+        let end = start + SIGNAL_FIELDS;
+        let stage = read_signal(text, reading.moved_to(place), r, &mut signals[start..end]);
         let Stage::Passed(passed) = stage else {
-            return signals;
+            return;
         };
-        signals[r] = signal_from(&fields);
         place = passed.next;
         r += 1;
     }
-    signals
 }

@@ -28,7 +28,7 @@ use Rattle.tables.specs.declared.Stage.{Stage}
 use Rattle.tables.specs.declared.Stage.the-variants as stages
 use Rattle.tables.specs.Tables.{Judged}
 use Rattle.tables.proofs.Stages.{verdict-refused}
-use Rattle.network_signals.specs.Stages.{LoadAsked}
+use Rattle.network_signals.specs.Stages.{SignalsPassed}
 use Rattle.network.specs.Loading.{Loaded}
 use Rattle.plan_steps.specs.Steps.{RunAsked, RunGot}
 use Rattle.plan_check.specs.Plan.{PlanGot}
@@ -56,9 +56,9 @@ module _ (network plan : List Line) (size : ℕ) where
     plan-lines room = or-else-passes _ _ valid ∙ or-else-passes _ _ (checked-passes _ 8 0 0 room)
 
 -- the `G` lines of a network that has passed can be loaded
-signals-asked : {networkText links movements times : List ℕ} {reading : Reading} → Loaded networkText links movements times reading → LoadAsked networkText reading
+signals-passed : {networkText links movements times : List ℕ} {reading : Reading} → Loaded networkText links movements times reading → SignalsPassed networkText reading
 unfolding Hold networkChecks
-signals-asked {networkText} {reading = reading} loaded =
+signals-passed {networkText} {reading = reading} loaded =
     record {
       starts = loaded .signals-start;
       counted = loaded .counted;
@@ -94,7 +94,7 @@ module _ (networkText planText links movements times old : List ℕ) (reading : 
     run-asked =
         record {
           tables = record { holds = loaded .holds; counted = loaded .counted; trams-start = loaded .trams-start; link-table = loaded .link-table; movement-table = loaded .movement-table; time-table = loaded .time-table };
-          signals-asked = signals-asked loaded;
+          signals-passed = signals-passed loaded;
           past-start = loaded .past-start;
           steps-start = loaded .steps-start;
           room = room;

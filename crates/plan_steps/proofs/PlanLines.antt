@@ -27,7 +27,7 @@ use Rattle.step_signals.specs.Step.{SignalsAt}
 use Rattle.plan_steps.specs.PlanLine.{LineGot}
 use Rattle.plan_steps.proofs.Verdicts.{formed}
 
-module _ (networkText planText : List ℕ) {counts : Counts} (valid : ValidNetwork (lines networkText)) (counted : CountsHold (lines networkText) counts) {n at : ℕ} {signals : List Signal}
+module _ (networkText planText : List ℕ) {counts : Counts} (valid : ValidNetwork (lines networkText)) (counted : CountsHold (lines networkText) counts) {n at : ℕ} {signals : List ℕ}
     (more : n < stepCount (lines networkText)) (starts : 0 < length planText → Starts planText at n) (signals-at : SignalsAt (lines networkText) (planOf networkText planText) n signals)
     {before line : List ℕ} {result : LineRead} (zeros : (k : ℕ) → getD before k 0 ≡ 0) (size : length before ≡ lineSize) (got : LineGot planText at signals counts before result line) where
   abbrev net : List Line

@@ -17,7 +17,6 @@ use Rattle.search.proofs.Laws.{hold-of-passes}
 use Rattle.records.specs.Lines.{Line, noLine, lines, isRecord}
 use Rattle.records.specs.Reading.{atEnd}
 use Rattle.records.proofs.Laws.{starts-first}
-use Rattle.model.specs.declared.Signal.{Signal}
 use Rattle.model.specs.declared.Totals.{Totals}
 use Rattle.model.specs.declared.PlanAnswer.{PlanAnswer}
 use Rattle.model.specs.declared.PlanAnswer.the-variants as plan-answer
@@ -36,7 +35,7 @@ use Rattle.model.proofs.Written.{refused-fails, due-written, rows-until}
 use Rattle.tables.specs.declared.Counts.{Counts}
 use Rattle.tables.specs.declared.Reading.{Reading}
 use Rattle.tables.specs.Tables.{SignalTable}
-use Rattle.tables.specs.Fields.{rowSize}
+use Rattle.tables.specs.Fields.{signalTableSize, rowSize}
 use Rattle.arrivals.proofs.Boundaries.{times-rise}
 use Rattle.past_curves.specs.Curves.{PastAsked, PastLoaded}
 use Rattle.waiting.specs.Waiting.{FirstAsked, FirstWaits, WaitingTable}
@@ -55,8 +54,15 @@ use Rattle.plan_steps.proofs.Ledger.{written-again}
 use Rattle.plan_steps.proofs.Adding.{outside-sum, totals-first}
 use Rattle.past_curves.proofs.Valid.{past-form, entered-at-start, past-fits, left-at-start, left-fits}
 
+-- a table of zeros
+pub zeros-blank : (signals : List ℕ) → signals ≡ replicate signalTableSize 0 → (k : ℕ) → getD signals k 0 ≡ 0
+zeros-blank signals zeros k = elim (decLe signalTableSize k) [
+  | yes h ↦ List·getD-eq-default signals 0 (omega (arith, ap length zeros, length-replicate {A = ℕ} signalTableSize 0))
+  | no h ↦ ap (λ l. getD l k 0) zeros ∙ getD-replicate {A = ℕ} signalTableSize k 0 0 (omega arith)
+]
+
 -- the signals before the plan
-signals-first : (network plan : List Line) (signals : List Signal) → ValidNetwork network → SignalTable network signals → SignalsAt network plan 0 signals
+signals-first : (network plan : List Line) (signals : List ℕ) → ValidNetwork network → SignalTable network signals → SignalsAt network plan 0 signals
 unfolding signalAt
 signals-first network plan signals valid t =
     record {
@@ -93,7 +99,7 @@ module _ (plan : List ℕ) (at steps : ℕ) (t : Totals) (b : Bool) (e : b ≡ a
   finish-more h = rw (← e, h)
 
 -- ---- the first steps
-module _ {networkText planText : List ℕ} {reading : Reading} {steps : ℕ} {links movements times waiting₀ old : List ℕ} (a : StepsAsked networkText planText reading steps links movements times waiting₀ old) where
+module _ {networkText planText : List ℕ} {reading : Reading} {steps : ℕ} {links movements times signals₀ waiting₀ old : List ℕ} (a : StepsAsked networkText planText reading steps links movements times signals₀ waiting₀ old) where
   abbrev netw : List Line
   netw = lines networkText
 
@@ -152,7 +158,7 @@ module _ {networkText planText : List ℕ} {reading : Reading} {steps : ℕ} {li
     since-lent : (m : ℕ) → 1 ≤ m → written netw plnn ledger m ≡ written netw plnn old m
     since-lent m h = ap (λ x. written netw plnn x m) first ∙ written-again netw plnn old 1 m h
 
-    pub steps-since : {taken : Taken} {waiting ledger′ : List ℕ} → StepsGot networkText planText ledger steps taken waiting ledger′ → StepsGot networkText planText old steps taken waiting ledger′
+    pub steps-since : {taken : Taken} {signals waiting ledger′ : List ℕ} → StepsGot networkText planText ledger steps taken signals waiting ledger′ → StepsGot networkText planText old steps taken signals waiting ledger′
     steps-since got =
         record {
           stopped = λ r e. let s = got .stopped r e in
@@ -178,13 +184,13 @@ module _ {networkText planText : List ℕ} {reading : Reading} {steps : ℕ} {li
       pub sum-asked : (reading .counts .links ≤ maxLinks) × (0 + reading .counts .links ≤ length waiting)
       sum-asked = (a .tables .counted .few .links, omega (arith, waits .size, a .tables .counted .few .links))
 
-      pub running-first : (held : ℕ) → held ≡ heldIn (reading .counts) ledger → (out : ℕ) → out ≡ sum (reading .counts .links) (λ i. getD waiting (0 + i) 0) → (signals : List Signal) → SignalTable netw signals
+      pub running-first : (held : ℕ) → held ≡ heldIn (reading .counts) ledger → (out : ℕ) → out ≡ sum (reading .counts .links) (λ i. getD waiting (0 + i) 0) → (signals : List ℕ) → SignalTable netw signals
           → Running networkText planText (reading .counts) (reading .«trams_at») steps links movements times ledger
           (record {
             verdict = Passes;
             state =
-                record { boundary = 0; «step_at» = reading .«steps_at»; «plan_at» = 0; signals = signals; totals = record { admitted = 0; «let_out» = 0; inside = held; «doubled_time» = 0 }; outside = out };
-          }) arrivals curves places waiting ledger
+                record { boundary = 0; «step_at» = reading .«steps_at»; «plan_at» = 0; totals = record { admitted = 0; «let_out» = 0; inside = held; «doubled_time» = 0 }; outside = out };
+          }) signals arrivals curves places waiting ledger
       running-first held e out o signals table =
           record {
             tables = a .tables;
@@ -209,8 +215,8 @@ module _ {networkText planText : List ℕ} {reading : Reading} {steps : ℕ} {li
             room = omega (arith, loaded .size, a .room);
           }
 
-module _ {networkText planText : List ℕ} {counts : Counts} {tramsAt steps : ℕ} {links movements times old : List ℕ} {taken : Taken} {arrivals curves places waiting ledger : List ℕ}
-    (r : Running networkText planText counts tramsAt steps links movements times old taken arrivals curves places waiting ledger) where
+module _ {networkText planText : List ℕ} {counts : Counts} {tramsAt steps : ℕ} {links movements times old : List ℕ} {taken : Taken} {signals arrivals curves places waiting ledger : List ℕ}
+    (r : Running networkText planText counts tramsAt steps links movements times old taken signals arrivals curves places waiting ledger) where
   abbrev net : List Line
   net = lines networkText
 
@@ -220,7 +226,7 @@ module _ {networkText planText : List ℕ} {counts : Counts} {tramsAt steps : �
   abbrev n : ℕ
   n = taken .state .boundary
 
-  pub running-asked : n < steps → StepAsked networkText planText counts tramsAt links movements times arrivals curves places waiting ledger (taken .state)
+  pub running-asked : n < steps → StepAsked networkText planText counts tramsAt links movements times signals arrivals curves places waiting ledger (taken .state)
   running-asked h =
       record {
         tables = r .tables;
@@ -229,9 +235,9 @@ module _ {networkText planText : List ℕ} {counts : Counts} {tramsAt steps : �
         room = let m : suc (suc n) ≤ suc steps = omega arith in omega (arith, r .room, r .long, mul-le-mul-right (2 * linkCount net) m);
       }
 
-  module _ {after : Taken} {arrivals′ curves′ places′ waiting′ ledger′ : List ℕ} (got : StepGot networkText planText ledger (taken .state) after arrivals′ curves′ places′ waiting′ ledger′) (h : n < steps) where
+  module _ {after : Taken} {signals′ arrivals′ curves′ places′ waiting′ ledger′ : List ℕ} (got : StepGot networkText planText ledger (taken .state) after signals′ arrivals′ curves′ places′ waiting′ ledger′) (h : n < steps) where
     -- a step is refused
-    pub steps-stopped : {q : Refusal} → after .verdict ≡ Refused q → StepsGot networkText planText old steps after waiting′ ledger′
+    pub steps-stopped : {q : Refusal} → after .verdict ≡ Refused q → StepsGot networkText planText old steps after signals′ waiting′ ledger′
     steps-stopped {q} e =
         record {
           stopped = λ q′ e′. record { step = n; within = h; passed = r .state-at .passed; refused = sym (got .told) ∙ e′; rows = got .kept q′ e′ ∙ r .since };
@@ -239,7 +245,7 @@ module _ {networkText planText : List ℕ} {counts : Counts} {tramsAt steps : �
         }
 
     -- it passes
-    pub running-next : after .verdict ≡ Passes → Running networkText planText counts tramsAt steps links movements times old after arrivals′ curves′ places′ waiting′ ledger′
+    pub running-next : after .verdict ≡ Passes → Running networkText planText counts tramsAt steps links movements times old after signals′ arrivals′ curves′ places′ waiting′ ledger′
     running-next e =
         let m : after .state .boundary ≡ suc n = got .boundary e ∙ add-one n in
         let w = got .row-more e in
@@ -258,7 +264,7 @@ module _ {networkText planText : List ℕ} {counts : Counts} {tramsAt steps : �
     running-less e = omega (arith, got .boundary e)
 
   -- all of them have passed
-  pub steps-taken : steps ≤ n → StepsGot networkText planText old steps taken waiting ledger
+  pub steps-taken : steps ≤ n → StepsGot networkText planText old steps taken signals waiting ledger
   steps-taken h =
       record {
         stopped = λ q e. let p = r .passes in let z : _≡_ {A = ℕ} 0 1 = cc in absurd (omega arith);
@@ -268,7 +274,7 @@ module _ {networkText planText : List ℕ} {counts : Counts} {tramsAt steps : �
       is : n ≡ steps
       is = omega (arith, r .within)
 
-      all : AllTaken networkText planText old n (taken .state) waiting ledger
+      all : AllTaken networkText planText old n (taken .state) signals waiting ledger
       all =
           record {
             passed = r .state-at .passed;
@@ -287,11 +293,11 @@ module _ {networkText planText : List ℕ} {reading : Reading} {links movements 
   abbrev plan : List Line
   plan = planOf networkText planText
 
-  pub steps-asked : (waiting : List ℕ) → length waiting ≡ maxLinks → StepsAsked networkText planText reading (reading .counts .steps) links movements times waiting old
-  steps-asked waiting size =
+  pub steps-asked : (signals : List ℕ) → signals ≡ replicate signalTableSize 0 → (waiting : List ℕ) → length waiting ≡ maxLinks → StepsAsked networkText planText reading (reading .counts .steps) links movements times signals waiting old
+  steps-asked signals zeros waiting size =
       record {
         tables = a .tables;
-        signals-asked = a .signals-asked;
+        signals-asked = record { on-text = a .signals-passed; size = rw zeros (length-replicate {A = ℕ} signalTableSize 0); blank = zeros-blank signals zeros };
         past-start = a .past-start;
         steps-start = a .steps-start;
         few-steps = omega (arith, a .tables .counted .steps);
@@ -313,7 +319,7 @@ module _ {networkText planText : List ℕ} {reading : Reading} {links movements 
   unfolding ledgerAfter
   rows-are n d h since = since ∙ ap (written network plan old) (sym (rows-until network plan (length old) n d h))
 
-  module _ {taken : Taken} {waiting ledger : List ℕ} (got : StepsGot networkText planText old (reading .counts .steps) taken waiting ledger) where
+  module _ {taken : Taken} {signals waiting ledger : List ℕ} (got : StepsGot networkText planText old (reading .counts .steps) taken signals waiting ledger) where
     -- a step is refused
     pub run-refused : {q : Refusal} → taken .verdict ≡ Refused q → RunGot networkText planText old (plan-answer.Refused q) ledger
     run-refused {q} e =
@@ -330,7 +336,7 @@ module _ {networkText planText : List ℕ} {reading : Reading} {links movements 
     pub run-finished : {answer : PlanAnswer} → taken .verdict ≡ Passes → answer ≡ finished planText (taken .state .«plan_at») (reading .counts .steps) (taken .state .totals) → RunGot networkText planText old answer ledger
     run-finished {answer} p f = go (eqb (length plan) (stepCount network)) refl
       where
-        all : AllTaken networkText planText old (stepCount network) (taken .state) waiting ledger
+        all : AllTaken networkText planText old (stepCount network) (taken .state) signals waiting ledger
         all = rw (a .tables .counted .steps) at (got .reached p)
 
         at-end : (b : Bool) → eqb (length plan) (stepCount network) ≡ b → atEnd planText (taken .state .«plan_at») ≡ b

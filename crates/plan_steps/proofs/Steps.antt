@@ -18,7 +18,6 @@ use Rattle.search.proofs.Table.{table-holds}
 use Rattle.records.specs.declared.LineRead.{LineRead}
 use Rattle.records.specs.declared.LineRead.the-variants.{Next, Malformed}
 use Rattle.records.specs.Lines.{Line, lines}
-use Rattle.model.specs.declared.Signal.{Signal}
 use Rattle.model.specs.Test.{_or_}
 use Rattle.model.specs.Signals.{phaseOf, after as signalAfter}
 use Rattle.model.specs.Network.{maxSignals, linkCount, signalCount, stepCount, tramCount, tramLine, onTimeline, stepLine, stepLength, ordinary, signal, maxSteps}
@@ -34,8 +33,8 @@ use Rattle.model.proofs.Bounds.{KeepsLimits, lawful-limits, entered-word, left-
 use Rattle.model.proofs.Phases.{phase-of-le}
 use Rattle.model.proofs.Shown.{same-phases}
 use Rattle.tables.specs.declared.Counts.{Counts}
-use Rattle.tables.specs.Fields.{tramFields, lineSize, stepSize, rowSize, lengthIn}
-use Rattle.tables.specs.Tables.{noSignal, CountsHold, StepNumbers, PlanNumbers}
+use Rattle.tables.specs.Fields.{tramFields, tableSignal, lineSize, stepSize, rowSize, lengthIn}
+use Rattle.tables.specs.Tables.{CountsHold, StepNumbers, PlanNumbers}
 use Rattle.tables.proofs.Tables.{travel-time-at, shown-mask-at}
 use Rattle.arrivals.specs.Arrivals.{ArrivalTable}
 use Rattle.past_curves.proofs.Valid.{past-form, past-fits}
@@ -47,7 +46,7 @@ use Rattle.network_trams.specs.Claims.{ClaimsAsked, TramPhases}
 use Rattle.network_steps.specs.Steps.{LoadAsked, Loaded}
 use Rattle.network_steps.proofs.Steps.{load-ready, loaded-numbers, loaded-next}
 use Rattle.step_signals.specs.Ready.{Ready}
-use Rattle.step_signals.specs.Step.{ShownPhases, ShownTable, AskedTable, Advanced, SignalsAt}
+use Rattle.step_signals.specs.Step.{ShownPhases, ShownTable, AskedTable, AdvanceAsked, Advanced, SignalsAt}
 use Rattle.step_signals.proofs.Rules.{ready-after}
 use Rattle.step_signals.proofs.Texts.{signal-rules-are}
 use Rattle.step_rows.specs.Rows.{nextRow, RowHolds}
@@ -83,10 +82,10 @@ limits-keep network plan m line h =
     record { admissions = at 0 (omega arith); exits = at 1 (omega arith); movements = at 2 (omega arith) }
 
 -- the signals after a step that has passed
-module _ (network plan : List Line) (n : ℕ) (signals signals′ : List Signal) (phases claims : List ℕ) (seconds count : ℕ) (before : SignalsAt network plan n signals)
+module _ (network plan : List Line) (n : ℕ) (signals signals′ phases claims : List ℕ) (seconds count : ℕ) (before : SignalsAt network plan n signals)
     (shown : ShownTable network plan n phases) (claimed : AskedTable network n claims) (lawful : LawfulStep network plan n) (is-count : count ≡ signalCount network)
     (is-seconds : seconds ≡ stepLength network n) (moved : Advanced signals count phases claims seconds signals′) where
-  stepped : (r : ℕ) → r < signalCount network → getD signals′ r noSignal ≡ signalAt network plan (suc n) r
+  stepped : (r : ℕ) → r < signalCount network → tableSignal signals′ r ≡ signalAt network plan (suc n) r
   unfolding signalAt ordinary
   stepped r l = moved .on r (omega arith) ∙ rw (before .holds r l, shown .holds r l, claimed .holds r l, is-seconds)
 
@@ -110,8 +109,8 @@ module _ (network plan : List Line) (n : ℕ) (signals signals′ : List Signal)
   signals-next : SignalsAt network plan (suc n) signals′
   signals-next = record { size = moved .size; holds = stepped; ready = λ r l. rw (stepped r l) (ready-next r l) }
 
-module _ {networkText planText : List ℕ} {counts : Counts} {tramsAt : ℕ} {links movements times arrivals curves places waiting ledger : List ℕ} {state : State}
-    (asked : StepAsked networkText planText counts tramsAt links movements times arrivals curves places waiting ledger state) where
+module _ {networkText planText : List ℕ} {counts : Counts} {tramsAt : ℕ} {links movements times signals arrivals curves places waiting ledger : List ℕ} {state : State}
+    (asked : StepAsked networkText planText counts tramsAt links movements times signals arrivals curves places waiting ledger state) where
   abbrev net : List Line
   net = lines networkText
 
@@ -130,8 +129,8 @@ module _ {networkText planText : List ℕ} {counts : Counts} {tramsAt : ℕ} {li
   pub step-few : n < maxSteps
   step-few = omega (arith, asked .more, counted .steps, counted .few .steps)
 
-  pub line-asked : {line : List ℕ} → length line ≡ lineSize → LineAsked (state .signals) counts line
-  line-asked size = record { few = counted .few; ready = λ r l. asked .state-at .signals-at .ready r (omega (arith, counted .signals)); size = size }
+  pub line-asked : {line : List ℕ} → length line ≡ lineSize → LineAsked signals counts line
+  line-asked size = record { few = counted .few; signals-size = asked .state-at .signals-at .size; ready = λ r l. asked .state-at .signals-at .ready r (omega (arith, counted .signals)); size = size }
 
   pub load-asked : {step : List ℕ} → length step ≡ stepSize → LoadAsked networkText (state .«step_at») (counts .links) step
   load-asked size = load-ready networkText (state .«step_at») n (counts .links) (asked .state-at .step-starts) (counted .links) (step-form net (asked .tables .holds) n (asked .more)) (counted .few .links) size
@@ -189,7 +188,7 @@ module _ {networkText planText : List ℕ} {counts : Counts} {tramsAt : ℕ} {li
     short = omega (arith, offers .lasts, step-limits net valid n (asked .more) .length-limit)
 
     module _ {result : LineRead} {line₀ line : List ℕ} (zeros : line₀ ≡ replicate lineSize 0)
-        (read : LineGot planText (state .«plan_at») (state .signals) counts line₀ result line) where
+        (read : LineGot planText (state .«plan_at») signals counts line₀ result line) where
       no-number : (k : ℕ) → getD line₀ k 0 ≡ 0
       no-number k = elim (decLt k lineSize) [
         | yes h ↦ ap (λ l. getD l k 0) zeros ∙ getD-replicate {A = ℕ} lineSize k 0 0 h
@@ -200,7 +199,7 @@ module _ {networkText planText : List ℕ} {counts : Counts} {tramsAt : ℕ} {li
       size = ap length zeros ∙ length-replicate {A = ℕ} lineSize 0
 
       -- the line has not the form of a `P` line
-      pub step-malformed : result ≡ Malformed → StepGot networkText planText ledger state (record { verdict = Refused (refusal 9 (n + 1) 0); state = state }) arrivals curves places waiting ledger
+      pub step-malformed : result ≡ Malformed → StepGot networkText planText ledger state (record { verdict = Refused (refusal 9 (n + 1) 0); state = state }) signals arrivals curves places waiting ledger
       step-malformed e =
           let v = line-malformed net pln n (line-bad networkText planText valid counted (asked .more) (asked .state-at .plan-starts) (asked .state-at .signals-at) no-number size read e) in
           record {
@@ -237,7 +236,7 @@ module _ {networkText planText : List ℕ} {counts : Counts} {tramsAt : ℕ} {li
               curves-at = asked .state-at .curves-at;
             }
 
-        module _ {phases₀ phases : List ℕ} (showing : ShownPhases (state .signals) (counts .signals) line phases₀ phases) {claims : List ℕ} (told : TramPhases net n claims) where
+        module _ {phases₀ phases : List ℕ} (showing : ShownPhases signals (counts .signals) line phases₀ phases) {claims : List ℕ} (told : TramPhases net n claims) where
           claimed : AskedTable net n claims
           claimed = record { size = told .size; holds = λ r l. told .holds r (omega (arith, counted .signals, counted .few .signals)) }
 
@@ -260,11 +259,11 @@ module _ {networkText planText : List ℕ} {counts : Counts} {tramsAt : ℕ} {li
                 }
 
             module _ (row : List ℕ) (row-size : length row ≡ rowSize) where
-              limits-are : limitVerdict counts (state .signals) line step links movements phases claims ledger times arrivals′ curves′ row n ≡ verdict (table (suc n) (limitRules net pln n))
+              limits-are : limitVerdict counts signals line step links movements phases claims ledger times arrivals′ curves′ row n ≡ verdict (table (suc n) (limitRules net pln n))
               unfolding limitVerdict
               limits-are = limit-rules-are valid counted plan-numbers (asked .tables .link-table) (asked .tables .movement-table) offers shown (suc n)
 
-              keeps : limitVerdict counts (state .signals) line step links movements phases claims ledger times arrivals′ curves′ row n ≡ Passes → (m : ℕ) → m < suc n → KeepsLimits net pln m
+              keeps : limitVerdict counts signals line step links movements phases claims ledger times arrivals′ curves′ row n ≡ Passes → (m : ℕ) → m < suc n → KeepsLimits net pln m
               keeps v m l = go (let l′ : m ≤ n = omega arith in eq-or-lt-of-le l′)
                 where
                   go : (m ≡ n) ⊎ (m < n) → KeepsLimits net pln m
@@ -279,12 +278,13 @@ module _ {networkText planText : List ℕ} {counts : Counts} {tramsAt : ℕ} {li
                   length-append (nextRow counts line movements (rowFrom counts ledger n)) _
                   ∙ omega (arith, length-next counts line movements (rowFrom counts ledger n), length-drop (2 * counts .links) row, row-size, counted .few .links)
 
-              pub judge-asked : JudgeAsked counts (state .signals) line step links movements phases claims ledger times arrivals′ curves′ row n
+              pub judge-asked : JudgeAsked counts signals line step links movements phases claims ledger times arrivals′ curves′ row n
               judge-asked =
                   let tables = line-tables valid counted plan-numbers (asked .tables .link-table) (asked .tables .movement-table) offers shown in
                   record {
                     signal-tables = record {
                       few = counted .few .signals;
+                      size = asked .state-at .signals-at .size;
                       ready = λ r l. asked .state-at .signals-at .ready r (omega (arith, counted .signals));
                       short = short;
                       phases-size = shown .size;
@@ -302,7 +302,7 @@ module _ {networkText planText : List ℕ} {counts : Counts} {tramsAt : ℕ} {li
                         (drop (2 * counts .links) row) refl made-size previous-size (omega (arith, room-after));
                   }
 
-              module _ {v : Verdict} {row′ : List ℕ} (got : Judged counts (state .signals) line step links movements phases claims ledger times arrivals′ curves′ row n v row′) where
+              module _ {v : Verdict} {row′ : List ℕ} (got : Judged counts signals line step links movements phases claims ledger times arrivals′ curves′ row n v row′) where
                 -- the judgement is the paper's verdict on the line
                 line-judged : v ≡ verdict (lineChecks net pln n)
                 unfolding signalVerdict sumVerdict
@@ -313,7 +313,7 @@ module _ {networkText planText : List ℕ} {counts : Counts} {tramsAt : ℕ} {li
                     (sum-rules-are (asked .tables .holds) counted plan-numbers (asked .tables .link-table) (asked .tables .movement-table) before after ledger (asked .state-at .rows) (asked .tables .time-table) arrivals-at (moved .curves-at) (asked .more)))
                     ∙ sym (line-formed net pln n is-formed)
 
-                pub step-refused : {r : Refusal} → v ≡ Refused r → StepGot networkText planText ledger state (record { verdict = v; state = state }) arrivals′ curves′ places′ waiting ledger
+                pub step-refused : {r : Refusal} → v ≡ Refused r → StepGot networkText planText ledger state (record { verdict = v; state = state }) signals arrivals′ curves′ places′ waiting ledger
                 step-refused q =
                     record {
                       told = line-judged;
@@ -341,26 +341,34 @@ module _ {networkText planText : List ℕ} {counts : Counts} {tramsAt : ℕ} {li
 
                   -- the state with the places of the next lines
                   abbrev placed : State
-                  placed = record { boundary = n; «step_at» = stepEnd; «plan_at» = planEnd; signals = state .signals; totals = state .totals; outside = state .outside }
+                  placed = record { boundary = n; «step_at» = stepEnd; «plan_at» = planEnd; totals = state .totals; outside = state .outside }
 
                   waiting-at : {waiting′ : List ℕ} → Waits counts step line (counts .links) waiting′ → WaitingTable net pln (suc n) waiting′
                   waiting-at stay = waiting-next counted plan-numbers offers (lawful .keeps15) stay
 
-                  pub next-asked : {waiting′ : List ℕ} → Waits counts step line (counts .links) waiting′ → NextAsked placed counts step line phases claims row′ waiting′
+                  pub advance-asked : AdvanceAsked signals (counts .signals) phases claims (lengthIn step)
+                  advance-asked =
+                      record {
+                        few = counted .few .signals;
+                        size = asked .state-at .signals-at .size;
+                        ready = λ r l. asked .state-at .signals-at .ready r (omega (arith, counted .signals));
+                        short = short;
+                        phases-size = omega (arith, shown .size, counted .few .signals);
+                        asked-size = omega (arith, claimed .size, counted .few .signals);
+                      }
+
+                  pub next-asked : {waiting′ : List ℕ} → Waits counts step line (counts .links) waiting′ → NextAsked placed counts step line row′ waiting′
                   next-asked stay =
                       record {
                         few-steps = step-few;
-                        ready = λ r l. asked .state-at .signals-at .ready r (omega (arith, counted .signals));
-                        phases-size = shown .size;
                         waiting-size = stay .size;
-                        asked-size = claimed .size;
                         totals-asked = totals-asked net pln (asked .tables .holds) counts counted n (asked .state-at .within) (state .totals) (asked .state-at .totals-at) (asked .state-at .passed) _ _ line step row′
                             (asked .state-at .outside-at) (outside-is counted (waiting-at stay)) (asked .more) (plan-numbers .size) offers (same ∙ row-size);
                       }
 
                   module _ {waiting′ ledger′ : List ℕ} (stay : Waits counts step line (counts .links) waiting′)
                       (wrote : ledger′ ≡ take (2 * (n + 1) * counts .links) ledger ++ (take (2 * counts .links) row′ ++ drop (2 * (n + 1) * counts .links + 2 * counts .links) ledger))
-                      {next : State} (on : NextGot placed counts step line phases claims row′ waiting′ next) where
+                      {signals′ : List ℕ} (advanced : Advanced signals (counts .signals) phases claims (lengthIn step) signals′) {next : State} (on : NextGot placed counts step line row′ waiting′ next) where
                     rows-written : ledger′ ≡ written net pln ledger (suc (suc n))
                     rows-written =
                         next-written net pln ledger row′ (suc n) (asked .state-at .rows) (next-row-front counted plan-numbers (asked .tables .movement-table) before (drop (2 * counts .links) row) made)
@@ -378,7 +386,7 @@ module _ {networkText planText : List ℕ} {counts : Counts} {tramsAt : ℕ} {li
                     is-next : next .boundary ≡ suc n
                     is-next = on .boundary ∙ add-one n
 
-                    state-next : StateAt networkText planText next arrivals′ curves′ places′ waiting′ ledger′
+                    state-next : StateAt networkText planText next signals′ arrivals′ curves′ places′ waiting′ ledger′
                     state-next =
                         record {
                           within = rw is-next (omega (arith, asked .more));
@@ -386,8 +394,8 @@ module _ {networkText planText : List ℕ} {counts : Counts} {tramsAt : ℕ} {li
                           step-starts = rw (is-next, on .step-place) (loaded-next networkText (state .«step_at») n (counts .links) (asked .state-at .step-starts) (counted .links) loaded);
                           plan-starts = rw (is-next, on .plan-place) (next-starts networkText planText valid counted (asked .more) (asked .state-at .plan-starts) (asked .state-at .signals-at) no-number size read e);
                           signals-at = rw is-next
-                              (signals-next net pln n (state .signals) (next .signals) phases claims (lengthIn step) (counts .signals) (asked .state-at .signals-at) shown claimed lawful (counted .signals)
-                              (offers .lasts) (on .signals));
+                              (signals-next net pln n signals signals′ phases claims (lengthIn step) (counts .signals) (asked .state-at .signals-at) shown claimed lawful (counted .signals)
+                              (offers .lasts) advanced);
                           totals-at = rw is-next
                               (on .totals ∙ totals-next net pln (asked .tables .holds) counts counted n (asked .state-at .within) (state .totals) (asked .state-at .totals-at) (asked .state-at .passed) _ _ line step row′ (asked .state-at .outside-at) outside-next plan-numbers offers
                               (rw made after));
@@ -399,7 +407,7 @@ module _ {networkText planText : List ℕ} {counts : Counts} {tramsAt : ℕ} {li
                               (rows-written ∙ sym (written-again net pln ledger (suc (suc n)) (suc (suc n)) (omega arith)) ∙ ap (λ x. written net pln x (suc (suc n))) (sym rows-written));
                         }
 
-                    pub step-kept : StepGot networkText planText ledger state (record { verdict = v; state = next }) arrivals′ curves′ places′ waiting′ ledger′
+                    pub step-kept : StepGot networkText planText ledger state (record { verdict = v; state = next }) signals′ arrivals′ curves′ places′ waiting′ ledger′
                     step-kept =
                         record {
                           told = line-judged;

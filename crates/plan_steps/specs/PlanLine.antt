@@ -5,23 +5,23 @@ use mathlib.Core.List.{List}
 use lib.ListN.{length}
 use Rattle.records.specs.declared.LineRead.{LineRead}
 use Rattle.records.specs.declared.LineRead.the-variants.{Next}
-use Rattle.model.specs.declared.Signal.{Signal}
 use Rattle.model.specs.Table.{letterP}
 use Rattle.tables.specs.declared.Counts.{Counts}
 use Rattle.tables.specs.Places.{planWidth, Few}
-use Rattle.tables.specs.Fields.{lineSize}
+use Rattle.tables.specs.Fields.{signalTableSize, lineSize}
 use Rattle.tables.specs.Rows.{RowRead}
 use Rattle.step_signals.specs.Ready.{AllReady}
 use Rattle.step_signals.specs.Step.{HeldMasks}
 
 -- what reading a step's line asks ..
-pub record LineAsked (signals : List Signal) (counts : Counts) (line : List ℕ) : Type 0 where
+pub record LineAsked (signals : List ℕ) (counts : Counts) (line : List ℕ) : Type 0 where
   pub few : Few counts
+  pub signals-size : length signals ≡ signalTableSize
   pub ready : AllReady signals (counts .signals)
   pub size : length line ≡ lineSize
 
 -- .. and promises: a text that has bytes is read; an empty one has the signals keep their phases, and leaves the volumes as they were
-pub record LineGot (planText : List ℕ) (at : ℕ) (signals : List Signal) (counts : Counts) (before : List ℕ) (result : LineRead) (line : List ℕ) : Type 0 where
+pub record LineGot (planText : List ℕ) (at : ℕ) (signals : List ℕ) (counts : Counts) (before : List ℕ) (result : LineRead) (line : List ℕ) : Type 0 where
   pub size : length line ≡ length before
   pub read : 0 < length planText → RowRead letterP (planWidth counts) planText at 0 before result line
   pub next : length planText ≡ 0 → result ≡ Next at

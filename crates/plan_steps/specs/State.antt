@@ -13,19 +13,17 @@ use Rattle.model.specs.declared.Totals.{Totals}
 use Rattle.model.specs.declared.PlanAnswer.{PlanAnswer}
 use Rattle.model.specs.declared.PlanAnswer.the-variants as plan-answer
 use Rattle.model.specs.Sum.{sum}
-use Rattle.model.specs.Network.{maxLinks, maxSignals, maxSteps, linkCount, stepCount, tramLine, stepLine}
+use Rattle.model.specs.Network.{maxLinks, maxSteps, linkCount, stepCount, tramLine, stepLine}
 use Rattle.model.specs.Flows.{outside, totals}
 use Rattle.model.specs.Table.{networkChecks, lineChecks}
 use Rattle.model.specs.Hold.{planOf}
 use Rattle.model.specs.Calls.{written}
 use Rattle.tables.specs.declared.Counts.{Counts}
-use Rattle.tables.specs.Fields.{lengthIn}
 use Rattle.tables.specs.Tables.{CountsHold, LinkTable, MovementTable, TimeTable}
 use Rattle.arrivals.specs.Arrivals.{ArrivalTable}
 use Rattle.past_curves.specs.Curves.{CurvesAt}
 use Rattle.waiting.specs.Waiting.{waitingIn, WaitingTable}
-use Rattle.step_signals.specs.Ready.{AllReady}
-use Rattle.step_signals.specs.Step.{Advanced, SignalsAt}
+use Rattle.step_signals.specs.Step.{SignalsAt}
 use Rattle.plan_steps.specs.declared.State.{State}
 use Rattle.plan_steps.specs.declared.Taken.{Taken}
 use Rattle.plan_steps.specs.Totals.{totalsAfter, TotalsAsked}
@@ -41,12 +39,12 @@ pub record Tables (networkText : List ℕ) (counts : Counts) (tramsAt : ℕ) (li
 
 -- The state at a boundary: the steps before it have passed, the lines of the next start at its places (an empty plan text has none), its signals and totals and those who wait are the paper's, and
 -- the ledger has the rows up to the boundary.
-pub record StateAt (networkText planText : List ℕ) (state : State) (arrivals curves places waiting ledger : List ℕ) : Type 0 where
+pub record StateAt (networkText planText : List ℕ) (state : State) (signals arrivals curves places waiting ledger : List ℕ) : Type 0 where
   pub within : state .boundary ≤ stepCount (lines networkText)
   pub passed : (m : ℕ) → m < state .boundary → verdict (lineChecks (lines networkText) (planOf networkText planText) m) ≡ Passes
   pub step-starts : Starts networkText (state .«step_at») (stepLine (lines networkText) (state .boundary))
   pub plan-starts : 0 < length planText → Starts planText (state .«plan_at») (state .boundary)
-  pub signals-at : SignalsAt (lines networkText) (planOf networkText planText) (state .boundary) (state .signals)
+  pub signals-at : SignalsAt (lines networkText) (planOf networkText planText) (state .boundary) signals
   pub totals-at : state .totals ≡ totals (lines networkText) (planOf networkText planText) (state .boundary)
   pub outside-at : state .outside ≡ outside (lines networkText) (planOf networkText planText) (state .boundary)
   pub arrivals-at : ArrivalTable (lines networkText) (state .boundary) arrivals
@@ -55,37 +53,33 @@ pub record StateAt (networkText planText : List ℕ) (state : State) (arrivals c
   pub rows : ledger ≡ written (lines networkText) (planOf networkText planText) ledger (suc (state .boundary))
 
 -- what the state after a step that is kept asks, by the step's tables ..
-pub record NextAsked (state : State) (counts : Counts) (step line phases asked row waiting : List ℕ) : Type 0 where
+pub record NextAsked (state : State) (counts : Counts) (step line row waiting : List ℕ) : Type 0 where
   pub few-steps : state .boundary < maxSteps
-  pub ready : AllReady (state .signals) (counts .signals)
-  pub phases-size : length phases ≡ maxSignals
   pub waiting-size : length waiting ≡ maxLinks
-  pub asked-size : length asked ≡ maxSignals
   pub totals-asked : TotalsAsked (state .totals) (state .outside) (sum (counts .links) (waitingIn waiting)) counts line step row
 
 -- .. and is: it has the state's places, which are those of the next lines already
-pub record NextGot (state : State) (counts : Counts) (step line phases asked row waiting : List ℕ) (next : State) : Type 0 where
+pub record NextGot (state : State) (counts : Counts) (step line row waiting : List ℕ) (next : State) : Type 0 where
   pub boundary : next .boundary ≡ state .boundary + 1
   pub step-place : next .«step_at» ≡ state .«step_at»
   pub plan-place : next .«plan_at» ≡ state .«plan_at»
-  pub signals : Advanced (state .signals) (counts .signals) phases asked (lengthIn step) (next .signals)
   pub totals : next .totals ≡ totalsAfter (state .totals) (state .outside) (next .outside) counts line step row
   pub outside : next .outside ≡ sum (counts .links) (waitingIn waiting)
 
 -- what taking the next step asks, with room for the row after it ..
-pub record StepAsked (networkText planText : List ℕ) (counts : Counts) (tramsAt : ℕ) (links movements times arrivals curves places waiting ledger : List ℕ) (state : State) : Type 0 where
+pub record StepAsked (networkText planText : List ℕ) (counts : Counts) (tramsAt : ℕ) (links movements times signals arrivals curves places waiting ledger : List ℕ) (state : State) : Type 0 where
   pub tables : Tables networkText counts tramsAt links movements times
-  pub state-at : StateAt networkText planText state arrivals curves places waiting ledger
+  pub state-at : StateAt networkText planText state signals arrivals curves places waiting ledger
   pub more : state .boundary < stepCount (lines networkText)
   pub room : 2 * suc (suc (state .boundary)) * linkCount (lines networkText) ≤ length ledger
 
 -- .. and promises: the verdict on the step's line; where it is refused, the ledger is what it was, and where it passes, the next state is reached and the ledger
 -- has one row more
-pub record StepGot (networkText planText old : List ℕ) (state : State) (taken : Taken) (arrivals curves places waiting ledger : List ℕ) : Type 0 where
+pub record StepGot (networkText planText old : List ℕ) (state : State) (taken : Taken) (signals arrivals curves places waiting ledger : List ℕ) : Type 0 where
   pub told : taken .verdict ≡ verdict (lineChecks (lines networkText) (planOf networkText planText) (state .boundary))
   pub kept : (r : Refusal) → taken .verdict ≡ Refused r → ledger ≡ old
   pub boundary : taken .verdict ≡ Passes → taken .state .boundary ≡ state .boundary + 1
-  pub reached : taken .verdict ≡ Passes → StateAt networkText planText (taken .state) arrivals curves places waiting ledger
+  pub reached : taken .verdict ≡ Passes → StateAt networkText planText (taken .state) signals arrivals curves places waiting ledger
   pub row-more : taken .verdict ≡ Passes → ledger ≡ written (lines networkText) (planOf networkText planText) old (suc (suc (state .boundary)))
 
 -- the answer once all steps have passed: the plan's text is at its end, or one line more is refused

@@ -16,7 +16,7 @@ use Rattle.model.specs.Hold.{planOf}
 use Rattle.model.specs.Calls.{planAnswer, rowsWritten, written, ledgerAfter}
 use Rattle.tables.specs.declared.Counts.{Counts}
 use Rattle.tables.specs.declared.Reading.{Reading}
-use Rattle.network_signals.specs.Stages.{LoadAsked}
+use Rattle.network_signals.specs.Stages.{SignalsPassed, LoadAsked}
 use Rattle.waiting.specs.Waiting.{WaitingTable}
 use Rattle.step_signals.specs.Step.{SignalsAt}
 use Rattle.plan_steps.specs.declared.State.{State}
@@ -26,7 +26,7 @@ use Rattle.plan_steps.specs.State.{Tables, StateAt}
 -- what taking all steps asks ..
 pub record RunAsked (networkText planText : List ℕ) (reading : Reading) (links movements times ledger : List ℕ) : Type 0 where
   pub tables : Tables networkText (reading .counts) (reading .«trams_at») links movements times
-  pub signals-asked : LoadAsked networkText reading
+  pub signals-passed : SignalsPassed networkText reading
   pub past-start : Starts networkText (reading .«past_at») (timelineLine (lines networkText) 0)
   pub steps-start : Starts networkText (reading .«steps_at») (stepLine (lines networkText) 0)
   pub room : 2 * suc (stepCount (lines networkText)) * linkCount (lines networkText) ≤ length ledger
@@ -38,9 +38,9 @@ pub record RunGot (networkText planText old : List ℕ) (answer : PlanAnswer) (l
   pub some-row : 1 ≤ rowsWritten (lines networkText) (planOf networkText planText) (length old)
 
 -- what taking the first steps asks: room for their rows alone
-pub record StepsAsked (networkText planText : List ℕ) (reading : Reading) (steps : ℕ) (links movements times waiting ledger : List ℕ) : Type 0 where
+pub record StepsAsked (networkText planText : List ℕ) (reading : Reading) (steps : ℕ) (links movements times signals waiting ledger : List ℕ) : Type 0 where
   pub tables : Tables networkText (reading .counts) (reading .«trams_at») links movements times
-  pub signals-asked : LoadAsked networkText reading
+  pub signals-asked : LoadAsked networkText reading signals
   pub past-start : Starts networkText (reading .«past_at») (timelineLine (lines networkText) 0)
   pub steps-start : Starts networkText (reading .«steps_at») (stepLine (lines networkText) 0)
   pub few-steps : steps ≤ stepCount (lines networkText)
@@ -56,24 +56,24 @@ pub record Stopped (networkText planText old : List ℕ) (steps : ℕ) (r : Refu
   pub rows : ledger ≡ written (lines networkText) (planOf networkText planText) old (suc step)
 
 -- all of them pass: the state after them
-pub record AllTaken (networkText planText old : List ℕ) (steps : ℕ) (state : State) (waiting ledger : List ℕ) : Type 0 where
+pub record AllTaken (networkText planText old : List ℕ) (steps : ℕ) (state : State) (signals waiting ledger : List ℕ) : Type 0 where
   pub passed : (m : ℕ) → m < steps → verdict (lineChecks (lines networkText) (planOf networkText planText) m) ≡ Passes
   pub plan-starts : 0 < length planText → Starts planText (state .«plan_at») steps
-  pub signals-at : SignalsAt (lines networkText) (planOf networkText planText) steps (state .signals)
+  pub signals-at : SignalsAt (lines networkText) (planOf networkText planText) steps signals
   pub totals-at : state .totals ≡ totals (lines networkText) (planOf networkText planText) steps
   pub waiting-at : WaitingTable (lines networkText) (planOf networkText planText) steps waiting
   pub rows : ledger ≡ written (lines networkText) (planOf networkText planText) old (suc steps)
 
 -- what taking the first steps promises, since the ledger was `old`
-pub record StepsGot (networkText planText old : List ℕ) (steps : ℕ) (taken : Taken) (waiting ledger : List ℕ) : Type 0 where
+pub record StepsGot (networkText planText old : List ℕ) (steps : ℕ) (taken : Taken) (signals waiting ledger : List ℕ) : Type 0 where
   pub stopped : (r : Refusal) → taken .verdict ≡ Refused r → Stopped networkText planText old steps r ledger
-  pub reached : taken .verdict ≡ Passes → AllTaken networkText planText old steps (taken .state) waiting ledger
+  pub reached : taken .verdict ≡ Passes → AllTaken networkText planText old steps (taken .state) signals waiting ledger
 
 -- the state while they are taken
-pub record Running (networkText planText : List ℕ) (counts : Counts) (tramsAt steps : ℕ) (links movements times old : List ℕ) (taken : Taken) (arrivals curves places waiting ledger : List ℕ) : Type 0 where
+pub record Running (networkText planText : List ℕ) (counts : Counts) (tramsAt steps : ℕ) (links movements times old : List ℕ) (taken : Taken) (signals arrivals curves places waiting ledger : List ℕ) : Type 0 where
   pub tables : Tables networkText counts tramsAt links movements times
   pub passes : taken .verdict ≡ Passes
-  pub state-at : StateAt networkText planText (taken .state) arrivals curves places waiting ledger
+  pub state-at : StateAt networkText planText (taken .state) signals arrivals curves places waiting ledger
   pub few-steps : steps ≤ stepCount (lines networkText)
   pub within : taken .state .boundary ≤ steps
   pub since : ledger ≡ written (lines networkText) (planOf networkText planText) old (suc (taken .state .boundary))

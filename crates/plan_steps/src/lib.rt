@@ -7,7 +7,6 @@ ghost use Rattle.plan_steps.specs.PlanLine.{LineAsked, LineGot};
 ghost use Rattle.plan_steps.specs.Totals.{totalsAfter, TotalsAsked};
 ghost use Rattle.model.specs.Network.{maxSteps};
 use model::PlanAnswer;
-use model::Signal;
 use model::Totals;
 use records::LineRead;
 use search::Refusal;
@@ -18,20 +17,21 @@ use tables::MAX_LINKS;
 use tables::MAX_SIGNALS;
 use tables::ROW_SIZE;
 use tables::Reading;
+use tables::SIGNAL_TABLE_SIZE;
 use tables::STEP_SIZE;
 use tables::wide;
 
-// The state at a boundary: where the `S` and the `P` line of the next step start, the signals, the totals so far, and how many wait outside.
+// The state at a boundary: where the `S` and the `P` line of the next step start, the totals so far, and how many wait outside. The signals stand in a table that
+// is lent, since a copy of them a step costs more than the rest of the step's state.
 pub struct State {
     pub boundary: usize,
     pub step_at: usize,
     pub plan_at: usize,
-    pub signals: [Signal; 8],
     pub totals: Totals,
     pub outside: u64,
 }
 
-// What a step comes to: the verdict on it, and where it passes the state after it. (An enum can't hold the signals, since they hold arrays.)
+// What a step comes to: the verdict on it, and where it passes the state after it.
 pub struct Taken {
     pub verdict: Verdict,
     pub state: State,
@@ -75,17 +75,13 @@ fn next_state(
     state: State,
     step: &[u32],
     line: &[u32],
-    phases: &[u32],
-    asked: &[u32],
     row: &[u32],
     waiting: &[u32],
     counts: Counts,
 ) -> State
-    requires { ⌜ NextAsked state counts (now step) (now line) (now phases) (now asked) (now row) (now waiting) ⌝ }
-    ensures { λ r. ⌜ NextGot state counts (now (step .entry)) (now (line .entry)) (now (phases .entry)) (now (asked .entry)) (now (row .entry)) (now (waiting .entry)) r ⌝ }
+    requires { ⌜ NextAsked state counts (now step) (now line) (now row) (now waiting) ⌝ }
+    ensures { λ r. ⌜ NextGot state counts (now (step .entry)) (now (line .entry)) (now (row .entry)) (now (waiting .entry)) r ⌝ }
 {
-    let shown = state.signals;
-    let signals = step_signals::advance(shown, counts.signals, phases, asked, step[0]);
     let outside = step_rows::sum_of(waiting, 0, counts.links);
     let totals = add_step(
         state.totals,
@@ -100,22 +96,15 @@ fn next_state(
         boundary: state.boundary + 1,
         step_at: state.step_at,
         plan_at: state.plan_at,
-        signals,
         totals,
         outside,
     }
 }
 
 // Reads the numbers of a step's `P` line. An empty text means hold: each signal keeps its phase, and every volume is 0, as `line` has it.
-fn read_line(
-    plan: &[u8],
-    at: usize,
-    signals: [Signal; 8],
-    counts: Counts,
-    line: &mut [u32],
-) -> LineRead
-    requires { ⌜ LineAsked signals counts (now line) ⌝ }
-    ensures { λ r. ⌜ LineGot (now (plan .entry)) at signals counts (now (line .entry)) r (now (line .exit)) ⌝ }
+fn read_line(plan: &[u8], at: usize, signals: &[u32], counts: Counts, line: &mut [u32]) -> LineRead
+    requires { ⌜ LineAsked (now signals) counts (now line) ⌝ }
+    ensures { λ r. ⌜ LineGot (now (plan .entry)) at (now (signals .entry)) counts (now (line .entry)) r (now (line .exit)) ⌝ }
 {
     if plan.len() == 0 {
         step_signals::hold_masks(signals, counts.signals, line);
@@ -133,6 +122,7 @@ fn take_step(
     links: &[u32],
     movements: &[u32],
     times: &[u32],
+    signals: &mut [u32],
     arrivals: &mut [usize],
     curves: &mut [u32],
     places: &mut [usize],
@@ -140,8 +130,8 @@ fn take_step(
     ledger: &mut [u32],
     mut state: State,
 ) -> Taken
-    requires { ⌜ StepAsked (now network) (now plan) counts «trams_at» (now links) (now movements) (now times) (now arrivals) (now curves) (now places) (now waiting) (now ledger) state ⌝ }
-    ensures { λ r. ⌜ StepGot (now (network .entry)) (now (plan .entry)) (now (ledger .entry)) state r (now (arrivals .exit)) (now (curves .exit)) (now (places .exit)) (now (waiting .exit)) (now (ledger .exit)) ⌝ }
+    requires { ⌜ StepAsked (now network) (now plan) counts «trams_at» (now links) (now movements) (now times) (now signals) (now arrivals) (now curves) (now places) (now waiting) (now ledger) state ⌝ }
+    ensures { λ r. ⌜ StepGot (now (network .entry)) (now (plan .entry)) (now (ledger .entry)) state r (now (signals .exit)) (now (arrivals .exit)) (now (curves .exit)) (now (places .exit)) (now (waiting .exit)) (now (ledger .exit)) ⌝ }
 {
     let mut step = [0u32; STEP_SIZE];
     let mut line = [0u32; LINE_SIZE];
@@ -149,7 +139,6 @@ fn take_step(
     let mut asked = [0u32; MAX_SIGNALS];
     let mut row = [0u32; ROW_SIZE];
     let n = state.boundary;
-    let signals = state.signals;
     let step_end = network_steps::load_step(network, state.step_at, counts.links, &mut step);
     waiting::add_waiting(waiting, counts.links, &mut step);
     let read = read_line(plan, state.plan_at, signals, counts, &mut line);
@@ -190,9 +179,10 @@ fn take_step(
     };
     step_rows::write_row(ledger, 2 * (n + 1) * counts.links, &row, 2 * counts.links);
     waiting::next_waiting(&step, &line, counts, waiting);
+    step_signals::advance(signals, counts.signals, &phases, &asked, step[0]);
     state.step_at = step_end;
     state.plan_at = plan_end;
-    let next = next_state(state, &step, &line, &phases, &asked, &row, waiting, counts);
+    let next = next_state(state, &step, &line, &row, waiting, counts);
     Taken {
         verdict,
         state: next,
@@ -211,8 +201,8 @@ fn finish(plan: &[u8], at: usize, steps: usize, totals: Totals) -> PlanAnswer
     }
 }
 
-// Takes the first steps, so many, one after another, up to the first that is refused: row 0 is written, and the past gives what arrives before time 0. `waiting`
-// has who waits after them. The signals are loaded here, straight into the first state: one copy of them less on the stack.
+// Takes the first steps, so many, one after another, up to the first that is refused: row 0 is written, and the past gives what arrives before time 0. `signals`,
+// a table of zeros, and `waiting` have what the signals show and who waits after them.
 pub fn take_steps(
     network: &[u8],
     plan: &[u8],
@@ -221,11 +211,12 @@ pub fn take_steps(
     links: &[u32],
     movements: &[u32],
     times: &[u32],
+    signals: &mut [u32],
     waiting: &mut [u32],
     ledger: &mut [u32],
 ) -> Taken
-    requires { ⌜ StepsAsked (now network) (now plan) reading steps (now links) (now movements) (now times) (now waiting) (now ledger) ⌝ }
-    ensures { λ r. ⌜ StepsGot (now (network .entry)) (now (plan .entry)) (now (ledger .entry)) steps r (now (waiting .exit)) (now (ledger .exit)) ⌝ }
+    requires { ⌜ StepsAsked (now network) (now plan) reading steps (now links) (now movements) (now times) (now signals) (now waiting) (now ledger) ⌝ }
+    ensures { λ r. ⌜ StepsGot (now (network .entry)) (now (plan .entry)) (now (ledger .entry)) steps r (now (signals .exit)) (now (waiting .exit)) (now (ledger .exit)) ⌝ }
 {
     let counts = reading.counts;
     let trams_at = reading.trams_at;
@@ -243,6 +234,7 @@ pub fn take_steps(
         &mut curves,
         &mut places,
     );
+    network_signals::load_signals(network, reading, signals);
     waiting::first_waiting(links, counts.links, waiting);
     let totals = Totals {
         admitted: 0,
@@ -254,7 +246,6 @@ pub fn take_steps(
         boundary: 0,
         step_at: reading.steps_at,
         plan_at: 0,
-        signals: network_signals::load_signals(network, reading),
         totals,
         outside: step_rows::sum_of(waiting, 0, counts.links),
     };
@@ -272,6 +263,7 @@ pub fn take_steps(
             links,
             movements,
             times,
+            signals,
             &mut arrivals,
             &mut curves,
             &mut places,
@@ -300,6 +292,7 @@ pub fn run_steps(
     requires { ⌜ RunAsked (now network) (now plan) reading (now links) (now movements) (now times) (now ledger) ⌝ }
     ensures { λ r. ⌜ RunGot (now (network .entry)) (now (plan .entry)) (now (ledger .entry)) r (now (ledger .exit)) ⌝ }
 {
+    let mut signals = [0u32; SIGNAL_TABLE_SIZE];
     let mut waiting = [0u32; MAX_LINKS];
     let steps = reading.counts.steps;
     let taken = take_steps(
@@ -310,6 +303,7 @@ pub fn run_steps(
         links,
         movements,
         times,
+        &mut signals,
         &mut waiting,
         ledger,
     );

@@ -10,7 +10,6 @@ use Rattle.search.specs.declared.Verdict.{Verdict}
 use Rattle.search.specs.declared.Verdict.the-variants.{Passes, Refused}
 use Rattle.search.specs.Checks.{verdict, table}
 use Rattle.search.proofs.Laws.{or-else-passes, or-else-refused}
-use Rattle.model.specs.declared.Signal.{Signal}
 use Rattle.tables.specs.declared.Counts.{Counts}
 use Rattle.tables.specs.Fields.{lengthIn}
 use Rattle.step_signals.specs.Step.{signalRulesIn}
@@ -20,13 +19,13 @@ use Rattle.step_sums.specs.Sums.{sumRulesIn, SumTables}
 use Rattle.step_check.specs.Step.{rowFrom, madeRow, signalVerdict, limitVerdict, sumVerdict, JudgeAsked, Judged}
 
 -- where the row before the step starts
-pub place-small : {counts : Counts} {signals : List Signal} {line step links movements phases asked ledger times arrivals curves row : List ℕ} {n : ℕ}
+pub place-small : {counts : Counts} {signals line step links movements phases asked ledger times arrivals curves row : List ℕ} {n : ℕ}
     → JudgeAsked counts signals line step links movements phases asked ledger times arrivals curves row n → 2 * n * counts .links ≤ 5760
 place-small {counts} {n = n} given =
     let h : 2 * n ≤ 240 = omega (arith, given .few-steps) in
     omega (arith, mul-le-mul-right (counts .links) h, given .line-tables .tables .few .links)
 
-module _ (counts : Counts) (signals : List Signal) (line step links movements phases asked ledger times arrivals curves row : List ℕ) (n : ℕ) where
+module _ (counts : Counts) (signals line step links movements phases asked ledger times arrivals curves row : List ℕ) (n : ℕ) where
   module _ {v : Verdict} (signals-told : v ≡ verdict (table (n + 1) (signalRulesIn signals (counts .signals) phases asked (lengthIn step)))) where
     signals-are : v ≡ signalVerdict counts signals line step links movements phases asked ledger times arrivals curves row n
     unfolding signalVerdict

@@ -6,7 +6,6 @@ use lib.ListN.{length, take, drop}
 use Rattle.search.specs.declared.Verdict.{Verdict}
 use Rattle.search.specs.declared.Verdict.the-variants.{Passes}
 use Rattle.search.specs.Checks.{orElse, verdict, table}
-use Rattle.model.specs.declared.Signal.{Signal}
 use Rattle.model.specs.Network.{maxSteps}
 use Rattle.tables.specs.declared.Counts.{Counts}
 use Rattle.tables.specs.Fields.{lengthIn}
@@ -23,7 +22,7 @@ rowFrom counts ledger n = take (length ledger - 2 * n * counts .links) (drop (2 
 abbrev pub madeRow : Counts → List ℕ → List ℕ → List ℕ → List ℕ → ℕ → List ℕ
 madeRow counts line movements ledger row n = nextRow counts line movements (rowFrom counts ledger n) ++ drop (2 * counts .links) row
 
-module _ (counts : Counts) (signals : List Signal) (line step links movements phases asked ledger times arrivals curves row : List ℕ) (n : ℕ) where
+module _ (counts : Counts) (signals line step links movements phases asked ledger times arrivals curves row : List ℕ) (n : ℕ) where
   -- the verdicts on rules 10, 29 and 11 to 14, on 15 and 25 to 27, and on 16 to 18, told at line n + 1 of the plan
   unfoldable pub signalVerdict : Verdict
   signalVerdict = verdict (table (suc n) (signalRulesIn signals (counts .signals) phases asked (lengthIn step)))

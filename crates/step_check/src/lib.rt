@@ -1,13 +1,12 @@
 // The judgement of one step of a plan: rules 10 to 18, 25 to 27 and 29 in their order, each over rising items. It goes in three searches, each of a family of rules, so that the sums of
 // rules 16 to 18 are formed only once the limits of the volumes (15, 25 to 27) have passed.
 ghost use Rattle.step_check.specs.Step.{JudgeAsked, Judged};
-use model::Signal;
 use search::Verdict;
 use tables::Counts;
 
 // Judges step n by its lines, and forms the row after it in a row that is lent: `ledger` has the rows of boundaries 0 to n.
 pub fn judge_step(
-    signals: [Signal; 8],
+    signals: &[u32],
     line: &[u32],
     step: &[u32],
     links: &[u32],
@@ -22,8 +21,8 @@ pub fn judge_step(
     counts: Counts,
     n: usize,
 ) -> Verdict
-    requires { ⌜ JudgeAsked counts signals (now line) (now step) (now links) (now movements) (now phases) (now asked) (now ledger) (now times) (now arrivals) (now curves) (now row) n ⌝ }
-    ensures { λ r. ⌜ Judged counts signals (now (line .entry)) (now (step .entry)) (now (links .entry)) (now (movements .entry)) (now (phases .entry)) (now (asked .entry)) (now (ledger .entry)) (now (times .entry)) (now (arrivals .entry)) (now (curves .entry)) (now (row .entry)) n r (now (row .exit)) ⌝ }
+    requires { ⌜ JudgeAsked counts (now signals) (now line) (now step) (now links) (now movements) (now phases) (now asked) (now ledger) (now times) (now arrivals) (now curves) (now row) n ⌝ }
+    ensures { λ r. ⌜ Judged counts (now (signals .entry)) (now (line .entry)) (now (step .entry)) (now (links .entry)) (now (movements .entry)) (now (phases .entry)) (now (asked .entry)) (now (ledger .entry)) (now (times .entry)) (now (arrivals .entry)) (now (curves .entry)) (now (row .entry)) n r (now (row .exit)) ⌝ }
 {
     let number = (n + 1) as u32;
     let found = step_signals::first_signal_break(

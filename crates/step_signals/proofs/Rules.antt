@@ -23,7 +23,7 @@ unfolding signalTest
 no-signal-test k s q asked seconds h = sym (List·getD-eq-default (signalTests s q asked seconds) true h)
 
 -- ---- the table of the rules
-module _ (signals : List Signal) (count : ℕ) (phases asked : List ℕ) (seconds : ℕ) where
+module _ (signals : List ℕ) (count : ℕ) (phases asked : List ℕ) (seconds : ℕ) where
   pub signal-rule-is : (k : ℕ) → k < 6 → ruleAt (signalRulesIn signals count phases asked seconds) k ≡ signalRuleIn signals count phases asked seconds k
   unfolding signalRulesIn
   signal-rule-is zero h = refl

@@ -8,9 +8,9 @@ use lib.ListN.{length, getD, set, length-set}
 use lib.Seq.{getD-set-same, getD-set-other}
 use borrow.Author.Count.{below-more}
 use borrow.Author.Tests.{ne-eqb}
-use Rattle.model.specs.declared.Signal.{Signal}
-use Rattle.tables.specs.Tables.{noSignal}
-use Rattle.model.specs.Signals.{phaseOf, after}
+use Rattle.tables.specs.Fields.{signalTableSize, tableSignal}
+use Rattle.tables.specs.Tables.{showing, SignalLaid}
+use Rattle.model.specs.Signals.{phaseOf, shownForAfter, clockAfter, after}
 use Rattle.step_signals.specs.Step.{ShownPhases, HeldMasks, stepped, Advanced}
 
 module _ {A : Type 0} (l : List A) (i : ℕ) (x d : A) (h : i < length l) where
@@ -20,12 +20,12 @@ module _ {A : Type 0} (l : List A) (i : ℕ) (x d : A) (h : i < length l) where
       below-more (λ k. getD (set l i x) k d ≡ f k) i (λ k b. getD-set-other l i k x d (λ q. omega arith) ∙ below k b) (getD-set-same l i x d h ∙ e)
 
 -- no phase is written yet
-pub shown-none : (signals : List Signal) (masks before : List ℕ) → length before ≡ 8 → ShownPhases signals 0 masks before before
+pub shown-none : (signals masks before : List ℕ) → length before ≡ 8 → ShownPhases signals 0 masks before before
 shown-none signals masks before h = record { size = h; shown = λ r l. absurd (omega arith); kept = λ r l. refl }
 
 -- one more is
-pub shown-more : (signals : List Signal) (masks before : List ℕ) (i : ℕ) (phases : List ℕ) (q : ℕ) → i < 8 → ShownPhases signals i masks before phases
-    → q ≡ phaseOf (getD masks i 0) (getD signals i noSignal .phases) → ShownPhases signals (i + 1) masks before (set phases i q)
+pub shown-more : (signals masks before : List ℕ) (i : ℕ) (phases : List ℕ) (q : ℕ) → i < 8 → ShownPhases signals i masks before phases
+    → q ≡ phaseOf (getD masks i 0) (tableSignal signals i .phases) → ShownPhases signals (i + 1) masks before (set phases i q)
 shown-more signals masks before i phases q h s e = record {
   size = length-set phases i q ∙ s .size;
   shown = laid phases i q 0 (omega arith) _ (s .shown) e;
@@ -33,36 +33,42 @@ shown-more signals masks before i phases q h s e = record {
 }
 
 -- no mask is written yet
-pub held-none : (signals : List Signal) (before : List ℕ) → HeldMasks signals 0 before before
+pub held-none : (signals before : List ℕ) → HeldMasks signals 0 before before
 held-none signals before = record { size = refl; held = λ r l. absurd (omega arith); kept = λ r l. refl }
 
 -- one more is
-pub held-more : (signals : List Signal) (before : List ℕ) (i : ℕ) (line : List ℕ) (mask : ℕ) → i < length before → HeldMasks signals i before line
-    → mask ≡ 2 ^ (getD signals i noSignal .shown - 1) → HeldMasks signals (i + 1) before (set line i mask)
+pub held-more : (signals before : List ℕ) (i : ℕ) (line : List ℕ) (mask : ℕ) → i < length before → HeldMasks signals i before line
+    → mask ≡ 2 ^ (tableSignal signals i .shown - 1) → HeldMasks signals (i + 1) before (set line i mask)
 held-more signals before i line mask h s e = record {
   size = length-set line i mask ∙ s .size;
   held = laid line i mask 0 (omega (arith, s .size)) _ (s .held) e;
   kept = λ r l. getD-set-other line i r mask 0 (λ x. omega arith) ∙ s .kept r (omega arith);
 }
 
--- a signal after a step: in an ordinary one it goes on, in a tram's it stands still
-module _ (s : Signal) (q asked seconds : ℕ) where
-  pub signal-on : asked ≡ 0 → {t : Signal} → t ≡ after s q seconds → t ≡ stepped s q asked seconds
-  signal-on e h = h ∙ rw e refl
+-- a signal after a step: in an ordinary one it goes on ..
+module _ {before : List ℕ} {r : ℕ} (q asked seconds : ℕ) where
+  pub signal-on : asked ≡ 0 → {run clock : ℕ} → run ≡ shownForAfter (tableSignal before r) q seconds → clock ≡ clockAfter (tableSignal before r) q seconds
+      → {next : List ℕ} → SignalLaid before r (showing (tableSignal before r) q run clock) next → SignalLaid before r (stepped (tableSignal before r) q asked seconds) next
+  signal-on e f g {next} laid =
+      let on : SignalLaid before r (after (tableSignal before r) q seconds) next = rw (f, g) at laid in
+      rw e on
 
-  pub signal-still : (asked ≡ 0 → ⊥) → s ≡ stepped s q asked seconds
-  signal-still d = rw (ne-eqb asked 0 d) refl
+  -- .. and in a tram's it stands still
+  pub signal-still : (asked ≡ 0 → ⊥) → SignalLaid before r (stepped (tableSignal before r) q asked seconds) before
+  signal-still d = record { size = refl; laid = rw (ne-eqb asked 0 d) refl; kept = λ i e. refl }
 
 -- no signal is a step on yet
-pub advanced-none : (signals : List Signal) (phases asked : List ℕ) (seconds : ℕ) → length signals ≡ 8 → Advanced signals 0 phases asked seconds signals
+pub advanced-none : (signals phases asked : List ℕ) (seconds : ℕ) → length signals ≡ signalTableSize → Advanced signals 0 phases asked seconds signals
 advanced-none signals phases asked seconds h = record { size = h; on = λ r l. absurd (omega arith); kept = λ r l. refl }
 
 -- one more is
-pub advanced-more : (signals : List Signal) (phases asked : List ℕ) (seconds i : ℕ) (result : List Signal) (s : Signal) → i < 8
-    → Advanced signals i phases asked seconds result → s ≡ stepped (getD result i noSignal) (getD phases i 0) (getD asked i 0) seconds
-    → Advanced signals (i + 1) phases asked seconds (set result i s)
-advanced-more signals phases asked seconds i result s h a e = record {
-  size = length-set result i s ∙ a .size;
-  on = laid result i s noSignal (omega arith) _ (a .on) (e ∙ ap (λ x. stepped x (getD phases i 0) (getD asked i 0) seconds) (a .kept i (le-refl i)));
-  kept = λ r l. getD-set-other result i r s noSignal (λ x. omega arith) ∙ a .kept r (omega arith);
+pub advanced-more : (signals phases asked : List ℕ) (seconds i : ℕ) (result next : List ℕ)
+    → Advanced signals i phases asked seconds result → SignalLaid result i (stepped (tableSignal result i) (getD phases i 0) (getD asked i 0) seconds) next
+    → Advanced signals (i + 1) phases asked seconds next
+advanced-more signals phases asked seconds i result next a laid = record {
+  size = laid .size ∙ a .size;
+  on = below-more (λ r. tableSignal next r ≡ stepped (tableSignal signals r) (getD phases r 0) (getD asked r 0) seconds) i
+      (λ r l. laid .kept r (λ x. omega arith) ∙ a .on r l)
+      (laid .laid ∙ ap (λ x. stepped x (getD phases i 0) (getD asked i 0) seconds) (a .kept i (le-refl i)));
+  kept = λ r l. laid .kept r (λ x. omega arith) ∙ a .kept r (omega arith);
 }

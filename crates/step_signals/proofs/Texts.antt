@@ -6,13 +6,12 @@ use native.Mathlib.Omega.{arith}
 use Rattle.search.specs.Checks.{verdict, ruleAt, table}
 use Rattle.search.proofs.Table.{SameRule, same-table}
 use Rattle.records.specs.Lines.{Line}
-use Rattle.model.specs.declared.Signal.{Signal}
 use Rattle.model.specs.Network.{signalCount, stepLength, ordinary}
 use Rattle.model.specs.Rules.{rule10, rule11, rule12, rule13, rule14, rule29}
 use Rattle.model.specs.Table.{signalRules}
 use Rattle.step_signals.specs.Step.{signalTest, signalRulesIn, ShownTable, AskedTable, SignalsAt}
 
-module _ {network plan : List Line} {n : ℕ} {signals : List Signal} {count : ℕ} {phases asked : List ℕ} {seconds : ℕ} (counted : count ≡ signalCount network)
+module _ {network plan : List Line} {n : ℕ} {signals : List ℕ} {count : ℕ} {phases asked : List ℕ} {seconds : ℕ} (counted : count ≡ signalCount network)
     (carried : SignalsAt network plan n signals) (shown : ShownTable network plan n phases) (claims : AskedTable network n asked) (long : seconds ≡ stepLength network n) where
   signal-rule-same : (k : ℕ) → k < 6 → SameRule (ruleAt (signalRulesIn signals count phases asked seconds) k) (ruleAt (signalRules network plan n) k)
   unfolding signalRulesIn signalTest signalRules ordinary rule10 rule11 rule12 rule13 rule14 rule29

@@ -11,7 +11,7 @@ use Rattle.model.specs.declared.Signal.{Signal}
 use Rattle.model.specs.Test.{_or_}
 use Rattle.model.specs.Network.{maxSignals, signalCount, trams, tramPhase}
 use Rattle.model.specs.Flows.{shownIn, signalAt}
-use Rattle.tables.specs.Tables.{noSignal}
+use Rattle.tables.specs.Fields.{signalTableSize, tableSignal}
 use Rattle.model.specs.Signals.{phaseOf, showsOnePhase, keepsOrder, keepsLeastTime, keepsGreatestTime, keepsCycle, after}
 use Rattle.step_signals.specs.Ready.{AllReady}
 
@@ -35,23 +35,24 @@ abbrev pub signalNumber : ℕ → ℕ
 signalNumber k = getD (10 ∷ 29 ∷ 11 ∷ 12 ∷ 13 ∷ 14 ∷ []) k 0
 
 -- rule k of these over so many signals, which show these phases, and of which trams ask these
-abbrev pub signalRuleIn : List Signal → ℕ → List ℕ → List ℕ → ℕ → ℕ → Rule
+abbrev pub signalRuleIn : List ℕ → ℕ → List ℕ → List ℕ → ℕ → ℕ → Rule
 signalRuleIn signals count phases asked seconds k =
     record {
       number = signalNumber k;
       items = count;
-      holds = λ r. signalTest k (getD signals r noSignal) (getD phases r 0) (getD asked r 0) seconds;
+      holds = λ r. signalTest k (tableSignal signals r) (getD phases r 0) (getD asked r 0) seconds;
     }
 
 -- the table of these rules
-unfoldable pub signalRulesIn : List Signal → ℕ → List ℕ → List ℕ → ℕ → List Rule
+unfoldable pub signalRulesIn : List ℕ → ℕ → List ℕ → List ℕ → ℕ → List Rule
 signalRulesIn signals count phases asked seconds =
     let rule = signalRuleIn signals count phases asked seconds in
     rule 0 ∷ rule 1 ∷ rule 2 ∷ rule 3 ∷ rule 4 ∷ rule 5 ∷ []
 
 -- what the search of these asks of the tables
-pub record SignalTables (signals : List Signal) (count : ℕ) (phases asked : List ℕ) (seconds : ℕ) : Type 0 where
+pub record SignalTables (signals : List ℕ) (count : ℕ) (phases asked : List ℕ) (seconds : ℕ) : Type 0 where
   pub few : count ≤ maxSignals
+  pub size : length signals ≡ signalTableSize
   pub ready : AllReady signals count
   pub short : seconds ≤ 60
   pub phases-size : length phases ≡ maxSignals
@@ -59,9 +60,9 @@ pub record SignalTables (signals : List Signal) (count : ℕ) (phases asked : Li
   pub phase-last : (r : ℕ) → r < count → getD phases r 0 ≤ 8
 
 -- the phases that the first n signals' masks show; what stands past them is kept
-pub record ShownPhases (signals : List Signal) (n : ℕ) (masks before phases : List ℕ) : Type 0 where
+pub record ShownPhases (signals : List ℕ) (n : ℕ) (masks before phases : List ℕ) : Type 0 where
   pub size : length phases ≡ maxSignals
-  pub shown : (r : ℕ) → r < n → getD phases r 0 ≡ phaseOf (getD masks r 0) (getD signals r noSignal .phases)
+  pub shown : (r : ℕ) → r < n → getD phases r 0 ≡ phaseOf (getD masks r 0) (tableSignal signals r .phases)
   pub kept : (r : ℕ) → n ≤ r → getD phases r 0 ≡ getD before r 0
 
 -- a signal after a step: it stands still where a tram asks a phase of it
@@ -69,16 +70,25 @@ abbrev pub stepped : Signal → ℕ → ℕ → ℕ → Signal
 stepped s q asked seconds = cond (eqb asked 0) (after s q seconds) s
 
 -- the masks by which the first n signals keep their phases; what stands past them is kept
-pub record HeldMasks (signals : List Signal) (n : ℕ) (before line : List ℕ) : Type 0 where
+pub record HeldMasks (signals : List ℕ) (n : ℕ) (before line : List ℕ) : Type 0 where
   pub size : length line ≡ length before
-  pub held : (r : ℕ) → r < n → getD line r 0 ≡ 2 ^ (getD signals r noSignal .shown - 1)
+  pub held : (r : ℕ) → r < n → getD line r 0 ≡ 2 ^ (tableSignal signals r .shown - 1)
   pub kept : (r : ℕ) → n ≤ r → getD line r 0 ≡ getD before r 0
 
+-- what stepping signals on asks of the tables
+pub record AdvanceAsked (signals : List ℕ) (count : ℕ) (phases asked : List ℕ) (seconds : ℕ) : Type 0 where
+  pub few : count ≤ maxSignals
+  pub size : length signals ≡ signalTableSize
+  pub ready : AllReady signals count
+  pub short : seconds ≤ 60
+  pub phases-size : count ≤ length phases
+  pub asked-size : count ≤ length asked
+
 -- the first n signals are one step on, in which they show these phases and trams ask these; the others are as they were
-pub record Advanced (signals : List Signal) (n : ℕ) (phases asked : List ℕ) (seconds : ℕ) (result : List Signal) : Type 0 where
-  pub size : length result ≡ maxSignals
-  pub on : (r : ℕ) → r < n → getD result r noSignal ≡ stepped (getD signals r noSignal) (getD phases r 0) (getD asked r 0) seconds
-  pub kept : (r : ℕ) → n ≤ r → getD result r noSignal ≡ getD signals r noSignal
+pub record Advanced (signals : List ℕ) (n : ℕ) (phases asked : List ℕ) (seconds : ℕ) (result : List ℕ) : Type 0 where
+  pub size : length result ≡ signalTableSize
+  pub on : (r : ℕ) → r < n → tableSignal result r ≡ stepped (tableSignal signals r) (getD phases r 0) (getD asked r 0) seconds
+  pub kept : (r : ℕ) → n ≤ r → tableSignal result r ≡ tableSignal signals r
 
 -- the phase that each signal shows in step n
 pub record ShownTable (network plan : List Line) (n : ℕ) (phases : List ℕ) : Type 0 where
@@ -91,7 +101,7 @@ pub record AskedTable (network : List Line) (n : ℕ) (asked : List ℕ) : Type 
   pub holds : (r : ℕ) → r < signalCount network → getD asked r 0 ≡ tramPhase (trams network) r n
 
 -- the signals at boundary n
-pub record SignalsAt (network plan : List Line) (n : ℕ) (signals : List Signal) : Type 0 where
-  pub size : length signals ≡ maxSignals
-  pub holds : (r : ℕ) → r < signalCount network → getD signals r noSignal ≡ signalAt network plan n r
+pub record SignalsAt (network plan : List Line) (n : ℕ) (signals : List ℕ) : Type 0 where
+  pub size : length signals ≡ signalTableSize
+  pub holds : (r : ℕ) → r < signalCount network → tableSignal signals r ≡ signalAt network plan n r
   pub ready : AllReady signals (signalCount network)

@@ -6,11 +6,12 @@ ghost use mathlib.Core.Bool.{cond};
 ghost use Prim.Native.Nat.{_-_, _^_, _≤_, _<_};
 ghost use lib.ListN.{length};
 ghost use Rattle.model.specs.Network.{maxSignals};
-ghost use Rattle.model.specs.Signals.{phaseOf, opens, nextPhase, beginsCycle, shownForAfter, clockAfter, keepsOrder, keepsLeastTime, keepsGreatestTime, keepsCycle, after};
-ghost use Rattle.step_signals.specs.Ready.{Ready, AllReady};
+ghost use Rattle.model.specs.Signals.{phaseOf, opens, nextPhase, beginsCycle, shownForAfter, clockAfter, keepsOrder, keepsLeastTime, keepsGreatestTime, keepsCycle};
+ghost use Rattle.tables.specs.Fields.{signalTableSize, tableSignal};
+ghost use Rattle.tables.specs.Tables.{SignalLaid};
+ghost use Rattle.step_signals.specs.Ready.{ReadyIn, AllReady};
 ghost use Rattle.search.specs.Checks.{verdict, table};
-ghost use Rattle.step_signals.specs.Step.{signalTest, signalNumber, signalRulesIn, SignalTables, ShownPhases, HeldMasks, stepped, Advanced};
-use model::Signal;
+ghost use Rattle.step_signals.specs.Step.{signalTest, signalNumber, signalRulesIn, SignalTables, ShownPhases, HeldMasks, stepped, AdvanceAsked, Advanced};
 use search::Refusal;
 use search::Verdict;
 
@@ -60,14 +61,14 @@ fn choose(condition: bool, a: u32, b: u32) -> u32
 }
 
 // The phase after the shown one, by cases (C8): after P comes 1, after any other k comes k + 1. Where none is shown, it is 1.
-fn next_phase(signal: Signal) -> u32
-    requires { ⌜ Ready signal ⌝ }
-    ensures { λ r. ⌜ r ≡ nextPhase signal ⌝ }
+fn next_phase(signals: &[u32], r: usize) -> u32
+    requires { ⌜ ReadyIn (now signals) r ⌝ }
+    ensures { λ q. ⌜ q ≡ nextPhase (tableSignal (now (signals .entry)) r) ⌝ }
 {
-    if signal.shown == signal.phases {
+    let shown = tables::shown_phase(signals, r);
+    if shown == tables::phase_count(signals, r) {
         return 1;
     }
-    let shown = signal.shown;
     match shown {
         1 => 2,
         2 => 3,
@@ -81,96 +82,85 @@ fn next_phase(signal: Signal) -> u32
 }
 
 // Whether phase 1 begins again, which it does on a change to it only.
-fn begins_cycle(signal: Signal, phase: u32) -> bool
-    ensures { λ r. ⌜ r ≡ beginsCycle signal phase ⌝ }
+fn begins_cycle(signals: &[u32], r: usize, phase: u32) -> bool
+    requires { ⌜ ReadyIn (now signals) r ⌝ }
+    ensures { λ b. ⌜ b ≡ beginsCycle (tableSignal (now (signals .entry)) r) phase ⌝ }
 {
-    (phase == 1) & (signal.shown != 1)
+    (phase == 1) & (tables::shown_phase(signals, r) != 1)
 }
 
 // The seconds that the phase has shown after the step: a run starts at 0 when the phase changes.
-fn shown_for_after(signal: Signal, phase: u32, seconds: u32) -> u32
-    requires { ⌜ Ready signal ⌝ }
+fn shown_for_after(signals: &[u32], r: usize, phase: u32, seconds: u32) -> u32
+    requires { ⌜ ReadyIn (now signals) r ⌝ }
     requires { ⌜ seconds ≤ 60 ⌝ }
-    ensures { λ r. ⌜ r ≡ shownForAfter signal phase seconds ⌝ }
+    ensures { λ x. ⌜ x ≡ shownForAfter (tableSignal (now (signals .entry)) r) phase seconds ⌝ }
 {
-    choose(phase == signal.shown, signal.shown_for + seconds, seconds)
+    let shown = tables::shown_phase(signals, r);
+    let shown_for = tables::shown_for(signals, r);
+    choose(phase == shown, shown_for + seconds, seconds)
 }
 
 // The cycle clock after the step: it restarts at 0 when phase 1 begins again.
-fn clock_after(signal: Signal, phase: u32, seconds: u32) -> u32
-    requires { ⌜ Ready signal ⌝ }
+fn clock_after(signals: &[u32], r: usize, phase: u32, seconds: u32) -> u32
+    requires { ⌜ ReadyIn (now signals) r ⌝ }
     requires { ⌜ seconds ≤ 60 ⌝ }
-    ensures { λ r. ⌜ r ≡ clockAfter signal phase seconds ⌝ }
+    ensures { λ x. ⌜ x ≡ clockAfter (tableSignal (now (signals .entry)) r) phase seconds ⌝ }
 {
-    choose(
-        begins_cycle(signal, phase),
-        seconds,
-        signal.cycle_clock + seconds,
-    )
+    let begins = begins_cycle(signals, r, phase);
+    let clock = tables::cycle_clock(signals, r);
+    choose(begins, seconds, clock + seconds)
 }
 
 // Rule 11 (C8): the phase is that of the step before or the next.
-pub fn keeps_order(signal: Signal, phase: u32) -> bool
-    requires { ⌜ Ready signal ⌝ }
-    ensures { λ r. ⌜ r ≡ keepsOrder signal phase ⌝ }
+fn keeps_order(signals: &[u32], r: usize, phase: u32) -> bool
+    requires { ⌜ ReadyIn (now signals) r ⌝ }
+    ensures { λ b. ⌜ b ≡ keepsOrder (tableSignal (now (signals .entry)) r) phase ⌝ }
 {
-    (phase == signal.shown) | (phase == next_phase(signal))
+    (phase == tables::shown_phase(signals, r)) | (phase == next_phase(signals, r))
 }
 
 // Rule 12 (C14): a phase that is left has shown at least its least time.
-pub fn keeps_least_time(signal: Signal, phase: u32) -> bool
-    requires { ⌜ Ready signal ⌝ }
-    ensures { λ r. ⌜ r ≡ keepsLeastTime signal phase ⌝ }
+fn keeps_least_time(signals: &[u32], r: usize, phase: u32) -> bool
+    requires { ⌜ ReadyIn (now signals) r ⌝ }
+    ensures { λ b. ⌜ b ≡ keepsLeastTime (tableSignal (now (signals .entry)) r) phase ⌝ }
 {
-    let place = place_of(signal.shown);
-    (phase == signal.shown) | (signal.least[place] <= signal.shown_for)
+    let shown = tables::shown_phase(signals, r);
+    let least = tables::least_time(signals, r, place_of(shown));
+    (phase == shown) | (least <= tables::shown_for(signals, r))
 }
 
 // Rule 13 (C9 to C13): the seconds of a run, this step included, are at most the phase's greatest time.
-pub fn keeps_greatest_time(signal: Signal, phase: u32, seconds: u32) -> bool
-    requires { ⌜ Ready signal ⌝ }
+fn keeps_greatest_time(signals: &[u32], r: usize, phase: u32, seconds: u32) -> bool
+    requires { ⌜ ReadyIn (now signals) r ⌝ }
     requires { ⌜ phase ≤ 8 ⌝ }
     requires { ⌜ seconds ≤ 60 ⌝ }
-    ensures { λ r. ⌜ r ≡ keepsGreatestTime signal phase seconds ⌝ }
+    ensures { λ b. ⌜ b ≡ keepsGreatestTime (tableSignal (now (signals .entry)) r) phase seconds ⌝ }
 {
-    let place = place_of(phase);
-    shown_for_after(signal, phase, seconds) <= signal.greatest[place]
+    let greatest = tables::greatest_time(signals, r, place_of(phase));
+    shown_for_after(signals, r, phase, seconds) <= greatest
 }
 
 // Rule 14 (C15, C16): phase 1 begins again after the least cycle at the earliest; after the step the clock is at most the greatest cycle.
-pub fn keeps_cycle(signal: Signal, phase: u32, seconds: u32) -> bool
-    requires { ⌜ Ready signal ⌝ }
+fn keeps_cycle(signals: &[u32], r: usize, phase: u32, seconds: u32) -> bool
+    requires { ⌜ ReadyIn (now signals) r ⌝ }
     requires { ⌜ seconds ≤ 60 ⌝ }
-    ensures { λ r. ⌜ r ≡ keepsCycle signal phase seconds ⌝ }
+    ensures { λ b. ⌜ b ≡ keepsCycle (tableSignal (now (signals .entry)) r) phase seconds ⌝ }
 {
-    let in_time = !begins_cycle(signal, phase) | (signal.least_cycle <= signal.cycle_clock);
-    in_time & (clock_after(signal, phase, seconds) <= signal.greatest_cycle)
+    let least = tables::least_cycle(signals, r);
+    let in_time = !begins_cycle(signals, r, phase) | (least <= tables::cycle_clock(signals, r));
+    in_time & (clock_after(signals, r, phase, seconds) <= tables::greatest_cycle(signals, r))
 }
 
-// The signal after a step that shows a phase for so many seconds.
-pub fn after(mut signal: Signal, phase: u32, seconds: u32) -> Signal
-    requires { ⌜ Ready signal ⌝ }
+// Steps a signal on: where a tram asks a phase of it, its run and its clock stand still, and it goes on from the phase before the tram.
+fn step_on(signals: &mut [u32], r: usize, phase: u32, asked: u32, seconds: u32)
+    requires { ⌜ ReadyIn (now signals) r ⌝ }
     requires { ⌜ seconds ≤ 60 ⌝ }
-    ensures { λ r. ⌜ r ≡ after signal phase seconds ⌝ }
-{
-    let shown_for = shown_for_after(signal, phase, seconds);
-    let cycle_clock = clock_after(signal, phase, seconds);
-    signal.shown = phase;
-    signal.shown_for = shown_for;
-    signal.cycle_clock = cycle_clock;
-    signal
-}
-
-// The signal after a step: where a tram asks a phase of it, its run and its clock stand still, and it goes on from the phase before the tram.
-fn next_signal(signal: Signal, phase: u32, asked: u32, seconds: u32) -> Signal
-    requires { ⌜ Ready signal ⌝ }
-    requires { ⌜ seconds ≤ 60 ⌝ }
-    ensures { λ r. ⌜ r ≡ stepped signal phase asked seconds ⌝ }
+    ensures { λ _. ⌜ SignalLaid (now (signals .entry)) r (stepped (tableSignal (now (signals .entry)) r) phase asked seconds) (now (signals .exit)) ⌝ }
 {
     if asked == 0 {
-        after(signal, phase, seconds)
-    } else {
-        signal
+        let shown_for = shown_for_after(signals, r, phase, seconds);
+        let cycle_clock = clock_after(signals, r, phase, seconds);
+        tables::show(signals, r, phase, shown_for, cycle_clock);
     }
 }
 
@@ -184,19 +174,19 @@ fn signal_number(k: usize) -> u32
 }
 
 // Whether test k of the six holds of a signal: 10; 29 in a tram's step; 11 to 14 in an ordinary one.
-fn signal_test(k: usize, signal: Signal, phase: u32, asked: u32, seconds: u32) -> bool
-    requires { ⌜ Ready signal ⌝ }
+fn signal_test(k: usize, signals: &[u32], r: usize, phase: u32, asked: u32, seconds: u32) -> bool
+    requires { ⌜ ReadyIn (now signals) r ⌝ }
     requires { ⌜ phase ≤ 8 ⌝ }
     requires { ⌜ seconds ≤ 60 ⌝ }
-    ensures { λ r. ⌜ r ≡ signalTest k signal phase asked seconds ⌝ }
+    ensures { λ b. ⌜ b ≡ signalTest k (tableSignal (now (signals .entry)) r) phase asked seconds ⌝ }
 {
     match k {
         0 => 1 <= phase,
         1 => (asked == 0) | (phase == asked),
-        2 => (asked != 0) | keeps_order(signal, phase),
-        3 => (asked != 0) | keeps_least_time(signal, phase),
-        4 => (asked != 0) | keeps_greatest_time(signal, phase, seconds),
-        5 => (asked != 0) | keeps_cycle(signal, phase, seconds),
+        2 => (asked != 0) | keeps_order(signals, r, phase),
+        3 => (asked != 0) | keeps_least_time(signals, r, phase),
+        4 => (asked != 0) | keeps_greatest_time(signals, r, phase, seconds),
+        5 => (asked != 0) | keeps_cycle(signals, r, phase, seconds),
         _ => true,
     }
 }
@@ -204,20 +194,20 @@ fn signal_test(k: usize, signal: Signal, phase: u32, asked: u32, seconds: u32) -
 // The first of rules 10, 29 and 11 to 14 that a step of so many seconds breaks, in this order, each over rising signals; `line` is the plan's line that tells
 // it.
 pub fn first_signal_break(
-    signals: [Signal; 8],
+    signals: &[u32],
     count: usize,
     phases: &[u32],
     asked: &[u32],
     seconds: u32,
     line: u32,
 ) -> Verdict
-    requires { ⌜ SignalTables signals count (now phases) (now asked) seconds ⌝ }
-    ensures { λ r. ⌜ r ≡ verdict (table line (signalRulesIn signals count (now (phases .entry)) (now (asked .entry)) seconds)) ⌝ }
+    requires { ⌜ SignalTables (now signals) count (now phases) (now asked) seconds ⌝ }
+    ensures { λ r. ⌜ r ≡ verdict (table line (signalRulesIn (now (signals .entry)) count (now (phases .entry)) (now (asked .entry)) seconds)) ⌝ }
 {
     let mut found = Verdict::Passes;
     'judge: for k in 0..6 {
         for item in 0..count {
-            if !signal_test(k, signals[item], phases[item], asked[item], seconds) {
+            if !signal_test(k, signals, item, phases[item], asked[item], seconds) {
                 found = Verdict::Refused(Refusal {
                     number: signal_number(k),
                     line,
@@ -231,41 +221,32 @@ pub fn first_signal_break(
 }
 
 // The phase that each signal's mask shows.
-pub fn shown_phases(signals: [Signal; 8], count: usize, masks: &[u32], phases: &mut [u32])
-    requires { ⌜ (count ≤ maxSignals) × (count ≤ length (now masks)) × (length (now phases) ≡ maxSignals) ⌝ }
-    ensures { λ r. ⌜ ShownPhases signals count (now (masks .entry)) (now (phases .entry)) (now (phases .exit)) ⌝ }
+pub fn shown_phases(signals: &[u32], count: usize, masks: &[u32], phases: &mut [u32])
+    requires { ⌜ (count ≤ maxSignals) × (length (now signals) ≡ signalTableSize) × (count ≤ length (now masks)) × (length (now phases) ≡ maxSignals) ⌝ }
+    ensures { λ r. ⌜ ShownPhases (now (signals .entry)) count (now (masks .entry)) (now (phases .entry)) (now (phases .exit)) ⌝ }
 {
     for i in 0..count {
-        phases[i] = phase_of(masks[i], signals[i].phases);
+        phases[i] = phase_of(masks[i], tables::phase_count(signals, i));
     }
 }
 
 // The masks by which each signal keeps its phase, in front of a line's numbers.
-pub fn hold_masks(signals: [Signal; 8], count: usize, line: &mut [u32])
-    requires { ⌜ (count ≤ maxSignals) × (count ≤ length (now line)) ⌝ }
-    requires { ⌜ AllReady signals count ⌝ }
-    ensures { λ _. ⌜ HeldMasks signals count (now (line .entry)) (now (line .exit)) ⌝ }
+pub fn hold_masks(signals: &[u32], count: usize, line: &mut [u32])
+    requires { ⌜ (count ≤ maxSignals) × (length (now signals) ≡ signalTableSize) × (count ≤ length (now line)) ⌝ }
+    requires { ⌜ AllReady (now signals) count ⌝ }
+    ensures { λ _. ⌜ HeldMasks (now (signals .entry)) count (now (line .entry)) (now (line .exit)) ⌝ }
 {
     for i in 0..count {
-        line[i] = mask_of(signals[i].shown);
+        line[i] = mask_of(tables::shown_phase(signals, i));
     }
 }
 
-// The signals after a step that shows these phases: one of which a tram asks a phase stands still.
-pub fn advance(
-    mut signals: [Signal; 8],
-    count: usize,
-    phases: &[u32],
-    asked: &[u32],
-    seconds: u32,
-) -> [Signal; 8]
-    requires { ⌜ (count ≤ maxSignals) × (count ≤ length (now phases)) × (count ≤ length (now asked)) ⌝ }
-    requires { ⌜ AllReady signals count ⌝ }
-    requires { ⌜ seconds ≤ 60 ⌝ }
-    ensures { λ r. ⌜ Advanced signals count (now (phases .entry)) (now (asked .entry)) seconds r ⌝ }
+// Steps the signals on, by a step that shows these phases: one of which a tram asks a phase stands still.
+pub fn advance(signals: &mut [u32], count: usize, phases: &[u32], asked: &[u32], seconds: u32)
+    requires { ⌜ AdvanceAsked (now signals) count (now phases) (now asked) seconds ⌝ }
+    ensures { λ _. ⌜ Advanced (now (signals .entry)) count (now (phases .entry)) (now (asked .entry)) seconds (now (signals .exit)) ⌝ }
 {
     for i in 0..count {
-        signals[i] = next_signal(signals[i], phases[i], asked[i], seconds);
+        step_on(signals, i, phases[i], asked[i], seconds);
     }
-    signals
 }

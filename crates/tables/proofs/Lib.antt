@@ -1,7 +1,8 @@
 pub mod Product
 pub mod Tables
+pub mod Signals
 pub mod Places
-mod Rows
+pub mod Rows
 mod Sums
 pub mod Blocks
 pub mod Stages

@@ -16,20 +16,20 @@ use Rattle.tables.specs.Rows.{RowRead, HeadRead}
 
 -- a part of a table, w numbers from s on, that comes back as p
 module _ (table p : List ℕ) (s w : ℕ) (h : s + w ≤ length table) (kept : length p ≡ length (take (s + w - s) (drop s table))) where
-  part-long : length (take (s + w - s) (drop s table)) ≡ w
+  pub part-long : length (take (s + w - s) (drop s table)) ≡ w
   part-long = simp (length-take, length-drop) (omega arith)
 
   first-long : length (take s table) ≡ s
   first-long = length-take-le s table (omega arith)
 
-  part-past : (k : ℕ) → getD (take s table ++ (p ++ drop (s + w - s) (drop s table))) (s + k) 0 ≡ getD (p ++ drop (s + w - s) (drop s table)) k 0
+  pub part-past : (k : ℕ) → getD (take s table ++ (p ++ drop (s + w - s) (drop s table))) (s + k) 0 ≡ getD (p ++ drop (s + w - s) (drop s table)) k 0
   part-past k =
       ap (λ x. getD (take s table ++ (p ++ drop (s + w - s) (drop s table))) (x + k) 0) (sym first-long) ∙ getD-append-add (take s table) (p ++ drop (s + w - s) (drop s table)) k 0
 
-  part-below : (k : ℕ) → k < s → getD (take s table ++ (p ++ drop (s + w - s) (drop s table))) k 0 ≡ getD table k 0
+  pub part-below : (k : ℕ) → k < s → getD (take s table ++ (p ++ drop (s + w - s) (drop s table))) k 0 ≡ getD table k 0
   part-below k l = List·getD-append (take s table) (p ++ drop (s + w - s) (drop s table)) 0 k (omega (arith, first-long)) ∙ getD-take s table k 0 l
 
-  part-above : (k : ℕ) → s + w ≤ k → getD (take s table ++ (p ++ drop (s + w - s) (drop s table))) k 0 ≡ getD table k 0
+  pub part-above : (k : ℕ) → s + w ≤ k → getD (take s table ++ (p ++ drop (s + w - s) (drop s table))) k 0 ≡ getD table k 0
   part-above k l =
       let e : k ≡ s + (length p + (k - (s + w))) = omega (arith, kept, part-long) in
       let f : s + (s + w - s + (k - (s + w))) ≡ k = omega arith in
@@ -40,7 +40,7 @@ module _ (table p : List ℕ) (s w : ℕ) (h : s + w ≤ length table) (kept : l
       ∙ getD-drop s table (s + w - s + (k - (s + w))) 0
       ∙ ap (λ x. getD table x 0) f
 
-  part-size : length (take s table ++ (p ++ drop (s + w - s) (drop s table))) ≡ length table
+  pub part-size : length (take s table ++ (p ++ drop (s + w - s) (drop s table))) ≡ length table
   part-size = let l = part-long in simp (length-append, length-take, length-drop) (omega arith)
 
   -- a line that is read into the part

@@ -1,15 +1,19 @@
 -- The numbers of the program's tables by their names in the paper. Links, movements and signals are counted from 0; a link's signal and a movement's links are
 -- named from 1. Assumes nothing.
 use Prim.Native.Nat.{ℕ, suc, _+_, _*_, _≤_, _<_}
-use mathlib.Core.List.{List}
+use mathlib.Core.List.{List, [], _∷_}
 use lib.ListN.{length, getD}
+use Rattle.model.specs.declared.Signal.{Signal}
 use Rattle.model.specs.Network.{maxLinks, maxSignals, maxMovements, maxSteps, maxTrams}
 use Rattle.tables.specs.declared.Counts.{Counts}
 use Rattle.tables.specs.Places.{admittedPlace, letOutPlace, movedPlace}
 
--- how many numbers a `T`, a `Q` and an `M` line have, and the sizes of the tables
+-- how many numbers a `T`, a `Q` and an `M` line have, and a `G` line of eight phases, and the sizes of the tables
 abbrev pub tramFields : ℕ
 tramFields = 4
+
+abbrev pub signalFields : ℕ
+signalFields = 22
 
 abbrev pub linkFields : ℕ
 linkFields = 7
@@ -19,6 +23,9 @@ movementFields = 4
 
 abbrev pub tramTableSize : ℕ
 tramTableSize = tramFields * maxTrams
+
+abbrev pub signalTableSize : ℕ
+signalTableSize = signalFields * maxSignals
 
 abbrev pub linkTableSize : ℕ
 linkTableSize = linkFields * maxLinks
@@ -44,6 +51,24 @@ rowSize = 2 * maxLinks
 -- tram line k, by the table of the `T` lines: its signal, phase, first step and last step
 abbrev pub tramIn : List ℕ → ℕ → ℕ → ℕ
 tramIn trams k field = getD trams (tramFields * k + field) 0
+
+-- a signal by its numbers, as a `G` line of eight phases has them
+abbrev pub signalBy : (ℕ → ℕ) → Signal
+signalBy number =
+    record {
+      «least_cycle» = number 0;
+      «greatest_cycle» = number 1;
+      phases = number 2;
+      shown = number 3;
+      «shown_for» = number 4;
+      «cycle_clock» = number 5;
+      least = number 6 ∷ number 8 ∷ number 10 ∷ number 12 ∷ number 14 ∷ number 16 ∷ number 18 ∷ number 20 ∷ [];
+      greatest = number 7 ∷ number 9 ∷ number 11 ∷ number 13 ∷ number 15 ∷ number 17 ∷ number 19 ∷ number 21 ∷ [];
+    }
+
+-- signal r, by the table of the `G` lines
+unfoldable pub tableSignal : List ℕ → ℕ → Signal
+tableSignal signals r = signalBy (λ k. getD signals (signalFields * r + k) 0)
 
 -- link i, by the table of the `Q` lines
 abbrev pub capacityIn : List ℕ → ℕ → ℕ

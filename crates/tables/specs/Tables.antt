@@ -2,7 +2,8 @@
 -- Assumes nothing.
 use Prim.Native.Nat.{ℕ, _+_, _*_, _≤_, _<_}
 use mathlib.Core.Path.{_≡_}
-use mathlib.Core.List.{List, []}
+use mathlib.Core.Logic.{_≢_}
+use mathlib.Core.List.{List}
 use lib.Dec.{leb}
 use lib.ListN.{length, getD}
 use Rattle.search.specs.declared.Verdict.{Verdict}
@@ -18,7 +19,7 @@ use Rattle.tables.specs.declared.Reading.{Reading}
 use Rattle.tables.specs.declared.Stage.{Stage}
 use Rattle.tables.specs.declared.Stage.the-variants.{Passed, Refused}
 use Rattle.tables.specs.Places.{Few}
-use Rattle.tables.specs.Fields.{tramFields, linkFields, movementFields, tramTableSize, linkTableSize, movementTableSize, timeTableSize, pastSize, stepSize, lineSize}
+use Rattle.tables.specs.Fields.{tramFields, linkFields, movementFields, tramTableSize, signalTableSize, tableSignal, linkTableSize, movementTableSize, timeTableSize, pastSize, stepSize, lineSize}
 
 -- the verdict on a stage: some lines pass, or one of them is refused
 unfoldable pub stageVerdict : Stage → Verdict
@@ -56,24 +57,30 @@ movedTo reading next =
       timed = reading .timed;
     }
 
--- what stands past the signals of a list
-abbrev pub noSignal : Signal
-noSignal =
+-- the signals before the plan
+pub record SignalTable (network : List Line) (signals : List ℕ) : Type 0 where
+  pub size : length signals ≡ signalTableSize
+  pub holds : (r : ℕ) → r < signalCount network → tableSignal signals r ≡ signal network r
+
+-- a signal that shows a phase, for so many seconds, with its cycle clock at so many; its limits are kept
+abbrev pub showing : Signal → ℕ → ℕ → ℕ → Signal
+showing s q shownFor clock =
     record {
-      «least_cycle» = 0;
-      «greatest_cycle» = 0;
-      phases = 0;
-      shown = 0;
-      «shown_for» = 0;
-      «cycle_clock» = 0;
-      least = [];
-      greatest = [];
+      «least_cycle» = s .«least_cycle»;
+      «greatest_cycle» = s .«greatest_cycle»;
+      phases = s .phases;
+      shown = q;
+      «shown_for» = shownFor;
+      «cycle_clock» = clock;
+      least = s .least;
+      greatest = s .greatest;
     }
 
--- the signals before the plan
-pub record SignalTable (network : List Line) (signals : List Signal) : Type 0 where
-  pub size : length signals ≡ maxSignals
-  pub holds : (r : ℕ) → r < signalCount network → getD signals r noSignal ≡ signal network r
+-- the table with signal r as it is now; the others are kept
+pub record SignalLaid (before : List ℕ) (r : ℕ) (s : Signal) (after : List ℕ) : Type 0 where
+  pub size : length after ≡ length before
+  pub laid : tableSignal after r ≡ s
+  pub kept : (i : ℕ) → i ≢ r → tableSignal after i ≡ tableSignal before i
 
 -- the number of phases of each signal, 8 at most
 pub record PhaseTable (network : List Line) (phases : List ℕ) : Type 0 where

@@ -2,13 +2,13 @@
 // and steps are counted from 0 here.
 ghost use mathlib.Core.Path.{_≡_};
 ghost use Prim.Native.Nat.{_+_, _*_, _<_, _≤_};
-ghost use lib.ListN.{length};
+ghost use lib.ListN.{length, getD};
 ghost use Rattle.model.specs.Network.{maxLinks, maxSignals, maxMovements, maxSteps, maxTrams, maxPast};
 ghost use Rattle.tables.specs.Places.{tramLineIn, signalLineIn, linkLineIn, movementLineIn, timelineLineIn, stepLineIn, planWidth, Few};
-ghost use Rattle.tables.specs.Fields.{tramTableSize, tramIn, linkTableSize, movementTableSize, stepSize, lineSize, capacityIn, travelTimeIn, exitRateIn, signalIn, phaseMaskIn, standingIn, waitingAtStartIn, linkIn, rateIn, shareIn, lengthIn, demandIn, admittedIn, letOutIn, movedIn, enteredIn, leftIn, enteredAt, leftAt, RowHeld};
+ghost use Rattle.tables.specs.Fields.{tramTableSize, tramIn, signalTableSize, tableSignal, linkTableSize, movementTableSize, stepSize, lineSize, capacityIn, travelTimeIn, exitRateIn, signalIn, phaseMaskIn, standingIn, waitingAtStartIn, linkIn, rateIn, shareIn, lengthIn, demandIn, admittedIn, letOutIn, movedIn, enteredIn, leftIn, enteredAt, leftAt, RowHeld};
 ghost use Rattle.tables.specs.Rows.{RowRead, HeadRead};
 ghost use Rattle.tables.specs.Sums.{Summed};
-ghost use Rattle.tables.specs.Tables.{movedTo};
+ghost use Rattle.tables.specs.Tables.{movedTo, showing, SignalLaid};
 use records::LineRead;
 use search::Refusal;
 
@@ -24,8 +24,10 @@ pub const MAX_TRAMS: usize = 16;
 
 pub const MAX_PAST: usize = 120;
 
-// How many numbers a `T`, a `Q`, an `M`, an `H`, an `S` and a `P` line have at most.
+// How many numbers a `T`, a `G`, a `Q`, an `M`, an `H`, an `S` and a `P` line have at most.
 pub const TRAM_FIELDS: usize = 4;
+
+pub const SIGNAL_FIELDS: usize = 6 + 2 * 8;
 
 pub const LINK_FIELDS: usize = 7;
 
@@ -37,8 +39,10 @@ pub const STEP_SIZE: usize = 1 + MAX_LINKS;
 
 pub const LINE_SIZE: usize = MAX_SIGNALS + 2 * MAX_LINKS + MAX_MOVEMENTS;
 
-// The sizes of the tables of all tram lines, all links, all movements, the time of each boundary of the timeline, and of a row of the ledger.
+// The sizes of the tables of all tram lines, all signals, all links, all movements, the time of each boundary of the timeline, and of a row of the ledger.
 pub const TRAM_TABLE_SIZE: usize = TRAM_FIELDS * MAX_TRAMS;
+
+pub const SIGNAL_TABLE_SIZE: usize = SIGNAL_FIELDS * MAX_SIGNALS;
 
 pub const LINK_TABLE_SIZE: usize = LINK_FIELDS * MAX_LINKS;
 
@@ -213,6 +217,74 @@ pub fn tram(trams: &[u32], k: usize, field: usize) -> u32
     ensures { λ r. ⌜ r ≡ tramIn (now (trams .entry)) k field ⌝ }
 {
     trams[TRAM_FIELDS * k + field]
+}
+
+// A signal's numbers, as its `G` line has them; what it shows changes from step to step.
+pub fn least_cycle(signals: &[u32], r: usize) -> u32
+    requires { ⌜ (r < maxSignals) × (length (now signals) ≡ signalTableSize) ⌝ }
+    ensures { λ x. ⌜ x ≡ tableSignal (now (signals .entry)) r .«least_cycle» ⌝ }
+{
+    signals[SIGNAL_FIELDS * r]
+}
+
+pub fn greatest_cycle(signals: &[u32], r: usize) -> u32
+    requires { ⌜ (r < maxSignals) × (length (now signals) ≡ signalTableSize) ⌝ }
+    ensures { λ x. ⌜ x ≡ tableSignal (now (signals .entry)) r .«greatest_cycle» ⌝ }
+{
+    signals[SIGNAL_FIELDS * r + 1]
+}
+
+pub fn phase_count(signals: &[u32], r: usize) -> u32
+    requires { ⌜ (r < maxSignals) × (length (now signals) ≡ signalTableSize) ⌝ }
+    ensures { λ x. ⌜ x ≡ tableSignal (now (signals .entry)) r .phases ⌝ }
+{
+    signals[SIGNAL_FIELDS * r + 2]
+}
+
+pub fn shown_phase(signals: &[u32], r: usize) -> u32
+    requires { ⌜ (r < maxSignals) × (length (now signals) ≡ signalTableSize) ⌝ }
+    ensures { λ x. ⌜ x ≡ tableSignal (now (signals .entry)) r .shown ⌝ }
+{
+    signals[SIGNAL_FIELDS * r + 3]
+}
+
+pub fn shown_for(signals: &[u32], r: usize) -> u32
+    requires { ⌜ (r < maxSignals) × (length (now signals) ≡ signalTableSize) ⌝ }
+    ensures { λ x. ⌜ x ≡ tableSignal (now (signals .entry)) r .«shown_for» ⌝ }
+{
+    signals[SIGNAL_FIELDS * r + 4]
+}
+
+pub fn cycle_clock(signals: &[u32], r: usize) -> u32
+    requires { ⌜ (r < maxSignals) × (length (now signals) ≡ signalTableSize) ⌝ }
+    ensures { λ x. ⌜ x ≡ tableSignal (now (signals .entry)) r .«cycle_clock» ⌝ }
+{
+    signals[SIGNAL_FIELDS * r + 5]
+}
+
+// The least and the greatest time of the phase whose times stand at a place, from 0.
+pub fn least_time(signals: &[u32], r: usize, place: usize) -> u32
+    requires { ⌜ (r < maxSignals) × (place < 8) × (length (now signals) ≡ signalTableSize) ⌝ }
+    ensures { λ x. ⌜ x ≡ getD (tableSignal (now (signals .entry)) r .least) place 0 ⌝ }
+{
+    signals[SIGNAL_FIELDS * r + (6 + 2 * place)]
+}
+
+pub fn greatest_time(signals: &[u32], r: usize, place: usize) -> u32
+    requires { ⌜ (r < maxSignals) × (place < 8) × (length (now signals) ≡ signalTableSize) ⌝ }
+    ensures { λ x. ⌜ x ≡ getD (tableSignal (now (signals .entry)) r .greatest) place 0 ⌝ }
+{
+    signals[SIGNAL_FIELDS * r + (7 + 2 * place)]
+}
+
+// Has a signal show a phase, for so many seconds, with its cycle clock at so many.
+pub fn show(signals: &mut [u32], r: usize, phase: u32, shown_for: u32, cycle_clock: u32)
+    requires { ⌜ (r < maxSignals) × (length (now signals) ≡ signalTableSize) ⌝ }
+    ensures { λ _. ⌜ SignalLaid (now (signals .entry)) r (showing (tableSignal (now (signals .entry)) r) phase «shown_for» «cycle_clock») (now (signals .exit)) ⌝ }
+{
+    signals[SIGNAL_FIELDS * r + 3] = phase;
+    signals[SIGNAL_FIELDS * r + 4] = shown_for;
+    signals[SIGNAL_FIELDS * r + 5] = cycle_clock;
 }
 
 // A link's numbers, as its `Q` line has them.

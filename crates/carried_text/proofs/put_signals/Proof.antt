@@ -1,64 +1,73 @@
 -- `carried_text::put_signals` meets its contract. Assumes nothing.
-use native.Mathlib.Omega.{arith}
-use Rattle.carried_text.proofs.Lines.{SignalsTo, signals-none, signals-all, signal-asked, signal-few, signal-part, signal-early, signals-next}
 use Prim.Native.Nat.{_-_}
+use native.Mathlib.Omega.{arith}
+use Rattle.model.specs.Table.{letterG}
+use Rattle.tables.specs.Fields.{tableSignal}
+use Rattle.carry_model.specs.Part.{signalNumbers}
+use Rattle.carried_text.proofs.Put.{LinesTo, rows-none, rows-all}
+use Rattle.carried_text.proofs.Lines.{signal-few, signal-within, signal-early, signals-next}
 use borrow.Author.Needs.{needs}
 use Rattle.carried_text.proofs.put_signals.Statement.{statement}
 use Rattle.carried_text.proofs.put_signals.Tie as tie
 
 abbrev Inv-loop : tie.InvT-loop
-Inv-loop count out₀ at signals row₀ end₀ k₀ out row end k = SignalsTo signals count at out₀ row out end k
+Inv-loop signals count out₀ at end₀ k₀ out end k =
+    LinesTo letterG (λ r. signalNumbers (tableSignal signals r)) count at out₀ out end k
 
 abbrev μ-loop : tie.MeasureT-loop
-μ-loop count out₀ at signals row₀ end₀ k₀ out row end k = count - k
+μ-loop signals count out₀ at end₀ k₀ out end k =
+    count - k
 
 loop-holds : tie.Need-loop-holds Inv-loop μ-loop
-loop-holds c = search (signals-none, needs)
+loop-holds c = rows-none
 
-mul-signal : tie.Need-mul-signal Inv-loop μ-loop
-mul-signal c = search needs
+mul-start : tie.Need-mul-start Inv-loop μ-loop
+mul-start c = omega (arith, c .before .before .before .before .pre .few)
 
-array-copy-out-signal : tie.Need-array-copy-out-signal Inv-loop μ-loop
-array-copy-out-signal c = search needs
-
-slice-aggregate-fill-signal : tie.Need-slice-aggregate-fill-signal Inv-loop μ-loop
-slice-aggregate-fill-signal c = search needs
-
-fill-signal-requires : tie.Need-fill-signal-requires Inv-loop μ-loop
-fill-signal-requires c κs = signal-asked (c .before .before .before .loop .inv) (c .before .before .before .before .before .pre) (omega arith)
+phase-count-requires : tie.Need-phase-count-requires Inv-loop μ-loop
+phase-count-requires c κs = (omega (arith, c .before .before .before .before .pre .few), c .before .before .before .before .pre .size)
 
 index-requires : tie.Need-index-requires Inv-loop μ-loop
 index-requires c κs = search needs
 
-mul-width : tie.Need-mul-width Inv-loop μ-loop
-mul-width c = search needs
+mul-stop : tie.Need-mul-stop Inv-loop μ-loop
+mul-stop c = omega (arith, signal-few (c .before .before .before .before .before .before .pre) (c .before .before .before .loop .inv) (omega arith) (c .before .phase-count .ensures) (c .index .ensures .0))
 
-add-width : tie.Need-add-width Inv-loop μ-loop
-add-width c = search needs
+add-stop : tie.Need-add-stop Inv-loop μ-loop
+add-stop c = omega (arith, signal-few (c .before .before .before .before .before .before .pre) (c .before .before .before .loop .inv) (omega arith) (c .before .phase-count .ensures) (c .index .ensures .0))
 
-array-share-prefix-row : tie.Need-array-share-prefix-row Inv-loop μ-loop
-array-share-prefix-row c = omega (arith, signal-few (c .before .before .before .before .before .before .loop .inv) (c .before .before .before .before .before .before .before .before .pre) (omega arith) (c .before .before .fill-signal .ensures) (c .index .ensures .0))
+add-stop-2 : tie.Need-add-stop-2 Inv-loop μ-loop
+add-stop-2 c = omega (arith, signal-few (c .before .before .before .before .before .before .pre) (c .before .before .before .loop .inv) (omega arith) (c .before .phase-count .ensures) (c .index .ensures .0), c .before .before .before .before .before .before .pre .few)
 
-slice-aggregate-put-line : tie.Need-slice-aggregate-put-line Inv-loop μ-loop
-slice-aggregate-put-line c = search (signal-part, needs)
+mul-put-line : tie.Need-mul-put-line Inv-loop μ-loop
+mul-put-line c = omega (arith, signal-few (c .before .before .before .before .before .before .pre) (c .before .before .before .loop .inv) (omega arith) (c .before .phase-count .ensures) (c .index .ensures .0), c .before .before .before .before .before .before .pre .few)
+
+sub-put-line : tie.Need-sub-put-line Inv-loop μ-loop
+sub-put-line c = search needs
+
+part-put-line-start : tie.Need-part-put-line-start Inv-loop μ-loop
+part-put-line-start c = search needs
+
+part-put-line-end : tie.Need-part-put-line-end Inv-loop μ-loop
+part-put-line-end c = omega (arith, signal-few (c .before .before .before .before .before .before .pre) (c .before .before .before .loop .inv) (omega arith) (c .before .phase-count .ensures) (c .index .ensures .0), signal-within (c .before .before .before .before .before .before .pre) (c .before .before .before .loop .inv) (omega arith) (c .before .phase-count .ensures) (c .index .ensures .0))
 
 put-line-requires : tie.Need-put-line-requires Inv-loop μ-loop
-put-line-requires c κs = signal-early (c .before .before .before .before .before .before .before .before .loop .inv) (c .before .before .before .before .before .before .before .before .before .before .pre) (omega arith) (c .before .before .before .before .fill-signal .ensures) (c .before .before .index .ensures .0)
+put-line-requires c κs = signal-early (c .before .before .before .before .before .before .before .before .pre) (c .before .before .before .before .before .loop .inv) (omega arith) (c .before .before .before .phase-count .ensures) (c .before .before .index .ensures .0)
 
 add-k : tie.Need-add-k Inv-loop μ-loop
-add-k c = search needs
+add-k c = omega (arith, c .before .before .before .before .before .before .before .before .before .before .before .pre .few)
 
 loop-less : tie.Need-loop-less Inv-loop μ-loop
 loop-less c = search needs
 
 loop-again : tie.Need-loop-again Inv-loop μ-loop
-loop-again c = search (signals-next, needs)
+loop-again c = signals-next (c .before .before .before .before .before .before .before .before .before .before .before .pre) (c .before .before .before .before .before .before .before .before .loop .inv) (omega arith) (c .before .before .before .before .before .before .phase-count .ensures) (c .before .before .before .before .before .index .ensures .0) (c .before .before .put-line .ensures)
 
 same-length : tie.Need-same-length Inv-loop μ-loop
 same-length c = search needs
 
 returns : tie.Need-returns Inv-loop μ-loop
-returns c = signals-all (c .before .loop .inv) (omega arith)
+returns c = rows-all (c .before .loop .inv) (omega arith)
 
 pub put-signals-spec : {M : Type 1} → statement M
 put-signals-spec =
@@ -67,15 +76,16 @@ put-signals-spec =
     Inv-loop
     μ-loop
     loop-holds
-    mul-signal
-    array-copy-out-signal
-    slice-aggregate-fill-signal
-    fill-signal-requires
+    mul-start
+    phase-count-requires
     index-requires
-    mul-width
-    add-width
-    array-share-prefix-row
-    slice-aggregate-put-line
+    mul-stop
+    add-stop
+    add-stop-2
+    mul-put-line
+    sub-put-line
+    part-put-line-start
+    part-put-line-end
     put-line-requires
     add-k
     loop-less

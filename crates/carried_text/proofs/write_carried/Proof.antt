@@ -12,7 +12,7 @@ put-network-requires : tie.Need-put-network-requires
 put-network-requires c κs = search needs
 
 returns : tie.Need-returns
-returns c = short-written (c .before .before .before .before .before .before .before .before .before .before .args .network .now) (c .before .before .before .before .before .before .before .before .before .before .args .out .now) (c .before .before .put-network .ensures) (omega arith)
+returns c = short-written (c .before .before .before .before .before .before .before .before .before .before .before .args .network .now) (c .before .before .before .before .before .before .before .before .before .before .before .args .out .now) (c .before .before .put-network .ensures) (omega arith)
 
 put-network-requires-2 : tie.Need-put-network-requires-2
 put-network-requires-2 c κs = search needs
@@ -21,7 +21,7 @@ same-length : tie.Need-same-length
 same-length c = search needs
 
 returns-2 : tie.Need-returns-2
-returns-2 c = whole-written (c .before .before .before .before .before .before .before .before .before .before .before .before .before .before .args .network .now) (c .before .before .before .before .before .before .put-network .ensures) (c .before .before .put-network2 .ensures) (omega arith)
+returns-2 c = whole-written (c .before .before .before .before .before .before .before .before .before .before .before .before .before .before .before .args .network .now) (c .before .before .before .before .before .before .put-network .ensures) (c .before .before .put-network2 .ensures) (omega arith)
 
 pub write-carried-spec : {M : Type 1} → statement M
 write-carried-spec =

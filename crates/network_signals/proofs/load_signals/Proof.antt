@@ -2,30 +2,39 @@
 use Prim.Native.Nat.{_-_}
 use native.Mathlib.Omega.{arith}
 use borrow.Author.Needs.{needs}
-use Rattle.network_signals.proofs.Loops.{LoadedTo, line-size, loaded-none, loaded-asked, loaded-stop, loaded-next, loaded-all}
+use Rattle.network_signals.proofs.Loops.{LoadedTo, loaded-none, loaded-asked, loaded-stop, loaded-next, loaded-all}
 use Rattle.network_signals.proofs.load_signals.Statement.{statement}
 use Rattle.network_signals.proofs.load_signals.Tie as tie
 
 abbrev Inv-loop : tie.InvT-loop
-Inv-loop text reading counts signals₀ place₀ r₀ signals place r = LoadedTo text signals place r
+Inv-loop text reading signals₀ counts place₀ r₀ signals place r = LoadedTo text signals place r
 
 abbrev μ-loop : tie.MeasureT-loop
-μ-loop text reading counts signals₀ place₀ r₀ signals place r = counts .signals - r
-
-slice-aggregate-signal-from : tie.Need-slice-aggregate-signal-from Inv-loop μ-loop
-slice-aggregate-signal-from c = search needs
-
-signal-from-requires : tie.Need-signal-from-requires Inv-loop μ-loop
-signal-from-requires c κs = search needs
+μ-loop text reading signals₀ counts place₀ r₀ signals place r = counts .signals - r
 
 loop-holds : tie.Need-loop-holds Inv-loop μ-loop
 loop-holds c = search (loaded-none, needs)
 
+mul-start : tie.Need-mul-start Inv-loop μ-loop
+mul-start c = omega (arith, c .before .before .before .before .before .before .pre .on-text .counted .few .signals)
+
+add-end : tie.Need-add-end Inv-loop μ-loop
+add-end c = omega (arith, c .before .before .before .before .before .before .pre .on-text .counted .few .signals)
+
 moved-to-requires : tie.Need-moved-to-requires Inv-loop μ-loop
 moved-to-requires c κs = search needs
 
-slice-aggregate-read-signal : tie.Need-slice-aggregate-read-signal Inv-loop μ-loop
-slice-aggregate-read-signal c = search needs
+mul-read-signal : tie.Need-mul-read-signal Inv-loop μ-loop
+mul-read-signal c = search needs
+
+sub-read-signal : tie.Need-sub-read-signal Inv-loop μ-loop
+sub-read-signal c = search needs
+
+part-read-signal-start : tie.Need-part-read-signal-start Inv-loop μ-loop
+part-read-signal-start c = search needs
+
+part-read-signal-end : tie.Need-part-read-signal-end Inv-loop μ-loop
+part-read-signal-end c = omega (arith, c .before .before .before .loop .inv .size, c .before .before .before .before .before .before .before .pre .on-text .counted .few .signals)
 
 read-signal-requires : tie.Need-read-signal-requires Inv-loop μ-loop
 read-signal-requires c κs = search (loaded-asked, needs)
@@ -36,29 +45,23 @@ enum-known-stage c = search needs
 enum-told : tie.Need-enum-told Inv-loop μ-loop
 enum-told c = search needs
 
+same-length : tie.Need-same-length Inv-loop μ-loop
+same-length c = search needs
+
 returns : tie.Need-returns Inv-loop μ-loop
 returns c = search (loaded-stop, needs)
 
-slice-aggregate-signal-from-2 : tie.Need-slice-aggregate-signal-from-2 Inv-loop μ-loop
-slice-aggregate-signal-from-2 c = search needs
-
-signal-from-requires-2 : tie.Need-signal-from-requires-2 Inv-loop μ-loop
-signal-from-requires-2 c κs = search (line-size, needs)
-
-mul-signals : tie.Need-mul-signals Inv-loop μ-loop
-mul-signals c = omega (arith, c .before .before .before .before .before .before .before .before .before .if1 .taken, c .before .before .before .before .before .before .before .before .before .before .before .before .before .before .before .before .pre .counted .few .signals)
-
-array-set-from-signals : tie.Need-array-set-from-signals Inv-loop μ-loop
-array-set-from-signals c = omega (arith, c .before .before .before .before .before .before .before .before .before .if1 .taken, c .before .before .before .before .before .before .before .before .before .before .before .before .before .before .before .before .pre .counted .few .signals)
-
 add-r : tie.Need-add-r Inv-loop μ-loop
-add-r c = omega (arith, c .before .before .before .before .before .before .before .before .before .if1 .taken, c .before .before .before .before .before .before .before .before .before .before .before .before .before .before .before .before .pre .counted .few .signals)
+add-r c = omega (arith, c .before .before .before .before .before .before .before .before .before .before .before .before .before .before .pre .on-text .counted .few .signals)
 
 loop-less : tie.Need-loop-less Inv-loop μ-loop
 loop-less c = search needs
 
 loop-again : tie.Need-loop-again Inv-loop μ-loop
-loop-again c = loaded-next (c .before .before .before .before .before .before .before .before .before .before .before .before .before .before .before .before .pre) (c .before .before .before .before .before .before .before .before .before .before .before .loop .inv) (c .before .before .before .before .before .before .before .before .before .if1 .taken) (c .before .before .before .before .before .before .read-signal .ensures) (c .before .before .before .stage .given .1) (c .signal-from2 .ensures)
+loop-again c = loaded-next (c .before .before .before .before .before .before .before .before .before .before .before .before .before .before .pre) (c .before .before .before .before .before .before .before .before .before .before .loop .inv) (c .before .before .before .before .before .before .before .before .if1 .taken) (c .before .before .before .before .before .read-signal .kept .1 .1 .1 .0) (c .before .before .before .before .before .read-signal .ensures) (c .before .stage .given .1)
+
+same-length-2 : tie.Need-same-length-2 Inv-loop μ-loop
+same-length-2 c = search needs
 
 returns-2 : tie.Need-returns-2 Inv-loop μ-loop
 returns-2 c = search (loaded-all, needs)
@@ -69,20 +72,21 @@ load-signals-spec =
     (tie.spec
     Inv-loop
     μ-loop
-    slice-aggregate-signal-from
-    signal-from-requires
     loop-holds
+    mul-start
+    add-end
     moved-to-requires
-    slice-aggregate-read-signal
+    mul-read-signal
+    sub-read-signal
+    part-read-signal-start
+    part-read-signal-end
     read-signal-requires
     enum-known-stage
     enum-told
+    same-length
     returns
-    slice-aggregate-signal-from-2
-    signal-from-requires-2
-    mul-signals
-    array-set-from-signals
     add-r
     loop-less
     loop-again
+    same-length-2
     returns-2)

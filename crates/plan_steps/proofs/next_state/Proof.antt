@@ -5,42 +5,23 @@ use borrow.Author.Needs.{needs}
 use Rattle.plan_steps.proofs.next_state.Statement.{statement}
 use Rattle.plan_steps.proofs.next_state.Tie as tie
 
-shared-slice-read-advance : tie.Need-shared-slice-read-advance
-shared-slice-read-advance c = search needs
-
-advance-requires : tie.Need-advance-requires
-advance-requires c κs = search needs
-
 sum-of-requires : tie.Need-sum-of-requires
 sum-of-requires c κs = search needs
 
 add-step-requires : tie.Need-add-step-requires
-add-step-requires c κs =
-    let a = c .before .before .before .before .before .before .before .before .before .before .args in
-    rw (outside-sum (a .counts .links) (a .waiting .now) (c .sum-of .ensures .0)) (c .before .before .before .before .before .before .before .before .before .before .pre .totals-asked)
+add-step-requires c κs = let a = c .before .before .before .before .before .args in rw (outside-sum (a .counts .links) (a .waiting .now) (c .sum-of .ensures .0)) (c .before .before .before .before .before .pre .totals-asked)
 
-add-t15 : tie.Need-add-t15
-add-t15 c = search needs
+add-t9 : tie.Need-add-t9
+add-t9 c = search needs
 
 returns : tie.Need-returns
-returns c =
-    let a = c .before .before .before .before .before .before .before .before .before .before .before .before .args in
-    record {
-      boundary = refl;
-      step-place = refl;
-      plan-place = refl;
-      signals = c .before .before .before .advance .ensures;
-      totals = c .before .add-step .ensures;
-      outside = outside-sum (a .counts .links) (a .waiting .now) (c .before .before .sum-of .ensures .0);
-    }
+returns c = let a = c .before .before .before .before .before .before .before .args in record { boundary = refl; step-place = refl; plan-place = refl; totals = c .before .add-step .ensures; outside = outside-sum (a .counts .links) (a .waiting .now) (c .before .before .sum-of .ensures .0) }
 
 pub next-state-spec : {M : Type 1} → statement M
 next-state-spec =
     tie.close
     (tie.spec
-    shared-slice-read-advance
-    advance-requires
     sum-of-requires
     add-step-requires
-    add-t15
+    add-t9
     returns)

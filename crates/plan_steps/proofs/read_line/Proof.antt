@@ -25,13 +25,7 @@ same-length-2 : tie.Need-same-length-2
 same-length-2 c = search needs
 
 returns-2 : tie.Need-returns-2
-returns-2 c =
-    record {
-      size = c .before .before .read-row .ensures .size;
-      read = λ h. rw (c .before .before .before .plan-width .ensures) at (c .before .before .read-row .ensures);
-      next = λ e. absurd (omega arith);
-      held = λ e. absurd (omega arith);
-    }
+returns-2 c = record { size = c .before .before .read-row .ensures .size; read = λ h. rw (c .before .before .before .plan-width .ensures) at (c .before .before .read-row .ensures); next = λ e. absurd (omega arith); held = λ e. absurd (omega arith) }
 
 pub read-line-spec : {M : Type 1} → statement M
 read-line-spec =

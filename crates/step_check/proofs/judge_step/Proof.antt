@@ -42,10 +42,10 @@ mul-at : tie.Need-mul-at
 mul-at c = search needs
 
 mul-at-2 : tie.Need-mul-at-2
-mul-at-2 c = omega (arith, place-small (c .before .before .before .before .before .before .before .before .before .before .before .before .before .before .before .before .before .before .before .pre))
+mul-at-2 c = omega (arith, place-small (c .before .before .before .before .before .before .before .before .before .before .before .before .before .before .before .before .before .before .before .before .pre))
 
 mul-previous : tie.Need-mul-previous
-mul-previous c = omega (arith, place-small (c .before .before .before .before .before .before .before .before .before .before .before .before .before .before .before .before .before .before .before .pre))
+mul-previous c = omega (arith, place-small (c .before .before .before .before .before .before .before .before .before .before .before .before .before .before .before .before .before .before .before .before .pre))
 
 sub-previous : tie.Need-sub-previous
 sub-previous c = search needs
@@ -57,24 +57,19 @@ part-previous-end : tie.Need-part-previous-end
 part-previous-end c = search needs
 
 next-row-requires : tie.Need-next-row-requires
-next-row-requires c κs =
-    judge-fits _ _ _ _ _ _ _ _ _ _ _ _ _ _ (c .before .before .before .before .before .before .before .before .first-signal-break .ensures) (c .before .before .before .before .before .before .enum-told .given .1) (c .before .before .before .before .before .first-limit-break .ensures) (c .before .before .before .enum-told3 .given .1) (c .before .before .before .before .before .before .before .before .before .before .before .before .before .before .before .before .before .before .before .before .before .pre)
+next-row-requires c κs = judge-fits _ _ _ _ _ _ _ _ _ _ _ _ _ _ (c .before .before .before .before .before .before .before .before .first-signal-break .ensures) (c .before .before .before .before .before .before .enum-told .given .1) (c .before .before .before .before .before .first-limit-break .ensures) (c .before .before .before .enum-told3 .given .1) (c .before .before .before .before .before .before .before .before .before .before .before .before .before .before .before .before .before .before .before .before .before .before .pre)
 
 add-first-sum-break : tie.Need-add-first-sum-break
-add-first-sum-break c = let h = c .before .before .before .before .before .before .before .before .before .before .before .before .before .before .before .before .before .before .before .before .before .before .before .before .before .pre .few-steps in search needs
+add-first-sum-break c = let h = c .before .before .before .before .before .before .before .before .before .before .before .before .before .before .before .before .before .before .before .before .before .before .before .before .before .before .pre .few-steps in search needs
 
 first-sum-break-requires : tie.Need-first-sum-break-requires
-first-sum-break-requires c κs =
-    judge-sums _ _ _ _ _ _ _ _ _ _ _ _ _ _ (c .before .before .before .before .before .before .before .before .before .before .before .before .first-signal-break .ensures) (c .before .before .before .before .before .before .before .before .before .before .enum-told .given .1) (c .before .before .before .before .before .before .before .before .before .first-limit-break .ensures) (c .before .before .before .before .before .before .before .enum-told3 .given .1)
-    (c .before .before .before .next-row .ensures) (c .before .before .before .before .before .before .before .before .before .before .before .before .before .before .before .before .before .before .before .before .before .before .before .before .before .pre)
+first-sum-break-requires c κs = judge-sums _ _ _ _ _ _ _ _ _ _ _ _ _ _ (c .before .before .before .before .before .before .before .before .before .before .before .before .first-signal-break .ensures) (c .before .before .before .before .before .before .before .before .before .before .enum-told .given .1) (c .before .before .before .before .before .before .before .before .before .first-limit-break .ensures) (c .before .before .before .before .before .before .before .enum-told3 .given .1) (c .before .before .before .next-row .ensures) (c .before .before .before .before .before .before .before .before .before .before .before .before .before .before .before .before .before .before .before .before .before .before .before .before .before .before .pre)
 
 same-length : tie.Need-same-length
 same-length c = search needs
 
 returns-3 : tie.Need-returns-3
-returns-3 c =
-    judged-sums _ _ _ _ _ _ _ _ _ _ _ _ _ _ (c .before .before .before .before .before .before .before .before .before .before .before .before .before .first-signal-break .ensures) (c .before .before .before .before .before .before .before .before .before .before .before .enum-told .given .1) (c .before .before .before .before .before .before .before .before .before .before .first-limit-break .ensures) (c .before .before .before .before .before .before .before .before .enum-told3 .given .1)
-    (c .before .before .before .before .next-row .ensures) (c .first-sum-break .ensures)
+returns-3 c = judged-sums _ _ _ _ _ _ _ _ _ _ _ _ _ _ (c .before .before .before .before .before .before .before .before .before .before .before .before .before .first-signal-break .ensures) (c .before .before .before .before .before .before .before .before .before .before .before .enum-told .given .1) (c .before .before .before .before .before .before .before .before .before .before .first-limit-break .ensures) (c .before .before .before .before .before .before .before .before .enum-told3 .given .1) (c .before .before .before .before .next-row .ensures) (c .first-sum-break .ensures)
 
 pub judge-step-spec : {M : Type 1} → statement M
 judge-step-spec =

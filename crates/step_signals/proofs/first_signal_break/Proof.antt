@@ -12,17 +12,17 @@ use Rattle.step_signals.proofs.first_signal_break.Statement.{statement}
 use Rattle.step_signals.proofs.first_signal_break.Tie as tie
 
 abbrev Inv-loop : tie.InvT-loop
-Inv-loop count phases asked seconds line signals found₀ k item₀ found item =
+Inv-loop signals count phases asked seconds line found₀ k item₀ found item =
     (item ≤ count) × (found ≡ Passes) × ItemsLeft line (signalRulesIn signals count phases asked seconds) k item
 
 abbrev μ-loop : tie.MeasureT-loop
-μ-loop count phases asked seconds line signals found₀ k item₀ found item = count - item
+μ-loop signals count phases asked seconds line found₀ k item₀ found item = count - item
 
 abbrev Inv-judge : tie.InvT-judge
-Inv-judge count phases asked seconds line signals found₀ k₀ found k = (k ≤ 6) × (found ≡ Passes) × RulesLeft line (signalRulesIn signals count phases asked seconds) k
+Inv-judge signals count phases asked seconds line found₀ k₀ found k = (k ≤ 6) × (found ≡ Passes) × RulesLeft line (signalRulesIn signals count phases asked seconds) k
 
 abbrev μ-judge : tie.MeasureT-judge
-μ-judge count phases asked seconds line signals found₀ k₀ found k = 6 - k
+μ-judge signals count phases asked seconds line found₀ k₀ found k = 6 - k
 
 judge-holds : tie.Need-judge-holds Inv-loop μ-loop Inv-judge μ-judge
 judge-holds c = (omega arith, refl, rules-first _ _)
@@ -36,18 +36,12 @@ loop-holds c =
 mul-signal-test : tie.Need-mul-signal-test Inv-loop μ-loop Inv-judge μ-judge
 mul-signal-test c = search needs
 
-array-copy-out-signal-test : tie.Need-array-copy-out-signal-test Inv-loop μ-loop Inv-judge μ-judge
-array-copy-out-signal-test c = search needs
-
-mul-signal-test-2 : tie.Need-mul-signal-test-2 Inv-loop μ-loop Inv-judge μ-judge
-mul-signal-test-2 c = search needs
-
 shared-slice-read-signal-test :
     tie.Need-shared-slice-read-signal-test Inv-loop μ-loop Inv-judge μ-judge
 shared-slice-read-signal-test c = search needs
 
-mul-signal-test-3 : tie.Need-mul-signal-test-3 Inv-loop μ-loop Inv-judge μ-judge
-mul-signal-test-3 c = search needs
+mul-signal-test-2 : tie.Need-mul-signal-test-2 Inv-loop μ-loop Inv-judge μ-judge
+mul-signal-test-2 c = search needs
 
 shared-slice-read-signal-test-2 :
     tie.Need-shared-slice-read-signal-test-2 Inv-loop μ-loop Inv-judge μ-judge
@@ -56,17 +50,17 @@ shared-slice-read-signal-test-2 c = search needs
 signal-test-requires : tie.Need-signal-test-requires Inv-loop μ-loop Inv-judge μ-judge
 signal-test-requires c κs =
     let asked = c .before .before .before .before .before .before .before .before .before .pre in
-    let i = c .before .before .before .before .loop .item in
-    (asked .ready i (omega arith), (asked .phase-last i (omega arith), asked .short))
+    let i = c .before .before .before .loop .item in
+    (record { size = asked .size; few = omega (arith, asked .few); ready = asked .ready i (omega arith) }, (asked .phase-last i (omega arith), asked .short))
 
 signal-number-requires : tie.Need-signal-number-requires Inv-loop μ-loop Inv-judge μ-judge
 signal-number-requires c κs = search needs
 
-add-t25 : tie.Need-add-t25 Inv-loop μ-loop Inv-judge μ-judge
-add-t25 c = search needs
+add-t20 : tie.Need-add-t20 Inv-loop μ-loop Inv-judge μ-judge
+add-t20 c = search needs
 
-cast-t26 : tie.Need-cast-t26 Inv-loop μ-loop Inv-judge μ-judge
-cast-t26 c = search needs
+cast-t21 : tie.Need-cast-t21 Inv-loop μ-loop Inv-judge μ-judge
+cast-t21 c = search needs
 
 add-item : tie.Need-add-item Inv-loop μ-loop Inv-judge μ-judge
 add-item c = search needs
@@ -76,7 +70,7 @@ loop-less c = search needs
 
 loop-again : tie.Need-loop-again Inv-loop μ-loop Inv-judge μ-judge
 loop-again c =
-    let w = c .before .before .before .before .before .before .loop .inv in
+    let w = c .before .before .before .before .before .loop .inv in
     (search needs, w .1, items-next (signal-rule-is _ _ _ _ _ _ (omega arith)) (w .2) (omega arith) (c .before .signal-test .ensures) (c .if1 .left))
 
 add-k : tie.Need-add-k Inv-loop μ-loop Inv-judge μ-judge
@@ -98,7 +92,7 @@ returns c =
 
 returns-2 : tie.Need-returns-2 Inv-loop μ-loop Inv-judge μ-judge
 returns-2 c =
-    let w = c .before .before .before .before .before .before .before .loop .inv in
+    let w = c .before .before .before .before .before .before .loop .inv in
     rw (c .signal-number .ensures)
     (items-hit (signal-rule-is _ _ _ _ _ _ (omega arith)) (w .2) (omega arith) (c .before .before .signal-test .ensures) (c .before .if1 .taken))
 
@@ -113,15 +107,13 @@ first-signal-break-spec =
     judge-holds
     loop-holds
     mul-signal-test
-    array-copy-out-signal-test
-    mul-signal-test-2
     shared-slice-read-signal-test
-    mul-signal-test-3
+    mul-signal-test-2
     shared-slice-read-signal-test-2
     signal-test-requires
     signal-number-requires
-    add-t25
-    cast-t26
+    add-t20
+    cast-t21
     add-item
     loop-less
     loop-again

@@ -9,22 +9,19 @@ use Rattle.step_signals.proofs.hold_masks.Statement.{statement}
 use Rattle.step_signals.proofs.hold_masks.Tie as tie
 
 abbrev Inv-loop : tie.InvT-loop
-Inv-loop count line₀ signals i₀ line i = (i ≤ count) × HeldMasks signals i line₀ line
+Inv-loop signals count line₀ i₀ line i = (i ≤ count) × HeldMasks signals i line₀ line
 
 abbrev μ-loop : tie.MeasureT-loop
-μ-loop count line₀ signals i₀ line i = count - i
+μ-loop signals count line₀ i₀ line i = count - i
 
 loop-holds : tie.Need-loop-holds Inv-loop μ-loop
 loop-holds c = (search needs, held-none _ _)
 
-mul-mask-of : tie.Need-mul-mask-of Inv-loop μ-loop
-mul-mask-of c = search needs
-
-element-copy-out-mask-of : tie.Need-element-copy-out-mask-of Inv-loop μ-loop
-element-copy-out-mask-of c = search needs
+shown-phase-requires : tie.Need-shown-phase-requires Inv-loop μ-loop
+shown-phase-requires c κs = search needs
 
 mask-of-requires : tie.Need-mask-of-requires Inv-loop μ-loop
-mask-of-requires c κs = omega (arith, c .before .before .before .pre .1 (c .before .loop .i) (omega arith))
+mask-of-requires c κs = omega (arith, c .shown-phase .ensures, c .before .before .before .before .before .pre .1 (c .before .before .loop .i) (omega arith) .shows-phase, c .before .before .before .before .before .pre .1 (c .before .before .loop .i) (omega arith) .few-phases)
 
 mul-line : tie.Need-mul-line Inv-loop μ-loop
 mul-line c = search needs
@@ -39,18 +36,13 @@ loop-less : tie.Need-loop-less Inv-loop μ-loop
 loop-less c = search needs
 
 loop-again : tie.Need-loop-again Inv-loop μ-loop
-loop-again c =
-    let w = c .before .before .loop in
-    (search needs, held-more _ _ (w .i) (w .line) (c .mask-of .result) (omega arith) (w .inv .1) (c .mask-of .ensures))
+loop-again c = let w = c .before .before .before .loop in (search needs, held-more _ _ (w .i) (w .line) (c .mask-of .result) (omega arith) (w .inv .1) (rw (c .before .shown-phase .ensures) at (c .mask-of .ensures)))
 
 same-length : tie.Need-same-length Inv-loop μ-loop
 same-length c = search needs
 
 returns : tie.Need-returns Inv-loop μ-loop
-returns c =
-    let w = c .before .loop in
-    let e : w .i ≡ c .before .before .before .args .count = omega arith in
-    rw e at (w .inv .1)
+returns c = let w = c .before .loop in let e : w .i ≡ c .before .before .before .before .args .count = omega arith in rw e at (w .inv .1)
 
 pub hold-masks-spec : {M : Type 1} → statement M
 hold-masks-spec =
@@ -59,8 +51,7 @@ hold-masks-spec =
     Inv-loop
     μ-loop
     loop-holds
-    mul-mask-of
-    element-copy-out-mask-of
+    shown-phase-requires
     mask-of-requires
     mul-line
     slice-write-line

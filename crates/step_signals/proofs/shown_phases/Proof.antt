@@ -9,10 +9,10 @@ use Rattle.step_signals.proofs.shown_phases.Statement.{statement}
 use Rattle.step_signals.proofs.shown_phases.Tie as tie
 
 abbrev Inv-loop : tie.InvT-loop
-Inv-loop count masks phases₀ signals i₀ phases i = (i ≤ count) × ShownPhases signals i masks phases₀ phases
+Inv-loop signals count masks phases₀ i₀ phases i = (i ≤ count) × ShownPhases signals i masks phases₀ phases
 
 abbrev μ-loop : tie.MeasureT-loop
-μ-loop count masks phases₀ signals i₀ phases i = count - i
+μ-loop signals count masks phases₀ i₀ phases i = count - i
 
 loop-holds : tie.Need-loop-holds Inv-loop μ-loop
 loop-holds c = (search needs, shown-none _ _ _ (search needs))
@@ -23,11 +23,8 @@ mul-phase-of c = search needs
 shared-slice-read-phase-of : tie.Need-shared-slice-read-phase-of Inv-loop μ-loop
 shared-slice-read-phase-of c = search needs
 
-mul-phase-of-2 : tie.Need-mul-phase-of-2 Inv-loop μ-loop
-mul-phase-of-2 c = search needs
-
-element-copy-out-phase-of : tie.Need-element-copy-out-phase-of Inv-loop μ-loop
-element-copy-out-phase-of c = search needs
+phase-count-requires : tie.Need-phase-count-requires Inv-loop μ-loop
+phase-count-requires c κs = search needs
 
 phase-of-requires : tie.Need-phase-of-requires Inv-loop μ-loop
 phase-of-requires c κs = search needs
@@ -45,18 +42,13 @@ loop-less : tie.Need-loop-less Inv-loop μ-loop
 loop-less c = search needs
 
 loop-again : tie.Need-loop-again Inv-loop μ-loop
-loop-again c =
-    let w = c .before .before .before .loop in
-    (search needs, shown-more _ _ _ (w .i) (w .phases) (c .phase-of .result) (omega arith) (w .inv .1) (c .phase-of .ensures))
+loop-again c = let w = c .before .before .before .before .loop in (search needs, shown-more _ _ _ (w .i) (w .phases) (c .phase-of .result) (omega arith) (w .inv .1) (rw (c .before .phase-count .ensures) at (c .phase-of .ensures)))
 
 same-length : tie.Need-same-length Inv-loop μ-loop
 same-length c = search needs
 
 returns : tie.Need-returns Inv-loop μ-loop
-returns c =
-    let w = c .before .loop in
-    let e : w .i ≡ c .before .before .before .before .args .count = omega arith in
-    rw e at (w .inv .1)
+returns c = let w = c .before .loop in let e : w .i ≡ c .before .before .before .before .before .args .count = omega arith in rw e at (w .inv .1)
 
 pub shown-phases-spec : {M : Type 1} → statement M
 shown-phases-spec =
@@ -67,8 +59,7 @@ shown-phases-spec =
     loop-holds
     mul-phase-of
     shared-slice-read-phase-of
-    mul-phase-of-2
-    element-copy-out-phase-of
+    phase-count-requires
     phase-of-requires
     mul-phases
     slice-write-phases

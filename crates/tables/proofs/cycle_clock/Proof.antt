@@ -1,0 +1,25 @@
+-- `tables::cycle_clock` meets its contract. Assumes nothing.
+use Rattle.tables.specs.Fields.{tableSignal}
+use borrow.Author.Needs.{needs}
+use Rattle.tables.proofs.cycle_clock.Statement.{statement}
+use Rattle.tables.proofs.cycle_clock.Tie as tie
+
+mul-result : tie.Need-mul-result
+mul-result c = search needs
+
+add-result : tie.Need-add-result
+add-result c = search needs
+
+mul-result-2 : tie.Need-mul-result-2
+mul-result-2 c = search needs
+
+shared-slice-read-result : tie.Need-shared-slice-read-result
+shared-slice-read-result c = search needs
+
+returns : tie.Need-returns
+unfolding tableSignal
+returns c = search needs
+
+pub cycle-clock-spec : {M : Type 1} → statement M
+cycle-clock-spec =
+    tie.close (tie.spec mul-result add-result mul-result-2 shared-slice-read-result returns)
