@@ -3,6 +3,7 @@ use Prim.Native.Nat.{ℕ}
 use mathlib.Core.Bool.{cond}
 use mathlib.Core.List.{List}
 use lib.Dec.{eqb}
+use Rattle.search.specs.declared.Refusal.{Refusal}
 use Rattle.search.specs.declared.Verdict.{Verdict}
 use Rattle.search.specs.declared.Verdict.the-variants.{Passes, Refused}
 use Rattle.search.specs.Checks.{refusal}
@@ -14,6 +15,8 @@ use Rattle.network_counts.specs.declared.CountsAnswer.{CountsAnswer}
 use Rattle.network_counts.specs.declared.CountsAnswer.the-variants as counts-answer
 use Rattle.listing.specs.declared.ListingAnswer.{ListingAnswer}
 use Rattle.listing.specs.declared.ListingAnswer.the-variants as listing-answer
+use Rattle.carry_model.specs.declared.CarryAnswer.{CarryAnswer}
+use Rattle.carry_model.specs.declared.CarryAnswer.the-variants as carry-answer
 use Rattle.cells.specs.declared.CellsAnswer.{CellsAnswer}
 use Rattle.cells.specs.declared.CellsAnswer.the-variants as cells-answer
 use Rattle.plan_check_c.specs.declared.NetworkResult.{NetworkResult}
@@ -58,14 +61,28 @@ abbrev pub linkResult : LinkAnswer → LinkResult
 linkResult (link-answer.State queued inTransit) = record { number = 0; line = 0; item = 0; queued = queued; «in_transit» = inTransit }
 linkResult (link-answer.Refused r) = record { number = r .number; line = r .line; item = r .item; queued = 0; «in_transit» = 0 }
 
-abbrev pub textResult : ListingAnswer → TextResult
-textResult (listing-answer.Written end) = record { number = 0; line = 0; item = 0; length = end }
-textResult (listing-answer.Refused r) = record { number = r .number; line = r .line; item = r .item; length = 0 }
+abbrev pub writtenText : ℕ → TextResult
+writtenText end = record { number = 0; line = 0; item = 0; length = end }
+
+abbrev pub refusedText : Refusal → TextResult
+refusedText r = record { number = r .number; line = r .line; item = r .item; length = 0 }
+
+abbrev pub listingResult : ListingAnswer → TextResult
+listingResult (listing-answer.Written end) = writtenText end
+listingResult (listing-answer.Refused r) = refusedText r
 
 -- the answer that a C caller reads off: number 0 is a text written, any other a refusal
 abbrev pub listingAnswerOf : TextResult → ListingAnswer
 listingAnswerOf r =
     cond (eqb (r .number) 0) (listing-answer.Written (r .length)) (listing-answer.Refused (refusal (r .number) (r .line) (r .item)))
+
+abbrev pub carryResult : CarryAnswer → TextResult
+carryResult (carry-answer.Written end) = writtenText end
+carryResult (carry-answer.Refused r) = refusedText r
+
+abbrev pub carryAnswerOf : TextResult → CarryAnswer
+carryAnswerOf r =
+    cond (eqb (r .number) 0) (carry-answer.Written (r .length)) (carry-answer.Refused (refusal (r .number) (r .line) (r .item)))
 
 abbrev pub cellsResult : CellsAnswer → List ℕ → CellsResult
 cellsResult (cells-answer.Ran cells flowIn flowOut) volumes =

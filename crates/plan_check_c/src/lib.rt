@@ -13,12 +13,16 @@ ghost use Rattle.listing_lines.specs.Entry.{entries};
 ghost use Rattle.listing.specs.Listing.{planFromListing};
 ghost use Rattle.listing.specs.ReadsBack.{PlanGot};
 ghost use Rattle.network_counts.specs.Counting.{countNetwork};
-ghost use Rattle.plan_check_c.specs.Results.{verdictResult, verdictOf, countsResult, version, planResult, planAnswerOf, linkResult, textResult, listingAnswerOf, cellsResult, cellsAnswerOf};
+ghost use Rattle.carry_model.specs.Call.{plannedOn, carryOn};
+ghost use Rattle.carry_model.specs.CarriesOn.{CarriedOn};
+ghost use Rattle.plan_check_c.specs.Results.{verdictResult, verdictOf, countsResult, version, planResult, planAnswerOf, linkResult, writtenText, refusedText, listingResult, listingAnswerOf, carryResult, carryAnswerOf, cellsResult, cellsAnswerOf};
+use carry_model::CarryAnswer;
 use cells::CellsAnswer;
 use listing::ListingAnswer;
 use model::LinkAnswer;
 use model::PlanAnswer;
 use network_counts::CountsAnswer;
+use search::Refusal;
 use search::Verdict;
 
 // The answer of a network's check or of a step of vehicles; number 0: the network is valid, the vehicles have moved.
@@ -225,28 +229,57 @@ pub extern "C" fn plancheck_link_state(
     }
 }
 
+fn written_text(length: usize) -> TextResult
+    ensures { λ r. ⌜ r ≡ writtenText length ⌝ }
+{
+    TextResult {
+        number: 0,
+        line: 0,
+        item: 0,
+        length,
+    }
+}
+
+fn refused_text(refusal: Refusal) -> TextResult
+    ensures { λ r. ⌜ r ≡ refusedText refusal ⌝ }
+{
+    TextResult {
+        number: refusal.number,
+        line: refusal.line,
+        item: refusal.item,
+        length: 0,
+    }
+}
+
 #[no_mangle]
 pub extern "C" fn plancheck_plan_from_listing(
     network: &[u8],
     listing: &[u8],
     plan: &mut [u8],
 ) -> TextResult
-    ensures { λ r. ⌜ r ≡ textResult (planFromListing (lines (now (network .entry))) (entries (now (listing .entry))) (length (now (plan .entry)))) ⌝ }
+    ensures { λ r. ⌜ r ≡ listingResult (planFromListing (lines (now (network .entry))) (entries (now (listing .entry))) (length (now (plan .entry)))) ⌝ }
     ensures { λ r. ⌜ PlanGot (lines (now (network .entry))) (entries (now (listing .entry))) (now (plan .entry)) (listingAnswerOf r) (now (plan .exit)) ⌝ }
 {
     match listing::plan_from_listing(network, listing, plan) {
-        ListingAnswer::Written(length) => TextResult {
-            number: 0,
-            line: 0,
-            item: 0,
-            length,
-        },
-        ListingAnswer::Refused(r) => TextResult {
-            number: r.number,
-            line: r.line,
-            item: r.item,
-            length: 0,
-        },
+        ListingAnswer::Written(length) => written_text(length),
+        ListingAnswer::Refused(refusal) => refused_text(refusal),
+    }
+}
+
+#[no_mangle]
+pub extern "C" fn plancheck_carry_on(
+    network: &[u8],
+    boundary: u32,
+    plan: &[u8],
+    ledger: &mut [u32],
+    carried: &mut [u8],
+) -> TextResult
+    ensures { λ r. ⌜ r ≡ carryResult (carryOn (lines (now (network .entry))) (plannedOn (lines (now (network .entry))) boundary (now (plan .entry))) boundary (length (now (ledger .entry))) (length (now (carried .entry)))) ⌝ }
+    ensures { λ r. ⌜ CarriedOn (lines (now (network .entry))) (plannedOn (lines (now (network .entry))) boundary (now (plan .entry))) boundary (now (ledger .entry)) (now (ledger .exit)) (now (carried .entry)) (now (carried .exit)) (carryAnswerOf r) ⌝ }
+{
+    match carry::carry_on(network, boundary, plan, ledger, carried) {
+        CarryAnswer::Written(length) => written_text(length),
+        CarryAnswer::Refused(refusal) => refused_text(refusal),
     }
 }
 
