@@ -1,4 +1,4 @@
-// Runs the program's function on stored folders: the cases c1 to c11 of the paper, and files that are missing, not to be read, too long, or as long as can be.
+// Runs the program's function on stored folders: the cases c1 to c11 of the paper, c1 with a past, and files that are missing, not to be read, too long, or as long as can be.
 
 // Prints a case's name, and then what the program prints of its two files.
 fn case(name: &[u8], network: &[u8], plan: &[u8]) {
@@ -25,6 +25,11 @@ fn paper_cases() {
     case(b"c9 4999\n", b"c9_4999/network.tsv", b"c9_4999/plan.tsv");
     case(b"c10\n", b"c10/network.tsv", b"c10/plan.tsv");
     case(b"c11\n", b"c11/network.tsv", b"c11/plan.tsv");
+}
+
+// c1 from its boundary 2 on: two steps are past, and the plan has the other two lines.
+fn past_case() {
+    case(b"past\n", b"past/network.tsv", b"past/plan.tsv");
 }
 
 fn network_files() {
@@ -72,6 +77,7 @@ fn plan_files() {
 
 fn main() {
     paper_cases();
+    past_case();
     network_files();
     plan_files();
 }
