@@ -21,7 +21,10 @@ use Rattle.model.specs.declared.LinkAnswer.{LinkAnswer}
 use Rattle.listing_lines.specs.Entry.{entries}
 use Rattle.listing.specs.declared.ListingAnswer.{ListingAnswer}
 use Rattle.listing.specs.ReadsBack.{PlanGot}
-use Rattle.conformance_cases.specs.Outcome.{networkOutcome, planOutcome, linkOutcome, listingOutcome}
+use Rattle.carry_model.specs.declared.CarryAnswer.{CarryAnswer}
+use Rattle.carry_model.specs.Call.{plannedOn}
+use Rattle.carry_model.specs.CarriesOn.{CarriedOn}
+use Rattle.conformance_cases.specs.Outcome.{networkOutcome, planOutcome, linkOutcome, listingOutcome, carryOutcome}
 use Rattle.conformance_cases.specs.declared.outcome.Outcome.{Outcome}
 use Rattle.conformance_cases.specs.declared.stored.LedgerForm.{LedgerForm}
 use Rattle.conformance_cases.specs.declared.stored.Question.{Question}
@@ -51,7 +54,7 @@ filled-whole buffer fill n h l =
     rw (drop-of-length-le buffer h, append-nil, e)
 
 module _ (question : Question) (valid : validQuestion question ≡ true) where
-  pub valid-call : (1 ≤ question .call) × (question .call ≤ 4)
+  pub valid-call : (1 ≤ question .call) × (question .call ≤ 5)
   unfolding validQuestion within
   valid-call =
       let h = and-left _ _ valid in
@@ -66,7 +69,7 @@ module _ (network plan ledger buffer : List ℕ) (question : Question) where
   abbrev pub Answered : Outcome → List ℕ → List ℕ → Type 0
   Answered given left written =
       (given ≡ answerTo network plan ledger buffer question)
-      × ((left ≡ ledgerTo network plan ledger question) × (written ≡ bufferTo network plan buffer question))
+      × ((left ≡ ledgerTo network plan ledger question) × (written ≡ bufferTo network plan ledger buffer question))
 
   pub answered-network :
       (r : Outcome) {verdict : Verdict} → question .call ≡ 1 → verdict ≡ checkNetwork (lines network) → r ≡ networkOutcome verdict
@@ -88,13 +91,25 @@ module _ (network plan ledger buffer : List ℕ) (question : Question) where
   answered-listing r after n m h g e =
       (rw (ne-eqb _ _ n, ne-eqb _ _ m, eq-eqb _ _ h) (e ∙ ap listingOutcome (g .told)), (rw h, rw (eq-eqb _ _ h) (g .holds)))
 
+  pub answered-carry :
+      (r : Outcome) {answer : CarryAnswer} (left written : List ℕ) → (question .call ≡ 1 → ⊥) → (question .call ≡ 2 → ⊥) → (question .call ≡ 4 → ⊥) → question .call ≡ 5
+      → CarriedOn (lines network) (plannedOn (lines network) (question .boundary) plan) (question .boundary) ledger left buffer written answer
+      → r ≡ carryOutcome answer → Answered r left written
+  unfolding answerTo ledgerTo bufferTo
+  answered-carry r left written n m o h g e = (
+    rw (ne-eqb _ _ n, ne-eqb _ _ m, ne-eqb _ _ o, eq-eqb _ _ h) (e ∙ ap carryOutcome (g .told)),
+    (rw (ne-eqb _ _ m, eq-eqb _ _ h) (g .rows), rw (ne-eqb _ _ o, eq-eqb _ _ h) (g .holds)),
+  )
+
   pub answered-link :
-      (r : Outcome) {answer : LinkAnswer} → (question .call ≡ 1 → ⊥) → (question .call ≡ 2 → ⊥) → (question .call ≡ 4 → ⊥)
+      (r : Outcome) {answer : LinkAnswer} → (question .call ≡ 1 → ⊥) → (question .call ≡ 2 → ⊥) → (question .call ≡ 4 → ⊥) → (question .call ≡ 5 → ⊥)
       → answer ≡ linkState (lines network) ledger (question .boundary) (question .link) → r ≡ linkOutcome answer
       → Answered r ledger buffer
   unfolding answerTo ledgerTo bufferTo
-  answered-link r n m o a e =
-      (rw (ne-eqb _ _ n, ne-eqb _ _ m, ne-eqb _ _ o) (e ∙ ap linkOutcome a), (rw (ne-eqb _ _ m), rw (ne-eqb _ _ o)))
+  answered-link r n m o p a e = (
+    rw (ne-eqb _ _ n, ne-eqb _ _ m, ne-eqb _ _ o, ne-eqb _ _ p) (e ∙ ap linkOutcome a),
+    (rw (ne-eqb _ _ m, ne-eqb _ _ p), rw (ne-eqb _ _ o, ne-eqb _ _ p)),
+  )
 
   pub no-boundary : 4_294_967_295 < question .boundary → passedOver ≡ placeIn network plan ledger buffer question
   unfolding placeIn

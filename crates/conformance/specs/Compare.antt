@@ -12,8 +12,9 @@ use Rattle.model.specs.Hold.{planOf}
 use Rattle.model.specs.Calls.{checkNetwork, checkPlan, ledgerAfter, linkState}
 use Rattle.listing_lines.specs.Entry.{entries}
 use Rattle.listing.specs.Listing.{planFromListing, bufferAfter}
+use Rattle.carry_model.specs.Call.{plannedOn, carryOn, carryLedger, carryBuffer}
 use Rattle.conformance_cases.specs.Checksum.{checksumOf}
-use Rattle.conformance_cases.specs.Outcome.{networkOutcome, planOutcome, linkOutcome, listingOutcome, sameOutcome}
+use Rattle.conformance_cases.specs.Outcome.{networkOutcome, planOutcome, linkOutcome, listingOutcome, carryOutcome, sameOutcome}
 use Rattle.conformance_cases.specs.declared.outcome.Outcome.{Outcome}
 use Rattle.conformance_cases.specs.declared.stored.CaseCount.{CaseCount}
 use Rattle.conformance_cases.specs.declared.stored.CaseCount.the-variants.{Cases, Malformed}
@@ -23,7 +24,7 @@ use Rattle.conformance.specs.Tally.{different, passedOver, placeOf, coun
 
 -- a call of the stored form, and a byte for the buffer
 unfoldable pub validQuestion : Question → Bool
-validQuestion question = within 1 (question .call) 4 and leb (question .«buffer_fill») 255
+validQuestion question = within 1 (question .call) 5 and leb (question .«buffer_fill») 255
 
 -- the given numbers at its start, and the fill behind them
 unfoldable pub heldAt : List ℕ → ℕ → ℕ → ℕ
@@ -42,21 +43,27 @@ answerTo network plan ledger buffer question =
     cond (eqb (question .call) 1) (networkOutcome (checkNetwork (lines network)))
     (cond (eqb (question .call) 2) (planOutcome (checkPlan (lines network) (planOf network plan) (length ledger)))
     (cond (eqb (question .call) 4) (listingOutcome (planFromListing (lines network) (entries plan) (length buffer)))
-    (linkOutcome (linkState (lines network) ledger (question .boundary) (question .link)))))
+    (cond (eqb (question .call) 5)
+    (carryOutcome (carryOn (lines network) (plannedOn (lines network) (question .boundary) plan) (question .boundary) (length ledger) (length buffer)))
+    (linkOutcome (linkState (lines network) ledger (question .boundary) (question .link))))))
 
 -- the ledger after the call
 unfoldable pub ledgerTo : List ℕ → List ℕ → List ℕ → Question → List ℕ
 ledgerTo network plan ledger question =
-    cond (eqb (question .call) 2) (ledgerAfter (lines network) (planOf network plan) ledger) ledger
+    cond (eqb (question .call) 2) (ledgerAfter (lines network) (planOf network plan) ledger)
+    (cond (eqb (question .call) 5) (carryLedger (lines network) (plannedOn (lines network) (question .boundary) plan) (question .boundary) ledger)
+    ledger)
 
 -- the buffer after the call
-unfoldable pub bufferTo : List ℕ → List ℕ → List ℕ → Question → List ℕ
-bufferTo network plan buffer question =
-    cond (eqb (question .call) 4) (bufferAfter (lines network) (entries plan) buffer) buffer
+unfoldable pub bufferTo : List ℕ → List ℕ → List ℕ → List ℕ → Question → List ℕ
+bufferTo network plan ledger buffer question =
+    cond (eqb (question .call) 4) (bufferAfter (lines network) (entries plan) buffer)
+    (cond (eqb (question .call) 5) (carryBuffer (lines network) (plannedOn (lines network) (question .boundary) plan) (question .boundary) (length ledger) buffer)
+    buffer)
 
 -- the checksum of both
 unfoldable pub checksumTo : List ℕ → List ℕ → List ℕ → List ℕ → Question → ℕ
-checksumTo network plan ledger buffer question = checksumOf (ledgerTo network plan ledger question) (bufferTo network plan buffer question)
+checksumTo network plan ledger buffer question = checksumOf (ledgerTo network plan ledger question) (bufferTo network plan ledger buffer question)
 
 -- an answer, a ledger and a buffer are those that were stored: the answer in every part, the others by their checksum
 unfoldable pub asStored : Outcome → ℕ → Question → Bool

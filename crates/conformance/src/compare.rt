@@ -62,7 +62,7 @@ fn answer_to(
     requires { ⌜ (question .boundary < 2 ^ 32) × (question .link < 2 ^ 32) ⌝ }
     ensures { λ r. ⌜ r ≡ answerTo (now (network .entry)) (now (plan .entry)) (now (ledger .entry)) (now (buffer .entry)) question ⌝ }
     ensures { λ r. ⌜ now (ledger .exit) ≡ ledgerTo (now (network .entry)) (now (plan .entry)) (now (ledger .entry)) question ⌝ }
-    ensures { λ r. ⌜ now (buffer .exit) ≡ bufferTo (now (network .entry)) (now (plan .entry)) (now (buffer .entry)) question ⌝ }
+    ensures { λ r. ⌜ now (buffer .exit) ≡ bufferTo (now (network .entry)) (now (plan .entry)) (now (ledger .entry)) (now (buffer .entry)) question ⌝ }
 {
     if question.call == 1 {
         return outcome::of_network(network::check_network(network));
@@ -75,6 +75,9 @@ fn answer_to(
     }
     let boundary = question.boundary as u32;
     let link = question.link as u32;
+    if question.call == 5 {
+        return outcome::of_carry(carry::carry_on(network, boundary, plan, ledger, buffer));
+    }
     outcome::of_link(link_state::link_state(network, ledger, boundary, link))
 }
 
@@ -140,7 +143,7 @@ fn judge_filled(
 fn is_valid(question: Question) -> bool
     ensures { λ r. ⌜ r ≡ validQuestion question ⌝ }
 {
-    (1 <= question.call) & (question.call <= 4) & (question.buffer_fill <= 255)
+    (1 <= question.call) & (question.call <= 5) & (question.buffer_fill <= 255)
 }
 
 // Takes what a case uses of each buffer, and judges it; false where the question is not valid, or a length is not one of its buffer.

@@ -9,7 +9,7 @@ use conformance_cases::stored::CaseCount;
 
 // Compares the cases of a file, and prints how many it has. There is room for the longest texts whose numbers are padded.
 fn compare_file(path: &[u8], counts: &mut [u64; COUNTERS]) {
-    let mut network = [0u8; 40960];
+    let mut network = [0u8; 73728];
     let mut plan = [0u8; 163840];
     let mut start = [0u32; 5888];
     let mut ledger = [0u32; 5888];

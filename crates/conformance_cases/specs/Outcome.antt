@@ -1,4 +1,5 @@
 -- The answers of the calls in the stored form. Assumes nothing.
+use Prim.Native.Nat.{ℕ}
 use mathlib.Core.Bool.{Bool, _&&_}
 use lib.Dec.{eqb}
 use Rattle.search.specs.declared.Refusal.{Refusal}
@@ -10,6 +11,8 @@ use Rattle.model.specs.declared.LinkAnswer.{LinkAnswer}
 use Rattle.model.specs.declared.LinkAnswer.the-variants as link-answer
 use Rattle.listing.specs.declared.ListingAnswer.{ListingAnswer}
 use Rattle.listing.specs.declared.ListingAnswer.the-variants as listing-answer
+use Rattle.carry_model.specs.declared.CarryAnswer.{CarryAnswer}
+use Rattle.carry_model.specs.declared.CarryAnswer.the-variants as carry-answer
 use Rattle.conformance_cases.specs.declared.outcome.Outcome.{Outcome}
 
 abbrev pub refusedOutcome : Refusal → Outcome
@@ -28,9 +31,16 @@ abbrev pub linkOutcome : LinkAnswer → Outcome
 linkOutcome (link-answer.State queued transit) = record { kind = 2; first = queued; second = transit; third = 0; fourth = 0 }
 linkOutcome (link-answer.Refused r) = refusedOutcome r
 
+abbrev pub writtenOutcome : ℕ → Outcome
+writtenOutcome length = record { kind = 4; first = length; second = 0; third = 0; fourth = 0 }
+
 abbrev pub listingOutcome : ListingAnswer → Outcome
-listingOutcome (listing-answer.Written length) = record { kind = 4; first = length; second = 0; third = 0; fourth = 0 }
+listingOutcome (listing-answer.Written length) = writtenOutcome length
 listingOutcome (listing-answer.Refused r) = refusedOutcome r
+
+abbrev pub carryOutcome : CarryAnswer → Outcome
+carryOutcome (carry-answer.Written length) = writtenOutcome length
+carryOutcome (carry-answer.Refused r) = refusedOutcome r
 
 abbrev pub sameOutcome : Outcome → Outcome → Bool
 sameOutcome one other =

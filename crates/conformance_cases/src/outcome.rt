@@ -1,6 +1,7 @@
 // What a call gives, in the stored form.
 ghost use mathlib.Core.Path.{_≡_};
-ghost use Rattle.conformance_cases.specs.Outcome.{refusedOutcome, networkOutcome, planOutcome, linkOutcome, listingOutcome, sameOutcome};
+ghost use Rattle.conformance_cases.specs.Outcome.{refusedOutcome, networkOutcome, planOutcome, linkOutcome, writtenOutcome, listingOutcome, carryOutcome, sameOutcome};
+use carry_model::CarryAnswer;
 use listing::ListingAnswer;
 use model::LinkAnswer;
 use model::PlanAnswer;
@@ -74,18 +75,33 @@ pub fn of_link(answer: LinkAnswer) -> Outcome
     }
 }
 
+fn written(length: usize) -> Outcome
+    ensures { λ r. ⌜ r ≡ writtenOutcome length ⌝ }
+{
+    Outcome {
+        kind: 4,
+        first: length as u64,
+        second: 0,
+        third: 0,
+        fourth: 0,
+    }
+}
+
 pub fn of_listing(answer: ListingAnswer) -> Outcome
     ensures { λ r. ⌜ r ≡ listingOutcome answer ⌝ }
 {
     match answer {
-        ListingAnswer::Written(length) => Outcome {
-            kind: 4,
-            first: length as u64,
-            second: 0,
-            third: 0,
-            fourth: 0,
-        },
+        ListingAnswer::Written(length) => written(length),
         ListingAnswer::Refused(refusal) => refused(refusal),
+    }
+}
+
+pub fn of_carry(answer: CarryAnswer) -> Outcome
+    ensures { λ r. ⌜ r ≡ carryOutcome answer ⌝ }
+{
+    match answer {
+        CarryAnswer::Written(length) => written(length),
+        CarryAnswer::Refused(refusal) => refused(refusal),
     }
 }
 

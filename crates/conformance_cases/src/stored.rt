@@ -24,9 +24,9 @@ pub struct LedgerForm {
     pub given: u32,
 }
 
-// The call of a case (1 check a network, 2 check a plan, 3 state of one link, 4 plan from a listing; 0 where the file is malformed) and the
-// buffer that it is given, its length and what each byte is, with what the other implementation answers and the checksum of the ledger and the
-// buffer that it leaves.
+// The call of a case (1 check a network, 2 check a plan, 3 state of one link, 4 plan from a listing, 5 carry on from a boundary; 0 where the
+// file is malformed) and the buffer that it is given, its length and what each byte is, with what the other implementation answers and the
+// checksum of the ledger and the buffer that it leaves.
 pub struct Question {
     pub buffer_size: usize,
     pub buffer_fill: u32,

@@ -1,5 +1,5 @@
 -- `conformance::compare::answer_to` meets its contract. Assumes nothing.
-use Rattle.conformance.proofs.Laws.{answered-network, answered-plan, answered-listing, answered-link}
+use Rattle.conformance.proofs.Laws.{answered-network, answered-plan, answered-listing, answered-carry, answered-link}
 use borrow.Author.Needs.{needs}
 use Rattle.conformance.proofs.compare.answer_to.Statement.{statement}
 use Rattle.conformance.proofs.compare.answer_to.Tie as tie
@@ -45,17 +45,32 @@ cast-boundary c = search needs
 cast-link : tie.Need-cast-link
 cast-link c = search needs
 
+carry-on-requires : tie.Need-carry-on-requires
+carry-on-requires c κs = search needs
+
+of-carry-requires : tie.Need-of-carry-requires
+of-carry-requires c κs = search needs
+
+same-length-3 : tie.Need-same-length-3
+same-length-3 c = search needs
+
+same-length-4 : tie.Need-same-length-4
+same-length-4 c = search needs
+
+returns-4 : tie.Need-returns-4
+returns-4 c = answered-carry _ _ _ _ _ _ _ _ (c .before .before .before .before .before .before .before .before .before .before .before .before .before .before .before .before .if1 .left) (c .before .before .before .before .before .before .before .before .before .before .before .before .before .before .if2 .left) (c .before .before .before .before .before .before .before .before .before .before .before .before .if3 .left) (c .before .before .before .before .before .before .before .before .if4 .taken) (c .before .before .before .before .before .carry-on .ensures) (c .of-carry .ensures)
+
 link-state-requires : tie.Need-link-state-requires
 link-state-requires c κs = search needs
 
 of-link-requires : tie.Need-of-link-requires
 of-link-requires c κs = search needs
 
-same-length-3 : tie.Need-same-length-3
-same-length-3 c = search needs
+same-length-5 : tie.Need-same-length-5
+same-length-5 c = search needs
 
-returns-4 : tie.Need-returns-4
-returns-4 c = answered-link _ _ _ _ _ _ (c .before .before .before .before .before .before .before .before .before .if1 .left) (c .before .before .before .before .before .before .before .if2 .left) (c .before .before .before .before .before .if3 .left) (c .before .link-state .ensures .0) (c .of-link .ensures)
+returns-5 : tie.Need-returns-5
+returns-5 c = answered-link _ _ _ _ _ _ (c .before .before .before .before .before .before .before .before .before .before .before .if1 .left) (c .before .before .before .before .before .before .before .before .before .if2 .left) (c .before .before .before .before .before .before .before .if3 .left) (c .before .before .before .if4 .left) (c .before .link-state .ensures .0) (c .of-link .ensures)
 
 pub answer-to-spec : {M : Type 1} → statement M
 answer-to-spec =
@@ -74,7 +89,12 @@ answer-to-spec =
     returns-3
     cast-boundary
     cast-link
+    carry-on-requires
+    of-carry-requires
+    same-length-3
+    same-length-4
+    returns-4
     link-state-requires
     of-link-requires
-    same-length-3
-    returns-4)
+    same-length-5
+    returns-5)

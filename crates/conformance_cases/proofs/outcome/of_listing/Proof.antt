@@ -6,6 +6,9 @@ use Rattle.conformance_cases.proofs.outcome.of_listing.Tie as tie
 enum-known-answer : tie.Need-enum-known-answer
 enum-known-answer c = search needs
 
+written-requires : tie.Need-written-requires
+written-requires c κs = search needs
+
 enum-known-answer-2 : tie.Need-enum-known-answer-2
 enum-known-answer-2 c = search needs
 
@@ -20,4 +23,5 @@ returns-2 c = cc
 
 pub of-listing-spec : {M : Type 1} → statement M
 of-listing-spec =
-    tie.close (tie.spec enum-known-answer enum-known-answer-2 refused-requires returns returns-2)
+    tie.close
+    (tie.spec enum-known-answer written-requires enum-known-answer-2 refused-requires returns returns-2)
