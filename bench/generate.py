@@ -6,7 +6,7 @@ generate.py random LINKS SIGNALS MOVEMENTS STEPS SEED FOLDER
 generate.py widest FOLDER
     the same at the greatest sizes, with numbers as long as the limits allow
 generate.py plan NETWORK SEED
-    prints a plan for a network text that is valid and has no past
+    prints a plan for a valid network text; nobody who waits at its start is admitted
 
 Volumes are in thousandths of a vehicle, times in seconds. Signals, links and phases are counted from 0 here.
 """

@@ -303,3 +303,14 @@ fn try_boundary_once(tried: &Tried, boundary: usize, whole: &Checked, seen: &mut
     assert!(rest.answer.is_ok());
     seen.accepted += 1;
 }
+
+/// The library's example is what this implementation writes, too.
+#[test]
+fn the_avenue_of_the_examples() {
+    let plan: &[u8] = include_bytes!("../../examples/avenue/plan.tsv");
+    let lines: Vec<&[u8]> = plan.split_inclusive(|&byte| byte == b'\n').collect();
+    let network = include_bytes!("../../examples/avenue/network.tsv");
+    let (carried, _) = carry(network, 8, &lines[..8].concat(), vec![FILL; 2 * 9 * 10]);
+    let expected = include_bytes!("../../examples/carry/network.tsv");
+    assert_eq!(carried.unwrap(), expected);
+}

@@ -35,7 +35,7 @@ impl Counts {
 ///
 /// ```
 /// // One link without a signal, two steps.
-/// let network = "N\t1\t0\t0\t2\t0\nQ\t60000\t10\t500\t0\t0\t0\nS\t10\t0\nS\t10\t0\n";
+/// let network = "N\t1\t0\t0\t2\t0\t0\nQ\t60000\t10\t500\t0\t0\t0\t0\nS\t10\t0\nS\t10\t0\n";
 /// let counts = plancheck::network_counts(network.as_bytes())?;
 /// assert_eq!((counts.links, counts.signals, counts.steps), (1, 0, 2));
 /// assert_eq!(counts.required_ledger_len(), 6);

@@ -21,7 +21,7 @@ fn the_avenue() {
 #[test]
 fn trams_are_counted() {
     let network =
-        b"N\t1\t1\t0\t1\t1\nT\t1\t2\t1\t1\nG\t20\t60\t2\t2\t10\t20\t10\t30\t10\t30\nQ\t0\t10\t0\t0\t0\t0\nS\t10\t0\n";
+        b"N\t1\t1\t0\t1\t1\t0\nT\t1\t2\t1\t1\nG\t20\t60\t2\t2\t10\t20\t10\t30\t10\t30\nQ\t0\t10\t0\t0\t0\t0\t0\nS\t10\t0\n";
     assert_eq!(network_counts(network).unwrap().trams, 1);
 }
 
@@ -29,7 +29,7 @@ fn trams_are_counted() {
 fn what_the_check_refuses_is_not_counted() {
     for network in [
         &b""[..],
-        b"N\t25\t0\t0\t1\t0\n",
+        b"N\t25\t0\t0\t1\t0\t0\n",
         &AVENUE[..100],
         &[AVENUE, b"\n"].concat(),
     ] {
@@ -39,7 +39,7 @@ fn what_the_check_refuses_is_not_counted() {
         );
     }
     assert_eq!(
-        network_counts(b"N\t25\t0\t0\t1\t0\n").unwrap_err().reason(),
+        network_counts(b"N\t25\t0\t0\t1\t0\t0\n").unwrap_err().reason(),
         Some(Reason::NetworkCounts)
     );
 }

@@ -20,6 +20,13 @@ const AVENUE: Example = Example {
     expected: include_str!("../../../examples/avenue/expected.txt"),
 };
 
+/// Eight steps are past.
+const CARRY: Example = Example {
+    network: include_str!("../../../examples/carry/network.tsv"),
+    plan: include_str!("../../../examples/carry/plan.tsv"),
+    expected: include_str!("../../../examples/carry/expected.txt"),
+};
+
 /// The numbers of a record, without its letter.
 fn numbers(line: &str) -> Vec<u64> {
     line.split('\t').skip(1).map(|field| field.parse().unwrap()).collect()
@@ -57,15 +64,29 @@ fn avenue() {
     judge(&AVENUE);
 }
 
-/// What is queued and in transit is what a link holds: entered minus left.
 #[test]
-fn states_add_up() {
-    let ledger = judge(&AVENUE);
-    for boundary in 0..=24 {
+fn carry() {
+    judge(&CARRY);
+}
+
+/// What is queued and in transit is what a link holds: entered minus left.
+fn states_add_up(example: &Example, steps: u32) {
+    let ledger = judge(example);
+    for boundary in 0..=steps {
         for link in 1..=10 {
-            let state = link_state(AVENUE.network.as_bytes(), &ledger, boundary, link).unwrap();
+            let state = link_state(example.network.as_bytes(), &ledger, boundary, link).unwrap();
             let place = (2 * boundary * 10 + 2 * (link - 1)) as usize;
             assert_eq!(state.queued + state.in_transit, ledger[place] - ledger[place + 1]);
         }
     }
+}
+
+#[test]
+fn states_of_the_avenue_add_up() {
+    states_add_up(&AVENUE, 24);
+}
+
+#[test]
+fn states_with_a_past_add_up() {
+    states_add_up(&CARRY, 16);
 }

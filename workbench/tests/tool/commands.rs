@@ -8,7 +8,7 @@ fn usage_tells_the_commands_that_there_are() {
     let said = workbench(&[]);
     assert_eq!(said.status, 0);
     for name in [
-        "check", "explain", "report", "states", "rank", "listing", "cells", "make",
+        "check", "explain", "report", "states", "rank", "carry", "listing", "cells", "make",
     ] {
         assert!(said.out.contains(&format!("\n  {name} ")), "{name}");
     }
@@ -25,6 +25,8 @@ fn wrong_commands() {
         &["check", "a", "b"],
         &["rank"],
         &["rank", "--cvs", "a"],
+        &["carry", "a", "one", "b"],
+        &["carry", "a", "1"],
         &["make", "x", "y"],
         &["make", "1"],
         &["make", "1", "y", "--junctions", "8"],
@@ -161,6 +163,32 @@ fn rank_takes_one_network() {
     let said = workbench(&["rank", &example("corridor"), &example("avenue")]);
     assert_eq!(said.status, 2);
     assert!(said.err.contains("is another network"));
+}
+
+#[test]
+fn carry_writes_the_network_from_a_boundary_on() {
+    let (network, plan) = (example("avenue/network.tsv"), example("avenue/plan.tsv"));
+    let lines = fs::read_to_string(&plan).unwrap();
+    let first: String = lines.lines().take(8).map(|line| format!("{line}\n")).collect();
+    let run = scratch("carry").join("first.tsv");
+    fs::write(&run, first).unwrap();
+    let said = workbench(&["carry", &network, "8", &run.display().to_string()]);
+    assert_eq!(said.status, 0);
+    assert_eq!(said.out, fs::read_to_string(example("carry/network.tsv")).unwrap());
+
+    let said = workbench(&["carry", &network, "24", &plan]);
+    assert_eq!((said.status, said.out.as_str()), (1, ""));
+    assert!(said.err.contains("refused with 31"), "{}", said.err);
+    let said = workbench(&["carry", &network, "8", &plan]);
+    assert_eq!((said.status, said.out.as_str()), (1, ""));
+    assert!(said.err.contains("refused with 9 in step 9 (line 9 of the plan text"), "{}", said.err);
+}
+
+#[test]
+fn check_accepts_a_network_with_a_past() {
+    let said = workbench(&["check", &example("carry")]);
+    assert_eq!(said.status, 0);
+    assert!(said.out.ends_with("travel time        9835.6175 vehicle seconds\n"), "{}", said.out);
 }
 
 #[test]
