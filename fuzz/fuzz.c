@@ -3,7 +3,8 @@
  * touch, and texts that nothing may write. Of every answer it is asked that
  *   - it is the same wherever the buffers stand, and whatever the ledger or the buffer held before;
  *   - its number is one that the call tells, and all else is 0 where it is not 0;
- *   - only the rows of the boundaries that passed, or the bytes of the text that was written, have changed.
+ *   - only the rows of the boundaries that passed, or the bytes of the text that was written, have changed;
+ *   - a network that is carried on is valid, and has the steps that are left.
  * Before that every pointer is NULL once, with length 0.
  */
 #include "inputs.h"
@@ -13,7 +14,7 @@
 #include <inttypes.h>
 #include <sanitizer/common_interface_defs.h>
 
-enum { EXAMPLES = 3, LEDGER_ROOM = 512, BUFFER_ROOM = 8192, DOUBLES_ROOM = 66 };
+enum { EXAMPLES = 4, LEDGER_ROOM = 512, BUFFER_ROOM = 8192, DOUBLES_ROOM = 66 };
 
 static struct example examples[EXAMPLES];
 static struct text corridor;
@@ -46,7 +47,7 @@ static void count_number(uint32_t number)
 
 static int is_network_number(uint32_t number)
 {
-    return (number >= 1 && number <= 6) || number == 28;
+    return (number >= 1 && number <= 6) || number == 28 || number == 30;
 }
 
 static int is_plan_number(uint32_t number)
@@ -75,7 +76,7 @@ static void try_network(void)
     some_network(&examples[below(EXAMPLES)], &network);
     plancheck_network_result first = ask_network(&network, 1), second = ask_network(&network, 0);
     DEMAND(memcmp(&first, &second, sizeof first) == 0);
-    DEMAND(first.number == 0 ? first.line == 0 && first.item == 0 : is_network_number(first.number) && first.line != 0);
+    DEMAND(first.number == 0 ? first.line == 0 && first.item == 0 : is_network_number(first.number) && (first.line == 0) == (first.number == PLANCHECK_PAST_VALUES));
     count_number(first.number);
 }
 
@@ -121,14 +122,13 @@ static int same_plan_result(const plancheck_plan_result *a, const plancheck_plan
            a->inside == b->inside && a->doubled_time == b->doubled_time;
 }
 
-/* How many numbers of the ledger a call may have written. */
-static size_t written_numbers(const struct text *network, const plancheck_plan_result *result)
+/* How many numbers of the ledger a call may have written that took so many steps, by its number and line. */
+static size_t written_numbers(const plancheck_counts_result *counts, uint32_t steps, uint32_t number, uint32_t line)
 {
-    if (is_network_number(result->number) || result->number == PLANCHECK_LEDGER_TOO_SHORT)
+    if (is_network_number(number) || number == PLANCHECK_CARRY_BOUNDARY || number == PLANCHECK_LEDGER_TOO_SHORT)
         return 0;
-    plancheck_counts_result counts = plancheck_network_counts(network->bytes, network->length);
-    uint32_t rows = result->number == 0 || result->line > counts.steps ? counts.steps + 1 : result->line;
-    return 2 * (size_t)counts.links * rows;
+    uint32_t rows = line == 0 || line > steps ? steps + 1 : line;
+    return 2 * (size_t)counts->links * rows;
 }
 
 static void try_plan(void)
@@ -149,7 +149,8 @@ static void try_plan(void)
     ledger = some_ledger(numbers, 0x55555555u, 0);
     plancheck_plan_result second = ask_plan(&network, &plan, ledger, numbers, 0);
     DEMAND(same_plan_result(&first, &second));
-    size_t written = written_numbers(&network, &first);
+    plancheck_counts_result counts = plancheck_network_counts(network.bytes, network.length);
+    size_t written = written_numbers(&counts, counts.steps, first.number, first.line);
     DEMAND(written <= numbers);
     for (size_t k = 0; k < numbers; k++)
         DEMAND(k < written ? kept[k] == ledger[k] : kept[k] == 0xaaaaaaaau && ledger[k] == 0x55555555u);
@@ -221,6 +222,70 @@ static void try_listing(void)
     count_number(first.number);
 }
 
+struct carrying {
+    struct text network, plan;
+    uint32_t boundary;
+    size_t numbers, room;
+};
+
+static plancheck_text_result ask_carry(const struct carrying *asked, uint32_t *ledger, uint8_t *buffer, int at_end)
+{
+    const uint8_t *network_lent = lend(network_region, asked->network.bytes, asked->network.length, at_end);
+    const uint8_t *plan_lent = lend(text_region, asked->plan.bytes, asked->plan.length, at_end);
+    return plancheck_carry_on(network_lent, asked->network.length, asked->boundary, plan_lent, asked->plan.length, ledger, asked->numbers, buffer, asked->room);
+}
+
+/* A network, a boundary inside or just outside its plan, and as many lines of the plan. */
+static void some_carrying(struct carrying *asked)
+{
+    const struct example *example = &examples[below(EXAMPLES)];
+    some_network(example, &asked->network);
+    asked->boundary = below(20) == 0 ? UINT32_MAX : below(26);
+    asked->plan = example->plan;
+    cut_lines(&asked->plan, asked->boundary);
+    if (below(2) == 0)
+        damage(&asked->plan);
+    if (below(20) == 0)
+        asked->plan.length = 0;
+    asked->numbers = below(10) == 0 ? below(LEDGER_ROOM) : LEDGER_ROOM;
+    asked->room = below(4) == 0 ? below(BUFFER_ROOM) : BUFFER_ROOM;
+}
+
+static void try_carry(void)
+{
+    static struct carrying asked;
+    some_carrying(&asked);
+    plancheck_text_result result[2];
+    static uint32_t ledger[2][LEDGER_ROOM];
+    static uint8_t buffer[2][BUFFER_ROOM];
+    static const uint8_t before[2] = {0x55, 0xaa};
+    for (int at_end = 0; at_end < 2; at_end++) {
+        uint32_t *ledger_lent = some_ledger(asked.numbers, before[at_end], at_end);
+        uint8_t *buffer_lent = place(buffer_region, asked.room, at_end);
+        memset(buffer_lent, before[at_end], asked.room);
+        result[at_end] = ask_carry(&asked, ledger_lent, buffer_lent, at_end);
+        memcpy(ledger[at_end], ledger_lent, 4 * asked.numbers);
+        memcpy(buffer[at_end], buffer_lent, asked.room);
+    }
+    uint32_t number = result[0].number, line = result[0].line;
+    size_t length = result[0].length;
+    DEMAND(number == result[1].number && line == result[1].line && result[0].item == result[1].item && length == result[1].length);
+    DEMAND(number == 0 ? length <= asked.room : length == 0);
+    for (size_t k = 0; k < asked.room; k++)
+        DEMAND(k < length ? buffer[0][k] == buffer[1][k] : buffer[0][k] == before[0] && buffer[1][k] == before[1]);
+    plancheck_counts_result counts = plancheck_network_counts(asked.network.bytes, asked.network.length);
+    size_t written = written_numbers(&counts, asked.boundary, number, line);
+    DEMAND(written <= asked.numbers);
+    for (size_t k = 0; k < asked.numbers; k++)
+        DEMAND(k < written ? ledger[0][k] == ledger[1][k] : ledger[0][k] == before[0] && ledger[1][k] == before[1]);
+    DEMAND(number == 0 || is_plan_number(number) || number == PLANCHECK_CARRY_BOUNDARY || number == PLANCHECK_CARRY_BUFFER_TOO_SHORT);
+    if (number == 0) {
+        plancheck_counts_result left = plancheck_network_counts(buffer[0], length);
+        DEMAND(left.number == 0 && left.links == counts.links && left.steps == counts.steps - asked.boundary);
+    }
+    count_number(number);
+}
+
 static plancheck_cells_result ask_cells(const struct text *text, int at_end)
 {
     return plancheck_run_cells(lend(text_region, text->bytes, text->length, at_end), text->length);
@@ -290,6 +355,9 @@ static void try_null(void)
     DEMAND(plancheck_check_plan(network->bytes, network->length, NULL, 0, ledger, PLANCHECK_LEDGER_MAX).number == 13);
     DEMAND(plancheck_link_state(NULL, 0, NULL, 0, 0, 1).number == 1);
     DEMAND(plancheck_link_state(network->bytes, network->length, NULL, 0, 0, 1).number == 8);
+    DEMAND(plancheck_carry_on(NULL, 0, 1, NULL, 0, NULL, 0, NULL, 0).number == 1);
+    DEMAND(plancheck_carry_on(network->bytes, network->length, 1, NULL, 0, NULL, 0, NULL, 0).number == 8);
+    DEMAND(plancheck_carry_on(network->bytes, network->length, 1, NULL, 0, ledger, PLANCHECK_LEDGER_MAX, NULL, 0).number == 32);
     DEMAND(plancheck_plan_from_listing(NULL, 0, NULL, 0, NULL, 0).number == 1);
     DEMAND(plancheck_plan_from_listing(network->bytes, network->length, NULL, 0, NULL, 0).number == 24);
     static uint8_t buffer[PLANCHECK_WRITTEN_PLAN_MAX];
@@ -305,7 +373,7 @@ static void try_null(void)
 
 static void read_examples(const char *examples_folder)
 {
-    static const char *const folders[EXAMPLES] = {"corridor", "avenue", "listing"};
+    static const char *const folders[EXAMPLES] = {"corridor", "avenue", "listing", "carry"};
     char folder[4096];
     for (int k = 0; k < EXAMPLES; k++) {
         snprintf(folder, sizeof folder, "%s/%s", examples_folder, folders[k]);
@@ -340,7 +408,7 @@ int main(int count, char **arguments)
     plancheck_version_result version = plancheck_version();
     DEMAND(version.major == PLANCHECK_VERSION_MAJOR && version.minor == PLANCHECK_VERSION_MINOR && version.patch == PLANCHECK_VERSION_PATCH);
     try_null();
-    static void (*const calls[])(void) = {try_network, try_counts, try_plan, try_plan, try_link, try_listing, try_cells, try_vehicles};
+    static void (*const calls[])(void) = {try_network, try_counts, try_plan, try_plan, try_link, try_carry, try_listing, try_cells, try_vehicles};
     for (input = 0; input < inputs; input++)
         calls[below(sizeof calls / sizeof calls[0])]();
     for (uint32_t number = 0; number < sizeof told / sizeof told[0]; number++)

@@ -60,9 +60,20 @@ static size_t end_of(const struct text *text, size_t at, uint8_t first, uint8_t 
 void add_tram(struct text *network)
 {
     char tram[32];
-    int length = snprintf(tram, sizeof tram, "1\nT\t%u\t%u\t%u\t%u\n", below(3), below(4), below(5), below(6));
-    size_t end = end_of(network, 0, '\n', '\n');
-    replace(network, end - 1, 2, tram, (size_t)length);
+    int length = snprintf(tram, sizeof tram, "T\t%u\t%u\t%u\t%u\n", below(3), below(4), below(5), below(6));
+    size_t end = end_of(network, 0, '\n', '\n'), tab = end;
+    while (network->bytes[tab] != '\t')
+        tab--;
+    network->bytes[tab - 1] = '1';
+    replace(network, end + 1, 0, tram, (size_t)length);
+}
+
+void cut_lines(struct text *text, uint32_t lines)
+{
+    size_t at = 0;
+    for (uint32_t line = 0; line < lines && at < text->length; line++)
+        at = end_of(text, at, '\n', '\n') + 1;
+    text->length = at;
 }
 
 /* A number for a field: small, a limit of the format, or anything. */

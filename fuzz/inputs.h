@@ -28,6 +28,9 @@ void read_example(struct text *text, const char *folder, const char *name);
 /* Puts a tram line into a network text that has none: its signal, phase and steps are small numbers. */
 void add_tram(struct text *network);
 
+/* Keeps so many lines of a text, or all of them where it has fewer. */
+void cut_lines(struct text *text, uint32_t lines);
+
 /* Changes a text in zero to a few places: bytes, fields, lines, its end. */
 void damage(struct text *text);
 
