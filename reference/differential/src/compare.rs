@@ -114,7 +114,7 @@ fn ask_library(question: &Question, ledger: &mut [u32], buffer: &mut [u8]) -> Op
         Call::CarryOn { boundary } => {
             let boundary = u32::try_from(boundary).ok()?;
             let plan = &question.plan;
-            Given::Text(library::carry_on(network, boundary, plan, ledger, buffer)?)
+            Given::Text(library::carry_on(network, boundary, plan, ledger, buffer))
         }
     })
 }

@@ -1,8 +1,6 @@
 //! The calls of the C library on slices, with all that they give.
 
 use crate::declarations::{self, CountsResult, LinkResult, NetworkResult, PlanResult, TextResult};
-#[cfg(feature = "carry_on")]
-use crate::later;
 
 // SAFETY of all: a slice gives an aligned pointer that is not null, readable (and, where it is mutable, writable) for its length, and
 // no other reference reaches what a mutable one does. The header asks for no more.
@@ -54,20 +52,15 @@ pub fn plan_from_listing(network: &[u8], listing: &[u8], plan: &mut [u8]) -> Tex
     }
 }
 
-/// Nothing if the program is built for a library without this call.
-#[cfg_attr(not(feature = "carry_on"), allow(unused_variables))]
 pub fn carry_on(
     network: &[u8],
     boundary: u32,
     plan: &[u8],
     ledger: &mut [u32],
     carried: &mut [u8],
-) -> Option<TextResult> {
-    #[cfg(not(feature = "carry_on"))]
-    return None;
-    #[cfg(feature = "carry_on")]
-    Some(unsafe {
-        later::plancheck_carry_on(
+) -> TextResult {
+    unsafe {
+        declarations::plancheck_carry_on(
             network.as_ptr(),
             network.len(),
             boundary,
@@ -78,5 +71,5 @@ pub fn carry_on(
             carried.as_mut_ptr(),
             carried.len(),
         )
-    })
+    }
 }

@@ -9,8 +9,6 @@ mod compare;
 #[path = "../../../bindings/rust/src/library.rs"]
 mod declarations;
 mod inputs;
-#[cfg(feature = "carry_on")]
-mod later;
 mod library;
 
 use compare::{compare, Asked, Compared};
@@ -81,7 +79,7 @@ fn run(count: u64, first_seed: u64) -> Counts {
     counts
 }
 
-/// What the library gave, if it has such a call.
+/// What the library gave, if its call takes such numbers.
 fn judge(counts: &mut Counts, seed: u64, index: usize, question: &Question) -> Option<Asked> {
     let Some(compared) = compare(question) else {
         counts.passed_over += 1;
