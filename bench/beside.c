@@ -6,6 +6,7 @@
  *
  * CALL and its files:
  *     network_counts NETWORK
+ *     carry_on NETWORK PLAN                        from the boundary behind the plan's last line
  *     plan_from_listing NETWORK LISTING
  *     run_cells CORRIDOR
  *     step_vehicles PLACES ADVANCES RED_LINES      doubles in the machine's order
@@ -22,6 +23,8 @@ static const double SPACING = 7.5;
 
 static struct text texts[MAX_FILES];
 static uint8_t plan[PLANCHECK_WRITTEN_PLAN_MAX];
+static uint8_t carried[PLANCHECK_NETWORK_TEXT_MAX];
+static uint32_t ledger[PLANCHECK_LEDGER_MAX];
 static double places[PLANCHECK_MAX_VEHICLES];
 static double advances[PLANCHECK_MAX_VEHICLES];
 static double red_lines[PLANCHECK_MAX_RED_LINES];
@@ -37,6 +40,15 @@ static void nothing(void)
 static void network_counts(void)
 {
     counted = plancheck_network_counts(texts[0].bytes, texts[0].length);
+}
+
+static void carry_on(void)
+{
+    uint32_t boundary = 0;
+    for (size_t i = 0; i < texts[1].length; i++)
+        boundary += texts[1].bytes[i] == '\n';
+    written = plancheck_carry_on(texts[0].bytes, texts[0].length, boundary, texts[1].bytes, texts[1].length, ledger,
+                                 PLANCHECK_LEDGER_MAX, carried, sizeof carried);
 }
 
 static void plan_from_listing(void)
@@ -73,6 +85,7 @@ static const struct measured {
     const uint32_t *number, *line, *item;
 } CALLS[] = {
     {"network_counts", 1, network_counts, &counted.number, &counted.line, &counted.item},
+    {"carry_on", 2, carry_on, &written.number, &written.line, &written.item},
     {"plan_from_listing", 2, plan_from_listing, &written.number, &written.line, &written.item},
     {"run_cells", 1, run_cells, &ran.number, &ran.line, &ran.item},
     {"step_vehicles", 3, step_vehicles, &stepped.number, &stepped.line, &stepped.item},

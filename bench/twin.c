@@ -12,6 +12,7 @@
  * - The shares of a link sum to 1000, so rule 16 holds of all its movements just where, for each, volume × share of the
  *   first = volume of the first × share.
  * - The movements of a link stand together, so what they leave is added up in a register.
+ * - What had entered by each past boundary is stored; times are counted from the first of them.
  *
  * Signals, links and movements are counted from 0 here, and from 1 in a refusal.
  */
@@ -26,6 +27,7 @@
 
 enum {
     MAX_PHASES = 8,
+    MAX_PAST = 120,
     MAX_PLAN_NUMBERS = PLANCHECK_MAX_SIGNALS + 2 * PLANCHECK_MAX_LINKS + PLANCHECK_MAX_MOVEMENTS,
     HELD_LINE_MAX = 2 + 4 * PLANCHECK_MAX_SIGNALS + 2 * (2 * PLANCHECK_MAX_LINKS + PLANCHECK_MAX_MOVEMENTS)
 };
@@ -45,7 +47,7 @@ struct signal {
 };
 
 struct link {
-    uint32_t capacity, standing;
+    uint32_t capacity, standing, waiting;
     uint16_t travel_time, exit_rate;
     uint8_t signal; /* the number of signals where there is none */
     uint8_t mask; /* 255 where there is no signal */
@@ -64,14 +66,18 @@ struct tram {
 };
 
 struct network {
-    uint32_t links, signals, movements, steps, trams;
+    uint32_t links, signals, movements, steps, trams, past;
     uint32_t shortest_greatest_time; /* of all phases of all signals, and 60 */
+    bool valid_lengths; /* of the past steps */
     const uint8_t *first_step; /* where the S lines begin */
     struct tram tram[PLANCHECK_MAX_TRAMS];
     struct signal signal[PLANCHECK_MAX_SIGNALS];
     struct link link[PLANCHECK_MAX_LINKS];
     struct movement movement[PLANCHECK_MAX_MOVEMENTS];
-    uint16_t time[PLANCHECK_MAX_STEPS + 1]; /* of each boundary */
+    uint16_t time[MAX_PAST + PLANCHECK_MAX_STEPS + 1]; /* of each boundary, past ones first */
+    uint32_t demand[PLANCHECK_MAX_LINKS]; /* of all steps */
+    uint64_t entered[PLANCHECK_MAX_LINKS], left[PLANCHECK_MAX_LINKS]; /* when the past ends */
+    uint32_t past_entered[MAX_PAST][PLANCHECK_MAX_LINKS]; /* by each boundary before that */
 };
 
 static struct refusal refuse(uint32_t number, uint32_t line, uint32_t item)
@@ -273,6 +279,7 @@ static bool set_link(const struct network *network, struct link *link, const uin
     link->travel_time = (uint16_t)numbers[1];
     link->exit_rate = (uint16_t)numbers[2];
     link->standing = numbers[5];
+    link->waiting = numbers[6];
     link->movements = 0;
     if (signal == 0) {
         link->signal = (uint8_t)network->signals;
@@ -323,9 +330,76 @@ NOINLINE struct refusal explain_step(const struct network *network, const uint8_
     return refuse(6, line, index + 1);
 }
 
-/* An S line; its end, or NULL where it does not pass. */
-INLINE const uint8_t *read_step(const uint8_t *at, const uint8_t *text_cut, uint32_t links, uint32_t longest,
-                                uint32_t *length)
+/* An H line. Its values are judged after all lines. */
+static const uint8_t *read_past_step(struct network *network, const uint8_t *at, const uint8_t *text_cut, uint32_t index)
+{
+    uint32_t numbers[1 + 2 * PLANCHECK_MAX_LINKS];
+    at = read_line(at, text_cut, 'H', numbers, 1 + 2 * network->links);
+    if (at == NULL)
+        return NULL;
+    network->valid_lengths = network->valid_lengths && numbers[0] - 1 < 60;
+    network->time[index + 1] = (uint16_t)(network->time[index] + numbers[0]);
+    for (uint32_t i = 0; i < network->links; i++) {
+        network->past_entered[index][i] = (uint32_t)network->entered[i];
+        network->entered[i] += numbers[1 + 2 * i];
+        network->left[i] += numbers[2 + 2 * i];
+    }
+    return at;
+}
+
+/* Where a link's travel time before a boundary ends: the step, and the seconds of it that have elapsed. Steps are counted
+   from 0 and boundaries from the first past one. */
+struct end {
+    uint32_t step, length, elapsed;
+};
+
+static struct end find_end(const struct network *network, uint32_t boundary, uint32_t travel_time)
+{
+    const uint16_t *time = network->time;
+    uint32_t latest = time[boundary] < travel_time ? 0 : time[boundary] - travel_time, step = 0;
+    while (step + 1 < boundary && time[step + 1] <= latest)
+        step++;
+    return (struct end){step, (uint32_t)time[step + 1] - time[step], latest - time[step]};
+}
+
+/* What had arrived where the travel time ends in a step, times the step's length. */
+static uint64_t arrived_parts(struct end end, uint32_t before, uint32_t after)
+{
+    return (uint64_t)before * end.length + (uint64_t)(after - before) * end.elapsed;
+}
+
+/* What had entered a link by a boundary that is not after the past, as the network has it. */
+static uint32_t entered_in_past(const struct network *network, uint32_t boundary, uint32_t link)
+{
+    return boundary == network->past ? (uint32_t)network->entered[link] : network->past_entered[boundary][link];
+}
+
+/* A link when the past ends. */
+static bool is_valid_start(const struct network *network, uint32_t index)
+{
+    const struct link *link = &network->link[index];
+    uint64_t entered = network->entered[index], left = network->left[index];
+    uint64_t most = 72000000 + (uint64_t)13800000 * network->past;
+    if (entered - link->standing + link->waiting + network->demand[index] > most)
+        return false;
+    if (network->past == 0)
+        return true;
+    struct end end = find_end(network, network->past, link->travel_time);
+    uint32_t before = entered_in_past(network, end.step, index), after = entered_in_past(network, end.step + 1, index);
+    return left * end.length <= arrived_parts(end, before, after) && entered - left <= link->capacity;
+}
+
+static struct refusal judge_past(const struct network *network)
+{
+    bool valid = network->valid_lengths && network->past + network->steps <= PLANCHECK_MAX_STEPS;
+    for (uint32_t i = 0; valid && i < network->links; i++)
+        valid = is_valid_start(network, i);
+    return valid ? refuse(0, 0, 0) : refuse(30, 0, 0);
+}
+
+/* An S line; its end, or NULL where it does not pass. The demands are added to those before. */
+INLINE const uint8_t *read_step(const uint8_t *at, const uint8_t *text_cut, uint32_t *demands, uint32_t *demands_end,
+                                uint32_t longest, uint32_t *length)
 {
     if (UNLIKELY(at >= text_cut || *at != 'S'))
         return NULL;
@@ -337,44 +411,49 @@ INLINE const uint8_t *read_step(const uint8_t *at, const uint8_t *text_cut, uint
         at = read_number(at, &demand);
         if (UNLIKELY(at == NULL || demand > 600000))
             return NULL;
-    } while (--links != 0);
+        *demands += demand;
+    } while (++demands < demands_end);
     return *at == '\n' ? at + 1 : NULL;
 }
 
 static struct refusal read_steps(struct network *network, const uint8_t *at, const uint8_t *text_cut,
                                  const uint8_t *end, uint32_t line)
 {
-    uint32_t time = 0, length;
+    uint32_t time = network->time[network->past], length;
+    uint16_t *time_after = &network->time[network->past + 1];
     network->first_step = at;
-    network->time[0] = 0;
     for (uint32_t k = 0; k < network->steps; k++, line++) {
         const uint8_t *start = at;
-        at = read_step(at, text_cut, network->links, network->shortest_greatest_time, &length);
+        at = read_step(at, text_cut, network->demand, network->demand + network->links,
+                       network->shortest_greatest_time, &length);
         if (UNLIKELY(at == NULL))
             return explain_step(network, start, text_cut, line, k);
         time += length;
-        network->time[k + 1] = (uint16_t)time;
+        time_after[k] = (uint16_t)time;
     }
-    return at == end ? refuse(0, 0, 0) : refuse(1, line, 0);
+    return at == end ? judge_past(network) : refuse(1, line, 0);
 }
 
 /* Reads and judges a network text. */
 NOINLINE struct refusal read_network(struct network *network, const uint8_t *text, size_t length)
 {
     const uint8_t *end = text + length, *text_cut = cut(text, length), *at;
-    uint32_t numbers[6], refused, line = 2;
-    if ((at = read_line(text, text_cut, 'N', numbers, 5)) == NULL)
+    uint32_t numbers[7], refused, line = 2;
+    if ((at = read_line(text, text_cut, 'N', numbers, 6)) == NULL)
         return refuse(1, 1, 0);
     if (numbers[0] - 1 >= PLANCHECK_MAX_LINKS || numbers[1] > PLANCHECK_MAX_SIGNALS ||
         numbers[2] > PLANCHECK_MAX_MOVEMENTS || numbers[3] - 1 >= PLANCHECK_MAX_STEPS ||
-        numbers[4] > PLANCHECK_MAX_TRAMS)
+        numbers[4] > PLANCHECK_MAX_TRAMS || numbers[5] > MAX_PAST)
         return refuse(2, 1, 0);
     network->links = numbers[0];
     network->signals = numbers[1];
     network->movements = numbers[2];
     network->steps = numbers[3];
     network->trams = numbers[4];
+    network->past = numbers[5];
     network->shortest_greatest_time = 60;
+    network->valid_lengths = true;
+    network->time[0] = 0;
 
     for (uint32_t k = 0; k < network->trams; k++, line++) {
         if ((at = read_line(at, text_cut, 'T', numbers, 4)) == NULL)
@@ -391,10 +470,13 @@ NOINLINE struct refusal read_network(struct network *network, const uint8_t *tex
         if (network->tram[k].phase - 1 >= network->signal[network->tram[k].signal].phases)
             return refuse(28, 2 + k, 0);
     for (uint32_t i = 0; i < network->links; i++, line++) {
-        if ((at = read_line(at, text_cut, 'Q', numbers, 6)) == NULL)
+        if ((at = read_line(at, text_cut, 'Q', numbers, 7)) == NULL)
             return refuse(1, line, 0);
         if (!set_link(network, &network->link[i], numbers))
             return refuse(4, line, i + 1);
+        network->entered[i] = network->link[i].standing;
+        network->left[i] = 0;
+        network->demand[i] = 0;
     }
     for (uint32_t j = 0; j < network->movements; j++, line++) {
         if ((at = read_line(at, text_cut, 'M', numbers, 4)) == NULL)
@@ -403,7 +485,12 @@ NOINLINE struct refusal read_network(struct network *network, const uint8_t *tex
             return refuse(5, line, j + 1);
     }
     struct refusal refusal = judge_shares(network, line - network->movements);
-    return refusal.number != 0 ? refusal : read_steps(network, at, text_cut, end, line);
+    if (refusal.number != 0)
+        return refusal;
+    for (uint32_t h = 0; h < network->past; h++, line++)
+        if ((at = read_past_step(network, at, text_cut, h)) == NULL)
+            return refuse(1, line, 0);
+    return read_steps(network, at, text_cut, end, line);
 }
 
 plancheck_network_result twin_check_network(const uint8_t *network_text, size_t network_len)
@@ -426,7 +513,7 @@ struct claims {
 struct row {
     uint32_t entered, left, waiting;
     const uint16_t *end; /* that step's first boundary, among the times */
-    const uint32_t *entered_by_end; /* what had entered by then, in the ledger */
+    const uint32_t *entered_by_end; /* what had entered by then, in the ledger or in the past */
 };
 
 /* A plan that is judged, as far as it has passed. */
@@ -436,6 +523,7 @@ struct run {
     struct row row[PLANCHECK_MAX_LINKS];
     uint32_t shown[PLANCHECK_MAX_SIGNALS + 1]; /* masks; the last, of links without a signal, is 255 */
     uint32_t *ledger;
+    const uint16_t *time; /* of the boundaries from 0 on */
 };
 
 NOINLINE void find_claims(const struct network *network, struct claims *claims, uint32_t step)
@@ -461,7 +549,7 @@ static struct refusal explain_signals(const struct run *run, const uint32_t *mas
 {
     const struct signal *signals = run->network.signal;
     uint32_t count = run->network.signals, claimed = run->claims.signals;
-    int32_t before = run->network.time[n - 1], after = run->network.time[n];
+    int32_t before = run->time[n - 1], after = run->time[n];
     for (uint32_t i = 0; i < count; i++)
         if (mask[i] == 0 || (mask[i] & (mask[i] - 1)) != 0 || mask[i] >> signals[i].phases != 0)
             return refuse(10, n, i + 1);
@@ -526,18 +614,13 @@ static struct refusal explain_flows(const struct run *run, const uint32_t *numbe
     return refuse(0, 0, 0);
 }
 
-/* Where a link's travel time before a boundary ends: the step, from 0, and the seconds of it that have elapsed. */
-struct end {
-    uint32_t step, length, elapsed;
-};
-
-static struct end find_end(const struct network *network, uint32_t boundary, uint32_t travel_time)
+/* What had entered a link by a boundary, counted from the first past one. */
+static uint32_t entered_by(const struct run *run, uint32_t boundary, uint32_t link)
 {
-    const uint16_t *time = network->time;
-    uint32_t latest = time[boundary] < travel_time ? 0 : time[boundary] - travel_time, step = 0;
-    while (step + 1 < boundary && time[step + 1] <= latest)
-        step++;
-    return (struct end){step, (uint32_t)time[step + 1] - time[step], latest - time[step]};
+    const struct network *network = &run->network;
+    if (boundary < network->past)
+        return network->past_entered[boundary][link];
+    return run->ledger[2 * ((size_t)(boundary - network->past) * network->links + link)];
 }
 
 /* The first refusal of a plan line that does not pass. */
@@ -559,10 +642,9 @@ NOINLINE struct refusal explain_line(const struct run *run, const uint8_t *at, c
     for (uint32_t i = 0; i < links; i++) {
         uint32_t entered = row_before[2 * i] + admitted[i] + moved_to[i];
         uint32_t left = row_before[2 * i + 1] + let_out[i] + moved_from[i];
-        struct end end = find_end(network, n, network->link[i].travel_time);
-        const uint32_t *before = run->ledger + 2 * ((size_t)end.step * links + i);
-        uint32_t entered_in_step = (end.step + 1 == n ? entered : before[2 * links]) - *before;
-        if ((uint64_t)left * end.length > (uint64_t)*before * end.length + (uint64_t)entered_in_step * end.elapsed)
+        struct end end = find_end(network, network->past + n, network->link[i].travel_time);
+        uint32_t after = end.step + 1 == network->past + n ? entered : entered_by(run, end.step + 1, i);
+        if ((uint64_t)left * end.length > arrived_parts(end, entered_by(run, end.step, i), after))
             return refuse(17, n, i + 1);
     }
     for (uint32_t i = 0; i < links; i++)
@@ -594,6 +676,14 @@ static void change(struct signal *signal, uint32_t mask, int32_t before)
     }
     signal->start = before;
     show(signal);
+}
+
+/* A signal whose time stands still for so many seconds. */
+static void move_on(struct signal *signal, int32_t seconds)
+{
+    signal->start += seconds;
+    signal->cycle_start += seconds;
+    signal->until += seconds;
 }
 
 /* The masks of a line: rules 10, 29 and 11 to 14. *changed: a bit for each signal that changes. */
@@ -659,6 +749,14 @@ NOINLINE const uint8_t *read_movements(struct run *run, const uint8_t *at, uint3
     return at;
 }
 
+/* Where what had entered by the next boundary is found. */
+INLINE const uint32_t *next_entered(const struct run *run, const struct row *row, const uint16_t *end, size_t width)
+{
+    if (end >= run->time)
+        return row->entered_by_end + width;
+    return end + 1 == run->time ? run->ledger + 2 * (row - run->row) : row->entered_by_end + PLANCHECK_MAX_LINKS;
+}
+
 /* Rules 17 and 18 on all links, once the row is formed. Of what enters in the step in which the travel time ends, the
    elapsed part has arrived, so that both sides are multiplied by its length. */
 NOINLINE bool links_keep(struct run *run, const uint32_t *row_before, const uint16_t *now)
@@ -669,13 +767,13 @@ NOINLINE bool links_keep(struct run *run, const uint32_t *row_before, const uint
         int32_t latest = *now - link->travel_time;
         const uint16_t *end = row->end;
         while (end[1] <= latest) {
+            row->entered_by_end = next_entered(run, row, end, width);
             end++;
-            row->entered_by_end += width;
         }
         row->end = end;
         uint32_t before = *row->entered_by_end;
         if (row->left > before) {
-            uint32_t after = end + 1 == now ? row->entered : row->entered_by_end[width];
+            uint32_t after = end + 1 == now ? row->entered : *next_entered(run, row, end, width);
             uint32_t elapsed = latest < 0 ? 0 : (uint32_t)latest - *end, length = (uint32_t)end[1] - *end;
             if ((uint64_t)(row->left - before) * length > (uint64_t)(after - before) * elapsed)
                 return false;
@@ -734,12 +832,21 @@ plancheck_plan_result twin_check_plan(const uint8_t *network_text, size_t networ
 
     plancheck_plan_result result = {0, 0, 0, 0, 0, 0, 0};
     struct row *row = run.row, *row_end = row + links;
+    uint64_t under_way = 0; /* in the network or waiting outside */
     for (uint32_t i = 0; i < links; i++) {
-        row[i] = (struct row){network->link[i].standing, 0, 0, network->time, ledger + 2 * i};
-        result.inside += network->link[i].standing;
+        uint32_t entered = (uint32_t)network->entered[i], left = (uint32_t)network->left[i];
+        uint32_t waiting = network->link[i].waiting;
+        const uint32_t *entered_first = network->past != 0 ? &network->past_entered[0][i] : ledger + 2 * i;
+        row[i] = (struct row){entered, left, waiting, network->time, entered_first};
+        result.inside += entered - left;
+        under_way += waiting;
     }
+    under_way += result.inside;
     write_row(ledger, row, row_end);
     run.ledger = ledger;
+    run.time = network->time + network->past;
+    for (uint32_t i = 0; i < network->signals; i++)
+        move_on(&network->signal[i], run.time[0]);
     run.shown[network->signals] = 255;
     find_claims(network, &run.claims, 1);
 
@@ -749,11 +856,10 @@ plancheck_plan_result twin_check_plan(const uint8_t *network_text, size_t networ
     const uint8_t *text_cut = holds ? write_held_line(network, held) : cut(plan_text, plan_len);
     const uint8_t *step_at = network->first_step;
     const uint32_t *row_before = ledger;
-    uint64_t under_way = result.inside; /* in the network or waiting outside */
     for (uint32_t n = 1; n <= steps; n++) {
         const uint8_t *line = at, *step_line = step_at;
         struct row *judged = row;
-        int32_t before = network->time[n - 1], after = network->time[n];
+        int32_t before = run.time[n - 1], after = run.time[n];
         uint32_t length = (uint32_t)(after - before), volume, changed = 0;
         if (n == run.claims.changed_at)
             find_claims(network, &run.claims, n);
@@ -761,7 +867,8 @@ plancheck_plan_result twin_check_plan(const uint8_t *network_text, size_t networ
                      (at = read_masks(&run, at + 1, before, after, &changed)) == NULL))
             goto explain;
 
-        uint32_t demanded = 0, admitted = 0, let_out = 0; /* at most 24 × 72,000,000 */
+        uint32_t demanded = 0, let_out = 0; /* at most 24 × 600,000 */
+        uint64_t admitted = 0;
         step_at = read_again(step_at + 1, &volume);
         for (; judged < row_end; judged++) {
             uint32_t demand;
@@ -785,7 +892,7 @@ plancheck_plan_result twin_check_plan(const uint8_t *network_text, size_t networ
             let_out += volume;
         }
         at = read_movements(&run, at, length);
-        if (UNLIKELY(at == NULL || *at != '\n' || !links_keep(&run, row_before, &network->time[n])))
+        if (UNLIKELY(at == NULL || *at != '\n' || !links_keep(&run, row_before, &run.time[n])))
             goto explain;
 
         at = holds ? held : at + 1;
@@ -802,11 +909,8 @@ plancheck_plan_result twin_check_plan(const uint8_t *network_text, size_t networ
             struct signal *signal = &network->signal[i];
             if ((changed >> i & 1) != 0)
                 change(signal, run.shown[i], before);
-            if ((claimed >> i & 1) != 0) {
-                signal->start += (int32_t)length;
-                signal->cycle_start += (int32_t)length;
-                signal->until += (int32_t)length;
-            }
+            if ((claimed >> i & 1) != 0)
+                move_on(signal, (int32_t)length);
         }
         continue;
     explain:
@@ -840,14 +944,19 @@ plancheck_link_result twin_link_state(const uint8_t *network_text, size_t networ
     uint32_t entered = ledger[boundary * row_length + place];
     uint32_t left = ledger[boundary * row_length + place + 1];
     uint32_t travel_time = network.link[link - 1].travel_time;
-    struct end end = find_end(&network, boundary, travel_time);
-    uint32_t before = network.link[link - 1].standing;
-    if (network.time[boundary] >= travel_time)
-        before = ledger[end.step * row_length + place];
-    uint32_t after = end.elapsed == 0 ? before : ledger[(end.step + 1) * row_length + place];
+    struct end end = find_end(&network, network.past + boundary, travel_time);
+    uint32_t before = network.link[link - 1].standing, after = before;
+    if (network.time[network.past + boundary] - network.time[network.past] >= (int32_t)travel_time) {
+        const uint32_t *row = ledger + (end.step - network.past) * row_length + place;
+        before = *row;
+        after = end.elapsed == 0 ? before : row[row_length];
+    } else if (end.step < network.past) {
+        before = entered_in_past(&network, end.step, link - 1);
+        after = entered_in_past(&network, end.step + 1, link - 1);
+    }
     if (after < before)
         return link_refused(refuse(21, 0, 0));
-    uint64_t arrived = (uint64_t)before * end.length + (uint64_t)(after - before) * end.elapsed;
+    uint64_t arrived = arrived_parts(end, before, after);
     if ((uint64_t)left * end.length > arrived || arrived > (uint64_t)entered * end.length)
         return link_refused(refuse(21, 0, 0));
     uint32_t whole = (uint32_t)(arrived / end.length);
