@@ -61,6 +61,7 @@ carried-on network plan b ledger buffer {bufferAfter = after} {answer = answer} 
       written-valid = λ end e.
           ap (λ t. verdict (networkChecks (lines t))) (text end e)
           ∙ carries-on network .valid plan b (length ledger) (length buffer) (of-written network plan b (length ledger) (length buffer) _ end (sym told ∙ e) .0);
+      untouched = λ r e. holds ∙ kept _ r (of-refused network plan b (length ledger) (length buffer) _ r (sym told ∙ e));
       carries-on = carries-on network;
       refused-number = λ r e. refused-number _ r (carry-numbered network plan b (length ledger) (length buffer)) (of-refused network plan b (length ledger) (length buffer) _ r (sym told ∙ e));
     }
@@ -68,6 +69,10 @@ carried-on network plan b ledger buffer {bufferAfter = after} {answer = answer} 
     bytes-of : (v : Verdict) → v ≡ Passes → writtenBytes network plan b v buffer ≡ over (carriedText network plan b) buffer
     bytes-of Passes e = unfold writtenBytes in refl
     bytes-of (Refused r) e = cc
+
+    kept : (v : Verdict) (r : Refusal) → v ≡ Refused r → writtenBytes network plan b v buffer ≡ buffer
+    kept Passes r e = cc
+    kept (Refused q) r e = unfold writtenBytes in refl
 
     front : (text old : List ℕ) → take (length text) (over text old) ≡ text
     front text old = unfold over in take-at text _ (length text) refl

@@ -71,12 +71,13 @@ pub record CarriesOn (network : List Line) : Type 0 where
       → carriedText (next network plan b) more c ≡ carriedText network (plan ++ more) (b + c)
 
 -- What the call promises of a plan, the ledger and the buffer before and after it, and its answer: all are those of the definitions; a text that was written is a valid
--- network; the theorem; and a refusal's number is one that can arise.
+-- network, and a refusal leaves the buffer as it was; the theorem; and a refusal's number is one that can arise.
 pub record CarriedOn (network plan : List Line) (b : ℕ) (ledger ledgerAfter buffer bufferAfter : List ℕ) (answer : CarryAnswer) : Type 0 where
   pub told : answer ≡ carryOn network plan b (length ledger) (length buffer)
   pub rows : ledgerAfter ≡ carryLedger network plan b ledger
   pub holds : bufferAfter ≡ carryBuffer network plan b (length ledger) buffer
   pub written : (end : ℕ) → answer ≡ Written end → take end bufferAfter ≡ carriedText network plan b
   pub written-valid : (end : ℕ) → answer ≡ Written end → checkNetwork (lines (take end bufferAfter)) ≡ Passes
+  pub untouched : (r : Refusal) → answer ≡ answers.Refused r → bufferAfter ≡ buffer
   pub carries-on : CarriesOn network
   pub refused-number : (r : Refusal) → answer ≡ answers.Refused r → CanArise (r .number)
