@@ -86,18 +86,19 @@
  * It keeps nothing between calls and uses no heap, no global or static data, no file and no errno. The answer depends
  * on the arguments alone. The calls are re-entrant and may run in several threads at once, each that writes a ledger with
  * one of its own. A call always returns, after work that grows linearly with the lengths of the texts and with
- * K * (R + L + M), of a listing too, of a corridor with cells * demands, and of a step with vehicles * red lines.
+ * K * (R + L + M), of a listing too, of a corridor with cells * demands, and of a step with vehicles * red lines. Of a
+ * network with a past each link reads the H lines within its travel time once more.
  * The library needs memcpy and memset from the C library, at most.
  *
  * MEMORY
  * In bytes. The stack is that of x86-64, as painted (docs/MEASUREMENTS.md; bench/run measures it).
  *     call                          stack     lent, beside what it reads
- *     plancheck_check_network        4,240    nothing
- *     plancheck_network_counts       4,272    nothing
- *     plancheck_check_plan           7,920    the ledger: 4 * PLANCHECK_LEDGER_LEN(L, K), 23,232 at most
- *     plancheck_link_state           4,256    nothing
- *     plancheck_carry_on             CARRY    the ledger: 4 * PLANCHECK_LEDGER_LEN(L, b); the buffer for the text
- *     plancheck_plan_from_listing   65,824    the buffer: PLANCHECK_WRITTEN_PLAN_MAX, 151,920, at most
+ *     plancheck_check_network        4,976    nothing
+ *     plancheck_network_counts       4,944    nothing
+ *     plancheck_check_plan           6,192    the ledger: 4 * PLANCHECK_LEDGER_LEN(L, K), 23,232 at most
+ *     plancheck_link_state           5,264    nothing
+ *     plancheck_carry_on             6,320    the ledger: 4 * PLANCHECK_LEDGER_LEN(L, b); the buffer for the text
+ *     plancheck_plan_from_listing   66,544    the buffer: PLANCHECK_WRITTEN_PLAN_MAX, 151,920, at most
  *     plancheck_run_cells            2,208    nothing
  *     plancheck_step_vehicles            8    nothing: the places are changed where they stand
  *     plancheck_version                  8    nothing
