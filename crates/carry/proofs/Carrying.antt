@@ -8,7 +8,7 @@ use native.Mathlib.Numerals.{add-one}
 use native.Mathlib.Omega.{arith}
 use borrow.Author.Tests.{le-leb, lt-leb, eq-eqb}
 use lib.Dec.{leb, eqb}
-use lib.ListN.{length, getD, replicate, length-replicate}
+use lib.ListN.{length, getD, replicate}
 use lib.Seq.{getD-take}
 use Rattle.search.specs.declared.Refusal.{Refusal}
 use Rattle.search.specs.declared.Verdict.{Verdict}
@@ -37,7 +37,8 @@ use Rattle.tables.proofs.Stages.{verdict-refused}
 use Rattle.network.specs.Loading.{Loaded}
 use Rattle.plan_steps.specs.declared.Taken.{Taken}
 use Rattle.plan_steps.specs.Steps as steps
-use Rattle.plan_steps.proofs.Runs.{zeros-blank, lines-within}
+use Rattle.network_signals.proofs.Passed.{signals-passed, load-zeros}
+use Rattle.plan_steps.proofs.Runs.{lines-within}
 use Rattle.plan_steps.proofs.Ledger.{written-again}
 use Rattle.carried_text.specs.declared.CarriedAnswer.{CarriedAnswer}
 use Rattle.carried_text.specs.declared.CarriedAnswer.the-variants as carried-answers
@@ -193,16 +194,11 @@ module _ (networkText planText : List ℕ) (b : ℕ) (buffer : List ℕ) {readin
       rows ∙ sym (cut-written network b is-valid (a .first) (a .last) whole first same ledger (suc n) (omega arith)) ∙ ap (written (cut network b) first ledger) (sym (rows-until (cut network b) first (length ledger) n d last))
 
   pub steps-asked : {signals : List ℕ} → signals ≡ replicate signalTableSize 0 → {waiting : List ℕ} → length waiting ≡ maxLinks → steps.StepsAsked networkText planText reading b links movements times signals waiting ledger
-  unfolding Hold networkChecks
-  steps-asked {signals} zeros size =
+  steps-asked zeros size =
       let loaded = a .loaded in
       record {
         tables = record { holds = loaded .holds; counted = loaded .counted; trams-start = loaded .trams-start; link-table = loaded .link-table; movement-table = loaded .movement-table; time-table = loaded .time-table };
-        signals-asked = record {
-          on-text = record { starts = loaded .signals-start; counted = loaded .counted; passed = passes-of-hold _ (loaded .holds .1 .1 .0) };
-          size = rw zeros (length-replicate {A = ℕ} signalTableSize 0);
-          blank = zeros-blank signals zeros;
-        };
+        signals-asked = load-zeros (signals-passed (loaded .signals-start) (loaded .counted) (loaded .holds)) zeros;
         past-start = loaded .past-start;
         steps-start = loaded .steps-start;
         few-steps = omega (arith, a .last);

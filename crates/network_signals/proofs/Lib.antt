@@ -2,3 +2,4 @@ mod Values
 mod Counts
 mod Lines
 mod Loops
+pub mod Passed

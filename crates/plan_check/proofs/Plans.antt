@@ -9,7 +9,7 @@ use lib.Dec.{leb}
 use lib.ListN.{length}
 use Rattle.search.specs.declared.Refusal.{Refusal}
 use Rattle.search.specs.declared.Verdict.the-variants as verdicts
-use Rattle.search.specs.Checks.{refusal, verdict, Hold}
+use Rattle.search.specs.Checks.{refusal, verdict}
 use Rattle.search.proofs.Laws.{passes-of-hold, or-else-passes, or-else-refused, checked-passes, checked-refused}
 use Rattle.records.specs.Lines.{Line, lines}
 use Rattle.model.specs.declared.PlanAnswer.{PlanAnswer}
@@ -28,7 +28,7 @@ use Rattle.tables.specs.declared.Stage.{Stage}
 use Rattle.tables.specs.declared.Stage.the-variants as stages
 use Rattle.tables.specs.Tables.{Judged}
 use Rattle.tables.proofs.Stages.{verdict-refused}
-use Rattle.network_signals.specs.Stages.{SignalsPassed}
+use Rattle.network_signals.proofs.Passed.{signals-passed}
 use Rattle.network.specs.Loading.{Loaded}
 use Rattle.plan_steps.specs.Steps.{RunAsked, RunGot}
 use Rattle.plan_check.specs.Plan.{PlanGot}
@@ -54,16 +54,6 @@ module _ (network plan : List Line) (size : ℕ) where
     plan-lines : leb (2 * suc (stepCount network) * linkCount network) size ≡ true → verdict (planChecks network plan size) ≡ verdict (planLineChecks network plan)
     unfolding verdict planChecks ledgerChecks
     plan-lines room = or-else-passes _ _ valid ∙ or-else-passes _ _ (checked-passes _ 8 0 0 room)
-
--- the `G` lines of a network that has passed can be loaded
-signals-passed : {networkText links movements times : List ℕ} {reading : Reading} → Loaded networkText links movements times reading → SignalsPassed networkText reading
-unfolding Hold networkChecks
-signals-passed {networkText} {reading = reading} loaded =
-    record {
-      starts = loaded .signals-start;
-      counted = loaded .counted;
-      passed = passes-of-hold _ (loaded .holds .1 .1 .0);
-    }
 
 module _ (networkText planText links movements times old : List ℕ) (reading : Reading) (loaded : Loaded networkText links movements times reading) where
   abbrev net : List Line
@@ -94,7 +84,7 @@ module _ (networkText planText links movements times old : List ℕ) (reading : 
     run-asked =
         record {
           tables = record { holds = loaded .holds; counted = loaded .counted; trams-start = loaded .trams-start; link-table = loaded .link-table; movement-table = loaded .movement-table; time-table = loaded .time-table };
-          signals-passed = signals-passed loaded;
+          signals-passed = signals-passed (loaded .signals-start) (loaded .counted) (loaded .holds);
           past-start = loaded .past-start;
           steps-start = loaded .steps-start;
           room = room;

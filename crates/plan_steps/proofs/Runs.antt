@@ -37,6 +37,7 @@ use Rattle.tables.specs.declared.Reading.{Reading}
 use Rattle.tables.specs.Tables.{SignalTable}
 use Rattle.tables.specs.Fields.{signalTableSize, rowSize}
 use Rattle.arrivals.proofs.Boundaries.{times-rise}
+use Rattle.network_signals.proofs.Passed.{load-zeros}
 use Rattle.past_curves.specs.Curves.{PastAsked, PastLoaded}
 use Rattle.waiting.specs.Waiting.{FirstAsked, FirstWaits, WaitingTable}
 use Rattle.waiting.proofs.Texts.{waiting-first, outside-is}
@@ -54,15 +55,8 @@ use Rattle.plan_steps.proofs.Ledger.{written-again}
 use Rattle.plan_steps.proofs.Adding.{outside-sum, totals-first}
 use Rattle.past_curves.proofs.Valid.{past-form, entered-at-start, past-fits, left-at-start, left-fits}
 
--- a table of zeros
-pub zeros-blank : (signals : List ℕ) → signals ≡ replicate signalTableSize 0 → (k : ℕ) → getD signals k 0 ≡ 0
-zeros-blank signals zeros k = elim (decLe signalTableSize k) [
-  | yes h ↦ List·getD-eq-default signals 0 (omega (arith, ap length zeros, length-replicate {A = ℕ} signalTableSize 0))
-  | no h ↦ ap (λ l. getD l k 0) zeros ∙ getD-replicate {A = ℕ} signalTableSize k 0 0 (omega arith)
-]
-
 -- the signals before the plan
-signals-first : (network plan : List Line) (signals : List ℕ) → ValidNetwork network → SignalTable network signals → SignalsAt network plan 0 signals
+pub signals-first : (network plan : List Line) (signals : List ℕ) → ValidNetwork network → SignalTable network signals → SignalsAt network plan 0 signals
 unfolding signalAt
 signals-first network plan signals valid t =
     record {
@@ -297,7 +291,7 @@ module _ {networkText planText : List ℕ} {reading : Reading} {links movements 
   steps-asked signals zeros waiting size =
       record {
         tables = a .tables;
-        signals-asked = record { on-text = a .signals-passed; size = rw zeros (length-replicate {A = ℕ} signalTableSize 0); blank = zeros-blank signals zeros };
+        signals-asked = load-zeros (a .signals-passed) zeros;
         past-start = a .past-start;
         steps-start = a .steps-start;
         few-steps = omega (arith, a .tables .counted .steps);

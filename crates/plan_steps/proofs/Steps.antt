@@ -65,12 +65,12 @@ use Rattle.plan_steps.proofs.Ledger.{written-again}
 use Rattle.plan_steps.proofs.Verdicts.{formed, line-malformed, line-formed}
 
 -- a network that has passed has the form of an `S` line at each step
-step-form : (network : List Line) → Hold (networkChecks network) → (n : ℕ) → n < stepCount network → isForm network (stepLine network n) letterS (1 + linkCount network) ≡ true
+pub step-form : (network : List Line) → Hold (networkChecks network) → (n : ℕ) → n < stepCount network → isForm network (stepLine network n) letterS (1 + linkCount network) ≡ true
 unfolding Hold networkChecks stepChecks
 step-form network (counts, (trams, (signals, (phases, (links, (movements, (shares, (past, (steps, rest))))))))) n l = steps n l .0
 
 -- and of a `T` line at each tram line
-tram-form : (network : List Line) → Hold (networkChecks network) → (k : ℕ) → k < tramCount network → isForm network (tramLine network k) letterT tramFields ≡ true
+pub tram-form : (network : List Line) → Hold (networkChecks network) → (k : ℕ) → k < tramCount network → isForm network (tramLine network k) letterT tramFields ≡ true
 unfolding Hold networkChecks tramChecks
 tram-form network (counts, (trams, rest)) k l = trams k l .0
 
@@ -106,7 +106,7 @@ module _ (network plan : List Line) (n : ℕ) (signals signals′ phases claims 
           (rw e at (lawful .keeps13 r l)) (rw e at (lawful .keeps14 r l))
       go false e = ready-now r l
 
-  signals-next : SignalsAt network plan (suc n) signals′
+  pub signals-next : SignalsAt network plan (suc n) signals′
   signals-next = record { size = moved .size; holds = stepped; ready = λ r l. rw (stepped r l) (ready-next r l) }
 
 module _ {networkText planText : List ℕ} {counts : Counts} {tramsAt : ℕ} {links movements times signals arrivals curves places waiting ledger : List ℕ} {state : State}

@@ -1,0 +1,33 @@
+-- `G` lines that have passed are loaded again into a table of zeros. Assumes nothing.
+use Prim.Native.Nat.{ℕ}
+use mathlib.Core.Path.{_≡_, ap, _∙_}
+use mathlib.Core.List.{List}
+use native.Mathlib.Decide.{decLe}
+use native.Mathlib.Omega.{arith}
+use lib.ListN.{length, getD, replicate, length-replicate, getD-replicate, List·getD-eq-default}
+use Rattle.search.specs.Checks.{Hold}
+use Rattle.search.proofs.Laws.{passes-of-hold}
+use Rattle.records.specs.Lines.{lines}
+use Rattle.records.specs.Reading.{Starts}
+use Rattle.model.specs.Network.{signalLine}
+use Rattle.model.specs.Table.{networkChecks}
+use Rattle.tables.specs.declared.Reading.{Reading}
+use Rattle.tables.specs.Fields.{signalTableSize}
+use Rattle.tables.specs.Tables.{CountsHold}
+use Rattle.network_signals.specs.Stages.{SignalsPassed, LoadAsked}
+
+pub signals-passed : {text : List ℕ} {reading : Reading} → Starts text (reading .«signals_at») (signalLine (lines text) 0) → CountsHold (lines text) (reading .counts) → Hold (networkChecks (lines text))
+    → SignalsPassed text reading
+unfolding Hold networkChecks
+signals-passed starts counted holds = record { starts = starts; counted = counted; passed = passes-of-hold _ (holds .1 .1 .0) }
+
+pub load-zeros : {text : List ℕ} {reading : Reading} {signals : List ℕ} → SignalsPassed text reading → signals ≡ replicate signalTableSize 0 → LoadAsked text reading signals
+load-zeros {signals = signals} passed zeros =
+    record {
+      on-text = passed;
+      size = rw zeros (length-replicate {A = ℕ} signalTableSize 0);
+      blank = λ k. elim (decLe signalTableSize k) [
+        | yes h ↦ List·getD-eq-default signals 0 (omega (arith, ap length zeros, length-replicate {A = ℕ} signalTableSize 0))
+        | no h ↦ ap (λ l. getD l k 0) zeros ∙ getD-replicate {A = ℕ} signalTableSize k 0 0 (omega arith)
+      ];
+    }
