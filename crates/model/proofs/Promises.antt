@@ -49,17 +49,17 @@ module _ (network plan : List Line) (accepted : AcceptedPlan network plan) where
 
 module _ (network plan : List Line) where
   -- the verdict by the answer
-  passes-of-accepted : (v : Verdict) (t : Totals) → planAnswer network plan v ≡ plan-answer.Accepted t → (v ≡ Passes) × (t .«doubled_time» ≡ doubledTime network plan (stepCount network))
+  pub passes-of-accepted : (v : Verdict) (t : Totals) → planAnswer network plan v ≡ plan-answer.Accepted t → (v ≡ Passes) × (t .«doubled_time» ≡ doubledTime network plan (stepCount network))
   unfolding planAnswer totals
   passes-of-accepted Passes t h = (refl, cc)
   passes-of-accepted (Refused r) t h = (cc, cc)
 
-  accepted-of-passes : (v : Verdict) → v ≡ Passes → (t : Totals) × (planAnswer network plan v ≡ plan-answer.Accepted t)
+  pub accepted-of-passes : (v : Verdict) → v ≡ Passes → (t : Totals) × (planAnswer network plan v ≡ plan-answer.Accepted t)
   unfolding planAnswer
   accepted-of-passes Passes h = (_, refl)
   accepted-of-passes (Refused r) h = (totals network plan 0, cc)
 
-  refused-of-refused : (v : Verdict) (r : Refusal) → planAnswer network plan v ≡ plan-answer.Refused r → v ≡ Refused r
+  pub refused-of-refused : (v : Verdict) (r : Refusal) → planAnswer network plan v ≡ plan-answer.Refused r → v ≡ Refused r
   unfolding planAnswer
   refused-of-refused Passes r h = cc
   refused-of-refused (Refused q) r h = cc

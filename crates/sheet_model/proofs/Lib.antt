@@ -1,0 +1,16 @@
+pub mod Opened
+pub mod Cases
+pub mod Tests
+pub mod Steps
+pub mod Run
+pub mod LastLine
+pub mod Exactly
+pub mod First
+pub mod OnePass
+pub mod Cycle
+pub mod Ends
+pub mod Masks
+pub mod Checks
+pub mod Written
+pub mod Promises
+pub mod Padding

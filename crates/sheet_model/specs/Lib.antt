@@ -1,0 +1,6 @@
+pub mod Kept
+pub mod Runs
+pub mod Cycle
+pub mod Calls
+pub mod Promises
+pub mod Padding
