@@ -37,7 +37,7 @@ pub fn place_of(phase: u32) -> usize
 }
 
 // The mask that shows one phase: its bit.
-fn mask_of(phase: u32) -> u32
+pub fn mask_of(phase: u32) -> u32
     requires { ⌜ phase ≤ 8 ⌝ }
     ensures { λ r. ⌜ r ≡ 2 ^ (phase - 1) ⌝ }
 {

@@ -1,0 +1,5 @@
+pub mod Cycle
+pub mod Columns
+pub mod Texts
+pub mod Lines
+pub mod Call

@@ -1,0 +1,84 @@
+-- `sheet_writer::fill_column` meets its contract. The loop's invariant: the first n steps fit, and their masks are set. Assumes nothing.
+use Prim.Native.Nat.{_-_}
+use Rattle.sheet_lines.specs.Reading.{numberIn}
+use Rattle.sheet_writer.proofs.Columns.{ColumnTo, column-none, place-inside, phase-few, bit-byte, column-broken, column-asked, column-more, column-all}
+use borrow.Author.Needs.{needs}
+use Rattle.sheet_writer.proofs.fill_column.Statement.{statement}
+use Rattle.sheet_writer.proofs.fill_column.Tie as tie
+
+abbrev Inv-loop : tie.InvT-loop
+Inv-loop table start phases times steps r masks₀ run₀ n₀ masks run n = ColumnTo (numberIn table start) phases times steps r masks₀ masks run n
+
+abbrev μ-loop : tie.MeasureT-loop
+μ-loop table start phases times steps r masks₀ run₀ n₀ masks run n = steps - n
+
+first-run-requires : tie.Need-first-run-requires Inv-loop μ-loop
+first-run-requires c κs = search needs
+
+loop-holds : tie.Need-loop-holds Inv-loop μ-loop
+loop-holds c = search (column-none, needs)
+
+seconds-in-requires : tie.Need-seconds-in-requires Inv-loop μ-loop
+seconds-in-requires c κs = search needs
+
+same-length : tie.Need-same-length Inv-loop μ-loop
+same-length c = search needs
+
+returns : tie.Need-returns Inv-loop μ-loop
+returns c = search (column-broken, needs)
+
+mask-of-requires : tie.Need-mask-of-requires Inv-loop μ-loop
+mask-of-requires c κs = search (phase-few, needs)
+
+cast-masks : tie.Need-cast-masks Inv-loop μ-loop
+cast-masks c = search (bit-byte, needs)
+
+mul-masks : tie.Need-mul-masks Inv-loop μ-loop
+mul-masks c = search needs
+
+add-masks : tie.Need-add-masks Inv-loop μ-loop
+add-masks c = search needs
+
+slice-write-masks : tie.Need-slice-write-masks Inv-loop μ-loop
+slice-write-masks c = search (place-inside, needs)
+
+next-run-requires : tie.Need-next-run-requires Inv-loop μ-loop
+next-run-requires c κs = search (column-asked, needs)
+
+add-n : tie.Need-add-n Inv-loop μ-loop
+add-n c = search needs
+
+loop-less : tie.Need-loop-less Inv-loop μ-loop
+loop-less c = search needs
+
+loop-again : tie.Need-loop-again Inv-loop μ-loop
+loop-again c = search (column-more, needs)
+
+same-length-2 : tie.Need-same-length-2 Inv-loop μ-loop
+same-length-2 c = search needs
+
+returns-2 : tie.Need-returns-2 Inv-loop μ-loop
+returns-2 c = search (column-all, needs)
+
+pub fill-column-spec : {M : Type 1} → statement M
+fill-column-spec =
+    tie.close
+    (tie.spec
+    Inv-loop
+    μ-loop
+    first-run-requires
+    loop-holds
+    seconds-in-requires
+    same-length
+    returns
+    mask-of-requires
+    cast-masks
+    mul-masks
+    add-masks
+    slice-write-masks
+    next-run-requires
+    add-n
+    loop-less
+    loop-again
+    same-length-2
+    returns-2)

@@ -1,0 +1,93 @@
+-- `sheet_writer::fill_masks` meets its contract. The loop's invariant: 35 of the first r signals passes, and their masks are held. Assumes nothing.
+use Prim.Native.Nat.{_-_}
+use Rattle.records.specs.Lines.{lines}
+use Rattle.sheet_writer.proofs.Columns.{MasksTo, masks-none, column-wanted, masks-tram, masks-off, masks-next, masks-all}
+use native.Mathlib.Omega.{arith}
+use borrow.Author.Needs.{needs}
+use Rattle.sheet_writer.proofs.fill_masks.Statement.{statement}
+use Rattle.sheet_writer.proofs.fill_masks.Tie as tie
+
+abbrev Inv-loop : tie.InvT-loop
+Inv-loop network reading signals table times masks₀ counts r₀ masks r = MasksTo (lines network) signals table times (reading .counts .steps) (reading .counts .signals) masks r
+
+abbrev μ-loop : tie.MeasureT-loop
+μ-loop network reading signals table times masks₀ counts r₀ masks r = reading .counts .signals - r
+
+loop-holds : tie.Need-loop-holds Inv-loop μ-loop
+loop-holds c = search (masks-none, needs)
+
+phase-count-requires : tie.Need-phase-count-requires Inv-loop μ-loop
+phase-count-requires c κs = search needs
+
+mul-start : tie.Need-mul-start Inv-loop μ-loop
+mul-start c = search needs
+
+has-no-tram-requires : tie.Need-has-no-tram-requires Inv-loop μ-loop
+has-no-tram-requires c κs = search needs
+
+add-new : tie.Need-add-new Inv-loop μ-loop
+add-new c = search needs
+
+new-requires : tie.Need-new-requires Inv-loop μ-loop
+new-requires c κs = search needs
+
+same-length : tie.Need-same-length Inv-loop μ-loop
+same-length c = search needs
+
+returns : tie.Need-returns Inv-loop μ-loop
+returns c = search (masks-tram, needs)
+
+fill-column-requires : tie.Need-fill-column-requires Inv-loop μ-loop
+fill-column-requires c κs = column-wanted (c .before .before .before .before .before .before .before .before .before .before .before .before .before .pre .0) (c .before .before .before .before .before .before .loop .inv) (omega arith) (c .before .before .before .phase-count .ensures)
+
+add-new-2 : tie.Need-add-new-2 Inv-loop μ-loop
+add-new-2 c = search needs
+
+new-requires-2 : tie.Need-new-requires-2 Inv-loop μ-loop
+new-requires-2 c κs = search needs
+
+same-length-2 : tie.Need-same-length-2 Inv-loop μ-loop
+same-length-2 c = search needs
+
+returns-2 : tie.Need-returns-2 Inv-loop μ-loop
+returns-2 c = masks-off (c .before .before .before .before .before .before .before .before .before .before .before .before .before .before .before .before .before .before .pre .0) (c .before .before .before .before .before .before .before .before .before .before .before .loop .inv) (omega arith) (c .before .before .before .before .before .before .before .has-no-tram .ensures) (c .before .before .before .before .before .before .if2 .left) (c .before .before .before .before .before .before .before .before .phase-count .ensures) (c .before .before .before .before .fill-column .ensures) (c .before .if3 .taken) (c .new2 .ensures)
+
+add-r : tie.Need-add-r Inv-loop μ-loop
+add-r c = search needs
+
+loop-less : tie.Need-loop-less Inv-loop μ-loop
+loop-less c = search needs
+
+loop-again : tie.Need-loop-again Inv-loop μ-loop
+loop-again c = masks-next (c .before .before .before .before .before .before .before .before .before .before .before .before .before .before .before .before .before .pre .0) (c .before .before .before .before .before .before .before .before .before .before .loop .inv) (omega arith) (c .before .before .before .before .before .before .has-no-tram .ensures) (c .before .before .before .before .before .if2 .left) (c .before .before .before .before .before .before .before .phase-count .ensures) (c .before .before .before .fill-column .ensures) (c .if3 .left)
+
+same-length-3 : tie.Need-same-length-3 Inv-loop μ-loop
+same-length-3 c = search needs
+
+returns-3 : tie.Need-returns-3 Inv-loop μ-loop
+returns-3 c = search (masks-all, needs)
+
+pub fill-masks-spec : {M : Type 1} → statement M
+fill-masks-spec =
+    tie.close
+    (tie.spec
+    Inv-loop
+    μ-loop
+    loop-holds
+    phase-count-requires
+    mul-start
+    has-no-tram-requires
+    add-new
+    new-requires
+    same-length
+    returns
+    fill-column-requires
+    add-new-2
+    new-requires-2
+    same-length-2
+    returns-2
+    add-r
+    loop-less
+    loop-again
+    same-length-3
+    returns-3)

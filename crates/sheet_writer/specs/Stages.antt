@@ -1,0 +1,73 @@
+-- What the stages of the call ask and promise. Assumes nothing.
+use Prim.Native.Nat.{ℕ, _*_, _<_}
+use mathlib.Core.Path.{_≡_}
+use mathlib.Core.Bool.{true}
+use mathlib.Core.List.{List}
+use lib.Dec.{leb}
+use lib.ListN.{length}
+use Rattle.search.specs.declared.Verdict.{Verdict}
+use Rattle.search.specs.declared.Verdict.the-variants as verdicts
+use Rattle.search.specs.Checks.{orElse, checked, verdict, Hold}
+use Rattle.records.specs.Lines.{Line, lines}
+use Rattle.records.specs.Reading.{Starts}
+use Rattle.model.specs.Network.{tramCount, tramLine, signalLine}
+use Rattle.model.specs.Table.{isForm, letterT, networkChecks}
+use Rattle.tables.specs.declared.Counts.{Counts}
+use Rattle.tables.specs.declared.Reading.{Reading}
+use Rattle.tables.specs.Places.{Few}
+use Rattle.tables.specs.Fields.{tramFields, signalTableSize, tableSignal}
+use Rattle.tables.specs.Tables.{CountsHold}
+use Rattle.plan_times.specs.Times.{PlanTimes}
+use Rattle.sheet_lines.specs.Sheet.{sheetChecks}
+use Rattle.sheet_lines.specs.Reading.{sheetFields}
+use Rattle.sheet_model.specs.declared.SheetAnswer.{SheetAnswer}
+use Rattle.sheet_model.specs.Cycle.{boundaryChecks, sheetText}
+use Rattle.sheet_model.specs.Calls.{writtenAnswer, writtenBytes}
+use Rattle.sheet_writer.specs.Tables.{LineAsked, TimesAsked, boundaryChecksIn, cycleText, MasksHeld, maskTableSize}
+
+-- the `T` lines of a network that has passed
+pub record TramsAsked (text : List ℕ) (at count : ℕ) : Type 0 where
+  pub starts : Starts text at (tramLine (lines text) 0)
+  pub counted : count ≡ tramCount (lines text)
+  pub forms : (k : ℕ) → k < count → isForm (lines text) (tramLine (lines text) k) letterT tramFields ≡ true
+
+-- the tables of a sheet that has passed
+pub record CyclesAsked (networkText : List ℕ) (reading : Reading) (signals : List ℕ) (table times : List ℕ) : Type 0 where
+  pub trams-asked : TramsAsked networkText (reading .«trams_at») (reading .counts .trams)
+  pub times-asked : TimesAsked times (reading .counts .steps)
+  pub signals-size : length signals ≡ signalTableSize
+  pub few : Few (reading .counts)
+  pub lines-asked : (r : ℕ) → r < reading .counts .signals → LineAsked table (sheetFields * r) (tableSignal signals r .phases)
+
+-- 35, and where it passes the masks
+pub record MasksGot (networkText : List ℕ) (counts : Counts) (signals : List ℕ) (table times : List ℕ) (result : Verdict) (masks : List ℕ) : Type 0 where
+  pub told : result ≡ verdict (boundaryChecksIn (lines networkText) signals table times (counts .steps) (counts .signals))
+  pub size : length masks ≡ maskTableSize
+  pub held : result ≡ verdicts.Passes → MasksHeld signals table times (counts .steps) (counts .signals) masks
+
+-- 24
+abbrev pub roomVerdict : List ℕ → List ℕ → Verdict
+roomVerdict text old = checked (leb (length text) (length old)) 24 0 0
+
+-- a verdict was told of a text, and the buffer is as it says
+pub record Told (text : List ℕ) (v : Verdict) (old : List ℕ) (answer : SheetAnswer) (new : List ℕ) : Type 0 where
+  pub answered : answer ≡ writtenAnswer text v
+  pub holds : new ≡ writtenBytes text v old
+
+-- by the tables: 35, then 24
+pub record CyclesWritten (networkText : List ℕ) (counts : Counts) (signals : List ℕ) (table times old : List ℕ) (answer : SheetAnswer) (new : List ℕ) : Type 0 where
+  pub told : Told (cycleText signals table times counts)
+      (orElse (verdict (boundaryChecksIn (lines networkText) signals table times (counts .steps) (counts .signals))) (roomVerdict (cycleText signals table times counts) old)) old answer new
+
+-- a network that has passed, with the times of its plan's boundaries
+pub record NetworkAsked (text : List ℕ) (reading : Reading) (times : List ℕ) : Type 0 where
+  pub counted : CountsHold (lines text) (reading .counts)
+  pub trams-start : Starts text (reading .«trams_at») (tramLine (lines text) 0)
+  pub signals-start : Starts text (reading .«signals_at») (signalLine (lines text) 0)
+  pub time-table : PlanTimes (lines text) times
+  pub holds : Hold (networkChecks (lines text))
+
+-- on it: 33, 35, 24
+pub record SheetWritten (network sheet : List Line) (old : List ℕ) (answer : SheetAnswer) (new : List ℕ) : Type 0 where
+  pub told : Told (sheetText network sheet)
+      (orElse (verdict (sheetChecks network sheet 1)) (orElse (verdict (boundaryChecks network sheet)) (roomVerdict (sheetText network sheet) old))) old answer new

@@ -1,0 +1,322 @@
+// A plan for a fixed-time sheet with offsets (T-10): the call `plan_from_sheet`. The phase that a signal's cycle shows is carried from step to step; no remainder
+// is taken.
+ghost use mathlib.Core.Path.{_≡_};
+ghost use Prim.Native.Nat.{_+_, _*_, _≤_};
+ghost use lib.Dec.{ltb};
+ghost use lib.ListN.{length, getD};
+ghost use Rattle.records.specs.Lines.{lines};
+ghost use Rattle.records.specs.Reading.{over};
+ghost use Rattle.record_writer.specs.Writing.{Wrote};
+ghost use Rattle.model.specs.Sum.{only};
+ghost use Rattle.model.specs.Signals.{phaseAfter};
+ghost use Rattle.sheet_lines.specs.Reading.{numberIn};
+ghost use Rattle.sheet_model.specs.Cycle.{hasNoTram};
+ghost use Rattle.sheet_model.specs.Promises.{WritePromises};
+ghost use Rattle.sheet_writer.specs.Tables.{LineAsked, RunAt, NextAsked, NextRun, secondsIn, TimesAsked, ColumnAsked, ColumnGot, numbersIn, lineIn, textIn, MasksAsked, NumberAsked, FillAsked, WriteAsked, TextAsked};
+ghost use Rattle.sheet_writer.specs.Stages.{TramsAsked, CyclesAsked, MasksGot, roomVerdict, Told, CyclesWritten, NetworkAsked, SheetWritten};
+use records::LineRead;
+use search::Refusal;
+use search::Verdict;
+use sheet_lines::SHEET_FIELDS;
+use sheet_lines::SHEET_TABLE_SIZE;
+use sheet_model::SheetAnswer;
+use tables::Counts;
+use tables::LINE_SIZE;
+use tables::LINK_TABLE_SIZE;
+use tables::MAX_SIGNALS;
+use tables::MAX_STEPS;
+use tables::MOVEMENT_TABLE_SIZE;
+use tables::Reading;
+use tables::SIGNAL_TABLE_SIZE;
+use tables::Stage;
+use tables::TIME_TABLE_SIZE;
+use tables::TRAM_FIELDS;
+
+// The masks of all steps, eight a step; a mask of eight phases fits a byte.
+const MASK_TABLE_SIZE: usize = MAX_SIGNALS * MAX_STEPS;
+
+// The run of a cycle that shows: its phase, and the seconds for which it still shows.
+pub struct Run {
+    pub phase: u32,
+    pub remaining: u32,
+}
+
+// The run that shows at time 0, once the offset has run.
+fn first_run(table: &[u32], start: usize, phases: usize) -> Run
+    requires { ⌜ LineAsked (now table) start phases ⌝ }
+    ensures { λ r. ⌜ RunAt (numberIn (now (table .entry)) start) phases 0 r ⌝ }
+{
+    let mut rest = table[start + phases];
+    let mut k = 0;
+    while table[start + k] <= rest {
+        rest -= table[start + k];
+        k += 1;
+    }
+    Run {
+        phase: (k + 1) as u32,
+        remaining: table[start + k] - rest,
+    }
+}
+
+// The phase after one of so many.
+fn phase_after(phase: u32, phases: u32) -> u32
+    requires { ⌜ phase ≤ 8 ⌝ }
+    ensures { λ r. ⌜ r ≡ phaseAfter phases phase ⌝ }
+{
+    if phase == phases { 1 } else { phase + 1 }
+}
+
+// The run after a step that fits it: it goes on, or it is just over and that of the next phase begins.
+fn next_run(run: Run, table: &[u32], start: usize, phases: u32, seconds: u32) -> Run
+    requires { ⌜ NextAsked (now table) start phases run seconds ⌝ }
+    ensures { λ r. ⌜ NextRun (numberIn (now (table .entry)) start) phases run seconds r ⌝ }
+{
+    if seconds < run.remaining {
+        return Run {
+            phase: run.phase,
+            remaining: run.remaining - seconds,
+        };
+    }
+    let phase = phase_after(run.phase, phases);
+    let place = step_signals::place_of(phase);
+    Run {
+        phase,
+        remaining: table[start + place],
+    }
+}
+
+// The length of a step, by the times of the boundaries.
+fn seconds_in(times: &[u32], steps: usize, n: usize) -> u32
+    requires { ⌜ TimesAsked (now times) steps × (n + 1 ≤ steps) ⌝ }
+    ensures { λ r. ⌜ r ≡ secondsIn (now (times .entry)) n ⌝ }
+{
+    times[n + 1] - times[n]
+}
+
+// Refusal 35 of one signal by its cycle, and its column of the masks: whether no run ends inside a step.
+fn fill_column(
+    table: &[u32],
+    start: usize,
+    phases: u32,
+    times: &[u32],
+    steps: usize,
+    r: usize,
+    masks: &mut [u8],
+) -> bool
+    requires { ⌜ ColumnAsked (now table) start phases (now times) steps r (now masks) ⌝ }
+    ensures { λ b. ⌜ ColumnGot (numberIn (now (table .entry)) start) phases (now (times .entry)) steps r (now (masks .entry)) b (now (masks .exit)) ⌝ }
+{
+    let mut run = first_run(table, start, phases as usize);
+    let mut n = 0;
+    while n < steps {
+        let seconds = seconds_in(times, steps, n);
+        if run.remaining < seconds {
+            return false;
+        }
+        masks[MAX_SIGNALS * n + r] = step_signals::mask_of(run.phase) as u8;
+        run = next_run(run, table, start, phases, seconds);
+        n += 1;
+    }
+    true
+}
+
+// Whether signal `r` has no `T` lines, by these lines, which have passed.
+fn has_no_tram(network: &[u8], at: usize, count: usize, r: usize) -> bool
+    requires { ⌜ TramsAsked (now network) at count ⌝ }
+    requires { ⌜ r ≤ 8 ⌝ }
+    ensures { λ b. ⌜ b ≡ hasNoTram (lines (now (network .entry))) r ⌝ }
+{
+    let mut fields = [0u32; TRAM_FIELDS];
+    let mut place = at;
+    let mut k = 0;
+    while k < count {
+        let read = tables::read_row(network, place, b'T', &mut fields, 0, TRAM_FIELDS);
+        let LineRead::Next(next) = read else {
+            return true;
+        };
+        if tables::index(fields[0]) == r + 1 {
+            return false;
+        }
+        place = next;
+        k += 1;
+    }
+    true
+}
+
+// Refusal 35 by rising signal, a signal with tram lines or with a run that ends before the horizon but on no boundary, and the masks of all steps.
+fn fill_masks(
+    network: &[u8],
+    reading: Reading,
+    signals: &[u32],
+    table: &[u32],
+    times: &[u32],
+    masks: &mut [u8],
+) -> Verdict
+    requires { ⌜ CyclesAsked (now network) reading (now signals) (now table) (now times) ⌝ }
+    requires { ⌜ length (now masks) ≡ 960 ⌝ }
+    ensures { λ r. ⌜ MasksGot (now (network .entry)) (reading .counts) (now (signals .entry)) (now (table .entry)) (now (times .entry)) r (now (masks .exit)) ⌝ }
+{
+    let counts = reading.counts;
+    let mut r = 0;
+    while r < counts.signals {
+        let phases = tables::phase_count(signals, r);
+        let start = SHEET_FIELDS * r;
+        if !has_no_tram(network, reading.trams_at, counts.trams, r) {
+            return Verdict::Refused(Refusal::new(35, 0, r + 1));
+        }
+        if !fill_column(table, start, phases, times, counts.steps, r, masks) {
+            return Verdict::Refused(Refusal::new(35, 0, r + 1));
+        }
+        r += 1;
+    }
+    Verdict::Passes
+}
+
+// A byte as a number of 64 bits.
+fn wide(b: u8) -> u64
+    ensures { λ r. ⌜ r ≡ b ⌝ }
+{
+    b as u64
+}
+
+// Number `k` of the `P` line of step `n`: a signal's mask, or a volume, which is 0.
+fn number_at(masks: &[u8], counts: Counts, n: usize, k: usize) -> u64
+    requires { ⌜ NumberAsked (now masks) counts n ⌝ }
+    ensures { λ r. ⌜ r ≡ only (ltb k (counts .signals)) (getD (now (masks .entry)) (8 * n + k) 0) ⌝ }
+{
+    if k < counts.signals {
+        return wide(masks[MAX_SIGNALS * n + k]);
+    }
+    0
+}
+
+// The numbers of the `P` line of step `n` go to the beginning of `fields`.
+fn fill_numbers(masks: &[u8], counts: Counts, n: usize, fields: &mut [u64])
+    requires { ⌜ FillAsked (now masks) counts n (now fields) ⌝ }
+    ensures { λ _. ⌜ now (fields .exit) ≡ over (numbersIn (now (masks .entry)) counts n) (now (fields .entry)) ⌝ }
+{
+    let width = counts.plan_width();
+    let mut k = 0;
+    while k < width {
+        fields[k] = number_at(masks, counts, n, k);
+        k += 1;
+    }
+}
+
+// How long the `P` line of step `n` is.
+fn line_length(masks: &[u8], counts: Counts, n: usize) -> usize
+    requires { ⌜ NumberAsked (now masks) counts n ⌝ }
+    ensures { λ r. ⌜ r ≡ length (lineIn (now (masks .entry)) counts n) ⌝ }
+{
+    let mut fields = [0u64; LINE_SIZE];
+    fill_numbers(masks, counts, n, &mut fields);
+    let end = counts.plan_width();
+    record_writer::record_length(&fields[..end])
+}
+
+// Writes the `P` line of step `n`.
+fn write_line(masks: &[u8], counts: Counts, n: usize, out: &mut [u8], at: usize) -> usize
+    requires { ⌜ WriteAsked (now masks) counts n (now out) at ⌝ }
+    ensures { λ r. ⌜ Wrote (lineIn (now (masks .entry)) counts n) at (now (out .entry)) (now (out .exit)) r ⌝ }
+{
+    let mut fields = [0u64; LINE_SIZE];
+    fill_numbers(masks, counts, n, &mut fields);
+    let end = counts.plan_width();
+    record_writer::write_record(out, at, b'P', &fields[..end])
+}
+
+// How long the plan text is.
+fn plan_length(masks: &[u8], counts: Counts) -> usize
+    requires { ⌜ MasksAsked (now masks) counts ⌝ }
+    ensures { λ r. ⌜ r ≡ length (textIn (now (masks .entry)) counts) ⌝ }
+{
+    let mut total = 0;
+    let mut n = 0;
+    while n < counts.steps {
+        total += line_length(masks, counts, n);
+        n += 1;
+    }
+    total
+}
+
+// Writes the plan text at the beginning of a buffer that has room for it.
+fn write_lines(masks: &[u8], counts: Counts, out: &mut [u8]) -> usize
+    requires { ⌜ TextAsked (now masks) counts (now out) ⌝ }
+    ensures { λ r. ⌜ Wrote (textIn (now (masks .entry)) counts) 0 (now (out .entry)) (now (out .exit)) r ⌝ }
+{
+    let mut at = 0;
+    let mut n = 0;
+    while n < counts.steps {
+        at = write_line(masks, counts, n, out, at);
+        n += 1;
+    }
+    at
+}
+
+// Writes the plan of these masks: refusal 24 where the buffer is too short.
+fn write_masks(masks: &[u8], counts: Counts, out: &mut [u8]) -> SheetAnswer
+    requires { ⌜ MasksAsked (now masks) counts ⌝ }
+    ensures { λ r. ⌜ Told (textIn (now (masks .entry)) counts) (roomVerdict (textIn (now (masks .entry)) counts) (now (out .entry))) (now (out .entry)) r (now (out .exit)) ⌝ }
+{
+    if out.len() < plan_length(masks, counts) {
+        return SheetAnswer::Refused(Refusal::new(24, 0, 0));
+    }
+    SheetAnswer::Written(write_lines(masks, counts, out))
+}
+
+// The cycles of a sheet that has passed: refusals 35 and 24.
+fn write_cycles(
+    network: &[u8],
+    reading: Reading,
+    signals: &[u32],
+    table: &[u32],
+    times: &[u32],
+    out: &mut [u8],
+) -> SheetAnswer
+    requires { ⌜ CyclesAsked (now network) reading (now signals) (now table) (now times) ⌝ }
+    ensures { λ r. ⌜ CyclesWritten (now (network .entry)) (reading .counts) (now (signals .entry)) (now (table .entry)) (now (times .entry)) (now (out .entry)) r (now (out .exit)) ⌝ }
+{
+    let mut masks = [0u8; MASK_TABLE_SIZE];
+    match fill_masks(network, reading, signals, table, times, &mut masks) {
+        Verdict::Passes => write_masks(&masks, reading.counts, out),
+        Verdict::Refused(refusal) => SheetAnswer::Refused(refusal),
+    }
+}
+
+// The sheet on a network that has passed, whose `G` lines are read again for the limits of their phases: refusals 33, 35 and 24.
+fn write_on_network(
+    network: &[u8],
+    reading: Reading,
+    sheet: &[u8],
+    times: &[u32],
+    out: &mut [u8],
+) -> SheetAnswer
+    requires { ⌜ NetworkAsked (now network) reading (now times) ⌝ }
+    ensures { λ r. ⌜ SheetWritten (lines (now (network .entry))) (lines (now (sheet .entry))) (now (out .entry)) r (now (out .exit)) ⌝ }
+{
+    let mut signals = [0u32; SIGNAL_TABLE_SIZE];
+    let mut table = [0u32; SHEET_TABLE_SIZE];
+    let counts = reading.counts;
+    network_signals::load_signals(network, reading, &mut signals);
+    match sheet_lines::read_sheet(sheet, &signals, counts.signals, 1, &mut table) {
+        Verdict::Passes => write_cycles(network, reading, &signals, &table, times, out),
+        Verdict::Refused(refusal) => SheetAnswer::Refused(refusal),
+    }
+}
+
+// The plan text of a sheet with offsets: refusals 1 to 6, 28 and 30, then 33, 35 and 24.
+pub fn plan_from_sheet(network: &[u8], sheet: &[u8], out: &mut [u8]) -> SheetAnswer
+    ensures { λ r. ⌜ WritePromises (lines (now (network .entry))) (lines (now (sheet .entry))) (now (out .entry)) r (now (out .exit)) ⌝ }
+{
+    let mut links = [0u32; LINK_TABLE_SIZE];
+    let mut movements = [0u32; MOVEMENT_TABLE_SIZE];
+    let mut times = [0u32; TIME_TABLE_SIZE];
+    match network::load_network(network, &mut links, &mut movements, &mut times) {
+        Stage::Passed(reading) => {
+            let counts = reading.counts;
+            plan_times::from_start(&mut times, counts.past, counts.steps);
+            write_on_network(network, reading, sheet, &times, out)
+        }
+        Stage::Refused(refusal) => SheetAnswer::Refused(refusal),
+    }
+}
