@@ -1,4 +1,4 @@
-// The plan check: the call `check_plan`.
+// The plan check: the call `check_plan`, and what it does once a network has passed, for other calls that judge plans.
 ghost use mathlib.Core.Path.{_≡_};
 ghost use lib.ListN.{length};
 ghost use Rattle.records.specs.Lines.{lines};
@@ -16,7 +16,7 @@ use tables::Stage;
 use tables::TIME_TABLE_SIZE;
 
 // Judges a plan on a network that has passed: the ledger's length, then the steps.
-fn judge_plan(
+pub fn judge_plan(
     network: &[u8],
     plan: &[u8],
     reading: Reading,

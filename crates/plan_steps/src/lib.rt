@@ -102,7 +102,13 @@ fn next_state(
 }
 
 // Reads the numbers of a step's `P` line. An empty text means hold: each signal keeps its phase, and every volume is 0, as `line` has it.
-fn read_line(plan: &[u8], at: usize, signals: &[u32], counts: Counts, line: &mut [u32]) -> LineRead
+pub fn read_line(
+    plan: &[u8],
+    at: usize,
+    signals: &[u32],
+    counts: Counts,
+    line: &mut [u32],
+) -> LineRead
     requires { ⌜ LineAsked (now signals) counts (now line) ⌝ }
     ensures { λ r. ⌜ LineGot (now (plan .entry)) at (now (signals .entry)) counts (now (line .entry)) r (now (line .exit)) ⌝ }
 {

@@ -1,0 +1,3 @@
+pub mod Watching
+pub mod Step
+pub mod Call

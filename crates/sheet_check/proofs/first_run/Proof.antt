@@ -1,0 +1,73 @@
+-- `sheet_check::first_run` meets its contract. The loop's invariant: the least line of the first i signals, and its signal.  Assumes nothing.
+use Prim.Native.Nat.{_-_}
+use Rattle.sheet_check.specs.Watch.{watchIn}
+use Rattle.sheet_check.proofs.Watching.{Found, found-none, found-more, found-nothing, found-told}
+use native.Mathlib.Omega.{arith}
+use borrow.Author.Needs.{needs}
+use Rattle.sheet_check.proofs.first_run.Statement.{statement}
+use Rattle.sheet_check.proofs.first_run.Tie as tie
+
+abbrev Inv-loop : tie.InvT-loop
+Inv-loop count watches line₀ item₀ i₀ line item i = Found (λ j. watchIn watches j .broken) count line item i
+
+abbrev μ-loop : tie.MeasureT-loop
+μ-loop count watches line₀ item₀ i₀ line item i = count - i
+
+loop-holds : tie.Need-loop-holds Inv-loop μ-loop
+loop-holds c = search (found-none, needs)
+
+mul-broken : tie.Need-mul-broken Inv-loop μ-loop
+mul-broken c = search needs
+
+element-copy-out-broken : tie.Need-element-copy-out-broken Inv-loop μ-loop
+element-copy-out-broken c = search needs
+
+is-earlier-requires : tie.Need-is-earlier-requires Inv-loop μ-loop
+is-earlier-requires c κs = search needs
+
+choose-requires : tie.Need-choose-requires Inv-loop μ-loop
+choose-requires c κs = search needs
+
+add-choose : tie.Need-add-choose Inv-loop μ-loop
+add-choose c = search needs
+
+cast-choose : tie.Need-cast-choose Inv-loop μ-loop
+cast-choose c = search needs
+
+choose-requires-2 : tie.Need-choose-requires-2 Inv-loop μ-loop
+choose-requires-2 c κs = search needs
+
+add-i : tie.Need-add-i Inv-loop μ-loop
+add-i c = search needs
+
+loop-less : tie.Need-loop-less Inv-loop μ-loop
+loop-less c = search needs
+
+loop-again : tie.Need-loop-again Inv-loop μ-loop
+loop-again c = found-more (c .before .before .before .before .loop .inv) (omega arith) (c .before .before .is-earlier .ensures) (c .before .choose .ensures) (c .choose2 .ensures)
+
+returns : tie.Need-returns Inv-loop μ-loop
+returns c = search (found-nothing, needs)
+
+returns-2 : tie.Need-returns-2 Inv-loop μ-loop
+returns-2 c = search (found-told, needs)
+
+pub first-run-spec : {M : Type 1} → statement M
+first-run-spec =
+    tie.close
+    (tie.spec
+    Inv-loop
+    μ-loop
+    loop-holds
+    mul-broken
+    element-copy-out-broken
+    is-earlier-requires
+    choose-requires
+    add-choose
+    cast-choose
+    choose-requires-2
+    add-i
+    loop-less
+    loop-again
+    returns
+    returns-2)

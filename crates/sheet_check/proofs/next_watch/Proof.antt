@@ -1,0 +1,17 @@
+-- `sheet_check::next_watch` meets its contract. Assumes nothing.
+use Rattle.sheet_check.proofs.Watching.{watch-on, watch-still}
+use borrow.Author.Needs.{needs}
+use Rattle.sheet_check.proofs.next_watch.Statement.{statement}
+use Rattle.sheet_check.proofs.next_watch.Tie as tie
+
+watch-after-requires : tie.Need-watch-after-requires
+watch-after-requires c κs = search needs
+
+returns : tie.Need-returns
+returns c = search (watch-on, needs)
+
+returns-2 : tie.Need-returns-2
+returns-2 c = search (watch-still, needs)
+
+pub next-watch-spec : {M : Type 1} → statement M
+next-watch-spec = tie.close (tie.spec watch-after-requires returns returns-2)

@@ -1,0 +1,2 @@
+pub mod Watch
+pub mod Stages
