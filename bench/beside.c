@@ -8,6 +8,8 @@
  *     network_counts NETWORK
  *     carry_on NETWORK PLAN                        from the boundary behind the plan's last line
  *     plan_from_listing NETWORK LISTING
+ *     check_sheet NETWORK PLAN SHEET
+ *     plan_from_sheet NETWORK SHEET
  *     run_cells CORRIDOR
  *     step_vehicles PLACES ADVANCES RED_LINES      doubles in the machine's order
  */
@@ -28,8 +30,10 @@ static uint32_t ledger[PLANCHECK_LEDGER_MAX];
 static double places[PLANCHECK_MAX_VEHICLES];
 static double advances[PLANCHECK_MAX_VEHICLES];
 static double red_lines[PLANCHECK_MAX_RED_LINES];
+static uint32_t ledger[PLANCHECK_LEDGER_MAX];
 static plancheck_counts_result counted;
 static plancheck_text_result written;
+static plancheck_plan_result judged;
 static plancheck_cells_result ran;
 static plancheck_network_result stepped;
 
@@ -55,6 +59,18 @@ static void plan_from_listing(void)
 {
     written = plancheck_plan_from_listing(texts[0].bytes, texts[0].length, texts[1].bytes, texts[1].length, plan,
                                           sizeof plan);
+}
+
+static void check_sheet(void)
+{
+    judged = plancheck_check_sheet(texts[0].bytes, texts[0].length, texts[1].bytes, texts[1].length, texts[2].bytes,
+                                   texts[2].length, ledger, PLANCHECK_LEDGER_MAX);
+}
+
+static void plan_from_sheet(void)
+{
+    written = plancheck_plan_from_sheet(texts[0].bytes, texts[0].length, texts[1].bytes, texts[1].length, plan,
+                                        sizeof plan);
 }
 
 static void run_cells(void)
@@ -87,6 +103,8 @@ static const struct measured {
     {"network_counts", 1, network_counts, &counted.number, &counted.line, &counted.item},
     {"carry_on", 2, carry_on, &written.number, &written.line, &written.item},
     {"plan_from_listing", 2, plan_from_listing, &written.number, &written.line, &written.item},
+    {"check_sheet", 3, check_sheet, &judged.number, &judged.line, &judged.item},
+    {"plan_from_sheet", 2, plan_from_sheet, &written.number, &written.line, &written.item},
     {"run_cells", 1, run_cells, &ran.number, &ran.line, &ran.item},
     {"step_vehicles", 3, step_vehicles, &stepped.number, &stepped.line, &stepped.item},
 };

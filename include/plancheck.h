@@ -3,7 +3,8 @@
  *
  * Decides whether a traffic-signal plan may run on a network under the Queue Transmission Model, and what travel time
  * it gives. Calls: check a network, what it has, check a plan, the state of one link, and carry on from a boundary; beside
- * them, a plan from a solver's listing, a run of a corridor in cells, and a step of vehicles along a street.
+ * them, a plan from a solver's listing, whether a plan keeps a fixed-time sheet, a plan for a sheet, a run of a corridor in
+ * cells, and a step of vehicles along a street.
  *
  *     static uint32_t ledger[PLANCHECK_LEDGER_MAX];
  *
@@ -54,6 +55,10 @@
  *     m_j_n         rate of movement j in step n
  * Indices have no leading zeros; decimals may have them. A rate times the length of its step must be a whole volume.
  *
+ * The sheet of plancheck_check_sheet and plancheck_plan_from_sheet is records, a line for each signal:
+ *     F  the duration of each phase; for plancheck_plan_from_sheet then the offset, the seconds of the cycle, phase 1
+ *        first, that have run at time 0                                                                   R lines
+ *
  * The corridor text of plancheck_run_cells, for 1 to 64 cells and 1 to 120 steps, in this order:
  *     C  flow limit, holding limit, wave ratio in thousandths (1 to 1000), volume at the start            a line a cell
  *     X  exit limit                                                                                       one line
@@ -61,7 +66,7 @@
  * Volumes and limits are at most 2000000000.
  *
  * LEDGER
- * The caller lends it to plancheck_check_plan, which writes into it, and to plancheck_link_state, which reads it. Row n
+ * The caller lends it to a call that judges a plan, which writes into it, and to plancheck_link_state, which reads it. Row n
  * belongs to boundary n and starts at index 2 * n * L. For link i it holds two cumulative volumes:
  *     ledger[2 * n * L + 2 * (i - 1)]        entered: the standing start and all that came onto the link by boundary n
  *     ledger[2 * n * L + 2 * (i - 1) + 1]    left: all that went from it by boundary n
@@ -71,10 +76,9 @@
  * DUTIES OF THE CALLER
  *   - A pointer is not NULL, except where its length is 0: then NULL will do, and so will any aligned address.
  *   - A text pointer is readable for its length in bytes; a ledger pointer is aligned for uint32_t and is readable
- *     (and, for plancheck_check_plan and plancheck_carry_on, writable) for its length in numbers. The buffer of
- *     plancheck_plan_from_listing and of plancheck_carry_on is writable for its length in bytes, and overlaps neither
- *     text nor the ledger.
- *   - The ledger lent to a call that writes it overlaps neither text. The texts may overlap each other.
+ *     (and, for a call that judges a plan, writable) for its length in numbers. The buffer of a call that writes a text is
+ *     writable for its length in bytes, and overlaps no text and no ledger.
+ *   - The ledger lent to a call that writes it overlaps no text. The texts may overlap each other.
  *   - A pointer to doubles is aligned for double and is readable (the places of plancheck_step_vehicles also writable)
  *     for its length in doubles. The places overlap neither the advances nor the red lines.
  *   - No other thread writes to the texts, the ledger or the buffer, or reads a ledger or a buffer that the call writes,
@@ -86,8 +90,8 @@
  * It keeps nothing between calls and uses no heap, no global or static data, no file and no errno. The answer depends
  * on the arguments alone. The calls are re-entrant and may run in several threads at once, each that writes a ledger with
  * one of its own. A call always returns, after work that grows linearly with the lengths of the texts and with
- * K * (R + L + M), of a listing too, of a corridor with cells * demands, and of a step with vehicles * red lines. Of a
- * network with a past each link reads the H lines within its travel time once more.
+ * K * (R + L + M), of a listing and a sheet too, of a corridor with cells * demands, and of a step with vehicles * red
+ * lines. Of a network with a past each link reads the H lines within its travel time once more.
  * The library needs memcpy and memset from the C library, at most.
  *
  * MEMORY
@@ -99,6 +103,8 @@
  *     plancheck_link_state           5,264    nothing
  *     plancheck_carry_on             6,320    the ledger: 4 * PLANCHECK_LEDGER_LEN(L, b); the buffer for the text
  *     plancheck_plan_from_listing   66,544    the buffer: PLANCHECK_WRITTEN_PLAN_MAX, 151,920, at most
+ *     plancheck_check_sheet          SHEET    the ledger: 4 * PLANCHECK_LEDGER_LEN(L, K), 23,232 at most
+ *     plancheck_plan_from_sheet  FROMSHEET    the buffer: PLANCHECK_WRITTEN_PLAN_MAX at most
  *     plancheck_run_cells            2,208    nothing
  *     plancheck_step_vehicles            8    nothing: the places are changed where they stand
  *     plancheck_version                  8    nothing
@@ -111,8 +117,8 @@
  * A result has number 0 (PLANCHECK_OK), or the number of the first refusal in the order of judging, with the line and
  * the item that it names, 0 where it names none. Nothing else is reported: when number is not 0, every other member but
  * line and item is 0. Numbers 1 to 6 and 28 name a line of the network text (30, the past as a whole, names none), 9 to
- * 18, 25 to 27 and 29 a line of the plan text, 22 and 23 a line of the listing, 36 and 37 a line of the corridor text.
- * docs/REFUSALS.md says what to do about each.
+ * 18, 25 to 27, 29 and 34 a line of the plan text, 22 and 23 a line of the listing, 33 a line of the sheet, 36 and 37 a
+ * line of the corridor text. docs/REFUSALS.md says what to do about each.
  */
 #ifndef PLANCHECK_H
 #define PLANCHECK_H
@@ -159,7 +165,7 @@ extern "C" {
 #define PLANCHECK_NETWORK_TEXT_MAX 72252
 #define PLANCHECK_PLAN_TEXT_MAX 158640
 
-/* No plan text that plancheck_plan_from_listing writes is longer than this, in bytes. */
+/* No plan text that plancheck_plan_from_listing or plancheck_plan_from_sheet writes is longer than this, in bytes. */
 #define PLANCHECK_WRITTEN_PLAN_MAX 151920
 
 /* The longest files, in bytes, that the program plancheck reads. */
@@ -252,7 +258,7 @@ enum plancheck_number {
     PLANCHECK_LISTING_FORM = 22,
     /* A volume is not a whole number of thousandths of a vehicle, or is above 4294967295. */
     PLANCHECK_LISTING_VOLUME = 23,
-    /* The buffer is shorter than the plan text. */
+    /* The buffer is shorter than the plan text; last of a plan for a sheet too. */
     PLANCHECK_BUFFER_TOO_SHORT = 24,
 
     /* Carrying on. No line, no item. */
@@ -261,6 +267,18 @@ enum plancheck_number {
     PLANCHECK_CARRY_BOUNDARY = 31,
     /* The buffer is shorter than the network text that is carried on. Judged last. */
     PLANCHECK_CARRY_BUFFER_TOO_SHORT = 32,
+
+    /* Sheet. */
+
+    /* A line is missing, unfinished, surplus, has a wrong letter, a bad number or a wrong number of fields, a duration is
+       outside its phase's limits, or an offset is not below the sum of the durations. Judged before 8. No item. */
+    PLANCHECK_SHEET_VALUES = 33,
+    /* A run of the accepted plan has another duration; told at the line of its last step that no tram claims, earliest
+       first, then lowest signal. Item: signal. */
+    PLANCHECK_SHEET_NOT_KEPT = 34,
+    /* No plan can be written: a run of the signal ends before the horizon but on no boundary, or a tram claims the signal.
+       No line. Item: signal. */
+    PLANCHECK_SHEET_OFF_BOUNDARIES = 35,
 
     /* Corridor text. No item. */
 
@@ -305,7 +323,7 @@ typedef struct {
     uint32_t patch;
 } plancheck_version_result;
 
-/* Answer of plancheck_check_plan. 48 bytes, of which the 4 after item are padding. */
+/* Answer of plancheck_check_plan and plancheck_check_sheet. 48 bytes, of which the 4 after item are padding. */
 typedef struct {
     uint32_t number; /* PLANCHECK_OK: the plan is accepted */
     uint32_t line;
@@ -328,7 +346,7 @@ typedef struct {
     uint32_t in_transit; /* volume that has entered and has not arrived */
 } plancheck_link_result;
 
-/* Answer of plancheck_plan_from_listing and plancheck_carry_on. 24 bytes, of which the 4 after item are padding. */
+/* Answer of a call that writes a text. 24 bytes, of which the 4 after item are padding. */
 typedef struct {
     uint32_t number; /* PLANCHECK_OK: the text is written */
     uint32_t line;
@@ -437,6 +455,33 @@ plancheck_text_result plancheck_carry_on(const uint8_t *network, size_t network_
  */
 plancheck_text_result plancheck_plan_from_listing(const uint8_t *network, size_t network_len, const uint8_t *listing,
                                                   size_t listing_len, uint8_t *plan, size_t plan_len);
+
+/*
+ * Checks whether a plan is accepted and keeps a fixed-time sheet, and fills the ledger. Refusals 1 to 6, 28 and 30 of the
+ * network, then 33 of the sheet line by line, then 8 and those of the plan as plancheck_check_plan tells them, and last 34.
+ *
+ * A run is a longest sequence of steps in which a signal shows one phase, steps that a tram claims left out. Each run that
+ * begins in the plan and is left in it must last just the phase's duration; one that starts at a time below the signal's
+ * greatest cycle is exempt.
+ *
+ * Reads the three texts. Writes the ledger as plancheck_check_plan does: no row for 33, all rows for 34 and for a plan that
+ * keeps the sheet, which is told with its totals.
+ */
+plancheck_plan_result plancheck_check_sheet(const uint8_t *network, size_t network_len, const uint8_t *plan,
+                                            size_t plan_len, const uint8_t *sheet, size_t sheet_len, uint32_t *ledger,
+                                            size_t ledger_len);
+
+/*
+ * Writes a plan text for a fixed-time sheet with offsets: every volume is 0, and each mask is the phase that the repeated
+ * cycle shows in that step. Refusals 1 to 6, 28 and 30 of the network, then 33 line by line, then 35, then 24. The plan
+ * itself is not judged: its masks keep the sheet, but may break rules 11 to 14, since the G line may show anything before
+ * it.
+ *
+ * Reads both texts. Writes plan[0 .. length - 1], no leading zeros in it; the bytes past the text keep what they held, and a
+ * refusal leaves all of them as they were. PLANCHECK_WRITTEN_PLAN_MAX bytes are enough for every sheet.
+ */
+plancheck_text_result plancheck_plan_from_sheet(const uint8_t *network, size_t network_len, const uint8_t *sheet,
+                                                size_t sheet_len, uint8_t *plan, size_t plan_len);
 
 /*
  * Runs a corridor in cells (the Cell Transmission Model), one step a demand. Refusals 36 and 37, line by line.

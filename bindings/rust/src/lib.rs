@@ -10,6 +10,7 @@ mod ledger;
 mod library;
 mod listing;
 mod refusal;
+mod sheets;
 mod traces;
 
 pub use carry::{carry_on, MAX_NETWORK_TEXT_LEN};
@@ -18,6 +19,7 @@ pub use counts::{library_version, network_counts, Counts, Version};
 pub use ledger::{Rows, Volumes};
 pub use listing::{plan_from_listing, MAX_WRITTEN_PLAN_LEN};
 pub use refusal::{ItemKind, Reason, Refusal, Text};
+pub use sheets::{check_sheet, plan_from_sheet};
 pub use traces::step_vehicles;
 
 /// The greatest number of links of a network; there is at least one.
@@ -135,13 +137,7 @@ pub fn check_plan(network: &[u8], plan: &[u8], ledger: &mut [u32]) -> Result<Tot
             ledger.len(),
         )
     };
-    refused(result.number, result.line, result.item)?;
-    Ok(Totals {
-        admitted: result.admitted,
-        let_out: result.let_out,
-        inside: result.inside,
-        doubled_time: result.doubled_time,
-    })
+    totals(&result)
 }
 
 /// Tells what stands on one link at one boundary, from the ledger of an accepted plan. Boundaries are counted from 0,
@@ -181,6 +177,17 @@ pub fn link_state(network: &[u8], ledger: &[u32], boundary: u32, link: u32) -> R
     Ok(LinkState {
         queued: result.queued,
         in_transit: result.in_transit,
+    })
+}
+
+/// The totals of an accepted plan.
+fn totals(result: &library::PlanResult) -> Result<Totals, Refusal> {
+    refused(result.number, result.line, result.item)?;
+    Ok(Totals {
+        admitted: result.admitted,
+        let_out: result.let_out,
+        inside: result.inside,
+        doubled_time: result.doubled_time,
     })
 }
 

@@ -118,6 +118,26 @@ extern "C" {
         carried_len: usize,
     ) -> TextResult;
 
+    pub fn plancheck_check_sheet(
+        network: *const u8,
+        network_len: usize,
+        plan: *const u8,
+        plan_len: usize,
+        sheet: *const u8,
+        sheet_len: usize,
+        ledger: *mut u32,
+        ledger_len: usize,
+    ) -> PlanResult;
+
+    pub fn plancheck_plan_from_sheet(
+        network: *const u8,
+        network_len: usize,
+        sheet: *const u8,
+        sheet_len: usize,
+        plan: *mut u8,
+        plan_len: usize,
+    ) -> TextResult;
+
     pub fn plancheck_run_cells(corridor: *const u8, corridor_len: usize) -> CellsResult;
 
     pub fn plancheck_step_vehicles(

@@ -39,6 +39,8 @@ pub enum Text {
     Plan,
     /// The listing that a plan is written from.
     Listing,
+    /// The fixed-time sheet.
+    Sheet,
     /// The corridor text of a run of cells.
     Corridor,
 }
@@ -120,6 +122,7 @@ macro_rules! reasons {
 const NETWORK: Option<Text> = Some(Text::Network);
 const PLAN: Option<Text> = Some(Text::Plan);
 const LISTING: Option<Text> = Some(Text::Listing);
+const SHEET: Option<Text> = Some(Text::Sheet);
 const CORRIDOR: Option<Text> = Some(Text::Corridor);
 const SIGNAL: Option<ItemKind> = Some(ItemKind::Signal);
 const LINK: Option<ItemKind> = Some(ItemKind::Link);
@@ -165,6 +168,10 @@ reasons! {
     BufferTooShort = 24, None, None, "the buffer is shorter than the plan text";
     CarryBoundary = 31, None, None, "there is no such boundary inside the plan";
     CarryBufferTooShort = 32, None, None, "the buffer is shorter than the text that is carried on";
+    SheetValues = 33, SHEET, None,
+        "a line is missing, unfinished or surplus, has a wrong letter, a bad number or a wrong number of fields, or a duration or the offset is outside its limits";
+    SheetNotKept = 34, PLAN, SIGNAL, "a run does not last its duration";
+    SheetOffBoundaries = 35, None, SIGNAL, "a run ends on no boundary, or a tram claims the signal";
     CorridorForm = 36, CORRIDOR, None,
         "a line is missing, unfinished or surplus, has a wrong letter, a bad number or a wrong number of fields, or is beyond its limits";
     StartVolume = 37, CORRIDOR, None, "the start is above the cell's holding limit";
@@ -214,6 +221,7 @@ impl fmt::Display for Text {
             Text::Network => "network",
             Text::Plan => "plan",
             Text::Listing => "listing",
+            Text::Sheet => "sheet",
             Text::Corridor => "corridor",
         })
     }

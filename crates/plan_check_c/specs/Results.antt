@@ -17,6 +17,8 @@ use Rattle.listing.specs.declared.ListingAnswer.{ListingAnswer}
 use Rattle.listing.specs.declared.ListingAnswer.the-variants as listing-answer
 use Rattle.carry_model.specs.declared.CarryAnswer.{CarryAnswer}
 use Rattle.carry_model.specs.declared.CarryAnswer.the-variants as carry-answer
+use Rattle.sheet_model.specs.declared.SheetAnswer.{SheetAnswer}
+use Rattle.sheet_model.specs.declared.SheetAnswer.the-variants as sheet-answer
 use Rattle.cells.specs.declared.CellsAnswer.{CellsAnswer}
 use Rattle.cells.specs.declared.CellsAnswer.the-variants as cells-answer
 use Rattle.plan_check_c.specs.declared.NetworkResult.{NetworkResult}
@@ -83,6 +85,14 @@ carryResult (carry-answer.Refused r) = refusedText r
 abbrev pub carryAnswerOf : TextResult → CarryAnswer
 carryAnswerOf r =
     cond (eqb (r .number) 0) (carry-answer.Written (r .length)) (carry-answer.Refused (refusal (r .number) (r .line) (r .item)))
+
+abbrev pub sheetResult : SheetAnswer → TextResult
+sheetResult (sheet-answer.Written end) = writtenText end
+sheetResult (sheet-answer.Refused r) = refusedText r
+
+abbrev pub sheetAnswerOf : TextResult → SheetAnswer
+sheetAnswerOf r =
+    cond (eqb (r .number) 0) (sheet-answer.Written (r .length)) (sheet-answer.Refused (refusal (r .number) (r .line) (r .item)))
 
 abbrev pub cellsResult : CellsAnswer → List ℕ → CellsResult
 cellsResult (cells-answer.Ran cells flowIn flowOut) volumes =

@@ -15,7 +15,9 @@ ghost use Rattle.listing.specs.ReadsBack.{PlanGot};
 ghost use Rattle.network_counts.specs.Counting.{countNetwork};
 ghost use Rattle.carry_model.specs.Call.{plannedOn, carryOn};
 ghost use Rattle.carry_model.specs.CarriesOn.{CarriedOn};
-ghost use Rattle.plan_check_c.specs.Results.{verdictResult, verdictOf, countsResult, version, planResult, planAnswerOf, linkResult, writtenText, refusedText, listingResult, listingAnswerOf, carryResult, carryAnswerOf, cellsResult, cellsAnswerOf};
+ghost use Rattle.sheet_model.specs.Calls.{checkSheet, planFromSheet};
+ghost use Rattle.sheet_model.specs.Promises.{SheetPromises, WritePromises};
+ghost use Rattle.plan_check_c.specs.Results.{verdictResult, verdictOf, countsResult, version, planResult, planAnswerOf, linkResult, writtenText, refusedText, listingResult, listingAnswerOf, carryResult, carryAnswerOf, sheetResult, sheetAnswerOf, cellsResult, cellsAnswerOf};
 use carry_model::CarryAnswer;
 use cells::CellsAnswer;
 use listing::ListingAnswer;
@@ -24,6 +26,7 @@ use model::PlanAnswer;
 use network_counts::CountsAnswer;
 use search::Refusal;
 use search::Verdict;
+use sheet_model::SheetAnswer;
 
 // The answer of a network's check or of a step of vehicles; number 0: the network is valid, the vehicles have moved.
 #[repr(C)]
@@ -179,7 +182,13 @@ pub extern "C" fn plancheck_check_plan(
     ensures { λ r. ⌜ Promises (lines (now (network .entry))) (planOf (now (network .entry)) (now (plan .entry))) (now (ledger .entry)) (now (ledger .exit)) (planAnswerOf r) ⌝ }
     ensures { λ r. ⌜ EmptyHolds (now (network .entry)) (now (plan .entry)) (now (ledger .entry)) (now (ledger .exit)) (planAnswerOf r) ⌝ }
 {
-    match plan_check::check_plan(network, plan, ledger) {
+    plan_result(plan_check::check_plan(network, plan, ledger))
+}
+
+fn plan_result(answer: PlanAnswer) -> PlanResult
+    ensures { λ r. ⌜ r ≡ planResult answer ⌝ }
+{
+    match answer {
         PlanAnswer::Accepted(totals) => PlanResult {
             number: 0,
             line: 0,
@@ -198,6 +207,34 @@ pub extern "C" fn plancheck_check_plan(
             inside: 0,
             doubled_time: 0,
         },
+    }
+}
+
+#[no_mangle]
+pub extern "C" fn plancheck_check_sheet(
+    network: &[u8],
+    plan: &[u8],
+    sheet: &[u8],
+    ledger: &mut [u32],
+) -> PlanResult
+    ensures { λ r. ⌜ r ≡ planResult (checkSheet (lines (now (network .entry))) (lines (now (sheet .entry))) (planOf (now (network .entry)) (now (plan .entry))) (length (now (ledger .entry)))) ⌝ }
+    ensures { λ r. ⌜ SheetPromises (lines (now (network .entry))) (lines (now (sheet .entry))) (planOf (now (network .entry)) (now (plan .entry))) (now (ledger .entry)) (now (ledger .exit)) (planAnswerOf r) ⌝ }
+{
+    plan_result(sheet_check::check_sheet(network, plan, sheet, ledger))
+}
+
+#[no_mangle]
+pub extern "C" fn plancheck_plan_from_sheet(
+    network: &[u8],
+    sheet: &[u8],
+    plan: &mut [u8],
+) -> TextResult
+    ensures { λ r. ⌜ r ≡ sheetResult (planFromSheet (lines (now (network .entry))) (lines (now (sheet .entry))) (length (now (plan .entry)))) ⌝ }
+    ensures { λ r. ⌜ WritePromises (lines (now (network .entry))) (lines (now (sheet .entry))) (now (plan .entry)) (sheetAnswerOf r) (now (plan .exit)) ⌝ }
+{
+    match sheet_writer::plan_from_sheet(network, sheet, plan) {
+        SheetAnswer::Written(length) => written_text(length),
+        SheetAnswer::Refused(refusal) => refused_text(refusal),
     }
 }
 

@@ -1,6 +1,6 @@
 -- `plan_check_c::plancheck_check_plan` meets its contract. Assumes nothing.
 use Prim.Native.Nat.{ℕ}
-use mathlib.Core.Path.{refl, sym, ap, _∙_}
+use mathlib.Core.Path.{refl, ap, _∙_}
 use mathlib.Core.List.{List}
 use Rattle.records.specs.Lines.{Line}
 use Rattle.model.specs.declared.PlanAnswer.{PlanAnswer}
@@ -23,38 +23,16 @@ promised network plan networkText planText before after (plan-answer.Refused r) 
 check-plan-requires : tie.Need-check-plan-requires
 check-plan-requires c κs = search needs
 
-enum-known-totals : tie.Need-enum-known-totals
-enum-known-totals c = search needs
-
-enum-known-r : tie.Need-enum-known-r
-enum-known-r c = search needs
+plan-result-requires : tie.Need-plan-result-requires
+plan-result-requires c κs = search needs
 
 same-length : tie.Need-same-length
 same-length c = search needs
 
 returns : tie.Need-returns
 returns c =
-    let e = c .before .before .before .before .before .check-plan .ensures in
-    let told = c .before .totals .given .1 in
-    (sym (ap planResult (sym (e .0) ∙ told)), (e .1 .0, rw told at (promised _ _ _ _ _ _ _ (e .1 .1))))
-
-same-length-2 : tie.Need-same-length-2
-same-length-2 c = search needs
-
-returns-2 : tie.Need-returns-2
-returns-2 c =
-    let e = c .before .before .before .before .before .check-plan .ensures in
-    let told = c .before .r .given .1 in
-    (sym (ap planResult (sym (e .0) ∙ told)), (e .1 .0, rw told at (promised _ _ _ _ _ _ _ (e .1 .1))))
+    let e = c .before .before .before .check-plan .ensures in
+    (c .plan-result .ensures ∙ ap planResult (e .0), (e .1 .0, rw (c .plan-result .ensures) (promised _ _ _ _ _ _ _ (e .1 .1))))
 
 pub plancheck-check-plan-spec : {M : Type 1} → statement M
-plancheck-check-plan-spec =
-    tie.close
-    (tie.spec
-    check-plan-requires
-    enum-known-totals
-    enum-known-r
-    same-length
-    returns
-    same-length-2
-    returns-2)
+plancheck-check-plan-spec = tie.close (tie.spec check-plan-requires plan-result-requires same-length returns)
