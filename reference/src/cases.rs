@@ -4,6 +4,7 @@
 mod carried;
 mod carry_calls;
 mod damage;
+mod fixed_signals;
 mod form;
 mod hold;
 mod limits;
@@ -17,6 +18,7 @@ mod plan_breaches;
 mod random;
 mod scenario;
 mod sheet;
+mod sheet_calls;
 mod special;
 mod state_calls;
 mod stored;
@@ -30,8 +32,8 @@ pub use scenario::{Scenario, Size, Traffic};
 pub use stored::{decode, encode, Stored};
 
 use crate::{
-    carry_on, check_network, check_plan, link_state, plan_from_listing, Network, PlanStep, Refusal,
-    State, Totals,
+    carry_on, check_network, check_plan, check_sheet, link_state, plan_from_listing,
+    plan_from_sheet, Network, PlanStep, Refusal, State, Totals,
 };
 use sheet::Sheet;
 
@@ -48,6 +50,10 @@ pub enum Call {
     CarryOn {
         boundary: u64,
     },
+    /// The sheet is the second text.
+    CheckSheet,
+    /// The sheet stands in place of the plan.
+    PlanFromSheet,
 }
 
 #[derive(Clone, Copy, Debug, PartialEq, Eq)]
@@ -103,8 +109,10 @@ impl Buffer {
 #[derive(Clone, Debug, PartialEq, Eq)]
 pub struct Question {
     pub network: Vec<u8>,
-    /// The plan, or the listing that one is written from.
+    /// The plan, or the listing or sheet that one is written from.
     pub plan: Vec<u8>,
+    /// The sheet that a plan is to keep; else empty.
+    pub second: Vec<u8>,
     pub ledger: Ledger,
     pub buffer: Buffer,
     pub call: Call,
@@ -137,6 +145,13 @@ impl Question {
             Call::CarryOn { boundary } => {
                 let (network, plan) = (&self.network, &self.plan);
                 carry_on(network, boundary, plan, &mut ledger, &mut buffer).map(Answer::written)
+            }
+            Call::CheckSheet => {
+                let (network, plan) = (&self.network, &self.plan);
+                check_sheet(network, plan, &self.second, &mut ledger).map(Answer::PlanAccepted)
+            }
+            Call::PlanFromSheet => {
+                plan_from_sheet(&self.network, &self.plan, &mut buffer).map(Answer::written)
             }
         };
         Outcome {
@@ -356,6 +371,7 @@ impl Texts {
         Question {
             network: self.network,
             plan: self.plan,
+            second: Vec::new(),
             ledger,
             buffer: Buffer::default(),
             call,
@@ -463,9 +479,13 @@ pub fn all_families(maker: &mut Maker, scenario: &Scenario) {
     carry_calls::carried(maker, scenario);
     carry_calls::refused_calls(maker, scenario);
     carry_calls::refused_plans(maker, scenario);
+    sheet_calls::any_sheets(maker, scenario);
+    sheet_calls::refused_sheets(maker, scenario);
+    sheet_calls::written(maker, scenario);
     damage::damaged_networks(maker, scenario, 12);
     damage::damaged_plans(maker, scenario, 12);
     damage::damaged_carries(maker, scenario, 6);
+    damage::damaged_sheets(maker, scenario, 6);
     listings::written(maker, scenario);
     listings::refused_lines(maker, scenario);
     listings::volumes(maker, scenario);
@@ -506,6 +526,7 @@ fn draw_cases(seed: u64) -> Maker {
     let scenario = Scenario::make(&mut maker.random, size, traffic);
     all_families(&mut maker, &scenario);
     damage::random_texts(&mut maker, 4);
+    sheet_calls::fixed_times(&mut maker);
     maker
 }
 
@@ -589,6 +610,11 @@ pub fn stored_cases(seed: u64) -> Vec<Case> {
         listings::buffers(&mut maker, &scenario);
     }
 
+    for _ in 0..12 {
+        sheet_calls::fixed_times(&mut maker);
+    }
+    sheet_calls::special_sheets(&mut maker);
+    sheet_calls::runs_with_trams(&mut maker);
     damage::random_texts(&mut maker, 60);
     largest_cases(&mut maker);
     maker.judged()

@@ -9,6 +9,7 @@ mod arrivals;
 mod carry;
 pub mod cases;
 pub mod cells;
+mod fixed_times;
 mod listing;
 mod network;
 mod past;
@@ -97,4 +98,20 @@ pub fn carry_on(
     buffer: &mut [u8],
 ) -> Result<usize, Refusal> {
     carry::carry_on(network, boundary, plan, ledger, buffer)
+}
+
+/// The network's refusals, 33, those of the plan check, and 34.
+pub fn check_sheet(
+    network: &[u8],
+    plan: &[u8],
+    sheet: &[u8],
+    ledger: &mut [u32],
+) -> Result<Totals, Refusal> {
+    fixed_times::check_sheet(network, plan, sheet, ledger)
+}
+
+/// The network's refusals, 33, 35 and 24. Writes the plan text of a sheet with
+/// offsets at the start of the buffer and gives its length.
+pub fn plan_from_sheet(network: &[u8], sheet: &[u8], buffer: &mut [u8]) -> Result<usize, Refusal> {
+    fixed_times::write_plan(network, sheet, buffer)
 }

@@ -504,7 +504,7 @@ fn phase_after(phase: u64, phase_count: u64) -> u64 {
 }
 
 /// The totals of a plan that has passed.
-fn totals(network: &Network, judged: &Judged) -> Totals {
+pub fn totals(network: &Network, judged: &Judged) -> Totals {
     let curves = &judged.passed.curves;
     let inside = |boundary: usize| -> u64 {
         let entered: u64 = curves.entered[boundary].iter().sum();

@@ -148,7 +148,7 @@ fn the_stored_cases_leave_nothing_out() {
         assert_as_intended(case);
     }
     let count = |matches: &dyn Fn(&Case) -> bool| cases.iter().filter(|case| matches(case)).count();
-    for wanted in (1..=6).chain(8..=32) {
+    for wanted in (1..=6).chain(8..=35) {
         let refused = count(
             &|case| matches!(case.outcome.answer, Answer::Refused(Refusal { number, .. }) if number == wanted),
         );
@@ -280,6 +280,27 @@ fn the_stored_cases_leave_nothing_out() {
         "9: a line more than steps to carry on from",
         "9: a line fewer than steps to carry on from",
         "32: buffer one byte too short",
+        "kept sheet",
+        "sheet of another duration",
+        "run at the greatest cycle",
+        "run a second before the greatest cycle",
+        "any sheet",
+        "broken rule before the sheet",
+        "empty plan against a sheet",
+        "33: duration",
+        "33: offset",
+        "33: surplus",
+        "33: sheet of the other call",
+        "33: before ledger and plan",
+        "8: after the sheet, before the plan",
+        "4: before the sheet",
+        "plan of a sheet",
+        "plan of a sheet, buffer just long enough",
+        "24: buffer too short for a sheet's plan",
+        "35: a run or a tram",
+        "34: the run that ends first, not the one left first",
+        "run that counts or not",
+        "damaged sheet",
         "padded: plan passes",
         "padded: network passes",
         "padded: state of a link",

@@ -116,6 +116,13 @@ fn ask_library(question: &Question, ledger: &mut [u32], buffer: &mut [u8]) -> Op
             let plan = &question.plan;
             Given::Text(library::carry_on(network, boundary, plan, ledger, buffer))
         }
+        Call::CheckSheet => {
+            let (plan, sheet) = (&question.plan, &question.second);
+            Given::Plan(library::check_sheet(network, plan, sheet, ledger))
+        }
+        Call::PlanFromSheet => {
+            Given::Text(library::plan_from_sheet(network, &question.plan, buffer))
+        }
     })
 }
 
@@ -131,7 +138,7 @@ fn in_numbers(question: &Question, answer: Answer) -> Given {
             NetworkResult { number, line, item },
             counts(&question.network, [number, line, item]),
         ),
-        Call::CheckPlan => {
+        Call::CheckPlan | Call::CheckSheet => {
             let totals = match answer {
                 Answer::PlanAccepted(totals) => totals,
                 _ => Totals::default(),
@@ -159,7 +166,7 @@ fn in_numbers(question: &Question, answer: Answer) -> Given {
                 in_transit: narrow(state.in_transit),
             })
         }
-        Call::PlanFromListing | Call::CarryOn { .. } => {
+        Call::PlanFromListing | Call::CarryOn { .. } | Call::PlanFromSheet => {
             let length = match answer {
                 Answer::Written(length) => length as usize,
                 _ => 0,

@@ -35,13 +35,18 @@ fn mutate(random: &mut Random, question: &Question) -> Question {
     if random.chance(3) {
         mutated.plan.clear();
     }
+    if random.chance(30) && question.call == Call::CheckSheet {
+        mutated.second = damage(random, &question.second);
+    }
     if random.chance(30) {
         mutated.ledger = mutate_ledger(random, &question.ledger);
     }
     if random.chance(30) {
         mutated.buffer.length = draw_room(random, question.buffer.length);
     }
-    if random.chance(40) && question.call != Call::PlanFromListing {
+    // Any call that takes a plan may take this one.
+    let has_plan = !matches!(question.call, Call::PlanFromListing | Call::PlanFromSheet);
+    if random.chance(40) && has_plan {
         mutated.call = draw_call(random);
         if matches!(mutated.call, Call::CarryOn { .. }) {
             mutated.buffer.length = draw_room(random, 2 * question.network.len());

@@ -52,6 +52,34 @@ pub fn plan_from_listing(network: &[u8], listing: &[u8], plan: &mut [u8]) -> Tex
     }
 }
 
+pub fn check_sheet(network: &[u8], plan: &[u8], sheet: &[u8], ledger: &mut [u32]) -> PlanResult {
+    unsafe {
+        declarations::plancheck_check_sheet(
+            network.as_ptr(),
+            network.len(),
+            plan.as_ptr(),
+            plan.len(),
+            sheet.as_ptr(),
+            sheet.len(),
+            ledger.as_mut_ptr(),
+            ledger.len(),
+        )
+    }
+}
+
+pub fn plan_from_sheet(network: &[u8], sheet: &[u8], plan: &mut [u8]) -> TextResult {
+    unsafe {
+        declarations::plancheck_plan_from_sheet(
+            network.as_ptr(),
+            network.len(),
+            sheet.as_ptr(),
+            sheet.len(),
+            plan.as_mut_ptr(),
+            plan.len(),
+        )
+    }
+}
+
 pub fn carry_on(
     network: &[u8],
     boundary: u32,

@@ -20,12 +20,14 @@ use std::process::ExitCode;
 /// After so many differences nothing more is learnt.
 const MOST_DIFFERENCES: u64 = 20;
 
-const CALLS: [&str; 5] = [
+const CALLS: [&str; 7] = [
     "check_network",
     "check_plan",
     "link_state",
     "plan_from_listing",
     "carry_on",
+    "check_sheet",
+    "plan_from_sheet",
 ];
 
 #[derive(Default)]
@@ -106,6 +108,8 @@ fn name_of(call: Call) -> &'static str {
         Call::LinkState { .. } => "link_state",
         Call::PlanFromListing => "plan_from_listing",
         Call::CarryOn { .. } => "carry_on",
+        Call::CheckSheet => "check_sheet",
+        Call::PlanFromSheet => "plan_from_sheet",
     }
 }
 
@@ -124,7 +128,8 @@ fn tell_difference(seed: u64, index: usize, question: &Question, compared: &Comp
     println!("ledger of {} numbers", question.ledger.length);
     println!("buffer of {} bytes", question.buffer.length);
     println!("network: {}", question.network.escape_ascii());
-    println!("plan or listing: {}", question.plan.escape_ascii());
+    println!("plan, listing or sheet: {}", question.plan.escape_ascii());
+    println!("second text: {}", question.second.escape_ascii());
 }
 
 /// The first place at which what was written differs.
@@ -137,7 +142,7 @@ fn tell_place<T: PartialEq + Display>(name: &str, expected: &[T], given: &[T]) {
 
 fn report(counts: &Counts) {
     println!("answer\t{}", CALLS.join("\t"));
-    for number in (0..=6).chain(8..=32) {
+    for number in (0..=6).chain(8..=35) {
         let count = |call| counts.answers.get(&(call, number)).copied().unwrap_or(0);
         let columns = CALLS.map(|call| count(call).to_string());
         let name = if number == 0 {

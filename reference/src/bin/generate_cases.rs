@@ -86,7 +86,7 @@ fn print_summary(cases: &[Case], size: usize) {
         "written\t{}",
         count(&|answer| matches!(answer, Answer::Written(_)))
     );
-    for number in (1..=6).chain(8..=32) {
+    for number in (1..=6).chain(8..=35) {
         let refused =
             count(&|answer| matches!(answer, Answer::Refused(refusal) if refusal.number == number));
         println!("refused {number}\t{refused}");

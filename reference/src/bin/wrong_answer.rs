@@ -14,6 +14,7 @@ fn main() -> std::io::Result<()> {
     let question = Question {
         network: Vec::new(),
         plan: Vec::new(),
+        second: Vec::new(),
         ledger: Ledger::default(),
         buffer: Buffer::default(),
         call: Call::CheckPlan,

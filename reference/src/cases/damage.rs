@@ -42,6 +42,23 @@ pub fn damaged_carries(maker: &mut Maker, scenario: &Scenario, count: usize) {
     }
 }
 
+/// Sheets with some damage, to be kept or to be written from.
+pub fn damaged_sheets(maker: &mut Maker, scenario: &Scenario, count: usize) {
+    for round in 0..count {
+        let mut question = if round % 2 == 0 {
+            maker.any_sheet_to_keep(scenario)
+        } else {
+            maker.any_sheet_to_write(scenario)
+        };
+        let sheet = match round % 2 {
+            0 => &mut question.second,
+            _ => &mut question.plan,
+        };
+        *sheet = damage(&mut maker.random, sheet);
+        maker.ask("damaged sheet", question, None);
+    }
+}
+
 /// Listings with some damage, and lines of a listing's characters.
 pub fn damaged_listings(maker: &mut Maker, scenario: &Scenario, count: usize) {
     for round in 0..count {

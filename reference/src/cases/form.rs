@@ -28,7 +28,7 @@ const BAD_LETTERS: [&[u8]; 6] = [b"", b"X", b"NN", b"0", b"\0", b" "];
 
 /// Changes of one line's form, each refused at that line. Lines are indexed
 /// from 0.
-fn broken_forms(maker: &mut Maker, sheet: &Sheet, line: usize) -> Vec<(&'static str, Vec<u8>)> {
+pub fn broken_forms(maker: &mut Maker, sheet: &Sheet, line: usize) -> Vec<(&'static str, Vec<u8>)> {
     let fields = sheet.lines[line].len();
     let mut texts = Vec::new();
 
@@ -52,7 +52,7 @@ fn broken_forms(maker: &mut Maker, sheet: &Sheet, line: usize) -> Vec<(&'static 
     };
     with_letter(maker.random.pick(&BAD_LETTERS));
     with_letter(&sheet.lines[line][0].to_ascii_lowercase());
-    let other_letters: Vec<u8> = b"NTGQMHSP"
+    let other_letters: Vec<u8> = b"NTGQMHSPF"
         .iter()
         .copied()
         .filter(|&letter| sheet.lines[line][0] != [letter])

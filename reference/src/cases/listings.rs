@@ -189,6 +189,7 @@ impl Maker {
         Question {
             network: Sheet::of_network(&scenario.network).text(),
             plan: listing,
+            second: Vec::new(),
             ledger: Ledger::default(),
             buffer: self.draw_buffer(room),
             call: Call::PlanFromListing,

@@ -16,6 +16,7 @@ impl Question {
         Question {
             network: pad(random, &self.network),
             plan,
+            second: pad(random, &self.second),
             ..self.clone()
         }
     }

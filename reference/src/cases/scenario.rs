@@ -51,6 +51,15 @@ pub struct Scenario {
     pub arrived: Vec<Vec<u64>>,
 }
 
+/// The steps' lengths and what the signals show in them.
+pub struct Timing {
+    pub lengths: Vec<u64>,
+    pub trams: Vec<Tram>,
+    pub signals: Vec<Signal>,
+    /// The phases of each signal in its ordinary steps.
+    pub schedules: Vec<Vec<u64>>,
+}
+
 /// A time on or after a boundary.
 #[derive(Clone, Copy, PartialEq, Eq)]
 pub struct Moment {
@@ -83,7 +92,7 @@ impl Scenario {
 
     fn make_from_start(random: &mut Random, size: Size, traffic: Traffic) -> Scenario {
         let lengths = draw_lengths(random, size.steps, traffic);
-        let mut trams = draw_trams(random, size);
+        let trams = draw_trams(random, size);
         let mut signals = Vec::new();
         let mut schedules = Vec::new();
         for index in 0..size.signals {
@@ -93,6 +102,28 @@ impl Scenario {
             signals.push(signal);
             schedules.push(schedule);
         }
+        let timing = Timing {
+            lengths,
+            trams,
+            signals,
+            schedules,
+        };
+        Scenario::make_with_timing(random, size, traffic, timing)
+    }
+
+    /// All the rest is drawn, the trams' phases too.
+    pub fn make_with_timing(
+        random: &mut Random,
+        size: Size,
+        traffic: Traffic,
+        timing: Timing,
+    ) -> Scenario {
+        let Timing {
+            lengths,
+            mut trams,
+            signals,
+            schedules,
+        } = timing;
         for tram in &mut trams {
             let phases = signals[tram.signal as usize - 1].phases.len() as u64;
             tram.phase = random.between(1, phases);
@@ -238,12 +269,13 @@ impl Scenario {
         let lengths = self.network.past.iter().map(|step| step.length);
         let steps = self.network.steps.iter().map(|step| step.length);
         let times = boundary_times(lengths.chain(steps));
-        let entered_by = |place: usize| {
-            if place > past {
-                entered(place - past)
-            } else {
-                self.entered_in_past(link, place)
-            }
+        let places = 0..=past;
+        let in_past: Vec<u64> = places
+            .map(|place| self.entered_in_past(link, place))
+            .collect();
+        let entered_by = |place: usize| match in_past.get(place) {
+            Some(&entered) => entered,
+            None => entered(place - past),
         };
         (0..=self.step_count()).find(|&boundary| {
             let arrived = arrived(&times[..=past + boundary], travel_time, entered_by);
@@ -498,7 +530,7 @@ fn draw_demand(random: &mut Random, traffic: Traffic) -> u64 {
 }
 
 /// The tram that asks something of a signal in a step (both from index 0).
-fn tram_at(trams: &[Tram], signal: usize, step: usize) -> Option<&Tram> {
+pub fn tram_at(trams: &[Tram], signal: usize, step: usize) -> Option<&Tram> {
     let step = step as u64 + 1;
     trams
         .iter()
@@ -507,7 +539,7 @@ fn tram_at(trams: &[Tram], signal: usize, step: usize) -> Option<&Tram> {
 
 /// None in about every second network, else a few that don't overlap, their
 /// phases still open.
-fn draw_trams(random: &mut Random, size: Size) -> Vec<Tram> {
+pub fn draw_trams(random: &mut Random, size: Size) -> Vec<Tram> {
     let mut trams: Vec<Tram> = Vec::new();
     if size.signals == 0 || random.chance(50) {
         return trams;

@@ -85,7 +85,7 @@ impl Sheet {
         sheet
     }
 
-    fn push(&mut self, letter: u8, numbers: &[u64]) {
+    pub fn push(&mut self, letter: u8, numbers: &[u64]) {
         let mut fields = vec![vec![letter]];
         fields.extend(numbers.iter().map(|number| number.to_string().into_bytes()));
         self.lines.push(fields);

@@ -8,10 +8,10 @@
 //!
 //! ```text
 //! 8 bytes  "PLANCASE"
-//! u32      version of this form: 2
+//! u32      version of this form: 3
 //! u32      number of cases
 //! u32      greatest length of a network text, in bytes
-//! u32      greatest length of a plan text or listing, in bytes
+//! u32      greatest length of a plan text, listing or sheet, in bytes
 //! u32      greatest length of a ledger, in 32-bit numbers
 //! u32      greatest length of a buffer, in bytes
 //! ```
@@ -21,20 +21,22 @@
 //! ```text
 //! u32      length of the network text, or 0xFFFFFFFF for the same network as
 //!          in the case before; else its bytes follow
-//! u32      length of the plan text (of the listing if the call is 4), or
-//!          0xFFFFFFFF for the same one as in the case before; else its bytes
-//!          follow
+//! u32      length of the plan text (of the listing if the call is 4, of the
+//!          sheet if it is 7), or 0xFFFFFFFF for the same one as in the case
+//!          before; else its bytes follow
 //! u32      length of the ledger, in numbers
 //! u32      fill: what the ledger holds before the call, except at its start
 //! u32      number of given numbers at the ledger's start (at most its length),
 //!          or 0xFFFFFFFF for the same ones as in the case before; else the
 //!          numbers follow, a u32 each
-//! u32      length of the buffer, in bytes (0 unless the call is 4 or 5)
+//! u32      length of the buffer, in bytes (0 unless the call is 4, 5 or 7)
 //! u32      what each byte of the buffer is before the call
 //! u32      call: 1 check a network, 2 check a plan, 3 state of one link,
-//!          4 plan from a listing, 5 carry on from a boundary
+//!          4 plan from a listing, 5 carry on from a boundary, 6 check a sheet,
+//!          7 plan from a sheet
 //! u64      boundary (0 unless the call is 3 or 5)
 //! u64      link (0 unless the call is 3)
+//! u32      only if the call is 6: length of the sheet; its bytes follow
 //! u32      answer: 0 network accepted, 1 plan accepted, 2 state, 3 refused,
 //!          4 written
 //! u64 x 4  numbers of the answer
@@ -62,7 +64,7 @@ use super::{checksum, Answer, Buffer, Call, Case, Ledger, Outcome, Question};
 use crate::{Refusal, State, Totals};
 
 const MAGIC: &[u8; 8] = b"PLANCASE";
-const VERSION: u32 = 2;
+const VERSION: u32 = 3;
 const SAME: u32 = u32::MAX;
 
 /// The stored form of cases.
@@ -78,7 +80,7 @@ pub fn encode(cases: &[Case]) -> Vec<u8> {
         VERSION,
         cases.len() as u32,
         greatest(|question| question.network.len()),
-        greatest(|question| question.plan.len()),
+        greatest(|question| question.plan.len().max(question.second.len())),
         greatest(|question| question.ledger.length),
         greatest(|question| question.buffer.length),
     ] {
@@ -129,10 +131,16 @@ fn encode_case(bytes: &mut Vec<u8>, case: &Case, before: Option<&Question>) {
         Call::LinkState { boundary, link } => (3, boundary, link),
         Call::PlanFromListing => (4, 0, 0),
         Call::CarryOn { boundary } => (5, boundary, 0),
+        Call::CheckSheet => (6, 0, 0),
+        Call::PlanFromSheet => (7, 0, 0),
     };
     bytes.extend(call.to_le_bytes());
     bytes.extend(boundary.to_le_bytes());
     bytes.extend(link.to_le_bytes());
+    if question.call == Call::CheckSheet {
+        bytes.extend((question.second.len() as u32).to_le_bytes());
+        bytes.extend(&question.second);
+    }
 
     let Outcome {
         answer,
@@ -238,7 +246,13 @@ impl<'a> Reader<'a> {
             3 => Call::LinkState { boundary, link },
             4 => Call::PlanFromListing,
             5 => Call::CarryOn { boundary },
+            6 => Call::CheckSheet,
+            7 => Call::PlanFromSheet,
             _ => return None,
+        };
+        let second = match call {
+            Call::CheckSheet => self.text(None)?,
+            _ => Vec::new(),
         };
         let kind = self.u32()?;
         let numbers = [self.u64()?, self.u64()?, self.u64()?, self.u64()?];
@@ -261,6 +275,7 @@ impl<'a> Reader<'a> {
         let question = Question {
             network,
             plan,
+            second,
             ledger: Ledger {
                 length,
                 start,

@@ -7,5 +7,6 @@ mod listing;
 mod network;
 mod past;
 mod plan;
+mod sheet;
 mod state;
 mod trams;
