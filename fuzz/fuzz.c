@@ -4,7 +4,8 @@
  *   - it is the same wherever the buffers stand, and whatever the ledger or the buffer held before;
  *   - its number is one that the call tells, and all else is 0 where it is not 0;
  *   - only the rows of the boundaries that passed, or the bytes of the text that was written, have changed;
- *   - a network that is carried on is valid, and has the steps that are left.
+ *   - a network that is carried on is valid, and has the steps that are left;
+ *   - a plan that is written for a sheet has the masks of the sheet's cycle.
  * Before that every pointer is NULL once, with length 0.
  */
 #include "inputs.h"
@@ -14,12 +15,12 @@
 #include <inttypes.h>
 #include <sanitizer/common_interface_defs.h>
 
-enum { EXAMPLES = 4, LEDGER_ROOM = 512, BUFFER_ROOM = 8192, DOUBLES_ROOM = 66 };
+enum { EXAMPLES = 4, AVENUE = 1, LEDGER_ROOM = 512, BUFFER_ROOM = 8192, DOUBLES_ROOM = 66 };
 
 static struct example examples[EXAMPLES];
-static struct text corridor;
+static struct text corridor, sheet, offsets;
 
-static struct region network_region, text_region, ledger_region, buffer_region, places_region, advances_region, lines_region;
+static struct region network_region, text_region, second_region, ledger_region, buffer_region, places_region, advances_region, lines_region;
 
 static uint64_t seed, input;
 
@@ -125,40 +126,89 @@ static int same_plan_result(const plancheck_plan_result *a, const plancheck_plan
 /* How many numbers of the ledger a call may have written that took so many steps, by its number and line. */
 static size_t written_numbers(const plancheck_counts_result *counts, uint32_t steps, uint32_t number, uint32_t line)
 {
-    if (is_network_number(number) || number == PLANCHECK_CARRY_BOUNDARY || number == PLANCHECK_LEDGER_TOO_SHORT)
+    if (is_network_number(number) || number == PLANCHECK_CARRY_BOUNDARY || number == PLANCHECK_SHEET_VALUES || number == PLANCHECK_LEDGER_TOO_SHORT)
         return 0;
-    uint32_t rows = line == 0 || line > steps ? steps + 1 : line;
+    uint32_t rows = line == 0 || line > steps || number == PLANCHECK_SHEET_NOT_KEPT ? steps + 1 : line;
     return 2 * (size_t)counts->links * rows;
+}
+
+/* A plan to be judged on a network, and perhaps held to a sheet. */
+struct judging {
+    struct text network, plan, sheet;
+    int is_held_to_sheet;
+    size_t numbers;
+};
+
+static plancheck_plan_result ask_judging(const struct judging *asked, uint32_t *ledger, int at_end)
+{
+    if (!asked->is_held_to_sheet)
+        return ask_plan(&asked->network, &asked->plan, ledger, asked->numbers, at_end);
+    const uint8_t *network_lent = lend(network_region, asked->network.bytes, asked->network.length, at_end);
+    const uint8_t *plan_lent = lend(text_region, asked->plan.bytes, asked->plan.length, at_end);
+    const uint8_t *sheet_lent = lend(second_region, asked->sheet.bytes, asked->sheet.length, at_end);
+    return plancheck_check_sheet(network_lent, asked->network.length, plan_lent, asked->plan.length, sheet_lent, asked->sheet.length, ledger, asked->numbers);
+}
+
+static plancheck_plan_result judge_twice(const struct judging *asked)
+{
+    size_t numbers = asked->numbers;
+    uint32_t *ledger = some_ledger(numbers, 0xaaaaaaaau, 1);
+    plancheck_plan_result first = ask_judging(asked, ledger, 1);
+    uint32_t kept[LEDGER_ROOM];
+    memcpy(kept, ledger, 4 * numbers);
+
+    ledger = some_ledger(numbers, 0x55555555u, 0);
+    plancheck_plan_result second = ask_judging(asked, ledger, 0);
+    DEMAND(same_plan_result(&first, &second));
+    plancheck_counts_result counts = plancheck_network_counts(asked->network.bytes, asked->network.length);
+    size_t written = written_numbers(&counts, counts.steps, first.number, first.line);
+    DEMAND(written <= numbers);
+    for (size_t k = 0; k < numbers; k++)
+        DEMAND(k < written ? kept[k] == ledger[k] : kept[k] == 0xaaaaaaaau && ledger[k] == 0x55555555u);
+    if (first.number != 0)
+        DEMAND(first.admitted == 0 && first.let_out == 0 && first.inside == 0 && first.doubled_time == 0);
+    count_number(first.number);
+    return first;
 }
 
 static void try_plan(void)
 {
     const struct example *example = &examples[below(EXAMPLES)];
-    static struct text network, plan;
-    some_network(example, &network);
-    plan = example->plan;
-    damage(&plan);
+    static struct judging asked;
+    asked.is_held_to_sheet = 0;
+    some_network(example, &asked.network);
+    asked.plan = example->plan;
+    damage(&asked.plan);
     if (below(20) == 0)
-        plan.length = 0;
-    size_t numbers = below(10) == 0 ? below(LEDGER_ROOM) : LEDGER_ROOM;
-    uint32_t *ledger = some_ledger(numbers, 0xaaaaaaaau, 1);
-    plancheck_plan_result first = ask_plan(&network, &plan, ledger, numbers, 1);
-    uint32_t kept[LEDGER_ROOM];
-    memcpy(kept, ledger, 4 * numbers);
+        asked.plan.length = 0;
+    asked.numbers = below(10) == 0 ? below(LEDGER_ROOM) : LEDGER_ROOM;
+    uint32_t number = judge_twice(&asked).number;
+    DEMAND(number == 0 || is_plan_number(number));
+}
 
-    ledger = some_ledger(numbers, 0x55555555u, 0);
-    plancheck_plan_result second = ask_plan(&network, &plan, ledger, numbers, 0);
-    DEMAND(same_plan_result(&first, &second));
-    plancheck_counts_result counts = plancheck_network_counts(network.bytes, network.length);
-    size_t written = written_numbers(&counts, counts.steps, first.number, first.line);
-    DEMAND(written <= numbers);
-    for (size_t k = 0; k < numbers; k++)
-        DEMAND(k < written ? kept[k] == ledger[k] : kept[k] == 0xaaaaaaaau && ledger[k] == 0x55555555u);
-    if (first.number != 0) {
-        DEMAND(is_plan_number(first.number));
-        DEMAND(first.admitted == 0 && first.let_out == 0 && first.inside == 0 && first.doubled_time == 0);
-    }
-    count_number(first.number);
+/* A plan of the avenue: its own, or one that is written for the sheet with offsets. */
+static void some_avenue_plan(struct text *plan)
+{
+    const struct text *network = &examples[AVENUE].network;
+    *plan = examples[AVENUE].plan;
+    if (below(2) == 0)
+        plan->length = plancheck_plan_from_sheet(network->bytes, network->length, offsets.bytes, offsets.length, plan->bytes, TEXT_MAX).length;
+}
+
+static void try_sheet(void)
+{
+    static struct judging asked;
+    asked.is_held_to_sheet = 1;
+    some_network(&examples[AVENUE], &asked.network);
+    some_avenue_plan(&asked.plan);
+    asked.sheet = sheet;
+    if (below(2) == 0)
+        damage(&asked.plan);
+    if (below(2) == 0)
+        damage(&asked.sheet);
+    asked.numbers = below(10) == 0 ? below(LEDGER_ROOM) : LEDGER_ROOM;
+    uint32_t number = judge_twice(&asked).number;
+    DEMAND(number == 0 || is_plan_number(number) || number == PLANCHECK_SHEET_VALUES || number == PLANCHECK_SHEET_NOT_KEPT);
 }
 
 static plancheck_link_result ask_link(const struct text *network, const uint32_t *numbers, size_t count, uint32_t boundary, uint32_t link, int at_end)
@@ -192,34 +242,90 @@ static void try_link(void)
     count_number(first.number);
 }
 
-static plancheck_text_result ask_listing(const struct text *network, const struct text *listing, uint8_t *buffer, size_t room, int at_end)
+/* A plan text to be written for a network, of a listing or for a sheet. */
+struct writing {
+    struct text network, text;
+    int is_for_sheet;
+    size_t room;
+};
+
+static plancheck_text_result ask_writing(const struct writing *asked, uint8_t *buffer, int at_end)
 {
-    const uint8_t *network_lent = lend(network_region, network->bytes, network->length, at_end);
-    const uint8_t *listing_lent = lend(text_region, listing->bytes, listing->length, at_end);
-    return plancheck_plan_from_listing(network_lent, network->length, listing_lent, listing->length, buffer, room);
+    const uint8_t *network_lent = lend(network_region, asked->network.bytes, asked->network.length, at_end);
+    const uint8_t *text_lent = lend(text_region, asked->text.bytes, asked->text.length, at_end);
+    return (asked->is_for_sheet ? plancheck_plan_from_sheet : plancheck_plan_from_listing)(network_lent, asked->network.length, text_lent, asked->text.length,
+                                                                                           buffer, asked->room);
+}
+
+static plancheck_text_result write_twice(const struct writing *asked, uint8_t *kept)
+{
+    size_t room = asked->room;
+    uint8_t *buffer = place(buffer_region, room, 1);
+    memset(buffer, 0xaa, room);
+    plancheck_text_result first = ask_writing(asked, buffer, 1);
+    memcpy(kept, buffer, room);
+    buffer = place(buffer_region, room, 0);
+    memset(buffer, 0x55, room);
+    plancheck_text_result second = ask_writing(asked, buffer, 0);
+    DEMAND(first.number == second.number && first.line == second.line && first.item == second.item && first.length == second.length);
+    DEMAND(first.number == 0 ? first.length <= room : first.length == 0);
+    for (size_t k = 0; k < room; k++)
+        DEMAND(k < first.length ? kept[k] == buffer[k] : kept[k] == 0xaa && buffer[k] == 0x55);
+    count_number(first.number);
+    return first;
 }
 
 static void try_listing(void)
 {
     const struct example *example = &examples[below(EXAMPLES)];
-    static struct text network, listing;
-    some_network(example, &network);
-    listing = example->listing;
-    damage(&listing);
-    size_t room = below(4) == 0 ? below(BUFFER_ROOM) : BUFFER_ROOM;
-    uint8_t *buffer = place(buffer_region, room, 1), kept[BUFFER_ROOM];
-    memset(buffer, 0xaa, room);
-    plancheck_text_result first = ask_listing(&network, &listing, buffer, room, 1);
-    memcpy(kept, buffer, room);
-    buffer = place(buffer_region, room, 0);
-    memset(buffer, 0x55, room);
-    plancheck_text_result second = ask_listing(&network, &listing, buffer, room, 0);
-    DEMAND(first.number == second.number && first.line == second.line && first.item == second.item && first.length == second.length);
-    DEMAND(first.number == 0 ? first.length <= room : first.length == 0);
-    for (size_t k = 0; k < room; k++)
-        DEMAND(k < first.length ? kept[k] == buffer[k] : kept[k] == 0xaa && buffer[k] == 0x55);
-    DEMAND(first.number == 0 || is_network_number(first.number) || (first.number >= 22 && first.number <= 24));
-    count_number(first.number);
+    static struct writing asked;
+    static uint8_t written[BUFFER_ROOM];
+    asked.is_for_sheet = 0;
+    some_network(example, &asked.network);
+    asked.text = example->listing;
+    damage(&asked.text);
+    asked.room = below(4) == 0 ? below(BUFFER_ROOM) : BUFFER_ROOM;
+    uint32_t number = write_twice(&asked, written).number;
+    DEMAND(number == 0 || is_network_number(number) || (number >= 22 && number <= 24));
+}
+
+/* What the sheet with offsets has the avenue's first signal show at a second: 40 s of phase 1, then 20 s of phase 2. */
+static uint8_t first_mask(uint32_t second)
+{
+    return second % 60 < 40 ? '1' : '2';
+}
+
+/* Twelve steps of 5 s, then twelve of 10 s; the mask of signal 1 is the first number of each line. */
+static void demand_first_masks(const uint8_t *plan, size_t length)
+{
+    size_t at = 0;
+    for (uint32_t step = 0, second = 0; step < 24; step++, second += step <= 12 ? 5 : 10) {
+        DEMAND(at + 2 < length && plan[at] == 'P' && plan[at + 2] == first_mask(second));
+        while (at < length && plan[at] != '\n')
+            at++;
+        at++;
+    }
+    DEMAND(at == length);
+}
+
+static void try_sheet_plan(void)
+{
+    static struct writing asked;
+    static uint8_t written[BUFFER_ROOM];
+    asked.is_for_sheet = 1;
+    some_network(&examples[AVENUE], &asked.network);
+    asked.text = offsets;
+    int is_damaged = below(2) == 0;
+    if (is_damaged)
+        damage(&asked.text);
+    asked.room = below(4) == 0 ? below(BUFFER_ROOM) : BUFFER_ROOM;
+    plancheck_text_result result = write_twice(&asked, written);
+    uint32_t number = result.number;
+    DEMAND(number == 0 || is_network_number(number) || number == PLANCHECK_SHEET_VALUES || number == PLANCHECK_SHEET_OFF_BOUNDARIES ||
+           number == PLANCHECK_BUFFER_TOO_SHORT);
+    const struct text *avenue = &examples[AVENUE].network;
+    if (number == 0 && !is_damaged && asked.network.length == avenue->length && memcmp(asked.network.bytes, avenue->bytes, avenue->length) == 0)
+        demand_first_masks(written, result.length);
 }
 
 struct carrying {
@@ -362,6 +468,10 @@ static void try_null(void)
     DEMAND(plancheck_plan_from_listing(network->bytes, network->length, NULL, 0, NULL, 0).number == 24);
     static uint8_t buffer[PLANCHECK_WRITTEN_PLAN_MAX];
     DEMAND(plancheck_plan_from_listing(network->bytes, network->length, NULL, 0, buffer, sizeof buffer).number == 0);
+    DEMAND(plancheck_check_sheet(NULL, 0, NULL, 0, NULL, 0, NULL, 0).number == 1);
+    DEMAND(plancheck_check_sheet(network->bytes, network->length, NULL, 0, NULL, 0, NULL, 0).number == 33);
+    DEMAND(plancheck_plan_from_sheet(NULL, 0, NULL, 0, NULL, 0).number == 1);
+    DEMAND(plancheck_plan_from_sheet(network->bytes, network->length, NULL, 0, NULL, 0).number == 33);
     DEMAND(plancheck_run_cells(NULL, 0).number == 36);
     double place = 1.0;
     const double advance = 1.0;
@@ -384,6 +494,9 @@ static void read_examples(const char *examples_folder)
     }
     snprintf(folder, sizeof folder, "%s/cells", examples_folder);
     read_example(&corridor, folder, "corridor.tsv");
+    snprintf(folder, sizeof folder, "%s/sheet", examples_folder);
+    read_example(&sheet, folder, "sheet.tsv");
+    read_example(&offsets, folder, "offsets.tsv");
 }
 
 int main(int count, char **arguments)
@@ -399,6 +512,7 @@ int main(int count, char **arguments)
     __sanitizer_set_death_callback(tell_input);
     network_region = new_region(TEXT_MAX);
     text_region = new_region(TEXT_MAX);
+    second_region = new_region(TEXT_MAX);
     ledger_region = new_region(4 * LEDGER_ROOM);
     buffer_region = new_region(BUFFER_ROOM);
     places_region = new_region(sizeof(double) * DOUBLES_ROOM);
@@ -408,7 +522,7 @@ int main(int count, char **arguments)
     plancheck_version_result version = plancheck_version();
     DEMAND(version.major == PLANCHECK_VERSION_MAJOR && version.minor == PLANCHECK_VERSION_MINOR && version.patch == PLANCHECK_VERSION_PATCH);
     try_null();
-    static void (*const calls[])(void) = {try_network, try_counts, try_plan, try_plan, try_link, try_carry, try_listing, try_cells, try_vehicles};
+    static void (*const calls[])(void) = {try_network, try_counts, try_plan, try_plan, try_link, try_carry, try_listing, try_sheet, try_sheet_plan, try_cells, try_vehicles};
     for (input = 0; input < inputs; input++)
         calls[below(sizeof calls / sizeof calls[0])]();
     for (uint32_t number = 0; number < sizeof told / sizeof told[0]; number++)

@@ -1,5 +1,8 @@
 //! Numbers as people read them.
 
+use plancheck::Totals;
+use std::io::{self, Write};
+
 /// A volume in vehicles: thousandths, without zeros at its end.
 pub fn vehicles(volume: u64) -> String {
     decimal(volume, 3)
@@ -8,6 +11,15 @@ pub fn vehicles(volume: u64) -> String {
 /// A doubled travel time, in thousandths of a vehicle times seconds, as a travel time in vehicle seconds.
 pub fn vehicle_seconds(doubled_time: u64) -> String {
     decimal(5 * doubled_time, 4)
+}
+
+/// What an accepted plan adds up to, a line a number.
+pub fn write_totals(out: &mut dyn Write, totals: &Totals) -> io::Result<()> {
+    writeln!(out, "admitted           {} vehicles", vehicles(totals.admitted))?;
+    writeln!(out, "let out            {} vehicles", vehicles(totals.let_out))?;
+    writeln!(out, "inside at the end  {} vehicles", vehicles(totals.inside))?;
+    let time = vehicle_seconds(totals.doubled_time);
+    writeln!(out, "travel time        {time} vehicle seconds")
 }
 
 fn decimal(number: u64, places: u32) -> String {

@@ -23,14 +23,7 @@ fn run(arguments: &[String], out: &mut dyn Write) -> Outcome {
     match judge(&texts).answer {
         Ok(totals) => {
             writeln!(out, "accepted")?;
-            writeln!(out, "admitted           {} vehicles", show::vehicles(totals.admitted))?;
-            writeln!(out, "let out            {} vehicles", show::vehicles(totals.let_out))?;
-            writeln!(out, "inside at the end  {} vehicles", show::vehicles(totals.inside))?;
-            writeln!(
-                out,
-                "travel time        {} vehicle seconds",
-                show::vehicle_seconds(totals.doubled_time)
-            )?;
+            show::write_totals(out, &totals)?;
             Ok(Ended::Done)
         }
         Err(refusal) => {

@@ -8,6 +8,7 @@ mod listing;
 mod make;
 mod rank;
 mod report;
+mod sheet;
 mod states;
 
 use crate::command::Command;
@@ -21,6 +22,7 @@ pub const ALL: &[Command] = &[
     rank::COMMAND,
     carry::COMMAND,
     listing::COMMAND,
+    sheet::COMMAND,
     cells::COMMAND,
     make::COMMAND,
 ];

@@ -8,7 +8,7 @@ fn usage_tells_the_commands_that_there_are() {
     let said = workbench(&[]);
     assert_eq!(said.status, 0);
     for name in [
-        "check", "explain", "report", "states", "rank", "carry", "listing", "cells", "make",
+        "check", "explain", "report", "states", "rank", "carry", "listing", "sheet", "cells", "make",
     ] {
         assert!(said.out.contains(&format!("\n  {name} ")), "{name}");
     }
@@ -34,6 +34,8 @@ fn wrong_commands() {
         &["make", "1", "y", "--plans"],
         &["report"],
         &["explain"],
+        &["sheet", "a"],
+        &["sheet", "a", "b", "c", "d"],
     ] {
         let said = workbench(wrong);
         assert_eq!(said.status, 2, "{wrong:?}");
@@ -203,6 +205,49 @@ fn listing_writes_the_plan() {
     let said = workbench(&["listing", &network, &wrong.display().to_string()]);
     assert_eq!((said.status, said.out.as_str()), (1, ""));
     assert!(said.err.contains("refused with 22 in line 2 of the listing text"));
+}
+
+/// One link and a signal whose cycle is twenty seconds; six steps of ten seconds.
+const TURNING: &str = "N\t1\t1\t0\t6\t0\t0\nG\t20\t20\t2\t2\t10\t20\t10\t30\t10\t30\nQ\t60000\t10\t500\t0\t0\t0\t0\n\
+    S\t10\t0\nS\t10\t0\nS\t10\t0\nS\t10\t0\nS\t10\t0\nS\t10\t0\n";
+
+#[test]
+fn sheet_writes_a_plan_and_holds_it_to_the_sheet() {
+    let folder = scratch("sheet");
+    let write = |name: &str, text: &str| {
+        let path = folder.join(name);
+        fs::write(&path, text).unwrap();
+        path.display().to_string()
+    };
+    let network = write("network.tsv", TURNING);
+    let said = workbench(&["sheet", &network, &write("offset.tsv", "F\t10\t10\t10\n")]);
+    assert_eq!(said.status, 0);
+    assert_eq!(said.out, "P\t2\t0\t0\nP\t1\t0\t0\n".repeat(3));
+    let said = workbench(&["sheet", &network, &write("odd.tsv", "F\t15\t10\t0\n")]);
+    assert_eq!((said.status, said.out.as_str()), (1, ""));
+    assert!(
+        said.err
+            .contains("refused with 35 in signal 1 (line 2 of the network text)"),
+        "{}",
+        said.err
+    );
+
+    let plan = write("plan.tsv", &"P\t1\t0\t0\nP\t2\t0\t0\n".repeat(3));
+    let said = workbench(&["sheet", &network, &write("even.tsv", "F\t10\t10\n"), &plan]);
+    assert_eq!(said.status, 0);
+    assert!(said
+        .out
+        .starts_with("accepted, and keeps the sheet\nadmitted           0 vehicles\n"));
+    let said = workbench(&["sheet", &network, &write("long.tsv", "F\t10\t20\n"), &plan]);
+    assert_eq!(said.status, 1);
+    assert_eq!(
+        said.out,
+        "refused with 34 in step 4 (line 4 of the plan text, seconds 30 to 40), signal 1 (line 2 of the network text): \
+         a run does not last its duration\n"
+    );
+    let said = workbench(&["sheet", &network, &write("short.tsv", "F\t10\n"), &plan]);
+    assert_eq!(said.status, 1);
+    assert!(said.out.starts_with("refused with 33 in line 1 of the sheet text: "));
 }
 
 #[test]
