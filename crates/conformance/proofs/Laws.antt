@@ -7,7 +7,7 @@ use mathlib.Core.Bool.{Bool, true, false, cond}
 use mathlib.Core.List.{List, _++_, append-nil}
 use native.Mathlib.Omega.{arith}
 use borrow.Author.Count.{below-more}
-use borrow.Author.Tests.{eq-eqb, ne-eqb, lt-ltb, le-ltb, leb-true}
+use borrow.Author.Tests.{ne-eqb, lt-ltb, le-ltb, leb-true}
 use lib.ListN.{length, getD, set, drop, drop-of-length-le, replicate}
 use lib.Seq.{getD-set-same, getD-set-other}
 use Rattle.records.specs.Lines.{lines}
@@ -24,7 +24,9 @@ use Rattle.listing.specs.ReadsBack.{PlanGot}
 use Rattle.carry_model.specs.declared.CarryAnswer.{CarryAnswer}
 use Rattle.carry_model.specs.Call.{plannedOn}
 use Rattle.carry_model.specs.CarriesOn.{CarriedOn}
-use Rattle.conformance_cases.specs.Outcome.{networkOutcome, planOutcome, linkOutcome, listingOutcome, carryOutcome}
+use Rattle.sheet_model.specs.declared.SheetAnswer.{SheetAnswer}
+use Rattle.sheet_model.specs.Promises.{SheetPromises, WritePromises}
+use Rattle.conformance_cases.specs.Outcome.{networkOutcome, planOutcome, linkOutcome, listingOutcome, carryOutcome, sheetOutcome}
 use Rattle.conformance_cases.specs.declared.outcome.Outcome.{Outcome}
 use Rattle.conformance_cases.specs.declared.stored.LedgerForm.{LedgerForm}
 use Rattle.conformance_cases.specs.declared.stored.Question.{Question}
@@ -54,7 +56,7 @@ filled-whole buffer fill n h l =
     rw (drop-of-length-le buffer h, append-nil, e)
 
 module _ (question : Question) (valid : validQuestion question ≡ true) where
-  pub valid-call : (1 ≤ question .call) × (question .call ≤ 5)
+  pub valid-call : (1 ≤ question .call) × (question .call ≤ 7)
   unfolding validQuestion within
   valid-call =
       let h = and-left _ _ valid in
@@ -64,70 +66,78 @@ module _ (question : Question) (valid : validQuestion question ≡ true) where
   unfolding validQuestion
   valid-fill = leb-true _ _ (and-right _ _ valid)
 
-module _ (network plan ledger buffer : List ℕ) (question : Question) where
+module _ (network plan second ledger buffer : List ℕ) (question : Question) where
   -- what is given and left is what the definitions say
   abbrev pub Answered : Outcome → List ℕ → List ℕ → Type 0
   Answered given left written =
-      (given ≡ answerTo network plan ledger buffer question)
-      × ((left ≡ ledgerTo network plan ledger question) × (written ≡ bufferTo network plan ledger buffer question))
+      (given ≡ answerTo network plan second ledger buffer question)
+      × ((left ≡ ledgerTo network plan second ledger question) × (written ≡ bufferTo network plan ledger buffer question))
 
   pub answered-network :
       (r : Outcome) {verdict : Verdict} → question .call ≡ 1 → verdict ≡ checkNetwork (lines network) → r ≡ networkOutcome verdict
       → Answered r ledger buffer
   unfolding answerTo ledgerTo bufferTo
-  answered-network r h a e = (rw (eq-eqb _ _ h) (e ∙ ap networkOutcome a), (rw h, rw h))
+  answered-network r h a e = (rw h (e ∙ ap networkOutcome a), (rw h, rw h))
 
   pub answered-plan :
-      (r : Outcome) {answer : PlanAnswer} (after : List ℕ) → (question .call ≡ 1 → ⊥) → question .call ≡ 2
+      (r : Outcome) {answer : PlanAnswer} (after : List ℕ) → question .call ≡ 2
       → answer ≡ checkPlan (lines network) (planOf network plan) (length ledger) → after ≡ ledgerAfter (lines network) (planOf network plan) ledger
       → r ≡ planOutcome answer → Answered r after buffer
   unfolding answerTo ledgerTo bufferTo
-  answered-plan r after n h a l e = (rw (ne-eqb _ _ n, eq-eqb _ _ h) (e ∙ ap planOutcome a), (rw (eq-eqb _ _ h) l, rw h))
+  answered-plan r after h a l e = (rw h (e ∙ ap planOutcome a), (rw h l, rw h))
 
   pub answered-listing :
-      (r : Outcome) {answer : ListingAnswer} (after : List ℕ) → (question .call ≡ 1 → ⊥) → (question .call ≡ 2 → ⊥) → question .call ≡ 4
+      (r : Outcome) {answer : ListingAnswer} (after : List ℕ) → question .call ≡ 4
       → PlanGot (lines network) (entries plan) buffer answer after → r ≡ listingOutcome answer → Answered r ledger after
   unfolding answerTo ledgerTo bufferTo
-  answered-listing r after n m h g e =
-      (rw (ne-eqb _ _ n, ne-eqb _ _ m, eq-eqb _ _ h) (e ∙ ap listingOutcome (g .told)), (rw h, rw (eq-eqb _ _ h) (g .holds)))
+  answered-listing r after h g e = (rw h (e ∙ ap listingOutcome (g .told)), (rw h, rw h (g .holds)))
 
   pub answered-carry :
-      (r : Outcome) {answer : CarryAnswer} (left written : List ℕ) → (question .call ≡ 1 → ⊥) → (question .call ≡ 2 → ⊥) → (question .call ≡ 4 → ⊥) → question .call ≡ 5
+      (r : Outcome) {answer : CarryAnswer} (left written : List ℕ) → question .call ≡ 5
       → CarriedOn (lines network) (plannedOn (lines network) (question .boundary) plan) (question .boundary) ledger left buffer written answer
       → r ≡ carryOutcome answer → Answered r left written
   unfolding answerTo ledgerTo bufferTo
-  answered-carry r left written n m o h g e = (
-    rw (ne-eqb _ _ n, ne-eqb _ _ m, ne-eqb _ _ o, eq-eqb _ _ h) (e ∙ ap carryOutcome (g .told)),
-    (rw (ne-eqb _ _ m, eq-eqb _ _ h) (g .rows), rw (ne-eqb _ _ o, eq-eqb _ _ h) (g .holds)),
-  )
+  answered-carry r left written h g e = (rw h (e ∙ ap carryOutcome (g .told)), (rw h (g .rows), rw h (g .holds)))
+
+  pub answered-sheet :
+      (r : Outcome) {answer : PlanAnswer} (after : List ℕ) → question .call ≡ 6
+      → SheetPromises (lines network) (lines second) (planOf network plan) ledger after answer → r ≡ planOutcome answer → Answered r after buffer
+  unfolding answerTo ledgerTo bufferTo
+  answered-sheet r after h g e = (rw h (e ∙ ap planOutcome (g .told)), (rw h (g .rows), rw h))
+
+  pub answered-written :
+      (r : Outcome) {answer : SheetAnswer} (after : List ℕ) → question .call ≡ 7
+      → WritePromises (lines network) (lines plan) buffer answer after → r ≡ sheetOutcome answer → Answered r ledger after
+  unfolding answerTo ledgerTo bufferTo
+  answered-written r after h g e = (rw h (e ∙ ap sheetOutcome (g .told)), (rw h, rw h (g .holds)))
 
   pub answered-link :
-      (r : Outcome) {answer : LinkAnswer} → (question .call ≡ 1 → ⊥) → (question .call ≡ 2 → ⊥) → (question .call ≡ 4 → ⊥) → (question .call ≡ 5 → ⊥)
+      (r : Outcome) {answer : LinkAnswer} → (question .call ≡ 1 → ⊥) → (question .call ≡ 2 → ⊥) → (question .call ≡ 4 → ⊥) → (question .call ≡ 6 → ⊥) → (question .call ≡ 7 → ⊥) → (question .call ≡ 5 → ⊥)
       → answer ≡ linkState (lines network) ledger (question .boundary) (question .link) → r ≡ linkOutcome answer
       → Answered r ledger buffer
   unfolding answerTo ledgerTo bufferTo
-  answered-link r n m o p a e = (
-    rw (ne-eqb _ _ n, ne-eqb _ _ m, ne-eqb _ _ o, ne-eqb _ _ p) (e ∙ ap linkOutcome a),
-    (rw (ne-eqb _ _ m, ne-eqb _ _ p), rw (ne-eqb _ _ o, ne-eqb _ _ p)),
+  answered-link r one two four six seven five a e = (
+    rw (ne-eqb _ _ one, ne-eqb _ _ two, ne-eqb _ _ four, ne-eqb _ _ five, ne-eqb _ _ six, ne-eqb _ _ seven) (e ∙ ap linkOutcome a),
+    (rw (ne-eqb _ _ two, ne-eqb _ _ five, ne-eqb _ _ six), rw (ne-eqb _ _ four, ne-eqb _ _ five, ne-eqb _ _ seven)),
   )
 
-  pub no-boundary : 4_294_967_295 < question .boundary → passedOver ≡ placeIn network plan ledger buffer question
+  pub no-boundary : 4_294_967_295 < question .boundary → passedOver ≡ placeIn network plan second ledger buffer question
   unfolding placeIn
   no-boundary h = rw (le-ltb (question .boundary) 4_294_967_296 (omega arith))
 
-  pub no-link : question .boundary ≤ 4_294_967_295 → 4_294_967_295 < question .link → passedOver ≡ placeIn network plan ledger buffer question
+  pub no-link : question .boundary ≤ 4_294_967_295 → 4_294_967_295 < question .link → passedOver ≡ placeIn network plan second ledger buffer question
   unfolding placeIn
   no-link b h = rw (lt-ltb (question .boundary) 4_294_967_296 (omega arith), le-ltb (question .link) 4_294_967_296 (omega arith))
 
   place-by : (same : Bool) → question .boundary ≤ 4_294_967_295 → question .link ≤ 4_294_967_295
-      → asStored (answerTo network plan ledger buffer question) (checksumTo network plan ledger buffer question) question ≡ same
-      → placeIn network plan ledger buffer question ≡ cond same (placeOf (question .call) (answerTo network plan ledger buffer question)) different
+      → asStored (answerTo network plan second ledger buffer question) (checksumTo network plan second ledger buffer question) question ≡ same
+      → placeIn network plan second ledger buffer question ≡ cond same (placeOf (question .call) (answerTo network plan second ledger buffer question)) different
   unfolding placeIn
   place-by same b l e = rw (lt-ltb (question .boundary) 4_294_967_296 (omega arith), lt-ltb (question .link) 4_294_967_296 (omega arith), e)
 
   module _ {given : Outcome} {left written : List ℕ} {sum : ℕ} {same : Bool} (b : question .boundary ≤ 4_294_967_295) (l : question .link ≤ 4_294_967_295)
       (g : Answered given left written) (s : sum ≡ checksumOf left written) (e : same ≡ asStored given sum question) where
-    stored-as : asStored (answerTo network plan ledger buffer question) (checksumTo network plan ledger buffer question) question ≡ same
+    stored-as : asStored (answerTo network plan second ledger buffer question) (checksumTo network plan second ledger buffer question) question ≡ same
     unfolding checksumTo
     stored-as =
         let a = g .0 in
@@ -135,19 +145,19 @@ module _ (network plan ledger buffer : List ℕ) (question : Question) where
         let w = g .1 .1 in
         cc
 
-    pub as-stored : {place : ℕ} → same ≡ true → place ≡ placeOf (question .call) given → place ≡ placeIn network plan ledger buffer question
+    pub as-stored : {place : ℕ} → same ≡ true → place ≡ placeOf (question .call) given → place ≡ placeIn network plan second ledger buffer question
     as-stored t p = p ∙ ap (placeOf (question .call)) (g .0) ∙ sym (place-by true b l (stored-as ∙ t))
 
-    pub not-as-stored : same ≡ false → different ≡ placeIn network plan ledger buffer question
+    pub not-as-stored : same ≡ false → different ≡ placeIn network plan second ledger buffer question
     not-as-stored f = sym (place-by false b l (stored-as ∙ f))
 
 -- on a ledger and a buffer that were filled
 pub judged :
-    (network plan start ledger buffer : List ℕ) (size fill room place : ℕ) (question : Question) → length ledger ≡ size → Filled start fill ledger
-    → room ≡ question .«buffer_size» → buffer ≡ replicate room (question .«buffer_fill») → place ≡ placeIn network plan ledger buffer question
-    → Judged network plan start size fill question place
+    (network plan second start ledger buffer : List ℕ) (size fill room place : ℕ) (question : Question) → length ledger ≡ size → Filled start fill ledger
+    → room ≡ question .«buffer_size» → buffer ≡ replicate room (question .«buffer_fill») → place ≡ placeIn network plan second ledger buffer question
+    → Judged network plan second start size fill question place
 unfolding bufferBefore
-judged network plan start ledger buffer size fill room place question h f e b p = record { ledger = ledger; sized = h; filled = f; is = rw (b, e) at p }
+judged network plan second start ledger buffer size fill room place question h f e b p = record { ledger = ledger; sized = h; filled = f; is = rw (b, e) at p }
 
 -- nothing is asked of what is false
 pub never : {A : Type 0} → false ≡ true → A
@@ -163,15 +173,15 @@ module _ (call : ℕ) (outcome : Outcome) {n : ℕ} (e : n ≡ refusalOf outcome
   has-place h = rw (lt-ltb (refusalOf outcome) answers (omega arith), e)
 
 pub case-counted :
-    {network plan start before after : List ℕ} {size place : ℕ} {form : LedgerForm} {question : Question} → size ≡ form .size
-    → Judged network plan start size (form .fill) question place → after ≡ counted before place → CaseCounted network plan start form question before after
+    {network plan second start before after : List ℕ} {size place : ℕ} {form : LedgerForm} {question : Question} → size ≡ form .size
+    → Judged network plan second start size (form .fill) question place → after ≡ counted before place → CaseCounted network plan second start form question before after
 case-counted e j i = record { place = _; judged = rw e at j; is = i }
 
 pub one-more :
-    {network plan start before after : List ℕ} {form : LedgerForm} {question : Question} → CaseCounted network plan start form question before after
+    {network plan second start before after : List ℕ} {form : LedgerForm} {question : Question} → CaseCounted network plan second start form question before after
     → OneMore before after
-one-more {network} {plan} {start} {before} {after} {form} {question} i =
-    record { network = network; plan = plan; start = start; form = form; question = question; case-counted = i }
+one-more {network} {plan} {second} {start} {before} {after} {form} {question} i =
+    record { network = network; plan = plan; second = second; start = start; form = form; question = question; case-counted = i }
 
 pub counted-more : {n : ℕ} {before between after : List ℕ} → Counted n before between → OneMore between after → Counted (n + 1) before after
 counted-more h o = rw add-one (more h o)

@@ -19,6 +19,7 @@ use conformance_cases::stored::Question;
 pub struct Sizes {
     pub network: usize,
     pub plan: usize,
+    pub second: usize,
     pub start: usize,
 }
 
@@ -55,15 +56,18 @@ fn fill_buffer(buffer: &mut [u8], fill: u8)
 fn answer_to(
     network: &[u8],
     plan: &[u8],
+    second: &[u8],
     ledger: &mut [u32],
     buffer: &mut [u8],
     question: Question,
 ) -> Outcome
     requires { ⌜ (question .boundary < 2 ^ 32) × (question .link < 2 ^ 32) ⌝ }
-    ensures { λ r. ⌜ r ≡ answerTo (now (network .entry)) (now (plan .entry)) (now (ledger .entry)) (now (buffer .entry)) question ⌝ }
-    ensures { λ r. ⌜ now (ledger .exit) ≡ ledgerTo (now (network .entry)) (now (plan .entry)) (now (ledger .entry)) question ⌝ }
+    ensures { λ r. ⌜ r ≡ answerTo (now (network .entry)) (now (plan .entry)) (now (second .entry)) (now (ledger .entry)) (now (buffer .entry)) question ⌝ }
+    ensures { λ r. ⌜ now (ledger .exit) ≡ ledgerTo (now (network .entry)) (now (plan .entry)) (now (second .entry)) (now (ledger .entry)) question ⌝ }
     ensures { λ r. ⌜ now (buffer .exit) ≡ bufferTo (now (network .entry)) (now (plan .entry)) (now (ledger .entry)) (now (buffer .entry)) question ⌝ }
 {
+    let boundary = question.boundary as u32;
+    let link = question.link as u32;
     if question.call == 1 {
         return outcome::of_network(network::check_network(network));
     }
@@ -73,8 +77,12 @@ fn answer_to(
     if question.call == 4 {
         return outcome::of_listing(listing::plan_from_listing(network, plan, buffer));
     }
-    let boundary = question.boundary as u32;
-    let link = question.link as u32;
+    if question.call == 6 {
+        return outcome::of_plan(sheet_check::check_sheet(network, plan, second, ledger));
+    }
+    if question.call == 7 {
+        return outcome::of_sheet(sheet_writer::plan_from_sheet(network, plan, buffer));
+    }
     if question.call == 5 {
         return outcome::of_carry(carry::carry_on(network, boundary, plan, ledger, buffer));
     }
@@ -95,12 +103,13 @@ fn judge(
     number: u32,
     network: &[u8],
     plan: &[u8],
+    second: &[u8],
     ledger: &mut [u32],
     buffer: &mut [u8],
     question: Question,
 ) -> usize
     requires { ⌜ validQuestion question ≡ true ⌝ }
-    ensures { λ r. ⌜ r ≡ placeIn (now (network .entry)) (now (plan .entry)) (now (ledger .entry)) (now (buffer .entry)) question ⌝ }
+    ensures { λ r. ⌜ r ≡ placeIn (now (network .entry)) (now (plan .entry)) (now (second .entry)) (now (ledger .entry)) (now (buffer .entry)) question ⌝ }
     ensures { λ r. ⌜ r < counters ⌝ }
 {
     if 4294967295 < question.boundary {
@@ -109,7 +118,7 @@ fn judge(
     if 4294967295 < question.link {
         return tally::PASSED_OVER;
     }
-    let given = answer_to(network, plan, ledger, buffer, question);
+    let given = answer_to(network, plan, second, ledger, buffer, question);
     let sum = checksum::checksum(ledger, buffer);
     if is_as_stored(given, sum, question) {
         return tally::place_of(question.call, given);
@@ -123,6 +132,7 @@ fn judge_filled(
     number: u32,
     network: &[u8],
     plan: &[u8],
+    second: &[u8],
     start: &[u32],
     fill: u32,
     ledger: &mut [u32],
@@ -131,19 +141,19 @@ fn judge_filled(
 ) -> usize
     requires { ⌜ validQuestion question ≡ true ⌝ }
     requires { ⌜ length (now buffer) ≡ question .«buffer_size» ⌝ }
-    ensures { λ r. ⌜ Judged (now (network .entry)) (now (plan .entry)) (now (start .entry)) (length (now (ledger .entry))) fill question r ⌝ }
+    ensures { λ r. ⌜ Judged (now (network .entry)) (now (plan .entry)) (now (second .entry)) (now (start .entry)) (length (now (ledger .entry))) fill question r ⌝ }
     ensures { λ r. ⌜ r < counters ⌝ }
 {
     fill_ledger(ledger, start, fill);
     fill_buffer(buffer, question.buffer_fill as u8);
-    judge(number, network, plan, ledger, buffer, question)
+    judge(number, network, plan, second, ledger, buffer, question)
 }
 
 // Whether there is such a call, and the buffer can hold its fill.
 fn is_valid(question: Question) -> bool
     ensures { λ r. ⌜ r ≡ validQuestion question ⌝ }
 {
-    (1 <= question.call) & (question.call <= 5) & (question.buffer_fill <= 255)
+    (1 <= question.call) & (question.call <= 7) & (question.buffer_fill <= 255)
 }
 
 // Takes what a case uses of each buffer, and judges it; false where the question is not valid, or a length is not one of its buffer.
@@ -151,6 +161,7 @@ fn run_read(
     number: u32,
     network: &[u8],
     plan: &[u8],
+    second: &[u8],
     start: &[u32],
     ledger: &mut [u32],
     buffer: &mut [u8],
@@ -159,10 +170,11 @@ fn run_read(
     question: Question,
     counts: &mut [u64; COUNTERS],
 ) -> bool
-    ensures { λ r. ⌜ (r ≡ true → CaseCounted (take (sizes .network) (now (network .entry))) (take (sizes .plan) (now (plan .entry))) (take (sizes .start) (now (start .entry))) form question (now (counts .entry)) (now (counts .exit))) ⌝ }
+    ensures { λ r. ⌜ (r ≡ true → CaseCounted (take (sizes .network) (now (network .entry))) (take (sizes .plan) (now (plan .entry))) (take (sizes .second) (now (second .entry))) (take (sizes .start) (now (start .entry))) form question (now (counts .entry)) (now (counts .exit))) ⌝ }
 {
     let network_size = sizes.network;
     let plan_size = sizes.plan;
+    let second_size = sizes.second;
     let start_size = sizes.start;
     let ledger_size = form.size;
     let buffer_size = question.buffer_size;
@@ -173,6 +185,9 @@ fn run_read(
         return false;
     }
     if plan.len() < plan_size {
+        return false;
+    }
+    if second.len() < second_size {
         return false;
     }
     if start.len() < start_size {
@@ -191,6 +206,7 @@ fn run_read(
         number,
         &network[..network_size],
         &plan[..plan_size],
+        &second[..second_size],
         &start[..start_size],
         form.fill,
         &mut ledger[..ledger_size],
@@ -208,6 +224,7 @@ fn run_case(
     before: Sizes,
     network: &mut [u8],
     plan: &mut [u8],
+    second: &mut [u8],
     start: &mut [u32],
     ledger: &mut [u32],
     buffer: &mut [u8],
@@ -219,16 +236,20 @@ fn run_case(
     let plan_size = stored::read_text(file, plan, before.plan);
     let form = stored::read_ledger(file);
     let start_size = stored::read_start(file, start, form.given, before.start);
-    let question = stored::read_question(file);
+    let asked = stored::read_asked(file);
+    let second_size = stored::read_second(file, second, &asked);
+    let question = stored::read_question(file, &asked);
     let sizes = Sizes {
         network: network_size,
         plan: plan_size,
+        second: second_size,
         start: start_size,
     };
     if run_read(
         number,
         network,
         plan,
+        second,
         start,
         ledger,
         buffer,
@@ -242,6 +263,7 @@ fn run_case(
     Sizes {
         network: stored::NOTHING,
         plan: stored::NOTHING,
+        second: stored::NOTHING,
         start: stored::NOTHING,
     }
 }
@@ -252,6 +274,7 @@ fn run_cases(
     count: u32,
     network: &mut [u8],
     plan: &mut [u8],
+    second: &mut [u8],
     start: &mut [u32],
     ledger: &mut [u32],
     buffer: &mut [u8],
@@ -262,6 +285,7 @@ fn run_cases(
     let mut sizes = Sizes {
         network: stored::NOTHING,
         plan: stored::NOTHING,
+        second: stored::NOTHING,
         start: stored::NOTHING,
     };
     let mut done = 0;
@@ -272,6 +296,7 @@ fn run_cases(
             sizes,
             network,
             plan,
+            second,
             start,
             ledger,
             buffer,
@@ -290,6 +315,7 @@ pub fn run_file(
     file: i32,
     network: &mut [u8],
     plan: &mut [u8],
+    second: &mut [u8],
     start: &mut [u32],
     ledger: &mut [u32],
     buffer: &mut [u8],
@@ -300,7 +326,17 @@ pub fn run_file(
     let CaseCount::Cases(count) = stored::read_header(file) else {
         return CaseCount::Malformed;
     };
-    if run_cases(file, count, network, plan, start, ledger, buffer, counts) {
+    if run_cases(
+        file,
+        count,
+        network,
+        plan,
+        second,
+        start,
+        ledger,
+        buffer,
+        counts,
+    ) {
         if stored::is_at_end(file) {
             return CaseCount::Cases(count);
         }

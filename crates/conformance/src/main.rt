@@ -11,6 +11,7 @@ use conformance_cases::stored::CaseCount;
 fn compare_file(path: &[u8], counts: &mut [u64; COUNTERS]) {
     let mut network = [0u8; 73728];
     let mut plan = [0u8; 163840];
+    let mut second = [0u8; 163840];
     let mut start = [0u32; 5888];
     let mut ledger = [0u32; 5888];
     let mut buffer = [0u8; 102400];
@@ -19,6 +20,7 @@ fn compare_file(path: &[u8], counts: &mut [u64; COUNTERS]) {
         file,
         &mut network,
         &mut plan,
+        &mut second,
         &mut start,
         &mut ledger,
         &mut buffer,

@@ -13,6 +13,8 @@ use Rattle.listing.specs.declared.ListingAnswer.{ListingAnswer}
 use Rattle.listing.specs.declared.ListingAnswer.the-variants as listing-answer
 use Rattle.carry_model.specs.declared.CarryAnswer.{CarryAnswer}
 use Rattle.carry_model.specs.declared.CarryAnswer.the-variants as carry-answer
+use Rattle.sheet_model.specs.declared.SheetAnswer.{SheetAnswer}
+use Rattle.sheet_model.specs.declared.SheetAnswer.the-variants as sheet-answer
 use Rattle.conformance_cases.specs.declared.outcome.Outcome.{Outcome}
 
 abbrev pub refusedOutcome : Refusal → Outcome
@@ -41,6 +43,10 @@ listingOutcome (listing-answer.Refused r) = refusedOutcome r
 abbrev pub carryOutcome : CarryAnswer → Outcome
 carryOutcome (carry-answer.Written length) = writtenOutcome length
 carryOutcome (carry-answer.Refused r) = refusedOutcome r
+
+abbrev pub sheetOutcome : SheetAnswer → Outcome
+sheetOutcome (sheet-answer.Written length) = writtenOutcome length
+sheetOutcome (sheet-answer.Refused r) = refusedOutcome r
 
 abbrev pub sameOutcome : Outcome → Outcome → Bool
 sameOutcome one other =

@@ -12,25 +12,29 @@ number32 bytes at =
 unfoldable pub number64 : List ℕ → ℕ → ℕ
 number64 bytes at = number32 bytes at + number32 bytes (at + 4) * 4294967296
 
--- the 72 bytes that a case ends with
+-- the call, of the 28 bytes of what is asked
+abbrev pub callOf : List ℕ → ℕ
+callOf asked = number32 asked 8
+
+-- the answer, of the 44 bytes that a case ends with
 abbrev pub answerOf : List ℕ → Outcome
-answerOf bytes =
+answerOf told =
     record {
-      kind = number32 bytes 28;
-      first = number64 bytes 32;
-      second = number64 bytes 40;
-      third = number64 bytes 48;
-      fourth = number64 bytes 56;
+      kind = number32 told 0;
+      first = number64 told 4;
+      second = number64 told 12;
+      third = number64 told 20;
+      fourth = number64 told 28;
     }
 
-abbrev pub questionOf : List ℕ → Question
-questionOf bytes =
+abbrev pub questionOf : List ℕ → List ℕ → Question
+questionOf asked told =
     record {
-      «buffer_size» = number32 bytes 0;
-      «buffer_fill» = number32 bytes 4;
-      call = number32 bytes 8;
-      boundary = number64 bytes 12;
-      link = number64 bytes 20;
-      answer = answerOf bytes;
-      checksum = number64 bytes 64;
+      «buffer_size» = number32 asked 0;
+      «buffer_fill» = number32 asked 4;
+      call = callOf asked;
+      boundary = number64 asked 12;
+      link = number64 asked 20;
+      answer = answerOf told;
+      checksum = number64 told 36;
     }

@@ -1,12 +1,13 @@
 // What a call gives, in the stored form.
 ghost use mathlib.Core.Path.{_≡_};
-ghost use Rattle.conformance_cases.specs.Outcome.{refusedOutcome, networkOutcome, planOutcome, linkOutcome, writtenOutcome, listingOutcome, carryOutcome, sameOutcome};
+ghost use Rattle.conformance_cases.specs.Outcome.{refusedOutcome, networkOutcome, planOutcome, linkOutcome, writtenOutcome, listingOutcome, carryOutcome, sheetOutcome, sameOutcome};
 use carry_model::CarryAnswer;
 use listing::ListingAnswer;
 use model::LinkAnswer;
 use model::PlanAnswer;
 use search::Refusal;
 use search::Verdict;
+use sheet_model::SheetAnswer;
 
 // The kind is 0 for a network accepted, 1 for a plan accepted, 2 for a state, 3 for a refusal, 4 for a text written; the numbers are the
 // totals, queued and in transit, the refusal's number, line and item, or the text's length; 0 where there is none.
@@ -102,6 +103,15 @@ pub fn of_carry(answer: CarryAnswer) -> Outcome
     match answer {
         CarryAnswer::Written(length) => written(length),
         CarryAnswer::Refused(refusal) => refused(refusal),
+    }
+}
+
+pub fn of_sheet(answer: SheetAnswer) -> Outcome
+    ensures { λ r. ⌜ r ≡ sheetOutcome answer ⌝ }
+{
+    match answer {
+        SheetAnswer::Written(length) => written(length),
+        SheetAnswer::Refused(refusal) => refused(refusal),
     }
 }
 

@@ -2,7 +2,7 @@
 ghost use mathlib.Core.Path.{_≡_};
 ghost use Prim.Native.Nat.{_+_, _≤_};
 ghost use lib.ListN.{length};
-ghost use Rattle.conformance_cases.specs.Stored.{number32, number64, answerOf, questionOf};
+ghost use Rattle.conformance_cases.specs.Stored.{number32, number64, callOf, answerOf, questionOf};
 use crate::outcome::Outcome;
 
 // For the length of a text, or of the given numbers: the same ones as in the case before.
@@ -24,9 +24,9 @@ pub struct LedgerForm {
     pub given: u32,
 }
 
-// The call of a case (1 check a network, 2 check a plan, 3 state of one link, 4 plan from a listing, 5 carry on from a boundary; 0 where the
-// file is malformed) and the buffer that it is given, its length and what each byte is, with what the other implementation answers and the
-// checksum of the ledger and the buffer that it leaves.
+// The call of a case (1 check a network, 2 check a plan, 3 state of one link, 4 plan from a listing, 5 carry on from a boundary, 6 check a
+// sheet, 7 plan from a sheet; 0 where the file is malformed) and the buffer that it is given, its length and what each byte is, with what
+// the other implementation answers and the checksum of the ledger and the buffer that it leaves.
 pub struct Question {
     pub buffer_size: usize,
     pub buffer_fill: u32,
@@ -69,7 +69,7 @@ fn read_whole(file: i32, buffer: &mut [u8]) -> bool {
     io::read_full(file, buffer) == size
 }
 
-// Reads the header: the file's mark, version 2, and how many cases follow. The greatest lengths that it names are not needed, as each length
+// Reads the header: the file's mark, version 3, and how many cases follow. The greatest lengths that it names are not needed, as each length
 // is held to its buffer.
 pub fn read_header(file: i32) -> CaseCount {
     let mut bytes = [0u8; 32];
@@ -80,7 +80,7 @@ pub fn read_header(file: i32) -> CaseCount {
     if long_number_at(&bytes, 0) != 4995408169015528528 {
         return CaseCount::Malformed;
     }
-    if number_at(&bytes, 8) != 2 {
+    if number_at(&bytes, 8) != 3 {
         return CaseCount::Malformed;
     }
     CaseCount::Cases(number_at(&bytes, 12))
@@ -152,41 +152,65 @@ pub fn read_start(file: i32, start: &mut [u32], given: u32, before: usize) -> us
     size
 }
 
-// What the other implementation answers, of the 72 bytes that a case ends with.
-fn answer_of(bytes: &[u8; 72]) -> Outcome
-    ensures { λ r. ⌜ r ≡ answerOf (now (bytes .entry)) ⌝ }
+// Reads what a case asks: its buffer, its call, and the boundary and the link of it. What is told of a file that ends before is zeros.
+pub fn read_asked(file: i32) -> [u8; 28] {
+    let mut bytes = [0u8; 28];
+    if !read_whole(file, &mut bytes) {
+        return [0u8; 28];
+    }
+    bytes
+}
+
+// The call that is asked for.
+fn call_of(asked: &[u8; 28]) -> u32
+    ensures { λ r. ⌜ r ≡ callOf (now (asked .entry)) ⌝ }
+{
+    number_at(asked, 8)
+}
+
+// Reads the text that follows what is asked, the sheet that a plan is checked by: its length; 0 for a call that has no such text.
+pub fn read_second(file: i32, text: &mut [u8], asked: &[u8; 28]) -> usize {
+    if call_of(asked) == 6 {
+        return read_text(file, text, NOTHING);
+    }
+    0
+}
+
+// What the other implementation answers, of the 44 bytes that a case ends with.
+fn answer_of(told: &[u8; 44]) -> Outcome
+    ensures { λ r. ⌜ r ≡ answerOf (now (told .entry)) ⌝ }
 {
     Outcome {
-        kind: number_at(bytes, 28),
-        first: long_number_at(bytes, 32),
-        second: long_number_at(bytes, 40),
-        third: long_number_at(bytes, 48),
-        fourth: long_number_at(bytes, 56),
+        kind: number_at(told, 0),
+        first: long_number_at(told, 4),
+        second: long_number_at(told, 12),
+        third: long_number_at(told, 20),
+        fourth: long_number_at(told, 28),
     }
 }
 
-// The call of a case, its buffer and its answer, of the same bytes.
-fn question_of(bytes: &[u8; 72]) -> Question
-    ensures { λ r. ⌜ r ≡ questionOf (now (bytes .entry)) ⌝ }
+// What is asked, and the answer.
+fn question_of(asked: &[u8; 28], told: &[u8; 44]) -> Question
+    ensures { λ r. ⌜ r ≡ questionOf (now (asked .entry)) (now (told .entry)) ⌝ }
 {
     Question {
-        buffer_size: number_at(bytes, 0) as usize,
-        buffer_fill: number_at(bytes, 4),
-        call: number_at(bytes, 8),
-        boundary: long_number_at(bytes, 12),
-        link: long_number_at(bytes, 20),
-        answer: answer_of(bytes),
-        checksum: long_number_at(bytes, 64),
+        buffer_size: number_at(asked, 0) as usize,
+        buffer_fill: number_at(asked, 4),
+        call: call_of(asked),
+        boundary: long_number_at(asked, 12),
+        link: long_number_at(asked, 20),
+        answer: answer_of(told),
+        checksum: long_number_at(told, 36),
     }
 }
 
-// Reads the call of a case, its buffer and its answer. What is told of a file that ends before is that of zeros.
-pub fn read_question(file: i32) -> Question {
-    let mut bytes = [0u8; 72];
-    if !read_whole(file, &mut bytes) {
-        return question_of(&[0u8; 72]);
+// Reads the answer to what is asked. What is told of a file that ends before is that of zeros.
+pub fn read_question(file: i32, asked: &[u8; 28]) -> Question {
+    let mut told = [0u8; 44];
+    if !read_whole(file, &mut told) {
+        return question_of(&[0u8; 28], &[0u8; 44]);
     }
-    question_of(&bytes)
+    question_of(asked, &told)
 }
 
 // Whether the file has no byte more.

@@ -8,7 +8,7 @@ fill-ledger-requires : tie.Need-fill-ledger-requires
 fill-ledger-requires c κs = search needs
 
 cast-fill-buffer : tie.Need-cast-fill-buffer
-cast-fill-buffer c = let h = valid-fill _ (c .before .before .before .before .before .before .before .before .before .before .before .pre .0) in search needs
+cast-fill-buffer c = let h = valid-fill _ (c .before .before .before .before .before .before .before .before .before .before .before .before .pre .0) in search needs
 
 fill-buffer-requires : tie.Need-fill-buffer-requires
 fill-buffer-requires c κs = search needs
@@ -25,18 +25,7 @@ same-length-2 c = search needs
 returns : tie.Need-returns
 returns c =
     let j = c .before .before .before .before .judge .ensures in
-    let ledger-filled = c .before .before .before .before .before .before .before .before .before .before .before .before .before .before .fill-ledger .ensures in
-    let buffer-filled = c .before .before .before .before .before .before .before .before .before .fill-buffer .ensures in
-    (judged _ _ _ _ _ _ _ _ _ _ (search needs) ledger-filled (c .before .before .before .before .before .before .before .before .before .before .before .before .before .before .before .before .before .before .before .before .before .pre .1) buffer-filled (j .0), j .1)
+    (judged _ _ _ _ _ _ _ _ _ _ _ (search needs) (c .before .before .before .before .before .before .before .before .before .before .before .before .before .before .fill-ledger .ensures) (c .before .before .before .before .before .before .before .before .before .before .before .before .before .before .before .before .before .before .before .before .before .before .pre .1) (c .before .before .before .before .before .before .before .before .before .fill-buffer .ensures) (j .0), j .1)
 
 pub judge-filled-spec : {M : Type 1} → statement M
-judge-filled-spec =
-    tie.close
-    (tie.spec
-    fill-ledger-requires
-    cast-fill-buffer
-    fill-buffer-requires
-    judge-requires
-    same-length
-    same-length-2
-    returns)
+judge-filled-spec = tie.close (tie.spec fill-ledger-requires cast-fill-buffer fill-buffer-requires judge-requires same-length same-length-2 returns)

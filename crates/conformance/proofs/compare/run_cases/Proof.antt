@@ -10,20 +10,21 @@ use Rattle.conformance.proofs.compare.run_cases.Statement.{statement}
 use Rattle.conformance.proofs.compare.run_cases.Tie as tie
 
 abbrev Inv-loop : tie.InvT-loop
-Inv-loop file count network₀ plan₀ start₀ ledger₀ buffer₀ counts₀ sizes₀ done₀ network plan start ledger buffer counts sizes done =
+Inv-loop file count network₀ plan₀ second₀ start₀ ledger₀ buffer₀ counts₀ sizes₀ done₀ network plan second start ledger buffer counts sizes done =
     (done ≤ count)
     × (length network ≡ length network₀)
     × (length plan ≡ length plan₀)
+    × (length second ≡ length second₀)
     × (length start ≡ length start₀)
     × (length ledger ≡ length ledger₀)
     × (length buffer ≡ length buffer₀)
     × Counted done counts₀ counts
 
 abbrev μ-loop : tie.MeasureT-loop
-μ-loop file count network₀ plan₀ start₀ ledger₀ buffer₀ counts₀ sizes₀ done₀ network plan start ledger buffer counts sizes done = count - done
+μ-loop file count network₀ plan₀ second₀ start₀ ledger₀ buffer₀ counts₀ sizes₀ done₀ network plan second start ledger buffer counts sizes done = count - done
 
 loop-holds : tie.Need-loop-holds Inv-loop μ-loop
-loop-holds c = (search needs, refl, refl, refl, refl, refl, none)
+loop-holds c = (search needs, refl, refl, refl, refl, refl, refl, none)
 
 run-case-requires : tie.Need-run-case-requires Inv-loop μ-loop
 run-case-requires c κs = search needs
@@ -43,6 +44,9 @@ same-length-4 c = search needs
 same-length-5 : tie.Need-same-length-5 Inv-loop μ-loop
 same-length-5 c = search needs
 
+same-length-6 : tie.Need-same-length-6 Inv-loop μ-loop
+same-length-6 c = search needs
+
 returns : tie.Need-returns Inv-loop μ-loop
 returns c = never
 
@@ -53,10 +57,7 @@ loop-less : tie.Need-loop-less Inv-loop μ-loop
 loop-less c = search needs
 
 loop-again : tie.Need-loop-again Inv-loop μ-loop
-loop-again c = (search needs, search needs, search needs, search needs, search needs, search needs, counted-more (c .before .before .before .before .before .before .before .before .before .before .before .before .before .before .before .before .before .before .before .before .loop .inv .6) (c .before .before .before .before .before .before .before .before .before .before .before .before .run-case .ensures (c .if1 .left)))
-
-same-length-6 : tie.Need-same-length-6 Inv-loop μ-loop
-same-length-6 c = search needs
+loop-again c = (search needs, search needs, search needs, search needs, search needs, search needs, search needs, counted-more (c .before .before .before .before .before .before .before .before .before .before .before .before .before .before .before .before .before .before .before .before .before .before .before .loop .inv .7) (c .before .before .before .before .before .before .before .before .before .before .before .before .before .before .run-case .ensures (c .if1 .left)))
 
 same-length-7 : tie.Need-same-length-7 Inv-loop μ-loop
 same-length-7 c = search needs
@@ -70,29 +71,14 @@ same-length-9 c = search needs
 same-length-10 : tie.Need-same-length-10 Inv-loop μ-loop
 same-length-10 c = search needs
 
+same-length-11 : tie.Need-same-length-11 Inv-loop μ-loop
+same-length-11 c = search needs
+
+same-length-12 : tie.Need-same-length-12 Inv-loop μ-loop
+same-length-12 c = search needs
+
 returns-2 : tie.Need-returns-2 Inv-loop μ-loop
-returns-2 c = λ h. counted-all (c .before .loop .inv .0) (omega arith) (c .before .loop .inv .6)
+returns-2 c = λ h. counted-all (c .before .loop .inv .0) (omega arith) (c .before .loop .inv .7)
 
 pub run-cases-spec : {M : Type 1} → statement M
-run-cases-spec =
-    tie.close
-    (tie.spec
-    Inv-loop
-    μ-loop
-    loop-holds
-    run-case-requires
-    same-length
-    same-length-2
-    same-length-3
-    same-length-4
-    same-length-5
-    returns
-    add-done
-    loop-less
-    loop-again
-    same-length-6
-    same-length-7
-    same-length-8
-    same-length-9
-    same-length-10
-    returns-2)
+run-cases-spec = tie.close (tie.spec Inv-loop μ-loop loop-holds run-case-requires same-length same-length-2 same-length-3 same-length-4 same-length-5 same-length-6 returns add-done loop-less loop-again same-length-7 same-length-8 same-length-9 same-length-10 same-length-11 same-length-12 returns-2)

@@ -38,12 +38,12 @@ same-length-4 c = search needs
 same-length-5 : tie.Need-same-length-5
 same-length-5 c = search needs
 
-returns-2 : tie.Need-returns-2
-unfolding Compared
-returns-2 c = c .before .before .before .before .before .before .before .before .before .before .before .before .before .run-cases .ensures (c .before .before .if1 .taken)
-
 same-length-6 : tie.Need-same-length-6
 same-length-6 c = search needs
+
+returns-2 : tie.Need-returns-2
+unfolding Compared
+returns-2 c = c .before .before .before .before .before .before .before .before .before .before .before .before .before .before .before .run-cases .ensures (c .before .before .if1 .taken)
 
 same-length-7 : tie.Need-same-length-7
 same-length-7 c = search needs
@@ -57,15 +57,15 @@ same-length-9 c = search needs
 same-length-10 : tie.Need-same-length-10
 same-length-10 c = search needs
 
-returns-3 : tie.Need-returns-3
-unfolding Compared
-returns-3 c = tt
-
 same-length-11 : tie.Need-same-length-11
 same-length-11 c = search needs
 
 same-length-12 : tie.Need-same-length-12
 same-length-12 c = search needs
+
+returns-3 : tie.Need-returns-3
+unfolding Compared
+returns-3 c = tt
 
 same-length-13 : tie.Need-same-length-13
 same-length-13 c = search needs
@@ -76,35 +76,18 @@ same-length-14 c = search needs
 same-length-15 : tie.Need-same-length-15
 same-length-15 c = search needs
 
+same-length-16 : tie.Need-same-length-16
+same-length-16 c = search needs
+
+same-length-17 : tie.Need-same-length-17
+same-length-17 c = search needs
+
+same-length-18 : tie.Need-same-length-18
+same-length-18 c = search needs
+
 returns-4 : tie.Need-returns-4
 unfolding Compared
 returns-4 c = tt
 
 pub run-file-spec : {M : Type 1} → statement M
-run-file-spec =
-    tie.close
-    (tie.spec
-    read-header-requires
-    enum-known-count
-    enum-told
-    returns
-    run-cases-requires
-    is-at-end-requires
-    same-length
-    same-length-2
-    same-length-3
-    same-length-4
-    same-length-5
-    returns-2
-    same-length-6
-    same-length-7
-    same-length-8
-    same-length-9
-    same-length-10
-    returns-3
-    same-length-11
-    same-length-12
-    same-length-13
-    same-length-14
-    same-length-15
-    returns-4)
+run-file-spec = tie.close (tie.spec read-header-requires enum-known-count enum-told returns run-cases-requires is-at-end-requires same-length same-length-2 same-length-3 same-length-4 same-length-5 same-length-6 returns-2 same-length-7 same-length-8 same-length-9 same-length-10 same-length-11 same-length-12 returns-3 same-length-13 same-length-14 same-length-15 same-length-16 same-length-17 same-length-18 returns-4)

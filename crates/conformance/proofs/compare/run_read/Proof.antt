@@ -32,6 +32,9 @@ returns-6 c = never
 returns-7 : tie.Need-returns-7
 returns-7 c = never
 
+returns-8 : tie.Need-returns-8
+returns-8 c = never
+
 slice-aggregate-judge-filled : tie.Need-slice-aggregate-judge-filled
 slice-aggregate-judge-filled c = sym (length-take-le _ _ (omega arith))
 
@@ -41,20 +44,23 @@ slice-aggregate-judge-filled-2 c = sym (length-take-le _ _ (omega arith))
 slice-aggregate-judge-filled-3 : tie.Need-slice-aggregate-judge-filled-3
 slice-aggregate-judge-filled-3 c = sym (length-take-le _ _ (omega arith))
 
-slice-relend-prefix-judge-filled : tie.Need-slice-relend-prefix-judge-filled
-slice-relend-prefix-judge-filled c = search needs
-
 slice-aggregate-judge-filled-4 : tie.Need-slice-aggregate-judge-filled-4
 slice-aggregate-judge-filled-4 c = sym (length-take-le _ _ (omega arith))
 
-slice-relend-prefix-judge-filled-2 : tie.Need-slice-relend-prefix-judge-filled-2
-slice-relend-prefix-judge-filled-2 c = search needs
+slice-relend-prefix-judge-filled : tie.Need-slice-relend-prefix-judge-filled
+slice-relend-prefix-judge-filled c = search needs
 
 slice-aggregate-judge-filled-5 : tie.Need-slice-aggregate-judge-filled-5
 slice-aggregate-judge-filled-5 c = sym (length-take-le _ _ (omega arith))
 
+slice-relend-prefix-judge-filled-2 : tie.Need-slice-relend-prefix-judge-filled-2
+slice-relend-prefix-judge-filled-2 c = search needs
+
+slice-aggregate-judge-filled-6 : tie.Need-slice-aggregate-judge-filled-6
+slice-aggregate-judge-filled-6 c = sym (length-take-le _ _ (omega arith))
+
 judge-filled-requires : tie.Need-judge-filled-requires
-judge-filled-requires c κs = (sym (c .before .before .before .before .before .before .before .before .before .before .before .before .is-valid .ensures) ∙ not-false _ (c .before .before .before .before .before .before .before .before .before .before .before .if1 .left), length-take-le _ _ (omega arith))
+judge-filled-requires c κs = (sym (c .before .before .before .before .before .before .before .before .before .before .before .before .before .before .is-valid .ensures) ∙ not-false _ (c .before .before .before .before .before .before .before .before .before .before .before .before .before .if1 .left), length-take-le _ _ (omega arith))
 
 add-one-requires : tie.Need-add-one-requires
 add-one-requires c κs = search needs
@@ -65,30 +71,8 @@ same-length c = search needs
 same-length-2 : tie.Need-same-length-2
 same-length-2 c = search needs
 
-returns-8 : tie.Need-returns-8
-returns-8 c = λ h. case-counted (length-take-le _ _ (omega arith)) (c .before .before .before .before .before .before .judge-filled .ensures .0) (c .add-one .ensures)
+returns-9 : tie.Need-returns-9
+returns-9 c = λ h. case-counted (length-take-le _ _ (omega arith)) (c .before .before .before .before .before .before .judge-filled .ensures .0) (c .add-one .ensures)
 
 pub run-read-spec : {M : Type 1} → statement M
-run-read-spec =
-    tie.close
-    (tie.spec
-    is-valid-requires
-    returns
-    returns-2
-    returns-3
-    returns-4
-    returns-5
-    returns-6
-    returns-7
-    slice-aggregate-judge-filled
-    slice-aggregate-judge-filled-2
-    slice-aggregate-judge-filled-3
-    slice-relend-prefix-judge-filled
-    slice-aggregate-judge-filled-4
-    slice-relend-prefix-judge-filled-2
-    slice-aggregate-judge-filled-5
-    judge-filled-requires
-    add-one-requires
-    same-length
-    same-length-2
-    returns-8)
+run-read-spec = tie.close (tie.spec is-valid-requires returns returns-2 returns-3 returns-4 returns-5 returns-6 returns-7 returns-8 slice-aggregate-judge-filled slice-aggregate-judge-filled-2 slice-aggregate-judge-filled-3 slice-aggregate-judge-filled-4 slice-relend-prefix-judge-filled slice-aggregate-judge-filled-5 slice-relend-prefix-judge-filled-2 slice-aggregate-judge-filled-6 judge-filled-requires add-one-requires same-length same-length-2 returns-9)

@@ -6,14 +6,14 @@ use Rattle.conformance_cases.proofs.stored.question_of.Tie as tie
 number-at-requires : tie.Need-number-at-requires
 number-at-requires c κs = search needs
 
-cast-t5 : tie.Need-cast-t5
-cast-t5 c = search needs
+cast-t6 : tie.Need-cast-t6
+cast-t6 c = search needs
 
 number-at-requires-2 : tie.Need-number-at-requires-2
 number-at-requires-2 c κs = search needs
 
-number-at-requires-3 : tie.Need-number-at-requires-3
-number-at-requires-3 c κs = search needs
+call-of-requires : tie.Need-call-of-requires
+call-of-requires c κs = search needs
 
 long-number-at-requires : tie.Need-long-number-at-requires
 long-number-at-requires c κs = search needs
@@ -35,9 +35,9 @@ question-of-spec =
     tie.close
     (tie.spec
     number-at-requires
-    cast-t5
+    cast-t6
     number-at-requires-2
-    number-at-requires-3
+    call-of-requires
     long-number-at-requires
     long-number-at-requires-2
     answer-of-requires
