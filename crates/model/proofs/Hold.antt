@@ -129,11 +129,11 @@ same-meant network valid =
 
 -- a network that is refused gets that refusal with every plan, and no row
 module _ (network : List Line) (r : Refusal) (refused : verdict (networkChecks network) ≡ Refused r) where
-  refused-answer : (plan : List Line) (size : ℕ) → checkPlan network plan size ≡ plan-answer.Refused r
+  pub refused-answer : (plan : List Line) (size : ℕ) → checkPlan network plan size ≡ plan-answer.Refused r
   unfolding checkPlan planAnswer planChecks verdict
   refused-answer plan size = ap (planAnswer network plan) (or-else-refused _ _ r refused)
 
-  refused-rows : (plan : List Line) (old : List ℕ) → ledgerAfter network plan old ≡ old
+  pub refused-rows : (plan : List Line) (old : List ℕ) → ledgerAfter network plan old ≡ old
   unfolding ledgerAfter
   refused-rows plan old = rw (rows-none network plan (length old) (λ d. refused-fails (networkChecks network) r refused (d .network-holds))) (written-none network plan old)
 

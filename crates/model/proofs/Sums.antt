@@ -22,6 +22,16 @@ unfolding sum
 sum-le zero f g h = omega arith
 sum-le (suc n) f g h = omega (arith, sum-le n f g (λ i l. h i (omega arith)), h n (omega arith))
 
+-- where no part is greater and one is less, the sum is less
+pub sum-less : (n : ℕ) (f g : ℕ → ℕ) → ((i : ℕ) → i < n → f i ≤ g i) → (k : ℕ) → k < n → f k < g k → sum n f < sum n g
+unfolding sum
+sum-less zero f g h k l u = absurd (omega arith)
+sum-less (suc n) f g h k l u = go (eq-or-lt-of-le l) (sum-less n f g (λ i v. h i (omega arith)) k)
+  where
+    go : (suc k ≡ suc n) ⊎ (suc k < suc n) → (k < n → f k < g k → sum n f < sum n g) → sum n f + f n < sum n g + g n
+    go (inl e) ih = let i : n ≡ k = omega arith in rw i (omega (arith, sum-le k f g (λ j v. h j (omega arith))))
+    go (inr v) ih = omega (arith, ih (omega arith) u, h n (omega arith))
+
 -- each part of a sum is at most c
 pub sum-bound : (n c : ℕ) (f : ℕ → ℕ) → ((i : ℕ) → i < n → f i ≤ c) → sum n f ≤ n * c
 unfolding sum

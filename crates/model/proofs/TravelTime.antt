@@ -1,18 +1,19 @@
 -- The doubled travel time of an accepted plan. Assumes nothing.
-use mathlib.Core.Path.{_≡_, ap}
+use mathlib.Core.Path.{_≡_, sym, ap, _∙_}
 use mathlib.Core.List.{List}
 use Prim.Native.Nat.{ℕ, zero, suc, _+_, _*_, _-_, _≤_, _<_}
 use native.Mathlib.Nat.{le-refl}
 use native.Mathlib.Omega.{arith}
 use Rattle.records.specs.Lines.{Line}
 use Rattle.model.specs.Sum.{sum}
-use Rattle.model.specs.Network.{linkCount, stepCount, stepLength, time}
-use Rattle.model.specs.Flows.{offered, allDemand, taken, underWay, allLetOut, doubledTime}
+use Rattle.model.specs.Network.{linkCount, stepCount, stepLength, waitingAtStart, time}
+use Rattle.model.specs.Flows.{offered, allDemand, taken, vehicles, underWay, allLetOut, doubledTime}
 use Rattle.model.specs.Guarantees.{weight, startingVehicles}
 use Rattle.model.proofs.Sums.{sum-ext, sum-weight}
 use Rattle.model.proofs.Times.{time-suc, time-mono}
 use Rattle.model.proofs.Accepted.{AcceptedPlan}
 use Rattle.model.proofs.Waiting.{taken-offered, outside-start, outside-step}
+use Rattle.model.proofs.Timeline.{start-held}
 use Rattle.model.proofs.Flow.{balance-step}
 
 module _ (network : List Line) where
@@ -69,3 +70,12 @@ module _ (network plan : List Line) (accepted : AcceptedPlan network plan) where
       ≡ 2 * time network (stepCount network) * startingVehicles network plan + sum (stepCount network) (λ n. allDemand network n * weight network n)
   unfolding weight weightBy
   travel-time = travel-time-by (stepCount network) (le-refl _)
+
+-- of two accepted plans on one network, the one that has let out less has as many more under way
+module _ (network first second : List Line) (one : AcceptedPlan network first) (other : AcceptedPlan network second) where
+  pub under-way-alike : (n : ℕ) → n ≤ stepCount network
+      → underWay network first n + sum n (allLetOut network first) ≡ underWay network second n + sum n (allLetOut network second)
+  under-way-alike n h = under-way-by network first one n h ∙ ap (λ x. x + sum n (allDemand network)) start ∙ sym (under-way-by network second other n h)
+    where
+      start : startingVehicles network first ≡ startingVehicles network second
+      start = unfold startingVehicles vehicles in ap (λ x. x + sum (linkCount network) (waitingAtStart network)) (sum-ext (linkCount network) _ _ (λ i l. start-held network first second i))
