@@ -1,0 +1,4 @@
+pub mod Comparison
+pub mod Promises
+pub mod Curves
+pub mod Padding
