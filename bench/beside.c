@@ -10,6 +10,7 @@
  *     plan_from_listing NETWORK LISTING
  *     check_sheet NETWORK PLAN SHEET
  *     plan_from_sheet NETWORK SHEET
+ *     compare_plans NETWORK FIRST SECOND
  *     run_cells CORRIDOR
  *     step_vehicles PLACES ADVANCES RED_LINES      doubles in the machine's order
  */
@@ -31,9 +32,11 @@ static double places[PLANCHECK_MAX_VEHICLES];
 static double advances[PLANCHECK_MAX_VEHICLES];
 static double red_lines[PLANCHECK_MAX_RED_LINES];
 static uint32_t ledger[PLANCHECK_LEDGER_MAX];
+static uint32_t second_ledger[PLANCHECK_LEDGER_MAX];
 static plancheck_counts_result counted;
 static plancheck_text_result written;
 static plancheck_plan_result judged;
+static plancheck_comparison_result compared;
 static plancheck_cells_result ran;
 static plancheck_network_result stepped;
 
@@ -73,6 +76,13 @@ static void plan_from_sheet(void)
                                         sizeof plan);
 }
 
+static void compare_plans(void)
+{
+    compared = plancheck_compare_plans(texts[0].bytes, texts[0].length, texts[1].bytes, texts[1].length, texts[2].bytes,
+                                       texts[2].length, ledger, PLANCHECK_LEDGER_MAX, second_ledger,
+                                       PLANCHECK_LEDGER_MAX);
+}
+
 static void run_cells(void)
 {
     ran = plancheck_run_cells(texts[0].bytes, texts[0].length);
@@ -105,6 +115,7 @@ static const struct measured {
     {"plan_from_listing", 2, plan_from_listing, &written.number, &written.line, &written.item},
     {"check_sheet", 3, check_sheet, &judged.number, &judged.line, &judged.item},
     {"plan_from_sheet", 2, plan_from_sheet, &written.number, &written.line, &written.item},
+    {"compare_plans", 3, compare_plans, &compared.number, &compared.line, &compared.item},
     {"run_cells", 1, run_cells, &ran.number, &ran.line, &ran.item},
     {"step_vehicles", 3, step_vehicles, &stepped.number, &stepped.line, &stepped.item},
 };

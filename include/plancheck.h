@@ -3,8 +3,8 @@
  *
  * Decides whether a traffic-signal plan may run on a network under the Queue Transmission Model, and what travel time
  * it gives. Calls: check a network, what it has, check a plan, the state of one link, and carry on from a boundary; beside
- * them, a plan from a solver's listing, whether a plan keeps a fixed-time sheet, a plan for a sheet, a run of a corridor in
- * cells, and a step of vehicles along a street.
+ * them, which of two plans is ahead, a plan from a solver's listing, whether a plan keeps a fixed-time sheet, a plan for a
+ * sheet, a run of a corridor in cells, and a step of vehicles along a street.
  *
  *     static uint32_t ledger[PLANCHECK_LEDGER_MAX];
  *
@@ -66,8 +66,9 @@
  * Volumes and limits are at most 2000000000.
  *
  * LEDGER
- * The caller lends it to a call that judges a plan, which writes into it, and to plancheck_link_state, which reads it. Row n
- * belongs to boundary n and starts at index 2 * n * L. For link i it holds two cumulative volumes:
+ * The caller lends it to a call that judges a plan, which writes into it, and to plancheck_link_state, which reads it;
+ * plancheck_compare_plans is lent one for each plan. Row n belongs to boundary n and starts at index 2 * n * L. For link i
+ * it holds two cumulative volumes:
  *     ledger[2 * n * L + 2 * (i - 1)]        entered: the standing start and all that came onto the link by boundary n
  *     ledger[2 * n * L + 2 * (i - 1) + 1]    left: all that went from it by boundary n
  * both counted from the first past step on.
@@ -78,7 +79,7 @@
  *   - A text pointer is readable for its length in bytes; a ledger pointer is aligned for uint32_t and is readable
  *     (and, for a call that judges a plan, writable) for its length in numbers. The buffer of a call that writes a text is
  *     writable for its length in bytes, and overlaps no text and no ledger.
- *   - The ledger lent to a call that writes it overlaps no text. The texts may overlap each other.
+ *   - A ledger lent to a call that writes it overlaps no text and no other ledger. The texts may overlap each other.
  *   - A pointer to doubles is aligned for double and is readable (the places of plancheck_step_vehicles also writable)
  *     for its length in doubles. The places overlap neither the advances nor the red lines.
  *   - No other thread writes to the texts, the ledger or the buffer, or reads a ledger or a buffer that the call writes,
@@ -103,6 +104,7 @@
  *     plancheck_link_state           5,264    nothing
  *     plancheck_carry_on             6,320    the ledger: 4 * PLANCHECK_LEDGER_LEN(L, b); the buffer for the text
  *     plancheck_plan_from_listing   66,544    the buffer: PLANCHECK_WRITTEN_PLAN_MAX, 151,920, at most
+ *     plancheck_compare_plans      COMPARE    two ledgers: each 4 * PLANCHECK_LEDGER_LEN(L, K), 23,232 at most
  *     plancheck_check_sheet          7,632    the ledger: 4 * PLANCHECK_LEDGER_LEN(L, K), 23,232 at most
  *     plancheck_plan_from_sheet      8,032    the buffer: PLANCHECK_WRITTEN_PLAN_MAX at most
  *     plancheck_run_cells            2,208    nothing
@@ -116,9 +118,9 @@
  * ERRORS
  * A result has number 0 (PLANCHECK_OK), or the number of the first refusal in the order of judging, with the line and
  * the item that it names, 0 where it names none. Nothing else is reported: when number is not 0, every other member but
- * line and item is 0. Numbers 1 to 6 and 28 name a line of the network text (30, the past as a whole, names none), 9 to
- * 18, 25 to 27, 29 and 34 a line of the plan text, 22 and 23 a line of the listing, 33 a line of the sheet, 36 and 37 a
- * line of the corridor text. docs/REFUSALS.md says what to do about each.
+ * line, item and the plan of a comparison is 0. Numbers 1 to 6 and 28 name a line of the network text (30, the past as a
+ * whole, names none), 9 to 18, 25 to 27, 29 and 34 a line of the plan text, 22 and 23 a line of the listing, 33 a line of
+ * the sheet, 36 and 37 a line of the corridor text. docs/REFUSALS.md says what to do about each.
  */
 #ifndef PLANCHECK_H
 #define PLANCHECK_H
@@ -354,6 +356,28 @@ typedef struct {
     size_t length; /* of the text, in bytes */
 } plancheck_text_result;
 
+/* How the first of two plans stands to the second, by all volume let out of the network up to each boundary. */
+enum plancheck_order {
+    /* Never less, and somewhere more. */
+    PLANCHECK_AHEAD = 1,
+    /* Never more, and somewhere less. */
+    PLANCHECK_BEHIND = 2,
+    /* The same at every boundary. */
+    PLANCHECK_EQUAL = 3,
+    /* Somewhere more and somewhere less. */
+    PLANCHECK_CROSSING = 4
+};
+
+/* Answer of plancheck_compare_plans. 32 bytes, of which the 4 after order are padding. */
+typedef struct {
+    uint32_t number; /* PLANCHECK_OK: both plans are accepted */
+    uint32_t line;
+    uint32_t item;
+    uint32_t plan;  /* that is refused: 1 the first, 2 the second, 0 the network; 0 too where none is */
+    uint32_t order; /* of enum plancheck_order; 0 where a plan is refused */
+    int64_t gap;    /* doubled time of the first minus that of the second: negative when the first is quicker */
+} plancheck_comparison_result;
+
 /* Answer of plancheck_run_cells. 288 bytes. */
 typedef struct {
     uint32_t number; /* PLANCHECK_OK: the corridor was run */
@@ -377,6 +401,8 @@ PLANCHECK_ASSERT(plan_result, sizeof(plancheck_plan_result) == 48);
 PLANCHECK_ASSERT(plan_totals, offsetof(plancheck_plan_result, admitted) == 16);
 PLANCHECK_ASSERT(link_result, sizeof(plancheck_link_result) == 20);
 PLANCHECK_ASSERT(text_result, sizeof(plancheck_text_result) == (sizeof(size_t) == 8 ? 24 : 16));
+PLANCHECK_ASSERT(comparison_result, sizeof(plancheck_comparison_result) == 32);
+PLANCHECK_ASSERT(comparison_gap, offsetof(plancheck_comparison_result, gap) == 24);
 PLANCHECK_ASSERT(cells_result, sizeof(plancheck_cells_result) == 288);
 PLANCHECK_ASSERT(cells_flows, offsetof(plancheck_cells_result, flow_in) == 16);
 #undef PLANCHECK_ASSERT
@@ -445,6 +471,20 @@ plancheck_link_result plancheck_link_state(const uint8_t *network, size_t networ
 plancheck_text_result plancheck_carry_on(const uint8_t *network, size_t network_len, uint32_t boundary,
                                          const uint8_t *plan, size_t plan_len, uint32_t *ledger, size_t ledger_len,
                                          uint8_t *carried, size_t carried_len);
+
+/*
+ * Tells which of two plans for one network is ahead, and by how much its travel time is the lesser, and fills a ledger for
+ * each plan. Refusals: those of the network, then all of the first plan's, its ledger's length (8) among them, then the
+ * second plan's; plan says whose it is. A first plan that is ahead has a negative gap, one that is equal the gap 0; of
+ * plans that cross the gap may be of either sign, or 0. An empty plan text means hold, as in plancheck_check_plan.
+ *
+ * Reads the three texts. Writes into each ledger what plancheck_check_plan would, into the second only where the first
+ * plan is accepted.
+ */
+plancheck_comparison_result plancheck_compare_plans(const uint8_t *network, size_t network_len, const uint8_t *first,
+                                                    size_t first_len, const uint8_t *second, size_t second_len,
+                                                    uint32_t *first_ledger, size_t first_ledger_len,
+                                                    uint32_t *second_ledger, size_t second_ledger_len);
 
 /*
  * Writes the plan text of a solver's listing: a line for each step, all that no line names 0. Refusals 1 to 6, 28 and 30 of

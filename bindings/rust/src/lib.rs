@@ -5,6 +5,7 @@
 
 mod carry;
 mod cells;
+mod comparison;
 mod counts;
 mod ledger;
 mod library;
@@ -15,6 +16,7 @@ mod traces;
 
 pub use carry::{carry_on, MAX_NETWORK_TEXT_LEN};
 pub use cells::{run_cells, CellsRun, MAX_CELLS};
+pub use comparison::{compare_plans, Comparison, ComparisonRefusal, Order, Refused};
 pub use counts::{library_version, network_counts, Counts, Version};
 pub use ledger::{Rows, Volumes};
 pub use listing::{plan_from_listing, MAX_WRITTEN_PLAN_LEN};

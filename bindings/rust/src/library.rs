@@ -72,6 +72,17 @@ pub struct TextResult {
     pub length: usize,
 }
 
+#[repr(C)]
+#[derive(Clone, Copy, Debug, PartialEq, Eq)]
+pub struct ComparisonResult {
+    pub number: u32,
+    pub line: u32,
+    pub item: u32,
+    pub plan: u32,
+    pub order: u32,
+    pub gap: i64,
+}
+
 extern "C" {
     pub fn plancheck_version() -> VersionResult;
 
@@ -137,6 +148,19 @@ extern "C" {
         plan: *mut u8,
         plan_len: usize,
     ) -> TextResult;
+
+    pub fn plancheck_compare_plans(
+        network: *const u8,
+        network_len: usize,
+        first: *const u8,
+        first_len: usize,
+        second: *const u8,
+        second_len: usize,
+        first_ledger: *mut u32,
+        first_ledger_len: usize,
+        second_ledger: *mut u32,
+        second_ledger_len: usize,
+    ) -> ComparisonResult;
 
     pub fn plancheck_run_cells(corridor: *const u8, corridor_len: usize) -> CellsResult;
 

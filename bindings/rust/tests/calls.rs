@@ -70,7 +70,9 @@ fn who_waits_outside_may_be_admitted_later() {
 #[test]
 fn trams_claim_their_phase() {
     let network = |tram: &str| {
-        format!("N\t1\t1\t0\t1\t1\t0\n{tram}G\t20\t60\t2\t2\t10\t20\t10\t30\t10\t30\nQ\t0\t10\t0\t0\t0\t0\t0\nS\t10\t0\n")
+        format!(
+            "N\t1\t1\t0\t1\t1\t0\n{tram}G\t20\t60\t2\t2\t10\t20\t10\t30\t10\t30\nQ\t0\t10\t0\t0\t0\t0\t0\nS\t10\t0\n"
+        )
     };
     let check =
         |tram: &str, plan: &[u8]| check_plan(network(tram).as_bytes(), plan, &mut [0; 4]).map(|totals| totals.admitted);

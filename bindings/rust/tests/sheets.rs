@@ -21,8 +21,19 @@ fn refusal(number: u32, line: u32, item: u32) -> Refusal {
 
 fn kept(trams: &str, masks: &[u32], sheet: &str) -> Result<u64, Refusal> {
     let mut ledger = [7; required_ledger_len(1, 6)];
-    let answer = check_sheet(network(trams).as_bytes(), plan(masks).as_bytes(), sheet.as_bytes(), &mut ledger);
-    let untouched = matches!(answer, Err(Refusal { number: 1..=6 | 8 | 28 | 30 | 33, .. }));
+    let answer = check_sheet(
+        network(trams).as_bytes(),
+        plan(masks).as_bytes(),
+        sheet.as_bytes(),
+        &mut ledger,
+    );
+    let untouched = matches!(
+        answer,
+        Err(Refusal {
+            number: 1..=6 | 8 | 28 | 30 | 33,
+            ..
+        })
+    );
     assert_eq!(ledger == [7; required_ledger_len(1, 6)], untouched);
     answer.map(|totals| totals.doubled_time)
 }
@@ -98,12 +109,24 @@ fn the_first_broken_run_is_told_and_the_first_cycle_is_exempt() {
 fn a_tram_neither_ends_nor_lengthens_a_run() {
     // the run of step 3 is left in step 5
     assert_eq!(kept("T\t1\t2\t4\t4\n", &[1, 2, 1, 2, 2, 1], "F\t10\t10\n"), Ok(0));
-    assert_eq!(kept("T\t1\t2\t4\t4\n", &[1, 2, 1, 2, 2, 1], "F\t20\t10\n"), Err(refusal(34, 3, 1)));
+    assert_eq!(
+        kept("T\t1\t2\t4\t4\n", &[1, 2, 1, 2, 2, 1], "F\t20\t10\n"),
+        Err(refusal(34, 3, 1))
+    );
 }
 
 #[test]
 fn a_sheet_is_refused_before_the_ledger_and_the_plan() {
-    for sheet in ["", "F\t10\n", "F\t10\t10", "F\t10\t10\t0\n", "F\t9\t10\n", "F\t10\t31\n", "F\t10\t4294967295\n", "G\t10\t10\n"] {
+    for sheet in [
+        "",
+        "F\t10\n",
+        "F\t10\t10",
+        "F\t10\t10\t0\n",
+        "F\t9\t10\n",
+        "F\t10\t31\n",
+        "F\t10\t4294967295\n",
+        "G\t10\t10\n",
+    ] {
         assert_eq!(kept("", &[3], sheet), Err(refusal(33, 1, 0)), "{sheet:?}");
     }
     assert_eq!(kept("", &[3], "F\t10\t10\nF\t10\t10\n"), Err(refusal(33, 2, 0)));
@@ -139,12 +162,24 @@ fn no_plan_is_written_off_the_boundaries_under_trams_or_into_too_little_room() {
     let answer = plan_from_sheet(network("").as_bytes(), b"F\t10\t10\t0\n", &mut short);
     assert_eq!((answer, short), (Err(refusal(24, 0, 0)), [7; 47]));
     let mut just = [7; 48];
-    assert_eq!(plan_from_sheet(network("").as_bytes(), b"F\t10\t10\t0\n", &mut just), Ok(48));
+    assert_eq!(
+        plan_from_sheet(network("").as_bytes(), b"F\t10\t10\t0\n", &mut just),
+        Ok(48)
+    );
 }
 
 #[test]
 fn refusals_are_told_in_words() {
-    assert_eq!(refusal(33, 2, 0).to_string().split(':').next(), Some("refusal 33, sheet line 2"));
-    assert_eq!(refusal(34, 4, 1).to_string(), "refusal 34, plan line 4, signal 1: a run does not last its duration");
-    assert_eq!(refusal(35, 0, 1).to_string(), "refusal 35, signal 1: a run ends on no boundary, or a tram claims the signal");
+    assert_eq!(
+        refusal(33, 2, 0).to_string().split(':').next(),
+        Some("refusal 33, sheet line 2")
+    );
+    assert_eq!(
+        refusal(34, 4, 1).to_string(),
+        "refusal 34, plan line 4, signal 1: a run does not last its duration"
+    );
+    assert_eq!(
+        refusal(35, 0, 1).to_string(),
+        "refusal 35, signal 1: a run ends on no boundary, or a tram claims the signal"
+    );
 }

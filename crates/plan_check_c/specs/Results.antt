@@ -3,6 +3,7 @@ use Prim.Native.Nat.{ℕ}
 use mathlib.Core.Bool.{cond}
 use mathlib.Core.List.{List}
 use lib.Dec.{eqb}
+use lib.IntN.{pos}
 use Rattle.search.specs.declared.Refusal.{Refusal}
 use Rattle.search.specs.declared.Verdict.{Verdict}
 use Rattle.search.specs.declared.Verdict.the-variants.{Passes, Refused}
@@ -19,6 +20,10 @@ use Rattle.carry_model.specs.declared.CarryAnswer.{CarryAnswer}
 use Rattle.carry_model.specs.declared.CarryAnswer.the-variants as carry-answer
 use Rattle.sheet_model.specs.declared.SheetAnswer.{SheetAnswer}
 use Rattle.sheet_model.specs.declared.SheetAnswer.the-variants as sheet-answer
+use Rattle.comparison.specs.declared.Order.{Order}
+use Rattle.comparison.specs.declared.Order.the-variants.{Ahead, Behind, Equal, Crossing}
+use Rattle.comparison.specs.declared.ComparisonAnswer.{ComparisonAnswer}
+use Rattle.comparison.specs.declared.ComparisonAnswer.the-variants as comparison-answer
 use Rattle.cells.specs.declared.CellsAnswer.{CellsAnswer}
 use Rattle.cells.specs.declared.CellsAnswer.the-variants as cells-answer
 use Rattle.plan_check_c.specs.declared.NetworkResult.{NetworkResult}
@@ -28,6 +33,7 @@ use Rattle.plan_check_c.specs.declared.PlanResult.{PlanResult}
 use Rattle.plan_check_c.specs.declared.LinkResult.{LinkResult}
 use Rattle.plan_check_c.specs.declared.TextResult.{TextResult}
 use Rattle.plan_check_c.specs.declared.CellsResult.{CellsResult}
+use Rattle.plan_check_c.specs.declared.ComparisonResult.{ComparisonResult}
 
 abbrev pub verdictResult : Verdict → NetworkResult
 verdictResult Passes = record { number = 0; line = 0; item = 0 }
@@ -104,3 +110,23 @@ cellsResult (cells-answer.Refused r) volumes =
 abbrev pub cellsAnswerOf : CellsResult → CellsAnswer
 cellsAnswerOf r =
     cond (eqb (r .number) 0) (cells-answer.Ran (r .cells) (r .«flow_in») (r .«flow_out»)) (cells-answer.Refused (refusal (r .number) (r .line) (r .item)))
+
+-- the number of an order, and the order that a C caller reads off
+abbrev pub orderNumber : Order → ℕ
+orderNumber Ahead = 1
+orderNumber Behind = 2
+orderNumber Equal = 3
+orderNumber Crossing = 4
+
+abbrev pub orderOf : ℕ → Order
+orderOf number = cond (eqb number 1) Ahead (cond (eqb number 2) Behind (cond (eqb number 3) Equal Crossing))
+
+abbrev pub comparisonResult : ComparisonAnswer → ComparisonResult
+comparisonResult (comparison-answer.Compared order gap) = record { number = 0; line = 0; item = 0; plan = 0; order = orderNumber order; gap = gap }
+comparisonResult (comparison-answer.Refused plan r) = record { number = r .number; line = r .line; item = r .item; plan = plan; order = 0; gap = pos 0 }
+
+-- the answer that a C caller reads off: number 0 is two plans that were compared, any other a refusal
+abbrev pub comparisonAnswerOf : ComparisonResult → ComparisonAnswer
+comparisonAnswerOf r =
+    cond (eqb (r .number) 0) (comparison-answer.Compared (orderOf (r .order)) (r .gap))
+    (comparison-answer.Refused (r .plan) (refusal (r .number) (r .line) (r .item)))

@@ -17,9 +17,13 @@ ghost use Rattle.carry_model.specs.Call.{plannedOn, carryOn};
 ghost use Rattle.carry_model.specs.CarriesOn.{CarriedOn};
 ghost use Rattle.sheet_model.specs.Calls.{checkSheet, planFromSheet};
 ghost use Rattle.sheet_model.specs.Promises.{SheetPromises, WritePromises};
-ghost use Rattle.plan_check_c.specs.Results.{verdictResult, verdictOf, countsResult, version, planResult, planAnswerOf, linkResult, writtenText, refusedText, listingResult, listingAnswerOf, carryResult, carryAnswerOf, sheetResult, sheetAnswerOf, cellsResult, cellsAnswerOf};
+ghost use Rattle.comparison.specs.Comparison.{comparePlans, secondLedgerAfter};
+ghost use Rattle.comparison.specs.Promises.{ComparisonPromises};
+ghost use Rattle.plan_check_c.specs.Results.{verdictResult, verdictOf, countsResult, version, planResult, planAnswerOf, linkResult, writtenText, refusedText, listingResult, listingAnswerOf, carryResult, carryAnswerOf, sheetResult, sheetAnswerOf, orderNumber, comparisonResult, comparisonAnswerOf, cellsResult, cellsAnswerOf};
 use carry_model::CarryAnswer;
 use cells::CellsAnswer;
+use comparison::ComparisonAnswer;
+use comparison::Order;
 use listing::ListingAnswer;
 use model::LinkAnswer;
 use model::PlanAnswer;
@@ -98,6 +102,18 @@ pub struct CellsResult {
     pub flow_in: u64,
     pub flow_out: u64,
     pub volumes: [u32; 64],
+}
+
+// The answer of a comparison of two plans; number 0: both are accepted, the first is ahead (order 1), behind (2), equal (3) or crossing (4), and its doubled time
+// is by so much the greater. Else the plan that the refusal means, 0 for the network.
+#[repr(C)]
+pub struct ComparisonResult {
+    pub number: u32,
+    pub line: u32,
+    pub item: u32,
+    pub plan: u32,
+    pub order: u32,
+    pub gap: i64,
 }
 
 #[no_mangle]
@@ -317,6 +333,50 @@ pub extern "C" fn plancheck_carry_on(
     match carry::carry_on(network, boundary, plan, ledger, carried) {
         CarryAnswer::Written(length) => written_text(length),
         CarryAnswer::Refused(refusal) => refused_text(refusal),
+    }
+}
+
+fn order_number(order: Order) -> u32
+    ensures { λ r. ⌜ r ≡ orderNumber order ⌝ }
+{
+    match order {
+        Order::Ahead => 1,
+        Order::Behind => 2,
+        Order::Equal => 3,
+        Order::Crossing => 4,
+    }
+}
+
+#[no_mangle]
+pub extern "C" fn plancheck_compare_plans(
+    network: &[u8],
+    first: &[u8],
+    second: &[u8],
+    first_ledger: &mut [u32],
+    second_ledger: &mut [u32],
+) -> ComparisonResult
+    ensures { λ r. ⌜ r ≡ comparisonResult (comparePlans (lines (now (network .entry))) (planOf (now (network .entry)) (now (first .entry))) (planOf (now (network .entry)) (now (second .entry))) (length (now («first_ledger» .entry))) (length (now («second_ledger» .entry)))) ⌝ }
+    ensures { λ _. ⌜ now («first_ledger» .exit) ≡ ledgerAfter (lines (now (network .entry))) (planOf (now (network .entry)) (now (first .entry))) (now («first_ledger» .entry)) ⌝ }
+    ensures { λ _. ⌜ now («second_ledger» .exit) ≡ secondLedgerAfter (lines (now (network .entry))) (planOf (now (network .entry)) (now (first .entry))) (planOf (now (network .entry)) (now (second .entry))) (length (now («first_ledger» .entry))) (now («second_ledger» .entry)) ⌝ }
+    ensures { λ r. ⌜ ComparisonPromises (lines (now (network .entry))) (planOf (now (network .entry)) (now (first .entry))) (planOf (now (network .entry)) (now (second .entry))) (length (now («first_ledger» .entry))) (length (now («second_ledger» .entry))) (comparisonAnswerOf r) ⌝ }
+{
+    match comparison::compare_plans(network, first, second, first_ledger, second_ledger) {
+        ComparisonAnswer::Compared { order, gap } => ComparisonResult {
+            number: 0,
+            line: 0,
+            item: 0,
+            plan: 0,
+            order: order_number(order),
+            gap,
+        },
+        ComparisonAnswer::Refused { plan, refusal: r } => ComparisonResult {
+            number: r.number,
+            line: r.line,
+            item: r.item,
+            plan,
+            order: 0,
+            gap: 0,
+        },
     }
 }
 
