@@ -3,6 +3,7 @@
 
 mod carried;
 mod carry_calls;
+mod comparison_calls;
 mod damage;
 mod fixed_signals;
 mod form;
@@ -32,8 +33,8 @@ pub use scenario::{Scenario, Size, Traffic};
 pub use stored::{decode, encode, Stored};
 
 use crate::{
-    carry_on, check_network, check_plan, check_sheet, link_state, plan_from_listing,
-    plan_from_sheet, Network, PlanStep, Refusal, State, Totals,
+    carry_on, check_network, check_plan, check_sheet, compare_plans, link_state, plan_from_listing,
+    plan_from_sheet, Comparison, Network, PlanStep, Refusal, RefusedPlan, State, Totals,
 };
 use sheet::Sheet;
 
@@ -54,6 +55,8 @@ pub enum Call {
     CheckSheet,
     /// The sheet stands in place of the plan.
     PlanFromSheet,
+    /// The second plan is the second text and has the second ledger.
+    ComparePlans,
 }
 
 #[derive(Clone, Copy, Debug, PartialEq, Eq)]
@@ -63,7 +66,9 @@ pub enum Answer {
     State(State),
     /// A text of this length in bytes, at the start of the buffer.
     Written(u64),
+    Compared(Comparison),
     Refused(Refusal),
+    RefusedPlan(RefusedPlan),
 }
 
 impl Answer {
@@ -111,9 +116,12 @@ pub struct Question {
     pub network: Vec<u8>,
     /// The plan, or the listing or sheet that one is written from.
     pub plan: Vec<u8>,
-    /// The sheet that a plan is to keep; else empty.
+    /// The sheet that a plan is to keep, or the plan that it is compared with;
+    /// else empty.
     pub second: Vec<u8>,
     pub ledger: Ledger,
+    /// That of the second plan; else empty.
+    pub second_ledger: Ledger,
     pub buffer: Buffer,
     pub call: Call,
 }
@@ -123,13 +131,24 @@ pub struct Question {
 pub struct Outcome {
     pub answer: Answer,
     pub ledger: Vec<u32>,
+    pub second_ledger: Vec<u32>,
     pub buffer: Vec<u8>,
+}
+
+impl Outcome {
+    /// FNV-1a over all that the call may have written: the ledger, the second
+    /// ledger, the buffer.
+    pub fn checksum(&self) -> u64 {
+        let numbers = [&self.ledger[..], &self.second_ledger].concat();
+        checksum(&numbers, &self.buffer)
+    }
 }
 
 impl Question {
     /// What this implementation answers and writes.
     pub fn judge(&self) -> Outcome {
         let mut ledger = self.ledger.numbers();
+        let mut second_ledger = self.second_ledger.numbers();
         let mut buffer = self.buffer.bytes();
         let answer = match self.call {
             Call::CheckNetwork => check_network(&self.network).map(|()| Answer::NetworkAccepted),
@@ -153,10 +172,17 @@ impl Question {
             Call::PlanFromSheet => {
                 plan_from_sheet(&self.network, &self.plan, &mut buffer).map(Answer::written)
             }
+            Call::ComparePlans => {
+                let plans = [&self.plan[..], &self.second];
+                let compared =
+                    compare_plans(&self.network, plans, [&mut ledger, &mut second_ledger]);
+                Ok(compared.map_or_else(Answer::RefusedPlan, Answer::Compared))
+            }
         };
         Outcome {
             answer: answer.unwrap_or_else(Answer::Refused),
             ledger,
+            second_ledger,
             buffer,
         }
     }
@@ -373,6 +399,7 @@ impl Texts {
             plan: self.plan,
             second: Vec::new(),
             ledger,
+            second_ledger: Ledger::default(),
             buffer: Buffer::default(),
             call,
         }
@@ -383,7 +410,7 @@ fn refused(number: u64, line: usize, item: usize) -> Refusal {
     Refusal::new(number, line as u64, item as u64)
 }
 
-/// FNV-1a of 64 bits over the ledger's numbers as little-endian bytes, then
+/// FNV-1a of 64 bits over the ledgers' numbers as little-endian bytes, then
 /// the buffer's bytes.
 pub fn checksum(ledger: &[u32], buffer: &[u8]) -> u64 {
     let numbers = ledger.iter().flat_map(|number| number.to_le_bytes());
@@ -527,6 +554,7 @@ fn draw_cases(seed: u64) -> Maker {
     all_families(&mut maker, &scenario);
     damage::random_texts(&mut maker, 4);
     sheet_calls::fixed_times(&mut maker);
+    comparison_calls::pairs(&mut maker, size, traffic);
     maker
 }
 
@@ -615,6 +643,15 @@ pub fn stored_cases(seed: u64) -> Vec<Case> {
     }
     sheet_calls::special_sheets(&mut maker);
     sheet_calls::runs_with_trams(&mut maker);
+    for round in 0..16 {
+        let size = match round % 2 {
+            0 => draw_small_size(&mut maker.random),
+            _ => draw_full_size(&mut maker.random),
+        };
+        let traffic = draw_traffic(&mut maker.random);
+        comparison_calls::pairs(&mut maker, size, traffic);
+    }
+    comparison_calls::corridor(&mut maker);
     damage::random_texts(&mut maker, 60);
     largest_cases(&mut maker);
     maker.judged()

@@ -9,6 +9,7 @@ mod arrivals;
 mod carry;
 pub mod cases;
 pub mod cells;
+mod comparison;
 mod fixed_times;
 mod listing;
 mod network;
@@ -54,6 +55,32 @@ pub struct State {
     pub queued: u64,
     /// Moving: entered and not yet arrived.
     pub in_transit: u64,
+}
+
+/// How the first of two plans stands to the second by all vehicles let out up to
+/// each boundary.
+#[derive(Clone, Copy, Debug, PartialEq, Eq)]
+pub enum Order {
+    /// Never fewer and somewhere more.
+    Ahead,
+    Behind,
+    Equal,
+    /// Each somewhere more.
+    Crossing,
+}
+
+#[derive(Clone, Copy, Debug, PartialEq, Eq)]
+pub struct Comparison {
+    pub order: Order,
+    /// Doubled time of the first plan minus that of the second.
+    pub gap: i64,
+}
+
+/// A refusal and the plan that it means: 0 for the network, 1 or 2.
+#[derive(Clone, Copy, Debug, PartialEq, Eq)]
+pub struct RefusedPlan {
+    pub refusal: Refusal,
+    pub plan: u64,
 }
 
 /// Refusals 1 to 6, 28 and 30.
@@ -114,4 +141,13 @@ pub fn check_sheet(
 /// offsets at the start of the buffer and gives its length.
 pub fn plan_from_sheet(network: &[u8], sheet: &[u8], buffer: &mut [u8]) -> Result<usize, Refusal> {
     fixed_times::write_plan(network, sheet, buffer)
+}
+
+/// The network's refusals, then those of the first plan, then of the second.
+pub fn compare_plans(
+    network: &[u8],
+    plans: [&[u8]; 2],
+    ledgers: [&mut [u32]; 2],
+) -> Result<Comparison, RefusedPlan> {
+    comparison::compare(network, plans, ledgers)
 }

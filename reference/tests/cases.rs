@@ -3,10 +3,10 @@
 
 use plancheck_reference::cases::{
     accepted_cases, checksum, decode, draw_full_size, draw_small_size, encode, random_cases,
-    shuffled_listing, stored_cases, Answer, Call, Case, Maker, Outcome, Question, Random, Scenario,
-    Traffic, LARGEST,
+    shuffled_listing, stored_cases, Answer, Call, Case, Maker, Question, Random, Scenario, Traffic,
+    LARGEST,
 };
-use plancheck_reference::{check_plan, plan_from_listing, Refusal};
+use plancheck_reference::{check_plan, plan_from_listing, Comparison, Order, Refusal};
 use std::sync::OnceLock;
 
 /// The stored cases, made once for all tests.
@@ -301,12 +301,32 @@ fn the_stored_cases_leave_nothing_out() {
         "34: the run that ends first, not the one left first",
         "run that counts or not",
         "damaged sheet",
+        "two plans",
+        "plan with itself",
+        "one thousandth ahead",
+        "one thousandth behind",
+        "first plan refused",
+        "second plan refused",
+        "both plans refused",
+        "8: first ledger",
+        "8: second ledger",
+        "8: both ledgers",
+        "9: first plan before the second ledger",
+        "9: second plan unfinished",
+        "4: network before both plans",
+        "empty plan compared",
         "padded: plan passes",
         "padded: network passes",
         "padded: state of a link",
     ] {
         let named = count(&|case| case.name == name);
         assert!(named >= 3, "{name}: {named} cases");
+    }
+    for wanted in [Order::Ahead, Order::Behind, Order::Equal, Order::Crossing] {
+        let compared = count(
+            &|case| matches!(case.outcome.answer, Answer::Compared(Comparison { order, .. }) if order == wanted),
+        );
+        assert!(compared >= 5, "{wanted:?}: {compared} cases");
     }
     for call in [Call::CheckNetwork, Call::CheckPlan, Call::PlanFromListing] {
         let padded = count(&|case| case.question.call == call && case.name.starts_with("padded: "));
@@ -328,8 +348,7 @@ fn the_stored_form_can_be_read_back() {
     for (case, (question, answer, sum)) in cases.iter().zip(&stored) {
         assert_eq!(&case.question, question);
         assert_eq!(&case.outcome.answer, answer);
-        let Outcome { ledger, buffer, .. } = &case.outcome;
-        assert_eq!(checksum(ledger, buffer), *sum);
+        assert_eq!(case.outcome.checksum(), *sum);
     }
     assert!(decode(&bytes[..bytes.len() - 1]).is_none());
 }

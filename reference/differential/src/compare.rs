@@ -1,9 +1,11 @@
 //! One input, judged by both.
 
-use crate::declarations::{CountsResult, LinkResult, NetworkResult, PlanResult, TextResult};
+use crate::declarations::{
+    ComparisonResult, CountsResult, LinkResult, NetworkResult, PlanResult, TextResult,
+};
 use crate::library;
 use plancheck_reference::cases::{Answer, Call, Outcome, Question};
-use plancheck_reference::{Network, State, Totals};
+use plancheck_reference::{Network, Order, Refusal, RefusedPlan, State, Totals};
 
 /// What stands on both sides of what is lent, to see that nothing is written there.
 const NUMBER_GUARD: u32 = 0xA5C3_96F0;
@@ -17,6 +19,7 @@ pub enum Given {
     Plan(PlanResult),
     Link(LinkResult),
     Text(TextResult),
+    Comparison(ComparisonResult),
 }
 
 /// What the library gave for an input, and what it left in ledger and buffer.
@@ -24,6 +27,7 @@ pub enum Given {
 pub struct Asked {
     pub given: Given,
     pub ledger: Vec<u32>,
+    pub second_ledger: Vec<u32>,
     pub buffer: Vec<u8>,
     pub is_guard_kept: bool,
 }
@@ -39,6 +43,7 @@ impl Compared {
     pub fn agree(&self) -> bool {
         self.expected == self.asked.given
             && self.outcome.ledger == self.asked.ledger
+            && self.outcome.second_ledger == self.asked.second_ledger
             && self.outcome.buffer == self.asked.buffer
             && self.asked.is_guard_kept
     }
@@ -55,15 +60,18 @@ pub fn compare(question: &Question) -> Option<Compared> {
     })
 }
 
-/// Lends the library a ledger and a buffer between guards.
+/// Lends the library the ledgers and the buffer between guards.
 fn ask(question: &Question) -> Option<Asked> {
     let mut ledger = Guarded::new(&question.ledger.numbers(), NUMBER_GUARD);
+    let mut second_ledger = Guarded::new(&question.second_ledger.numbers(), NUMBER_GUARD);
     let mut buffer = Guarded::new(&question.buffer.bytes(), BYTE_GUARD);
-    let given = ask_library(question, ledger.inside(), buffer.inside())?;
+    let ledgers = [ledger.inside(), second_ledger.inside()];
+    let given = ask_library(question, ledgers, buffer.inside())?;
     Some(Asked {
         given,
-        is_guard_kept: ledger.is_kept() && buffer.is_kept(),
+        is_guard_kept: ledger.is_kept() && second_ledger.is_kept() && buffer.is_kept(),
         ledger: ledger.inside().to_vec(),
+        second_ledger: second_ledger.inside().to_vec(),
         buffer: buffer.inside().to_vec(),
     })
 }
@@ -95,8 +103,9 @@ impl<T: Copy + PartialEq> Guarded<T> {
     }
 }
 
-fn ask_library(question: &Question, ledger: &mut [u32], buffer: &mut [u8]) -> Option<Given> {
+fn ask_library(question: &Question, ledgers: [&mut [u32]; 2], buffer: &mut [u8]) -> Option<Given> {
     let network = &question.network;
+    let [ledger, second_ledger] = ledgers;
     Some(match question.call {
         Call::CheckNetwork => Given::Network(
             library::check_network(network),
@@ -123,16 +132,22 @@ fn ask_library(question: &Question, ledger: &mut [u32], buffer: &mut [u8]) -> Op
         Call::PlanFromSheet => {
             Given::Text(library::plan_from_sheet(network, &question.plan, buffer))
         }
+        Call::ComparePlans => {
+            let plans = [&question.plan[..], &question.second];
+            let ledgers = [ledger, second_ledger];
+            Given::Comparison(library::compare_plans(network, plans, ledgers))
+        }
     })
 }
 
 /// The answer as the header puts it: number 0 where the call accepts, and 0 in each member that the answer does not name.
 fn in_numbers(question: &Question, answer: Answer) -> Given {
-    let (number, line, item) = match answer {
-        Answer::Refused(refusal) => (refusal.number, refusal.line, refusal.item),
-        _ => (0, 0, 0),
+    let (refusal, plan) = match answer {
+        Answer::Refused(refusal) => (refusal, 0),
+        Answer::RefusedPlan(RefusedPlan { refusal, plan }) => (refusal, plan),
+        _ => (Refusal::new(0, 0, 0), 0),
     };
-    let [number, line, item] = [number, line, item].map(narrow);
+    let [number, line, item] = [refusal.number, refusal.line, refusal.item].map(narrow);
     match question.call {
         Call::CheckNetwork => Given::Network(
             NetworkResult { number, line, item },
@@ -178,6 +193,29 @@ fn in_numbers(question: &Question, answer: Answer) -> Given {
                 length,
             })
         }
+        Call::ComparePlans => {
+            let (order, gap) = match answer {
+                Answer::Compared(compared) => (order_number(compared.order), compared.gap),
+                _ => (0, 0),
+            };
+            Given::Comparison(ComparisonResult {
+                number,
+                line,
+                item,
+                plan: narrow(plan),
+                order,
+                gap,
+            })
+        }
+    }
+}
+
+fn order_number(order: Order) -> u32 {
+    match order {
+        Order::Ahead => 1,
+        Order::Behind => 2,
+        Order::Equal => 3,
+        Order::Crossing => 4,
     }
 }
 

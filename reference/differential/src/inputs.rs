@@ -35,11 +35,15 @@ fn mutate(random: &mut Random, question: &Question) -> Question {
     if random.chance(3) {
         mutated.plan.clear();
     }
-    if random.chance(30) && question.call == Call::CheckSheet {
+    let has_second = matches!(question.call, Call::CheckSheet | Call::ComparePlans);
+    if random.chance(30) && has_second {
         mutated.second = damage(random, &question.second);
     }
     if random.chance(30) {
         mutated.ledger = mutate_ledger(random, &question.ledger);
+    }
+    if random.chance(10) {
+        mutated.second_ledger.length = draw_room(random, question.second_ledger.length);
     }
     if random.chance(30) {
         mutated.buffer.length = draw_room(random, question.buffer.length);

@@ -1,6 +1,8 @@
 //! The calls of the C library on slices, with all that they give.
 
-use crate::declarations::{self, CountsResult, LinkResult, NetworkResult, PlanResult, TextResult};
+use crate::declarations::{
+    self, ComparisonResult, CountsResult, LinkResult, NetworkResult, PlanResult, TextResult,
+};
 
 // SAFETY of all: a slice gives an aligned pointer that is not null, readable (and, where it is mutable, writable) for its length, and
 // no other reference reaches what a mutable one does. The header asks for no more.
@@ -76,6 +78,28 @@ pub fn plan_from_sheet(network: &[u8], sheet: &[u8], plan: &mut [u8]) -> TextRes
             sheet.len(),
             plan.as_mut_ptr(),
             plan.len(),
+        )
+    }
+}
+
+pub fn compare_plans(
+    network: &[u8],
+    plans: [&[u8]; 2],
+    ledgers: [&mut [u32]; 2],
+) -> ComparisonResult {
+    let [first_ledger, second_ledger] = ledgers;
+    unsafe {
+        declarations::plancheck_compare_plans(
+            network.as_ptr(),
+            network.len(),
+            plans[0].as_ptr(),
+            plans[0].len(),
+            plans[1].as_ptr(),
+            plans[1].len(),
+            first_ledger.as_mut_ptr(),
+            first_ledger.len(),
+            second_ledger.as_mut_ptr(),
+            second_ledger.len(),
         )
     }
 }

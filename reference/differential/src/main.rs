@@ -20,7 +20,7 @@ use std::process::ExitCode;
 /// After so many differences nothing more is learnt.
 const MOST_DIFFERENCES: u64 = 20;
 
-const CALLS: [&str; 7] = [
+const CALLS: [&str; 8] = [
     "check_network",
     "check_plan",
     "link_state",
@@ -28,6 +28,7 @@ const CALLS: [&str; 7] = [
     "carry_on",
     "check_sheet",
     "plan_from_sheet",
+    "compare_plans",
 ];
 
 #[derive(Default)]
@@ -90,6 +91,7 @@ fn judge(counts: &mut Counts, seed: u64, index: usize, question: &Question) -> O
     counts.inputs += 1;
     let number = match compared.outcome.answer {
         Answer::Refused(refusal) => refusal.number,
+        Answer::RefusedPlan(refused) => refused.refusal.number,
         _ => 0,
     };
     let key = (name_of(question.call), number);
@@ -110,6 +112,7 @@ fn name_of(call: Call) -> &'static str {
         Call::CarryOn { .. } => "carry_on",
         Call::CheckSheet => "check_sheet",
         Call::PlanFromSheet => "plan_from_sheet",
+        Call::ComparePlans => "compare_plans",
     }
 }
 
@@ -124,8 +127,11 @@ fn tell_difference(seed: u64, index: usize, question: &Question, compared: &Comp
         println!("the library wrote outside of what it was lent");
     }
     tell_place("ledger", &compared.outcome.ledger, &compared.asked.ledger);
+    let expected = &compared.outcome.second_ledger;
+    tell_place("second ledger", expected, &compared.asked.second_ledger);
     tell_place("buffer", &compared.outcome.buffer, &compared.asked.buffer);
     println!("ledger of {} numbers", question.ledger.length);
+    println!("second of {}", question.second_ledger.length);
     println!("buffer of {} bytes", question.buffer.length);
     println!("network: {}", question.network.escape_ascii());
     println!("plan, listing or sheet: {}", question.plan.escape_ascii());

@@ -6,6 +6,7 @@
 //! each case with its number, its answer and what it is about.
 
 use plancheck_reference::cases::{encode, stored_cases, Answer, Case};
+use plancheck_reference::RefusedPlan;
 use std::process::ExitCode;
 
 fn main() -> ExitCode {
@@ -55,6 +56,11 @@ fn index_text(cases: &[Case]) -> String {
             Answer::PlanAccepted(_) => "plan accepted".to_string(),
             Answer::State(_) => "state".to_string(),
             Answer::Written(length) => format!("written {length}"),
+            Answer::Compared(compared) => format!("{:?}, gap {}", compared.order, compared.gap),
+            Answer::RefusedPlan(RefusedPlan { refusal, plan }) => format!(
+                "refused {} {} {} of {plan}",
+                refusal.number, refusal.line, refusal.item
+            ),
             Answer::Refused(refusal) => format!(
                 "refused {} {} {}",
                 refusal.number, refusal.line, refusal.item
@@ -85,6 +91,14 @@ fn print_summary(cases: &[Case], size: usize) {
     println!(
         "written\t{}",
         count(&|answer| matches!(answer, Answer::Written(_)))
+    );
+    println!(
+        "compared\t{}",
+        count(&|answer| matches!(answer, Answer::Compared(_)))
+    );
+    println!(
+        "refused in a comparison\t{}",
+        count(&|answer| matches!(answer, Answer::RefusedPlan(_)))
     );
     for number in (1..=6).chain(8..=35) {
         let refused =

@@ -16,6 +16,7 @@ fn main() -> std::io::Result<()> {
         plan: Vec::new(),
         second: Vec::new(),
         ledger: Ledger::default(),
+        second_ledger: Ledger::default(),
         buffer: Buffer::default(),
         call: Call::CheckPlan,
     };

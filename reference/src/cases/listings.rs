@@ -191,6 +191,7 @@ impl Maker {
             plan: listing,
             second: Vec::new(),
             ledger: Ledger::default(),
+            second_ledger: Ledger::default(),
             buffer: self.draw_buffer(room),
             call: Call::PlanFromListing,
         }

@@ -3,7 +3,7 @@
 use super::{refused, Answer, Maker, Texts};
 use crate::Totals;
 
-const NETWORK: &str = "N\t2\t1\t1\t4\t0\t0\n\
+pub const NETWORK: &str = "N\t2\t1\t1\t4\t0\t0\n\
     G\t20\t60\t2\t2\t10\t20\t10\t30\t10\t30\n\
     Q\t60000\t10\t0\t1\t1\t0\t0\n\
     Q\t60000\t10\t500\t0\t0\t0\t0\n\
@@ -13,7 +13,7 @@ const NETWORK: &str = "N\t2\t1\t1\t4\t0\t0\n\
     S\t10\t0\t0\n\
     S\t10\t0\t0\n";
 
-const PLAN: &str = "P\t1\t5000\t0\t0\t0\t0\n\
+pub const PLAN: &str = "P\t1\t5000\t0\t0\t0\t0\n\
     P\t1\t0\t0\t0\t0\t3000\n\
     P\t1\t0\t0\t0\t3000\t2000\n\
     P\t2\t0\t0\t0\t2000\t0\n";

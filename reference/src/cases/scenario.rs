@@ -90,6 +90,28 @@ impl Scenario {
         }
     }
 
+    /// Two plans that one network accepts; the signals show the same in both.
+    pub fn make_pair(
+        random: &mut Random,
+        size: Size,
+        traffic: [Traffic; 2],
+    ) -> (Scenario, Scenario) {
+        let past = draw_past(random, size);
+        let steps = past + size.steps;
+        let first = Scenario::make_from_start(random, Size { steps, ..size }, traffic[0]);
+        let mut second = first.cut(past);
+        second.network = first.network.clone();
+        for index in past..steps {
+            second.shown.push(first.shown[index + 1].clone());
+            let masks = first.plan[index].masks.clone();
+            simulate_step(random, &mut second, traffic[1], masks);
+        }
+        match past {
+            0 => (first, second),
+            past => (first.carried(past), second.carried(past)),
+        }
+    }
+
     fn make_from_start(random: &mut Random, size: Size, traffic: Traffic) -> Scenario {
         let lengths = draw_lengths(random, size.steps, traffic);
         let trams = draw_trams(random, size);

@@ -8,7 +8,7 @@
 //!
 //! ```text
 //! 8 bytes  "PLANCASE"
-//! u32      version of this form: 3
+//! u32      version of this form: 4
 //! u32      number of cases
 //! u32      greatest length of a network text, in bytes
 //! u32      greatest length of a plan text, listing or sheet, in bytes
@@ -33,19 +33,24 @@
 //! u32      what each byte of the buffer is before the call
 //! u32      call: 1 check a network, 2 check a plan, 3 state of one link,
 //!          4 plan from a listing, 5 carry on from a boundary, 6 check a sheet,
-//!          7 plan from a sheet
+//!          7 plan from a sheet, 8 compare two plans
 //! u64      boundary (0 unless the call is 3 or 5)
 //! u64      link (0 unless the call is 3)
-//! u32      only if the call is 6: length of the sheet; its bytes follow
+//! u32      only if the call is 6 or 8: length of the sheet, or of the second
+//!          plan; its bytes follow
+//! u32 x 2  only if the call is 8: length and fill of the second plan's ledger,
+//!          which has no given numbers
 //! u32      answer: 0 network accepted, 1 plan accepted, 2 state, 3 refused,
-//!          4 written
+//!          4 written, 5 compared
 //! u64 x 4  numbers of the answer
 //!            0: 0, 0, 0, 0
 //!            1: admitted, let out, inside, doubled travel time
 //!            2: queued (standing), in transit (moving), 0, 0
-//!            3: refusal number, line, item, 0
+//!            3: refusal number, line, item, plan (0 unless the call is 8)
 //!            4: length of the written text, 0, 0, 0
-//! u64      checksum of the whole ledger and the whole buffer after the call
+//!            5: order (1 ahead, 2 behind, 3 equal, 4 crossing), gap (modulo
+//!               2^64), 0, 0
+//! u64      checksum of the whole ledgers and the whole buffer after the call
 //! ```
 //!
 //! The first case gives both texts and the ledger's start in full. "The same
@@ -53,18 +58,19 @@
 //! taken over in turn. A text that a call has no use for (the plan in calls 1
 //! and 3) is there all the same.
 //!
-//! The checksum is FNV-1a of 64 bits over the ledger's numbers in order, each
-//! as four bytes, the lowest first, then over the buffer's bytes: start with 0xCBF29CE484222325; for each
+//! The checksum is FNV-1a of 64 bits over the ledger's numbers in order, each as
+//! four bytes, the lowest first, then likewise over those of the second plan's
+//! ledger, then over the buffer's bytes: start with 0xCBF29CE484222325; for each
 //! byte, exclusive-or it in, then multiply by 0x100000001B3, modulo 2^64.
 //!
 //! In a few cases of calls 3 and 5 the boundary or the link is above 4,294,967,295; a
 //! program whose call takes 32-bit numbers passes those over.
 
-use super::{checksum, Answer, Buffer, Call, Case, Ledger, Outcome, Question};
-use crate::{Refusal, State, Totals};
+use super::{Answer, Buffer, Call, Case, Ledger, Question};
+use crate::{Comparison, Order, Refusal, RefusedPlan, State, Totals};
 
 const MAGIC: &[u8; 8] = b"PLANCASE";
-const VERSION: u32 = 3;
+const VERSION: u32 = 4;
 const SAME: u32 = u32::MAX;
 
 /// The stored form of cases.
@@ -81,7 +87,7 @@ pub fn encode(cases: &[Case]) -> Vec<u8> {
         cases.len() as u32,
         greatest(|question| question.network.len()),
         greatest(|question| question.plan.len().max(question.second.len())),
-        greatest(|question| question.ledger.length),
+        greatest(|question| question.ledger.length.max(question.second_ledger.length)),
         greatest(|question| question.buffer.length),
     ] {
         bytes.extend(number.to_le_bytes());
@@ -133,21 +139,28 @@ fn encode_case(bytes: &mut Vec<u8>, case: &Case, before: Option<&Question>) {
         Call::CarryOn { boundary } => (5, boundary, 0),
         Call::CheckSheet => (6, 0, 0),
         Call::PlanFromSheet => (7, 0, 0),
+        Call::ComparePlans => (8, 0, 0),
     };
     bytes.extend(call.to_le_bytes());
     bytes.extend(boundary.to_le_bytes());
     bytes.extend(link.to_le_bytes());
-    if question.call == Call::CheckSheet {
+    if matches!(question.call, Call::CheckSheet | Call::ComparePlans) {
         bytes.extend((question.second.len() as u32).to_le_bytes());
         bytes.extend(&question.second);
     }
+    if question.call == Call::ComparePlans {
+        let Ledger { length, fill, .. } = question.second_ledger;
+        bytes.extend((length as u32).to_le_bytes());
+        bytes.extend(fill.to_le_bytes());
+    }
+    encode_answer(bytes, case.outcome.answer);
+    bytes.extend(case.outcome.checksum().to_le_bytes());
+}
 
-    let Outcome {
-        answer,
-        ledger,
-        buffer,
-    } = &case.outcome;
-    let (kind, numbers) = match *answer {
+const ORDERS: [Order; 4] = [Order::Ahead, Order::Behind, Order::Equal, Order::Crossing];
+
+fn encode_answer(bytes: &mut Vec<u8>, answer: Answer) {
+    let (kind, numbers) = match answer {
         Answer::NetworkAccepted => (0u32, [0; 4]),
         Answer::PlanAccepted(totals) => (
             1,
@@ -160,13 +173,20 @@ fn encode_case(bytes: &mut Vec<u8>, case: &Case, before: Option<&Question>) {
         ),
         Answer::State(state) => (2, [state.queued, state.in_transit, 0, 0]),
         Answer::Refused(refusal) => (3, [refusal.number, refusal.line, refusal.item, 0]),
+        Answer::RefusedPlan(RefusedPlan { refusal, plan }) => {
+            (3, [refusal.number, refusal.line, refusal.item, plan])
+        }
         Answer::Written(length) => (4, [length, 0, 0, 0]),
+        Answer::Compared(Comparison { order, gap }) => {
+            let place = ORDERS.iter().position(|&other| other == order);
+            let place = place.expect("all orders are listed");
+            (5, [place as u64 + 1, gap as u64, 0, 0])
+        }
     };
     bytes.extend(kind.to_le_bytes());
     for number in numbers {
         bytes.extend(number.to_le_bytes());
     }
-    bytes.extend(checksum(ledger, buffer).to_le_bytes());
 }
 
 /// A stored case: its question, its answer and the checksum of what is written.
@@ -248,15 +268,42 @@ impl<'a> Reader<'a> {
             5 => Call::CarryOn { boundary },
             6 => Call::CheckSheet,
             7 => Call::PlanFromSheet,
+            8 => Call::ComparePlans,
             _ => return None,
         };
         let second = match call {
-            Call::CheckSheet => self.text(None)?,
+            Call::CheckSheet | Call::ComparePlans => self.text(None)?,
             _ => Vec::new(),
         };
+        let second_ledger = match call {
+            Call::ComparePlans => Ledger {
+                length: self.u32()? as usize,
+                start: Vec::new(),
+                fill: self.u32()?,
+            },
+            _ => Ledger::default(),
+        };
+        let answer = self.answer(call)?;
+        let question = Question {
+            network,
+            plan,
+            second,
+            ledger: Ledger {
+                length,
+                start,
+                fill,
+            },
+            second_ledger,
+            buffer,
+            call,
+        };
+        Some((question, answer, self.u64()?))
+    }
+
+    fn answer(&mut self, call: Call) -> Option<Answer> {
         let kind = self.u32()?;
         let numbers = [self.u64()?, self.u64()?, self.u64()?, self.u64()?];
-        let answer = match kind {
+        Some(match kind {
             0 => Answer::NetworkAccepted,
             1 => Answer::PlanAccepted(Totals {
                 admitted: numbers[0],
@@ -268,22 +315,20 @@ impl<'a> Reader<'a> {
                 queued: numbers[0],
                 in_transit: numbers[1],
             }),
-            3 => Answer::Refused(Refusal::new(numbers[0], numbers[1], numbers[2])),
+            3 => {
+                let [number, line, item, plan] = numbers;
+                let refusal = Refusal::new(number, line, item);
+                match call {
+                    Call::ComparePlans => Answer::RefusedPlan(RefusedPlan { refusal, plan }),
+                    _ => Answer::Refused(refusal),
+                }
+            }
             4 => Answer::Written(numbers[0]),
+            5 => Answer::Compared(Comparison {
+                order: *ORDERS.get((numbers[0] as usize).checked_sub(1)?)?,
+                gap: numbers[1] as i64,
+            }),
             _ => return None,
-        };
-        let question = Question {
-            network,
-            plan,
-            second,
-            ledger: Ledger {
-                length,
-                start,
-                fill,
-            },
-            buffer,
-            call,
-        };
-        Some((question, answer, self.u64()?))
+        })
     }
 }
