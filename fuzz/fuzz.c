@@ -5,7 +5,8 @@
  *   - its number is one that the call tells, and all else is 0 where it is not 0;
  *   - only the rows of the boundaries that passed, or the bytes of the text that was written, have changed;
  *   - a network that is carried on is valid, and has the steps that are left;
- *   - a plan that is written for a sheet has the masks of the sheet's cycle.
+ *   - a plan that is written for a sheet has the masks of the sheet's cycle;
+ *   - a plan that is ahead has a negative gap, one that is equal the gap 0, and two plans swapped are compared the other way round.
  * Before that every pointer is NULL once, with length 0.
  */
 #include "inputs.h"
@@ -20,7 +21,7 @@ enum { EXAMPLES = 4, AVENUE = 1, LEDGER_ROOM = 512, BUFFER_ROOM = 8192, DOUBLES_
 static struct example examples[EXAMPLES];
 static struct text corridor, sheet, offsets;
 
-static struct region network_region, text_region, second_region, ledger_region, buffer_region, places_region, advances_region, lines_region;
+static struct region network_region, text_region, second_region, ledger_region, second_ledger_region, buffer_region, places_region, advances_region, lines_region;
 
 static uint64_t seed, input;
 
@@ -101,13 +102,18 @@ static void try_counts(void)
     count_number(counts[0].number);
 }
 
-/* A ledger of so many numbers, each of them `before`. */
-static uint32_t *some_ledger(size_t numbers, uint32_t before, int at_end)
+/* A ledger of so many numbers in a region, each of them `before`. */
+static uint32_t *ledger_in(struct region region, size_t numbers, uint32_t before, int at_end)
 {
-    uint32_t *ledger = place(ledger_region, 4 * numbers, at_end);
+    uint32_t *ledger = place(region, 4 * numbers, at_end);
     for (size_t k = 0; k < numbers; k++)
         ledger[k] = before;
     return ledger;
+}
+
+static uint32_t *some_ledger(size_t numbers, uint32_t before, int at_end)
+{
+    return ledger_in(ledger_region, numbers, before, at_end);
 }
 
 static plancheck_plan_result ask_plan(const struct text *network, const struct text *plan, uint32_t *ledger, size_t numbers, int at_end)
@@ -209,6 +215,95 @@ static void try_sheet(void)
     asked.numbers = below(10) == 0 ? below(LEDGER_ROOM) : LEDGER_ROOM;
     uint32_t number = judge_twice(&asked).number;
     DEMAND(number == 0 || is_plan_number(number) || number == PLANCHECK_SHEET_VALUES || number == PLANCHECK_SHEET_NOT_KEPT);
+}
+
+struct comparing {
+    struct text network, plans[2];
+    size_t numbers[2];
+};
+
+/* Compares two plans, with ledgers whose numbers are all `before`, and keeps what the ledgers hold then. */
+static plancheck_comparison_result ask_comparing(const struct comparing *asked, uint32_t before, uint32_t kept[2][LEDGER_ROOM], int at_end)
+{
+    const uint8_t *network_lent = lend(network_region, asked->network.bytes, asked->network.length, at_end);
+    const uint8_t *first_lent = lend(text_region, asked->plans[0].bytes, asked->plans[0].length, at_end);
+    const uint8_t *second_lent = lend(second_region, asked->plans[1].bytes, asked->plans[1].length, at_end);
+    uint32_t *first = ledger_in(ledger_region, asked->numbers[0], before, at_end), *second = ledger_in(second_ledger_region, asked->numbers[1], before, at_end);
+    plancheck_comparison_result result = plancheck_compare_plans(network_lent, asked->network.length, first_lent, asked->plans[0].length, second_lent,
+                                                                 asked->plans[1].length, first, asked->numbers[0], second, asked->numbers[1]);
+    memcpy(kept[0], first, 4 * asked->numbers[0]);
+    memcpy(kept[1], second, 4 * asked->numbers[1]);
+    return result;
+}
+
+static int same_comparison(const plancheck_comparison_result *a, const plancheck_comparison_result *b)
+{
+    return a->number == b->number && a->line == b->line && a->item == b->item && a->plan == b->plan && a->order == b->order && a->gap == b->gap;
+}
+
+/* Two accepted plans: by their order and gap, and the other way round. */
+static void demand_compared(struct comparing *asked, const plancheck_comparison_result *told)
+{
+    static uint32_t kept[2][LEDGER_ROOM];
+    struct text first = asked->plans[0];
+    asked->plans[0] = asked->plans[1];
+    asked->plans[1] = first;
+    plancheck_comparison_result swapped = ask_comparing(asked, 0, kept, 0);
+    DEMAND(told->plan == 0 && swapped.number == 0 && swapped.gap == -told->gap);
+    switch (told->order) {
+    case PLANCHECK_AHEAD:
+        DEMAND(told->gap < 0 && swapped.order == PLANCHECK_BEHIND);
+        break;
+    case PLANCHECK_BEHIND:
+        DEMAND(told->gap > 0 && swapped.order == PLANCHECK_AHEAD);
+        break;
+    case PLANCHECK_EQUAL:
+        DEMAND(told->gap == 0 && swapped.order == PLANCHECK_EQUAL);
+        break;
+    default:
+        DEMAND(told->order == PLANCHECK_CROSSING && swapped.order == PLANCHECK_CROSSING);
+    }
+}
+
+/* How many numbers of the ledger of plan `which` the comparison may have written. */
+static size_t compared_numbers(const plancheck_counts_result *counts, const plancheck_comparison_result *told, uint32_t which)
+{
+    if (told->plan == which)
+        return written_numbers(counts, counts->steps, told->number, told->line);
+    int is_accepted = told->number == 0 || told->plan > which;
+    return is_accepted ? 2 * (size_t)counts->links * (counts->steps + 1) : 0;
+}
+
+static void try_comparison(void)
+{
+    static struct comparing asked;
+    static uint32_t kept[2][2][LEDGER_ROOM];
+    const struct example *example = &examples[below(EXAMPLES)];
+    some_network(example, &asked.network);
+    for (int k = 0; k < 2; k++) {
+        asked.plans[k] = example->plan;
+        if (below(2) == 0)
+            damage(&asked.plans[k]);
+        if (below(8) == 0)
+            asked.plans[k].length = 0;
+        asked.numbers[k] = below(10) == 0 ? below(LEDGER_ROOM) : LEDGER_ROOM;
+    }
+    plancheck_comparison_result told = ask_comparing(&asked, 0xaaaaaaaau, kept[0], 1), again = ask_comparing(&asked, 0x55555555u, kept[1], 0);
+    DEMAND(same_comparison(&told, &again));
+    plancheck_counts_result counts = plancheck_network_counts(asked.network.bytes, asked.network.length);
+    for (uint32_t which = 0; which < 2; which++) {
+        size_t written = is_network_number(told.number) ? 0 : compared_numbers(&counts, &told, which + 1);
+        DEMAND(written <= asked.numbers[which]);
+        for (size_t k = 0; k < asked.numbers[which]; k++)
+            DEMAND(k < written ? kept[0][which][k] == kept[1][which][k] : kept[0][which][k] == 0xaaaaaaaau && kept[1][which][k] == 0x55555555u);
+    }
+    if (told.number == 0) {
+        if (asked.numbers[0] == asked.numbers[1])
+            demand_compared(&asked, &told);
+    } else {
+        DEMAND(is_plan_number(told.number) && told.plan <= 2 && (told.plan == 0) == is_network_number(told.number) && told.order == 0 && told.gap == 0);
+    }
+    count_number(told.number);
 }
 
 static plancheck_link_result ask_link(const struct text *network, const uint32_t *numbers, size_t count, uint32_t boundary, uint32_t link, int at_end)
@@ -468,6 +563,10 @@ static void try_null(void)
     DEMAND(plancheck_plan_from_listing(network->bytes, network->length, NULL, 0, NULL, 0).number == 24);
     static uint8_t buffer[PLANCHECK_WRITTEN_PLAN_MAX];
     DEMAND(plancheck_plan_from_listing(network->bytes, network->length, NULL, 0, buffer, sizeof buffer).number == 0);
+    plancheck_comparison_result compared = plancheck_compare_plans(network->bytes, network->length, plan->bytes, plan->length, NULL, 0, ledger, PLANCHECK_LEDGER_MAX, NULL, 0);
+    DEMAND(compared.number == 8 && compared.plan == 2);
+    DEMAND(plancheck_compare_plans(network->bytes, network->length, NULL, 0, NULL, 0, NULL, 0, NULL, 0).plan == 1);
+    DEMAND(plancheck_compare_plans(NULL, 0, NULL, 0, NULL, 0, NULL, 0, NULL, 0).number == 1);
     DEMAND(plancheck_check_sheet(NULL, 0, NULL, 0, NULL, 0, NULL, 0).number == 1);
     DEMAND(plancheck_check_sheet(network->bytes, network->length, NULL, 0, NULL, 0, NULL, 0).number == 33);
     DEMAND(plancheck_plan_from_sheet(NULL, 0, NULL, 0, NULL, 0).number == 1);
@@ -514,6 +613,7 @@ int main(int count, char **arguments)
     text_region = new_region(TEXT_MAX);
     second_region = new_region(TEXT_MAX);
     ledger_region = new_region(4 * LEDGER_ROOM);
+    second_ledger_region = new_region(4 * LEDGER_ROOM);
     buffer_region = new_region(BUFFER_ROOM);
     places_region = new_region(sizeof(double) * DOUBLES_ROOM);
     advances_region = new_region(sizeof(double) * DOUBLES_ROOM);
@@ -522,7 +622,7 @@ int main(int count, char **arguments)
     plancheck_version_result version = plancheck_version();
     DEMAND(version.major == PLANCHECK_VERSION_MAJOR && version.minor == PLANCHECK_VERSION_MINOR && version.patch == PLANCHECK_VERSION_PATCH);
     try_null();
-    static void (*const calls[])(void) = {try_network, try_counts, try_plan, try_plan, try_link, try_carry, try_listing, try_sheet, try_sheet_plan, try_cells, try_vehicles};
+    static void (*const calls[])(void) = {try_network, try_counts, try_plan, try_plan, try_comparison, try_link, try_carry, try_listing, try_sheet, try_sheet_plan, try_cells, try_vehicles};
     for (input = 0; input < inputs; input++)
         calls[below(sizeof calls / sizeof calls[0])]();
     for (uint32_t number = 0; number < sizeof told / sizeof told[0]; number++)

@@ -3,6 +3,7 @@
 mod carry;
 mod cells;
 mod check;
+mod compare;
 mod explain;
 mod listing;
 mod make;
@@ -20,6 +21,7 @@ pub const ALL: &[Command] = &[
     report::COMMAND,
     states::COMMAND,
     rank::COMMAND,
+    compare::COMMAND,
     carry::COMMAND,
     listing::COMMAND,
     sheet::COMMAND,

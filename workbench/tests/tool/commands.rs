@@ -8,7 +8,7 @@ fn usage_tells_the_commands_that_there_are() {
     let said = workbench(&[]);
     assert_eq!(said.status, 0);
     for name in [
-        "check", "explain", "report", "states", "rank", "carry", "listing", "sheet", "cells", "make",
+        "check", "explain", "report", "states", "rank", "compare", "carry", "listing", "sheet", "cells", "make",
     ] {
         assert!(said.out.contains(&format!("\n  {name} ")), "{name}");
     }
@@ -34,6 +34,7 @@ fn wrong_commands() {
         &["make", "1", "y", "--plans"],
         &["report"],
         &["explain"],
+        &["compare", "a", "b"],
         &["sheet", "a"],
         &["sheet", "a", "b", "c", "d"],
     ] {
@@ -183,14 +184,66 @@ fn carry_writes_the_network_from_a_boundary_on() {
     assert!(said.err.contains("refused with 31"), "{}", said.err);
     let said = workbench(&["carry", &network, "8", &plan]);
     assert_eq!((said.status, said.out.as_str()), (1, ""));
-    assert!(said.err.contains("refused with 9 in step 9 (line 9 of the plan text"), "{}", said.err);
+    assert!(
+        said.err.contains("refused with 9 in step 9 (line 9 of the plan text"),
+        "{}",
+        said.err
+    );
 }
 
 #[test]
 fn check_accepts_a_network_with_a_past() {
     let said = workbench(&["check", &example("carry")]);
     assert_eq!(said.status, 0);
-    assert!(said.out.ends_with("travel time        9835.6175 vehicle seconds\n"), "{}", said.out);
+    assert!(
+        said.out.ends_with("travel time        9835.6175 vehicle seconds\n"),
+        "{}",
+        said.out
+    );
+}
+
+#[test]
+fn compare_tells_which_plan_is_ahead() {
+    let network = example("corridor/network.tsv");
+    let quick = example("corridor/plan.tsv");
+    let folder = scratch("compare");
+    let slow = folder.join("slow.tsv");
+    let text = fs::read_to_string(&quick).unwrap();
+    fs::write(
+        &slow,
+        text.replace("P\t1\t0\t0\t0\t3000\t2000", "P\t1\t0\t0\t0\t1000\t2000"),
+    )
+    .unwrap();
+    let slow = slow.display().to_string();
+    let said = workbench(&["compare", &network, &quick, &slow]);
+    assert_eq!(said.status, 0);
+    assert_eq!(
+        said.out,
+        "ahead: the first plan has never let out fewer than the second, and at some boundary more\n\
+         the first plan takes 30 vehicle seconds less\n"
+    );
+    let said = workbench(&["compare", &network, &slow, &quick]);
+    assert!(
+        said.out.starts_with("behind: ") && said.out.ends_with("takes 30 vehicle seconds more\n"),
+        "{}",
+        said.out
+    );
+    let said = workbench(&["compare", &network, &quick, &quick]);
+    assert!(
+        said.out.starts_with("equal: ") && said.out.ends_with("take the same travel time\n"),
+        "{}",
+        said.out
+    );
+
+    let broken = folder.join("broken.tsv");
+    fs::write(&broken, "P\t3\t0\t0\t0\t0\t0\n").unwrap();
+    let said = workbench(&["compare", &network, &quick, &broken.display().to_string()]);
+    assert_eq!(said.status, 1);
+    assert!(
+        said.out.starts_with("second plan: refused with 10 in step 1 "),
+        "{}",
+        said.out
+    );
 }
 
 #[test]
