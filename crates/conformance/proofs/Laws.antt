@@ -4,7 +4,7 @@ use Prim.Native.Nat.{ℕ, _+_, _*_, _-_, _<_, _≤_}
 use native.Mathlib.Numerals.{add-one}
 use mathlib.Core.Path.{_≡_, ap, sym, _∙_}
 use mathlib.Core.Bool.{Bool, true, false, cond}
-use mathlib.Core.List.{List, _++_, append-nil}
+use mathlib.Core.List.{List, [], _++_, append-nil}
 use native.Mathlib.Omega.{arith}
 use borrow.Author.Count.{below-more}
 use borrow.Author.Tests.{ne-eqb, lt-ltb, le-ltb, leb-true}
@@ -26,11 +26,13 @@ use Rattle.carry_model.specs.Call.{plannedOn}
 use Rattle.carry_model.specs.CarriesOn.{CarriedOn}
 use Rattle.sheet_model.specs.declared.SheetAnswer.{SheetAnswer}
 use Rattle.sheet_model.specs.Promises.{SheetPromises, WritePromises}
-use Rattle.conformance_cases.specs.Outcome.{networkOutcome, planOutcome, linkOutcome, listingOutcome, carryOutcome, sheetOutcome}
+use Rattle.comparison.specs.declared.ComparisonAnswer.{ComparisonAnswer}
+use Rattle.comparison.specs.Comparison.{comparePlans, secondLedgerAfter}
+use Rattle.conformance_cases.specs.Outcome.{networkOutcome, planOutcome, linkOutcome, listingOutcome, carryOutcome, sheetOutcome, comparisonOutcome}
 use Rattle.conformance_cases.specs.declared.outcome.Outcome.{Outcome}
 use Rattle.conformance_cases.specs.declared.stored.LedgerForm.{LedgerForm}
 use Rattle.conformance_cases.specs.declared.stored.Question.{Question}
-use Rattle.conformance.specs.Compare.{validQuestion, heldAt, Filled, bufferBefore, answerTo, ledgerTo, bufferTo, checksumTo, asStored, placeIn, Judged, CaseCounted, OneMore, Counted, more}
+use Rattle.conformance.specs.Compare.{validQuestion, heldAt, Filled, bufferBefore, answerAlone, ledgerAlone, bufferTo, answerTo, ledgerTo, secondLedgerTo, checksumTo, asStored, placeIn, Judged, CaseCounted, OneMore, Counted, more}
 use Rattle.conformance.specs.Tally.{answers, different, passedOver, refusalOf, placeOf, counted}
 use Rattle.conformance_cases.specs.Checksum.{checksumOf}
 
@@ -56,7 +58,7 @@ filled-whole buffer fill n h l =
     rw (drop-of-length-le buffer h, append-nil, e)
 
 module _ (question : Question) (valid : validQuestion question ≡ true) where
-  pub valid-call : (1 ≤ question .call) × (question .call ≤ 7)
+  pub valid-call : (1 ≤ question .call) × (question .call ≤ 8)
   unfolding validQuestion within
   valid-call =
       let h = and-left _ _ valid in
@@ -67,97 +69,125 @@ module _ (question : Question) (valid : validQuestion question ≡ true) where
   valid-fill = leb-true _ _ (and-right _ _ valid)
 
 module _ (network plan second ledger buffer : List ℕ) (question : Question) where
-  -- what is given and left is what the definitions say
-  abbrev pub Answered : Outcome → List ℕ → List ℕ → Type 0
-  Answered given left written =
-      (given ≡ answerTo network plan second ledger buffer question)
-      × ((left ≡ ledgerTo network plan second ledger question) × (written ≡ bufferTo network plan ledger buffer question))
+  -- what is given and left is what the definitions say, where there is one ledger
+  abbrev pub AnsweredAlone : Outcome → List ℕ → List ℕ → Type 0
+  AnsweredAlone given left written =
+      (given ≡ answerAlone network plan second ledger buffer question)
+      × ((left ≡ ledgerAlone network plan second ledger question) × (written ≡ bufferTo network plan ledger buffer question))
 
   pub answered-network :
       (r : Outcome) {verdict : Verdict} → question .call ≡ 1 → verdict ≡ checkNetwork (lines network) → r ≡ networkOutcome verdict
-      → Answered r ledger buffer
-  unfolding answerTo ledgerTo bufferTo
+      → AnsweredAlone r ledger buffer
+  unfolding answerAlone ledgerAlone bufferTo
   answered-network r h a e = (rw h (e ∙ ap networkOutcome a), (rw h, rw h))
 
   pub answered-plan :
       (r : Outcome) {answer : PlanAnswer} (after : List ℕ) → question .call ≡ 2
       → answer ≡ checkPlan (lines network) (planOf network plan) (length ledger) → after ≡ ledgerAfter (lines network) (planOf network plan) ledger
-      → r ≡ planOutcome answer → Answered r after buffer
-  unfolding answerTo ledgerTo bufferTo
+      → r ≡ planOutcome answer → AnsweredAlone r after buffer
+  unfolding answerAlone ledgerAlone bufferTo
   answered-plan r after h a l e = (rw h (e ∙ ap planOutcome a), (rw h l, rw h))
 
   pub answered-listing :
       (r : Outcome) {answer : ListingAnswer} (after : List ℕ) → question .call ≡ 4
-      → PlanGot (lines network) (entries plan) buffer answer after → r ≡ listingOutcome answer → Answered r ledger after
-  unfolding answerTo ledgerTo bufferTo
+      → PlanGot (lines network) (entries plan) buffer answer after → r ≡ listingOutcome answer → AnsweredAlone r ledger after
+  unfolding answerAlone ledgerAlone bufferTo
   answered-listing r after h g e = (rw h (e ∙ ap listingOutcome (g .told)), (rw h, rw h (g .holds)))
 
   pub answered-carry :
       (r : Outcome) {answer : CarryAnswer} (left written : List ℕ) → question .call ≡ 5
       → CarriedOn (lines network) (plannedOn (lines network) (question .boundary) plan) (question .boundary) ledger left buffer written answer
-      → r ≡ carryOutcome answer → Answered r left written
-  unfolding answerTo ledgerTo bufferTo
+      → r ≡ carryOutcome answer → AnsweredAlone r left written
+  unfolding answerAlone ledgerAlone bufferTo
   answered-carry r left written h g e = (rw h (e ∙ ap carryOutcome (g .told)), (rw h (g .rows), rw h (g .holds)))
 
   pub answered-sheet :
       (r : Outcome) {answer : PlanAnswer} (after : List ℕ) → question .call ≡ 6
-      → SheetPromises (lines network) (lines second) (planOf network plan) ledger after answer → r ≡ planOutcome answer → Answered r after buffer
-  unfolding answerTo ledgerTo bufferTo
+      → SheetPromises (lines network) (lines second) (planOf network plan) ledger after answer → r ≡ planOutcome answer → AnsweredAlone r after buffer
+  unfolding answerAlone ledgerAlone bufferTo
   answered-sheet r after h g e = (rw h (e ∙ ap planOutcome (g .told)), (rw h (g .rows), rw h))
 
   pub answered-written :
       (r : Outcome) {answer : SheetAnswer} (after : List ℕ) → question .call ≡ 7
-      → WritePromises (lines network) (lines plan) buffer answer after → r ≡ sheetOutcome answer → Answered r ledger after
-  unfolding answerTo ledgerTo bufferTo
+      → WritePromises (lines network) (lines plan) buffer answer after → r ≡ sheetOutcome answer → AnsweredAlone r ledger after
+  unfolding answerAlone ledgerAlone bufferTo
   answered-written r after h g e = (rw h (e ∙ ap sheetOutcome (g .told)), (rw h, rw h (g .holds)))
 
   pub answered-link :
       (r : Outcome) {answer : LinkAnswer} → (question .call ≡ 1 → ⊥) → (question .call ≡ 2 → ⊥) → (question .call ≡ 4 → ⊥) → (question .call ≡ 6 → ⊥) → (question .call ≡ 7 → ⊥) → (question .call ≡ 5 → ⊥)
       → answer ≡ linkState (lines network) ledger (question .boundary) (question .link) → r ≡ linkOutcome answer
-      → Answered r ledger buffer
-  unfolding answerTo ledgerTo bufferTo
+      → AnsweredAlone r ledger buffer
+  unfolding answerAlone ledgerAlone bufferTo
   answered-link r one two four six seven five a e = (
     rw (ne-eqb _ _ one, ne-eqb _ _ two, ne-eqb _ _ four, ne-eqb _ _ five, ne-eqb _ _ six, ne-eqb _ _ seven) (e ∙ ap linkOutcome a),
     (rw (ne-eqb _ _ two, ne-eqb _ _ five, ne-eqb _ _ six), rw (ne-eqb _ _ four, ne-eqb _ _ five, ne-eqb _ _ seven)),
   )
 
-  pub no-boundary : 4_294_967_295 < question .boundary → passedOver ≡ placeIn network plan second ledger buffer question
+module _ (network plan second ledger secondLedger buffer : List ℕ) (question : Question) where
+  -- what is given and left is what the definitions say
+  abbrev pub Answered : Outcome → List ℕ → List ℕ → List ℕ → Type 0
+  Answered given left secondLeft written =
+      (given ≡ answerTo network plan second ledger secondLedger buffer question)
+      × ((left ≡ ledgerTo network plan second ledger question)
+      × ((secondLeft ≡ secondLedgerTo network plan second ledger secondLedger question) × (written ≡ bufferTo network plan ledger buffer question)))
+
+  pub answered-comparison :
+      (r : Outcome) {answer : ComparisonAnswer} (left secondLeft : List ℕ) → question .call ≡ 8
+      → answer ≡ comparePlans (lines network) (planOf network plan) (planOf network second) (length ledger) (length secondLedger)
+      → left ≡ ledgerAfter (lines network) (planOf network plan) ledger
+      → secondLeft ≡ secondLedgerAfter (lines network) (planOf network plan) (planOf network second) (length ledger) secondLedger
+      → r ≡ comparisonOutcome answer → Answered r left secondLeft buffer
+  unfolding answerTo ledgerTo secondLedgerTo bufferTo
+  answered-comparison r left secondLeft h a l m e = (rw h (e ∙ ap comparisonOutcome a), (rw h l, (rw h m, rw h)))
+
+  pub answered-alone :
+      (r : Outcome) (left written : List ℕ) → (question .call ≡ 8 → ⊥) → AnsweredAlone network plan second ledger buffer question r left written
+      → Answered r left secondLedger written
+  unfolding answerTo ledgerTo secondLedgerTo
+  answered-alone r left written n g =
+      let e = ne-eqb (question .call) 8 n in
+      (rw e (g .0), (rw e (g .1 .0), (rw e, g .1 .1)))
+
+  pub no-boundary : 4_294_967_295 < question .boundary → passedOver ≡ placeIn network plan second ledger secondLedger buffer question
   unfolding placeIn
   no-boundary h = rw (le-ltb (question .boundary) 4_294_967_296 (omega arith))
 
-  pub no-link : question .boundary ≤ 4_294_967_295 → 4_294_967_295 < question .link → passedOver ≡ placeIn network plan second ledger buffer question
+  pub no-link : question .boundary ≤ 4_294_967_295 → 4_294_967_295 < question .link → passedOver ≡ placeIn network plan second ledger secondLedger buffer question
   unfolding placeIn
   no-link b h = rw (lt-ltb (question .boundary) 4_294_967_296 (omega arith), le-ltb (question .link) 4_294_967_296 (omega arith))
 
   place-by : (same : Bool) → question .boundary ≤ 4_294_967_295 → question .link ≤ 4_294_967_295
-      → asStored (answerTo network plan second ledger buffer question) (checksumTo network plan second ledger buffer question) question ≡ same
-      → placeIn network plan second ledger buffer question ≡ cond same (placeOf (question .call) (answerTo network plan second ledger buffer question)) different
+      → asStored (answerTo network plan second ledger secondLedger buffer question) (checksumTo network plan second ledger secondLedger buffer question) question ≡ same
+      → placeIn network plan second ledger secondLedger buffer question ≡ cond same (placeOf (question .call) (answerTo network plan second ledger secondLedger buffer question)) different
   unfolding placeIn
   place-by same b l e = rw (lt-ltb (question .boundary) 4_294_967_296 (omega arith), lt-ltb (question .link) 4_294_967_296 (omega arith), e)
 
-  module _ {given : Outcome} {left written : List ℕ} {sum : ℕ} {same : Bool} (b : question .boundary ≤ 4_294_967_295) (l : question .link ≤ 4_294_967_295)
-      (g : Answered given left written) (s : sum ≡ checksumOf left written) (e : same ≡ asStored given sum question) where
-    stored-as : asStored (answerTo network plan second ledger buffer question) (checksumTo network plan second ledger buffer question) question ≡ same
+  module _ {given : Outcome} {left secondLeft written : List ℕ} {sum : ℕ} {same : Bool} (b : question .boundary ≤ 4_294_967_295) (l : question .link ≤ 4_294_967_295)
+      (g : Answered given left secondLeft written) (s : sum ≡ checksumOf left secondLeft written) (e : same ≡ asStored given sum question) where
+    stored-as : asStored (answerTo network plan second ledger secondLedger buffer question) (checksumTo network plan second ledger secondLedger buffer question) question ≡ same
     unfolding checksumTo
     stored-as =
         let a = g .0 in
         let h = g .1 .0 in
-        let w = g .1 .1 in
+        let m = g .1 .1 .0 in
+        let w = g .1 .1 .1 in
         cc
 
-    pub as-stored : {place : ℕ} → same ≡ true → place ≡ placeOf (question .call) given → place ≡ placeIn network plan second ledger buffer question
+    pub as-stored : {place : ℕ} → same ≡ true → place ≡ placeOf (question .call) given → place ≡ placeIn network plan second ledger secondLedger buffer question
     as-stored t p = p ∙ ap (placeOf (question .call)) (g .0) ∙ sym (place-by true b l (stored-as ∙ t))
 
-    pub not-as-stored : same ≡ false → different ≡ placeIn network plan second ledger buffer question
+    pub not-as-stored : same ≡ false → different ≡ placeIn network plan second ledger secondLedger buffer question
     not-as-stored f = sym (place-by false b l (stored-as ∙ f))
 
--- on a ledger and a buffer that were filled
+-- on ledgers and a buffer that were filled
 pub judged :
-    (network plan second start ledger buffer : List ℕ) (size fill room place : ℕ) (question : Question) → length ledger ≡ size → Filled start fill ledger
-    → room ≡ question .«buffer_size» → buffer ≡ replicate room (question .«buffer_fill») → place ≡ placeIn network plan second ledger buffer question
-    → Judged network plan second start size fill question place
+    (network plan second start ledger secondLedger buffer : List ℕ) (size fill secondSize secondFill room place : ℕ) (question : Question)
+    → length ledger ≡ size → Filled start fill ledger → length secondLedger ≡ secondSize → Filled [] secondFill secondLedger
+    → room ≡ question .«buffer_size» → buffer ≡ replicate room (question .«buffer_fill») → place ≡ placeIn network plan second ledger secondLedger buffer question
+    → Judged network plan second start size fill secondSize secondFill question place
 unfolding bufferBefore
-judged network plan second start ledger buffer size fill room place question h f e b p = record { ledger = ledger; sized = h; filled = f; is = rw (b, e) at p }
+judged network plan second start ledger secondLedger buffer size fill secondSize secondFill room place question h f k g e b p =
+    record { ledger = ledger; sized = h; filled = f; second-ledger = secondLedger; second-sized = k; second-filled = g; is = rw (b, e) at p }
 
 -- nothing is asked of what is false
 pub never : {A : Type 0} → false ≡ true → A
@@ -173,15 +203,16 @@ module _ (call : ℕ) (outcome : Outcome) {n : ℕ} (e : n ≡ refusalOf outcome
   has-place h = rw (lt-ltb (refusalOf outcome) answers (omega arith), e)
 
 pub case-counted :
-    {network plan second start before after : List ℕ} {size place : ℕ} {form : LedgerForm} {question : Question} → size ≡ form .size
-    → Judged network plan second start size (form .fill) question place → after ≡ counted before place → CaseCounted network plan second start form question before after
-case-counted e j i = record { place = _; judged = rw e at j; is = i }
+    {network plan second start before after : List ℕ} {size secondSize place : ℕ} {form secondForm : LedgerForm} {question : Question} → size ≡ form .size
+    → secondSize ≡ secondForm .size → Judged network plan second start size (form .fill) secondSize (secondForm .fill) question place
+    → after ≡ counted before place → CaseCounted network plan second start form secondForm question before after
+case-counted e s j i = record { place = _; judged = rw (e, s) at j; is = i }
 
 pub one-more :
-    {network plan second start before after : List ℕ} {form : LedgerForm} {question : Question} → CaseCounted network plan second start form question before after
-    → OneMore before after
-one-more {network} {plan} {second} {start} {before} {after} {form} {question} i =
-    record { network = network; plan = plan; second = second; start = start; form = form; question = question; case-counted = i }
+    {network plan second start before after : List ℕ} {form secondForm : LedgerForm} {question : Question}
+    → CaseCounted network plan second start form secondForm question before after → OneMore before after
+one-more {network} {plan} {second} {start} {before} {after} {form} {secondForm} {question} i =
+    record { network = network; plan = plan; second = second; start = start; form = form; second-form = secondForm; question = question; case-counted = i }
 
 pub counted-more : {n : ℕ} {before between after : List ℕ} → Counted n before between → OneMore between after → Counted (n + 1) before after
 counted-more h o = rw add-one (more h o)

@@ -11,7 +11,7 @@ abbrev pub answers : ℕ
 answers = 36
 
 abbrev pub different : ℕ
-different = 7 * answers
+different = 8 * answers
 
 abbrev pub passedOver : ℕ
 passedOver = different + 1
@@ -24,7 +24,7 @@ counters = different + 2
 unfoldable pub refusalOf : Outcome → ℕ
 refusalOf outcome = cond (eqb (outcome .kind) 3) (outcome .first) 0
 
--- the place of the cases of a call, one of 1 to 7, that agree: so many for each call, by refusal number
+-- the place of the cases of a call, one of 1 to 8, that agree: so many for each call, by refusal number
 unfoldable pub placeOf : ℕ → Outcome → ℕ
 placeOf call outcome = cond (ltb (refusalOf outcome) answers) ((call - 1) * answers + refusalOf outcome) different
 

@@ -3,7 +3,7 @@ ghost use mathlib.Core.Path.{_≡_};
 ghost use mathlib.Core.Bool.{true};
 ghost use Prim.Native.Nat.{_<_, _≤_, _^_};
 ghost use lib.ListN.{length, take, replicate};
-ghost use Rattle.conformance.specs.Compare.{validQuestion, heldAt, Filled, answerTo, ledgerTo, bufferTo, asStored, placeIn, Judged, CaseCounted, OneMore, Counted, Compared};
+ghost use Rattle.conformance.specs.Compare.{validQuestion, heldAt, Filled, answerAlone, ledgerAlone, bufferTo, answerTo, ledgerTo, secondLedgerTo, asStored, placeIn, Judged, CaseCounted, OneMore, Counted, Compared};
 ghost use Rattle.conformance.specs.Tally.{counters};
 use crate::tally;
 use crate::tally::COUNTERS;
@@ -52,8 +52,8 @@ fn fill_buffer(buffer: &mut [u8], fill: u8)
     }
 }
 
-// What the library answers to a question, and the ledger and the buffer that it leaves.
-fn answer_to(
+// What the library answers to a question that has one ledger, and the ledger and the buffer that it leaves.
+fn answer_alone(
     network: &[u8],
     plan: &[u8],
     second: &[u8],
@@ -62,8 +62,8 @@ fn answer_to(
     question: Question,
 ) -> Outcome
     requires { ⌜ (question .boundary < 2 ^ 32) × (question .link < 2 ^ 32) ⌝ }
-    ensures { λ r. ⌜ r ≡ answerTo (now (network .entry)) (now (plan .entry)) (now (second .entry)) (now (ledger .entry)) (now (buffer .entry)) question ⌝ }
-    ensures { λ r. ⌜ now (ledger .exit) ≡ ledgerTo (now (network .entry)) (now (plan .entry)) (now (second .entry)) (now (ledger .entry)) question ⌝ }
+    ensures { λ r. ⌜ r ≡ answerAlone (now (network .entry)) (now (plan .entry)) (now (second .entry)) (now (ledger .entry)) (now (buffer .entry)) question ⌝ }
+    ensures { λ r. ⌜ now (ledger .exit) ≡ ledgerAlone (now (network .entry)) (now (plan .entry)) (now (second .entry)) (now (ledger .entry)) question ⌝ }
     ensures { λ r. ⌜ now (buffer .exit) ≡ bufferTo (now (network .entry)) (now (plan .entry)) (now (ledger .entry)) (now (buffer .entry)) question ⌝ }
 {
     let boundary = question.boundary as u32;
@@ -89,7 +89,35 @@ fn answer_to(
     outcome::of_link(link_state::link_state(network, ledger, boundary, link))
 }
 
-// Whether the library's answer, and the checksum of the ledger and the buffer that it leaves, are those of the other implementation.
+// What the library answers to a question, and the ledgers and the buffer that it leaves.
+fn answer_to(
+    network: &[u8],
+    plan: &[u8],
+    second: &[u8],
+    ledger: &mut [u32],
+    second_ledger: &mut [u32],
+    buffer: &mut [u8],
+    question: Question,
+) -> Outcome
+    requires { ⌜ (question .boundary < 2 ^ 32) × (question .link < 2 ^ 32) ⌝ }
+    ensures { λ r. ⌜ r ≡ answerTo (now (network .entry)) (now (plan .entry)) (now (second .entry)) (now (ledger .entry)) (now («second_ledger» .entry)) (now (buffer .entry)) question ⌝ }
+    ensures { λ r. ⌜ now (ledger .exit) ≡ ledgerTo (now (network .entry)) (now (plan .entry)) (now (second .entry)) (now (ledger .entry)) question ⌝ }
+    ensures { λ r. ⌜ now («second_ledger» .exit) ≡ secondLedgerTo (now (network .entry)) (now (plan .entry)) (now (second .entry)) (now (ledger .entry)) (now («second_ledger» .entry)) question ⌝ }
+    ensures { λ r. ⌜ now (buffer .exit) ≡ bufferTo (now (network .entry)) (now (plan .entry)) (now (ledger .entry)) (now (buffer .entry)) question ⌝ }
+{
+    if question.call == 8 {
+        return outcome::of_comparison(comparison::compare_plans(
+            network,
+            plan,
+            second,
+            ledger,
+            second_ledger,
+        ));
+    }
+    answer_alone(network, plan, second, ledger, buffer, question)
+}
+
+// Whether the library's answer, and the checksum of the ledgers and the buffer that it leaves, are those of the other implementation.
 fn is_as_stored(given: Outcome, sum: u64, question: Question) -> bool
     ensures { λ r. ⌜ r ≡ asStored given sum question ⌝ }
 {
@@ -97,7 +125,7 @@ fn is_as_stored(given: Outcome, sum: u64, question: Question) -> bool
     outcome::is_same(given, answer) & (sum == question.checksum)
 }
 
-// Judges a case by the library, on the ledger and the buffer as they are before the call: the place at which it is counted. Boundaries and links
+// Judges a case by the library, on the ledgers and the buffer as they are before the call: the place at which it is counted. Boundaries and links
 // above 32 bits are passed over, as the library has no call that takes them.
 fn judge(
     number: u32,
@@ -105,11 +133,12 @@ fn judge(
     plan: &[u8],
     second: &[u8],
     ledger: &mut [u32],
+    second_ledger: &mut [u32],
     buffer: &mut [u8],
     question: Question,
 ) -> usize
     requires { ⌜ validQuestion question ≡ true ⌝ }
-    ensures { λ r. ⌜ r ≡ placeIn (now (network .entry)) (now (plan .entry)) (now (second .entry)) (now (ledger .entry)) (now (buffer .entry)) question ⌝ }
+    ensures { λ r. ⌜ r ≡ placeIn (now (network .entry)) (now (plan .entry)) (now (second .entry)) (now (ledger .entry)) (now («second_ledger» .entry)) (now (buffer .entry)) question ⌝ }
     ensures { λ r. ⌜ r < counters ⌝ }
 {
     if 4294967295 < question.boundary {
@@ -118,8 +147,16 @@ fn judge(
     if 4294967295 < question.link {
         return tally::PASSED_OVER;
     }
-    let given = answer_to(network, plan, second, ledger, buffer, question);
-    let sum = checksum::checksum(ledger, buffer);
+    let given = answer_to(
+        network,
+        plan,
+        second,
+        ledger,
+        second_ledger,
+        buffer,
+        question,
+    );
+    let sum = checksum::checksum(ledger, second_ledger, buffer);
     if is_as_stored(given, sum, question) {
         return tally::place_of(question.call, given);
     }
@@ -127,7 +164,7 @@ fn judge(
     tally::DIFFERENT
 }
 
-// Judges a case on a ledger and a buffer that are first made what they are before the call.
+// Judges a case on ledgers and a buffer that are first made what they are before the call.
 fn judge_filled(
     number: u32,
     network: &[u8],
@@ -135,25 +172,37 @@ fn judge_filled(
     second: &[u8],
     start: &[u32],
     fill: u32,
+    second_fill: u32,
     ledger: &mut [u32],
+    second_ledger: &mut [u32],
     buffer: &mut [u8],
     question: Question,
 ) -> usize
     requires { ⌜ validQuestion question ≡ true ⌝ }
     requires { ⌜ length (now buffer) ≡ question .«buffer_size» ⌝ }
-    ensures { λ r. ⌜ Judged (now (network .entry)) (now (plan .entry)) (now (second .entry)) (now (start .entry)) (length (now (ledger .entry))) fill question r ⌝ }
+    ensures { λ r. ⌜ Judged (now (network .entry)) (now (plan .entry)) (now (second .entry)) (now (start .entry)) (length (now (ledger .entry))) fill (length (now («second_ledger» .entry))) «second_fill» question r ⌝ }
     ensures { λ r. ⌜ r < counters ⌝ }
 {
     fill_ledger(ledger, start, fill);
+    fill_ledger(second_ledger, &start[..0], second_fill);
     fill_buffer(buffer, question.buffer_fill as u8);
-    judge(number, network, plan, second, ledger, buffer, question)
+    judge(
+        number,
+        network,
+        plan,
+        second,
+        ledger,
+        second_ledger,
+        buffer,
+        question,
+    )
 }
 
 // Whether there is such a call, and the buffer can hold its fill.
 fn is_valid(question: Question) -> bool
     ensures { λ r. ⌜ r ≡ validQuestion question ⌝ }
 {
-    (1 <= question.call) & (question.call <= 7) & (question.buffer_fill <= 255)
+    (1 <= question.call) & (question.call <= 8) & (question.buffer_fill <= 255)
 }
 
 // Takes what a case uses of each buffer, and judges it; false where the question is not valid, or a length is not one of its buffer.
@@ -164,19 +213,22 @@ fn run_read(
     second: &[u8],
     start: &[u32],
     ledger: &mut [u32],
+    second_ledger: &mut [u32],
     buffer: &mut [u8],
     sizes: Sizes,
     form: LedgerForm,
+    second_form: LedgerForm,
     question: Question,
     counts: &mut [u64; COUNTERS],
 ) -> bool
-    ensures { λ r. ⌜ (r ≡ true → CaseCounted (take (sizes .network) (now (network .entry))) (take (sizes .plan) (now (plan .entry))) (take (sizes .second) (now (second .entry))) (take (sizes .start) (now (start .entry))) form question (now (counts .entry)) (now (counts .exit))) ⌝ }
+    ensures { λ r. ⌜ (r ≡ true → CaseCounted (take (sizes .network) (now (network .entry))) (take (sizes .plan) (now (plan .entry))) (take (sizes .second) (now (second .entry))) (take (sizes .start) (now (start .entry))) form «second_form» question (now (counts .entry)) (now (counts .exit))) ⌝ }
 {
     let network_size = sizes.network;
     let plan_size = sizes.plan;
     let second_size = sizes.second;
     let start_size = sizes.start;
     let ledger_size = form.size;
+    let second_ledger_size = second_form.size;
     let buffer_size = question.buffer_size;
     if !is_valid(question) {
         return false;
@@ -196,6 +248,9 @@ fn run_read(
     if ledger.len() < ledger_size {
         return false;
     }
+    if second_ledger.len() < second_ledger_size {
+        return false;
+    }
     if ledger_size < start_size {
         return false;
     }
@@ -209,7 +264,9 @@ fn run_read(
         &second[..second_size],
         &start[..start_size],
         form.fill,
+        second_form.fill,
         &mut ledger[..ledger_size],
+        &mut second_ledger[..second_ledger_size],
         &mut buffer[..buffer_size],
         question,
     );
@@ -227,6 +284,7 @@ fn run_case(
     second: &mut [u8],
     start: &mut [u32],
     ledger: &mut [u32],
+    second_ledger: &mut [u32],
     buffer: &mut [u8],
     counts: &mut [u64; COUNTERS],
 ) -> Sizes
@@ -238,6 +296,7 @@ fn run_case(
     let start_size = stored::read_start(file, start, form.given, before.start);
     let asked = stored::read_asked(file);
     let second_size = stored::read_second(file, second, &asked);
+    let second_form = stored::read_second_ledger(file, &asked);
     let question = stored::read_question(file, &asked);
     let sizes = Sizes {
         network: network_size,
@@ -252,9 +311,11 @@ fn run_case(
         second,
         start,
         ledger,
+        second_ledger,
         buffer,
         sizes,
         form,
+        second_form,
         question,
         counts,
     ) {
@@ -277,6 +338,7 @@ fn run_cases(
     second: &mut [u8],
     start: &mut [u32],
     ledger: &mut [u32],
+    second_ledger: &mut [u32],
     buffer: &mut [u8],
     counts: &mut [u64; COUNTERS],
 ) -> bool
@@ -299,6 +361,7 @@ fn run_cases(
             second,
             start,
             ledger,
+            second_ledger,
             buffer,
             counts,
         );
@@ -318,6 +381,7 @@ pub fn run_file(
     second: &mut [u8],
     start: &mut [u32],
     ledger: &mut [u32],
+    second_ledger: &mut [u32],
     buffer: &mut [u8],
     counts: &mut [u64; COUNTERS],
 ) -> CaseCount
@@ -334,6 +398,7 @@ pub fn run_file(
         second,
         start,
         ledger,
+        second_ledger,
         buffer,
         counts,
     ) {

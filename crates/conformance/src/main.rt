@@ -1,4 +1,4 @@
-// Runs stored cases through the proved calls, and compares each answer and a checksum of the whole ledger and the whole buffer after the call with
+// Runs stored cases through the proved calls, and compares each answer and a checksum of the whole ledgers and the whole buffer after the call with
 // those of another implementation. Prints each case that differs, how many cases each file has, how many agreed, for each call and refusal number,
 // and how many differ. The one case of wrong_answer.bin has a wrong answer on purpose: it must be told as different.
 mod compare;
@@ -14,6 +14,7 @@ fn compare_file(path: &[u8], counts: &mut [u64; COUNTERS]) {
     let mut second = [0u8; 163840];
     let mut start = [0u32; 5888];
     let mut ledger = [0u32; 5888];
+    let mut second_ledger = [0u32; 5888];
     let mut buffer = [0u8; 102400];
     let file = os::open_read(path);
     let answer = compare::run_file(
@@ -23,6 +24,7 @@ fn compare_file(path: &[u8], counts: &mut [u64; COUNTERS]) {
         &mut second,
         &mut start,
         &mut ledger,
+        &mut second_ledger,
         &mut buffer,
         counts,
     );

@@ -9,8 +9,8 @@ use libc::STDOUT_FILENO;
 // How many answers a call's cases are counted by: accepted, and each refusal's number.
 const ANSWERS: usize = 36;
 
-// The counts: for each of seven calls, the cases that agreed, by answer; then these two.
-pub const DIFFERENT: usize = 7 * ANSWERS;
+// The counts: for each of eight calls, the cases that agreed, by answer; then these two.
+pub const DIFFERENT: usize = 8 * ANSWERS;
 
 pub const PASSED_OVER: usize = DIFFERENT + 1;
 
@@ -42,7 +42,7 @@ fn refusal_of(outcome: Outcome) -> u64
 
 // The place of the cases of a call that gave an outcome. A refusal number above 35 has none.
 pub fn place_of(call: u32, outcome: Outcome) -> usize
-    requires { ⌜ (1 ≤ call) × (call ≤ 7) ⌝ }
+    requires { ⌜ (1 ≤ call) × (call ≤ 8) ⌝ }
     ensures { λ r. ⌜ (r ≡ placeOf call outcome) × (r < counters) ⌝ }
 {
     let number = refusal_of(outcome) as usize;
@@ -79,6 +79,7 @@ fn print_line(counts: &[u64; COUNTERS], number: usize)
         counts[4 * ANSWERS + number],
         counts[5 * ANSWERS + number],
         counts[6 * ANSWERS + number],
+        counts[7 * ANSWERS + number],
     ];
     print_numbers(&numbers);
     print(b"\n");
@@ -87,7 +88,7 @@ fn print_line(counts: &[u64; COUNTERS], number: usize)
 // The table of the cases that agreed, and how many were passed over and differ.
 pub fn print_table(counts: &[u64; COUNTERS]) {
     print(
-        b"answer\tcheck_network\tcheck_plan\tlink_state\tplan_from_listing\tcarry_on\tcheck_sheet\tplan_from_sheet\naccepted",
+        b"answer\tcheck_network\tcheck_plan\tlink_state\tplan_from_listing\tcarry_on\tcheck_sheet\tplan_from_sheet\tcompare_plans\naccepted",
     );
     print_line(counts, 0);
     let mut number = 1;

@@ -1,4 +1,4 @@
--- FNV-1a of 64 bits over the numbers of a ledger, each as four bytes, the lowest first, then over the bytes of a buffer. Assumes nothing.
+-- FNV-1a of 64 bits over the numbers of two ledgers, each as four bytes, the lowest first, then over the bytes of a buffer. Assumes nothing.
 use Prim.Native.Nat.{ℕ, _*_, _/_, _%_, _^_}
 use mathlib.Core.List.{List, [], _∷_}
 use lib.Bits.{bitXor}
@@ -16,5 +16,5 @@ unfoldable pub withEach : (ℕ → ℕ → ℕ) → ℕ → List ℕ → ℕ
 withEach add sum [] = sum
 withEach add sum (item ∷ items) = withEach add (add sum item) items
 
-unfoldable pub checksumOf : List ℕ → List ℕ → ℕ
-checksumOf numbers bytes = withEach withByte (withEach withNumber 14695981039346656037 numbers) bytes
+unfoldable pub checksumOf : List ℕ → List ℕ → List ℕ → ℕ
+checksumOf numbers more bytes = withEach withByte (withEach withNumber (withEach withNumber 14695981039346656037 numbers) more) bytes

@@ -1,7 +1,8 @@
 -- The answers of the calls in the stored form. Assumes nothing.
-use Prim.Native.Nat.{ℕ}
+use Prim.Native.Nat.{ℕ, suc, _-_, _^_}
 use mathlib.Core.Bool.{Bool, _&&_}
 use lib.Dec.{eqb}
+use lib.IntN.{ℤ, pos, negsuc}
 use Rattle.search.specs.declared.Refusal.{Refusal}
 use Rattle.search.specs.declared.Verdict.{Verdict}
 use Rattle.search.specs.declared.Verdict.the-variants as verdict
@@ -15,6 +16,10 @@ use Rattle.carry_model.specs.declared.CarryAnswer.{CarryAnswer}
 use Rattle.carry_model.specs.declared.CarryAnswer.the-variants as carry-answer
 use Rattle.sheet_model.specs.declared.SheetAnswer.{SheetAnswer}
 use Rattle.sheet_model.specs.declared.SheetAnswer.the-variants as sheet-answer
+use Rattle.comparison.specs.declared.Order.{Order}
+use Rattle.comparison.specs.declared.Order.the-variants.{Ahead, Behind, Equal, Crossing}
+use Rattle.comparison.specs.declared.ComparisonAnswer.{ComparisonAnswer}
+use Rattle.comparison.specs.declared.ComparisonAnswer.the-variants as comparison-answer
 use Rattle.conformance_cases.specs.declared.outcome.Outcome.{Outcome}
 
 abbrev pub refusedOutcome : Refusal → Outcome
@@ -47,6 +52,21 @@ carryOutcome (carry-answer.Refused r) = refusedOutcome r
 abbrev pub sheetOutcome : SheetAnswer → Outcome
 sheetOutcome (sheet-answer.Written length) = writtenOutcome length
 sheetOutcome (sheet-answer.Refused r) = refusedOutcome r
+
+abbrev pub modulo64 : ℤ → ℕ
+modulo64 (pos n) = n
+modulo64 (negsuc n) = 2 ^ 64 - suc n
+
+abbrev pub orderNumber : Order → ℕ
+orderNumber Ahead = 1
+orderNumber Behind = 2
+orderNumber Equal = 3
+orderNumber Crossing = 4
+
+-- a refusal of a comparison says which plan it means
+abbrev pub comparisonOutcome : ComparisonAnswer → Outcome
+comparisonOutcome (comparison-answer.Compared order gap) = record { kind = 5; first = orderNumber order; second = modulo64 gap; third = 0; fourth = 0 }
+comparisonOutcome (comparison-answer.Refused plan r) = record { kind = 3; first = r .number; second = r .line; third = r .item; fourth = plan }
 
 abbrev pub sameOutcome : Outcome → Outcome → Bool
 sameOutcome one other =

@@ -1,4 +1,4 @@
-// The checksum of a ledger and a buffer: FNV-1a of 64 bits over the numbers in order, each as four bytes, the lowest first, then over the bytes.
+// The checksum of two ledgers and a buffer: FNV-1a of 64 bits over the numbers in order, each as four bytes, the lowest first, then over the bytes.
 ghost use mathlib.Core.Path.{_≡_};
 ghost use Prim.Native.Nat.{_*_, _%_, _^_};
 ghost use Rattle.conformance_cases.specs.Checksum.{withByte, withNumber, withEach, checksumOf};
@@ -63,9 +63,10 @@ fn with_bytes(start: u64, bytes: &[u8]) -> u64
     sum
 }
 
-// The checksum of a ledger and a buffer.
-pub fn checksum(ledger: &[u32], buffer: &[u8]) -> u64
-    ensures { λ r. ⌜ r ≡ checksumOf (now (ledger .entry)) (now (buffer .entry)) ⌝ }
+// The checksum of two ledgers and a buffer; that of fewer where one is empty.
+pub fn checksum(ledger: &[u32], second_ledger: &[u32], buffer: &[u8]) -> u64
+    ensures { λ r. ⌜ r ≡ checksumOf (now (ledger .entry)) (now («second_ledger» .entry)) (now (buffer .entry)) ⌝ }
 {
-    with_bytes(with_numbers(14695981039346656037, ledger), buffer)
+    let first_sum = with_numbers(14695981039346656037, ledger);
+    with_bytes(with_numbers(first_sum, second_ledger), buffer)
 }

@@ -1,7 +1,9 @@
 // What a call gives, in the stored form.
 ghost use mathlib.Core.Path.{_≡_};
-ghost use Rattle.conformance_cases.specs.Outcome.{refusedOutcome, networkOutcome, planOutcome, linkOutcome, writtenOutcome, listingOutcome, carryOutcome, sheetOutcome, sameOutcome};
+ghost use Rattle.conformance_cases.specs.Outcome.{refusedOutcome, networkOutcome, planOutcome, linkOutcome, writtenOutcome, listingOutcome, carryOutcome, sheetOutcome, modulo64, orderNumber, comparisonOutcome, sameOutcome};
 use carry_model::CarryAnswer;
+use comparison::ComparisonAnswer;
+use comparison::Order;
 use listing::ListingAnswer;
 use model::LinkAnswer;
 use model::PlanAnswer;
@@ -9,8 +11,9 @@ use search::Refusal;
 use search::Verdict;
 use sheet_model::SheetAnswer;
 
-// The kind is 0 for a network accepted, 1 for a plan accepted, 2 for a state, 3 for a refusal, 4 for a text written; the numbers are the
-// totals, queued and in transit, the refusal's number, line and item, or the text's length; 0 where there is none.
+// The kind is 0 for a network accepted, 1 for a plan accepted, 2 for a state, 3 for a refusal, 4 for a text written, 5 for two plans compared;
+// the numbers are the totals, queued and in transit, the refusal's number, line, item and plan, the text's length, or order and gap; 0 where
+// there is none.
 pub struct Outcome {
     pub kind: u32,
     pub first: u64,
@@ -112,6 +115,48 @@ pub fn of_sheet(answer: SheetAnswer) -> Outcome
     match answer {
         SheetAnswer::Written(length) => written(length),
         SheetAnswer::Refused(refusal) => refused(refusal),
+    }
+}
+
+// A gap modulo 2^64.
+fn modulo_64(gap: i64) -> u64
+    ensures { λ r. ⌜ r ≡ modulo64 gap ⌝ }
+{
+    if gap < 0 {
+        return 18446744073709551615 - (-1 - gap) as u64;
+    }
+    gap as u64
+}
+
+fn order_number(order: Order) -> u64
+    ensures { λ r. ⌜ r ≡ orderNumber order ⌝ }
+{
+    match order {
+        Order::Ahead => 1,
+        Order::Behind => 2,
+        Order::Equal => 3,
+        Order::Crossing => 4,
+    }
+}
+
+pub fn of_comparison(answer: ComparisonAnswer) -> Outcome
+    ensures { λ r. ⌜ r ≡ comparisonOutcome answer ⌝ }
+{
+    match answer {
+        ComparisonAnswer::Compared { order, gap } => Outcome {
+            kind: 5,
+            first: order_number(order),
+            second: modulo_64(gap),
+            third: 0,
+            fourth: 0,
+        },
+        ComparisonAnswer::Refused { plan, refusal } => Outcome {
+            kind: 3,
+            first: refusal.number as u64,
+            second: refusal.line as u64,
+            third: refusal.item as u64,
+            fourth: plan as u64,
+        },
     }
 }
 

@@ -25,8 +25,8 @@ pub struct LedgerForm {
 }
 
 // The call of a case (1 check a network, 2 check a plan, 3 state of one link, 4 plan from a listing, 5 carry on from a boundary, 6 check a
-// sheet, 7 plan from a sheet; 0 where the file is malformed) and the buffer that it is given, its length and what each byte is, with what
-// the other implementation answers and the checksum of the ledger and the buffer that it leaves.
+// sheet, 7 plan from a sheet, 8 compare two plans; 0 where the file is malformed) and the buffer that it is given, its length and what each
+// byte is, with what the other implementation answers and the checksum of the ledgers and the buffer that it leaves.
 pub struct Question {
     pub buffer_size: usize,
     pub buffer_fill: u32,
@@ -69,7 +69,7 @@ fn read_whole(file: i32, buffer: &mut [u8]) -> bool {
     io::read_full(file, buffer) == size
 }
 
-// Reads the header: the file's mark, version 3, and how many cases follow. The greatest lengths that it names are not needed, as each length
+// Reads the header: the file's mark, version 4, and how many cases follow. The greatest lengths that it names are not needed, as each length
 // is held to its buffer.
 pub fn read_header(file: i32) -> CaseCount {
     let mut bytes = [0u8; 32];
@@ -80,7 +80,7 @@ pub fn read_header(file: i32) -> CaseCount {
     if long_number_at(&bytes, 0) != 4995408169015528528 {
         return CaseCount::Malformed;
     }
-    if number_at(&bytes, 8) != 3 {
+    if number_at(&bytes, 8) != 4 {
         return CaseCount::Malformed;
     }
     CaseCount::Cases(number_at(&bytes, 12))
@@ -168,12 +168,37 @@ fn call_of(asked: &[u8; 28]) -> u32
     number_at(asked, 8)
 }
 
-// Reads the text that follows what is asked, the sheet that a plan is checked by: its length; 0 for a call that has no such text.
+// Reads the text that follows what is asked, the sheet that a plan is checked by or a second plan: its length; 0 for a call that has no such text.
 pub fn read_second(file: i32, text: &mut [u8], asked: &[u8; 28]) -> usize {
-    if call_of(asked) == 6 {
+    let call = call_of(asked);
+    if (call == 6) | (call == 8) {
         return read_text(file, text, NOTHING);
     }
     0
+}
+
+// Reads the form of the second plan's ledger, of which no number is given; that of no numbers for a call that has no such ledger.
+pub fn read_second_ledger(file: i32, asked: &[u8; 28]) -> LedgerForm {
+    let mut bytes = [0u8; 8];
+    if call_of(asked) != 8 {
+        return LedgerForm {
+            size: 0,
+            fill: 0,
+            given: 0,
+        };
+    }
+    if !read_whole(file, &mut bytes) {
+        return LedgerForm {
+            size: NOTHING,
+            fill: 0,
+            given: SAME,
+        };
+    }
+    LedgerForm {
+        size: number_at(&bytes, 0) as usize,
+        fill: number_at(&bytes, 4),
+        given: 0,
+    }
 }
 
 // What the other implementation answers, of the 44 bytes that a case ends with.

@@ -41,12 +41,12 @@ same-length-5 c = search needs
 same-length-6 : tie.Need-same-length-6
 same-length-6 c = search needs
 
-returns-2 : tie.Need-returns-2
-unfolding Compared
-returns-2 c = c .before .before .before .before .before .before .before .before .before .before .before .before .before .before .before .run-cases .ensures (c .before .before .if1 .taken)
-
 same-length-7 : tie.Need-same-length-7
 same-length-7 c = search needs
+
+returns-2 : tie.Need-returns-2
+unfolding Compared
+returns-2 c = c .before .before .before .before .before .before .before .before .before .before .before .before .before .before .before .before .before .run-cases .ensures (c .before .before .if1 .taken)
 
 same-length-8 : tie.Need-same-length-8
 same-length-8 c = search needs
@@ -63,15 +63,15 @@ same-length-11 c = search needs
 same-length-12 : tie.Need-same-length-12
 same-length-12 c = search needs
 
-returns-3 : tie.Need-returns-3
-unfolding Compared
-returns-3 c = tt
-
 same-length-13 : tie.Need-same-length-13
 same-length-13 c = search needs
 
 same-length-14 : tie.Need-same-length-14
 same-length-14 c = search needs
+
+returns-3 : tie.Need-returns-3
+unfolding Compared
+returns-3 c = tt
 
 same-length-15 : tie.Need-same-length-15
 same-length-15 c = search needs
@@ -85,9 +85,18 @@ same-length-17 c = search needs
 same-length-18 : tie.Need-same-length-18
 same-length-18 c = search needs
 
+same-length-19 : tie.Need-same-length-19
+same-length-19 c = search needs
+
+same-length-20 : tie.Need-same-length-20
+same-length-20 c = search needs
+
+same-length-21 : tie.Need-same-length-21
+same-length-21 c = search needs
+
 returns-4 : tie.Need-returns-4
 unfolding Compared
 returns-4 c = tt
 
 pub run-file-spec : {M : Type 1} → statement M
-run-file-spec = tie.close (tie.spec read-header-requires enum-known-count enum-told returns run-cases-requires is-at-end-requires same-length same-length-2 same-length-3 same-length-4 same-length-5 same-length-6 returns-2 same-length-7 same-length-8 same-length-9 same-length-10 same-length-11 same-length-12 returns-3 same-length-13 same-length-14 same-length-15 same-length-16 same-length-17 same-length-18 returns-4)
+run-file-spec = tie.close (tie.spec read-header-requires enum-known-count enum-told returns run-cases-requires is-at-end-requires same-length same-length-2 same-length-3 same-length-4 same-length-5 same-length-6 same-length-7 returns-2 same-length-8 same-length-9 same-length-10 same-length-11 same-length-12 same-length-13 same-length-14 returns-3 same-length-15 same-length-16 same-length-17 same-length-18 same-length-19 same-length-20 same-length-21 returns-4)

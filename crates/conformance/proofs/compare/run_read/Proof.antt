@@ -35,6 +35,9 @@ returns-7 c = never
 returns-8 : tie.Need-returns-8
 returns-8 c = never
 
+returns-9 : tie.Need-returns-9
+returns-9 c = never
+
 slice-aggregate-judge-filled : tie.Need-slice-aggregate-judge-filled
 slice-aggregate-judge-filled c = sym (length-take-le _ _ (omega arith))
 
@@ -59,8 +62,14 @@ slice-relend-prefix-judge-filled-2 c = search needs
 slice-aggregate-judge-filled-6 : tie.Need-slice-aggregate-judge-filled-6
 slice-aggregate-judge-filled-6 c = sym (length-take-le _ _ (omega arith))
 
+slice-relend-prefix-judge-filled-3 : tie.Need-slice-relend-prefix-judge-filled-3
+slice-relend-prefix-judge-filled-3 c = search needs
+
+slice-aggregate-judge-filled-7 : tie.Need-slice-aggregate-judge-filled-7
+slice-aggregate-judge-filled-7 c = sym (length-take-le _ _ (omega arith))
+
 judge-filled-requires : tie.Need-judge-filled-requires
-judge-filled-requires c κs = (sym (c .before .before .before .before .before .before .before .before .before .before .before .before .before .before .is-valid .ensures) ∙ not-false _ (c .before .before .before .before .before .before .before .before .before .before .before .before .before .if1 .left), length-take-le _ _ (omega arith))
+judge-filled-requires c κs = (sym (c .before .before .before .before .before .before .before .before .before .before .before .before .before .before .before .before .is-valid .ensures) ∙ not-false _ (c .before .before .before .before .before .before .before .before .before .before .before .before .before .before .before .if1 .left), length-take-le _ _ (omega arith))
 
 add-one-requires : tie.Need-add-one-requires
 add-one-requires c κs = search needs
@@ -71,8 +80,11 @@ same-length c = search needs
 same-length-2 : tie.Need-same-length-2
 same-length-2 c = search needs
 
-returns-9 : tie.Need-returns-9
-returns-9 c = λ h. case-counted (length-take-le _ _ (omega arith)) (c .before .before .before .before .before .before .judge-filled .ensures .0) (c .add-one .ensures)
+same-length-3 : tie.Need-same-length-3
+same-length-3 c = search needs
+
+returns-10 : tie.Need-returns-10
+returns-10 c = λ h. case-counted (length-take-le _ _ (omega arith)) (length-take-le _ _ (omega arith)) (c .before .before .before .before .before .before .before .before .judge-filled .ensures .0) (c .add-one .ensures)
 
 pub run-read-spec : {M : Type 1} → statement M
-run-read-spec = tie.close (tie.spec is-valid-requires returns returns-2 returns-3 returns-4 returns-5 returns-6 returns-7 returns-8 slice-aggregate-judge-filled slice-aggregate-judge-filled-2 slice-aggregate-judge-filled-3 slice-aggregate-judge-filled-4 slice-relend-prefix-judge-filled slice-aggregate-judge-filled-5 slice-relend-prefix-judge-filled-2 slice-aggregate-judge-filled-6 judge-filled-requires add-one-requires same-length same-length-2 returns-9)
+run-read-spec = tie.close (tie.spec is-valid-requires returns returns-2 returns-3 returns-4 returns-5 returns-6 returns-7 returns-8 returns-9 slice-aggregate-judge-filled slice-aggregate-judge-filled-2 slice-aggregate-judge-filled-3 slice-aggregate-judge-filled-4 slice-relend-prefix-judge-filled slice-aggregate-judge-filled-5 slice-relend-prefix-judge-filled-2 slice-aggregate-judge-filled-6 slice-relend-prefix-judge-filled-3 slice-aggregate-judge-filled-7 judge-filled-requires add-one-requires same-length same-length-2 same-length-3 returns-10)

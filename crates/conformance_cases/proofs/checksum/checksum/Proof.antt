@@ -7,6 +7,9 @@ use Rattle.conformance_cases.proofs.checksum.checksum.Tie as tie
 with-numbers-requires : tie.Need-with-numbers-requires
 with-numbers-requires c κs = search needs
 
+with-numbers-requires-2 : tie.Need-with-numbers-requires-2
+with-numbers-requires-2 c κs = search needs
+
 with-bytes-requires : tie.Need-with-bytes-requires
 with-bytes-requires c κs = search needs
 
@@ -15,4 +18,4 @@ unfolding checksumOf
 returns c = cc
 
 pub checksum-spec : {M : Type 1} → statement M
-checksum-spec = tie.close (tie.spec with-numbers-requires with-bytes-requires returns)
+checksum-spec = tie.close (tie.spec with-numbers-requires with-numbers-requires-2 with-bytes-requires returns)
