@@ -1,6 +1,6 @@
 -- What the tests of the code say of rule 27. Assumes nothing.
-use mathlib.Core.Path.{_≡_, ap, ap₂, _∙_}
-use mathlib.Core.Bool.{Bool, true, _||_}
+use mathlib.Core.Path.{_≡_, sym, ap, ap₂, _∙_}
+use mathlib.Core.Bool.{Bool, true, _||_, or-true, or-false}
 use mathlib.Core.List.{List}
 use Prim.Native.Nat.{ℕ, _+_, _-_}
 use native.Mathlib.Omega.{arith}
@@ -23,10 +23,14 @@ module _ (links phases : List ℕ) (i : ℕ) where
   unfolding isOpenIn _or_
   open-shown n e = rw (ne-eqb _ _ n) e
 
--- a movement by the link that it leaves and its volume
-pub moves-open-is : (counts : Counts) (line links movements phases : List ℕ) (j f volume : ℕ) {o : Bool} → f + 1 ≡ linkIn movements 0 j → volume ≡ movedIn counts line j
-    → o ≡ isOpenIn links phases f → o || eqb volume 0 ≡ movesOpen counts line links movements phases j
-unfolding movesOpen _or_
-moves-open-is counts line links movements phases j f volume e v q =
-    let g : f ≡ linkIn movements 0 j - 1 = omega arith in
-    ap₂ (λ o x. o || eqb x 0) (q ∙ ap (isOpenIn links phases) g) v
+-- a movement by its volume and the link that it leaves
+module _ (counts : Counts) (line links movements phases : List ℕ) (j : ℕ) {volume : ℕ} (v : volume ≡ movedIn counts line j) where
+  pub nothing-moves : volume ≡ 0 → true ≡ movesOpen counts line links movements phases j
+  unfolding movesOpen _or_
+  nothing-moves e = sym (ap (λ x. isOpenIn links phases (linkIn movements 0 j - 1) || x) (eq-eqb _ _ (sym v ∙ e)) ∙ or-true (isOpenIn links phases (linkIn movements 0 j - 1)))
+
+  pub moves-open-is : (volume ≡ 0 → ⊥) → (f : ℕ) {o : Bool} → f + 1 ≡ linkIn movements 0 j → o ≡ isOpenIn links phases f → o ≡ movesOpen counts line links movements phases j
+  unfolding movesOpen _or_
+  moves-open-is d f e q =
+      let g : f ≡ linkIn movements 0 j - 1 = omega arith in
+      q ∙ ap (isOpenIn links phases) g ∙ sym (ap (λ x. isOpenIn links phases (linkIn movements 0 j - 1) || x) (ne-eqb _ _ (λ z. d (v ∙ z))) ∙ or-false (isOpenIn links phases (linkIn movements 0 j - 1)))

@@ -66,7 +66,7 @@ fn moves_rate(line: &[u32], step: &[u32], movements: &[u32], counts: Counts, j: 
     within_rate(moved(line, counts, j), rate(movements, j), step[0])
 }
 
-// 27, movement j: it is 0 if its from link is shut.
+// 27, movement j: it is 0 if its from link is shut. Most are 0, so that this is asked first.
 fn moves_open(
     line: &[u32],
     links: &[u32],
@@ -79,8 +79,10 @@ fn moves_open(
     requires { ⌜ j < counts .movements ⌝ }
     ensures { λ r. ⌜ r ≡ movesOpen counts (now (line .entry)) (now (links .entry)) (now (movements .entry)) (now (phases .entry)) j ⌝ }
 {
+    if moved(line, counts, j) == 0 {
+        return true;
+    }
     is_open(links, phases, step_rows::from_link(movements, counts, j))
-        | (moved(line, counts, j) == 0)
 }
 
 // The number that test k of the four is refused by.

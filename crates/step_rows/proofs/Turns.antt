@@ -1,15 +1,20 @@
 -- One turn of each loop over a row. Assumes nothing.
-use mathlib.Core.Path.{_≡_, ap₂}
+use mathlib.Core.Path.{_≡_, sym, ap, ap₂, _∙_}
 use mathlib.Core.List.{List, _++_}
 use Prim.Native.Nat.{ℕ, _+_, _*_, _-_, _<_}
 use native.Mathlib.Omega.{arith}
-use lib.ListN.{drop, set}
+use lib.ListN.{getD, drop, set}
+use lib.Seq.{set-getD}
 use Rattle.model.specs.Sum.{sum}
 use Rattle.tables.specs.declared.Counts.{Counts}
 use Rattle.tables.specs.Fields.{admittedIn, letOutIn, enteredIn, leftIn}
 use Rattle.step_rows.specs.Rows.{pairs, baseEntered, baseLeft, Base}
 use Rattle.step_rows.proofs.Lists.{begun-turn}
 use Rattle.step_rows.proofs.Sums.{sum-next}
+
+-- nothing is added
+pub nothing-added : (row : List ℕ) (at volume : ℕ) → volume ≡ 0 → row ≡ set row at (getD row at 0 + volume)
+nothing-added row at volume e = let same : getD row at 0 ≡ getD row at 0 + volume = omega arith in sym (set-getD row at 0) ∙ ap (set row at) same
 
 -- the row begins with one link more
 module _ {counts : Counts} {line previous d : List ℕ} (base : Base counts line previous d) {n : ℕ} (h : n < counts .links) where

@@ -34,12 +34,14 @@ pub fn from_link(movements: &[u32], counts: Counts, j: usize) -> usize
     link_index(movements, j, 0)
 }
 
-// Adds a volume to a number of the row.
+// Adds a volume to a number of the row, which is not touched where the volume is 0, as most are.
 fn add_at(row: &mut [u32], at: usize, volume: u32)
     requires { ⌜ (at < length (now row)) × (getD (now row) at 0 + volume < 4294967296) ⌝ }
     ensures { λ _. ⌜ now (row .exit) ≡ set (now (row .entry)) at (getD (now (row .entry)) at 0 + volume) ⌝ }
 {
-    row[at] = row[at] + volume;
+    if volume != 0 {
+        row[at] = row[at] + volume;
+    }
 }
 
 // Adds each movement of the line to what has entered its to link and to what has left its from link.

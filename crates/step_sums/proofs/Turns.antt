@@ -1,6 +1,7 @@
 -- What the tests of the code say of rules 16 to 18. Assumes nothing.
 use mathlib.Core.Path.{_≡_, ap, ap₂, sym, _∙_}
 use mathlib.Core.Logic.{_⊎_, inl, inr}
+use mathlib.Core.Bool.{true}
 use mathlib.Core.List.{List}
 use Prim.Native.Nat.{ℕ, suc, _+_, _*_, _-_, _≤_, _<_}
 use native.Mathlib.Nat.{eq-or-lt-of-le, mul-le-mul-right}
@@ -10,10 +11,10 @@ use borrow.Author.Tests.{le-leb, lt-leb, lt-ltb, le-ltb, eq-eqb, ne-eqb}
 use lib.Dec.{leb}
 use lib.ListN.{getD}
 use Rattle.tables.specs.declared.Counts.{Counts}
-use Rattle.tables.specs.Fields.{linkIn, shareIn, letOutIn, movedIn, enteredIn, leftIn, enteredAt, RowHeld}
+use Rattle.tables.specs.Fields.{travelTimeIn, linkIn, shareIn, letOutIn, movedIn, enteredIn, leftIn, enteredAt, RowHeld}
 use Rattle.arrivals.specs.Arrivals.{secondsIn, elapsedIn, Rising}
 use Rattle.step_rows.specs.Rows.{movedBy, nextLeft}
-use Rattle.step_sums.specs.Sums.{keepsShare, enteredBefore, enteredAfter, ShareTables, ArrivalRows}
+use Rattle.step_sums.specs.Sums.{keepsShare, enteredBefore, enteredAfter, leavesArrived, ShareTables, ArrivalRows}
 
 -- a sum in place of a difference
 pub leb-over : (a b c : ℕ) → leb a (c + b) ≡ leb (a - b) c
@@ -77,10 +78,28 @@ module _ {counts : Counts} {line movements previous row : List ℕ} (tables : Sh
   unfolding nextLeft
   moved-sum i r h e = omega (arith, tables .left-made i h)
 
-  -- rule 16 by that sum
+  -- rule 16 of nothing
+  pub no-share : (j : ℕ) {v : ℕ} → v ≡ movedIn counts line j → v ≡ 0 → true ≡ keepsShare counts line movements j
+  unfolding keepsShare
+  no-share j v z = sym (le-leb (1000 * movedIn counts line j) (shareIn movements j * movedBy counts line movements 0 (counts .movements) (linkIn movements 0 j - 1)) (omega (arith, v, z)))
+
+  -- and by that sum
   pub share-is : (j f r : ℕ) {a b v s : ℕ} → f + 1 ≡ linkIn movements 0 j → f < counts .links → leftIn previous f + (letOutIn counts line f + r) ≡ leftIn row f
       → v ≡ movedIn counts line j → s ≡ shareIn movements j → a ≡ 1000 * v → b ≡ s * r → leb a b ≡ keepsShare counts line movements j
   unfolding keepsShare
   share-is j f r e h q v s a b =
       let g : f ≡ linkIn movements 0 j - 1 = omega arith in
       ap₂ leb (a ∙ ap (λ x. 1000 * x) v) (b ∙ ap₂ (λ x y. x * y) s (moved-sum f r h q ∙ ap (movedBy counts line movements 0 (counts .movements)) g))
+
+-- rule 17 where no more has left than had entered by the start of the step
+pub arrived-before : (counts : Counts) (links row ledger times arrivals curves : List ℕ) (boundary i : ℕ) {l start : ℕ} → l ≡ leftIn row i → start ≡ enteredBefore counts ledger curves (getD arrivals i 0) i
+    → l ≤ start → true ≡ leavesArrived counts links row ledger times arrivals curves boundary i
+unfolding leavesArrived
+arrived-before counts links row ledger times arrivals curves boundary i {l} {start} gone was h =
+    let a = getD arrivals i 0 in
+    let seconds = secondsIn times a in
+    let elapsed = elapsedIn times a (counts .past + boundary) (travelTimeIn links i) in
+    let more = (enteredAfter counts row ledger curves boundary a i - enteredBefore counts ledger curves a i) * elapsed in
+    let enough : leftIn row i ≤ enteredBefore counts ledger curves a i = omega arith in
+    let scaled : leftIn row i * seconds ≤ enteredBefore counts ledger curves a i * seconds + more = omega (arith, mul-le-mul-right seconds enough) in
+    sym (le-leb _ _ scaled)

@@ -30,7 +30,8 @@ fn moved_from(line: &[u32], previous: &[u32], row: &[u32], counts: Counts, i: us
     left(row, i) - left(previous, i) - let_out
 }
 
-// Rule 16, movement j: 1000 × the movement is at most its share × the sum of all movements from its link.
+// Rule 16, movement j: 1000 × the movement is at most its share × the sum of all movements from its link. Most are 0, and
+// keep every share.
 fn keeps_share(
     line: &[u32],
     movements: &[u32],
@@ -43,9 +44,13 @@ fn keeps_share(
     requires { ⌜ j < counts .movements ⌝ }
     ensures { λ r. ⌜ r ≡ keepsShare counts (now (line .entry)) (now (movements .entry)) j ⌝ }
 {
+    let volume = moved(line, counts, j);
+    if volume == 0 {
+        return true;
+    }
     let from = step_rows::from_link(movements, counts, j);
     let all = moved_from(line, previous, row, counts, from);
-    tables::times(1000, moved(line, counts, j)) <= tables::times(share(movements, j), all)
+    tables::times(1000, volume) <= tables::times(share(movements, j), all)
 }
 
 // Entered of link i at the start of a step of the timeline: a past one's as its curve has it, a later one's as the ledger has it.
@@ -94,7 +99,7 @@ fn entered_after(
 }
 
 // Rule 17, link i: what has left it is at most what has arrived at its end, both × the length of the step in which the travel time ends, so that nothing is
-// rounded.
+// rounded. What had entered by that step's start has arrived, and often that is enough.
 fn leaves_arrived(
     links: &[u32],
     row: &[u32],
@@ -112,10 +117,14 @@ fn leaves_arrived(
 {
     let step = arrivals[i];
     let start = entered_before(row, ledger, curves, counts, boundary, step, i);
+    let left = left(row, i);
+    if left <= start {
+        return true;
+    }
     let end = entered_after(row, ledger, curves, counts, boundary, step, i);
     let seconds = arrivals::seconds(times, step);
     let elapsed = arrivals::elapsed(times, step, counts.past + boundary, travel_time(links, i));
-    tables::times(left(row, i), seconds) <= arrivals::scaled_arrived(start, end, seconds, elapsed)
+    tables::times(left, seconds) <= arrivals::scaled_arrived(start, end, seconds, elapsed)
 }
 
 // Rule 18, link i: entered − left before the step is at most capacity, said without the difference.

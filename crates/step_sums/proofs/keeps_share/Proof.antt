@@ -1,20 +1,20 @@
 -- `step_sums::keeps_share` meets its contract. What left in the row holds beside the row before and the let-out volume is the sum of the movements. Assumes nothing.
-use Rattle.step_sums.proofs.Turns.{share-room, share-is}
+use Rattle.step_sums.proofs.Turns.{share-room, no-share, share-is}
 use borrow.Author.Needs.{needs}
 use Rattle.step_sums.proofs.keeps_share.Statement.{statement}
 use Rattle.step_sums.proofs.keeps_share.Tie as tie
+
+moved-requires : tie.Need-moved-requires
+moved-requires c κs = search needs
+
+returns : tie.Need-returns
+returns c = no-share (c .before .before .before .before .before .before .pre .0) (c .before .before .before .before .before .before .args .j) (c .before .moved .ensures) (c .if1 .taken)
 
 from-link-requires : tie.Need-from-link-requires
 from-link-requires c κs = search needs
 
 moved-from-requires : tie.Need-moved-from-requires
-moved-from-requires c κs =
-    let asked = c .before .before .before .before .before .pre .0 in
-    let l = c .from-link .ensures .1 in
-    (search needs, share-room asked (c .from-link .result) l)
-
-moved-requires : tie.Need-moved-requires
-moved-requires c κs = search needs
+moved-from-requires c κs = let asked = c .before .before .before .before .before .before .before .pre .0 in let l = c .from-link .ensures .1 in (search needs, share-room asked (c .from-link .result) l)
 
 times-requires : tie.Need-times-requires
 times-requires c κs = search needs
@@ -25,21 +25,18 @@ share-requires c κs = search needs
 times-requires-2 : tie.Need-times-requires-2
 times-requires-2 c κs = search needs
 
-returns : tie.Need-returns
-returns c =
-    let s = c .before .before .before .before .before .before .before .before .before .before in
-    let from = c .before .before .before .before .before .from-link in
-    share-is (s .pre .0) (s .args .j) (from .result) (c .before .before .before .before .moved-from .result) (from .ensures .0) (from .ensures .1) (c .before .before .before .before .moved-from .ensures) (c .before .before .before .moved .ensures)
-    (c .before .share .ensures) (c .before .before .times .ensures) (c .times2 .ensures)
+returns-2 : tie.Need-returns-2
+returns-2 c = share-is (c .before .before .before .before .before .before .before .before .before .before .before .pre .0) (c .before .before .before .before .before .before .before .before .before .before .before .args .j) (c .before .before .before .before .from-link .result) (c .before .before .before .moved-from .result) (c .before .before .before .before .from-link .ensures .0) (c .before .before .before .before .from-link .ensures .1) (c .before .before .before .moved-from .ensures) (c .before .before .before .before .before .before .moved .ensures) (c .before .share .ensures) (c .before .before .times .ensures) (c .times2 .ensures)
 
 pub keeps-share-spec : {M : Type 1} → statement M
 keeps-share-spec =
     tie.close
     (tie.spec
+    moved-requires
+    returns
     from-link-requires
     moved-from-requires
-    moved-requires
     times-requires
     share-requires
     times-requires-2
-    returns)
+    returns-2)
