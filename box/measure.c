@@ -1,6 +1,7 @@
 /*
  * On each text of inputs.h, for each call of a box, of the library and of its plain C twin: a line with the text's place, the twin or not, the call, the number of
- * its answer, the ticks that it takes and its bytes of stack. The first line has the ticks of a loop of LOOP instructions.
+ * its answer, the ticks that it takes, its bytes of stack and those of the text that carry_on writes. The twin has the first three calls alone. The first line has
+ * the ticks of a loop of LOOP instructions.
  */
 #include "board.h"
 #include "inputs.h"
@@ -10,21 +11,34 @@ struct implementation {
     plancheck_network_result (*check_network)(const uint8_t *, size_t);
     plancheck_plan_result (*check_plan)(const uint8_t *, size_t, const uint8_t *, size_t, uint32_t *, size_t);
     plancheck_link_result (*link_state)(const uint8_t *, size_t, const uint32_t *, size_t, uint32_t, uint32_t);
+    plancheck_counts_result (*network_counts)(const uint8_t *, size_t);
+    plancheck_text_result (*carry_on)(const uint8_t *, size_t, uint32_t, const uint8_t *, size_t, uint32_t *, size_t, uint8_t *, size_t);
 };
 
 static const struct implementation implementations[] = {
-    {plancheck_check_network, plancheck_check_plan, plancheck_link_state},
-    {twin_check_network, twin_check_plan, twin_link_state},
+    {plancheck_check_network, plancheck_check_plan, plancheck_link_state, plancheck_network_counts, plancheck_carry_on},
+    {twin_check_network, twin_check_plan, twin_link_state, NULL, NULL},
 };
 
 /* What is measured, and what was answered. */
-enum call { CHECK_NETWORK, CHECK_PLAN, LINK_STATE, CALLS };
+enum call { CHECK_NETWORK, CHECK_PLAN, LINK_STATE, CALLS_OF_TWIN, NETWORK_COUNTS = CALLS_OF_TWIN, CARRY_ON, CALLS };
 
 static const struct implementation *implementation;
 static const struct example *example;
 static enum call call;
 static uint32_t ledger[LEDGER_ROOM];
-static uint32_t number;
+static uint8_t carried[PLANCHECK_NETWORK_TEXT_MAX];
+static size_t carried_plan_len;
+static uint32_t number, written;
+
+/* How long the first so many lines of a text are. */
+static size_t length_of_lines(struct lent text, uint32_t lines)
+{
+    size_t length = 0;
+    while (lines > 0)
+        lines -= text.bytes[length++] == '\n';
+    return length;
+}
 
 static void make_call(void)
 {
@@ -37,8 +51,18 @@ static void make_call(void)
     case CHECK_PLAN:
         number = implementation->check_plan(network.bytes, network.length, plan.bytes, plan.length, ledger, ledger_len).number;
         break;
-    default:
+    case LINK_STATE:
         number = implementation->link_state(network.bytes, network.length, ledger, ledger_len, example->steps, example->links).number;
+        break;
+    case NETWORK_COUNTS:
+        number = implementation->network_counts(network.bytes, network.length).number;
+        break;
+    default: {
+        plancheck_text_result text = implementation->carry_on(network.bytes, network.length, example->steps - 1, plan.bytes, carried_plan_len, ledger,
+                                                              ledger_len, carried, sizeof carried);
+        number = text.number;
+        written = (uint32_t)text.length;
+    }
     }
 }
 
@@ -63,7 +87,20 @@ static plancheck_link_result empty_link_state(const uint8_t *text, size_t length
     return (plancheck_link_result){0};
 }
 
-static const struct implementation empty = {empty_check_network, empty_check_plan, empty_link_state};
+static plancheck_counts_result empty_network_counts(const uint8_t *text, size_t length)
+{
+    (void)text, (void)length;
+    return (plancheck_counts_result){0};
+}
+
+static plancheck_text_result empty_carry_on(const uint8_t *text, size_t length, uint32_t row, const uint8_t *second_text, size_t second_length,
+                                            uint32_t *numbers, size_t count, uint8_t *buffer, size_t room)
+{
+    (void)text, (void)length, (void)row, (void)second_text, (void)second_length, (void)numbers, (void)count, (void)buffer, (void)room;
+    return (plancheck_text_result){0};
+}
+
+static const struct implementation empty = {empty_check_network, empty_check_plan, empty_link_state, empty_network_counts, empty_carry_on};
 
 /* The system timer counts down 24 bits, and tells when it has come to 0. */
 #define TIMER ((volatile uint32_t *)0xE000E010)
@@ -111,7 +148,7 @@ static void print_measured(uint32_t k, uint32_t which)
     uint32_t empty_ticks = ticks_of(make_call), empty_stack = stack_of(make_call);
     implementation = &implementations[which];
     uint32_t ticks = ticks_of(make_call), stack = stack_of(make_call);
-    uint32_t numbers[] = {k, which, call, number, ticks - empty_ticks, stack - empty_stack};
+    uint32_t numbers[] = {k, which, call, number, ticks - empty_ticks, stack - empty_stack, call == CARRY_ON ? written : 0};
     for (uint32_t i = 0; i < sizeof numbers / sizeof *numbers; i++) {
         print_number(numbers[i]);
         print(" ");
@@ -125,8 +162,9 @@ int main(void)
     print("\n");
     for (uint32_t k = 0; k < EXAMPLES; k++) {
         example = &examples[k];
+        carried_plan_len = length_of_lines(example->plan, example->steps - 1);
         for (uint32_t which = 0; which < 2; which++)
-            for (call = CHECK_NETWORK; call < CALLS; call++)
+            for (call = CHECK_NETWORK; call < (which == 0 ? CALLS : CALLS_OF_TWIN); call++)
                 print_measured(k, which);
     }
     return 0;
