@@ -12,6 +12,7 @@ import generate
 
 FOLDER = "target/box"
 LIBRARY = f"{FOLDER}/libplan_check_c.a"
+SOURCES = ["box/build", "box/calls.c", "box/arithmetic.S"]
 STRICT = ["-std=c11", "-Wall", "-Wextra", "-Werror", "-O2", "-Iinclude", "-Ibox", "-Ibench"]
 DEBIAN = {
     "arm-none-eabi-gcc": "gcc-arm-none-eabi",
@@ -61,10 +62,17 @@ def archive():
     return f"{done.stdout.strip()}/libplan_check_c.a"
 
 
+def is_built():
+    """Whether the library for a Cortex-M0 is of the same module as the archive for x86-64, and of what stands here."""
+    if not (os.path.exists(LIBRARY) and os.path.exists(f"{FOLDER}/x86-64.a")):
+        return False
+    changed = max(map(os.path.getmtime, SOURCES))
+    return changed < os.path.getmtime(LIBRARY) and filecmp.cmp(f"{FOLDER}/x86-64.a", archive(), shallow=False)
+
+
 def make_library():
-    """Runs box/build where the library for a Cortex-M0 is not of the same module as the archive for x86-64."""
-    proved, copy = archive(), f"{FOLDER}/x86-64.a"
-    if not (os.path.exists(LIBRARY) and os.path.exists(copy) and filecmp.cmp(copy, proved, shallow=False)):
+    """Runs box/build where the library for a Cortex-M0 has to be built."""
+    if not is_built():
         print(output_of("box/build"), end="", flush=True)
 
 

@@ -15,9 +15,10 @@
  *     }
  *
  * Link with libplan_check_c.a. The calls follow the System V calling convention of x86-64; structs go by value. box/build
- * makes the first three calls for a Cortex-M0 too, with the calling convention of its processor (AAPCS). The toolchain
- * doesn't support that route: the compiled module is the same, but on neither processor is code generation part of what is
- * proved, and on the second the answers are compared with those of the first (box/run).
+ * makes the five calls of a box (plancheck_check_network, plancheck_network_counts, plancheck_check_plan,
+ * plancheck_link_state and plancheck_carry_on) for a Cortex-M0 too, with the calling convention of its processor (AAPCS).
+ * The toolchain doesn't support that route: the compiled module is the same, but on neither processor is code generation
+ * part of what is proved, and on the second the answers are compared with those of the first (box/run).
  *
  * UNITS
  *     volume   thousandths of a vehicle
