@@ -111,8 +111,8 @@
  *     plancheck_run_cells            2,208    nothing
  *     plancheck_step_vehicles            8    nothing: the places are changed where they stand
  *     plancheck_version                  8    nothing
- * On a Cortex-M0 plancheck_check_network, plancheck_check_plan and plancheck_link_state take 3,992, 7,816 and 4,080
- * of stack (box/measure).
+ * On a Cortex-M0 plancheck_check_network takes 5,524, plancheck_network_counts 5,540, plancheck_check_plan 6,716,
+ * plancheck_link_state 5,860 and plancheck_carry_on 6,836 of stack (box/measure).
  * plancheck_plan_from_listing is for an engineer's machine, not for a box. The texts of a box are at most
  * PLANCHECK_NETWORK_TEXT_MAX and PLANCHECK_PLAN_TEXT_MAX.
  *
