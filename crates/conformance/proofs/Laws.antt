@@ -1,7 +1,6 @@
 -- The ledger before a call, a number at a time, the buffer, valid questions, the answers, a call at a time, the places, a way through `judge` at a time, and the
 -- counting, a case at a time. Assumes nothing.
 use Prim.Native.Nat.{ℕ, _+_, _*_, _-_, _<_, _≤_}
-use native.Mathlib.Numerals.{add-one}
 use mathlib.Core.Path.{_≡_, ap, sym, _∙_}
 use mathlib.Core.Bool.{Bool, true, false, cond}
 use mathlib.Core.List.{List, [], _++_, append-nil}
@@ -32,8 +31,9 @@ use Rattle.conformance_cases.specs.Outcome.{networkOutcome, planOutcome, linkOu
 use Rattle.conformance_cases.specs.declared.outcome.Outcome.{Outcome}
 use Rattle.conformance_cases.specs.declared.stored.LedgerForm.{LedgerForm}
 use Rattle.conformance_cases.specs.declared.stored.Question.{Question}
-use Rattle.conformance.specs.Compare.{validQuestion, heldAt, Filled, bufferBefore, answerAlone, ledgerAlone, bufferTo, answerTo, ledgerTo, secondLedgerTo, checksumTo, asStored, placeIn, Judged, CaseCounted, OneMore, Counted, more}
-use Rattle.conformance.specs.Tally.{answers, different, passedOver, refusalOf, placeOf, counted}
+use Rattle.conformance.specs.Compare.{validQuestion, heldAt, Filled, bufferBefore, answerAlone, ledgerAlone, bufferTo, answerTo, ledgerTo, secondLedgerTo, checksumTo, asStored, placeIn, Judged, CaseCounted, OneMore}
+use Rattle.conformance.specs.Tally.{answers, different, passedOver, refusalOf, placeOf}
+use Rattle.case_files.specs.Tally.{counted}
 use Rattle.conformance_cases.specs.Checksum.{checksumOf}
 
 -- the ledger is filled below a place
@@ -189,10 +189,6 @@ unfolding bufferBefore
 judged network plan second start ledger secondLedger buffer size fill secondSize secondFill room place question h f k g e b p =
     record { ledger = ledger; sized = h; filled = f; second-ledger = secondLedger; second-sized = k; second-filled = g; is = rw (b, e) at p }
 
--- nothing is asked of what is false
-pub never : {A : Type 0} → false ≡ true → A
-never e = let z : _≡_ {A = ℕ} 0 1 = cc in absurd (omega arith)
-
 module _ (call : ℕ) (outcome : Outcome) {n : ℕ} (e : n ≡ refusalOf outcome) where
   pub no-place : answers ≤ n → different ≡ placeOf call outcome
   unfolding placeOf
@@ -213,11 +209,3 @@ pub one-more :
     → CaseCounted network plan second start form secondForm question before after → OneMore before after
 one-more {network} {plan} {second} {start} {before} {after} {form} {secondForm} {question} i =
     record { network = network; plan = plan; second = second; start = start; form = form; second-form = secondForm; question = question; case-counted = i }
-
-pub counted-more : {n : ℕ} {before between after : List ℕ} → Counted n before between → OneMore between after → Counted (n + 1) before after
-counted-more h o = rw add-one (more h o)
-
-pub counted-all : {n count : ℕ} {before after : List ℕ} → n ≤ count → count ≤ n → Counted n before after → Counted count before after
-counted-all {n} {count} h l k =
-    let e : n ≡ count = omega arith in
-    rw e at k

@@ -1,6 +1,6 @@
 -- What ledgers and a buffer hold before a call, what the definitions say of the call, and that each case is compared with what was stored and counted.
 -- Assumes nothing.
-use Prim.Native.Nat.{ℕ, suc, zero, _<_}
+use Prim.Native.Nat.{ℕ, _<_}
 use mathlib.Core.Path.{_≡_}
 use mathlib.Core.Bool.{Bool, cond, _&&_}
 use mathlib.Core.List.{List, []}
@@ -16,14 +16,13 @@ use Rattle.carry_model.specs.Call.{plannedOn, carryOn, carryLedger, carryBuffer
 use Rattle.sheet_model.specs.Calls.{checkSheet, sheetLedger, planFromSheet}
 use Rattle.sheet_model.specs.Calls as sheet-calls
 use Rattle.comparison.specs.Comparison.{comparePlans, secondLedgerAfter}
+use Rattle.case_files.specs.Tally.{counted}
 use Rattle.conformance_cases.specs.Checksum.{checksumOf}
 use Rattle.conformance_cases.specs.Outcome.{networkOutcome, planOutcome, linkOutcome, listingOutcome, carryOutcome, sheetOutcome, comparisonOutcome, sameOutcome}
 use Rattle.conformance_cases.specs.declared.outcome.Outcome.{Outcome}
-use Rattle.conformance_cases.specs.declared.stored.CaseCount.{CaseCount}
-use Rattle.conformance_cases.specs.declared.stored.CaseCount.the-variants.{Cases, Malformed}
 use Rattle.conformance_cases.specs.declared.stored.LedgerForm.{LedgerForm}
 use Rattle.conformance_cases.specs.declared.stored.Question.{Question}
-use Rattle.conformance.specs.Tally.{different, passedOver, placeOf, counted}
+use Rattle.conformance.specs.Tally.{different, passedOver, placeOf}
 
 -- a call of the stored form, and a byte for the buffer
 unfoldable pub validQuestion : Question → Bool
@@ -127,13 +126,3 @@ pub record OneMore (before after : List ℕ) : Type 0 where
   pub second-form : LedgerForm
   pub question : Question
   pub case-counted : CaseCounted network plan second start form second-form question before after
-
--- n cases more
-pub data Counted : ℕ → List ℕ → List ℕ → Type 0 where
-  none : {counts : List ℕ} → Counted zero counts counts
-  more : {n : ℕ} {before between after : List ℕ} → Counted n before between → OneMore between after → Counted (suc n) before after
-
--- as many cases as the file says that it has
-unfoldable pub Compared : List ℕ → List ℕ → CaseCount → Type 0
-Compared before after (Cases n) = Counted n before after
-Compared before after Malformed = Unit {0}

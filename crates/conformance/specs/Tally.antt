@@ -1,9 +1,7 @@
--- Where a case is counted, and the counts with one case more. Assumes nothing.
-use Prim.Native.Nat.{ℕ, _+_, _*_, _-_, _%_, _^_}
+-- Where a case is counted. Assumes nothing.
+use Prim.Native.Nat.{ℕ, _+_, _*_, _-_}
 use mathlib.Core.Bool.{cond}
-use mathlib.Core.List.{List}
 use lib.Dec.{ltb, eqb}
-use lib.ListN.{getD, set}
 use Rattle.conformance_cases.specs.declared.outcome.Outcome.{Outcome}
 
 -- how many answers a call's cases are counted by: accepted, and each refusal's number
@@ -27,7 +25,3 @@ refusalOf outcome = cond (eqb (outcome .kind) 3) (outcome .first) 0
 -- the place of the cases of a call, one of 1 to 8, that agree: so many for each call, by refusal number
 unfoldable pub placeOf : ℕ → Outcome → ℕ
 placeOf call outcome = cond (ltb (refusalOf outcome) answers) ((call - 1) * answers + refusalOf outcome) different
-
--- one more at a place; a count has 64 bits
-unfoldable pub counted : List ℕ → ℕ → List ℕ
-counted counts place = set counts place ((getD counts place 0 + 1) % 2 ^ 64)

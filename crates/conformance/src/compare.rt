@@ -3,15 +3,17 @@ ghost use mathlib.Core.Path.{_≡_};
 ghost use mathlib.Core.Bool.{true};
 ghost use Prim.Native.Nat.{_<_, _≤_, _^_};
 ghost use lib.ListN.{length, take, replicate};
-ghost use Rattle.conformance.specs.Compare.{validQuestion, heldAt, Filled, answerAlone, ledgerAlone, bufferTo, answerTo, ledgerTo, secondLedgerTo, asStored, placeIn, Judged, CaseCounted, OneMore, Counted, Compared};
+ghost use Rattle.conformance.specs.Compare.{validQuestion, heldAt, Filled, answerAlone, ledgerAlone, bufferTo, answerTo, ledgerTo, secondLedgerTo, asStored, placeIn, Judged, CaseCounted, OneMore};
+ghost use Rattle.case_files.specs.Tally.{Counted, Compared};
 ghost use Rattle.conformance.specs.Tally.{counters};
 use crate::tally;
 use crate::tally::COUNTERS;
+use case_files::reading;
+use case_files::reading::CaseCount;
 use conformance_cases::checksum;
 use conformance_cases::outcome;
 use conformance_cases::outcome::Outcome;
 use conformance_cases::stored;
-use conformance_cases::stored::CaseCount;
 use conformance_cases::stored::LedgerForm;
 use conformance_cases::stored::Question;
 
@@ -270,7 +272,7 @@ fn run_read(
         &mut buffer[..buffer_size],
         question,
     );
-    tally::add_one(counts, place);
+    case_files::tally::add_one(counts, place);
     true
 }
 
@@ -290,8 +292,8 @@ fn run_case(
 ) -> Sizes
     ensures { λ r. ⌜ ((r .network ≡ 4294967295 → ⊥) → OneMore (now (counts .entry)) (now (counts .exit))) ⌝ }
 {
-    let network_size = stored::read_text(file, network, before.network);
-    let plan_size = stored::read_text(file, plan, before.plan);
+    let network_size = reading::read_text(file, network, before.network);
+    let plan_size = reading::read_text(file, plan, before.plan);
     let form = stored::read_ledger(file);
     let start_size = stored::read_start(file, start, form.given, before.start);
     let asked = stored::read_asked(file);
@@ -322,10 +324,10 @@ fn run_case(
         return sizes;
     }
     Sizes {
-        network: stored::NOTHING,
-        plan: stored::NOTHING,
-        second: stored::NOTHING,
-        start: stored::NOTHING,
+        network: reading::NOTHING,
+        plan: reading::NOTHING,
+        second: reading::NOTHING,
+        start: reading::NOTHING,
     }
 }
 
@@ -342,13 +344,13 @@ fn run_cases(
     buffer: &mut [u8],
     counts: &mut [u64; COUNTERS],
 ) -> bool
-    ensures { λ r. ⌜ (r ≡ true → Counted count (now (counts .entry)) (now (counts .exit))) ⌝ }
+    ensures { λ r. ⌜ (r ≡ true → Counted OneMore count (now (counts .entry)) (now (counts .exit))) ⌝ }
 {
     let mut sizes = Sizes {
-        network: stored::NOTHING,
-        plan: stored::NOTHING,
-        second: stored::NOTHING,
-        start: stored::NOTHING,
+        network: reading::NOTHING,
+        plan: reading::NOTHING,
+        second: reading::NOTHING,
+        start: reading::NOTHING,
     };
     let mut done = 0;
     while done < count {
@@ -365,7 +367,7 @@ fn run_cases(
             buffer,
             counts,
         );
-        if sizes.network == stored::NOTHING {
+        if sizes.network == reading::NOTHING {
             return false;
         }
         done += 1;
@@ -385,7 +387,7 @@ pub fn run_file(
     buffer: &mut [u8],
     counts: &mut [u64; COUNTERS],
 ) -> CaseCount
-    ensures { λ r. ⌜ Compared (now (counts .entry)) (now (counts .exit)) r ⌝ }
+    ensures { λ r. ⌜ Compared OneMore (now (counts .entry)) (now (counts .exit)) r ⌝ }
 {
     let CaseCount::Cases(count) = stored::read_header(file) else {
         return CaseCount::Malformed;
@@ -402,7 +404,7 @@ pub fn run_file(
         buffer,
         counts,
     ) {
-        if stored::is_at_end(file) {
+        if reading::is_at_end(file) {
             return CaseCount::Cases(count);
         }
     }

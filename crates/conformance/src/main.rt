@@ -5,7 +5,6 @@ mod compare;
 mod tally;
 
 use crate::tally::COUNTERS;
-use conformance_cases::stored::CaseCount;
 
 // Compares the cases of a file, and prints how many it has. There is room for the longest texts whose numbers are padded.
 fn compare_file(path: &[u8], counts: &mut [u64; COUNTERS]) {
@@ -29,12 +28,7 @@ fn compare_file(path: &[u8], counts: &mut [u64; COUNTERS]) {
         counts,
     );
     libc::close(file);
-    tally::print(path);
-    match answer {
-        CaseCount::Cases(count) => tally::print_field(count as u64),
-        CaseCount::Malformed => tally::print(b" can't be read, or is malformed"),
-    }
-    tally::print(b"\n");
+    case_files::tally::print_file(path, answer);
 }
 
 fn main() {

@@ -1,10 +1,13 @@
 // How many cases agreed, and what is printed.
 ghost use mathlib.Core.Path.{_≡_};
 ghost use Prim.Native.Nat.{_<_, _≤_};
-ghost use Rattle.conformance.specs.Tally.{answers, counters, refusalOf, placeOf, counted};
+ghost use Rattle.conformance.specs.Tally.{answers, counters, refusalOf, placeOf};
+use case_files::tally::print;
+use case_files::tally::print_field;
+use case_files::tally::print_number;
+use case_files::tally::print_numbers;
 use conformance_cases::outcome::Outcome;
 use conformance_cases::stored::Question;
-use libc::STDOUT_FILENO;
 
 // How many answers a call's cases are counted by: accepted, and each refusal's number.
 const ANSWERS: usize = 36;
@@ -15,23 +18,6 @@ pub const DIFFERENT: usize = 8 * ANSWERS;
 pub const PASSED_OVER: usize = DIFFERENT + 1;
 
 pub const COUNTERS: usize = DIFFERENT + 2;
-
-// Writes a text to standard output. Nothing is done about an output that takes no more.
-pub fn print(text: &[u8]) {
-    io::write_all(STDOUT_FILENO, text);
-}
-
-fn print_number(number: u64) {
-    io::print_decimal(STDOUT_FILENO, number);
-}
-
-// Counts one more at a place. There are fewer than 2^32 cases, so that no count wraps.
-pub fn add_one(counts: &mut [u64; COUNTERS], place: usize)
-    requires { ⌜ place < counters ⌝ }
-    ensures { λ _. ⌜ now (counts .exit) ≡ counted (now (counts .entry)) place ⌝ }
-{
-    counts[place] = std::num::wrapping_add_u64(counts[place], 1);
-}
 
 // The number of a refusal; 0 where nothing is refused.
 fn refusal_of(outcome: Outcome) -> u64
@@ -50,21 +36,6 @@ pub fn place_of(call: u32, outcome: Outcome) -> usize
         return DIFFERENT;
     }
     (call as usize - 1) * ANSWERS + number
-}
-
-// A number behind a tab.
-pub fn print_field(number: u64) {
-    print(b"\t");
-    print_number(number);
-}
-
-// Numbers, each behind a tab.
-fn print_numbers(numbers: &[u64]) {
-    let mut i = 0;
-    while i < numbers.len() {
-        print_field(numbers[i]);
-        i += 1;
-    }
 }
 
 // The rest of a line of the table: how many cases of each call were accepted (0) or refused with a number.
@@ -104,26 +75,21 @@ pub fn print_table(counts: &[u64; COUNTERS]) {
     print(b"\n");
 }
 
-fn print_outcome(outcome: Outcome, checksum: u64) {
-    let numbers = [
+fn fields_of(outcome: Outcome, checksum: u64) -> [u64; 6] {
+    [
         outcome.kind as u64,
         outcome.first,
         outcome.second,
         outcome.third,
         outcome.fourth,
         checksum,
-    ];
-    print_numbers(&numbers);
+    ]
 }
 
 // A case that differs, by its number from 0: what the library gave, and what was stored.
 pub fn print_difference(number: u32, given: Outcome, sum: u64, question: Question) {
     let answer = question.answer;
-    print(b"case ");
-    print_number(number as u64);
-    print(b" differs: library");
-    print_outcome(given, sum);
-    print(b"\tstored");
-    print_outcome(answer, question.checksum);
-    print(b"\n");
+    let given_fields = fields_of(given, sum);
+    let stored_fields = fields_of(answer, question.checksum);
+    case_files::tally::print_difference(number, &given_fields, &stored_fields);
 }

@@ -1,16 +1,9 @@
--- Numbers of the stored form, the lowest byte first. Assumes nothing.
-use Prim.Native.Nat.{ℕ, _+_, _*_}
+-- What is asked and answered, by the bytes of the stored form. Assumes nothing.
+use Prim.Native.Nat.{ℕ}
 use mathlib.Core.List.{List}
-use lib.ListN.{getD}
+use Rattle.case_files.specs.Numbers.{number32, number64}
 use Rattle.conformance_cases.specs.declared.stored.Question.{Question}
 use Rattle.conformance_cases.specs.declared.outcome.Outcome.{Outcome}
-
-unfoldable pub number32 : List ℕ → ℕ → ℕ
-number32 bytes at =
-    getD bytes at 0 + getD bytes (at + 1) 0 * 256 + getD bytes (at + 2) 0 * 65536 + getD bytes (at + 3) 0 * 16777216
-
-unfoldable pub number64 : List ℕ → ℕ → ℕ
-number64 bytes at = number32 bytes at + number32 bytes (at + 4) * 4294967296
 
 -- the call, of the 28 bytes of what is asked
 abbrev pub callOf : List ℕ → ℕ

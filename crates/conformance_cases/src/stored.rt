@@ -1,21 +1,13 @@
 // Reads the stored form of the cases, one part at a time. The form is described in reference/src/cases/stored.rs.
 ghost use mathlib.Core.Path.{_≡_};
-ghost use Prim.Native.Nat.{_+_, _≤_};
-ghost use lib.ListN.{length};
-ghost use Rattle.conformance_cases.specs.Stored.{number32, number64, callOf, answerOf, questionOf};
+ghost use Rattle.conformance_cases.specs.Stored.{callOf, answerOf, questionOf};
 use crate::outcome::Outcome;
-
-// For the length of a text, or of the given numbers: the same ones as in the case before.
-const SAME: u32 = 4294967295;
-
-// A length that no buffer has: nothing was read, as the file is malformed, or no case came before.
-pub const NOTHING: usize = 4294967295;
-
-// How many cases the file says that it has.
-pub enum CaseCount {
-    Cases(u32),
-    Malformed,
-}
+use case_files::numbers::long_number_at;
+use case_files::numbers::number_at;
+use case_files::reading;
+use case_files::reading::CaseCount;
+use case_files::reading::NOTHING;
+use case_files::reading::SAME;
 
 // The ledger of a case: its length, what it holds past the given numbers, and how many are given.
 pub struct LedgerForm {
@@ -37,79 +29,22 @@ pub struct Question {
     pub checksum: u64,
 }
 
-fn wide(byte: u8) -> u32
-    ensures { λ r. ⌜ r ≡ byte ⌝ }
-    ensures { λ r. ⌜ r ≤ 255 ⌝ }
-{
-    byte as u32
-}
-
-// The number of four bytes, the lowest first.
-fn number_at(bytes: &[u8], at: usize) -> u32
-    requires { ⌜ at + 4 ≤ length (now bytes) ⌝ }
-    ensures { λ r. ⌜ r ≡ number32 (now (bytes .entry)) at ⌝ }
-{
-    let low = wide(bytes[at]) + wide(bytes[at + 1]) * 256;
-    low + wide(bytes[at + 2]) * 65536 + wide(bytes[at + 3]) * 16777216
-}
-
-// The number of eight bytes, the lowest first.
-fn long_number_at(bytes: &[u8], at: usize) -> u64
-    requires { ⌜ at + 8 ≤ length (now bytes) ⌝ }
-    ensures { λ r. ⌜ r ≡ number64 (now (bytes .entry)) at ⌝ }
-{
-    let low = number_at(bytes, at);
-    let high = number_at(bytes, at + 4);
-    low as u64 + high as u64 * 4294967296
-}
-
-// Fills a buffer from the file; false where the file ends before or can't be read.
-fn read_whole(file: i32, buffer: &mut [u8]) -> bool {
-    let size = buffer.len();
-    io::read_full(file, buffer) == size
-}
-
 // Reads the header: the file's mark, version 4, and how many cases follow. The greatest lengths that it names are not needed, as each length
 // is held to its buffer.
 pub fn read_header(file: i32) -> CaseCount {
-    let mut bytes = [0u8; 32];
-    if !read_whole(file, &mut bytes) {
-        return CaseCount::Malformed;
-    }
     // "PLANCASE"
-    if long_number_at(&bytes, 0) != 4995408169015528528 {
+    let count = reading::read_count(file, 4995408169015528528, 4);
+    let mut lengths = [0u8; 16];
+    if !reading::read_whole(file, &mut lengths) {
         return CaseCount::Malformed;
     }
-    if number_at(&bytes, 8) != 4 {
-        return CaseCount::Malformed;
-    }
-    CaseCount::Cases(number_at(&bytes, 12))
-}
-
-// Reads a text of a case, or goes on with that of the case before: the text's length.
-pub fn read_text(file: i32, text: &mut [u8], before: usize) -> usize {
-    let mut bytes = [0u8; 4];
-    if !read_whole(file, &mut bytes) {
-        return NOTHING;
-    }
-    let given = number_at(&bytes, 0);
-    if given == SAME {
-        return before;
-    }
-    let size = given as usize;
-    if text.len() < size {
-        return NOTHING;
-    }
-    if !read_whole(file, &mut text[..size]) {
-        return NOTHING;
-    }
-    size
+    count
 }
 
 // Reads the form of a case's ledger.
 pub fn read_ledger(file: i32) -> LedgerForm {
     let mut bytes = [0u8; 12];
-    if !read_whole(file, &mut bytes) {
+    if !reading::read_whole(file, &mut bytes) {
         return LedgerForm {
             size: NOTHING,
             fill: 0,
@@ -128,7 +63,7 @@ fn read_numbers(file: i32, numbers: &mut [u32]) -> bool {
     let mut i = 0;
     while i < numbers.len() {
         let mut bytes = [0u8; 4];
-        if !read_whole(file, &mut bytes) {
+        if !reading::read_whole(file, &mut bytes) {
             return false;
         }
         numbers[i] = number_at(&bytes, 0);
@@ -155,7 +90,7 @@ pub fn read_start(file: i32, start: &mut [u32], given: u32, before: usize) -> us
 // Reads what a case asks: its buffer, its call, and the boundary and the link of it. What is told of a file that ends before is zeros.
 pub fn read_asked(file: i32) -> [u8; 28] {
     let mut bytes = [0u8; 28];
-    if !read_whole(file, &mut bytes) {
+    if !reading::read_whole(file, &mut bytes) {
         return [0u8; 28];
     }
     bytes
@@ -172,7 +107,7 @@ fn call_of(asked: &[u8; 28]) -> u32
 pub fn read_second(file: i32, text: &mut [u8], asked: &[u8; 28]) -> usize {
     let call = call_of(asked);
     if (call == 6) | (call == 8) {
-        return read_text(file, text, NOTHING);
+        return reading::read_text(file, text, NOTHING);
     }
     0
 }
@@ -187,7 +122,7 @@ pub fn read_second_ledger(file: i32, asked: &[u8; 28]) -> LedgerForm {
             given: 0,
         };
     }
-    if !read_whole(file, &mut bytes) {
+    if !reading::read_whole(file, &mut bytes) {
         return LedgerForm {
             size: NOTHING,
             fill: 0,
@@ -232,14 +167,8 @@ fn question_of(asked: &[u8; 28], told: &[u8; 44]) -> Question
 // Reads the answer to what is asked. What is told of a file that ends before is that of zeros.
 pub fn read_question(file: i32, asked: &[u8; 28]) -> Question {
     let mut told = [0u8; 44];
-    if !read_whole(file, &mut told) {
+    if !reading::read_whole(file, &mut told) {
         return question_of(&[0u8; 28], &[0u8; 44]);
     }
     question_of(asked, &told)
-}
-
-// Whether the file has no byte more.
-pub fn is_at_end(file: i32) -> bool {
-    let mut bytes = [0u8; 1];
-    io::read_full(file, &mut bytes) == 0
 }

@@ -3,8 +3,9 @@ use Prim.Native.Nat.{_-_, _≤_}
 use mathlib.Core.Path.{_≡_, refl}
 use native.Mathlib.Omega.{arith}
 use lib.ListN.{length}
-use Rattle.conformance.specs.Compare.{Counted, none}
-use Rattle.conformance.proofs.Laws.{never, counted-more, counted-all}
+use Rattle.conformance.specs.Compare.{OneMore}
+use Rattle.case_files.specs.Tally.{Counted, none}
+use Rattle.case_files.proofs.Laws.{never, counted-more, counted-all}
 use borrow.Author.Needs.{needs}
 use Rattle.conformance.proofs.compare.run_cases.Statement.{statement}
 use Rattle.conformance.proofs.compare.run_cases.Tie as tie
@@ -19,7 +20,7 @@ Inv-loop file count network₀ plan₀ second₀ start₀ ledger₀ secondLedger
     × (length ledger ≡ length ledger₀)
     × (length secondLedger ≡ length secondLedger₀)
     × (length buffer ≡ length buffer₀)
-    × Counted done counts₀ counts
+    × Counted OneMore done counts₀ counts
 
 abbrev μ-loop : tie.MeasureT-loop
 μ-loop file count network₀ plan₀ second₀ start₀ ledger₀ secondLedger₀ buffer₀ counts₀ sizes₀ done₀ network plan second start ledger secondLedger buffer counts sizes done = count - done

@@ -1,5 +1,5 @@
 -- `conformance::compare::run_file` meets its contract. Assumes nothing.
-use Rattle.conformance.specs.Compare.{Compared}
+use Rattle.case_files.specs.Tally.{Compared}
 use borrow.Author.Needs.{needs}
 use Rattle.conformance.proofs.compare.run_file.Statement.{statement}
 use Rattle.conformance.proofs.compare.run_file.Tie as tie

@@ -3,7 +3,8 @@ use mathlib.Core.Path.{sym, _∙_}
 use native.Mathlib.Omega.{arith}
 use borrow.Author.Tests.{not-false}
 use lib.Seq.{length-take-le}
-use Rattle.conformance.proofs.Laws.{never, case-counted}
+use Rattle.case_files.proofs.Laws.{never}
+use Rattle.conformance.proofs.Laws.{case-counted}
 use borrow.Author.Needs.{needs}
 use Rattle.conformance.proofs.compare.run_read.Statement.{statement}
 use Rattle.conformance.proofs.compare.run_read.Tie as tie

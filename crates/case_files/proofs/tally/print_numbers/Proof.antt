@@ -1,9 +1,9 @@
--- `conformance::tally::print_numbers` is safe and ends. Assumes nothing.
+-- `case_files::tally::print_numbers` is safe and ends. Assumes nothing.
 use Prim.Native.Nat.{_-_, _≤_}
 use lib.ListN.{length}
 use borrow.Author.Needs.{needs}
-use Rattle.conformance.proofs.tally.print_numbers.Statement.{statement}
-use Rattle.conformance.proofs.tally.print_numbers.Tie as tie
+use Rattle.case_files.proofs.tally.print_numbers.Statement.{statement}
+use Rattle.case_files.proofs.tally.print_numbers.Tie as tie
 
 abbrev Inv-loop : tie.InvT-loop
 Inv-loop numbers i₀ i = i ≤ length numbers

@@ -1,8 +1,8 @@
--- `conformance_cases::stored::long_number_at` meets its contract. Assumes nothing.
-use Rattle.conformance_cases.specs.Stored.{number64}
+-- `case_files::numbers::long_number_at` meets its contract. Assumes nothing.
+use Rattle.case_files.specs.Numbers.{number64}
 use borrow.Author.Needs.{needs}
-use Rattle.conformance_cases.proofs.stored.long_number_at.Statement.{statement}
-use Rattle.conformance_cases.proofs.stored.long_number_at.Tie as tie
+use Rattle.case_files.proofs.numbers.long_number_at.Statement.{statement}
+use Rattle.case_files.proofs.numbers.long_number_at.Tie as tie
 
 number-at-requires : tie.Need-number-at-requires
 number-at-requires c κs = search needs

@@ -1,8 +1,8 @@
--- `conformance_cases::stored::number_at` meets its contract. Assumes nothing.
-use Rattle.conformance_cases.specs.Stored.{number32}
+-- `case_files::numbers::number_at` meets its contract. Assumes nothing.
+use Rattle.case_files.specs.Numbers.{number32}
 use borrow.Author.Needs.{needs}
-use Rattle.conformance_cases.proofs.stored.number_at.Statement.{statement}
-use Rattle.conformance_cases.proofs.stored.number_at.Tie as tie
+use Rattle.case_files.proofs.numbers.number_at.Statement.{statement}
+use Rattle.case_files.proofs.numbers.number_at.Tie as tie
 
 shared-slice-read-wide : tie.Need-shared-slice-read-wide
 shared-slice-read-wide c = search needs

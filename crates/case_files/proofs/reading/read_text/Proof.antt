@@ -1,10 +1,10 @@
--- `conformance_cases::stored::read_text` is safe and ends. Assumes nothing.
+-- `case_files::reading::read_text` is safe and ends. Assumes nothing.
 use mathlib.Core.Path.{sym}
 use native.Mathlib.Omega.{arith}
 use lib.Seq.{length-take-le}
 use borrow.Author.Needs.{needs}
-use Rattle.conformance_cases.proofs.stored.read_text.Statement.{statement}
-use Rattle.conformance_cases.proofs.stored.read_text.Tie as tie
+use Rattle.case_files.proofs.reading.read_text.Statement.{statement}
+use Rattle.case_files.proofs.reading.read_text.Tie as tie
 
 slice-aggregate-read-whole : tie.Need-slice-aggregate-read-whole
 slice-aggregate-read-whole c = search needs

@@ -1,0 +1,4 @@
+pub mod Numbers
+pub mod Below
+pub mod Tally
+pub mod Refusals
