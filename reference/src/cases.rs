@@ -4,6 +4,8 @@
 mod carried;
 mod carry_calls;
 mod comparison_calls;
+mod corridor_file;
+mod corridors;
 mod damage;
 mod fixed_signals;
 mod form;
@@ -25,6 +27,8 @@ mod state_calls;
 mod stored;
 mod trams;
 
+pub use corridor_file::encode_corridors;
+pub use corridors::{draw_corridor, stored_corridors, CorridorCase};
 pub use damage::damage;
 pub use listings::shuffled_listing;
 pub use padding::pad;

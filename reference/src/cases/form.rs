@@ -1,6 +1,6 @@
 //! Refusals 1 and 9: the form of every kind of line.
 
-use super::{refused, Answer, Maker, Scenario, Sheet, Texts};
+use super::{refused, Answer, Maker, Random, Scenario, Sheet, Texts};
 use crate::Refusal;
 
 const BAD_NUMBERS: [&[u8]; 18] = [
@@ -28,7 +28,11 @@ const BAD_LETTERS: [&[u8]; 6] = [b"", b"X", b"NN", b"0", b"\0", b" "];
 
 /// Changes of one line's form, each refused at that line. Lines are indexed
 /// from 0.
-pub fn broken_forms(maker: &mut Maker, sheet: &Sheet, line: usize) -> Vec<(&'static str, Vec<u8>)> {
+pub fn broken_forms(
+    random: &mut Random,
+    sheet: &Sheet,
+    line: usize,
+) -> Vec<(&'static str, Vec<u8>)> {
     let fields = sheet.lines[line].len();
     let mut texts = Vec::new();
 
@@ -50,27 +54,33 @@ pub fn broken_forms(maker: &mut Maker, sheet: &Sheet, line: usize) -> Vec<(&'sta
         changed.set(line, 0, letter);
         texts.push(("wrong letter", changed.text()));
     };
-    with_letter(maker.random.pick(&BAD_LETTERS));
-    with_letter(&sheet.lines[line][0].to_ascii_lowercase());
+    let own_letter = &sheet.lines[line][0];
+    let bad_letters: Vec<&[u8]> = BAD_LETTERS
+        .iter()
+        .copied()
+        .filter(|&letter| own_letter != letter)
+        .collect();
+    with_letter(random.pick(&bad_letters));
+    with_letter(&own_letter.to_ascii_lowercase());
     let other_letters: Vec<u8> = b"NTGQMHSPF"
         .iter()
         .copied()
-        .filter(|&letter| sheet.lines[line][0] != [letter])
+        .filter(|&letter| *own_letter != [letter])
         .collect();
-    with_letter(&[maker.random.pick(&other_letters)]);
+    with_letter(&[random.pick(&other_letters)]);
 
     if fields > 1 {
         for _ in 0..4 {
-            let field = 1 + maker.random.index(fields - 1);
+            let field = 1 + random.index(fields - 1);
             let mut changed = sheet.clone();
-            changed.set(line, field, maker.random.pick(&BAD_NUMBERS));
+            changed.set(line, field, random.pick(&BAD_NUMBERS));
             texts.push(("bad number", changed.text()));
         }
         let mut changed = sheet.clone();
-        changed.set(line, fields - 1, maker.random.pick(&BAD_NUMBERS));
+        changed.set(line, fields - 1, random.pick(&BAD_NUMBERS));
         texts.push(("bad last number", changed.text()));
         // Leading zeros before a number as it stands, to one digit too many.
-        let field = 1 + maker.random.index(fields - 1);
+        let field = 1 + random.index(fields - 1);
         let mut changed = sheet.clone();
         let digits = changed.lines[line][field].len();
         changed.lines[line][field].splice(..0, vec![b'0'; 11 - digits]);
@@ -110,7 +120,7 @@ pub fn network_form(maker: &mut Maker, scenario: &Scenario) {
     ] {
         if count > 0 {
             let line = first_line + maker.random.index(count);
-            for (name, text) in broken_forms(maker, &sheet, line) {
+            for (name, text) in broken_forms(&mut maker.random, &sheet, line) {
                 maker.ask_refused_network(
                     &format!("1: {name}"),
                     texts.with_network(text),
@@ -254,7 +264,7 @@ pub fn plan_form(maker: &mut Maker, scenario: &Scenario) {
     lines.sort();
     lines.dedup();
     for line in lines {
-        for (name, text) in broken_forms(maker, &sheet, line) {
+        for (name, text) in broken_forms(&mut maker.random, &sheet, line) {
             let intended = Some(Answer::Refused(refused(9, line + 1, 0)));
             let name = format!("9: {name}");
             maker.ask_plan(&name, texts.with_plan(text), need, intended);

@@ -170,7 +170,7 @@ pub fn refused_sheets(maker: &mut Maker, scenario: &Scenario) {
     if signals > 0 {
         let line = maker.random.index(signals);
         let told = refused(33, line + 1, 0);
-        for (name, text) in broken_forms(maker, &kept, line) {
+        for (name, text) in broken_forms(&mut maker.random, &kept, line) {
             let question = maker.sheet_to_keep(scenario, text);
             maker.ask(
                 &format!("33: {name}"),
@@ -178,7 +178,7 @@ pub fn refused_sheets(maker: &mut Maker, scenario: &Scenario) {
                 Some(Answer::Refused(told)),
             );
         }
-        for (name, text) in broken_forms(maker, &written, line) {
+        for (name, text) in broken_forms(&mut maker.random, &written, line) {
             let question = maker.sheet_to_write(&scenario.network, text);
             maker.ask_text(&format!("33: {name}"), question, Err(told));
         }

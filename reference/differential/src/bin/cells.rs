@@ -9,7 +9,7 @@
 mod declarations;
 
 use declarations::{plancheck_run_cells, CellsResult};
-use plancheck_reference::cases::{damage, pad, Random};
+use plancheck_reference::cases::{draw_corridor, pad, Random};
 use plancheck_reference::cells;
 use std::collections::BTreeMap;
 use std::process::ExitCode;
@@ -17,7 +17,6 @@ use std::process::ExitCode;
 /// After so many differences nothing more is learnt.
 const MOST_DIFFERENCES: u64 = 20;
 const CELLS: usize = 64;
-const LARGEST: u64 = 2_000_000_000;
 
 #[derive(Default)]
 struct Counts {
@@ -41,7 +40,7 @@ fn main() -> ExitCode {
     let mut seed = *seed;
     while counts.texts < *count && counts.differences < MOST_DIFFERENCES {
         let mut random = Random::new(seed);
-        let text = draw_text(&mut random);
+        let text = draw_corridor(&mut random);
         let plain = judge(&mut counts, seed, &text);
         let padded = judge(&mut counts, seed, &pad(&mut random, &text));
         if plain != padded {
@@ -107,68 +106,6 @@ fn in_numbers(text: &[u8]) -> CellsResult {
 
 fn narrow(number: u64) -> u32 {
     u32::try_from(number).expect("the header has 32 bits for this number")
-}
-
-/// Mostly a good text; else one with a count or a value near a limit or past it, or with damaged bytes.
-fn draw_text(random: &mut Random) -> Vec<u8> {
-    let bad = random.pick(&[0, 0, 0, 1, 5]);
-    let cells = draw_count(random, 6, CELLS);
-    let demands = draw_count(random, 12, 120);
-    let scale = random.pick(&[10, 1000, 100_000, LARGEST]);
-    let mut text = String::new();
-    for _ in 0..cells {
-        let holding = draw_volume(random, scale, bad);
-        let start = if random.chance(100 - bad) {
-            random.between(0, holding)
-        } else {
-            holding + random.between(0, 2)
-        };
-        let flow = draw_volume(random, scale, bad);
-        let ratio = draw_ratio(random, bad);
-        text += &format!("C\t{flow}\t{holding}\t{ratio}\t{start}\n");
-    }
-    if random.chance(100 - bad) {
-        text += &format!("X\t{}\n", draw_field(random, scale, bad));
-    }
-    for _ in 0..demands {
-        text += &format!("D\t{}\n", draw_field(random, scale, bad));
-    }
-    if random.chance(80) {
-        text.into_bytes()
-    } else {
-        damage(random, text.as_bytes())
-    }
-}
-
-fn draw_count(random: &mut Random, most: usize, limit: usize) -> usize {
-    if random.chance(92) {
-        1 + random.index(most)
-    } else {
-        random.pick(&[0, 1, limit - 1, limit, limit + 1])
-    }
-}
-
-fn draw_volume(random: &mut Random, scale: u64, bad: u64) -> u64 {
-    if random.chance(bad) {
-        return random.pick(&[0, LARGEST, LARGEST + 1, 4_294_967_295, 4_294_967_296]);
-    }
-    random.between(0, scale)
-}
-
-/// A volume as it is written: a bad one has eleven digits.
-fn draw_field(random: &mut Random, scale: u64, bad: u64) -> String {
-    let volume = draw_volume(random, scale, bad);
-    if random.chance(bad) {
-        return format!("{volume:011}");
-    }
-    volume.to_string()
-}
-
-fn draw_ratio(random: &mut Random, bad: u64) -> u64 {
-    if random.chance(bad) {
-        return random.pick(&[0, 1, 1000, 1001]);
-    }
-    random.between(1, 1000)
 }
 
 fn report(counts: &Counts) {
