@@ -25,6 +25,8 @@ mod sheet_calls;
 mod special;
 mod state_calls;
 mod stored;
+mod street_file;
+mod streets;
 mod trams;
 
 pub use corridor_file::encode_corridors;
@@ -35,6 +37,8 @@ pub use padding::pad;
 pub use random::Random;
 pub use scenario::{Scenario, Size, Traffic};
 pub use stored::{decode, encode, Stored};
+pub use street_file::encode_streets;
+pub use streets::{draw_street, stored_streets, Street, StreetCase};
 
 use crate::{
     carry_on, check_network, check_plan, check_sheet, compare_plans, link_state, plan_from_listing,

@@ -9,7 +9,7 @@
 mod declarations;
 
 use declarations::{plancheck_step_vehicles, NetworkResult};
-use plancheck_reference::cases::Random;
+use plancheck_reference::cases::{draw_street, Random, Street};
 use plancheck_reference::traces;
 use std::collections::BTreeMap;
 use std::process::ExitCode;
@@ -19,36 +19,6 @@ const MOST_DIFFERENCES: u64 = 20;
 /// What stands on both sides of the places, to see that nothing is written there.
 const GUARD: f64 = 12345.678;
 const GUARDS: usize = 4;
-/// Values at which something changes.
-const SPECIAL: [f64; 18] = [
-    0.0,
-    -0.0,
-    1e6,
-    -1e6,
-    1_000_000.000_000_000_1,
-    -1_000_000.000_000_000_1,
-    1e300,
-    f64::MAX,
-    f64::INFINITY,
-    f64::NEG_INFINITY,
-    f64::NAN,
-    f64::MIN_POSITIVE,
-    5e-324,
-    -5e-324,
-    0.1,
-    0.2,
-    0.3,
-    1e-17,
-];
-
-#[derive(Debug)]
-struct Step {
-    places: Vec<f64>,
-    advances: Vec<f64>,
-    red_lines: Vec<f64>,
-    spacing: f64,
-}
-
 #[derive(Default)]
 struct Counts {
     steps: u64,
@@ -70,7 +40,7 @@ fn main() -> ExitCode {
     let mut counts = Counts::default();
     while counts.steps < *count && counts.differences < MOST_DIFFERENCES {
         let seed = seed.wrapping_add(counts.steps);
-        judge(&mut counts, seed, &draw_step(&mut Random::new(seed)));
+        judge(&mut counts, seed, &draw_street(&mut Random::new(seed)));
     }
     report(&counts);
     if counts.differences == 0 {
@@ -80,7 +50,7 @@ fn main() -> ExitCode {
     }
 }
 
-fn judge(counts: &mut Counts, seed: u64, step: &Step) {
+fn judge(counts: &mut Counts, seed: u64, step: &Street) {
     let mut expected_places = step.places.clone();
     let expected = match traces::step_vehicles(
         &mut expected_places,
@@ -115,7 +85,7 @@ fn guarded(places: &[f64]) -> Vec<u64> {
     all.map(|place| place.to_bits()).collect()
 }
 
-fn ask_library(step: &Step) -> (NetworkResult, Vec<u64>) {
+fn ask_library(step: &Street) -> (NetworkResult, Vec<u64>) {
     let mut numbers: Vec<f64> = guarded(&step.places)
         .into_iter()
         .map(f64::from_bits)
@@ -135,66 +105,6 @@ fn ask_library(step: &Step) -> (NetworkResult, Vec<u64>) {
         )
     };
     (given, numbers.into_iter().map(f64::to_bits).collect())
-}
-
-/// Mostly a few vehicles and lines with good values; now and then a count or a value that is near a limit or past it.
-fn draw_step(random: &mut Random) -> Step {
-    let vehicles = draw_count(random, 9);
-    let lines = draw_count(random, 6);
-    let bad = random.pick(&[0, 0, 0, 1, 8, 40]);
-    let mut places: Vec<f64> = (0..vehicles).map(|_| draw_value(random, bad)).collect();
-    if random.chance(50) {
-        places.sort_by(|a, b| b.total_cmp(a));
-    }
-    let advances = if random.chance(97) {
-        vehicles
-    } else {
-        random.index(vehicles + 2)
-    };
-    let mut red_lines: Vec<f64> = (0..lines).map(|_| draw_value(random, bad)).collect();
-    if !places.is_empty() && !red_lines.is_empty() && random.chance(40) {
-        let line = random.index(red_lines.len());
-        red_lines[line] = random.pick(&places);
-    }
-    Step {
-        advances: (0..advances).map(|_| draw_distance(random, bad)).collect(),
-        spacing: draw_distance(random, bad),
-        places,
-        red_lines,
-    }
-}
-
-fn draw_count(random: &mut Random, most: usize) -> usize {
-    if random.chance(90) {
-        random.index(most + 1)
-    } else {
-        random.pick(&[0, 1, 63, 64, 65, 66])
-    }
-}
-
-/// On a small grid, so that ties and zeros are met; or anywhere on a street, near or far.
-fn draw_value(random: &mut Random, bad: u64) -> f64 {
-    if random.chance(bad) {
-        return random.pick(&SPECIAL);
-    }
-    let fraction = random.draw() as f64 / u64::MAX as f64;
-    let sign = random.pick(&[1.0, -1.0]);
-    sign * match random.index(4) {
-        0 => random.index(6) as f64,
-        1 => random.index(40) as f64 / 10.0,
-        2 => 30.0 * fraction,
-        _ => 1e6 * fraction,
-    }
-}
-
-/// A value that is not negative, but for a bad one now and then.
-fn draw_distance(random: &mut Random, bad: u64) -> f64 {
-    let value = draw_value(random, bad);
-    if random.chance(bad) {
-        value
-    } else {
-        value.abs()
-    }
 }
 
 fn report(counts: &Counts) {
