@@ -3,8 +3,10 @@
 
 use crate::files::Texts;
 use crate::network::{cut, Network};
-use crate::records::{lines, record};
-use plancheck::{check_plan, link_state, LinkState, Refusal, Rows, Totals, Volumes, MAX_LEDGER_LEN};
+use crate::plan::{plan_lines, PlanLine};
+use plancheck::{
+    carry_on, check_plan, link_state, LinkState, Refusal, Rows, Totals, Volumes, MAX_LEDGER_LEN, MAX_NETWORK_TEXT_LEN,
+};
 
 /// The verdict on two texts.
 pub struct Judged {
@@ -38,13 +40,15 @@ pub struct Run {
     pub answer: Result<Totals, Refusal>,
     /// How many steps passed; boundaries 0 to this one are known.
     pub passed: usize,
-    /// The masks that the signals show in each step that passed, and in the one that is refused.
-    pub masks: Vec<Vec<u32>>,
+    /// Of each step that passed, and of the one that is refused.
+    pub lines: Vec<PlanLine>,
     /// By boundary, then link.
     pub volumes: Vec<Vec<Volumes>>,
     pub states: Vec<Vec<LinkState>>,
     /// By boundary.
     pub running: Vec<Running>,
+    /// The network from the start of the step that is refused on: what its signals show by then, and who waits outside.
+    pub before: Option<Network>,
 }
 
 impl Run {
@@ -58,17 +62,23 @@ impl Run {
             .map(|boundary| rows.of_boundary(boundary).collect())
             .collect();
         let states = states(&texts.network, &network, &ledger, passed)?;
-        let masks = masks(&network, &texts.plan, passed + 1);
+        let mut lines = plan_lines(&network, &texts.plan);
+        lines.truncate(passed + 1);
         let running = running(texts, &network, &volumes, passed)?;
-        Ok(Run {
+        let mut run = Run {
             network,
             answer,
             passed,
-            masks,
+            lines,
             volumes,
             states,
             running,
-        })
+            before: None,
+        };
+        if run.refused_step().is_some() {
+            run.before = Some(carried(texts, passed)?);
+        }
+        Ok(run)
     }
 
     /// The step that is refused, counted from 1; none where the plan is accepted or a line behind the last is refused.
@@ -77,9 +87,13 @@ impl Run {
     }
 }
 
+/// A boundary or a link as the calls take it.
+fn index(place: usize) -> u32 {
+    u32::try_from(place).unwrap_or(u32::MAX)
+}
+
 /// The state of every link at the boundaries 0 to `last`, by boundary.
 pub fn states(text: &[u8], network: &Network, ledger: &[u32], last: usize) -> Result<Vec<Vec<LinkState>>, Refusal> {
-    let index = |place: usize| u32::try_from(place).unwrap_or(u32::MAX);
     let at = |boundary: usize| {
         let links = 1..=network.links.len();
         links
@@ -96,20 +110,46 @@ pub fn states_of(texts: &Texts, network: &Network) -> Result<Vec<Vec<LinkState>>
     states(&texts.network, network, &ledger, network.steps.len())
 }
 
-/// The masks of the first steps, as far as the plan text has lines; an empty plan holds the phases shown before it.
-fn masks(network: &Network, plan: &[u8], steps: usize) -> Vec<Vec<u32>> {
-    let steps = steps.min(network.steps.len());
-    if plan.is_empty() {
-        let held = network.signals.iter().map(|signal| 1 << (signal.shown - 1)).collect();
-        return vec![held; steps];
+/// The network from a boundary on, after the plan's lines before it have run.
+pub fn carried(texts: &Texts, boundary: usize) -> Result<Network, Refusal> {
+    if boundary == 0 {
+        return Network::read(&texts.network);
     }
-    let of_line = |line: &[u8]| {
-        let numbers = record(line).numbers;
-        (0..network.signals.len())
-            .map(|place| numbers.get(place).copied().unwrap_or(0))
-            .collect()
-    };
-    lines(plan).into_iter().take(steps).map(of_line).collect()
+    let mut ledger = vec![0; MAX_LEDGER_LEN];
+    let mut text = vec![0; MAX_NETWORK_TEXT_LEN];
+    let plan = first_lines(&texts.plan, boundary);
+    let length = carry_on(&texts.network, index(boundary), plan, &mut ledger, &mut text)?;
+    Network::read(&text[..length])
+}
+
+/// What has arrived at a link's end by the end of the step that is refused, rounded down. The step is judged with nothing
+/// taken off the link or, where it is refused for another reason then, with nothing moved at all: what enters in it counts
+/// only where the travel time is shorter than the step.
+pub fn arrived_by_the_end(texts: &Texts, run: &Run, link: usize) -> Option<u64> {
+    let step = run.refused_step()?;
+    let mut staying = run.lines.get(run.passed)?.clone();
+    staying.let_out[link] = 0;
+    for (movement, moved) in run.network.movements.iter().zip(&mut staying.moved) {
+        if movement.from as usize == link + 1 {
+            *moved = 0;
+        }
+    }
+    let mut still = staying.clone();
+    for volumes in [&mut still.admitted, &mut still.let_out, &mut still.moved] {
+        volumes.fill(0);
+    }
+    let is_still_enough = run.network.links[link].travel_time >= run.network.steps[run.passed].length;
+    let tries = [Some(staying), is_still_enough.then_some(still)];
+    let network = cut(&texts.network, step);
+    let before = first_lines(&texts.plan, run.passed);
+    let mut ledger = vec![0; MAX_LEDGER_LEN];
+    let left = run.volumes[run.passed][link].left;
+    tries.into_iter().flatten().find_map(|line| {
+        let plan = [before, line.text().as_bytes()].concat();
+        check_plan(network.as_bytes(), &plan, &mut ledger).ok()?;
+        let state = link_state(network.as_bytes(), &ledger, index(step), index(link + 1)).ok()?;
+        Some(u64::from(left) + u64::from(state.queued))
+    })
 }
 
 /// The totals at each boundary that passed: those of the plan's first lines on the network cut to as many steps. What is

@@ -3,12 +3,16 @@
 mod command;
 mod commands;
 mod files;
+mod form;
 mod judge;
 mod make;
 mod network;
+mod plan;
+mod pointed;
 mod records;
 mod report;
 mod show;
+mod why;
 mod words;
 
 use command::{Ended, Problem};
@@ -44,6 +48,14 @@ fn run(arguments: &[String], out: &mut dyn Write) -> command::Outcome {
             Ok(Ended::Done)
         }
         [name, rest @ ..] => match commands::ALL.iter().find(|command| command.name == name) {
+            Some(command) if matches!(rest, [word] if word == "-h" || word == "--help") => {
+                writeln!(
+                    out,
+                    "usage: workbench {} {}\n{}",
+                    command.name, command.arguments, command.does
+                )?;
+                Ok(Ended::Done)
+            }
             Some(command) => command.run(rest, out),
             None => Err(Problem(format!(
                 "there is no command {name}; workbench -h lists all of them"
@@ -59,7 +71,8 @@ fn write_usage(out: &mut dyn Write) -> io::Result<()> {
     }
     writeln!(
         out,
-        "\nA FOLDER has network.tsv and plan.tsv. Volumes are told in vehicles, times in seconds.\n\
+        "\nA FOLDER has network.tsv and plan.tsv. Volumes are told in vehicles, times in seconds; CSV has the library's numbers:\n\
+         volumes in thousandths of a vehicle, the doubled travel time in thousandths of a vehicle times seconds.\n\
          Exit status: 0 accepted or done, 1 refused, 2 a file was not read or the command was wrong."
     )
 }

@@ -5,11 +5,15 @@ use plancheck::{check_network, Refusal};
 
 pub struct Signal {
     pub line: usize,
+    pub least_cycle: u32,
+    pub greatest_cycle: u32,
     pub phases: u32,
     /// The phase shown before the plan, which an empty plan holds.
     pub shown: u32,
     pub shown_for: u32,
     pub cycle_clock: u32,
+    /// Least and greatest time of each phase.
+    pub times: Vec<[u32; 2]>,
 }
 
 pub struct Link {
@@ -35,10 +39,13 @@ pub struct Movement {
 pub struct Step {
     pub line: usize,
     pub length: u32,
+    /// By link.
+    pub demands: Vec<u32>,
 }
 
 /// A tram claims a signal for a phase, from one step to another, the last included.
 pub struct Tram {
+    pub line: usize,
     pub signal: u32,
     pub phase: u32,
     pub first: u32,
@@ -50,6 +57,8 @@ pub struct Network {
     pub signals: Vec<Signal>,
     pub links: Vec<Link>,
     pub movements: Vec<Movement>,
+    /// How many steps are past.
+    pub past: usize,
     pub steps: Vec<Step>,
 }
 
@@ -62,6 +71,7 @@ impl Network {
             signals: Vec::new(),
             links: Vec::new(),
             movements: Vec::new(),
+            past: 0,
             steps: Vec::new(),
         };
         for (place, bytes) in lines(text).into_iter().enumerate() {
@@ -74,6 +84,7 @@ impl Network {
         let field = |place: usize| record.numbers.get(place).copied().unwrap_or(0);
         match record.letter {
             b'T' => self.trams.push(Tram {
+                line,
                 signal: field(0),
                 phase: field(1),
                 first: field(2),
@@ -81,10 +92,15 @@ impl Network {
             }),
             b'G' => self.signals.push(Signal {
                 line,
+                least_cycle: field(0),
+                greatest_cycle: field(1),
                 phases: field(2),
                 shown: field(3),
                 shown_for: field(4),
                 cycle_clock: field(5),
+                times: (0..field(2) as usize)
+                    .map(|phase| [field(6 + 2 * phase), field(7 + 2 * phase)])
+                    .collect(),
             }),
             b'Q' => self.links.push(Link {
                 line,
@@ -102,9 +118,22 @@ impl Network {
                 rate: field(2),
                 share: field(3),
             }),
-            b'S' => self.steps.push(Step { line, length: field(0) }),
+            b'H' => self.past += 1,
+            b'S' => self.steps.push(Step {
+                line,
+                length: field(0),
+                demands: record.numbers[1..].to_vec(),
+            }),
             _ => {}
         }
+    }
+
+    /// The tram that claims a signal, counted from 0, in a step, counted from 1.
+    pub fn claiming_tram(&self, signal: usize, step: usize) -> Option<&Tram> {
+        let claims = |tram: &&Tram| {
+            tram.signal as usize == signal + 1 && (tram.first as usize..=tram.last as usize).contains(&step)
+        };
+        self.trams.iter().find(claims)
     }
 
     /// The times of the boundaries, from 0 on.

@@ -13,6 +13,27 @@ pub fn vehicle_seconds(doubled_time: u64) -> String {
     decimal(5 * doubled_time, 4)
 }
 
+/// Numbers of a column, by vehicles or vehicle seconds: with all their digits, so that their points stand below each other.
+pub fn vehicles_in_column(volume: u64) -> String {
+    digits(volume, 3)
+}
+
+pub fn vehicle_seconds_in_column(doubled_time: u64) -> String {
+    digits(5 * doubled_time, 4)
+}
+
+/// The phases of a mask.
+pub fn phases(mask: u32) -> String {
+    let phases = (1..=32).filter(|phase| mask >> (phase - 1) & 1 == 1);
+    let phases: Vec<String> = phases.map(|phase: u32| phase.to_string()).collect();
+    phases.join(" and ")
+}
+
+/// So many of a thing that there may be one of.
+pub fn counted(count: usize, thing: &str) -> String {
+    format!("{count} {thing}{}", if count == 1 { "" } else { "s" })
+}
+
 /// What an accepted plan adds up to, a line a number.
 pub fn write_totals(out: &mut dyn Write, totals: &Totals) -> io::Result<()> {
     writeln!(out, "admitted           {} vehicles", vehicles(totals.admitted))?;
@@ -23,9 +44,13 @@ pub fn write_totals(out: &mut dyn Write, totals: &Totals) -> io::Result<()> {
 }
 
 fn decimal(number: u64, places: u32) -> String {
-    let unit = 10_u64.pow(places);
-    let digits = format!("{}.{:0width$}", number / unit, number % unit, width = places as usize);
+    let digits = digits(number, places);
     digits.trim_end_matches('0').trim_end_matches('.').to_string()
+}
+
+fn digits(number: u64, places: u32) -> String {
+    let unit = 10_u64.pow(places);
+    format!("{}.{:0width$}", number / unit, number % unit, width = places as usize)
 }
 
 /// A text of the house format on one line, tabs as spaces, bytes that no text has as dots.
@@ -51,6 +76,17 @@ mod tests {
         assert_eq!(vehicle_seconds(240_000), "120");
         assert_eq!(vehicle_seconds(1), "0.0005");
         assert_eq!(vehicle_seconds(716_083_200_000_000), "358041600000");
+        assert_eq!(vehicles_in_column(2500), "2.500");
+        assert_eq!(vehicle_seconds_in_column(240_000), "120.0000");
+    }
+
+    #[test]
+    fn words() {
+        assert_eq!(phases(0b101), "1 and 3");
+        assert_eq!(
+            (counted(1, "step"), counted(2, "step")),
+            ("1 step".to_string(), "2 steps".to_string())
+        );
     }
 
     #[test]

@@ -4,8 +4,8 @@
 use crate::files::Texts;
 use crate::judge::Run;
 use crate::network::Network;
-use crate::records::lines;
-use crate::show;
+use crate::pointed::quoted;
+use crate::{form, show};
 use plancheck::{ItemKind, Refusal, Text};
 use std::fmt::Write;
 
@@ -14,7 +14,7 @@ const TABLES: &str = include_str!("../../docs/REFUSALS.md");
 /// What the two tables say of a number.
 pub struct Row {
     pub meaning: &'static str,
-    pub remedy: &'static str,
+    pub short: &'static str,
     pub tell: &'static str,
     pub look_at: &'static str,
 }
@@ -30,10 +30,18 @@ pub fn row(number: u32) -> Option<Row> {
     let (meaning, action) = (cells(meanings)?, cells(actions)?);
     Some(Row {
         meaning: meaning.get(2)?,
-        remedy: meaning.get(3)?,
+        short: meaning.get(3)?,
         tell: action.get(1)?,
         look_at: without_pointer(action.get(2)?),
     })
+}
+
+impl Row {
+    /// What to do about a refusal.
+    pub fn action(&self) -> String {
+        let Row { tell, look_at, .. } = self;
+        format!("keep the running plan, and tell {tell} to look at {look_at}").replace('`', "")
+    }
 }
 
 /// Words without a pointer to a place of the document, as `(likely causes below)`.
@@ -102,29 +110,28 @@ pub fn sentence(refusal: &Refusal, network: Option<&Network>) -> String {
     format!("refused with {}{parted}{place}: {}", refusal.number, refusal.meaning())
 }
 
-/// The lines of the texts that a refusal points at, each with its name: the line that is refused, and that of the item.
-pub fn pointed_lines(refusal: &Refusal, texts: &Texts, network: Option<&Network>) -> Vec<(String, String)> {
-    let mut pointed = Vec::new();
-    let mut quote = |name: &str, text: &[u8], line: usize| {
-        let found = lines(text).get(line.wrapping_sub(1)).map(|bytes| show::line(bytes));
-        pointed.push((
-            format!("{name} line {line}"),
-            found.unwrap_or_else(|| "(there is none)".to_string()),
-        ));
-    };
-    match refusal.text() {
-        Some(Text::Network) => quote("network", &texts.network, refusal.line as usize),
-        Some(Text::Plan) => quote("plan", &texts.plan, refusal.line as usize),
-        _ => {}
+/// The sentence and, below it, the line that is refused of the texts that the call was given.
+pub fn with_line(refusal: &Refusal, given: &[(Text, &[u8])], network: Option<&Network>) -> String {
+    let mut words = sentence(refusal, network);
+    let refused = given.iter().find(|(text, _)| refusal.text() == Some(*text));
+    if let Some((text, bytes)) = refused {
+        let _ = write!(
+            words,
+            "\n  {}",
+            quoted(*text, bytes, refusal.line as usize, &[]).words()
+        );
     }
-    let item = refusal
-        .item_kind()
-        .zip(network)
-        .and_then(|(kind, network)| item_line(network, kind, (refusal.item as usize).wrapping_sub(1)));
-    if let Some(line) = item.filter(|_| refusal.text() == Some(Text::Plan)) {
-        quote("network", &texts.network, line);
+    words
+}
+
+/// What is wrong with the form of the line that is refused with 1 or 9; nothing for another number.
+pub fn faults(refusal: &Refusal, texts: &Texts, network: Option<&Network>) -> Vec<String> {
+    let line = refusal.line as usize;
+    match (refusal.number, network) {
+        (1, _) => form::of_network(&texts.network, line),
+        (9, Some(network)) => form::of_plan(network, &texts.plan, line, network.steps.len()),
+        _ => Vec::new(),
     }
-    pointed
 }
 
 /// What the library tells of the link that breaks a rule, at the start of the step.
@@ -157,7 +164,7 @@ mod tests {
     fn every_refusal_has_its_rows() {
         for reason in Reason::ALL {
             let row = row(reason.number()).unwrap_or_else(|| panic!("{reason:?}"));
-            assert!([row.meaning, row.remedy, row.tell, row.look_at]
+            assert!([row.meaning, row.short, row.tell, row.look_at]
                 .iter()
                 .all(|words| !words.is_empty()));
         }

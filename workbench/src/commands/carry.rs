@@ -3,15 +3,15 @@
 use crate::command::{Command, Ended, Outcome};
 use crate::files::read;
 use crate::network::Network;
-use crate::words;
-use plancheck::{carry_on, MAX_LEDGER_LEN, MAX_NETWORK_TEXT_LEN};
+use crate::{form, words};
+use plancheck::{carry_on, Reason, Refusal, Text, MAX_LEDGER_LEN, MAX_NETWORK_TEXT_LEN};
 use std::io::Write;
 use std::path::Path;
 
 pub const COMMAND: Command = Command {
     name: "carry",
     arguments: "NETWORK BOUNDARY PLAN",
-    does: "writes the network text from a boundary on, after a plan of as many lines has run",
+    does: "writes the network text from a boundary on, after a plan of just as many lines has run",
     run,
 };
 
@@ -29,9 +29,27 @@ fn run(arguments: &[String], out: &mut dyn Write) -> Outcome {
             Ok(Ended::Done)
         }
         Err(refusal) => {
-            let network = Network::read(&network).ok();
-            eprintln!("workbench: {}", words::sentence(&refusal, network.as_ref()));
+            let given = [(Text::Network, &network[..]), (Text::Plan, &plan[..])];
+            let read = Network::read(&network).ok();
+            eprintln!("workbench: {}", words::with_line(&refusal, &given, read.as_ref()));
+            for words in read
+                .iter()
+                .flat_map(|network| hints(&refusal, network, boundary, &plan))
+            {
+                eprintln!("  {words}");
+            }
             Ok(Ended::Refused)
         }
+    }
+}
+
+/// What a boundary, or a plan up to one, must be.
+fn hints(refusal: &Refusal, network: &Network, boundary: u32, plan: &[u8]) -> Vec<String> {
+    let steps = network.steps.len();
+    match refusal.reason() {
+        Some(Reason::CarryBoundary) if steps == 1 => vec!["a network of one step has none".to_string()],
+        Some(Reason::CarryBoundary) => vec![format!("the boundaries inside it are 1 to {}", steps - 1)],
+        Some(Reason::PlanForm) => form::of_plan(network, plan, refusal.line as usize, boundary as usize),
+        _ => Vec::new(),
     }
 }

@@ -3,7 +3,7 @@
 use crate::command::{Command, Ended, Outcome};
 use crate::files::read;
 use crate::{show, words};
-use plancheck::run_cells;
+use plancheck::{run_cells, Text};
 use std::io::Write;
 use std::path::Path;
 
@@ -18,7 +18,8 @@ fn run(arguments: &[String], out: &mut dyn Write) -> Outcome {
     let [corridor] = arguments else {
         return Err(COMMAND.wrong());
     };
-    match run_cells(&read(Path::new(corridor))?) {
+    let corridor = read(Path::new(corridor))?;
+    match run_cells(&corridor) {
         Ok(run) => {
             writeln!(out, "flow in   {} vehicles", show::vehicles(run.flow_in))?;
             writeln!(out, "flow out  {} vehicles", show::vehicles(run.flow_out))?;
@@ -28,7 +29,8 @@ fn run(arguments: &[String], out: &mut dyn Write) -> Outcome {
             Ok(Ended::Done)
         }
         Err(refusal) => {
-            writeln!(out, "{}", words::sentence(&refusal, None))?;
+            let given = [(Text::Corridor, &corridor[..])];
+            writeln!(out, "{}", words::with_line(&refusal, &given, None))?;
             Ok(Ended::Refused)
         }
     }

@@ -4,7 +4,7 @@ use crate::command::{Command, Ended, Outcome};
 use crate::files::read;
 use crate::network::Network;
 use crate::{show, words};
-use plancheck::{compare_plans, Order, MAX_LEDGER_LEN};
+use plancheck::{compare_plans, Order, Refused, Text, MAX_LEDGER_LEN};
 use std::cmp::Ordering;
 use std::io::Write;
 use std::path::Path;
@@ -31,9 +31,11 @@ fn run(arguments: &[String], out: &mut dyn Write) -> Outcome {
             Ok(Ended::Done)
         }
         Err(refused) => {
-            let network = Network::read(&network).ok();
-            let sentence = words::sentence(&refused.refusal, network.as_ref());
-            writeln!(out, "{}: {sentence}", refused.of)?;
+            let plan = if refused.of == Refused::First { &first } else { &second };
+            let given = [(Text::Network, &network[..]), (Text::Plan, &plan[..])];
+            let read = Network::read(&network).ok();
+            let words = words::with_line(&refused.refusal, &given, read.as_ref());
+            writeln!(out, "{}: {words}", refused.of)?;
             Ok(Ended::Refused)
         }
     }

@@ -4,6 +4,8 @@ use crate::command::{Command, Ended, Outcome, Problem};
 use crate::files::{read_folder, Texts};
 use crate::judge::Run;
 use crate::network::Network;
+use crate::pointed::pointed;
+use crate::why::why;
 use crate::words;
 use plancheck::{Reason, Refusal};
 use std::io::{self, Write};
@@ -52,30 +54,29 @@ fn explain_number(number: u32, out: &mut dyn Write) -> Outcome {
     if let Some(kind) = reason.item_kind() {
         writeln!(out, "its item is a {kind}")?;
     }
-    writeln!(out, "meaning: {}", row.meaning)?;
-    write_action(out, &row)?;
+    writeln!(out, "in short: {}", row.short)?;
+    writeln!(out, "meaning: {}", row.meaning.replace('`', ""))?;
+    writeln!(out, "what to do: {}", row.action())?;
     Ok(Ended::Done)
 }
 
 fn explain(out: &mut dyn Write, refusal: &Refusal, texts: &Texts, run: Option<&Run>) -> io::Result<()> {
     let network: Option<&Network> = run.map(|run| &run.network);
     writeln!(out, "{}", words::sentence(refusal, network))?;
-    for (name, line) in words::pointed_lines(refusal, texts, network) {
-        writeln!(out, "  {name}: {line}")?;
+    for line in pointed(refusal, texts, run) {
+        writeln!(out, "  {}", line.words())?;
+    }
+    for fault in words::faults(refusal, texts, network) {
+        writeln!(out, "  {fault}")?;
     }
     if let Some(words) = run.and_then(|run| words::before_the_step(refusal, run)) {
         writeln!(out, "  {words}")?;
     }
+    if let Some(why) = run.and_then(|run| why(refusal, texts, run)) {
+        writeln!(out, "why: {}", why.words)?;
+    }
     if let Some(row) = words::row(refusal.number) {
-        write_action(out, &row)?;
+        writeln!(out, "what to do: {}", row.action())?;
     }
     Ok(())
-}
-
-fn write_action(out: &mut dyn Write, row: &words::Row) -> io::Result<()> {
-    writeln!(
-        out,
-        "what to do: {}; keep the running plan, and tell {} to look at {}",
-        row.remedy, row.tell, row.look_at
-    )
 }

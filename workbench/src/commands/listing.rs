@@ -4,7 +4,7 @@ use crate::command::{Command, Ended, Outcome};
 use crate::files::read;
 use crate::network::Network;
 use crate::words;
-use plancheck::{plan_from_listing, MAX_WRITTEN_PLAN_LEN};
+use plancheck::{plan_from_listing, Text, MAX_WRITTEN_PLAN_LEN};
 use std::io::Write;
 use std::path::Path;
 
@@ -27,8 +27,9 @@ fn run(arguments: &[String], out: &mut dyn Write) -> Outcome {
             Ok(Ended::Done)
         }
         Err(refusal) => {
+            let given = [(Text::Network, &network[..]), (Text::Listing, &listing[..])];
             let network = Network::read(&network).ok();
-            eprintln!("workbench: {}", words::sentence(&refusal, network.as_ref()));
+            eprintln!("workbench: {}", words::with_line(&refusal, &given, network.as_ref()));
             Ok(Ended::Refused)
         }
     }

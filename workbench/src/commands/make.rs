@@ -1,9 +1,10 @@
 //! `make`: a seeded avenue with plans that the check accepts.
 
 use crate::command::{part, Command, Ended, Outcome, Parted, Problem};
-use crate::files::{make_folder, write, Texts, NETWORK, PLAN};
+use crate::files::{make_folder, read, write, Texts, NETWORK, PLAN};
 use crate::judge::judge;
 use crate::make::{plan_text, Avenue, Chance, MAX_JUNCTIONS};
+use crate::show::counted;
 use crate::{show, words};
 use plancheck::MAX_STEPS;
 use std::io::Write;
@@ -36,16 +37,15 @@ fn run(arguments: &[String], out: &mut dyn Write) -> Outcome {
     let (avenue, mut plan) = avenue_with_plan(&mut chance, &sizes)?;
     let folder = Path::new(folder);
     make_folder(folder)?;
-    write(&folder.join(NETWORK), avenue.text().as_bytes())?;
-    writeln!(
-        out,
-        "{} links, {} signals, {} movements, {} steps, {} tram lines",
-        avenue.links.len(),
-        avenue.signals.len(),
-        avenue.movements.len(),
-        avenue.steps.len(),
-        avenue.trams.len()
-    )?;
+    write_network(&folder.join(NETWORK), avenue.text().as_bytes())?;
+    let counts = [
+        counted(avenue.links.len(), "link"),
+        counted(avenue.signals.len(), "signal"),
+        counted(avenue.movements.len(), "movement"),
+        counted(avenue.steps.len(), "step"),
+        counted(avenue.trams.len(), "tram line"),
+    ];
+    writeln!(out, "{}", counts.join(", "))?;
     let mut name = PLAN.to_string();
     for number in 1..=sizes.plans {
         if number > 1 {
@@ -57,6 +57,17 @@ fn run(arguments: &[String], out: &mut dyn Write) -> Outcome {
         writeln!(out, "{name}: travel time {time} vehicle seconds")?;
     }
     Ok(Ended::Done)
+}
+
+/// Writes the network where there is none, or this one: plans of another would be left without theirs.
+fn write_network(path: &Path, text: &[u8]) -> Result<(), Problem> {
+    if path.exists() && read(path)? != text {
+        return Err(Problem(format!(
+            "{} is another network already: take another folder, or remove that one",
+            path.display()
+        )));
+    }
+    write(path, text)
 }
 
 fn sizes(chance: &mut Chance, options: &[(&str, &str)]) -> Result<Sizes, Problem> {

@@ -3,7 +3,6 @@
 use crate::command::{part, Command, Ended, Outcome, Parted, Problem};
 use crate::files::{plans_in, read, Texts, NETWORK};
 use crate::judge::judge;
-use crate::network::Network;
 use crate::{show, words};
 use plancheck::{check_network, Refusal, Totals};
 use std::io::{self, Write};
@@ -36,14 +35,25 @@ fn run(arguments: &[String], out: &mut dyn Write) -> Outcome {
         return Ok(Ended::Refused);
     }
     let plans = plans_of(&folders, &network)?;
+    if plans.is_empty() {
+        return Err(Problem(format!(
+            "there is no plan, a .tsv file beside {NETWORK}, in the folders"
+        )));
+    }
     let mut ranked = judge_all(network.clone(), plans)?;
     // The accepted ones come first, and those of one travel time as they were found.
     ranked.sort_by_key(|plan| plan.answer.map_or((1, 0), |totals| (0, totals.doubled_time)));
-    let network = Network::read(&network).ok();
     if options.is_empty() {
-        write_table(out, &ranked, network.as_ref())?;
+        write_table(out, &ranked)?;
     } else {
         write_csv(out, &ranked)?;
+    }
+    let refused = ranked.iter().filter(|plan| plan.answer.is_err()).count();
+    if refused > 0 {
+        eprintln!(
+            "workbench: {refused} of {} plans are refused; `explain NUMBER` says what a number means",
+            ranked.len()
+        );
     }
     Ok(Ended::Done)
 }
@@ -88,23 +98,36 @@ fn judge_all(network: Vec<u8>, plans: Vec<PathBuf>) -> Result<Vec<Ranked>, Probl
     Ok(ranked)
 }
 
-fn write_table(out: &mut dyn Write, ranked: &[Ranked], network: Option<&Network>) -> io::Result<()> {
-    writeln!(out, "rank  travel time (vehicle s)      let out   at the end  plan")?;
+fn write_table(out: &mut dyn Write, ranked: &[Ranked]) -> io::Result<()> {
+    writeln!(out, "rank      travel time   let out  at the end  plan")?;
+    writeln!(out, "      vehicle seconds  vehicles    vehicles")?;
     for (place, plan) in ranked.iter().enumerate() {
         let name = plan.plan.display();
         match &plan.answer {
             Ok(totals) => writeln!(
                 out,
-                "{:>4}  {:>23} {:>12} {:>12}  {name}",
+                "{:>4}  {:>15} {:>9} {:>11}  {name}",
                 place + 1,
-                show::vehicle_seconds(totals.doubled_time),
-                show::vehicles(totals.let_out),
-                show::vehicles(totals.inside),
+                show::vehicle_seconds_in_column(totals.doubled_time),
+                show::vehicles_in_column(totals.let_out),
+                show::vehicles_in_column(totals.inside),
             )?,
-            Err(refusal) => writeln!(out, "   -  {}  {name}", words::sentence(refusal, network))?,
+            Err(refusal) => {
+                writeln!(out, "   -  {:<39}{name}", in_short(refusal))?;
+            }
         }
     }
     Ok(())
+}
+
+/// A refusal in the width of the numbers that an accepted plan has.
+fn in_short(refusal: &Refusal) -> String {
+    let Refusal { number, line, item } = refusal;
+    let step = refusal.text().map_or(String::new(), |_| format!(": step {line}"));
+    let kind = refusal
+        .item_kind()
+        .map_or(String::new(), |kind| format!(", {kind} {item}"));
+    format!("R {number} {line} {item}{step}{kind}")
 }
 
 /// Volumes in thousandths of a vehicle, the doubled time in thousandths of a vehicle times seconds, as the library gives them.

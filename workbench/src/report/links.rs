@@ -1,17 +1,34 @@
 //! Two pictures of each link: what has entered, arrived and left, and what is queued and in transit.
 
-use super::svg::{escape, Frame, Point};
+use super::svg::{area_key, escape, figure, line_key, Frame, Point, LEFT};
 use crate::judge::Run;
 use crate::network::Link;
+use crate::plan::PlanLine;
 use crate::show;
+use crate::why::{Drawn, Why};
 use plancheck::{ItemKind, Refusal, Text};
 use std::fmt::Write;
 
-pub fn cards(run: &Run, refusal: Option<&Refusal>) -> String {
+/// The step that is refused, on the link that breaks a rule: the refusal, and why.
+#[derive(Clone, Copy)]
+struct Breaks<'a> {
+    refusal: &'a Refusal,
+    why: Option<&'a Why>,
+}
+
+impl Breaks<'_> {
+    fn drawn(&self) -> &Drawn {
+        self.why.map_or(&Drawn::Nothing, |why| &why.drawn)
+    }
+}
+
+pub fn cards(run: &Run, refusal: Option<&Refusal>, why: Option<&Why>) -> String {
     let broken = refusal.and_then(|refusal| broken_link(run, refusal));
     let mut cards = String::new();
     for (place, link) in run.network.links.iter().enumerate() {
-        let breaks = refusal.filter(|_| broken == Some(place));
+        let breaks = refusal
+            .filter(|_| broken == Some(place))
+            .map(|refusal| Breaks { refusal, why });
         let class = if breaks.is_some() { "link broken-card" } else { "link" };
         let _ = writeln!(cards, "<section class=\"{class}\" id=\"link-{}\">", place + 1);
         let _ = writeln!(
@@ -20,12 +37,12 @@ pub fn cards(run: &Run, refusal: Option<&Refusal>) -> String {
             place + 1,
             escape(&about(run, place, link))
         );
-        if let Some((refusal, step)) = breaks.zip(run.refused_step()) {
-            let (number, meaning) = (refusal.number, refusal.meaning());
+        if let Some((Breaks { refusal, why }, step)) = breaks.zip(run.refused_step()) {
+            let (number, meaning) = (refusal.number, escape(refusal.meaning()));
+            let why = why.map_or(String::new(), |why| format!("; {}", escape(&why.words)));
             let _ = writeln!(
                 cards,
-                "<p class=\"broken-reason\">R {number} in step {step}: {}</p>",
-                escape(meaning)
+                "<p class=\"broken-reason\">R {number} in step {step}: {meaning}{why}</p>"
             );
         }
         let _ = writeln!(
@@ -65,15 +82,8 @@ fn about(run: &Run, place: usize, link: &Link) -> String {
     if link.signal == 0 {
         words.push("has no signal".to_string());
     } else {
-        let opens = (1..=8)
-            .filter(|phase| link.mask >> (phase - 1) & 1 == 1)
-            .map(|phase: u32| phase.to_string());
-        let opens: Vec<String> = opens.collect();
-        words.push(format!(
-            "is open in phase {} of signal {}",
-            opens.join(" and "),
-            link.signal
-        ));
+        let opens = show::phases(link.mask);
+        words.push(format!("is open in phase {opens} of signal {}", link.signal));
     }
     if link.exit_rate > 0 {
         words.push(format!(
@@ -99,7 +109,7 @@ fn percent(share: u32) -> String {
 }
 
 /// What has entered, arrived and left by each boundary.
-fn curves(run: &Run, place: usize, link: &Link, breaks: Option<&Refusal>) -> String {
+fn curves(run: &Run, place: usize, link: &Link, breaks: Option<Breaks>) -> String {
     let times = run.network.times();
     let points = |volume: &dyn Fn(usize) -> u64| -> Vec<Point> {
         (0..=run.passed)
@@ -110,18 +120,43 @@ fn curves(run: &Run, place: usize, link: &Link, breaks: Option<&Refusal>) -> Str
     let entered = points(&|boundary| at(boundary).entered.into());
     let left = points(&|boundary| at(boundary).left.into());
     // Arrived and not left is what is queued.
-    let arrived = points(&|boundary| u64::from(at(boundary).left) + u64::from(run.states[boundary][place].queued));
-    let frame = frame(&times, at(run.passed).entered.into());
-    let drawn = refused_span(run, &frame, &times, breaks)
+    let mut arrived = points(&|boundary| u64::from(at(boundary).left) + u64::from(run.states[boundary][place].queued));
+    let mut keys = vec![
+        line_key("entered", "entered"),
+        line_key("arrived", "arrived at its end"),
+        line_key("left", "left"),
+    ];
+    // What would have left stands above what has arrived by then.
+    let mut would = Vec::new();
+    if let Some(&Drawn::Left {
+        left: most,
+        arrived: by_then,
+    }) = breaks.as_ref().map(Breaks::drawn)
+    {
+        let end = times[run.passed + 1];
+        arrived.push((end, by_then));
+        would.extend([left[run.passed], (end, most)]);
+        keys.push(line_key("would", "would have left"));
+    }
+    let most = would
+        .iter()
+        .chain(&arrived)
+        .map(|&(_, volume)| volume)
+        .max()
+        .unwrap_or(0);
+    let frame = frame(&times, most.max(at(run.passed).entered.into()));
+    let drawn = refused_span(run, &frame, &times, breaks.map(|breaks| breaks.refusal))
         + &frame.curve("entered", &entered)
         + &frame.curve("left", &left)
         + &frame.curve("arrived", &arrived)
+        + &frame.curve("would", &would)
         + &open_strip(run, &frame, &times, link);
-    frame.picture(&format!("Entered, arrived and left, link {}", place + 1), &drawn)
+    let picture = frame.picture(&format!("Entered, arrived and left, link {}", place + 1), &drawn);
+    figure("Vehicles:", &keys, &picture)
 }
 
 /// What is queued and, above it, in transit.
-fn queue(run: &Run, place: usize, link: &Link, breaks: Option<&Refusal>) -> String {
+fn queue(run: &Run, place: usize, link: &Link, breaks: Option<Breaks>) -> String {
     let times = run.network.times();
     let states = |boundary: usize| &run.states[boundary][place];
     let ground: Vec<Point> = (0..=run.passed).map(|boundary| (times[boundary], 0)).collect();
@@ -135,22 +170,38 @@ fn queue(run: &Run, place: usize, link: &Link, breaks: Option<&Refusal>) -> Stri
         .enumerate()
         .map(|(at, &(time, queued))| (time, queued + u64::from(states(at).in_transit)))
         .collect();
+    let mut keys = vec![area_key("queued", "queued"), area_key("in-transit", "in transit")];
+    // What the link would have held stands above its capacity.
+    let mut would = Vec::new();
+    if let Some(&Drawn::Held(most)) = breaks.as_ref().map(Breaks::drawn) {
+        would.extend([held[run.passed], (times[run.passed + 1], most)]);
+        keys.push(line_key("would", "would have held"));
+    }
     let capacity = u64::from(link.capacity);
-    let most = held.iter().map(|&(_, volume)| volume).max().unwrap_or(0).max(1000);
+    let most = held
+        .iter()
+        .chain(&would)
+        .map(|&(_, volume)| volume)
+        .max()
+        .unwrap_or(0)
+        .max(1000);
     let shows_capacity = capacity <= 2 * most;
     let frame = frame(&times, if shows_capacity { most.max(capacity) } else { most });
-    let mut drawn = refused_span(run, &frame, &times, breaks)
+    let mut drawn = refused_span(run, &frame, &times, breaks.map(|breaks| breaks.refusal))
         + &frame.area("in-transit", &queued, &held)
         + &frame.area("queued", &ground, &queued)
+        + &frame.curve("would", &would)
         + &open_strip(run, &frame, &times, link);
     if shows_capacity {
         drawn += &frame.level("capacity", capacity, "capacity");
     }
-    frame.picture(&format!("Queued and in transit, link {}", place + 1), &drawn)
+    let picture = frame.picture(&format!("Queued and in transit, link {}", place + 1), &drawn);
+    figure("Vehicles:", &keys, &picture)
 }
 
 fn frame(times: &[u32], most: u64) -> Frame {
     Frame {
+        left: LEFT,
         width: 520.0,
         height: 200.0,
         seconds: times[times.len() - 1],
@@ -178,14 +229,14 @@ fn open_strip(run: &Run, frame: &Frame, times: &[u32], link: &Link) -> String {
     if link.signal == 0 {
         return String::new();
     }
-    let strip = |(step, masks): (usize, &Vec<u32>)| {
-        let (class, word) = if link.is_open(masks) {
-            ("open", "open")
+    let strip = |(step, line): (usize, &PlanLine)| {
+        let (word, thickness) = if link.is_open(&line.masks) {
+            ("open", 5.0)
         } else {
-            ("shut", "shut")
+            ("shut", 2.0)
         };
         let title = format!("{word}, seconds {} to {}", times[step], times[step + 1]);
-        frame.strip(class, times[step], times[step + 1], &title)
+        frame.strip(word, times[step], times[step + 1], thickness, &title)
     };
-    run.masks.iter().enumerate().map(strip).collect()
+    run.lines.iter().enumerate().map(strip).collect()
 }

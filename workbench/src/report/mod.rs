@@ -8,7 +8,9 @@ mod whole;
 
 use crate::files::Texts;
 use crate::judge::Run;
-use plancheck::Refusal;
+use crate::show::counted;
+use crate::why::{why, Why};
+use plancheck::{library_version, Refusal};
 use std::fmt::Write;
 use svg::escape;
 
@@ -26,14 +28,21 @@ pub fn page(name: &str, texts: &Texts) -> String {
          <h1>Plan of {name}</h1>\n",
         name = escape(name)
     );
+    let why = refusal.zip(run).and_then(|(refusal, run)| why(&refusal, texts, run));
     page += &verdict(refusal.as_ref());
     if let Some(refusal) = &refusal {
-        page += &refusal::section(refusal, texts, run);
+        page += &refusal::section(refusal, texts, run, why.as_ref());
     }
     if let Some(run) = run {
-        page += &pictures(run, refusal.as_ref());
+        page += &pictures(run, refusal.as_ref(), why.as_ref());
     }
-    page + "</body>\n</html>\n"
+    let version = library_version();
+    let _ = writeln!(
+        page,
+        "<p class=\"key\">Judged by the plan check library {}.{}.{}.</p>\n</body>\n</html>",
+        version.major, version.minor, version.patch
+    );
+    page
 }
 
 fn verdict(refusal: Option<&Refusal>) -> String {
@@ -45,53 +54,58 @@ fn verdict(refusal: Option<&Refusal>) -> String {
     }
 }
 
-fn pictures(run: &Run, refusal: Option<&Refusal>) -> String {
+fn pictures(run: &Run, refusal: Option<&Refusal>, why: Option<&Why>) -> String {
     let mut page = String::new();
-    let times = run.network.times();
-    let until = times[run.passed];
-    let steps = run.network.steps.len();
-    let horizon = times[steps];
-    let extent = match run.passed {
-        passed if passed == steps => format!("{steps} steps, {horizon} s."),
-        0 => format!("{steps} steps, {horizon} s; the first step does not pass."),
-        passed => {
-            format!("{steps} steps, {horizon} s; steps 1 to {passed} pass, up to second {until}, and the totals are those by then.")
-        }
-    };
-    let _ = writeln!(page, "<h2>Totals</h2>\n<p>{extent}</p>\n{}", whole::totals(run));
+    let _ = writeln!(page, "<h2>Totals</h2>\n<p>{}</p>\n{}", extent(run), whole::totals(run));
     if !run.network.signals.is_empty() {
-        let _ = writeln!(page, "<h2>Signals</h2>\n<p class=\"key\">A row a signal, its phases by number over the seconds; the piece in front \
-            of second 0 is the phase shown before the plan. A hatched bar is a tram, with the phase that it asks.</p>\n{}", signals::picture(run, refusal));
+        let _ = writeln!(
+            page,
+            "<h2>Signals</h2>\n<p class=\"key\">The number of the phase that each signal shows, over the seconds; in front of second 0, \
+             the one shown before the plan.{}</p>\n{}",
+            if run.network.trams.is_empty() {
+                ""
+            } else {
+                " A hatched bar is a tram that claims the signal, with the phase that it asks for."
+            },
+            signals::picture(run, refusal, why)
+        );
     }
+    let _ = writeln!(page, "<h2>The whole network</h2>\n{}", whole::pictures(run));
     let _ = writeln!(
         page,
-        "<h2>The whole network</h2>\n<p class=\"key\">Vehicles over seconds.{}{}{}{}</p>\n{}",
-        key("inside", "in the network"),
-        key("outside", "waiting outside"),
-        line_key("#1f6fb2", "admitted so far"),
-        line_key("#2f855a", "let out so far"),
-        whole::pictures(run)
-    );
-    let _ = writeln!(
-        page,
-        "<h2>Links</h2>\n<p class=\"key\">Vehicles over seconds.{}{}{}{}{}<br>The strip under the seconds is green where the \
-         signal opens the link, red where it shuts it.</p>\n{}",
-        line_key("#1f6fb2", "entered"),
-        line_key("#b7791f", "arrived at the end"),
-        line_key("#2f855a", "left"),
-        key("queued", "queued"),
-        key("in-transit", "in transit"),
-        links::cards(run, refusal)
+        "<h2>Links</h2>\n<p class=\"key\">{}The strip under the seconds is thick and green where the signal opens the link, thin \
+         and red where it shuts it.</p>\n{}",
+        if run.network.past > 0 {
+            "What has entered, arrived and left counts from the first past step on. "
+        } else {
+            ""
+        },
+        links::cards(run, refusal, why)
     );
     page
 }
 
-fn key(class: &str, name: &str) -> String {
-    format!(
-        "<svg class=\"swatch\" viewBox=\"0 0 18 10\"><rect class=\"{class}\" width=\"18\" height=\"10\"/></svg>{name}"
-    )
-}
-
-fn line_key(color: &str, name: &str) -> String {
-    format!("<span class=\"line\" style=\"background:{color}\"></span>{name}")
+/// What the network has, and how far its plan passes.
+fn extent(run: &Run) -> String {
+    let (network, times) = (&run.network, run.network.times());
+    let steps = network.steps.len();
+    let mut extent = format!(
+        "{}, {}, {}; {}, {} s",
+        counted(network.links.len(), "link"),
+        counted(network.signals.len(), "signal"),
+        counted(network.movements.len(), "movement"),
+        counted(steps, "step"),
+        times[steps]
+    );
+    if network.past > 0 {
+        let _ = write!(extent, ", after {}", counted(network.past, "past step"));
+    }
+    match run.passed {
+        passed if passed == steps => extent + ".",
+        0 => extent + ". The first step does not pass: the totals are those before it.",
+        passed => {
+            let until = times[passed];
+            format!("{extent}. Steps 1 to {passed} pass, up to second {until}: the totals are those by then.")
+        }
+    }
 }

@@ -2,21 +2,33 @@
 
 use super::svg::Frame;
 use crate::judge::Run;
+use crate::why::Why;
 use plancheck::{ItemKind, Refusal, Text};
 use std::fmt::Write;
 
+/// Room for the names of the rows and for the phases shown before the plan.
+const LEFT: f64 = 84.0;
 const ROW: f64 = 46.0;
-const TOP: f64 = 18.0;
+const TOP: f64 = 8.0;
 const BAR: f64 = 22.0;
+/// Room for words above the bar of the signal that breaks a rule.
+const WORDS: f64 = 20.0;
 /// About as wide as a letter of a phase's name.
 const LETTER: f64 = 7.0;
 
-pub fn picture(run: &Run, refusal: Option<&Refusal>) -> String {
+pub fn picture(run: &Run, refusal: Option<&Refusal>, why: Option<&Why>) -> String {
     let times = run.network.times();
     let signals = run.network.signals.len();
+    let broken_signal = (0..signals).find(|&signal| refusal.is_some_and(|refusal| breaks(refusal, signal)));
+    // Where the bar of a signal is, below the words of one that breaks a rule.
     #[allow(clippy::cast_precision_loss)]
-    let height = TOP + ROW * signals as f64 + 26.0;
+    let top_of = |signal: usize| {
+        let words = broken_signal.is_some_and(|broken| broken <= signal);
+        TOP + ROW * signal as f64 + if words { WORDS } else { 0.0 }
+    };
+    let height = top_of(signals) + 26.0;
     let frame = Frame {
+        left: LEFT,
         width: 1060.0,
         height,
         seconds: times[times.len() - 1],
@@ -24,17 +36,18 @@ pub fn picture(run: &Run, refusal: Option<&Refusal>) -> String {
     };
     let mut drawn = String::new();
     for signal in 0..signals {
-        #[allow(clippy::cast_precision_loss)]
-        let top = TOP + ROW * signal as f64;
+        let top = top_of(signal);
         drawn += &row(run, &frame, &times, signal, top);
         drawn += &trams(run, &frame, &times, signal, top);
-        if let Some(refusal) = refusal.filter(|refusal| breaks(refusal, signal)) {
-            drawn += &broken(run, &frame, &times, refusal, top);
+        if let Some(refusal) = refusal.filter(|_| broken_signal == Some(signal)) {
+            drawn += &broken(run, &frame, &times, (refusal, why), top);
         }
     }
     let scale = frame.seconds_scale(height - 26.0);
     let label = "The phases of each signal over time";
-    format!("<svg viewBox=\"0 0 1060 {height}\" role=\"img\" aria-label=\"{label}\">\n{HATCH}{drawn}{scale}</svg>\n")
+    format!(
+        "<div class=\"wide\"><svg viewBox=\"0 0 1060 {height}\" role=\"img\" aria-label=\"{label}\">\n{HATCH}{drawn}{scale}</svg></div>\n"
+    )
 }
 
 const HATCH: &str = "<defs><pattern id=\"hatch\" width=\"6\" height=\"6\" patternUnits=\"userSpaceOnUse\" \
@@ -47,7 +60,7 @@ fn row(run: &Run, frame: &Frame, times: &[u32], signal: usize, top: f64) -> Stri
     let name = signal + 1;
     let _ = writeln!(
         row,
-        "<text class=\"row-name\" x=\"2\" y=\"{:.1}\">{name}</text>",
+        "<text class=\"row-name\" x=\"2\" y=\"{:.1}\">signal {name}</text>",
         top + BAR - 6.0
     );
     let _ = writeln!(
@@ -60,7 +73,14 @@ fn row(run: &Run, frame: &Frame, times: &[u32], signal: usize, top: f64) -> Stri
         shown.shown_for,
         shown.cycle_clock,
     );
-    let masks: Vec<u32> = run.masks.iter().map(|masks| masks[signal]).collect();
+    let _ = writeln!(
+        row,
+        "<text class=\"phase-name\" x=\"{:.1}\" y=\"{:.1}\">{}</text>",
+        frame.x(0) - 11.0,
+        top + BAR - 6.0,
+        shown.shown
+    );
+    let masks: Vec<u32> = run.lines.iter().map(|line| line.masks[signal]).collect();
     let mut first = 0;
     while first < masks.len() {
         let last = (first..masks.len())
@@ -124,7 +144,7 @@ fn trams(run: &Run, frame: &Frame, times: &[u32], signal: usize, top: f64) -> St
             signal + 1,
             tram.phase
         );
-        let name = format!("tram {}", tram.phase);
+        let name = format!("tram: phase {}", tram.phase);
         let x = frame.middle(from, to);
         frame.bar("tram", from, to, top + BAR + 2.0, 6.0, &title)
             + &format!(
@@ -140,12 +160,14 @@ fn breaks(refusal: &Refusal, signal: usize) -> bool {
     of_signal && refusal.item as usize == signal + 1
 }
 
-fn broken(run: &Run, frame: &Frame, times: &[u32], refusal: &Refusal, top: f64) -> String {
+/// The step that is refused, in the row of its signal.
+fn broken(run: &Run, frame: &Frame, times: &[u32], (refusal, why): (&Refusal, Option<&Why>), top: f64) -> String {
     let Some(step) = run.refused_step() else {
         return String::new();
     };
     let (from, to) = (times[step - 1], times[step]);
-    let words = format!("R {}: {}", refusal.number, refusal.meaning());
+    let why = why.map_or(refusal.meaning(), |why| &why.words);
+    let words = format!("R {} in step {step}: {why}", refusal.number);
     frame.bar("broken", from, to, top - 3.0, BAR + 6.0, &words)
-        + &frame.words("broken-words", [from, to], top + BAR - 6.0, &words)
+        + &frame.words_above("broken-words", [from, to], top - 8.0, &words)
 }

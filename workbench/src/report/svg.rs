@@ -4,13 +4,16 @@
 use crate::show;
 use std::fmt::Write;
 
-const LEFT: f64 = 52.0;
-const RIGHT: f64 = 12.0;
+/// Room for the numbers of a scale of volumes.
+pub const LEFT: f64 = 52.0;
+/// Room for half of the last second and its unit.
+const RIGHT: f64 = 20.0;
 const TOP: f64 = 10.0;
 const BOTTOM: f64 = 26.0;
 
 /// A picture with seconds from left to right and, upwards, volumes in thousandths of a vehicle.
 pub struct Frame {
+    pub left: f64,
     pub width: f64,
     pub height: f64,
     pub seconds: u32,
@@ -22,7 +25,7 @@ pub type Point = (u32, u64);
 
 impl Frame {
     pub fn x(&self, second: u32) -> f64 {
-        LEFT + (self.width - LEFT - RIGHT) * f64::from(second) / f64::from(self.seconds.max(1))
+        self.left + (self.width - self.left - RIGHT) * f64::from(second) / f64::from(self.seconds.max(1))
     }
 
     /// Where the middle of a span of seconds is.
@@ -50,7 +53,7 @@ impl Frame {
     /// Lines and numbers of both scales.
     fn scales(&self) -> String {
         let mut scales = String::new();
-        let (left, right, bottom) = (LEFT, self.width - RIGHT, self.height - BOTTOM);
+        let (left, right, bottom) = (self.left, self.width - RIGHT, self.height - BOTTOM);
         for volume in marks(self.most, 4, &volume_units()) {
             let y = self.y(volume);
             let shown = show::vehicles(volume);
@@ -71,8 +74,10 @@ impl Frame {
     /// The marks of the seconds, under a line at this height.
     pub fn seconds_scale(&self, bottom: f64) -> String {
         let mut scale = String::new();
-        for second in marks(self.seconds.into(), 9, SECOND_UNITS) {
+        let marks = marks(self.seconds.into(), 9, SECOND_UNITS);
+        for &second in &marks {
             let x = self.x(u32::try_from(second).unwrap_or(0));
+            let unit = if Some(&second) == marks.last() { " s" } else { "" };
             let _ = writeln!(
                 scale,
                 "<line class=\"tick\" x1=\"{x:.1}\" y1=\"{bottom}\" x2=\"{x:.1}\" y2=\"{:.1}\"/>",
@@ -80,19 +85,24 @@ impl Frame {
             );
             let _ = writeln!(
                 scale,
-                "<text class=\"second\" x=\"{x:.1}\" y=\"{:.1}\">{second}</text>",
+                "<text class=\"second\" x=\"{x:.1}\" y=\"{:.1}\">{second}{unit}</text>",
                 bottom + 16.0
             );
         }
         let _ = writeln!(
             scale,
-            "<line class=\"axis\" x1=\"{LEFT}\" y1=\"{bottom}\" x2=\"{:.1}\" y2=\"{bottom}\"/>",
+            "<line class=\"axis\" x1=\"{}\" y1=\"{bottom}\" x2=\"{:.1}\" y2=\"{bottom}\"/>",
+            self.left,
             self.width - RIGHT
         );
         scale
     }
 
+    /// A curve through points; nothing where there are none.
     pub fn curve(&self, class: &str, points: &[Point]) -> String {
+        if points.is_empty() {
+            return String::new();
+        }
         format!("<polyline class=\"{class}\" points=\"{}\"/>\n", self.places(points))
     }
 
@@ -115,8 +125,9 @@ impl Frame {
     pub fn level(&self, class: &str, volume: u64, name: &str) -> String {
         let (right, y) = (self.width - RIGHT, self.y(volume));
         format!(
-            "<line class=\"{class}\" x1=\"{LEFT}\" y1=\"{y:.1}\" x2=\"{right}\" y2=\"{y:.1}\"/>\n\
+            "<line class=\"{class}\" x1=\"{}\" y1=\"{y:.1}\" x2=\"{right}\" y2=\"{y:.1}\"/>\n\
              <text class=\"level-name\" x=\"{:.1}\" y=\"{:.1}\">{}</text>\n",
+            self.left,
             right - 4.0,
             y + 12.0,
             escape(name)
@@ -128,9 +139,9 @@ impl Frame {
         self.bar(class, from, to, TOP, self.height - TOP - BOTTOM, "")
     }
 
-    /// A bar along the seconds under the axis: where it stands is told by its height in the picture.
-    pub fn strip(&self, class: &str, from: u32, to: u32, title: &str) -> String {
-        self.bar(class, from, to, self.height - BOTTOM + 1.0, 4.0, title)
+    /// A bar along the seconds under the axis, so thick.
+    pub fn strip(&self, class: &str, from: u32, to: u32, thickness: f64, title: &str) -> String {
+        self.bar(class, from, to, self.height - BOTTOM + 1.0, thickness, title)
     }
 
     pub fn bar(&self, class: &str, from: u32, to: u32, top: f64, height: f64, title: &str) -> String {
@@ -146,16 +157,28 @@ impl Frame {
     /// Words beside a span of seconds, on the side that has more room.
     pub fn words(&self, class: &str, span: [u32; 2], top: f64, words: &str) -> String {
         let (before, behind) = (self.x(span[0]), self.x(span[1]));
-        let (x, anchor) = if before - LEFT > self.width - behind {
+        let (x, anchor) = if before - self.left > self.width - behind {
             (before - 6.0, "end")
         } else {
             (behind + 6.0, "start")
         };
-        format!(
-            "<text class=\"{class}\" x=\"{x:.1}\" y=\"{top:.1}\" text-anchor=\"{anchor}\">{}</text>\n",
-            escape(words)
-        )
+        text(class, x, top, anchor, words)
     }
+
+    /// Words above a span of seconds, towards the side that has more room.
+    pub fn words_above(&self, class: &str, span: [u32; 2], top: f64, words: &str) -> String {
+        let (before, behind) = (self.x(span[0]), self.x(span[1]));
+        if before - self.left > self.width - behind {
+            text(class, behind, top, "end", words)
+        } else {
+            text(class, before, top, "start", words)
+        }
+    }
+}
+
+fn text(class: &str, x: f64, y: f64, anchor: &str, words: &str) -> String {
+    let words = escape(words);
+    format!("<text class=\"{class}\" x=\"{x:.1}\" y=\"{y:.1}\" text-anchor=\"{anchor}\">{words}</text>\n")
 }
 
 /// Steps between the marks of seconds.
@@ -173,6 +196,29 @@ fn marks(greatest: u64, count: u64, units: &[u64]) -> Vec<u64> {
     let fits = |unit: &&u64| greatest / **unit <= count;
     let unit = units.iter().find(fits).or(units.last()).copied().unwrap_or(1);
     (0..=greatest / unit).map(|mark| mark * unit).collect()
+}
+
+/// A picture below what is drawn in it: its keys, each behind its own swatch.
+pub fn figure(drawn: &str, keys: &[String], picture: &str) -> String {
+    format!(
+        "<figure><figcaption class=\"key\">{drawn}{}</figcaption>{picture}</figure>\n",
+        keys.concat()
+    )
+}
+
+pub fn area_key(class: &str, name: &str) -> String {
+    swatch(&format!("<rect class=\"{class}\" width=\"18\" height=\"10\"/>"), name)
+}
+
+pub fn line_key(class: &str, name: &str) -> String {
+    swatch(
+        &format!("<line class=\"{class}\" x1=\"0\" y1=\"5\" x2=\"18\" y2=\"5\"/>"),
+        name,
+    )
+}
+
+fn swatch(drawn: &str, name: &str) -> String {
+    format!("<svg class=\"swatch\" viewBox=\"0 0 18 10\">{drawn}</svg>{name}")
 }
 
 /// A text as HTML shows it.

@@ -1,7 +1,7 @@
 //! The whole network over time: what is inside, what waits outside, what was admitted and let out.
 
 use super::links::refused_span;
-use super::svg::{Frame, Point};
+use super::svg::{area_key, figure, line_key, Frame, Point, LEFT};
 use crate::judge::{Run, Running};
 use crate::show;
 use std::fmt::Write;
@@ -33,15 +33,26 @@ pub fn pictures(run: &Run) -> String {
     let flow_drawn = refused_span(run, &flow_frame, &times, None)
         + &flow_frame.curve("entered", &admitted)
         + &flow_frame.curve("left", &let_out);
+    let under_way_keys = [
+        area_key("inside", "in the network"),
+        area_key("outside", "waiting outside"),
+    ];
+    let flow_keys = [
+        line_key("entered", "admitted so far"),
+        line_key("left", "let out so far"),
+    ];
+    let under_way = under_way_frame.picture("In the network, and waiting outside", &under_way_drawn);
+    let flow = flow_frame.picture("Admitted and let out", &flow_drawn);
     format!(
         "<div class=\"pair\">{}{}</div>\n",
-        under_way_frame.picture("In the network, and waiting outside", &under_way_drawn),
-        flow_frame.picture("Admitted and let out", &flow_drawn),
+        figure("Vehicles:", &under_way_keys, &under_way),
+        figure("Vehicles:", &flow_keys, &flow),
     )
 }
 
 fn frame(times: &[u32], points: &[Point]) -> Frame {
     Frame {
+        left: LEFT,
         width: 520.0,
         height: 200.0,
         seconds: times[times.len() - 1],

@@ -13,6 +13,11 @@ fn usage_tells_the_commands_that_there_are() {
         assert!(said.out.contains(&format!("\n  {name} ")), "{name}");
     }
     assert_eq!(workbench(&["-h"]).out, said.out);
+    let said = workbench(&["rank", "--help"]);
+    assert_eq!(said.status, 0);
+    assert!(said
+        .out
+        .starts_with("usage: workbench rank [--csv] FOLDER..\njudges every plan"));
 }
 
 #[test]
@@ -77,9 +82,10 @@ fn explain_points_at_the_lines() {
     assert_eq!(said.status, 1);
     for words in [
         "refused with 26 in step 2 (line 2 of the plan text, seconds 10 to 20), movement 1 from link 1 to link 2 (line 5",
-        "  plan line 2: P 1 0 0 0 0 5001\n  network line 5: M 1 2 500 1000\n",
+        "  plan line 2: P 1 0 0 0 0 [5001]\n  network line 5: M 1 2 [500] 1000\n",
         "at the step's start 5 have entered link 1 and 0 have left it: 0 queued, 5 in transit",
-        "tell the planner to look at the movement's volume",
+        "\nwhy: 0.5 vehicles a second for 10 s are 5, and the plan moves 5.001\n",
+        "\nwhat to do: keep the running plan, and tell the planner to look at the movement's volume",
     ] {
         assert!(said.out.contains(words), "{words}\n{}", said.out);
     }
@@ -91,7 +97,9 @@ fn explain_what_cannot_be_drawn() {
     let said = workbench(&["explain", &network]);
     assert_eq!(said.status, 1);
     assert!(said.out.starts_with("refused with 1 in line 4 of the network text: "));
-    assert!(said.out.contains("  network line 4: Q x\n"));
+    assert!(said
+        .out
+        .contains("  network line 4: Q x\n  it has 2 fields, and 8 are due\n"));
 
     let surplus = corridor_with("explain_surplus", "plan.tsv", 4, "P\t2\t0\t0\t0\t2000\t0\nP");
     let said = workbench(&["explain", &surplus]);
@@ -100,6 +108,12 @@ fn explain_what_cannot_be_drawn() {
         "{}",
         said.out
     );
+    assert!(said.out.contains("the text has 5 lines, and 4 are due"));
+    fs::write(format!("{surplus}/plan.tsv"), "").unwrap();
+    let said = workbench(&["explain", &surplus]);
+    assert!(said
+        .out
+        .contains("  plan line 3: (the plan is empty: each signal holds its phase)\n"));
 
     let said = workbench(&["explain", &example("corridor")]);
     assert_eq!(
@@ -155,10 +169,25 @@ fn rank_sorts_by_travel_time() {
         )
     );
     let said = workbench(&["rank", &folder]);
-    let last_words = |line: &str| line.rsplit('/').next().unwrap().to_string();
-    let order: Vec<String> = said.out.lines().skip(1).map(last_words).collect();
-    assert_eq!(order, ["quick.tsv", "a, slow.tsv", "broken.tsv"]);
-    assert!(said.out.contains("refused with 10 in step 1"));
+    assert_eq!(
+        said.out,
+        format!(
+            "rank      travel time   let out  at the end  plan\n      vehicle seconds  vehicles    vehicles\n\
+             \x20  1         120.0000     5.000       0.000  {folder}/quick.tsv\n\
+             \x20  2         130.0000     3.000       2.000  {folder}/a, slow.tsv\n\
+             \x20  -  R 10 1 1: step 1, signal 1             {folder}/broken.tsv\n"
+        )
+    );
+    assert!(said.err.contains("1 of 3 plans are refused"));
+}
+
+#[test]
+fn rank_without_plans() {
+    let folder = scratch("rank_without_plans");
+    fs::copy(example("corridor/network.tsv"), folder.join("network.tsv")).unwrap();
+    let said = workbench(&["rank", &folder.display().to_string()]);
+    assert_eq!((said.status, said.out.as_str()), (2, ""));
+    assert!(said.err.contains("there is no plan"), "{}", said.err);
 }
 
 #[test]
@@ -172,7 +201,7 @@ fn rank_takes_one_network() {
 fn carry_writes_the_network_from_a_boundary_on() {
     let (network, plan) = (example("avenue/network.tsv"), example("avenue/plan.tsv"));
     let lines = fs::read_to_string(&plan).unwrap();
-    let first: String = lines.lines().take(8).map(|line| format!("{line}\n")).collect();
+    let first: String = lines.split_inclusive('\n').take(8).collect();
     let run = scratch("carry").join("first.tsv");
     fs::write(&run, first).unwrap();
     let said = workbench(&["carry", &network, "8", &run.display().to_string()]);
@@ -182,10 +211,20 @@ fn carry_writes_the_network_from_a_boundary_on() {
     let said = workbench(&["carry", &network, "24", &plan]);
     assert_eq!((said.status, said.out.as_str()), (1, ""));
     assert!(said.err.contains("refused with 31"), "{}", said.err);
+    assert!(
+        said.err.contains("the boundaries inside it are 1 to 23"),
+        "{}",
+        said.err
+    );
     let said = workbench(&["carry", &network, "8", &plan]);
     assert_eq!((said.status, said.out.as_str()), (1, ""));
     assert!(
         said.err.contains("refused with 9 in step 9 (line 9 of the plan text"),
+        "{}",
+        said.err
+    );
+    assert!(
+        said.err.contains("the text has 24 lines, and 8 are due"),
         "{}",
         said.err
     );
@@ -258,6 +297,7 @@ fn listing_writes_the_plan() {
     let said = workbench(&["listing", &network, &wrong.display().to_string()]);
     assert_eq!((said.status, said.out.as_str()), (1, ""));
     assert!(said.err.contains("refused with 22 in line 2 of the listing text"));
+    assert!(said.err.ends_with("\n  listing line 2: i_9_1 0.5\n"), "{}", said.err);
 }
 
 /// One link and a signal whose cycle is twenty seconds; six steps of ten seconds.
@@ -296,11 +336,19 @@ fn sheet_writes_a_plan_and_holds_it_to_the_sheet() {
     assert_eq!(
         said.out,
         "refused with 34 in step 4 (line 4 of the plan text, seconds 30 to 40), signal 1 (line 2 of the network text): \
-         a run does not last its duration\n"
+         a run does not last its duration\n  plan line 4: P 2 0 0\n\
+         \x20 phase 2 has shown for 10 s by then and is left, and the sheet has 20 s\n"
     );
     let said = workbench(&["sheet", &network, &write("short.tsv", "F\t10\n"), &plan]);
     assert_eq!(said.status, 1);
     assert!(said.out.starts_with("refused with 33 in line 1 of the sheet text: "));
+    assert!(
+        said.out.ends_with(
+            "\n  sheet line 1: F 10\n  due is F, a duration for each phase: phase 1 10 to 30 s, phase 2 10 to 30 s, and no offset\n"
+        ),
+        "{}",
+        said.out
+    );
 }
 
 #[test]

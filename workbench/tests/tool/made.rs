@@ -4,8 +4,10 @@ use super::{scratch, workbench};
 use std::fs;
 use std::path::Path;
 
+/// Makes an avenue in a folder, in the place of one that it has.
 fn make(seed: u32, folder: &Path, more: &[&str]) -> String {
     let seed = seed.to_string();
+    let _ = fs::remove_file(folder.join("network.tsv"));
     let said = workbench(&[&["make", &seed, &folder.display().to_string()], more].concat());
     assert_eq!(said.status, 0, "seed {seed}: {}", said.err);
     said.out
@@ -113,9 +115,22 @@ fn sizes() {
     );
     let out = make(1, &folder, &["--junctions", "1", "--steps", "1"]);
     assert!(
-        out.starts_with("4 links, 1 signals, 4 movements, 1 steps, 0 tram lines"),
+        out.starts_with("4 links, 1 signal, 4 movements, 1 step, 0 tram lines"),
         "{out}"
     );
+}
+
+#[test]
+fn another_network_is_kept() {
+    let folder = scratch("made_kept");
+    let name = folder.display().to_string();
+    make(1, &folder, &[]);
+    let network = fs::read(folder.join("network.tsv")).unwrap();
+    assert_eq!(workbench(&["make", "1", &name]).status, 0);
+    let said = workbench(&["make", "2", &name]);
+    assert_eq!((said.status, said.out.as_str()), (2, ""));
+    assert!(said.err.contains("is another network already"), "{}", said.err);
+    assert_eq!(fs::read(folder.join("network.tsv")).unwrap(), network);
 }
 
 #[test]

@@ -3,6 +3,8 @@
 mod commands;
 mod made;
 mod reports;
+mod why;
+mod words;
 
 use std::fs;
 use std::path::{Path, PathBuf};

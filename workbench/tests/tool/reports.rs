@@ -82,11 +82,38 @@ fn a_link_that_breaks_a_rule() {
     assert!(page.contains("<a href=\"#link-2\">"));
     assert_eq!(count(&page, "class=\"broken-span\""), 2);
     assert_eq!(count(&page, ">R 17</text>"), 2);
-    assert!(page.contains("<p class=\"broken-reason\">R 17 in step 3: more has left than has arrived</p>"));
+    assert!(page.contains(
+        "<p class=\"broken-reason\">R 17 in step 3: more has left than has arrived; 0 vehicles had left before the step and 3.001 \
+         leave in it, 3.001 in all, and 3 have arrived by its end</p>"
+    ));
+    // what would have left, in the picture and in its key
+    assert_eq!(count(&page, "<polyline class=\"would\""), 1);
+    assert_eq!(count(&page, ">would have left<"), 1);
     // what is let out of link 2, the one that is at fault, and its travel time
     assert!(page.contains("P 1 0 0 0 <mark>3001</mark> 2000"));
     assert!(page.contains("Q 60000 <mark>10</mark> 500 0 0 0"));
-    assert!(page.contains("steps 1 to 2 pass, up to second 20"));
+    assert!(page.contains("Steps 1 to 2 pass, up to second 20"));
+}
+
+#[test]
+fn a_link_that_is_overfilled() {
+    let page = page(&corridor_with(
+        "report_full",
+        "network.tsv",
+        3,
+        "Q\t4999\t10\t0\t1\t1\t0\t0",
+    ));
+    assert!(page.contains("refused: R 18 1 1"));
+    assert_eq!(count(&page, "<polyline class=\"would\""), 1);
+    assert_eq!(count(&page, ">would have held<"), 1);
+    assert_eq!(count(&page, "<line class=\"capacity\""), 1);
+}
+
+#[test]
+fn a_network_with_a_past() {
+    let page = page(&example("carry"));
+    assert!(page.contains("10 links, 3 signals, 12 movements; 16 steps, 140 s, after 8 past steps."));
+    assert!(page.contains("counts from the first past step on"));
 }
 
 #[test]
@@ -94,6 +121,9 @@ fn a_signal_that_breaks_a_rule() {
     let page = page(&corridor_with("report_signal", "plan.tsv", 4, "P\t1\t0\t0\t0\t2000\t0"));
     assert!(page.contains("refused: R 13 4 1"));
     assert_eq!(count(&page, "<rect class=\"broken\""), 1);
+    assert!(page.contains(
+        ">R 13 in step 4: phase 1 would have shown for 40 s by the step's end, and its greatest time is 30 s</text>"
+    ));
     assert!(page.contains("P <mark>1</mark> 0 0 0 2000 0"));
 }
 
@@ -102,7 +132,7 @@ fn a_mask_that_is_no_phase() {
     let page = page(&corridor_with("report_mask", "plan.tsv", 1, "P\t3\t5000\t0\t0\t0\t0"));
     assert!(page.contains("refused: R 10 1 1"));
     assert!(page.contains(">mask 3</text>"));
-    assert!(page.contains("the first step does not pass"));
+    assert!(page.contains("The first step does not pass"));
 }
 
 #[test]
@@ -138,7 +168,7 @@ fn a_line_behind_the_last() {
     ));
     assert!(page.contains("refused: R 9 5 0"));
     assert_eq!(count(&page, "-span\""), 0);
-    assert!(page.contains("<p>4 steps, 40 s.</p>"));
+    assert!(page.contains("<p>2 links, 1 signal, 1 movement; 4 steps, 40 s.</p>"));
 }
 
 #[test]
