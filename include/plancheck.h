@@ -29,6 +29,8 @@
  * Signals, links, movements, steps and lines are counted from 1, in the order of their lines.
  *
  * TEXTS
+ * What follows is their form; docs/FORMAT.md has the limits of every field.
+ *
  * Both texts are records: one a line, each line ended by a line feed (byte 10), fields parted by one tab (byte 9). The
  * first field is a letter, the others are decimal numbers of 1 to 10 digits, at most 4294967295, without sign. Leading
  * zeros may stand within the 10 digits: texts that differ only in them get the same answer. There is no byte after the
@@ -447,11 +449,12 @@ plancheck_plan_result plancheck_check_plan(const uint8_t *network, size_t networ
 
 /*
  * Tells what stands on one link at one boundary, from the ledger of an accepted plan. Refusals 1 to 6, 28 and 30 of the
- * network, then 8, 19, 20 and 21. Where the travel time ends inside a step, the elapsed part of what entered in it has arrived,
- * taken evenly; what is queued is rounded down, and the rest is in transit.
+ * network, then 8, 19, 20 and 21. Where the travel time ends inside a step, the elapsed part of what entered in it has
+ * arrived, taken evenly; what is queued is rounded down, and the rest is in transit.
  *
  * Reads the network text and the ledger: of the rows, at most those of the boundary and of the step one travel time
- * before; what arrived before time 0 is read from the network alone. Writes nothing. A ledger of a refused plan is answered for the rows that were written.
+ * before; what arrived before time 0 is read from the network alone. Writes nothing. A ledger of a refused plan is
+ * answered for the rows that were written.
  */
 plancheck_link_result plancheck_link_state(const uint8_t *network, size_t network_len, const uint32_t *ledger,
                                            size_t ledger_len, uint32_t boundary, uint32_t link);

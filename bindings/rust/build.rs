@@ -10,7 +10,7 @@ fn main() -> ExitCode {
     println!("cargo:rerun-if-env-changed=PLANCHECK_LIB_DIR");
     println!("cargo:rustc-link-lib=static=plan_check_c");
     let Some(named) = std::env::var_os("PLANCHECK_LIB_DIR") else {
-        println!("cargo:warning=PLANCHECK_LIB_DIR is not set: what links needs it, the folder of {ARCHIVE}");
+        println!("cargo:warning=PLANCHECK_LIB_DIR is not set: what links needs it, the folder of {ARCHIVE} (tools/archive prints it)");
         return ExitCode::SUCCESS;
     };
     match library_folder(Path::new(&named)) {

@@ -50,11 +50,14 @@ static const struct {
                                "the tram's signal, phase or steps do not exist, or another tram of the signal has a "
                                "step of it"},
     [PLANCHECK_TRAM_PHASE] = {"plan", "signal", "a tram claims the signal, and its phase is not shown"},
+    [PLANCHECK_PAST_VALUES] = {NULL, NULL,
+                               "the past is too long, a past step's length is outside its limits, or what the past "
+                               "brought to a link is more than it can have"},
 };
 
 static void print_refusal(uint32_t number, uint32_t line, uint32_t item)
 {
-    if (number >= sizeof refusals / sizeof refusals[0]) {
+    if (number >= sizeof refusals / sizeof refusals[0] || refusals[number].meaning == NULL) {
         printf("refusal %" PRIu32 ", line %" PRIu32 ", item %" PRIu32 "\n", number, line, item);
         return;
     }
@@ -83,22 +86,29 @@ static void print_totals(const plancheck_plan_result *totals)
            travel_time % 10000);
 }
 
+/* The links that a line of a terminal has room for. */
+#define LINKS_A_LINE 3
+
 /* A line for each boundary: what has entered and what has left each link by then, in thousandths of a vehicle. */
 static void print_ledger(uint32_t links, uint32_t steps)
 {
-    printf("\n        ");
-    for (uint32_t i = 1; i <= links; i++)
-        printf("%17s %2" PRIu32, "link", i);
-    printf("\nboundary");
-    for (uint32_t i = 1; i <= links; i++)
-        printf("%10s%10s", "entered", "left");
-    printf("\n");
-    for (uint32_t n = 0; n <= steps; n++) {
-        const uint32_t *row = ledger + 2 * (size_t)n * links;
-        printf("%8" PRIu32, n);
-        for (uint32_t i = 0; i < links; i++)
-            printf("%10" PRIu32 "%10" PRIu32, row[2 * i], row[2 * i + 1]);
+    printf("\nby each boundary, in thousandths of a vehicle\n");
+    for (uint32_t first = 0; first < links; first += LINKS_A_LINE) {
+        uint32_t last = links - first < LINKS_A_LINE ? links : first + LINKS_A_LINE;
+        printf("\n        ");
+        for (uint32_t i = first; i < last; i++)
+            printf("%17s %2" PRIu32, "link", i + 1);
+        printf("\nboundary");
+        for (uint32_t i = first; i < last; i++)
+            printf("%10s%10s", "entered", "left");
         printf("\n");
+        for (uint32_t n = 0; n <= steps; n++) {
+            const uint32_t *row = ledger + 2 * (size_t)n * links;
+            printf("%8" PRIu32, n);
+            for (uint32_t i = first; i < last; i++)
+                printf("%10" PRIu32 "%10" PRIu32, row[2 * i], row[2 * i + 1]);
+            printf("\n");
+        }
     }
 }
 

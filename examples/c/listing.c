@@ -59,8 +59,10 @@ int main(int count, char **arguments)
     free(network);
     free(listing);
     if (result.number != PLANCHECK_OK) {
+        /* 22 and 23 are of the listing; the others are of the network, but for 24, which names no line. */
+        int is_listing = result.number == PLANCHECK_LISTING_FORM || result.number == PLANCHECK_LISTING_VOLUME;
         fprintf(stderr, "refusal %" PRIu32 ", line %" PRIu32 " of the %s, item %" PRIu32 "\n", result.number, result.line,
-                result.number < PLANCHECK_LISTING_FORM ? "network" : "listing", result.item);
+                is_listing ? "listing" : "network", result.item);
         return 1;
     }
     return fwrite(plan, 1, result.length, stdout) == result.length && fflush(stdout) == 0 ? 0 : 2;

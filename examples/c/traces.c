@@ -2,7 +2,9 @@
  * traces: three vehicles come to a red line, which turns green after five seconds. Prints a time-distance table, one line a second: the time, and
  * the place of each vehicle in metres.
  */
-#include <plancheck.h>
+#include "plancheck.h"
+
+#include <inttypes.h>
 #include <stdio.h>
 
 enum { VEHICLES = 3, SECONDS = 10, GREEN_AT = 5 };
@@ -20,7 +22,7 @@ int main(void)
         plancheck_network_result result =
             plancheck_step_vehicles(places, VEHICLES, advances, VEHICLES, &red_line, red_lines, spacing);
         if (result.number != PLANCHECK_OK) {
-            fprintf(stderr, "refusal %u\n", result.number);
+            fprintf(stderr, "refusal %" PRIu32 "\n", result.number);
             return 1;
         }
     }

@@ -5,6 +5,9 @@ use crate::{library, refused, Refusal};
 /// The greatest number of cells of a corridor; there is at least one.
 pub const MAX_CELLS: usize = 64;
 
+/// The greatest number of demands, and so of steps, of a corridor; there is at least one.
+pub const MAX_DEMANDS: usize = 120;
+
 /// What a run of a corridor gives. Volumes are in thousandths of a vehicle.
 #[derive(Clone, Copy, Debug, PartialEq, Eq, Hash)]
 pub struct CellsRun {

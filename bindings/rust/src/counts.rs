@@ -29,7 +29,7 @@ impl Counts {
 ///
 /// # Errors
 ///
-/// Refusals 1 to 6 and 28.
+/// Refusals 1 to 6, 28 and 30.
 ///
 /// # Examples
 ///

@@ -15,14 +15,14 @@ mod sheets;
 mod traces;
 
 pub use carry::{carry_on, MAX_NETWORK_TEXT_LEN};
-pub use cells::{run_cells, CellsRun, MAX_CELLS};
+pub use cells::{run_cells, CellsRun, MAX_CELLS, MAX_DEMANDS};
 pub use comparison::{compare_plans, Comparison, ComparisonRefusal, Order, Refused};
 pub use counts::{library_version, network_counts, Counts, Version};
 pub use ledger::{Rows, Volumes};
 pub use listing::{plan_from_listing, MAX_WRITTEN_PLAN_LEN};
 pub use refusal::{ItemKind, Reason, Refusal, Text};
 pub use sheets::{check_sheet, plan_from_sheet};
-pub use traces::step_vehicles;
+pub use traces::{step_vehicles, MAX_RED_LINES, MAX_VEHICLES};
 
 /// The greatest number of links of a network; there is at least one.
 pub const MAX_LINKS: usize = 24;
@@ -37,6 +37,9 @@ pub const MAX_STEPS: usize = 120;
 /// The greatest number of past steps of a network; there may be none, and past and present steps together are at most
 /// [`MAX_STEPS`].
 pub const MAX_PAST_STEPS: usize = 120;
+/// No accepted plan text is longer than this, in bytes, every number padded to 10 digits: a longer one may be turned down
+/// unread.
+pub const MAX_PLAN_TEXT_LEN: usize = 158_640;
 /// A ledger length that is enough for every network.
 pub const MAX_LEDGER_LEN: usize = required_ledger_len(MAX_LINKS, MAX_STEPS);
 
@@ -100,9 +103,9 @@ pub fn check_network(network: &[u8]) -> Result<(), Refusal> {
 /// Checks a plan on a network, and fills the ledger.
 ///
 /// Row n of the ledger belongs to boundary n and starts at index 2 × n × L: for each link what has entered, the
-/// standing start and the past steps included, and what has left by then; [`Rows`] reads it by boundary and link. A refusal at line n of the
-/// plan leaves rows 0 to n − 1 written; refusals 1 to 8, 28 and 30 leave the ledger as it was. All other numbers of the
-/// ledger keep what they held.
+/// standing start and the past steps included, and what has left by then; [`Rows`] reads it by boundary and link. A
+/// refusal at line n of the plan leaves rows 0 to n − 1 written; refusals 1 to 8, 28 and 30 leave the ledger as it was.
+/// All other numbers of the ledger keep what they held.
 ///
 /// An empty plan text means hold: each signal keeps its shown phase and every volume is 0 in all K steps.
 ///

@@ -247,6 +247,9 @@ impl fmt::Display for Reason {
 impl fmt::Display for Refusal {
     fn fmt(&self, formatter: &mut fmt::Formatter<'_>) -> fmt::Result {
         write!(formatter, "refusal {}", self.number)?;
+        if self.reason().is_none() {
+            write!(formatter, ", line {}, item {}", self.line, self.item)?;
+        }
         if let Some(text) = self.text() {
             write!(formatter, ", {text} line {}", self.line)?;
         }

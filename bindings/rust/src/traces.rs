@@ -2,6 +2,11 @@
 
 use crate::{library, refused, Refusal};
 
+/// The greatest number of vehicles of a step; there may be none.
+pub const MAX_VEHICLES: usize = 64;
+/// The greatest number of red lines of a step; there may be none.
+pub const MAX_RED_LINES: usize = 64;
+
 /// Moves vehicles along a street by one step, in metres, for a time-distance display.
 ///
 /// The first vehicle leads; each other's leader is the one just before it. A vehicle's target is its place plus its

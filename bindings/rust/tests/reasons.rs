@@ -73,5 +73,8 @@ fn a_number_of_a_later_library() {
         (refusal.reason(), refusal.text(), refusal.item_kind()),
         (None, None, None)
     );
-    assert_eq!(refusal.to_string(), "refusal 1000: the number is unknown");
+    assert_eq!(
+        refusal.to_string(),
+        "refusal 1000, line 3, item 4: the number is unknown"
+    );
 }
