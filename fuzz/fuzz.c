@@ -625,6 +625,7 @@ int main(int count, char **arguments)
     static void (*const calls[])(void) = {try_network, try_counts, try_plan, try_plan, try_comparison, try_link, try_carry, try_listing, try_sheet, try_sheet_plan, try_cells, try_vehicles};
     for (input = 0; input < inputs; input++)
         calls[below(sizeof calls / sizeof calls[0])]();
+    printf("number\ttold\n");
     for (uint32_t number = 0; number < sizeof told / sizeof told[0]; number++)
         if (told[number] != 0)
             printf("%" PRIu32 "\t%" PRIu64 "\n", number, told[number]);

@@ -96,14 +96,23 @@ static size_t some_number(char *digits, size_t room)
     return (size_t)length;
 }
 
+/* A decimal for a line of a listing: whole volumes, others, and what is none. */
+static size_t some_decimal(char *digits, size_t room)
+{
+    static const char *const decimals[] = {"0",         "1",           "0.5",         "00.5",  "0.25",  "0.0001", "0.00001", "0.000001", "0.1234567", "1.000000",
+                                           "429496.72", "4294967.296", "9999999999.9", "1.",    ".5",    "-1",     "",        "1e3",      "10000000000"};
+    return (size_t)snprintf(digits, room, "%s", decimals[below(sizeof decimals / sizeof decimals[0])]);
+}
+
+/* Another number in the place of one behind a tab, or of a listing's behind its space. */
 static void damage_field(struct text *text)
 {
-    size_t tab = end_of(text, below((uint32_t)text->length), '\t', '\t');
-    if (tab == text->length)
+    size_t parting = end_of(text, below((uint32_t)text->length), '\t', ' ');
+    if (parting == text->length)
         return;
     char digits[16];
-    size_t length = some_number(digits, sizeof digits);
-    replace(text, tab + 1, end_of(text, tab + 1, '\t', '\n') - tab - 1, digits, length);
+    size_t length = text->bytes[parting] == ' ' ? some_decimal(digits, sizeof digits) : some_number(digits, sizeof digits);
+    replace(text, parting + 1, end_of(text, parting + 1, '\t', '\n') - parting - 1, digits, length);
 }
 
 static void damage_line(struct text *text)
