@@ -75,8 +75,15 @@ fn faults(text: &[u8], line: usize, due: Option<&Due>) -> Vec<String> {
     if found.contains(&b' ') {
         faults.push("spaces stand in it, and fields are parted by tabs".to_string());
     }
-    let fields: Vec<&[u8]> = found.split(|&byte| byte == b'\t').collect();
-    if let Some((letter, count)) = due.and_then(|due| due.line) {
+    faults.extend(field_faults(found, due.and_then(|due| due.line)));
+    faults
+}
+
+/// The faults of a line's fields, where this letter and so many fields are due.
+fn field_faults(line: &[u8], due: Option<(u8, usize)>) -> Vec<String> {
+    let mut faults = Vec::new();
+    let fields: Vec<&[u8]> = line.split(|&byte| byte == b'\t').collect();
+    if let Some((letter, count)) = due {
         if fields[0] != [letter] {
             let (shown, letter) = (show::line(fields[0]), char::from(letter));
             faults.push(format!(
@@ -87,7 +94,7 @@ fn faults(text: &[u8], line: usize, due: Option<&Due>) -> Vec<String> {
         }
     }
     let bad = fields.iter().skip(1).position(|field| !is_number(field));
-    if let Some(place) = bad.filter(|_| !found.contains(&b'\r')) {
+    if let Some(place) = bad.filter(|_| !line.contains(&b'\r')) {
         let shown = show::line(fields[place + 1]);
         faults.push(format!("field {} is '{shown}', which is no number", place + 2));
     }

@@ -90,18 +90,7 @@ impl Network {
                 first: field(2),
                 last: field(3),
             }),
-            b'G' => self.signals.push(Signal {
-                line,
-                least_cycle: field(0),
-                greatest_cycle: field(1),
-                phases: field(2),
-                shown: field(3),
-                shown_for: field(4),
-                cycle_clock: field(5),
-                times: (0..field(2) as usize)
-                    .map(|phase| [field(6 + 2 * phase), field(7 + 2 * phase)])
-                    .collect(),
-            }),
+            b'G' => self.signals.push(Signal::new(line, &record.numbers)),
             b'Q' => self.links.push(Link {
                 line,
                 capacity: field(0),
@@ -143,6 +132,26 @@ impl Network {
             times.push(times[times.len() - 1] + step.length);
         }
         times
+    }
+}
+
+impl Signal {
+    /// Reads the numbers of a `G` line.
+    fn new(line: usize, numbers: &[u32]) -> Signal {
+        let field = |place: usize| numbers.get(place).copied().unwrap_or(0);
+        let phases = field(2);
+        Signal {
+            line,
+            least_cycle: field(0),
+            greatest_cycle: field(1),
+            phases,
+            shown: field(3),
+            shown_for: field(4),
+            cycle_clock: field(5),
+            times: (0..phases as usize)
+                .map(|phase| [field(6 + 2 * phase), field(7 + 2 * phase)])
+                .collect(),
+        }
     }
 }
 

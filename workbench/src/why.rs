@@ -18,7 +18,7 @@ pub enum Drawn {
     Nothing,
     /// What would have left by its end, and what has arrived by then.
     Left {
-        left: u64,
+        would_have_left: u64,
         arrived: u64,
     },
     /// What the link would have held with all that enters it, before anything leaves.
@@ -208,17 +208,20 @@ impl Broken<'_> {
         let left = u64::from(self.run.volumes[self.run.passed][self.item].left);
         let leaves = u64::from(self.line.let_out[self.item]) + self.moved(|movement| movement.from, self.item);
         let arrived = arrived_by_the_end(self.texts, self.run, self.item)?;
+        let would_have_left = left + leaves;
         let words = format!(
             "{} vehicles had left before the step and {} leave in it, {} in all, and {} have arrived by its end",
             vehicles(left),
             vehicles(leaves),
-            vehicles(left + leaves),
+            vehicles(would_have_left),
             vehicles(arrived)
         );
-        let left = left + leaves;
         Some(Why {
             words,
-            drawn: Drawn::Left { left, arrived },
+            drawn: Drawn::Left {
+                would_have_left,
+                arrived,
+            },
         })
     }
 

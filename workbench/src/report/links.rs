@@ -1,6 +1,6 @@
 //! Two pictures of each link: what has entered, arrived and left, and what is queued and in transit.
 
-use super::svg::{area_key, escape, figure, line_key, Frame, Point, LEFT};
+use super::svg::{area_key, escape, figure, line_key, most_of, Frame, Point, LEFT};
 use crate::judge::Run;
 use crate::network::Link;
 use crate::plan::PlanLine;
@@ -108,19 +108,22 @@ fn percent(share: u32) -> String {
     digits.trim_end_matches(".0").to_string()
 }
 
+/// A volume at each boundary that passed.
+fn points(run: &Run, times: &[u32], volume: impl Fn(usize) -> u64) -> Vec<Point> {
+    (0..=run.passed)
+        .map(|boundary| (times[boundary], volume(boundary)))
+        .collect()
+}
+
 /// What has entered, arrived and left by each boundary.
 fn curves(run: &Run, place: usize, link: &Link, breaks: Option<Breaks>) -> String {
     let times = run.network.times();
-    let points = |volume: &dyn Fn(usize) -> u64| -> Vec<Point> {
-        (0..=run.passed)
-            .map(|boundary| (times[boundary], volume(boundary)))
-            .collect()
-    };
     let at = |boundary: usize| &run.volumes[boundary][place];
-    let entered = points(&|boundary| at(boundary).entered.into());
-    let left = points(&|boundary| at(boundary).left.into());
+    let entered = points(run, &times, |boundary| at(boundary).entered.into());
+    let left = points(run, &times, |boundary| at(boundary).left.into());
     // Arrived and not left is what is queued.
-    let mut arrived = points(&|boundary| u64::from(at(boundary).left) + u64::from(run.states[boundary][place].queued));
+    let queued = |boundary: usize| u64::from(run.states[boundary][place].queued);
+    let mut arrived = points(run, &times, |boundary| u64::from(at(boundary).left) + queued(boundary));
     let mut keys = vec![
         line_key("entered", "entered"),
         line_key("arrived", "arrived at its end"),
@@ -129,22 +132,16 @@ fn curves(run: &Run, place: usize, link: &Link, breaks: Option<Breaks>) -> Strin
     // What would have left stands above what has arrived by then.
     let mut would = Vec::new();
     if let Some(&Drawn::Left {
-        left: most,
+        would_have_left,
         arrived: by_then,
     }) = breaks.as_ref().map(Breaks::drawn)
     {
         let end = times[run.passed + 1];
         arrived.push((end, by_then));
-        would.extend([left[run.passed], (end, most)]);
+        would.extend([left[run.passed], (end, would_have_left)]);
         keys.push(line_key("would", "would have left"));
     }
-    let most = would
-        .iter()
-        .chain(&arrived)
-        .map(|&(_, volume)| volume)
-        .max()
-        .unwrap_or(0);
-    let frame = frame(&times, most.max(at(run.passed).entered.into()));
+    let frame = frame(&times, most_of(&[&entered, &arrived, &would]));
     let drawn = refused_span(run, &frame, &times, breaks.map(|breaks| breaks.refusal))
         + &frame.curve("entered", &entered)
         + &frame.curve("left", &left)
@@ -158,33 +155,21 @@ fn curves(run: &Run, place: usize, link: &Link, breaks: Option<Breaks>) -> Strin
 /// What is queued and, above it, in transit.
 fn queue(run: &Run, place: usize, link: &Link, breaks: Option<Breaks>) -> String {
     let times = run.network.times();
-    let states = |boundary: usize| &run.states[boundary][place];
-    let ground: Vec<Point> = (0..=run.passed).map(|boundary| (times[boundary], 0)).collect();
-    let queued: Vec<Point> = ground
-        .iter()
-        .enumerate()
-        .map(|(at, &(time, _))| (time, states(at).queued.into()))
-        .collect();
-    let held: Vec<Point> = queued
-        .iter()
-        .enumerate()
-        .map(|(at, &(time, queued))| (time, queued + u64::from(states(at).in_transit)))
-        .collect();
+    let state = |boundary: usize| &run.states[boundary][place];
+    let ground = points(run, &times, |_| 0);
+    let queued = points(run, &times, |boundary| state(boundary).queued.into());
+    let held = points(run, &times, |boundary| {
+        u64::from(state(boundary).queued) + u64::from(state(boundary).in_transit)
+    });
     let mut keys = vec![area_key("queued", "queued"), area_key("in-transit", "in transit")];
     // What the link would have held stands above its capacity.
     let mut would = Vec::new();
-    if let Some(&Drawn::Held(most)) = breaks.as_ref().map(Breaks::drawn) {
-        would.extend([held[run.passed], (times[run.passed + 1], most)]);
+    if let Some(&Drawn::Held(would_have_held)) = breaks.as_ref().map(Breaks::drawn) {
+        would.extend([held[run.passed], (times[run.passed + 1], would_have_held)]);
         keys.push(line_key("would", "would have held"));
     }
     let capacity = u64::from(link.capacity);
-    let most = held
-        .iter()
-        .chain(&would)
-        .map(|&(_, volume)| volume)
-        .max()
-        .unwrap_or(0)
-        .max(1000);
+    let most = most_of(&[&held, &would]).max(1000);
     let shows_capacity = capacity <= 2 * most;
     let frame = frame(&times, if shows_capacity { most.max(capacity) } else { most });
     let mut drawn = refused_span(run, &frame, &times, breaks.map(|breaks| breaks.refusal))
@@ -199,7 +184,8 @@ fn queue(run: &Run, place: usize, link: &Link, breaks: Option<Breaks>) -> String
     figure("Vehicles:", &keys, &picture)
 }
 
-fn frame(times: &[u32], most: u64) -> Frame {
+/// The frame of a picture of volumes up to a greatest.
+pub fn frame(times: &[u32], most: u64) -> Frame {
     Frame {
         left: LEFT,
         width: 520.0,

@@ -2,6 +2,7 @@
 
 use super::svg::Frame;
 use crate::judge::Run;
+use crate::network::Signal;
 use crate::why::Why;
 use plancheck::{ItemKind, Refusal, Text};
 use std::fmt::Write;
@@ -53,33 +54,29 @@ pub fn picture(run: &Run, refusal: Option<&Refusal>, why: Option<&Why>) -> Strin
 const HATCH: &str = "<defs><pattern id=\"hatch\" width=\"6\" height=\"6\" patternUnits=\"userSpaceOnUse\" \
     patternTransform=\"rotate(45)\"><rect width=\"3\" height=\"6\" fill=\"#1f2933\"/></pattern></defs>\n";
 
-/// A bar for each run of steps that show one mask; before second 0, the phase shown before the plan.
+/// The signal's name and the phase that it showed before the plan, in front of second 0.
+fn before_the_plan(frame: &Frame, name: usize, signal: &Signal, top: f64) -> String {
+    let Signal {
+        shown,
+        shown_for,
+        cycle_clock,
+        ..
+    } = signal;
+    let (x, base) = (frame.x(0), top + BAR - 6.0);
+    format!(
+        "<text class=\"row-name\" x=\"2\" y=\"{base:.1}\">signal {name}</text>\n\
+         <rect class=\"phase phase-{shown}\" x=\"{:.1}\" y=\"{top:.1}\" width=\"14\" height=\"{BAR}\"><title>signal {name} showed \
+         phase {shown} for {shown_for} s before the plan; phase 1 began {cycle_clock} s before it</title></rect>\n\
+         <text class=\"phase-name\" x=\"{:.1}\" y=\"{base:.1}\">{shown}</text>\n",
+        x - 18.0,
+        x - 11.0
+    )
+}
+
+/// A bar for each run of steps that show one mask, behind the phase shown before the plan.
 fn row(run: &Run, frame: &Frame, times: &[u32], signal: usize, top: f64) -> String {
-    let mut row = String::new();
     let shown = &run.network.signals[signal];
-    let name = signal + 1;
-    let _ = writeln!(
-        row,
-        "<text class=\"row-name\" x=\"2\" y=\"{:.1}\">signal {name}</text>",
-        top + BAR - 6.0
-    );
-    let _ = writeln!(
-        row,
-        "<rect class=\"phase phase-{}\" x=\"{:.1}\" y=\"{top:.1}\" width=\"14\" height=\"{BAR}\"><title>signal {name} showed \
-         phase {} for {} s before the plan; phase 1 began {} s before it</title></rect>",
-        shown.shown,
-        frame.x(0) - 18.0,
-        shown.shown,
-        shown.shown_for,
-        shown.cycle_clock,
-    );
-    let _ = writeln!(
-        row,
-        "<text class=\"phase-name\" x=\"{:.1}\" y=\"{:.1}\">{}</text>",
-        frame.x(0) - 11.0,
-        top + BAR - 6.0,
-        shown.shown
-    );
+    let mut row = before_the_plan(frame, signal + 1, shown, top);
     let masks: Vec<u32> = run.lines.iter().map(|line| line.masks[signal]).collect();
     let mut first = 0;
     while first < masks.len() {

@@ -181,6 +181,12 @@ fn text(class: &str, x: f64, y: f64, anchor: &str, words: &str) -> String {
     format!("<text class=\"{class}\" x=\"{x:.1}\" y=\"{y:.1}\" text-anchor=\"{anchor}\">{words}</text>\n")
 }
 
+/// The greatest volume of some curves.
+pub fn most_of(curves: &[&[Point]]) -> u64 {
+    let points = curves.iter().copied().flatten();
+    points.map(|&(_, volume)| volume).max().unwrap_or(0)
+}
+
 /// Steps between the marks of seconds.
 const SECOND_UNITS: &[u64] = &[1, 2, 5, 10, 20, 30, 60, 120, 300, 600, 1200, 1800, 3600];
 

@@ -1,63 +1,55 @@
 //! The whole network over time: what is inside, what waits outside, what was admitted and let out.
 
-use super::links::refused_span;
-use super::svg::{area_key, figure, line_key, Frame, Point, LEFT};
+use super::links::{frame, refused_span};
+use super::svg::{area_key, figure, line_key, most_of, Point};
 use crate::judge::{Run, Running};
 use crate::show;
 use std::fmt::Write;
 
 pub fn pictures(run: &Run) -> String {
     let times = run.network.times();
-    let points = |volume: fn(&Running) -> u64| -> Vec<Point> {
-        run.running
-            .iter()
-            .zip(&times)
-            .map(|(running, &time)| (time, volume(running)))
-            .collect()
-    };
-    let ground = points(|_| 0);
-    let inside = points(|running| running.totals.inside);
-    let under_way = points(|running| running.totals.inside + running.outside);
-    let under_way_frame = frame(&times, &under_way);
-    let under_way_drawn = refused_span(run, &under_way_frame, &times, None)
-        + &under_way_frame.area("outside", &inside, &under_way)
-        + &under_way_frame.area("inside", &ground, &inside);
-    let admitted = points(|running| running.totals.admitted);
-    let let_out = points(|running| running.totals.let_out);
-    let most = if admitted.last() > let_out.last() {
-        &admitted
-    } else {
-        &let_out
-    };
-    let flow_frame = frame(&times, most);
-    let flow_drawn = refused_span(run, &flow_frame, &times, None)
-        + &flow_frame.curve("entered", &admitted)
-        + &flow_frame.curve("left", &let_out);
-    let under_way_keys = [
-        area_key("inside", "in the network"),
-        area_key("outside", "waiting outside"),
-    ];
-    let flow_keys = [
-        line_key("entered", "admitted so far"),
-        line_key("left", "let out so far"),
-    ];
-    let under_way = under_way_frame.picture("In the network, and waiting outside", &under_way_drawn);
-    let flow = flow_frame.picture("Admitted and let out", &flow_drawn);
     format!(
         "<div class=\"pair\">{}{}</div>\n",
-        figure("Vehicles:", &under_way_keys, &under_way),
-        figure("Vehicles:", &flow_keys, &flow),
+        under_way(run, &times),
+        flow(run, &times)
     )
 }
 
-fn frame(times: &[u32], points: &[Point]) -> Frame {
-    Frame {
-        left: LEFT,
-        width: 520.0,
-        height: 200.0,
-        seconds: times[times.len() - 1],
-        most: points.iter().map(|&(_, volume)| volume).max().unwrap_or(0).max(1000),
-    }
+/// A volume at each boundary that passed.
+fn points(run: &Run, times: &[u32], volume: fn(&Running) -> u64) -> Vec<Point> {
+    let at = |(running, &time): (&Running, &u32)| (time, volume(running));
+    run.running.iter().zip(times).map(at).collect()
+}
+
+/// What is in the network and, above it, who waits outside.
+fn under_way(run: &Run, times: &[u32]) -> String {
+    let ground = points(run, times, |_| 0);
+    let inside = points(run, times, |running| running.totals.inside);
+    let under_way = points(run, times, |running| running.totals.inside + running.outside);
+    let frame = frame(times, most_of(&[&under_way]));
+    let drawn = refused_span(run, &frame, times, None)
+        + &frame.area("outside", &inside, &under_way)
+        + &frame.area("inside", &ground, &inside);
+    let keys = [
+        area_key("inside", "in the network"),
+        area_key("outside", "waiting outside"),
+    ];
+    let picture = frame.picture("In the network, and waiting outside", &drawn);
+    figure("Vehicles:", &keys, &picture)
+}
+
+/// What was admitted and let out so far.
+fn flow(run: &Run, times: &[u32]) -> String {
+    let admitted = points(run, times, |running| running.totals.admitted);
+    let let_out = points(run, times, |running| running.totals.let_out);
+    let frame = frame(times, most_of(&[&admitted, &let_out]));
+    let drawn =
+        refused_span(run, &frame, times, None) + &frame.curve("entered", &admitted) + &frame.curve("left", &let_out);
+    let keys = [
+        line_key("entered", "admitted so far"),
+        line_key("left", "let out so far"),
+    ];
+    figure("Vehicles:", &keys, &frame.picture("Admitted and let out", &drawn))
 }
 
 /// The totals at the last boundary that passed.
