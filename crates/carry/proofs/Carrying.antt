@@ -47,7 +47,7 @@ use Rattle.carry_model.specs.declared.CarryAnswer.{CarryAnswer}
 use Rattle.carry_model.specs.declared.CarryAnswer.the-variants.{Written, Refused}
 use Rattle.carry_model.specs.Part.{cut, carriedText}
 use Rattle.carry_model.specs.Call.{plannedOn, boundaryChecks, carryChecks, carryAnswer, carryOn, carryLedger, carryBuffer, writtenBytes}
-use Rattle.carry_model.proofs.Trams.{is-within}
+use Rattle.network_text.proofs.Tests.{is-within}
 use Rattle.carry_model.proofs.Theorem.{cut-steps}
 use Rattle.carry_model.proofs.Cut.{cut-judged, cut-due, due-of-cut, cut-written}
 use Rattle.carry_model.proofs.Hold.{held-first}

@@ -14,7 +14,7 @@ use Rattle.model.specs.Rules.{apart, tramExists}
 use Rattle.model.proofs.Tests.{and-left}
 use Rattle.carry_model.specs.Part.{meets, clip, clipped}
 use Rattle.carry_model.proofs.Trams.{clipLine}
-use Rattle.carry_model.proofs.Signals.{and-both}
+use Rattle.network_text.proofs.Tests.{and-both}
 
 module _ (a c : ℕ) where
   -- the line of which clipped line k is a part

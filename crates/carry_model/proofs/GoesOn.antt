@@ -1,12 +1,12 @@
 -- A network and a plan that go on from boundary a of another: every curve, signal, rule, row and time is that of the other, a steps later. Assumes nothing.
-use mathlib.Core.Path.{_≡_, refl, sym, ap, ap₂, _∙_}
+use mathlib.Core.Path.{_≡_, refl, ap, ap₂, _∙_}
 use mathlib.Core.Bool.{cond}
 use mathlib.Core.List.{List}
 use Prim.Native.Nat.{ℕ, zero, suc, _+_, _*_, _-_, _≤_, _<_}
 use native.Mathlib.Decide.{decLe}
 use native.Mathlib.Omega.{arith}
 use lib.Dec.{leb, eqb}
-use borrow.Author.Tests.{le-leb, lt-leb, lt-ltb, le-ltb}
+use borrow.Author.Tests.{lt-ltb, le-ltb}
 use Rattle.records.specs.Lines.{Line}
 use Rattle.model.specs.declared.Signal.{Signal}
 use Rattle.model.specs.Sum.{only}
@@ -20,6 +20,7 @@ use Rattle.model.proofs.Times.{arrival-step-le, arrival-step-lt}
 use Rattle.model.proofs.Accepted.{ValidNetwork}
 use Rattle.model.proofs.Limits.{link-limits, movement-limits}
 use Rattle.model.proofs.Shown.{same-phases}
+use Rattle.network_text.proofs.Tests.{leb-plus}
 
 -- `other` and `rest` are what is left of `network` and `plan` at boundary a, up to some later boundary
 pub record GoesOn (network plan other rest : List Line) (a : ℕ) : Type 0 where
@@ -39,13 +40,6 @@ pub record GoesOn (network plan other rest : List Line) (a : ℕ) : Type 0 where
   pub past-out : (m i : ℕ) → m < pastCount network + a → i < linkCount network → pastExits other m i ≡ timelineOutflow network plan m i
   pub tram : (n r : ℕ) → n < stepCount other → tramPhase (trams other) r n ≡ tramPhase (trams network) r (a + n)
   pub planned : (n k : ℕ) → n < stepCount other → entry rest n k ≡ entry plan (a + n) k
-
--- a test of two sums that both have one more part
-leb-plus : (x y c : ℕ) → leb x y ≡ leb (x + c) (y + c)
-leb-plus x y c = elim (decLe x y) [
-  | yes h ↦ le-leb x y h ∙ sym (le-leb (x + c) (y + c) (omega arith))
-  | no h ↦ lt-leb x y (omega arith) ∙ sym (lt-leb (x + c) (y + c) (omega arith))
-]
 
 module _ (network plan other rest : List Line) (a : ℕ) (p : GoesOn network plan other rest a) (valid : ValidNetwork network) where
   next : (n : ℕ) → a + suc n ≡ suc (a + n)

@@ -22,7 +22,8 @@ use Rattle.model.proofs.Hold.{hold-shown}
 use Rattle.network_text.proofs.Formed.{formed-of-holds}
 use Rattle.carry_model.specs.Part.{cut, carried}
 use Rattle.carry_model.proofs.Agree.{signal-agree}
-use Rattle.carry_model.proofs.Parts.{list-same, part-signals, part-links, part-movements, part-signal}
+use Rattle.network_text.proofs.Same.{list-same}
+use Rattle.carry_model.proofs.Parts.{part-signals, part-links, part-movements, part-signal}
 use Rattle.carry_model.proofs.Theorem.{cut-steps, carried-steps}
 
 -- ---- equal lines

@@ -1,12 +1,12 @@
 -- A part of a valid network, after steps that keep every rule, is valid: none of 1 to 6, 28 and 30 arises of it. Assumes nothing.
 use mathlib.Core.Path.{_≡_, refl, sym, ap, ap₂, _∙_}
-use mathlib.Core.Bool.{Bool, true, cond}
+use mathlib.Core.Bool.{true, cond}
 use mathlib.Core.List.{List, []}
 use Prim.Native.Nat.{ℕ, zero, suc, _+_, _*_, _-_, _^_, _≤_, _<_}
 use native.Mathlib.Omega.{arith}
 use lib.Dec.{leb, ltb, eqb}
-use lib.ListN.{length, getD, drop, length-take, length-drop}
-use lib.Seq.{getD-take, getD-drop}
+use lib.ListN.{length, getD, drop}
+use lib.Seq.{getD-drop}
 use borrow.Author.Tests.{leb-true, le-leb}
 use Rattle.search.specs.Checks.{Hold}
 use Rattle.records.specs.Lines.{Line, noLine, number, numberOf, isRecord}
@@ -14,7 +14,7 @@ use Rattle.record_writer.specs.Records.{recordLine, recordLines}
 use Rattle.record_writer.proofs.Records.{entry-back}
 use Rattle.model.specs.declared.Signal.{Signal}
 use Rattle.model.specs.Sum.{sum, only}
-use Rattle.model.specs.Test.{_and_, within, every}
+use Rattle.model.specs.Test.{_and_, within}
 use Rattle.model.specs.Network.{entry, linkCount, signalCount, movementCount, stepCount, tramCount, pastCount, onTimeline, tramLine, signalLine, timelineLine, stepLine, trams, signal, capacity, travelTime, signalOf, phaseMask, standing, fromLink, share, timelineLength, pastEntries, stepLength, demand, time}
 use Rattle.model.specs.Flows.{offered, signalAt, admitted, movedInto, inflow, timelineInflow, timelineOutflow, timelineEntered, entered, left, hasArrived, held, taken}
 use Rattle.model.specs.Rules.{validPhases, validCounts, apart, tramExists, tram, validTram, validTramPhase, validMask, validLink, pairRises, validMovement, lastMovement, validShares, validStep, validPastOf, validPast}
@@ -31,28 +31,14 @@ use Rattle.model.proofs.Bounds.{lawful-limits, moved-into-small}
 use Rattle.model.proofs.Shown.{kept}
 use Rattle.network_text.specs.NetworkText.{NetworkNumbers, networkLines}
 use Rattle.network_text.proofs.Lines.{Says, count-form, all-lines, tram-says, signal-says, link-says, movement-says, past-says, step-says}
-use Rattle.network_text.proofs.Formed.{Formed, formed-of-holds, holds-of-valid}
+use Rattle.network_text.proofs.Tests.{and-both, is-within, every-of}
+use Rattle.network_text.proofs.Formed.{Formed, formed-of-holds, holds-of-valid, trams-length, tram-at}
 use Rattle.carry_model.specs.Part.{meets, clip, clipped, linkNumbers, movementNumbers, pastNumbers, stepNumbers, part}
 use Rattle.carry_model.proofs.GoesOn.{GoesOn, capacity-same, travel-same, exit-same, signal-of-same, mask-same, standing-same, from-same, to-same, rate-same, share-same, phases-same, length-same, left-same, held-same, arrived-same, offered-same}
-use Rattle.carry_model.proofs.Trams.{is-within, clipLine}
+use Rattle.carry_model.proofs.Trams.{clipLine}
 use Rattle.carry_model.proofs.Clipped.{origin, Comes, comes, origin-rises, clipped-length, clip-exists, clip-apart}
-use Rattle.carry_model.proofs.Signals.{and-both, signal-valid}
+use Rattle.carry_model.proofs.Signals.{signal-valid}
 use Rattle.carry_model.proofs.Parts.{pairs-length, signal-length, part-links, part-signals, part-movements, part-steps, part-trams, part-past, part-signal, part-length, part-demand, part-past-in, goes-on}
-
-every-of : (n : ℕ) (test : ℕ → Bool) → ((k : ℕ) → k < n → test k ≡ true) → every n test ≡ true
-unfolding every _and_
-every-of zero test h = refl
-every-of (suc n) test h = rw (every-of n test (λ k l. h k (omega arith)), h n (omega arith))
-
--- ---- the tram lines of a network as a list
-module _ (network : List Line) (formed : Formed network) where
-  trams-length : length (trams network) ≡ tramCount network
-  unfolding trams stepLine timelineLine
-  trams-length = omega (arith, length-take (tramCount network) (drop 1 network), length-drop 1 network, formed .ended)
-
-  tram-at : (k : ℕ) → k < tramCount network → getD (trams network) k noLine ≡ tram network k
-  unfolding trams tramLine
-  tram-at k l = getD-take (tramCount network) (drop 1 network) k noLine l ∙ getD-drop 1 network k noLine
 
 module _ (network plan : List Line) (a c : ℕ) (holds : Hold (networkChecks network)) (h : a < c) (u : c ≤ stepCount network)
     (keeps : (k : ℕ) → k < a → LawfulStep network plan k) where

@@ -19,16 +19,11 @@ use Rattle.model.proofs.Shown.{kept, same-phases}
 use Rattle.network_text.specs.NetworkText.{NetworkNumbers, networkLines}
 use Rattle.network_text.proofs.Lines.{link-count, signal-count, movement-count, step-count, tram-count, past-count, signal-says, link-says, movement-says, past-says, step-says, trams-are}
 use Rattle.network_text.proofs.Formed.{Formed, none-past}
+use Rattle.network_text.proofs.Same.{list-same}
 use Rattle.carry_model.specs.Part.{clipped, signalNumbers, linkNumbers, movementNumbers, pastNumbers, stepNumbers, part}
 use Rattle.carry_model.proofs.Trams.{clipped-phase}
 use Rattle.carry_model.proofs.GoesOn.{GoesOn}
 use Rattle.carry_model.proofs.Agree.{timeline-inflow-agree, timeline-outflow-agree, signal-agree, taken-agree, waits-agree}
-
--- ---- lists
-pub list-same : (n : ℕ) (f g : ℕ → ℕ) → ((k : ℕ) → k < n → f k ≡ g k) → list n f ≡ list n g
-unfolding list
-list-same zero f g h = refl
-list-same (suc n) f g h = ap₂ (λ xs x. xs ++ (x ∷ [])) (list-same n f g (λ k l. h k (omega arith))) (h n (omega arith))
 
 -- pairs, one behind the other
 module _ (f g : ℕ → ℕ) where

@@ -18,12 +18,7 @@ use Rattle.model.specs.Rules.{validSignal, rule10, rule13, rule14}
 use Rattle.model.proofs.Tests.{and-left, and-right, or-cases}
 use Rattle.model.proofs.Accepted.{ValidNetwork, LawfulStep}
 use Rattle.model.proofs.Shown.{kept, same-phases}
-use Rattle.carry_model.proofs.Trams.{is-within}
-
-pub and-both : (a b : Bool) → a ≡ true → b ≡ true → a and b ≡ true
-unfolding _and_
-and-both true b p q = q
-and-both false b p q = p
+use Rattle.network_text.proofs.Tests.{and-both, is-within}
 
 -- what a signal shows: refusal 3, but for the limits of its phases and its cycle, which no step changes
 pub record Shows (s : Signal) : Type 0 where

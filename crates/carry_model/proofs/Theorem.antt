@@ -26,7 +26,7 @@ use Rattle.carry_model.specs.CarriesOn.{later, Accepts, Carries, next, P
 use Rattle.carry_model.proofs.Later.{later-first, later-none, later-passes}
 use Rattle.carry_model.proofs.GoesOn.{GoesOn, row-same, times-add}
 use Rattle.carry_model.proofs.Lines.{line-same}
-use Rattle.carry_model.proofs.Trams.{is-within}
+use Rattle.network_text.proofs.Tests.{is-within}
 use Rattle.carry_model.proofs.Parts.{part-links, part-steps}
 use Rattle.carry_model.proofs.PartValid.{part-goes-on, part-holds}
 

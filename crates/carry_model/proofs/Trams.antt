@@ -12,13 +12,10 @@ use Rattle.record_writer.specs.Records.{recordLine}
 use Rattle.model.specs.Test.{_and_, within}
 use Rattle.model.specs.Network.{covers, tramPhase}
 use Rattle.model.specs.Table.{letterT}
+use Rattle.network_text.proofs.Tests.{is-within}
 use Rattle.carry_model.specs.Part.{meets, clip, clipped}
 
 -- ---- tests between two limits
-pub is-within : (u v w : ℕ) → u ≤ v → v ≤ w → within u v w ≡ true
-unfolding within _and_
-is-within u v w p q = rw (le-leb u v p, le-leb v w q)
-
 not-within : (u v w : ℕ) → ((u ≤ v) × (v ≤ w) → ⊥) → within u v w ≡ false
 unfolding within _and_
 not-within u v w h = elim (decLe u v) [

@@ -19,11 +19,10 @@ use Rattle.model.specs.Network.{linkCount, movementCount, stepCount, pastCount,
 use Rattle.model.specs.Table.{letterT, networkChecks, lineChecks}
 use Rattle.model.proofs.Accepted.{ValidNetwork, valid-network}
 use Rattle.network_text.proofs.Lines.{trams-are}
-use Rattle.network_text.proofs.Same.{SameNumbers, same-text}
+use Rattle.network_text.proofs.Same.{list-same, SameNumbers, same-text}
 use Rattle.carry_model.specs.Part.{meets, clip, clipped, linkNumbers, movementNumbers, pastNumbers, stepNumbers, part, cut, carried, carriedText}
 use Rattle.carry_model.proofs.Trams.{clipLine}
 use Rattle.carry_model.proofs.GoesOn.{GoesOn, on-timeline-same, length-same, capacity-same, travel-same, exit-same, signal-of-same, mask-same, standing-same, from-same, to-same, rate-same, share-same, timeline-inflow-same, timeline-outflow-same, signal-same, waits-same}
-use Rattle.carry_model.proofs.Parts.{list-same}
 use Rattle.carry_model.proofs.Theorem.{carried-steps, carried-goes-on}
 
 -- ---- a tram line clipped twice

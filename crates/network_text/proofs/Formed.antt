@@ -1,17 +1,19 @@
 -- A network's checks hold exactly when every line has its form, nothing follows, and no value is refused. Assumes nothing.
-use mathlib.Core.Path.{_≡_, refl}
+use mathlib.Core.Path.{_≡_, refl, _∙_}
 use mathlib.Core.Bool.{true, _&&_, and-eq-true-iff}
 use mathlib.Core.List.{List, [], _∷_}
 use Prim.Native.Nat.{ℕ, zero, suc, _+_, _*_, _≤_, _<_}
 use native.Mathlib.Omega.{arith}
 use lib.Dec.{eqb}
-use lib.ListN.{length, getD, take, List·getD-eq-default}
+use lib.ListN.{length, getD, take, drop, length-take, length-drop, List·getD-eq-default}
+use lib.Seq.{getD-take, getD-drop}
 use borrow.Author.Tests.{eqb-true, eq-eqb, le-leb}
 use Rattle.search.specs.Checks.{Hold}
 use Rattle.records.specs.declared.Field.{Field}
 use Rattle.records.specs.declared.Field.the-variants.{Number, NoNumber}
 use Rattle.records.specs.Lines.{Line, noLine, isNumber, allNumbers, isRecord, startsAs, numberOf, number}
-use Rattle.model.specs.Network.{linkCount, signalCount, movementCount, stepCount, tramCount, pastCount, tramLine, signalLine, linkLine, movementLine, timelineLine, stepLine, signal}
+use Rattle.model.specs.Network.{linkCount, signalCount, movementCount, stepCount, tramCount, pastCount, tramLine, signalLine, linkLine, movementLine, timelineLine, stepLine, trams, signal}
+use Rattle.model.specs.Rules.{tram}
 use Rattle.model.specs.Table.{isForm, letterN, letterT, letterG, letterQ, letterM, letterH, letterS, countChecks, tramChecks, signalChecks, tramPhaseChecks, linkChecks, movementChecks, shareChecks, pastChecks, stepChecks, networkChecks}
 use Rattle.model.proofs.Accepted.{ValidNetwork}
 
@@ -87,3 +89,13 @@ module _ (network : List Line) where
       ),
     ),
   )
+
+-- ---- the tram lines as a list
+module _ (network : List Line) (formed : Formed network) where
+  pub trams-length : length (trams network) ≡ tramCount network
+  unfolding trams stepLine timelineLine
+  trams-length = omega (arith, length-take (tramCount network) (drop 1 network), length-drop 1 network, formed .ended)
+
+  pub tram-at : (k : ℕ) → k < tramCount network → getD (trams network) k noLine ≡ tram network k
+  unfolding trams tramLine
+  tram-at k l = getD-take (tramCount network) (drop 1 network) k noLine l ∙ getD-drop 1 network k noLine

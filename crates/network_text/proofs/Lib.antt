@@ -1,3 +1,4 @@
+pub mod Tests
 pub mod Lines
 pub mod Formed
 pub mod Fits
