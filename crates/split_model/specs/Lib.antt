@@ -1,0 +1,5 @@
+pub mod Numbering
+pub mod Halves
+pub mod Call
+pub mod Splits
+pub mod Padding
