@@ -1,4 +1,3 @@
-mod Put
 mod Filling
 mod Reading
 mod Trams

@@ -7,12 +7,12 @@ use lib.ListN.{length, getD, take, drop}
 use Rattle.record_writer.specs.Records.{recordText}
 use Rattle.model.specs.Table.{letterN, letterG, letterQ, letterM}
 use Rattle.tables.specs.declared.Counts.{Counts}
-use Rattle.tables.specs.Fields.{signalFields, tableSignal, pastSize, capacityIn, travelTimeIn, exitRateIn, signalIn, phaseMaskIn, standingIn, linkIn, rateIn, shareIn}
+use Rattle.tables.specs.Fields.{signalFields, tableSignal, lineSize, capacityIn, travelTimeIn, exitRateIn, signalIn, phaseMaskIn, standingIn, linkIn, rateIn, shareIn}
 use Rattle.carry_model.specs.Part.{signalNumbers}
 use Rattle.carry_model.proofs.Parts.{signal-length}
-use Rattle.carried_text.specs.Put.{Put, Early}
+use Rattle.text_lines.specs.Put.{Put, Early}
+use Rattle.text_lines.proofs.Put.{LinesTo, rows-early, rows-next}
 use Rattle.carried_text.specs.Rows.{countRow, linkRow, movementRow, SignalsAsked}
-use Rattle.carried_text.proofs.Put.{LinesTo, rows-early, rows-next}
 use Rattle.carried_text.proofs.Filling.{signal-row}
 
 pub counts-put : (counts : Counts) (b trams : ℕ) {old new : List ℕ} {end : ℕ}
@@ -54,7 +54,7 @@ module _ {signals : List ℕ} {count at : ℕ} (asked : SignalsAsked signals cou
       let e : stop - signalFields * k ≡ 6 + 2 * tableSignal signals k .phases = omega arith in
       ap (λ x. take x (drop (signalFields * k) signals)) e ∙ signal-row signals k signal-within (asked .phases k h)
 
-  pub signal-early : (length row ≤ pastSize) × Early 1 end
+  pub signal-early : (length row ≤ lineSize) × Early 1 end
   signal-early = (omega (arith, ap length same, signal-length (tableSignal signals k), asked .phases k h), rows-early t (asked .early) h)
 
   pub signals-next : {new : List ℕ} {next : ℕ} → Put 1 (recordText letterG row) end out new next → LinesTo letterG (λ r. signalNumbers (tableSignal signals r)) count at old new next (k + 1)

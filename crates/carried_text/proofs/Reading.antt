@@ -1,38 +1,24 @@
 -- Lines that have passed, read again and put as they are. Assumes nothing.
-use Prim.Native.Nat.{ℕ, zero, suc, _+_, _*_, _≤_, _<_}
-use mathlib.Core.Path.{_≡_, refl, ap, ap₂, _∙_}
+use Prim.Native.Nat.{ℕ, suc, _+_, _*_, _≤_, _<_}
+use mathlib.Core.Path.{_≡_, refl, ap, _∙_}
 use mathlib.Core.Bool.{true}
-use mathlib.Core.List.{List, [], _∷_, _++_}
+use mathlib.Core.List.{List, _∷_}
 use native.Mathlib.Omega.{arith}
 use lib.ListN.{length, getD, take}
-use lib.Seq.{take-suc}
-use Rattle.records.specs.declared.LineRead.{LineRead}
-use Rattle.records.specs.declared.LineRead.the-variants.{Next, Malformed}
 use Rattle.records.specs.Lines.{lines}
 use Rattle.records.specs.Reading.{Starts, over}
 use Rattle.record_writer.specs.Records.{recordText, recordTexts}
 use Rattle.model.specs.Sum.{list, joined}
 use Rattle.model.specs.Network.{entry}
 use Rattle.model.specs.Table.{isForm, letterH, letterS}
-use Rattle.tables.specs.Fields.{pastSize}
-use Rattle.tables.specs.Rows.{RowRead}
-use Rattle.carried_text.specs.Put.{longest, Put, Early}
-use Rattle.carried_text.specs.Rows.{volumesIn, ReadAgain, Copied, StepsPut, Rising, VolumesAsked}
-use Rattle.carried_text.proofs.Put.{lines-none, lines-more, part-size}
-use Rattle.carried_text.proofs.Filling.{front-is, volumes-length}
-
-module _ {letter width : ℕ} {text : List ℕ} {at : ℕ} {before after : List ℕ} {r : LineRead} (row : RowRead letter width text at 0 before r after) where
-  pub again-next : {next : ℕ} → r ≡ Next next → ReadAgain letter width text at before next after
-  again-next {next} e = record { size = row .size; held = λ i s f. row .held next e i s }
-
-  pub again-never : r ≡ Malformed → ReadAgain letter width text at before at after
-  again-never e = record { size = row .size; held = λ i s f. let m = row .malformed e i s in let z : _≡_ {A = ℕ} 0 1 = cc in absurd (omega arith) }
-
--- the numbers of a row by index
-numbers-are : (w : ℕ) (f : ℕ → ℕ) (row : List ℕ) → w ≤ length row → ((k : ℕ) → k < w → getD row k 0 ≡ f k) → take w row ≡ list w f
-unfolding list
-numbers-are zero f row h e = refl
-numbers-are (suc w) f row h e = take-suc row w 0 h ∙ ap₂ (λ (xs : List ℕ) x. xs ++ (x ∷ [])) (numbers-are w f row (omega arith) (λ k l. e k (omega arith))) (e w (omega arith))
+use Rattle.tables.specs.Fields.{pastSize, lineSize}
+use Rattle.text_lines.specs.Put.{longest, Put, Early}
+use Rattle.text_lines.specs.Reading.{ReadAgain}
+use Rattle.text_lines.proofs.Put.{lines-none, lines-more, part-size}
+use Rattle.text_lines.proofs.Filling.{front-is}
+use Rattle.text_lines.proofs.Reading.{numbers-are}
+use Rattle.carried_text.specs.Rows.{volumesIn, Copied, StepsPut, Rising, VolumesAsked}
+use Rattle.carried_text.proofs.Filling.{volumes-length}
 
 -- ---- `copy_lines`: k lines are put
 abbrev Forms : List ℕ → ℕ → ℕ → ℕ → ℕ → Type 0
@@ -68,7 +54,7 @@ module _ {text : List ℕ} {from letter width count at : ℕ} {old : List ℕ} w
       pub copied-part : width ≡ length (take width row′)
       copied-part = part-size row′ width (omega (arith, copied-size))
 
-      pub copied-asked : Early count at → (length (take width row′) ≤ pastSize) × Early 1 end
+      pub copied-asked : Early count at → (length (take width row′) ≤ lineSize) × Early 1 end
       copied-asked e = (omega (arith, copied-part), copied-early e h)
 
       pub copied-next : {out′ : List ℕ} {end′ : ℕ} → Put 1 (recordText letter (take width row′)) end out out′ end′ → CopiedTo text from letter width count at old row′ next out′ end′ (k + 1)
@@ -128,7 +114,7 @@ module _ {text : List ℕ} {from : ℕ} {ledger : List ℕ} {links b at : ℕ} {
         pub steps-part : 1 + 2 * links ≡ length (take (1 + 2 * links) row″)
         steps-part = omega (arith, ap length same, volumes-length ledger links n links)
 
-        pub steps-asked : Early b at → (length (take (1 + 2 * links) row″) ≤ pastSize) × Early 1 end
+        pub steps-asked : Early b at → (length (take (1 + 2 * links) row″) ≤ lineSize) × Early 1 end
         steps-asked e = (omega (arith, steps-part, rising .few-links), steps-early e h)
 
         pub steps-next : length row″ ≡ length row′ → {out′ : List ℕ} {end′ : ℕ} → Put 1 (recordText letterH (take (1 + 2 * links) row″)) end out out′ end′

@@ -2,7 +2,7 @@
 use Prim.Native.Nat.{ℕ, suc, _+_, _-_, _≤_, _<_, max, min}
 use mathlib.Core.Path.{_≡_, refl, sym, ap, _∙_}
 use mathlib.Core.Bool.{Bool, true, false, cond}
-use mathlib.Core.List.{List, [], _∷_, _++_, append-assoc, append-nil}
+use mathlib.Core.List.{List, [], _∷_, _++_, append-nil}
 use native.Mathlib.Decide.{decLe}
 use native.Mathlib.Numerals.{add-one}
 use native.Mathlib.Omega.{arith}
@@ -17,10 +17,12 @@ use Rattle.model.specs.Table.{isForm, letterT}
 use Rattle.tables.specs.Fields.{tramFields}
 use Rattle.tables.proofs.Places.{record-within}
 use Rattle.carry_model.specs.Part.{meets, clip, clipped}
-use Rattle.carried_text.specs.Put.{Put, Early}
-use Rattle.carried_text.specs.Rows.{ReadAgain}
-use Rattle.carried_text.specs.Trams.{leftOf, tramTexts, TramsAsked}
-use Rattle.carried_text.proofs.Put.{put-none, puts-more}
+use Rattle.text_lines.specs.Put.{Put, Early}
+use Rattle.text_lines.specs.Reading.{ReadAgain}
+use Rattle.text_lines.specs.Texts.{lineTexts}
+use Rattle.text_lines.proofs.Put.{put-none, puts-more}
+use Rattle.text_lines.proofs.Texts.{texts-more}
+use Rattle.carried_text.specs.Trams.{leftOf, TramsAsked}
 
 -- ---- one line
 module _ (b : ℕ) (tram : List ℕ) where
@@ -32,13 +34,13 @@ module _ (b : ℕ) (tram : List ℕ) where
   unfolding leftOf
   none-left h = rw (le-ltb b (getD tram 3 0) h) refl
 
-  pub none-put : getD tram 3 0 ≤ b → (at : ℕ) (old : List ℕ) → Put 1 (tramTexts (leftOf b tram)) at old old at
-  unfolding leftOf tramTexts
+  pub none-put : getD tram 3 0 ≤ b → (at : ℕ) (old : List ℕ) → Put 1 (lineTexts letterT (leftOf b tram)) at old old at
+  unfolding leftOf lineTexts
   none-put h at old = rw (le-ltb b (getD tram 3 0) h) (let p = put-none at old in record { ends = p .ends; few = omega arith; size = refl; is = p .is })
 
   pub one-put : b < getD tram 3 0 → {t u v w at end : ℕ} {old new : List ℕ} → t ≡ getD tram 0 0 → u ≡ getD tram 1 0 → v ≡ max (getD tram 2 0) (suc b) - b → w ≡ getD tram 3 0
-      → Put 1 (recordText letterT (t ∷ u ∷ v ∷ (w - b) ∷ [])) at old new end → Put 1 (tramTexts (leftOf b tram)) at old new end
-  unfolding leftOf tramTexts
+      → Put 1 (recordText letterT (t ∷ u ∷ v ∷ (w - b) ∷ [])) at old new end → Put 1 (lineTexts letterT (leftOf b tram)) at old new end
+  unfolding leftOf lineTexts
   one-put h d e f g p = rw (lt-ltb b (getD tram 3 0) h, append-nil) (rw (d, e, f, g) at p)
 
 -- what is left of a line that has passed is what is clipped of it
@@ -61,11 +63,6 @@ clipped-more b K (u ∷ ts) t = go (meets b K u) (clipped-more b K ts t)
     go true e = ap (λ (x : List (List ℕ)). clip b K u ∷ x) e
     go false e = e
 
-texts-more : (a b : List (List ℕ)) → tramTexts (a ++ b) ≡ tramTexts a ++ tramTexts b
-unfolding tramTexts
-texts-more [] b = refl
-texts-more (t ∷ a) b = ap (λ (x : List ℕ). recordText letterT t ++ x) (texts-more a b) ∙ sym (append-assoc (recordText letterT t) (tramTexts a) (tramTexts b))
-
 -- ---- the first k lines
 abbrev leftTo : List ℕ → ℕ → ℕ → List (List ℕ)
 leftTo text b k = clipped b (stepCount (lines text)) (take k (trams (lines text)))
@@ -82,7 +79,7 @@ pub record CountedTo (text : List ℕ) (count b : ℕ) (tram : List ℕ) (line l
 
 pub record TramsPut (text : List ℕ) (count b : ℕ) (tram : List ℕ) (line at : ℕ) (old out : List ℕ) (end k : ℕ) : Type 0 where
   pub at-line : TramsTo text count b tram line k
-  pub put : Put k (tramTexts (leftTo text b k)) at old out end
+  pub put : Put k (lineTexts letterT (leftTo text b k)) at old out end
 
 module _ {text : List ℕ} {from count b : ℕ} (a : TramsAsked text from count b) where
   trams-begin : {tram : List ℕ} → length tram ≡ tramFields → TramsTo text count b tram from 0
@@ -96,7 +93,7 @@ module _ {text : List ℕ} {from count b : ℕ} (a : TramsAsked text from count 
   counted-none l = record { at-line = trams-begin l; counted = ap length (sym nothing-yet); small = omega arith }
 
   pub trams-none : {tram : List ℕ} (at : ℕ) (old : List ℕ) → length tram ≡ tramFields → TramsPut text count b tram from at old old at 0
-  unfolding tramTexts
+  unfolding lineTexts
   trams-none at old l = record { at-line = trams-begin l; put = rw nothing-yet (put-none at old) }
 
   pub tram-early : {tram : List ℕ} {line at end k : ℕ} {old out : List ℕ} → TramsPut text count b tram line at old out end k → Early count at → k < count → Early 1 end
@@ -141,9 +138,9 @@ module _ {text : List ℕ} {from count b : ℕ} (a : TramsAsked text from count 
           small = omega arith;
         }
 
-    pub trams-next : {at mid end : ℕ} {old out new : List ℕ} → Put k (tramTexts (leftTo text b k)) at old out mid → Put 1 (tramTexts (leftOf b tram′)) mid out new end
+    pub trams-next : {at mid end : ℕ} {old out new : List ℕ} → Put k (lineTexts letterT (leftTo text b k)) at old out mid → Put 1 (lineTexts letterT (leftOf b tram′)) mid out new end
         → TramsPut text count b tram′ next at old new end (k + 1)
-    trams-next p q = record { at-line = trams-on; put = rw (ap tramTexts left-more ∙ texts-more (leftTo text b k) (leftOf b tram′)) (puts-more p q) }
+    trams-next p q = record { at-line = trams-on; put = rw (ap (lineTexts letterT) left-more ∙ texts-more letterT (leftTo text b k) (leftOf b tram′)) (puts-more p q) }
 
   all-lines : {k : ℕ} → count ≤ k → leftTo text b k ≡ clipped b (stepCount (lines text)) (trams (lines text))
   unfolding trams
@@ -155,7 +152,7 @@ module _ {text : List ℕ} {from count b : ℕ} (a : TramsAsked text from count 
   counted-all c h = c .counted ∙ ap length (all-lines h)
 
   pub trams-all : {tram : List ℕ} {line at end k : ℕ} {old out : List ℕ} → TramsPut text count b tram line at old out end k → count ≤ k
-      → Put count (tramTexts (clipped b (stepCount (lines text)) (trams (lines text)))) at old out end
+      → Put count (lineTexts letterT (clipped b (stepCount (lines text)) (trams (lines text)))) at old out end
   trams-all {k = k} p h =
       let z : k ≡ count = omega (arith, p .at-line .few) in
       let e = all-lines h in

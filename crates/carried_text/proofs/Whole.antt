@@ -11,13 +11,12 @@ use lib.ListN.{length, getD, take, drop, length-take}
 use Rattle.records.specs.Lines.{Line, lines}
 use Rattle.records.specs.Reading.{Starts, over}
 use Rattle.record_writer.specs.Records.{recordText, recordTexts}
-use Rattle.record_writer.specs.Writing.{putAt}
 use Rattle.record_writer.proofs.Laws.{records-same}
 use Rattle.model.specs.declared.Signal.{Signal}
 use Rattle.model.specs.Test.{within}
 use Rattle.model.specs.Sum.{list, joined}
 use Rattle.model.specs.Network.{entry, linkCount, signalCount, movementCount, stepCount, tramCount, pastCount, onTimeline, tramLine, timelineLine, stepLine, trams, timelineLength, pastEntries, pastExits, stepLength, demand}
-use Rattle.model.specs.Rules.{tramExists, tram, validTram, validPhases}
+use Rattle.model.specs.Rules.{tramExists, validTram, validPhases}
 use Rattle.model.specs.Flows.{signalAt, timelineInflow, timelineOutflow, entered, left}
 use Rattle.model.specs.Table.{isForm, letterN, letterT, letterG, letterQ, letterM, letterH, letterS}
 use Rattle.model.specs.Calls.{written}
@@ -35,13 +34,15 @@ use Rattle.network_text.specs.NetworkText.{countNumbers, networkText}
 use Rattle.network_text.proofs.Formed.{Formed, formed-of-holds}
 use Rattle.carry_model.specs.Part.{clipped, signalNumbers, linkNumbers, movementNumbers, pastNumbers, stepNumbers, part, carriedText}
 use Rattle.carry_model.proofs.Clipped.{clipped-length}
+use Rattle.text_lines.specs.declared.Places.{Places}
+use Rattle.text_lines.specs.Put.{longest, Put, Early}
+use Rattle.text_lines.specs.Texts.{lineTexts}
+use Rattle.text_lines.proofs.Put.{puts-more}
+use Rattle.text_lines.proofs.Texts.{texts-of-list, put-first}
 use Rattle.carried_text.specs.declared.CarriedAnswer.the-variants.{Written, TooShort}
-use Rattle.carried_text.specs.declared.Places.{Places}
-use Rattle.carried_text.specs.Put.{longest, Put, Early}
 use Rattle.carried_text.specs.Rows.{countRow, linkRow, movementRow, volumesIn, Copied, StepsPut, Rising, SignalsAsked, LinksAsked, MovementsAsked}
-use Rattle.carried_text.specs.Trams.{tramTexts, TramsAsked}
+use Rattle.carried_text.specs.Trams.{TramsAsked}
 use Rattle.carried_text.specs.Carried.{StandsAt, CarryAsked, TextPut, TextWritten}
-use Rattle.carried_text.proofs.Put.{puts-more}
 
 -- ---- lists and texts
 list-first : (n : ℕ) (f : ℕ → ℕ) → list (1 + n) f ≡ f 0 ∷ list n (λ k. f (1 + k))
@@ -69,22 +70,6 @@ module _ (letter : ℕ) where
   texts-plus m (suc n) f =
       let e : m + suc n ≡ suc (m + n) = omega arith in
       rw e (ap (λ (xs : List ℕ). xs ++ recordText letter (f (m + n))) (texts-plus m n f) ∙ append-assoc (recordTexts letter m f) (recordTexts letter n (λ k. f (m + k))) (recordText letter (f (m + n))))
-
-texts-first : (letter n : ℕ) (f : ℕ → List ℕ) → recordTexts letter (suc n) f ≡ recordText letter (f 0) ++ recordTexts letter n (λ k. f (suc k))
-unfolding recordTexts
-texts-first letter zero f = sym (append-nil _)
-texts-first letter (suc n) f = ap (λ (xs : List ℕ). xs ++ recordText letter (f (suc n))) (texts-first letter n f) ∙ append-assoc (recordText letter (f 0)) (recordTexts letter n (λ k. f (suc k))) (recordText letter (f (suc n)))
-
--- tram lines by a list of their numbers
-texts-of-list : (ts : List (List ℕ)) → tramTexts ts ≡ recordTexts letterT (length ts) (λ k. getD ts k [])
-unfolding tramTexts
-texts-of-list [] = unfold recordTexts in refl
-texts-of-list (t ∷ ts) = ap (λ (xs : List ℕ). recordText letterT t ++ xs) (texts-of-list ts) ∙ sym (texts-first letterT (length ts) (λ k. getD (t ∷ ts) k []))
-
--- a text at the beginning of a buffer
-put-first : (text old : List ℕ) → putAt 0 text old ≡ over text old
-unfolding putAt over
-put-first text old = let z : 0 + length text ≡ length text = omega arith in rw z refl
 
 -- ---- what is asked of each block
 module _ {text : List ℕ} {reading : Reading} {b : ℕ} {signals links movements waiting ledger : List ℕ} (a : CarryAsked text reading b signals links movements waiting ledger) where
@@ -296,7 +281,7 @@ module _ {text : List ℕ} {reading : Reading} {b : ℕ} {signals links movement
   module _ {left e₁ e₂ e₃ e₄ e₅ e₆ : ℕ} {end : ℕ} (places : Places) {old o₁ o₂ o₃ o₄ o₅ o₆ o₇ new : List ℕ}
       (counted : left ≡ length (clipped b (stepCount net) (trams net)))
       (p₁ : Put 1 (recordText letterN (countRow C b left)) 0 old o₁ e₁)
-      (p₂ : Put (C .trams) (tramTexts (clipped b (stepCount net) (trams net))) e₁ o₁ o₂ e₂)
+      (p₂ : Put (C .trams) (lineTexts letterT (clipped b (stepCount net) (trams net))) e₁ o₁ o₂ e₂)
       (p₃ : Put (C .signals) (recordTexts letterG (C .signals) (λ r. signalNumbers (tableSignal signals r))) e₂ o₂ o₃ e₃)
       (p₄ : Put (C .links) (recordTexts letterQ (C .links) (linkRow links waiting)) e₃ o₃ o₄ e₄)
       (p₅ : Put (C .movements) (recordTexts letterM (C .movements) (movementRow movements)) e₄ o₄ o₅ e₅)
@@ -305,7 +290,7 @@ module _ {text : List ℕ} {reading : Reading} {b : ℕ} {signals links movement
       (p₈ : Copied text (places .line) letterS (1 + C .links) (C .steps - b) (places .at) o₇ new end) where
     whole-text : (plan : List Line) → StandsAt net plan b signals waiting ledger
         → recordText letterN (countRow C b left)
-        ++ (tramTexts (clipped b (stepCount net) (trams net))
+        ++ (lineTexts letterT (clipped b (stepCount net) (trams net))
         ++ (recordTexts letterG (C .signals) (λ r. signalNumbers (tableSignal signals r))
         ++ (recordTexts letterQ (C .links) (linkRow links waiting)
         ++ (recordTexts letterM (C .movements) (movementRow movements)
@@ -317,7 +302,7 @@ module _ {text : List ℕ} {reading : Reading} {b : ℕ} {signals links movement
     whole-text plan s =
         rw (
           counts-same plan s counted,
-          texts-of-list (clipped b (stepCount net) (trams net)),
+          texts-of-list letterT (clipped b (stepCount net) (trams net)),
           signals-same plan s,
           links-same plan s,
           movements-same plan s,

@@ -16,6 +16,7 @@ use Rattle.tables.specs.declared.Reading.{Reading}
 use Rattle.tables.specs.Fields.{signalTableSize, tableSignal}
 use Rattle.tables.specs.Tables.{CountsHold, LinkTable, MovementTable}
 use Rattle.carry_model.specs.Part.{carriedText}
+use Rattle.text_lines.specs.Put.{PutWhole}
 use Rattle.carried_text.specs.declared.CarriedAnswer.{CarriedAnswer}
 use Rattle.carried_text.specs.declared.CarriedAnswer.the-variants.{Written, TooShort}
 
@@ -41,11 +42,7 @@ pub record CarryAsked (text : List ℕ) (reading : Reading) (b : ℕ) (signals l
   pub plan : List Line
   pub stands : StandsAt (lines text) plan b signals waiting ledger
 
--- the text was put at the beginning of a buffer: it is written there if it fits, and its length is told in any case
-pub record PutWhole (text old new : List ℕ) (size : ℕ) : Type 0 where
-  pub long : size ≡ length text
-  pub is : size ≤ length old → new ≡ over text old
-
+-- the whole text was put
 abbrev pub TextPut : List ℕ → ℕ → List ℕ → List ℕ → List ℕ → List ℕ → List ℕ → ℕ → Type 0
 TextPut text b signals waiting ledger old new size =
     (plan : List Line) → StandsAt (lines text) plan b signals waiting ledger → PutWhole (carriedText (lines text) plan b) old new size

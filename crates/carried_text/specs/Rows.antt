@@ -12,9 +12,8 @@ use Rattle.model.specs.Network.{maxLinks, maxSignals, maxMovements, maxSteps, e
 use Rattle.model.specs.Table.{isForm, letterH, letterS}
 use Rattle.tables.specs.declared.Counts.{Counts}
 use Rattle.tables.specs.Fields.{signalTableSize, tableSignal, linkTableSize, movementTableSize, pastSize, capacityIn, travelTimeIn, exitRateIn, signalIn, phaseMaskIn, standingIn, linkIn, rateIn, shareIn, enteredAt, leftAt}
-use Rattle.tables.specs.Rows.{LineHeld}
-use Rattle.carried_text.specs.declared.Places.{Places}
-use Rattle.carried_text.specs.Put.{Put, Early}
+use Rattle.text_lines.specs.declared.Places.{Places}
+use Rattle.text_lines.specs.Put.{Put, Early}
 
 -- the `N` line, with so many tram lines
 unfoldable pub countRow : Counts → ℕ → ℕ → List ℕ
@@ -36,11 +35,6 @@ volumesIn ledger links n i =
     (enteredAt ledger links (n + 1) i - enteredAt ledger links n i) ∷ (leftAt ledger links (n + 1) i - leftAt ledger links n i) ∷ []
 
 -- ---- asked and promised
--- a line that has passed is read again: its numbers, and the place of the next line
-pub record ReadAgain (letter width : ℕ) (text : List ℕ) (at : ℕ) (before : List ℕ) (next : ℕ) (after : List ℕ) : Type 0 where
-  pub size : length after ≡ length before
-  pub held : (i : ℕ) → Starts text at i → isForm (lines text) i letter width ≡ true → LineHeld letter width text i next 0 after
-
 -- so many lines that have passed were put as they are, from line `first` on
 abbrev pub Copied : List ℕ → ℕ → ℕ → ℕ → ℕ → ℕ → List ℕ → List ℕ → ℕ → Type 0
 Copied text from letter width count at old new end =

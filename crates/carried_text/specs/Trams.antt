@@ -1,13 +1,12 @@
 -- The tram lines that are left behind a boundary. Assumes nothing.
-use Prim.Native.Nat.{ℕ, suc, _+_, _-_, _≤_, _<_, max}
+use Prim.Native.Nat.{ℕ, suc, _-_, _≤_, _<_, max}
 use mathlib.Core.Path.{_≡_}
 use mathlib.Core.Bool.{true, cond}
-use mathlib.Core.List.{List, [], _∷_, _++_}
+use mathlib.Core.List.{List, [], _∷_}
 use lib.Dec.{ltb}
 use lib.ListN.{getD}
 use Rattle.records.specs.Lines.{lines}
 use Rattle.records.specs.Reading.{Starts}
-use Rattle.record_writer.specs.Records.{recordText}
 use Rattle.model.specs.Network.{maxSteps, maxTrams, entry, stepCount, tramCount, tramLine}
 use Rattle.model.specs.Table.{isForm, letterT}
 use Rattle.tables.specs.Fields.{tramFields}
@@ -18,11 +17,6 @@ leftOf b tram =
     cond (ltb b (getD tram 3 0))
     ((getD tram 0 0 ∷ getD tram 1 0 ∷ (max (getD tram 2 0) (suc b) - b) ∷ (getD tram 3 0 - b) ∷ []) ∷ [])
     []
-
--- the text of tram lines
-unfoldable pub tramTexts : List (List ℕ) → List ℕ
-tramTexts [] = []
-tramTexts (tram ∷ more) = recordText letterT tram ++ tramTexts more
 
 -- the `T` lines have passed, and start at a place; b is a boundary of the network
 pub record TramsAsked (text : List ℕ) (from count b : ℕ) : Type 0 where

@@ -9,69 +9,26 @@ ghost use Rattle.records.specs.Reading.{over};
 ghost use Rattle.record_writer.specs.Records.{recordText, recordTexts};
 ghost use Rattle.model.specs.Sum.{joined};
 ghost use Rattle.model.specs.Network.{maxTrams, stepCount, trams};
-ghost use Rattle.model.specs.Table.{letterN, letterG, letterQ, letterM};
+ghost use Rattle.model.specs.Table.{letterN, letterT, letterG, letterQ, letterM};
 ghost use Rattle.tables.specs.Places.{Few};
 ghost use Rattle.tables.specs.Fields.{tramFields, tableSignal, pastSize};
 ghost use Rattle.carry_model.specs.Part.{clipped, signalNumbers};
-ghost use Rattle.carried_text.specs.Put.{Put, Early};
-ghost use Rattle.carried_text.specs.Rows.{countRow, linkRow, movementRow, volumesIn, ReadAgain, Copied, SignalsAsked, LinksAsked, MovementsAsked, Rising, VolumesAsked, StepsPut};
+ghost use Rattle.text_lines.specs.Put.{Put, Early};
+ghost use Rattle.text_lines.specs.Texts.{lineTexts};
+ghost use Rattle.carried_text.specs.Rows.{countRow, linkRow, movementRow, volumesIn, Copied, SignalsAsked, LinksAsked, MovementsAsked, Rising, VolumesAsked, StepsPut};
 ghost use Rattle.carried_text.specs.Carried.{CarryAsked, TextPut, TextWritten};
-ghost use Rattle.carried_text.specs.Trams.{leftOf, tramTexts, TramsAsked};
-use records::LineRead;
+ghost use Rattle.carried_text.specs.Trams.{leftOf, TramsAsked};
 use tables::Counts;
 use tables::PAST_SIZE;
 use tables::Reading;
 use tables::SIGNAL_FIELDS;
 use tables::TRAM_FIELDS;
+use text_lines::Places;
 
 // The answer: how long the written text is, or that the buffer is too short for it.
 pub enum CarriedAnswer {
     Written(usize),
     TooShort,
-}
-
-// Where the next line is read, and where the next is put.
-struct Places {
-    line: usize,
-    at: usize,
-}
-
-// A line's numbers go to the front of a table of 64-bit numbers, as the writer takes them.
-fn widen(row: &[u32], numbers: &mut [u64])
-    requires { ⌜ length (now row) ≤ length (now numbers) ⌝ }
-    ensures { λ _. ⌜ now (numbers .exit) ≡ over (now (row .entry)) (now (numbers .entry)) ⌝ }
-{
-    let mut k = 0;
-    while k < row.len() {
-        numbers[k] = tables::wide(row[k]);
-        k += 1;
-    }
-}
-
-// Puts a line of these numbers at a place, if it ends within the buffer, and tells where it ends.
-fn put_line(letter: u8, row: &[u32], out: &mut [u8], at: usize) -> usize
-    requires { ⌜ (length (now row) ≤ pastSize) × Early 1 at ⌝ }
-    ensures { λ r. ⌜ Put 1 (recordText letter (now (row .entry))) at (now (out .entry)) (now (out .exit)) r ⌝ }
-{
-    let mut numbers = [0u64; PAST_SIZE];
-    widen(row, &mut numbers);
-    let width = row.len();
-    let end = at + record_writer::record_length(&numbers[..width]);
-    if out.len() < end {
-        return end;
-    }
-    record_writer::write_record(out, at, letter, &numbers[..width])
-}
-
-// Reads a line that has passed again, and gives the place of the next line. Such a line is never malformed.
-fn read_again(text: &[u8], at: usize, letter: u8, row: &mut [u32], width: usize) -> usize
-    requires { ⌜ width ≤ length (now row) ⌝ }
-    ensures { λ r. ⌜ ReadAgain letter width (now (text .entry)) at (now (row .entry)) r (now (row .exit)) ⌝ }
-{
-    match tables::read_row(text, at, letter, row, 0, width) {
-        LineRead::Next(next) => next,
-        LineRead::Malformed => at,
-    }
 }
 
 // Puts lines that have passed as they are: so many of a letter and a number of numbers, from a place of the text on.
@@ -92,8 +49,8 @@ fn copy_lines(
     let mut end = at;
     let mut k = 0;
     while k < count {
-        line = read_again(text, line, letter, &mut row, width);
-        end = put_line(letter, &row[..width], out, end);
+        line = text_lines::read_again(text, line, letter, &mut row, width);
+        end = text_lines::put_line(letter, &row[..width], out, end);
         k += 1;
     }
     end
@@ -112,7 +69,7 @@ fn put_counts(counts: Counts, boundary: usize, trams: usize, out: &mut [u8]) -> 
         trams as u32,
         (counts.past + boundary) as u32,
     ];
-    put_line(b'N', &row, out, 0)
+    text_lines::put_line(b'N', &row, out, 0)
 }
 
 // The first step of a tram line's rest, counted from a boundary before its last step.
@@ -139,7 +96,7 @@ fn lines_left(tram: &[u32], boundary: u32) -> usize
 // Puts what is left of a tram line behind a boundary.
 fn put_tram(tram: &[u32], boundary: u32, out: &mut [u8], at: usize) -> usize
     requires { ⌜ (length (now tram) ≡ tramFields) × Early 1 at ⌝ }
-    ensures { λ r. ⌜ Put 1 (tramTexts (leftOf boundary (now (tram .entry)))) at (now (out .entry)) (now (out .exit)) r ⌝ }
+    ensures { λ r. ⌜ Put 1 (lineTexts letterT (leftOf boundary (now (tram .entry)))) at (now (out .entry)) (now (out .exit)) r ⌝ }
 {
     if tram[3] <= boundary {
         return at;
@@ -150,7 +107,7 @@ fn put_tram(tram: &[u32], boundary: u32, out: &mut [u8], at: usize) -> usize
         first_step(tram[2], boundary),
         tram[3] - boundary,
     ];
-    put_line(b'T', &row, out, at)
+    text_lines::put_line(b'T', &row, out, at)
 }
 
 // How many tram lines are left behind a boundary.
@@ -163,7 +120,7 @@ fn count_trams(text: &[u8], from: usize, count: usize, boundary: usize) -> usize
     let mut left = 0;
     let mut k = 0;
     while k < count {
-        line = read_again(text, line, b'T', &mut tram, TRAM_FIELDS);
+        line = text_lines::read_again(text, line, b'T', &mut tram, TRAM_FIELDS);
         left += lines_left(&tram, boundary as u32);
         k += 1;
     }
@@ -180,14 +137,14 @@ fn put_trams(
     at: usize,
 ) -> usize
     requires { ⌜ TramsAsked (now text) from count boundary × Early count at ⌝ }
-    ensures { λ r. ⌜ Put count (tramTexts (clipped boundary (stepCount (lines (now (text .entry)))) (trams (lines (now (text .entry)))))) at (now (out .entry)) (now (out .exit)) r ⌝ }
+    ensures { λ r. ⌜ Put count (lineTexts letterT (clipped boundary (stepCount (lines (now (text .entry)))) (trams (lines (now (text .entry)))))) at (now (out .entry)) (now (out .exit)) r ⌝ }
 {
     let mut tram = [0u32; TRAM_FIELDS];
     let mut line = from;
     let mut end = at;
     let mut k = 0;
     while k < count {
-        line = read_again(text, line, b'T', &mut tram, TRAM_FIELDS);
+        line = text_lines::read_again(text, line, b'T', &mut tram, TRAM_FIELDS);
         end = put_tram(&tram, boundary as u32, out, end);
         k += 1;
     }
@@ -204,7 +161,7 @@ fn put_signals(signals: &[u32], count: usize, out: &mut [u8], at: usize) -> usiz
     while k < count {
         let start = SIGNAL_FIELDS * k;
         let stop = start + (6 + 2 * tables::index(tables::phase_count(signals, k)));
-        end = put_line(b'G', &signals[start..stop], out, end);
+        end = text_lines::put_line(b'G', &signals[start..stop], out, end);
         k += 1;
     }
     end
@@ -227,7 +184,7 @@ fn put_links(links: &[u32], waiting: &[u32], count: usize, out: &mut [u8], at: u
             tables::standing(links, i),
             waiting[i],
         ];
-        end = put_line(b'Q', &row, out, end);
+        end = text_lines::put_line(b'Q', &row, out, end);
         i += 1;
     }
     end
@@ -247,7 +204,7 @@ fn put_movements(movements: &[u32], count: usize, out: &mut [u8], at: usize) -> 
             tables::rate(movements, j),
             tables::share(movements, j),
         ];
-        end = put_line(b'M', &row, out, end);
+        end = text_lines::put_line(b'M', &row, out, end);
         j += 1;
     }
     end
@@ -287,9 +244,9 @@ fn put_steps(
     let mut end = at;
     let mut n = 0;
     while n < boundary {
-        line = read_again(text, line, b'S', &mut row, 1 + links);
+        line = text_lines::read_again(text, line, b'S', &mut row, 1 + links);
         fill_volumes(ledger, links, boundary, n, &mut row);
-        end = put_line(b'H', &row[..width], out, end);
+        end = text_lines::put_line(b'H', &row[..width], out, end);
         n += 1;
     }
     Places { line, at: end }

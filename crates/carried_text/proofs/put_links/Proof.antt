@@ -4,7 +4,7 @@ use native.Mathlib.Omega.{arith}
 use Rattle.carried_text.proofs.Lines.{links-next}
 use Rattle.carried_text.specs.Rows.{linkRow}
 use Rattle.model.specs.Table.{letterQ}
-use Rattle.carried_text.proofs.Put.{LinesTo, rows-none, rows-early, rows-all}
+use Rattle.text_lines.proofs.Put.{LinesTo, rows-none, rows-early, rows-all}
 use Prim.Native.Nat.{_-_}
 use borrow.Author.Needs.{needs}
 use Rattle.carried_text.proofs.put_links.Statement.{statement}

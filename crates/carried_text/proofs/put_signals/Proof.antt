@@ -4,7 +4,7 @@ use native.Mathlib.Omega.{arith}
 use Rattle.model.specs.Table.{letterG}
 use Rattle.tables.specs.Fields.{tableSignal}
 use Rattle.carry_model.specs.Part.{signalNumbers}
-use Rattle.carried_text.proofs.Put.{LinesTo, rows-none, rows-all}
+use Rattle.text_lines.proofs.Put.{LinesTo, rows-none, rows-all}
 use Rattle.carried_text.proofs.Lines.{signal-few, signal-within, signal-early, signals-next}
 use borrow.Author.Needs.{needs}
 use Rattle.carried_text.proofs.put_signals.Statement.{statement}

@@ -1,8 +1,8 @@
--- `carried_text::read_again` meets its contract. Assumes nothing.
-use Rattle.carried_text.proofs.Reading.{again-next, again-never}
+-- `text_lines::read_again` meets its contract. Assumes nothing.
+use Rattle.text_lines.proofs.Reading.{again-next, again-never}
 use borrow.Author.Needs.{needs}
-use Rattle.carried_text.proofs.read_again.Statement.{statement}
-use Rattle.carried_text.proofs.read_again.Tie as tie
+use Rattle.text_lines.proofs.read_again.Statement.{statement}
+use Rattle.text_lines.proofs.read_again.Tie as tie
 
 read-row-requires : tie.Need-read-row-requires
 read-row-requires c κs = search needs

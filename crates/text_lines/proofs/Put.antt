@@ -10,8 +10,8 @@ use Rattle.records.specs.Reading.{over}
 use Rattle.record_writer.specs.Records.{recordText, recordTexts}
 use Rattle.record_writer.specs.Writing.{putAt, Wrote}
 use Rattle.record_writer.proofs.Laws.{put-more, wrote-length, record-most}
-use Rattle.tables.specs.Fields.{pastSize}
-use Rattle.carried_text.specs.Put.{longest, Put, Early}
+use Rattle.tables.specs.Fields.{lineSize}
+use Rattle.text_lines.specs.Put.{longest, Put, Early}
 
 pub put-none : (at : ℕ) (old : List ℕ) → Put 0 [] at old old at
 unfolding putAt
@@ -64,7 +64,7 @@ pub part-size : (row : List ℕ) (w : ℕ) → w ≤ length row → w ≡ length
 part-size row w h = sym (length-take-le w row h)
 
 -- ---- one line
-module _ (row zeros numbers : List ℕ) (e : numbers ≡ over row zeros) (few : length row ≤ pastSize) where
+module _ (row zeros numbers : List ℕ) (e : numbers ≡ over row zeros) (few : length row ≤ lineSize) where
   row-back : take (length row) numbers ≡ row
   unfolding over
   row-back = ap (take (length row)) e ∙ take-at row _ (length row) refl

@@ -1,10 +1,10 @@
--- `carried_text::widen` meets its contract. Assumes nothing.
+-- `text_lines::widen` meets its contract. Assumes nothing.
 use lib.ListN.{length}
 use Prim.Native.Nat.{_-_}
-use Rattle.carried_text.proofs.Filling.{WideTo, wide-none, wide-next, wide-all}
+use Rattle.text_lines.proofs.Filling.{WideTo, wide-none, wide-next, wide-all}
 use borrow.Author.Needs.{needs}
-use Rattle.carried_text.proofs.widen.Statement.{statement}
-use Rattle.carried_text.proofs.widen.Tie as tie
+use Rattle.text_lines.proofs.widen.Statement.{statement}
+use Rattle.text_lines.proofs.widen.Tie as tie
 
 abbrev Inv-loop : tie.InvT-loop
 Inv-loop row numbers₀ k₀ numbers k = WideTo row numbers₀ numbers k

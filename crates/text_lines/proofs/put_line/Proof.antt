@@ -1,9 +1,9 @@
--- `carried_text::put_line` meets its contract. Assumes nothing.
+-- `text_lines::put_line` meets its contract. Assumes nothing.
 use native.Mathlib.Omega.{arith}
-use Rattle.carried_text.proofs.Put.{row-size, row-few, line-counted, line-short, line-room, line-wrote}
+use Rattle.text_lines.proofs.Put.{row-size, row-few, line-counted, line-short, line-room, line-wrote}
 use borrow.Author.Needs.{needs}
-use Rattle.carried_text.proofs.put_line.Statement.{statement}
-use Rattle.carried_text.proofs.put_line.Tie as tie
+use Rattle.text_lines.proofs.put_line.Statement.{statement}
+use Rattle.text_lines.proofs.put_line.Tie as tie
 
 slice-aggregate-widen : tie.Need-slice-aggregate-widen
 slice-aggregate-widen c = search needs

@@ -1,0 +1,4 @@
+pub mod Put
+pub mod Filling
+pub mod Reading
+pub mod Texts

@@ -1,0 +1,3 @@
+pub mod Put
+pub mod Reading
+pub mod Texts
