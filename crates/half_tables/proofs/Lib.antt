@@ -1,3 +1,3 @@
 mod Marks
 pub mod Tables
-mod Halves
+pub mod Halves

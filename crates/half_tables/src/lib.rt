@@ -22,7 +22,7 @@ pub const MOVEMENTS_AT: usize = MAX_LINKS + MAX_SIGNALS;
 pub const HALF_SIZE: usize = MAX_LINKS + MAX_SIGNALS + MAX_MOVEMENTS;
 
 // 1 for a number that is not 0.
-fn one_if(number: u32) -> u32
+pub fn one_if(number: u32) -> u32
     ensures { λ r. ⌜ (r ≡ only (not (eqb number 0)) 1) × (r ≤ 1) ⌝ }
 {
     if number == 0 {

@@ -186,7 +186,7 @@ module _ (network plan : List Line) (first : ℕ → Bool) (h : Half) (holds : H
   moved-small n j = planned n _
 
   -- a border volume is a field of the plan, and the link that it enters has no demand
-  demand-small : (n i : ℕ) → n < stepCount network → i < linkCount network → demand network n i + borderIn network first plan n i ≤ largest
+  pub demand-small : (n i : ℕ) → n < stepCount network → i < linkCount network → demand network n i + borderIn network first plan n i ≤ largest
   demand-small n i l u = go (crossing-into network first s i)
     where
       go : Crossing network first (toLink network) (crossingInto network first) i ⊎ NoCrossing network first (toLink network) (crossingInto network first) i

@@ -1,0 +1,2 @@
+mod Border
+pub mod Filling
