@@ -15,20 +15,27 @@ use Rattle.records.specs.Reading.{Starts, atEnd}
 use Rattle.records.proofs.Laws.{starts-end, end-of-none}
 use Rattle.model.specs.declared.Signal.{Signal}
 use Rattle.model.specs.Network.{entry, linkCount, signalCount, movementCount, stepCount, signal}
-use Rattle.model.specs.Flows.{signalAt}
 use Rattle.model.specs.Hold.{holdLines, planOf}
 use Rattle.model.proofs.Accepted.{ValidNetwork}
 use Rattle.model.proofs.Hold.{plan-of-text, plan-of-empty, hold-mask, hold-volume, hold-form, hold-count, hold-shown}
 use Rattle.tables.specs.declared.Counts.{Counts}
 use Rattle.tables.specs.Places.{planWidth}
-use Rattle.tables.specs.Fields.{lineSize}
+use Rattle.tables.specs.Fields.{tableSignal, lineSize}
 use Rattle.tables.specs.Tables.{CountsHold, PlanNumbers}
 use Rattle.step_signals.specs.Step.{SignalsAt}
 use Rattle.plan_steps.specs.PlanLine.{LineGot}
 use Rattle.plan_steps.proofs.Verdicts.{formed}
 
+-- where the text is empty, each signal shows the phase of its `G` line at every boundary
+pub shown-at : (networkText planText : List ℕ) → ValidNetwork (lines networkText) → {n : ℕ} {signals : List ℕ} → n < stepCount (lines networkText)
+    → SignalsAt (lines networkText) (planOf networkText planText) n signals → length planText ≡ 0 → (r : ℕ) → r < signalCount (lines networkText)
+    → tableSignal signals r .shown ≡ signal (lines networkText) r .shown
+shown-at networkText planText valid {n} more signals-at empty r l =
+    ap (λ (s : Signal). s .shown) (signals-at .holds r l) ∙ rw (plan-of-empty networkText planText empty) (hold-shown (lines networkText) valid n r (omega arith) l)
+
 module _ (networkText planText : List ℕ) {counts : Counts} (valid : ValidNetwork (lines networkText)) (counted : CountsHold (lines networkText) counts) {n at : ℕ} {signals : List ℕ}
-    (more : n < stepCount (lines networkText)) (starts : 0 < length planText → Starts planText at n) (signals-at : SignalsAt (lines networkText) (planOf networkText planText) n signals)
+    (more : n < stepCount (lines networkText)) (starts : 0 < length planText → Starts planText at n)
+    (shown : length planText ≡ 0 → (r : ℕ) → r < signalCount (lines networkText) → tableSignal signals r .shown ≡ signal (lines networkText) r .shown)
     {before line : List ℕ} {result : LineRead} (zeros : (k : ℕ) → getD before k 0 ≡ 0) (size : length before ≡ lineSize) (got : LineGot planText at signals counts before result line) where
   abbrev net : List Line
   net = lines networkText
@@ -44,16 +51,12 @@ module _ (networkText planText : List ℕ) {counts : Counts} (valid : ValidNetwo
     is-hold : pln ≡ holdLines net
     is-hold = plan-of-empty networkText planText empty
 
-    -- each signal still shows the phase of its `G` line
-    shown-is : (r : ℕ) → r < signalCount net → signalAt net pln n r .shown ≡ signal net r .shown
-    shown-is r l = rw is-hold (hold-shown net valid n r (omega arith) l)
-
     held-numbers : PlanNumbers net pln n line
     held-numbers =
         record {
           size = got .held empty .size ∙ size;
           holds = λ k l. elim (decLt k (signalCount net)) [
-            | yes u ↦ got .held empty .held k (omega (arith, counted .signals)) ∙ ap (λ (s : Signal). 2 ^ (s .shown - 1)) (signals-at .holds k u) ∙ ap (λ x. 2 ^ (x - 1)) (shown-is k u) ∙ rw is-hold (sym (hold-mask net n k more u))
+            | yes u ↦ got .held empty .held k (omega (arith, counted .signals)) ∙ ap (λ x. 2 ^ (x - 1)) (shown empty k u) ∙ rw is-hold (sym (hold-mask net n k more u))
             | no u ↦ got .held empty .kept k (omega (arith, counted .signals)) ∙ zeros k ∙ rw is-hold (sym (hold-volume net n k more (omega arith) l))
           ];
         }

@@ -60,7 +60,7 @@ use Rattle.plan_steps.specs.declared.State.{State}
 use Rattle.plan_steps.specs.PlanLine.{LineAsked, LineGot}
 use Rattle.plan_steps.specs.State.{StateAt, NextAsked, NextGot, StepAsked, StepGot}
 use Rattle.plan_steps.proofs.Adding.{passed-lawful, totals-asked, totals-next}
-use Rattle.plan_steps.proofs.PlanLines.{line-bad, line-numbers, line-good, next-starts}
+use Rattle.plan_steps.proofs.PlanLines.{shown-at, line-bad, line-numbers, line-good, next-starts}
 use Rattle.plan_steps.proofs.Ledger.{written-again}
 use Rattle.plan_steps.proofs.Verdicts.{formed, line-malformed, line-formed}
 
@@ -201,7 +201,7 @@ module _ {networkText planText : List ℕ} {counts : Counts} {tramsAt : ℕ} {li
       -- the line has not the form of a `P` line
       pub step-malformed : result ≡ Malformed → StepGot networkText planText ledger state (record { verdict = Refused (refusal 9 (n + 1) 0); state = state }) signals arrivals curves places waiting ledger
       step-malformed e =
-          let v = line-malformed net pln n (line-bad networkText planText valid counted (asked .more) (asked .state-at .plan-starts) (asked .state-at .signals-at) no-number size read e) in
+          let v = line-malformed net pln n (line-bad networkText planText valid counted (asked .more) (asked .state-at .plan-starts) (shown-at networkText planText valid (asked .more) (asked .state-at .signals-at)) no-number size read e) in
           record {
             told = rw (add-one n) (sym v);
             kept = λ r q. refl;
@@ -212,10 +212,10 @@ module _ {networkText planText : List ℕ} {counts : Counts} {tramsAt : ℕ} {li
 
       module _ {planEnd : ℕ} (e : result ≡ Next planEnd) where
         plan-numbers : PlanNumbers net pln n line
-        plan-numbers = line-numbers networkText planText valid counted (asked .more) (asked .state-at .plan-starts) (asked .state-at .signals-at) no-number size read e
+        plan-numbers = line-numbers networkText planText valid counted (asked .more) (asked .state-at .plan-starts) (shown-at networkText planText valid (asked .more) (asked .state-at .signals-at)) no-number size read e
 
         is-formed : formed net pln n ≡ true
-        is-formed = line-good networkText planText valid counted (asked .more) (asked .state-at .plan-starts) (asked .state-at .signals-at) no-number size read e
+        is-formed = line-good networkText planText valid counted (asked .more) (asked .state-at .plan-starts) (shown-at networkText planText valid (asked .more) (asked .state-at .signals-at)) no-number size read e
 
         at-next : counts .past + n + 1 ≡ onTimeline net (suc n)
         unfolding onTimeline
@@ -392,7 +392,7 @@ module _ {networkText planText : List ℕ} {counts : Counts} {tramsAt : ℕ} {li
                           within = rw is-next (omega (arith, asked .more));
                           passed = rw is-next passed-more;
                           step-starts = rw (is-next, on .step-place) (loaded-next networkText (state .«step_at») n (counts .links) (asked .state-at .step-starts) (counted .links) loaded);
-                          plan-starts = rw (is-next, on .plan-place) (next-starts networkText planText valid counted (asked .more) (asked .state-at .plan-starts) (asked .state-at .signals-at) no-number size read e);
+                          plan-starts = rw (is-next, on .plan-place) (next-starts networkText planText valid counted (asked .more) (asked .state-at .plan-starts) (shown-at networkText planText valid (asked .more) (asked .state-at .signals-at)) no-number size read e);
                           signals-at = rw is-next
                               (signals-next net pln n signals signals′ phases claims (lengthIn step) (counts .signals) (asked .state-at .signals-at) shown claimed lawful (counted .signals)
                               (offers .lasts) advanced);

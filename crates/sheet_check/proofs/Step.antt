@@ -35,7 +35,7 @@ use Rattle.network_steps.proofs.Steps.{load-ready, loaded-numbers, loaded-next}
 use Rattle.step_signals.specs.Ready.{Ready}
 use Rattle.step_signals.specs.Step.{ShownPhases, ShownTable, AskedTable, AdvanceAsked, Advanced, SignalsAt}
 use Rattle.plan_steps.specs.PlanLine.{LineAsked, LineGot}
-use Rattle.plan_steps.proofs.PlanLines.{line-bad, line-numbers, next-starts}
+use Rattle.plan_steps.proofs.PlanLines.{shown-at, line-bad, line-numbers, next-starts}
 use Rattle.plan_steps.proofs.Verdicts.{formed}
 use Rattle.plan_steps.proofs.Steps.{step-form, tram-form, signals-next}
 use Rattle.sheet_lines.specs.Sheet.{duration, phasesOf}
@@ -102,6 +102,10 @@ module _ {networkText planText table : List ℕ} {reading : Reading} {signals : 
 
   pub signals-at : SignalsAt net pln n signals
   signals-at = asked .pass-at .signals-at
+
+  -- where the text is empty, each signal shows the phase of its `G` line
+  shows : length planText ≡ 0 → (r : ℕ) → r < signalCount net → tableSignal signals r .shown ≡ signal net r .shown
+  shows = shown-at networkText planText valid (asked .more) signals-at
 
   pub step-few : n < maxSteps
   step-few = omega (arith, asked .more, counted .steps, counted .few .steps)
@@ -176,7 +180,7 @@ module _ {networkText planText table : List ℕ} {reading : Reading} {signals : 
 
       pub step-never : result ≡ Malformed → StepGot networkText planText table pass pass signals
       step-never e =
-          absurd (true≢false (sym is-formed ∙ line-bad networkText planText valid counted (asked .more) (asked .pass-at .plan-starts) signals-at no-number size read e))
+          absurd (true≢false (sym is-formed ∙ line-bad networkText planText valid counted (asked .more) (asked .pass-at .plan-starts) shows no-number size read e))
 
       module _ {planEnd : ℕ} (e : result ≡ Next planEnd) {phases₀ phases : List ℕ} (showing : ShownPhases signals (counts .signals) line phases₀ phases)
           {claims : List ℕ} (told : TramPhases net n claims) where
@@ -189,7 +193,7 @@ module _ {networkText planText table : List ℕ} {reading : Reading} {signals : 
             record {
               size = showing .size;
               holds = λ r l. showing .shown r (omega (arith, counted .signals))
-                  ∙ ap₂ phaseOf (shown-mask-at (line-numbers networkText planText valid counted (asked .more) (asked .pass-at .plan-starts) signals-at no-number size read e) r l)
+                  ∙ ap₂ phaseOf (shown-mask-at (line-numbers networkText planText valid counted (asked .more) (asked .pass-at .plan-starts) shows no-number size read e) r l)
                   (ap (λ (s : Signal). s .phases) (signals-at .holds r l) ∙ same-phases net pln r n);
             }
 
@@ -227,7 +231,7 @@ module _ {networkText planText table : List ℕ} {reading : Reading} {signals : 
                   within = asked .more;
                   time-is = t ∙ rw (asked .pass-at .time-is, seconds-is) (sym (time-suc net n));
                   step-starts = loaded-next networkText (pass .«step_at») n (counts .links) (asked .pass-at .step-starts) (counted .links) loaded;
-                  plan-starts = next-starts networkText planText valid counted (asked .more) (asked .pass-at .plan-starts) signals-at no-number size read e;
+                  plan-starts = next-starts networkText planText valid counted (asked .more) (asked .pass-at .plan-starts) shows no-number size read e;
                   signals-at = signals-next net pln n signals signals′ phases claims (lengthIn step) (counts .signals) signals-at shown claimed lawful (counted .signals) seconds-is on;
                   watches-size = moved .size;
                 });
