@@ -1,0 +1,5 @@
+mod Reading
+mod Same
+mod Rows
+mod Steps
+mod Whole
