@@ -19,7 +19,7 @@ use Rattle.tables.specs.Fields.{signalIn, linkIn}
 use Rattle.split_model.specs.Numbering.{rank}
 use Rattle.split_model.proofs.Tests.{or-left, or-right}
 use Rattle.split_model.proofs.Numbering.{rank-more, rank-same, rank-le}
-use Rattle.half_tables.specs.Tables.{isIn, linksIn, MovementAsked, MovementsAsked}
+use Rattle.half_tables.specs.Tables.{isIn, linksIn}
 use Rattle.half_tables.specs.Marks.{LinksMarked, signalMarked, outsideHas, SignalsAsked, SignalsMarked, MovementsMarked, hasMark, NumberAsked, Numbered}
 
 -- a number of a list in which one is set
@@ -164,9 +164,6 @@ module _ {links half : List ℕ} {count : ℕ} {old : List ℕ} (a : SignalsAske
   signals-all {i = i} t h = let z : i ≡ count = omega (arith, t .few) in rw z at (t .marked)
 
 -- ---- `mark_movements`
-pub movement-asked : {movements half : List ℕ} {count : ℕ} → MovementsAsked movements half count → {j : ℕ} → j < count → MovementAsked movements half j
-movement-asked a {j} h = record { few = omega (arith, a .few); size = a .size; half-size = a .half-size; links = λ side l. a .links j side h l }
-
 pub record MarkedTo (movements half : List ℕ) (count : ℕ) (old marks : List ℕ) (j : ℕ) : Type 0 where
   pub few : j ≤ count
   pub size : length marks ≡ length old

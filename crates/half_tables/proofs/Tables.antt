@@ -15,7 +15,7 @@ use Rattle.tables.specs.Tables.{MovementTable}
 use Rattle.tables.proofs.Tables.{from-link-at, to-link-at}
 use Rattle.split_model.specs.Numbering.{rank}
 use Rattle.split_model.specs.Halves.{Half, inside}
-use Rattle.half_tables.specs.Tables.{signalsAt, movementsAt, isIn, linksIn, HalfTable}
+use Rattle.half_tables.specs.Tables.{signalsAt, movementsAt, isIn, linksIn, HalfTable, MovementAsked, MovementsAsked}
 
 -- a number from 1, where the test holds
 pub in-where : (half : List ℕ) (place : ℕ) (test : Bool) (n : ℕ) → getD half place 0 ≡ only test (suc n) → isIn half place ≡ test
@@ -66,3 +66,7 @@ module _ {network : List Line} {h : Half} {half : List ℕ} (t : HalfTable netwo
 
   pub movement-in : (j : ℕ) → j < movementCount network → isIn half (movementsAt + j) ≡ inside network h j
   movement-in j l = in-where half (movementsAt + j) (inside network h j) (rank (inside network h) j) (t .movements j l)
+
+-- one of the movements
+pub movement-asked : {movements half : List ℕ} {count : ℕ} → MovementsAsked movements half count → {j : ℕ} → j < count → MovementAsked movements half j
+movement-asked a {j} h = record { few = omega (arith, a .few); size = a .size; half-size = a .half-size; links = λ side l. a .links j side h l }

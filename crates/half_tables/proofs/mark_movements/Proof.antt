@@ -1,7 +1,8 @@
 -- `half_tables::mark_movements` meets its contract. Assumes nothing.
 use Prim.Native.Nat.{_-_}
 use native.Mathlib.Omega.{arith}
-use Rattle.half_tables.proofs.Marks.{movement-asked, MarkedTo, marked-none, marked-next, marked-all}
+use Rattle.half_tables.proofs.Tables.{movement-asked}
+use Rattle.half_tables.proofs.Marks.{MarkedTo, marked-none, marked-next, marked-all}
 use borrow.Author.Needs.{needs}
 use Rattle.half_tables.proofs.mark_movements.Statement.{statement}
 use Rattle.half_tables.proofs.mark_movements.Tie as tie

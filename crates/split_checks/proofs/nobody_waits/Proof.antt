@@ -1,0 +1,52 @@
+-- `split_checks::nobody_waits` meets its contract. Assumes nothing.
+use Prim.Native.Nat.{_-_, _≤_}
+use mathlib.Core.Path.{_≡_}
+use mathlib.Core.Bool.{true}
+use Rattle.model.specs.Test.{every}
+use Rattle.split_checks.specs.Tables.{noneWaitIn}
+use Rattle.split_checks.proofs.Tests.{none-tested, all-tested}
+use Rattle.split_checks.proofs.Tables.{waits-fail, waits-next}
+use borrow.Author.Needs.{needs}
+use Rattle.split_checks.proofs.nobody_waits.Statement.{statement}
+use Rattle.split_checks.proofs.nobody_waits.Tie as tie
+
+abbrev Inv-loop : tie.InvT-loop
+Inv-loop links count i₀ i = (i ≤ count) × (every i (noneWaitIn links) ≡ true)
+
+abbrev μ-loop : tie.MeasureT-loop
+μ-loop links count i₀ i = count - i
+
+loop-holds : tie.Need-loop-holds Inv-loop μ-loop
+loop-holds c = search (none-tested, needs)
+
+waiting-at-start-requires : tie.Need-waiting-at-start-requires Inv-loop μ-loop
+waiting-at-start-requires c κs = search needs
+
+returns : tie.Need-returns Inv-loop μ-loop
+returns c = search (waits-fail, needs)
+
+add-i : tie.Need-add-i Inv-loop μ-loop
+add-i c = search needs
+
+loop-less : tie.Need-loop-less Inv-loop μ-loop
+loop-less c = search needs
+
+loop-again : tie.Need-loop-again Inv-loop μ-loop
+loop-again c = search (waits-next, needs)
+
+returns-2 : tie.Need-returns-2 Inv-loop μ-loop
+returns-2 c = search (all-tested, needs)
+
+pub nobody-waits-spec : {M : Type 1} → statement M
+nobody-waits-spec =
+    tie.close
+    (tie.spec
+    Inv-loop
+    μ-loop
+    loop-holds
+    waiting-at-start-requires
+    returns
+    add-i
+    loop-less
+    loop-again
+    returns-2)

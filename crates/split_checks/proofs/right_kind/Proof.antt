@@ -1,0 +1,39 @@
+-- `split_checks::right_kind` meets its contract. Assumes nothing.
+use Rattle.half_tables.proofs.Tables.{movement-asked}
+use Rattle.split_checks.proofs.Tables.{place-asked, inside-kind, border-kind}
+use borrow.Author.Needs.{needs}
+use Rattle.split_checks.proofs.right_kind.Statement.{statement}
+use Rattle.split_checks.proofs.right_kind.Tie as tie
+
+links-in-requires : tie.Need-links-in-requires
+links-in-requires c κs = search (movement-asked, needs)
+
+returns : tie.Need-returns
+returns c = search (inside-kind, needs)
+
+link-place-requires : tie.Need-link-place-requires
+link-place-requires c κs = search (place-asked, needs)
+
+signal-of-requires : tie.Need-signal-of-requires
+signal-of-requires c κs = search needs
+
+exit-rate-requires : tie.Need-exit-rate-requires
+exit-rate-requires c κs = search needs
+
+stands-alone-requires : tie.Need-stands-alone-requires
+stands-alone-requires c κs = search needs
+
+returns-2 : tie.Need-returns-2
+returns-2 c = search (border-kind, needs)
+
+pub right-kind-spec : {M : Type 1} → statement M
+right-kind-spec =
+    tie.close
+    (tie.spec
+    links-in-requires
+    returns
+    link-place-requires
+    signal-of-requires
+    exit-rate-requires
+    stands-alone-requires
+    returns-2)

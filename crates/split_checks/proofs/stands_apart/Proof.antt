@@ -1,0 +1,35 @@
+-- `split_checks::stands_apart` meets its contract. Assumes nothing.
+use Rattle.half_tables.proofs.Tables.{movement-asked}
+use Rattle.split_checks.proofs.Tables.{apart-told}
+use borrow.Author.Needs.{needs}
+use Rattle.split_checks.proofs.stands_apart.Statement.{statement}
+use Rattle.split_checks.proofs.stands_apart.Tie as tie
+
+links-in-requires : tie.Need-links-in-requires
+links-in-requires c κs = search (movement-asked, needs)
+
+link-of-requires : tie.Need-link-of-requires
+link-of-requires c κs = search needs
+
+link-of-requires-2 : tie.Need-link-of-requires-2
+link-of-requires-2 c κs = search needs
+
+link-of-requires-3 : tie.Need-link-of-requires-3
+link-of-requires-3 c κs = search needs
+
+link-of-requires-4 : tie.Need-link-of-requires-4
+link-of-requires-4 c κs = search needs
+
+returns : tie.Need-returns
+returns c = search (apart-told, needs)
+
+pub stands-apart-spec : {M : Type 1} → statement M
+stands-apart-spec =
+    tie.close
+    (tie.spec
+    links-in-requires
+    link-of-requires
+    link-of-requires-2
+    link-of-requires-3
+    link-of-requires-4
+    returns)

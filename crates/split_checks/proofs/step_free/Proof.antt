@@ -1,0 +1,52 @@
+-- `split_checks::step_free` meets its contract. Assumes nothing.
+use Prim.Native.Nat.{_-_, _≤_}
+use mathlib.Core.Path.{_≡_}
+use mathlib.Core.Bool.{true}
+use Rattle.model.specs.Test.{every}
+use Rattle.tables.specs.Fields.{demandIn}
+use Rattle.split_checks.specs.Tables.{demandFreeIn}
+use Rattle.split_checks.proofs.Tests.{none-tested, test-fails, test-holds, all-tested}
+use borrow.Author.Needs.{needs}
+use Rattle.split_checks.proofs.step_free.Statement.{statement}
+use Rattle.split_checks.proofs.step_free.Tie as tie
+
+abbrev Inv-loop : tie.InvT-loop
+Inv-loop step movements half count j₀ j = (j ≤ count) × (every j (demandFreeIn (demandIn step) movements half) ≡ true)
+
+abbrev μ-loop : tie.MeasureT-loop
+μ-loop step movements half count j₀ j = count - j
+
+loop-holds : tie.Need-loop-holds Inv-loop μ-loop
+loop-holds c = search (none-tested, needs)
+
+demand-free-requires : tie.Need-demand-free-requires Inv-loop μ-loop
+demand-free-requires c κs = search needs
+
+returns : tie.Need-returns Inv-loop μ-loop
+returns c = search (test-fails, needs)
+
+add-j : tie.Need-add-j Inv-loop μ-loop
+add-j c = search needs
+
+loop-less : tie.Need-loop-less Inv-loop μ-loop
+loop-less c = search needs
+
+loop-again : tie.Need-loop-again Inv-loop μ-loop
+loop-again c = search (test-holds, needs)
+
+returns-2 : tie.Need-returns-2 Inv-loop μ-loop
+returns-2 c = search (all-tested, needs)
+
+pub step-free-spec : {M : Type 1} → statement M
+step-free-spec =
+    tie.close
+    (tie.spec
+    Inv-loop
+    μ-loop
+    loop-holds
+    demand-free-requires
+    returns
+    add-j
+    loop-less
+    loop-again
+    returns-2)
