@@ -1,0 +1,11 @@
+-- `split::has_room` meets its contract. Assumes nothing.
+use Rattle.split.proofs.Writing.{room-is}
+use borrow.Author.Needs.{needs}
+use Rattle.split.proofs.has_room.Statement.{statement}
+use Rattle.split.proofs.has_room.Tie as tie
+
+returns : tie.Need-returns
+returns c = search (room-is, needs)
+
+pub has-room-spec : {M : Type 1} → statement M
+has-room-spec = tie.close (tie.spec returns)
