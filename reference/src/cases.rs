@@ -1,6 +1,7 @@
 //! Test cases with the answers of this implementation, for programs that judge
 //! the same texts in another way. `stored` says how they are kept in a file.
 
+mod bordered;
 mod carried;
 mod carry_calls;
 mod comparison_calls;
@@ -23,12 +24,15 @@ mod scenario;
 mod sheet;
 mod sheet_calls;
 mod special;
+mod split_file;
+mod splits;
 mod state_calls;
 mod stored;
 mod street_file;
 mod streets;
 mod trams;
 
+pub use bordered::{bordered_scenario, borders, halves};
 pub use corridor_file::encode_corridors;
 pub use corridors::{draw_corridor, stored_corridors, CorridorCase};
 pub use damage::damage;
@@ -36,6 +40,8 @@ pub use listings::shuffled_listing;
 pub use padding::pad;
 pub use random::Random;
 pub use scenario::{Scenario, Size, Traffic};
+pub use split_file::encode_splits;
+pub use splits::{largest_splits, split_questions, stored_splits, SplitCase, SplitQuestion};
 pub use stored::{decode, encode, Stored};
 pub use street_file::encode_streets;
 pub use streets::{draw_street, stored_streets, Street, StreetCase};

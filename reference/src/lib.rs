@@ -16,6 +16,7 @@ mod network;
 mod past;
 mod plan;
 mod report;
+mod split;
 mod state;
 mod text;
 pub mod traces;
@@ -150,4 +151,16 @@ pub fn compare_plans(
     ledgers: [&mut [u32]; 2],
 ) -> Result<Comparison, RefusedPlan> {
     comparison::compare(network, plans, ledgers)
+}
+
+/// The network's refusals, 40, 41, 9 and 42. Writes network and plan of the first
+/// half, of the links whose bits are set, then of the second, and gives the four
+/// lengths.
+pub fn split(
+    network: &[u8],
+    plan: &[u8],
+    first_half: u64,
+    buffers: [&mut [u8]; 4],
+) -> Result<[usize; 4], Refusal> {
+    split::split(network, plan, first_half, buffers)
 }

@@ -4,6 +4,7 @@ use crate::arrivals::Arrived;
 use crate::network::{Link, Movement, Network};
 use crate::text::{write_record, Line, Lines};
 use crate::{Refusal, Totals};
+use std::borrow::Cow;
 use std::ops::Range;
 
 /// One `P` line.
@@ -72,14 +73,8 @@ pub fn judge(network: &Network, plan_text: &[u8], ledger: &mut [u32]) -> Result<
     let mut passed = Passed::before_step_1(network);
     passed.write_row(0, ledger);
 
-    // An empty plan text stands for one that holds.
-    let hold = text(&vec![PlanStep::of_hold(network); network.steps.len()]);
-    let meant = if plan_text.is_empty() {
-        &hold
-    } else {
-        plan_text
-    };
-    let mut lines = Lines::new(meant);
+    let meant = meant(network, plan_text);
+    let mut lines = Lines::new(&meant);
     let mut steps = Vec::new();
     for number in 1..=network.steps.len() {
         let step = read_step(&lines.take(), network)?;
@@ -91,6 +86,30 @@ pub fn judge(network: &Network, plan_text: &[u8], ledger: &mut [u32]) -> Result<
         return Err(malformed(line));
     }
     Ok(Judged { steps, passed })
+}
+
+/// The steps of a plan text, of which only the form is judged.
+pub fn read_steps(network: &Network, plan_text: &[u8]) -> Result<Vec<PlanStep>, Refusal> {
+    let meant = meant(network, plan_text);
+    let mut lines = Lines::new(&meant);
+    let mut steps = Vec::new();
+    for _ in &network.steps {
+        steps.push(read_step(&lines.take(), network)?);
+    }
+    match lines.surplus() {
+        Some(line) => Err(malformed(line)),
+        None => Ok(steps),
+    }
+}
+
+/// An empty plan text stands for one that holds.
+fn meant<'a>(network: &Network, plan_text: &'a [u8]) -> Cow<'a, [u8]> {
+    if plan_text.is_empty() {
+        let steps = vec![PlanStep::of_hold(network); network.steps.len()];
+        text(&steps).into()
+    } else {
+        plan_text.into()
+    }
 }
 
 /// Judges one step and adds it to the steps that have passed.

@@ -113,72 +113,32 @@ impl Scenario {
     }
 
     fn make_from_start(random: &mut Random, size: Size, traffic: Traffic) -> Scenario {
-        let lengths = draw_lengths(random, size.steps, traffic);
-        let trams = draw_trams(random, size);
-        let mut signals = Vec::new();
-        let mut schedules = Vec::new();
-        for index in 0..size.signals {
-            let is_ordinary = |&step: &usize| tram_at(&trams, index, step).is_none();
-            let ordinary: Vec<usize> = (0..size.steps).filter(is_ordinary).collect();
-            let (signal, schedule) = draw_signal(random, &lengths, &ordinary);
-            signals.push(signal);
-            schedules.push(schedule);
-        }
-        let timing = Timing {
-            lengths,
-            trams,
-            signals,
-            schedules,
-        };
+        let timing = draw_timing(random, size, traffic);
         Scenario::make_with_timing(random, size, traffic, timing)
     }
 
-    /// All the rest is drawn, the trams' phases too.
+    /// All the rest is drawn.
     pub fn make_with_timing(
         random: &mut Random,
         size: Size,
         traffic: Traffic,
         timing: Timing,
     ) -> Scenario {
-        let Timing {
-            lengths,
-            mut trams,
-            signals,
-            schedules,
-        } = timing;
-        for tram in &mut trams {
-            let phases = signals[tram.signal as usize - 1].phases.len() as u64;
-            tram.phase = random.between(1, phases);
-        }
-        let times = boundary_times(lengths.iter().copied());
-        let mut links: Vec<Link> = (0..size.links)
-            .map(|_| draw_link(random, traffic, &signals, &times))
-            .collect();
-        if traffic == Traffic::Extreme {
-            // The first link is full or empty and always open.
-            links[0].signal = 0;
-            links[0].phase_mask = 0;
-            links[0].standing = random.pick(&[0, links[0].capacity]);
-        }
-        let movements = draw_movements(random, traffic, size);
-        let steps = lengths
-            .iter()
-            .map(|&length| Step {
-                length,
-                demand: (0..size.links)
-                    .map(|_| draw_demand(random, traffic))
-                    .collect(),
-            })
-            .collect();
-        let network = Network {
-            trams,
-            signals,
-            links,
-            movements,
-            past: Vec::new(),
-            steps,
-        };
-        simulate(random, network, traffic, &schedules)
+        let network = draw_network(random, size, traffic, &timing);
+        simulate(random, network, traffic, &timing.schedules)
+    }
+
+    /// A network drawn as others, then changed, but for its signals and steps.
+    pub fn make_changed(
+        random: &mut Random,
+        size: Size,
+        traffic: Traffic,
+        change: impl FnOnce(&mut Random, &mut Network),
+    ) -> Scenario {
+        let timing = draw_timing(random, size, traffic);
+        let mut network = draw_network(random, size, traffic, &timing);
+        change(random, &mut network);
+        simulate(random, network, traffic, &timing.schedules)
     }
 
     pub fn step_count(&self) -> usize {
@@ -324,6 +284,65 @@ impl Scenario {
     /// The movements from a link, all from index 0.
     pub fn movements_from(&self, link: usize) -> Vec<usize> {
         movements_from(&self.network, link)
+    }
+}
+
+fn draw_timing(random: &mut Random, size: Size, traffic: Traffic) -> Timing {
+    let lengths = draw_lengths(random, size.steps, traffic);
+    let trams = draw_trams(random, size);
+    let mut signals = Vec::new();
+    let mut schedules = Vec::new();
+    for index in 0..size.signals {
+        let is_ordinary = |&step: &usize| tram_at(&trams, index, step).is_none();
+        let ordinary: Vec<usize> = (0..size.steps).filter(is_ordinary).collect();
+        let (signal, schedule) = draw_signal(random, &lengths, &ordinary);
+        signals.push(signal);
+        schedules.push(schedule);
+    }
+    Timing {
+        lengths,
+        trams,
+        signals,
+        schedules,
+    }
+}
+
+/// Links, movements, demand and the trams' phases.
+fn draw_network(random: &mut Random, size: Size, traffic: Traffic, timing: &Timing) -> Network {
+    let mut trams = timing.trams.clone();
+    let signals = timing.signals.clone();
+    for tram in &mut trams {
+        let phases = signals[tram.signal as usize - 1].phases.len() as u64;
+        tram.phase = random.between(1, phases);
+    }
+    let times = boundary_times(timing.lengths.iter().copied());
+    let mut links: Vec<Link> = (0..size.links)
+        .map(|_| draw_link(random, traffic, &signals, &times))
+        .collect();
+    if traffic == Traffic::Extreme {
+        // The first link is full or empty and always open.
+        links[0].signal = 0;
+        links[0].phase_mask = 0;
+        links[0].standing = random.pick(&[0, links[0].capacity]);
+    }
+    let movements = draw_movements(random, traffic, size);
+    let steps = timing
+        .lengths
+        .iter()
+        .map(|&length| Step {
+            length,
+            demand: (0..size.links)
+                .map(|_| draw_demand(random, traffic))
+                .collect(),
+        })
+        .collect();
+    Network {
+        trams,
+        signals,
+        links,
+        movements,
+        past: Vec::new(),
+        steps,
     }
 }
 
@@ -518,7 +537,7 @@ fn draw_movements(random: &mut Random, traffic: Traffic, size: Size) -> Vec<Move
 
 /// Shares that sum to 1000. Shares of a coarse unit let small volumes be
 /// parted exactly.
-fn draw_shares(random: &mut Random, count: usize) -> Vec<u64> {
+pub fn draw_shares(random: &mut Random, count: usize) -> Vec<u64> {
     if count == 0 {
         return Vec::new();
     }

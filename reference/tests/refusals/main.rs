@@ -8,5 +8,6 @@ mod network;
 mod past;
 mod plan;
 mod sheet;
+mod split;
 mod state;
 mod trams;
