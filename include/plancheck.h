@@ -4,7 +4,7 @@
  * Decides whether a traffic-signal plan may run on a network under the Queue Transmission Model, and what travel time
  * it gives. Calls: check a network, what it has, check a plan, the state of one link, and carry on from a boundary; beside
  * them, which of two plans is ahead, a plan from a solver's listing, whether a plan keeps a fixed-time sheet, a plan for a
- * sheet, a run of a corridor in cells, and a step of vehicles along a street.
+ * sheet, a network and a plan split between two boxes, a run of a corridor in cells, and a step of vehicles along a street.
  *
  *     static uint32_t ledger[PLANCHECK_LEDGER_MAX];
  *
@@ -81,7 +81,7 @@
  *   - A pointer is not NULL, except where its length is 0: then NULL will do, and so will any aligned address.
  *   - A text pointer is readable for its length in bytes; a ledger pointer is aligned for uint32_t and is readable
  *     (and, for a call that judges a plan, writable) for its length in numbers. The buffer of a call that writes a text is
- *     writable for its length in bytes, and overlaps no text and no ledger.
+ *     writable for its length in bytes, and overlaps no text, no ledger and no other buffer.
  *   - A ledger lent to a call that writes it overlaps no text and no other ledger. The texts may overlap each other.
  *   - A pointer to doubles is aligned for double and is readable (the places of plancheck_step_vehicles also writable)
  *     for its length in doubles. The places overlap neither the advances nor the red lines.
@@ -94,8 +94,8 @@
  * It keeps nothing between calls and uses no heap, no global or static data, no file and no errno. The answer depends
  * on the arguments alone. The calls are re-entrant and may run in several threads at once, each that writes a ledger with
  * one of its own. A call always returns, after work that grows linearly with the lengths of the texts and with
- * K * (R + L + M), of a listing and a sheet too, of a corridor with cells * demands, and of a step with vehicles * red
- * lines. Of a network with a past each link reads the H lines within its travel time once more.
+ * K * (R + L + M), of a listing and a sheet too, of a split also with M * M, of a corridor with cells * demands, and of a
+ * step with vehicles * red lines. Of a network with a past each link reads the H lines within its travel time once more.
  * The library needs memcpy and memset from the C library, at most.
  *
  * MEMORY
@@ -285,6 +285,17 @@ enum plancheck_number {
        No line. Item: signal. */
     PLANCHECK_SHEET_OFF_BOUNDARIES = 35,
 
+    /* Splitting. No line, no item. Judged after the network's: 40, 41, then 9 of the plan, then 42. */
+
+    /* A half has no links, the set has a link above L, the network has H lines or waiting volume, or a border movement
+       leaves a link that has a signal, an exit rate or another movement, or enters one that has demand or a second border
+       movement. */
+    PLANCHECK_CANNOT_SPLIT = 40,
+    /* A signal has links in both halves. */
+    PLANCHECK_DIVIDED_SIGNAL = 41,
+    /* One of the four buffers is shorter than its text. Judged last. */
+    PLANCHECK_SPLIT_BUFFER_TOO_SHORT = 42,
+
     /* Corridor text. No item. */
 
     /* A line is missing, unfinished, surplus, has a wrong letter, a bad number or a wrong number of fields, or a value is
@@ -381,6 +392,17 @@ typedef struct {
     int64_t gap;    /* doubled time of the first minus that of the second: negative when the first is quicker */
 } plancheck_comparison_result;
 
+/* Answer of plancheck_split. 48 bytes, of which the 4 after item are padding. */
+typedef struct {
+    uint32_t number; /* PLANCHECK_OK: the four texts are written */
+    uint32_t line;
+    uint32_t item;
+    size_t network_1; /* length of the network text of the first half, in bytes */
+    size_t plan_1;    /* of its plan text */
+    size_t network_2; /* of the network text of the second half */
+    size_t plan_2;    /* of its plan text */
+} plancheck_split_result;
+
 /* Answer of plancheck_run_cells. 288 bytes. */
 typedef struct {
     uint32_t number; /* PLANCHECK_OK: the corridor was run */
@@ -406,6 +428,7 @@ PLANCHECK_ASSERT(link_result, sizeof(plancheck_link_result) == 20);
 PLANCHECK_ASSERT(text_result, sizeof(plancheck_text_result) == (sizeof(size_t) == 8 ? 24 : 16));
 PLANCHECK_ASSERT(comparison_result, sizeof(plancheck_comparison_result) == 32);
 PLANCHECK_ASSERT(comparison_gap, offsetof(plancheck_comparison_result, gap) == 24);
+PLANCHECK_ASSERT(split_result, sizeof(plancheck_split_result) == (sizeof(size_t) == 8 ? 48 : 28));
 PLANCHECK_ASSERT(cells_result, sizeof(plancheck_cells_result) == 288);
 PLANCHECK_ASSERT(cells_flows, offsetof(plancheck_cells_result, flow_in) == 16);
 #undef PLANCHECK_ASSERT
@@ -526,6 +549,32 @@ plancheck_plan_result plancheck_check_sheet(const uint8_t *network, size_t netwo
  */
 plancheck_text_result plancheck_plan_from_sheet(const uint8_t *network, size_t network_len, const uint8_t *sheet,
                                                 size_t sheet_len, uint8_t *plan, size_t plan_len);
+
+/*
+ * Splits a network and a plan between two boxes, by the set of the links in the first half: bit i - 1 for link i. Lines
+ * keep their order, and links, signals and movements are numbered anew in each half; a signal goes where its links are, one
+ * without links to the first half, and tram lines follow their signal. A movement between the halves is a border movement:
+ * its rate is the exit rate of the link that it leaves, and its volume is added to what is let out there, is the demand of
+ * the link that it enters, and is added to what is admitted there; a sum above 4294967295 is written as that number. The
+ * networks of the halves therefore go with this plan.
+ *
+ * The whole is accepted exactly when both halves are and, in every step, what is let out before each border is what is
+ * admitted behind it. The doubled times and the volumes inside then add up, and so do admitted and let out with the border
+ * volumes left out; the rows of a half are the columns of its links. Of a whole that is refused the refusals of the halves
+ * say nothing.
+ *
+ * Refusals 1 to 6, 28 and 30 of the network, then 40, 41, 9 of the plan's lines, and 42. No rule is tested and no ledger is
+ * lent: masks are written as they stand, and a border volume above 600000 is too, where plancheck_check_network then
+ * refuses the half (6). An empty plan text means hold: its K lines are written in both halves.
+ *
+ * Reads both texts. Writes the four texts, each at the start of its buffer, no leading zeros in them; the bytes past a text
+ * keep what they held, and a refusal leaves all of them as they were. PLANCHECK_NETWORK_TEXT_MAX bytes are always enough
+ * for a network, PLANCHECK_PLAN_TEXT_MAX for a plan.
+ */
+plancheck_split_result plancheck_split(const uint8_t *network, size_t network_len, const uint8_t *plan, size_t plan_len,
+                                       uint32_t first_half, uint8_t *network_1, size_t network_1_len, uint8_t *plan_1,
+                                       size_t plan_1_len, uint8_t *network_2, size_t network_2_len, uint8_t *plan_2,
+                                       size_t plan_2_len);
 
 /*
  * Runs a corridor in cells (the Cell Transmission Model), one step a demand. Refusals 36 and 37, line by line.
