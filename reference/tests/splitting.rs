@@ -5,7 +5,7 @@
 use plancheck_reference::cases::{
     bordered_scenario, borders, encode_splits, halves, stored_splits, Random, Scenario,
 };
-use plancheck_reference::{check_plan, split, Network, Refusal, Totals};
+use plancheck_reference::{check_network, check_plan, split, Network, Refusal, Totals};
 
 struct Checked {
     answer: Result<Totals, Refusal>,
@@ -42,6 +42,7 @@ struct Seen {
     refused: u64,
     halves_alone: u64,
     with_border: u64,
+    half_network_refused: u64,
 }
 
 /// Where a link of the whole is in its half, from index 0.
@@ -61,6 +62,12 @@ fn try_plan(scenario: &Scenario, first_half: u64, plan: &[u8], seen: &mut Seen) 
     let lengths = split(&network_text, plan, first_half, lent).expect("it can be split");
     for (buffer, length) in buffers.iter_mut().zip(lengths) {
         buffer.truncate(length);
+    }
+    let is_too_large = has_too_large_demand(network, first_half, plan);
+    for (half, is_too_large) in [&buffers[0], &buffers[2]].into_iter().zip(is_too_large) {
+        let number = check_network(half).err().map(|refusal| refusal.number);
+        assert_eq!(number, is_too_large.then_some(6));
+        seen.half_network_refused += u64::from(is_too_large);
     }
     let whole = check(&network_text, plan, network.links.len(), steps);
     let count = (0..network.links.len())
@@ -90,6 +97,19 @@ fn try_plan(scenario: &Scenario, first_half: u64, plan: &[u8], seen: &mut Seen) 
     assert_eq!(totals.inside, sum(|totals| totals.inside));
     assert_eq!(totals.doubled_time, sum(|totals| totals.doubled_time));
     assert_same_columns(&whole, both, first_half, steps);
+}
+
+/// For each half whether some volume that comes over the border is above the
+/// greatest demand: its network is then refused, and else never.
+fn has_too_large_demand(network: &Network, first_half: u64, plan: &[u8]) -> [bool; 2] {
+    let mut is_too_large = [false; 2];
+    let movements = network.movements.len();
+    for border in borders(network, first_half) {
+        let (half, _) = place(first_half, network.movements[border].to as usize - 1);
+        let of_border = |line: &Vec<u64>| line[line.len() - movements + border];
+        is_too_large[half] |= numbers(plan).iter().any(|line| of_border(line) > 600_000);
+    }
+    is_too_large
 }
 
 /// The sum of all volumes over the border if what is let out before it is what is
@@ -159,6 +179,8 @@ fn with_other_number(random: &mut Random, plan: &[u8]) -> Vec<u8> {
         0,
         1,
         2,
+        600_000,
+        600_001,
     ];
     lines[line][field] = random.pick(&other).min(4_294_967_295);
     let join = |line: &Vec<u64>| {
@@ -187,6 +209,7 @@ fn the_whole_is_accepted_exactly_when_both_halves_are_and_match() {
         seen.refused,
         seen.halves_alone,
         seen.with_border,
+        seen.half_network_refused,
     ];
     assert!(counts.iter().all(|&count| count > 20), "{seen:?}");
 }
@@ -210,6 +233,34 @@ fn let_out_before_borders(
         };
         let plan: String = lines.iter().map(join).collect();
         try_plan(scenario, first_half, plan.as_bytes(), seen);
+    }
+}
+
+/// The avenue of `examples/split`, links 1 to 3 and 9 against the others.
+#[test]
+fn the_avenue_of_the_examples() {
+    let read = |name: &str| std::fs::read(format!("../examples/split/{name}")).unwrap();
+    let (network, plan) = (read("network.tsv"), read("plan.tsv"));
+    let mut buffers = [(); 4].map(|()| vec![0; 30_000]);
+    let lent = buffers.each_mut().map(|buffer| &mut buffer[..]);
+    let lengths = split(&network, &plan, 0b1_0000_0111, lent).unwrap();
+    let names = [
+        "first/network.tsv",
+        "first/plan.tsv",
+        "second/network.tsv",
+        "second/plan.tsv",
+    ];
+    for ((buffer, length), name) in buffers.iter().zip(lengths).zip(names) {
+        assert_eq!(buffer[..length], read(name), "{name}");
+    }
+    let avenue = ["network.tsv", "plan.tsv"].map(|name| {
+        let path = format!("../examples/avenue/{name}");
+        std::fs::read(path).unwrap()
+    });
+    for set in 1..(1 << 10) - 1 {
+        let nowhere = [(); 4].map(|()| &mut [][..]);
+        let refusal = split(&avenue[0], &avenue[1], set, nowhere).unwrap_err();
+        assert_eq!(refusal.number, 40);
     }
 }
 
