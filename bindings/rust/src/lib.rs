@@ -3,6 +3,9 @@
 #![deny(missing_docs)]
 #![warn(clippy::pedantic)]
 
+#[cfg(feature = "alloc")]
+extern crate alloc;
+
 mod carry;
 mod cells;
 mod comparison;
@@ -12,6 +15,7 @@ mod library;
 mod listing;
 mod refusal;
 mod sheets;
+mod split;
 mod traces;
 
 pub use carry::{carry_on, MAX_NETWORK_TEXT_LEN};
@@ -22,6 +26,9 @@ pub use ledger::{Rows, Volumes};
 pub use listing::{plan_from_listing, MAX_WRITTEN_PLAN_LEN};
 pub use refusal::{ItemKind, Reason, Refusal, Text};
 pub use sheets::{check_sheet, plan_from_sheet};
+#[cfg(feature = "alloc")]
+pub use split::split;
+pub use split::{split_into, Half};
 pub use traces::{step_vehicles, MAX_RED_LINES, MAX_VEHICLES};
 
 /// The greatest number of links of a network; there is at least one.

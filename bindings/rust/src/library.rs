@@ -83,6 +83,18 @@ pub struct ComparisonResult {
     pub gap: i64,
 }
 
+#[repr(C)]
+#[derive(Clone, Copy, Debug, PartialEq, Eq)]
+pub struct SplitResult {
+    pub number: u32,
+    pub line: u32,
+    pub item: u32,
+    pub network_1: usize,
+    pub plan_1: usize,
+    pub network_2: usize,
+    pub plan_2: usize,
+}
+
 extern "C" {
     pub fn plancheck_version() -> VersionResult;
 
@@ -161,6 +173,22 @@ extern "C" {
         second_ledger: *mut u32,
         second_ledger_len: usize,
     ) -> ComparisonResult;
+
+    pub fn plancheck_split(
+        network: *const u8,
+        network_len: usize,
+        plan: *const u8,
+        plan_len: usize,
+        first_half: u32,
+        network_1: *mut u8,
+        network_1_len: usize,
+        plan_1: *mut u8,
+        plan_1_len: usize,
+        network_2: *mut u8,
+        network_2_len: usize,
+        plan_2: *mut u8,
+        plan_2_len: usize,
+    ) -> SplitResult;
 
     pub fn plancheck_run_cells(corridor: *const u8, corridor_len: usize) -> CellsResult;
 

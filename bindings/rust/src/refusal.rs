@@ -172,6 +172,10 @@ reasons! {
         "a line is missing, unfinished or surplus, has a wrong letter, a bad number or a wrong number of fields, or a duration or the offset is outside its limits";
     SheetNotKept = 34, PLAN, SIGNAL, "a run does not last its duration";
     SheetOffBoundaries = 35, None, SIGNAL, "a run ends on no boundary, or a tram claims the signal";
+    CannotSplit = 40, None, None,
+        "a half has no links, the set has a link that there is not, something is past or waits, or a border movement is of another kind";
+    DividedSignal = 41, None, None, "a signal has links in both halves";
+    SplitBufferTooShort = 42, None, None, "a buffer is shorter than its text";
     CorridorForm = 36, CORRIDOR, None,
         "a line is missing, unfinished or surplus, has a wrong letter, a bad number or a wrong number of fields, or is beyond its limits";
     StartVolume = 37, CORRIDOR, None, "the start is above the cell's holding limit";

@@ -8,24 +8,22 @@ struct Example {
     expected: &'static str,
 }
 
-const CORRIDOR: Example = Example {
-    network: include_str!("../../../examples/corridor/network.tsv"),
-    plan: include_str!("../../../examples/corridor/plan.tsv"),
-    expected: include_str!("../../../examples/corridor/expected.txt"),
-};
+macro_rules! example {
+    ($folder:literal) => {
+        Example {
+            network: include_str!(concat!("../../../examples/", $folder, "/network.tsv")),
+            plan: include_str!(concat!("../../../examples/", $folder, "/plan.tsv")),
+            expected: include_str!(concat!("../../../examples/", $folder, "/expected.txt")),
+        }
+    };
+}
 
-const AVENUE: Example = Example {
-    network: include_str!("../../../examples/avenue/network.tsv"),
-    plan: include_str!("../../../examples/avenue/plan.tsv"),
-    expected: include_str!("../../../examples/avenue/expected.txt"),
-};
-
+const CORRIDOR: Example = example!("corridor");
+const AVENUE: Example = example!("avenue");
 /// Eight steps are past.
-const CARRY: Example = Example {
-    network: include_str!("../../../examples/carry/network.tsv"),
-    plan: include_str!("../../../examples/carry/plan.tsv"),
-    expected: include_str!("../../../examples/carry/expected.txt"),
-};
+const CARRY: Example = example!("carry");
+/// A network, and its two halves.
+const SPLIT: [Example; 3] = [example!("split"), example!("split/first"), example!("split/second")];
 
 /// The numbers of a record, without its letter.
 fn numbers(line: &str) -> Vec<u64> {
@@ -67,6 +65,13 @@ fn avenue() {
 #[test]
 fn carry() {
     judge(&CARRY);
+}
+
+#[test]
+fn split() {
+    for example in &SPLIT {
+        judge(example);
+    }
 }
 
 /// What is queued and in transit is what a link holds: entered minus left.
