@@ -3,14 +3,13 @@
 use crate::declarations::{
     ComparisonResult, CountsResult, LinkResult, NetworkResult, PlanResult, TextResult,
 };
+use crate::guarded::{Guarded, BYTE_GUARD};
 use crate::library;
 use plancheck_reference::cases::{Answer, Call, Outcome, Question};
 use plancheck_reference::{Network, Order, Refusal, RefusedPlan, State, Totals};
 
-/// What stands on both sides of what is lent, to see that nothing is written there.
+/// What stands on both sides of a ledger.
 const NUMBER_GUARD: u32 = 0xA5C3_96F0;
-const BYTE_GUARD: u8 = 0xA5;
-const GUARDS: usize = 4;
 
 /// All that a call of the library gives.
 #[derive(Clone, Copy, Debug, PartialEq, Eq)]
@@ -74,33 +73,6 @@ fn ask(question: &Question) -> Option<Asked> {
         second_ledger: second_ledger.inside().to_vec(),
         buffer: buffer.inside().to_vec(),
     })
-}
-
-/// Numbers or bytes between guards.
-struct Guarded<T> {
-    whole: Vec<T>,
-    guard: T,
-}
-
-impl<T: Copy + PartialEq> Guarded<T> {
-    fn new(inside: &[T], guard: T) -> Guarded<T> {
-        let guards = [guard; GUARDS];
-        Guarded {
-            whole: [&guards, inside, &guards].concat(),
-            guard,
-        }
-    }
-
-    fn inside(&mut self) -> &mut [T] {
-        let end = self.whole.len() - GUARDS;
-        &mut self.whole[GUARDS..end]
-    }
-
-    fn is_kept(&self) -> bool {
-        let end = self.whole.len() - GUARDS;
-        let guards = self.whole[..GUARDS].iter().chain(&self.whole[end..]);
-        guards.copied().all(|guard| guard == self.guard)
-    }
 }
 
 fn ask_library(question: &Question, ledgers: [&mut [u32]; 2], buffer: &mut [u8]) -> Option<Given> {

@@ -8,6 +8,7 @@ mod compare;
 #[allow(dead_code)]
 #[path = "../../../bindings/rust/src/library.rs"]
 mod declarations;
+mod guarded;
 mod inputs;
 mod library;
 
