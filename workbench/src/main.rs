@@ -4,6 +4,7 @@ mod command;
 mod commands;
 mod files;
 mod form;
+mod halves;
 mod judge;
 mod make;
 mod network;

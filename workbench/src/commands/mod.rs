@@ -10,6 +10,7 @@ mod make;
 mod rank;
 mod report;
 mod sheet;
+mod split;
 mod states;
 
 use crate::command::Command;
@@ -23,6 +24,7 @@ pub const ALL: &[Command] = &[
     rank::COMMAND,
     compare::COMMAND,
     carry::COMMAND,
+    split::COMMAND,
     listing::COMMAND,
     sheet::COMMAND,
     cells::COMMAND,

@@ -8,7 +8,8 @@ fn usage_tells_the_commands_that_there_are() {
     let said = workbench(&[]);
     assert_eq!(said.status, 0);
     for name in [
-        "check", "explain", "report", "states", "rank", "compare", "carry", "listing", "sheet", "cells", "make",
+        "check", "explain", "report", "states", "rank", "compare", "carry", "split", "listing", "sheet", "cells",
+        "make",
     ] {
         assert!(said.out.contains(&format!("\n  {name} ")), "{name}");
     }
@@ -32,6 +33,12 @@ fn wrong_commands() {
         &["rank", "--cvs", "a"],
         &["carry", "a", "one", "b"],
         &["carry", "a", "1"],
+        &["split", "a", "1"],
+        &["split", "a", "-o", "b"],
+        &["split", "a", "0", "-o", "b"],
+        &["split", "a", "1,33", "-o", "b"],
+        &["split", "a", "7-5", "-o", "b"],
+        &["split", "a", "1", "-o"],
         &["make", "x", "y"],
         &["make", "1"],
         &["make", "1", "y", "--junctions", "8"],
@@ -228,6 +235,90 @@ fn carry_writes_the_network_from_a_boundary_on() {
         "{}",
         said.err
     );
+}
+
+#[test]
+fn split_writes_both_halves() {
+    let out = scratch("split").join("new");
+    let name = out.display().to_string();
+    let said = workbench(&["split", &example("split"), "1-3,9", "-o", &name]);
+    assert_eq!((said.status, said.err.as_str()), (0, ""));
+    assert_eq!(
+        said.out,
+        format!(
+            "{name}/first: links 1, 2, 3, 9 of the whole, in this order\n\
+             {name}/second: links 4, 5, 6, 7, 8, 10, 11 of the whole, in this order\n"
+        )
+    );
+    for file in [
+        "first/network.tsv",
+        "first/plan.tsv",
+        "second/network.tsv",
+        "second/plan.tsv",
+    ] {
+        let expected = fs::read(example(&format!("split/{file}"))).unwrap();
+        assert_eq!(fs::read(out.join(file)).unwrap(), expected, "{file}");
+    }
+    for half in ["first", "second"] {
+        assert_eq!(workbench(&["check", &format!("{name}/{half}")]).status, 0);
+    }
+}
+
+#[test]
+fn split_refuses_and_writes_nothing() {
+    let out = scratch("split_refuses").join("new");
+    let name = out.display().to_string();
+    for (folder, links, reason) in [
+        (
+            "avenue",
+            "1-3",
+            "  from link 1 to link 8 a movement crosses, and link 1 has signal 1\n",
+        ),
+        (
+            "avenue",
+            "1-3",
+            "  from link 1 to link 8 a movement crosses, and another movement leaves link 1\n",
+        ),
+        (
+            "avenue",
+            "1-3",
+            "  from link 2 to link 8 a movement crosses, and another that crosses enters link 8\n",
+        ),
+        (
+            "split",
+            "1-2",
+            "  from link 1 to link 3 a movement crosses, and link 1 has signal 1\n",
+        ),
+        ("split", "1-11", "  the second half has no links\n"),
+        ("split", "1-3,9,12", "  there is no link 12\n"),
+        ("carry", "1", "  steps that are past: 8\n"),
+    ] {
+        let said = workbench(&["split", &example(folder), links, "-o", &name]);
+        assert_eq!((said.status, said.out.as_str()), (1, ""), "{folder} {links}");
+        assert!(said.err.contains("refused with 40: "), "{}", said.err);
+        assert!(said.err.contains(reason), "{}", said.err);
+    }
+    let folder = scratch("split_signal");
+    let network = "N\t2\t1\t0\t1\t0\t0\nG\t20\t60\t2\t1\t5\t5\t10\t30\t10\t30\nQ\t9\t10\t0\t1\t1\t0\t0\nQ\t9\t10\t0\t1\t2\t0\t0\nS\t10\t0\t0\n";
+    fs::write(folder.join("network.tsv"), network).unwrap();
+    fs::write(folder.join("plan.tsv"), "").unwrap();
+    let said = workbench(&["split", &folder.display().to_string(), "2", "-o", &name]);
+    assert_eq!((said.status, said.out.as_str()), (1, ""));
+    assert!(said.err.contains("refused with 41: "), "{}", said.err);
+    let words = "  signal 1: links 2 in the first half, 1 in the second\n";
+    assert!(said.err.contains(words), "{}", said.err);
+    let plan = fs::read_to_string(example("split/plan.tsv")).unwrap();
+    fs::copy(example("split/network.tsv"), folder.join("network.tsv")).unwrap();
+    fs::write(folder.join("plan.tsv"), plan.trim_end()).unwrap();
+    let said = workbench(&["split", &folder.display().to_string(), "1-3,9", "-o", &name]);
+    assert_eq!((said.status, said.out.as_str()), (1, ""));
+    assert!(
+        said.err
+            .contains("refused with 9 in step 24 (line 24 of the plan text, seconds "),
+        "{}",
+        said.err
+    );
+    assert!(!out.exists());
 }
 
 #[test]
