@@ -5,6 +5,7 @@
  *   - its number is one that the call tells, and all else is 0 where it is not 0;
  *   - only the rows of the boundaries that passed, or the bytes of the text that was written, have changed;
  *   - a network that is carried on is valid, and has the steps that are left;
+ *   - the halves of a split have what the whole has, and where the whole is accepted both are, and their times add up;
  *   - a plan that is written for a sheet has the masks of the sheet's cycle;
  *   - a plan that is ahead has a negative gap, one that is equal the gap 0, and two plans swapped are compared the other way round.
  * Before that every pointer is NULL once, with length 0.
@@ -16,12 +17,12 @@
 #include <inttypes.h>
 #include <sanitizer/common_interface_defs.h>
 
-enum { EXAMPLES = 4, AVENUE = 1, LEDGER_ROOM = 512, BUFFER_ROOM = 8192, DOUBLES_ROOM = 66 };
+enum { EXAMPLES = 4, AVENUE = 1, LEDGER_ROOM = 512, BUFFER_ROOM = 8192, DOUBLES_ROOM = 66, HALF_TEXTS = 4 };
 
-static struct example examples[EXAMPLES];
+static struct example examples[EXAMPLES], splittable;
 static struct text corridor, sheet, offsets;
 
-static struct region network_region, text_region, second_region, ledger_region, second_ledger_region, buffer_region, places_region, advances_region, lines_region;
+static struct region network_region, text_region, second_region, ledger_region, second_ledger_region, buffer_region, half_regions[HALF_TEXTS], places_region, advances_region, lines_region;
 
 static uint64_t seed, input;
 
@@ -39,7 +40,7 @@ static void tell_input(void)
     } while (0)
 
 /* How often each number was told. */
-static uint64_t told[40];
+static uint64_t told[43];
 
 static void count_number(uint32_t number)
 {
@@ -487,6 +488,118 @@ static void try_carry(void)
     count_number(number);
 }
 
+/* A network and a plan to be split, and the room for the network and the plan of the first half, then of the second. */
+struct splitting {
+    struct text network, plan;
+    uint32_t first_half;
+    size_t room[HALF_TEXTS];
+};
+
+/* Splits into buffers whose bytes are all `before`, and keeps what they hold then. */
+static plancheck_split_result ask_split(const struct splitting *asked, uint8_t before, uint8_t kept[HALF_TEXTS][BUFFER_ROOM], int at_end)
+{
+    const uint8_t *network_lent = lend(network_region, asked->network.bytes, asked->network.length, at_end);
+    const uint8_t *plan_lent = lend(text_region, asked->plan.bytes, asked->plan.length, at_end);
+    uint8_t *lent[HALF_TEXTS];
+    for (int k = 0; k < HALF_TEXTS; k++) {
+        lent[k] = place(half_regions[k], asked->room[k], at_end);
+        memset(lent[k], before, asked->room[k]);
+    }
+    plancheck_split_result result =
+        plancheck_split(network_lent, asked->network.length, plan_lent, asked->plan.length, asked->first_half, lent[0], asked->room[0], lent[1],
+                        asked->room[1], lent[2], asked->room[2], lent[3], asked->room[3]);
+    for (int k = 0; k < HALF_TEXTS; k++)
+        memcpy(kept[k], lent[k], asked->room[k]);
+    return result;
+}
+
+/* Links 1 to 3 and 9 of the example against the others, or the other way round; now and then another set. */
+static uint32_t some_set(void)
+{
+    uint32_t set = below(2) == 0 ? 0x107 : 0x6f8;
+    if (below(4) == 0)
+        set ^= (uint32_t)1 << below(32);
+    return below(20) == 0 ? below(2048) : set;
+}
+
+static void some_splitting(struct splitting *asked)
+{
+    const struct example *example = below(10) == 0 ? &examples[below(EXAMPLES)] : &splittable;
+    some_network(example, &asked->network);
+    asked->plan = example->plan;
+    if (below(2) == 0)
+        damage(&asked->plan);
+    if (below(20) == 0)
+        asked->plan.length = 0;
+    asked->first_half = some_set();
+    for (int k = 0; k < HALF_TEXTS; k++)
+        asked->room[k] = below(10) == 0 ? below(BUFFER_ROOM) : BUFFER_ROOM;
+}
+
+static plancheck_plan_result check_text(const uint8_t *network, size_t network_len, const uint8_t *plan, size_t plan_len)
+{
+    static uint32_t ledger[PLANCHECK_LEDGER_MAX];
+    return plancheck_check_plan(network, network_len, plan, plan_len, ledger, PLANCHECK_LEDGER_MAX);
+}
+
+/* What was written: a half's network is refused for a border's volume alone; the halves have what the whole has. */
+static void demand_halves(const struct splitting *asked, const size_t *lengths, uint8_t texts[HALF_TEXTS][BUFFER_ROOM])
+{
+    plancheck_counts_result whole = plancheck_network_counts(asked->network.bytes, asked->network.length), half[2];
+    for (int k = 0; k < 2; k++) {
+        half[k] = plancheck_network_counts(texts[2 * k], lengths[2 * k]);
+        DEMAND(half[k].number == 0 || half[k].number == PLANCHECK_STEP_VALUES);
+    }
+    if (half[0].number == 0 && half[1].number == 0) {
+        DEMAND(half[0].links + half[1].links == whole.links && half[0].signals + half[1].signals == whole.signals);
+        DEMAND(half[0].movements + half[1].movements <= whole.movements && half[0].trams + half[1].trams == whole.trams);
+        DEMAND(half[0].steps == whole.steps && half[1].steps == whole.steps);
+    }
+    plancheck_plan_result judged = check_text(asked->network.bytes, asked->network.length, asked->plan.bytes, asked->plan.length);
+    if (judged.number == 0) {
+        plancheck_plan_result first = check_text(texts[0], lengths[0], texts[1], lengths[1]);
+        plancheck_plan_result second = check_text(texts[2], lengths[2], texts[3], lengths[3]);
+        DEMAND(first.number == 0 && second.number == 0 && first.inside + second.inside == judged.inside);
+        DEMAND(first.doubled_time + second.doubled_time == judged.doubled_time);
+        DEMAND(first.admitted + second.admitted - judged.admitted == first.let_out + second.let_out - judged.let_out);
+    }
+}
+
+static int is_split_number(uint32_t number)
+{
+    return is_network_number(number) || number == PLANCHECK_PLAN_FORM || (number >= PLANCHECK_CANNOT_SPLIT && number <= PLANCHECK_SPLIT_BUFFER_TOO_SHORT);
+}
+
+static void try_split(void)
+{
+    static struct splitting asked;
+    static uint8_t kept[2][HALF_TEXTS][BUFFER_ROOM];
+    some_splitting(&asked);
+    plancheck_split_result first = ask_split(&asked, 0xaa, kept[0], 1), second = ask_split(&asked, 0x55, kept[1], 0);
+    DEMAND(first.number == second.number && first.line == second.line && first.item == second.item);
+    const size_t lengths[HALF_TEXTS] = {first.network_1, first.plan_1, first.network_2, first.plan_2};
+    const size_t again[HALF_TEXTS] = {second.network_1, second.plan_1, second.network_2, second.plan_2};
+    for (int text = 0; text < HALF_TEXTS; text++) {
+        DEMAND(lengths[text] == again[text] && (first.number == 0 ? lengths[text] <= asked.room[text] : lengths[text] == 0));
+        for (size_t k = 0; k < asked.room[text]; k++)
+            DEMAND(k < lengths[text] ? kept[0][text][k] == kept[1][text][k] : kept[0][text][k] == 0xaa && kept[1][text][k] == 0x55);
+    }
+    count_number(first.number);
+    if (first.number != 0) {
+        DEMAND(is_split_number(first.number));
+        return;
+    }
+    demand_halves(&asked, lengths, kept[0]);
+    /* Buffers of just these lengths will do, and with one a byte shorter nothing is written. */
+    memcpy(asked.room, lengths, sizeof lengths);
+    DEMAND(ask_split(&asked, 0xaa, kept[1], 1).number == 0);
+    asked.room[below(HALF_TEXTS)]--;
+    DEMAND(ask_split(&asked, 0xaa, kept[1], 0).number == PLANCHECK_SPLIT_BUFFER_TOO_SHORT);
+    for (int text = 0; text < HALF_TEXTS; text++)
+        for (size_t k = 0; k < asked.room[text]; k++)
+            DEMAND(kept[1][text][k] == 0xaa);
+}
+
 static plancheck_cells_result ask_cells(const struct text *text, int at_end)
 {
     return plancheck_run_cells(lend(text_region, text->bytes, text->length, at_end), text->length);
@@ -571,6 +684,10 @@ static void try_null(void)
     DEMAND(plancheck_check_sheet(network->bytes, network->length, NULL, 0, NULL, 0, NULL, 0).number == 33);
     DEMAND(plancheck_plan_from_sheet(NULL, 0, NULL, 0, NULL, 0).number == 1);
     DEMAND(plancheck_plan_from_sheet(network->bytes, network->length, NULL, 0, NULL, 0).number == 33);
+    network = &splittable.network;
+    DEMAND(plancheck_split(NULL, 0, NULL, 0, 0, NULL, 0, NULL, 0, NULL, 0, NULL, 0).number == 1);
+    DEMAND(plancheck_split(network->bytes, network->length, NULL, 0, 0, NULL, 0, NULL, 0, NULL, 0, NULL, 0).number == 40);
+    DEMAND(plancheck_split(network->bytes, network->length, NULL, 0, 0x107, NULL, 0, NULL, 0, NULL, 0, NULL, 0).number == 42);
     DEMAND(plancheck_run_cells(NULL, 0).number == 36);
     double place = 1.0;
     const double advance = 1.0;
@@ -591,6 +708,9 @@ static void read_examples(const char *examples_folder)
         snprintf(folder, sizeof folder, "%s/listing", examples_folder);
         read_example(&examples[k].listing, folder, "listing.txt");
     }
+    snprintf(folder, sizeof folder, "%s/split", examples_folder);
+    read_example(&splittable.network, folder, "network.tsv");
+    read_example(&splittable.plan, folder, "plan.tsv");
     snprintf(folder, sizeof folder, "%s/cells", examples_folder);
     read_example(&corridor, folder, "corridor.tsv");
     snprintf(folder, sizeof folder, "%s/sheet", examples_folder);
@@ -615,6 +735,8 @@ int main(int count, char **arguments)
     ledger_region = new_region(4 * LEDGER_ROOM);
     second_ledger_region = new_region(4 * LEDGER_ROOM);
     buffer_region = new_region(BUFFER_ROOM);
+    for (int k = 0; k < HALF_TEXTS; k++)
+        half_regions[k] = new_region(BUFFER_ROOM);
     places_region = new_region(sizeof(double) * DOUBLES_ROOM);
     advances_region = new_region(sizeof(double) * DOUBLES_ROOM);
     lines_region = new_region(sizeof(double) * DOUBLES_ROOM);
@@ -622,7 +744,7 @@ int main(int count, char **arguments)
     plancheck_version_result version = plancheck_version();
     DEMAND(version.major == PLANCHECK_VERSION_MAJOR && version.minor == PLANCHECK_VERSION_MINOR && version.patch == PLANCHECK_VERSION_PATCH);
     try_null();
-    static void (*const calls[])(void) = {try_network, try_counts, try_plan, try_plan, try_comparison, try_link, try_carry, try_listing, try_sheet, try_sheet_plan, try_cells, try_vehicles};
+    static void (*const calls[])(void) = {try_network, try_counts, try_plan, try_plan, try_comparison, try_link, try_carry, try_listing, try_sheet, try_sheet_plan, try_split, try_cells, try_vehicles};
     for (input = 0; input < inputs; input++)
         calls[below(sizeof calls / sizeof calls[0])]();
     printf("number\ttold\n");
