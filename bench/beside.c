@@ -11,6 +11,7 @@
  *     check_sheet NETWORK PLAN SHEET
  *     plan_from_sheet NETWORK SHEET
  *     compare_plans NETWORK FIRST SECOND
+ *     split NETWORK PLAN                           links 1 to 12 are the first half
  *     run_cells CORRIDOR
  *     step_vehicles PLACES ADVANCES RED_LINES      doubles in the machine's order
  */
@@ -27,6 +28,8 @@ static const double SPACING = 7.5;
 static struct text texts[MAX_FILES];
 static uint8_t plan[PLANCHECK_WRITTEN_PLAN_MAX];
 static uint8_t carried[PLANCHECK_NETWORK_TEXT_MAX];
+static uint8_t network_1[PLANCHECK_NETWORK_TEXT_MAX], plan_1[PLANCHECK_PLAN_TEXT_MAX];
+static uint8_t network_2[PLANCHECK_NETWORK_TEXT_MAX], plan_2[PLANCHECK_PLAN_TEXT_MAX];
 static uint32_t ledger[PLANCHECK_LEDGER_MAX];
 static double places[PLANCHECK_MAX_VEHICLES];
 static double advances[PLANCHECK_MAX_VEHICLES];
@@ -37,6 +40,7 @@ static plancheck_counts_result counted;
 static plancheck_text_result written;
 static plancheck_plan_result judged;
 static plancheck_comparison_result compared;
+static plancheck_split_result halved;
 static plancheck_cells_result ran;
 static plancheck_network_result stepped;
 
@@ -83,6 +87,13 @@ static void compare_plans(void)
                                        PLANCHECK_LEDGER_MAX);
 }
 
+static void split(void)
+{
+    halved = plancheck_split(texts[0].bytes, texts[0].length, texts[1].bytes, texts[1].length, 0xfff, network_1,
+                             sizeof network_1, plan_1, sizeof plan_1, network_2, sizeof network_2, plan_2,
+                             sizeof plan_2);
+}
+
 static void run_cells(void)
 {
     ran = plancheck_run_cells(texts[0].bytes, texts[0].length);
@@ -116,6 +127,7 @@ static const struct measured {
     {"check_sheet", 3, check_sheet, &judged.number, &judged.line, &judged.item},
     {"plan_from_sheet", 2, plan_from_sheet, &written.number, &written.line, &written.item},
     {"compare_plans", 3, compare_plans, &compared.number, &compared.line, &compared.item},
+    {"split", 2, split, &halved.number, &halved.line, &halved.item},
     {"run_cells", 1, run_cells, &ran.number, &ran.line, &ran.item},
     {"step_vehicles", 3, step_vehicles, &stepped.number, &stepped.line, &stepped.item},
 };

@@ -326,6 +326,22 @@ def random_signal(chance):
     return Signal(sum(least), sum(greatest), phase, shown_for, clock, least, greatest)
 
 
+def draw_movements(chance, pairs, count):
+    """Movements between so many of the pairs of links; the shares of each link sum to 1000."""
+    chosen = sorted(chance.sample(pairs, count))
+    movements = []
+    for i in sorted({origin for origin, _ in chosen}):
+        own = [pair for pair in chosen if pair[0] == i]
+        shares = draw_shares(chance, len(own))
+        movements += [Movement(*pair, chance.randint(200, 1500), share) for pair, share in zip(own, shares)]
+    return movements
+
+
+def draw_mask(chance, signal):
+    """Some of a signal's phases."""
+    return chance.randint(1, 2 ** len(signal.least) - 1)
+
+
 def random_network(chance, link_count, signal_count, movement_count, step_count):
     """Steps of 5 s and, from the middle on, of 10 s; travel times that are multiples of 10 s, so that they end at
     boundaries. The last link is full all the time."""
@@ -334,18 +350,13 @@ def random_network(chance, link_count, signal_count, movement_count, step_count)
     for i in range(link_count):
         capacity = chance.randint(30, 150) * 1000
         signal = chance.randint(0, signal_count)
-        mask = chance.randint(1, 2 ** len(signals[signal - 1].least) - 1) if signal else 0
+        mask = draw_mask(chance, signals[signal - 1]) if signal else 0
         travel_time = 10 * chance.randint(1, 6)
         exit_rate = chance.choice([200, 400, 600])
         links.append(Link(capacity, travel_time, exit_rate, signal, mask, chance.randint(0, capacity // 2)))
     links[-1].standing = links[-1].capacity
     pairs = [(a, b) for a in range(link_count) for b in range(link_count) if a != b]
-    chosen = sorted(chance.sample(pairs, movement_count))
-    movements = []
-    for i in range(link_count):
-        own = [pair for pair in chosen if pair[0] == i]
-        shares = draw_shares(chance, len(own)) if own else []
-        movements += [Movement(*pair, chance.randint(200, 1500), share) for pair, share in zip(own, shares)]
+    movements = draw_movements(chance, pairs, movement_count)
     steps = []
     for n in range(step_count):
         length = 5 if n < step_count // 2 else 10
@@ -362,6 +373,26 @@ def with_trams(chance, network, length):
             phase = chance.randrange(len(signal.least))
             network.trams.append(Tram(index, phase, first, first + length - 1))
     return network
+
+
+def splittable_network(chance):
+    """The greatest sizes in two halves of twelve links, four signals and eight trams, with a border each way: from the last
+    link of each half, which has no signal, no exit and no other movement, to the first of the other, which has no
+    demand."""
+    network = random_network(chance, 24, 8, 64, 120)
+    ends, starts = (11, 23), (12, 0)
+    for i, link in enumerate(network.links):
+        link.signal = chance.choice([0, 1, 2, 3, 4] if i < 12 else [0, 5, 6, 7, 8])
+        link.mask = draw_mask(chance, network.signals[link.signal - 1]) if link.signal else 0
+    for i in ends:
+        network.links[i].signal = network.links[i].mask = network.links[i].exit_rate = 0
+    for step in network.steps:
+        for i in starts:
+            step.demand[i] = 0
+    inner = [(a, b) for a in range(24) for b in range(24) if a != b and a // 12 == b // 12 and a not in ends]
+    network.movements = draw_movements(chance, inner, 62) + [Movement(*pair, 1000, 1000) for pair in zip(ends, starts)]
+    network.movements.sort(key=lambda movement: (movement.origin, movement.destination))
+    return with_trams(chance, network, 1)
 
 
 def widest_network():
