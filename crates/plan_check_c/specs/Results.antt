@@ -24,6 +24,8 @@ use Rattle.comparison.specs.declared.Order.{Order}
 use Rattle.comparison.specs.declared.Order.the-variants.{Ahead, Behind, Equal, Crossing}
 use Rattle.comparison.specs.declared.ComparisonAnswer.{ComparisonAnswer}
 use Rattle.comparison.specs.declared.ComparisonAnswer.the-variants as comparison-answer
+use Rattle.split_model.specs.declared.SplitAnswer.{SplitAnswer}
+use Rattle.split_model.specs.declared.SplitAnswer.the-variants as split-answer
 use Rattle.cells.specs.declared.CellsAnswer.{CellsAnswer}
 use Rattle.cells.specs.declared.CellsAnswer.the-variants as cells-answer
 use Rattle.plan_check_c.specs.declared.NetworkResult.{NetworkResult}
@@ -34,6 +36,7 @@ use Rattle.plan_check_c.specs.declared.LinkResult.{LinkResult}
 use Rattle.plan_check_c.specs.declared.TextResult.{TextResult}
 use Rattle.plan_check_c.specs.declared.CellsResult.{CellsResult}
 use Rattle.plan_check_c.specs.declared.ComparisonResult.{ComparisonResult}
+use Rattle.plan_check_c.specs.declared.SplitResult.{SplitResult}
 
 abbrev pub verdictResult : Verdict → NetworkResult
 verdictResult Passes = record { number = 0; line = 0; item = 0 }
@@ -130,3 +133,24 @@ abbrev pub comparisonAnswerOf : ComparisonResult → ComparisonAnswer
 comparisonAnswerOf r =
     cond (eqb (r .number) 0) (comparison-answer.Compared (orderOf (r .order)) (r .gap))
     (comparison-answer.Refused (r .plan) (refusal (r .number) (r .line) (r .item)))
+
+abbrev pub splitResult : SplitAnswer → SplitResult
+splitResult (split-answer.Written end) =
+    record {
+      number = 0;
+      line = 0;
+      item = 0;
+      «network_1» = end .«network_1»;
+      «plan_1» = end .«plan_1»;
+      «network_2» = end .«network_2»;
+      «plan_2» = end .«plan_2»;
+    }
+splitResult (split-answer.Refused r) =
+    record { number = r .number; line = r .line; item = r .item; «network_1» = 0; «plan_1» = 0; «network_2» = 0; «plan_2» = 0 }
+
+-- the answer that a C caller reads off: number 0 is four texts written, any other a refusal
+abbrev pub splitAnswerOf : SplitResult → SplitAnswer
+splitAnswerOf r =
+    cond (eqb (r .number) 0)
+    (split-answer.Written (record { «network_1» = r .«network_1»; «plan_1» = r .«plan_1»; «network_2» = r .«network_2»; «plan_2» = r .«plan_2» }))
+    (split-answer.Refused (refusal (r .number) (r .line) (r .item)))

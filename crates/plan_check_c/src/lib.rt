@@ -19,7 +19,10 @@ ghost use Rattle.sheet_model.specs.Calls.{checkSheet, planFromSheet};
 ghost use Rattle.sheet_model.specs.Promises.{SheetPromises, WritePromises};
 ghost use Rattle.comparison.specs.Comparison.{comparePlans, secondLedgerAfter};
 ghost use Rattle.comparison.specs.Promises.{ComparisonPromises};
-ghost use Rattle.plan_check_c.specs.Results.{verdictResult, verdictOf, countsResult, version, planResult, planAnswerOf, linkResult, writtenText, refusedText, listingResult, listingAnswerOf, carryResult, carryAnswerOf, sheetResult, sheetAnswerOf, orderNumber, comparisonResult, comparisonAnswerOf, cellsResult, cellsAnswerOf};
+ghost use Rattle.split_model.specs.Call.{splitNetwork};
+ghost use Rattle.split_model.specs.Splits.{SplitInTwo, roomOf};
+ghost use Rattle.split.specs.Splitting.{texts, buffers};
+ghost use Rattle.plan_check_c.specs.Results.{verdictResult, verdictOf, countsResult, version, planResult, planAnswerOf, linkResult, writtenText, refusedText, listingResult, listingAnswerOf, carryResult, carryAnswerOf, sheetResult, sheetAnswerOf, orderNumber, comparisonResult, comparisonAnswerOf, splitResult, splitAnswerOf, cellsResult, cellsAnswerOf};
 use carry_model::CarryAnswer;
 use cells::CellsAnswer;
 use comparison::ComparisonAnswer;
@@ -31,6 +34,7 @@ use network_counts::CountsAnswer;
 use search::Refusal;
 use search::Verdict;
 use sheet_model::SheetAnswer;
+use split_model::SplitAnswer;
 
 // The answer of a network's check or of a step of vehicles; number 0: the network is valid, the vehicles have moved.
 #[repr(C)]
@@ -114,6 +118,18 @@ pub struct ComparisonResult {
     pub plan: u32,
     pub order: u32,
     pub gap: i64,
+}
+
+// The answer of a split; number 0: the four texts are written, so many bytes each.
+#[repr(C)]
+pub struct SplitResult {
+    pub number: u32,
+    pub line: u32,
+    pub item: u32,
+    pub network_1: usize,
+    pub plan_1: usize,
+    pub network_2: usize,
+    pub plan_2: usize,
 }
 
 #[no_mangle]
@@ -376,6 +392,49 @@ pub extern "C" fn plancheck_compare_plans(
             plan,
             order: 0,
             gap: 0,
+        },
+    }
+}
+
+#[no_mangle]
+pub extern "C" fn plancheck_split(
+    network: &[u8],
+    plan: &[u8],
+    first_half: u32,
+    network_1: &mut [u8],
+    plan_1: &mut [u8],
+    network_2: &mut [u8],
+    plan_2: &mut [u8],
+) -> SplitResult
+    ensures { λ r. ⌜ r ≡ splitResult (splitNetwork (lines (now (network .entry))) (planOf (now (network .entry)) (now (plan .entry))) «first_half» (roomOf (buffers (now («network_1» .entry)) (now («plan_1» .entry)) (now («network_2» .entry)) (now («plan_2» .entry))))) ⌝ }
+    ensures { λ r. ⌜ SplitInTwo (texts (now (network .entry)) (now (plan .entry))) «first_half» (buffers (now («network_1» .entry)) (now («plan_1» .entry)) (now («network_2» .entry)) (now («plan_2» .entry))) (buffers (now («network_1» .exit)) (now («plan_1» .exit)) (now («network_2» .exit)) (now («plan_2» .exit))) (splitAnswerOf r) ⌝ }
+{
+    match split::split(
+        network,
+        plan,
+        first_half,
+        network_1,
+        plan_1,
+        network_2,
+        plan_2,
+    ) {
+        SplitAnswer::Written(lengths) => SplitResult {
+            number: 0,
+            line: 0,
+            item: 0,
+            network_1: lengths.network_1,
+            plan_1: lengths.plan_1,
+            network_2: lengths.network_2,
+            plan_2: lengths.plan_2,
+        },
+        SplitAnswer::Refused(r) => SplitResult {
+            number: r.number,
+            line: r.line,
+            item: r.item,
+            network_1: 0,
+            plan_1: 0,
+            network_2: 0,
+            plan_2: 0,
         },
     }
 }
