@@ -35,11 +35,11 @@ rightKindIn links movements half count j =
 unfoldable pub demandFreeIn : (ℕ → ℕ) → List ℕ → List ℕ → ℕ → Bool
 demandFreeIn demands movements half j = not (crossesIn movements half j) or eqb (demands (linkIn movements 1 j - 1)) 0
 
--- a link with this number in the first half, 0 where it is not there, and this signal, from 1, 0 for none, has no signal of the other half
+-- a link that has this number in the first half, 0 where it is not there, and this signal, 0 for none, is not in that half, or has no signal or one of that half
 unfoldable pub ownSignalBy : List ℕ → ℕ → ℕ → Bool
 ownSignalBy half number signal = eqb number 0 or eqb signal 0 or isIn half (signalsAt + (signal - 1))
 
--- link i has none
+-- the same of link i
 abbrev pub ownSignalIn : List ℕ → List ℕ → ℕ → Bool
 ownSignalIn links half i = ownSignalBy half (getD half i 0) (signalIn links i)
 

@@ -53,7 +53,7 @@ fn stands_apart(movements: &[u32], half: &[u32], count: usize, j: usize, k: usiz
             & (other | (tables::link_of(movements, k, 1) != tables::link_of(movements, j, 1)))
 }
 
-// Whether all other movements do.
+// Whether all movements stand apart from border movement j.
 fn stands_alone(movements: &[u32], half: &[u32], count: usize, j: usize) -> bool
     requires { ⌜ MovementsAsked (now movements) (now half) count × (j < count) ⌝ }
     ensures { λ r. ⌜ r ≡ every count (standsApartIn (now (movements .entry)) (now (half .entry)) j) ⌝ }
