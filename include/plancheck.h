@@ -105,11 +105,12 @@
  *     plancheck_network_counts       4,944    nothing
  *     plancheck_check_plan           6,192    the ledger: 4 * PLANCHECK_LEDGER_LEN(L, K), 23,232 at most
  *     plancheck_link_state           5,264    nothing
- *     plancheck_carry_on             6,320    the ledger: 4 * PLANCHECK_LEDGER_LEN(L, b); the buffer for the text
+ *     plancheck_carry_on             6,400    the ledger: 4 * PLANCHECK_LEDGER_LEN(L, b); the buffer for the text
  *     plancheck_plan_from_listing   66,544    the buffer: PLANCHECK_WRITTEN_PLAN_MAX, 151,920, at most
  *     plancheck_compare_plans        6,432    two ledgers: each 4 * PLANCHECK_LEDGER_LEN(L, K), 23,232 at most
  *     plancheck_check_sheet          7,632    the ledger: 4 * PLANCHECK_LEDGER_LEN(L, K), 23,232 at most
  *     plancheck_plan_from_sheet      8,032    the buffer: PLANCHECK_WRITTEN_PLAN_MAX at most
+ *     plancheck_split                7,792    four buffers: each half at most the greatest network and plan text
  *     plancheck_run_cells            2,208    nothing
  *     plancheck_step_vehicles            8    nothing: the places are changed where they stand
  *     plancheck_version                  8    nothing
