@@ -5,6 +5,7 @@ use mathlib.Core.List.{List}
 use lib.ListN.{length}
 use Rattle.records.specs.declared.LineRead.{LineRead}
 use Rattle.records.specs.declared.LineRead.the-variants.{Next}
+use Rattle.records.specs.Reading.{Starts}
 use Rattle.model.specs.Table.{letterP}
 use Rattle.tables.specs.declared.Counts.{Counts}
 use Rattle.tables.specs.Places.{planWidth, Few}
@@ -12,6 +13,10 @@ use Rattle.tables.specs.Fields.{signalTableSize, lineSize}
 use Rattle.tables.specs.Rows.{RowRead}
 use Rattle.step_signals.specs.Ready.{AllReady}
 use Rattle.step_signals.specs.Step.{HeldMasks}
+
+-- the `P` line of step n starts at a place; a plan text without bytes has none
+abbrev pub PlanAt : List ℕ → ℕ → ℕ → Type 0
+PlanAt planText at n = 0 < length planText → Starts planText at n
 
 -- what reading a step's line asks ..
 pub record LineAsked (signals : List ℕ) (counts : Counts) (line : List ℕ) : Type 0 where

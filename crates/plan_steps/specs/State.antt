@@ -27,6 +27,7 @@ use Rattle.step_signals.specs.Step.{SignalsAt}
 use Rattle.plan_steps.specs.declared.State.{State}
 use Rattle.plan_steps.specs.declared.Taken.{Taken}
 use Rattle.plan_steps.specs.Totals.{totalsAfter, TotalsAsked}
+use Rattle.plan_steps.specs.PlanLine.{PlanAt}
 
 -- the tables of a network that has passed, and where its `T` lines start
 pub record Tables (networkText : List ℕ) (counts : Counts) (tramsAt : ℕ) (links movements times : List ℕ) : Type 0 where
@@ -43,7 +44,7 @@ pub record StateAt (networkText planText : List ℕ) (state : State) (signals ar
   pub within : state .boundary ≤ stepCount (lines networkText)
   pub passed : (m : ℕ) → m < state .boundary → verdict (lineChecks (lines networkText) (planOf networkText planText) m) ≡ Passes
   pub step-starts : Starts networkText (state .«step_at») (stepLine (lines networkText) (state .boundary))
-  pub plan-starts : 0 < length planText → Starts planText (state .«plan_at») (state .boundary)
+  pub plan-starts : PlanAt planText (state .«plan_at») (state .boundary)
   pub signals-at : SignalsAt (lines networkText) (planOf networkText planText) (state .boundary) signals
   pub totals-at : state .totals ≡ totals (lines networkText) (planOf networkText planText) (state .boundary)
   pub outside-at : state .outside ≡ outside (lines networkText) (planOf networkText planText) (state .boundary)

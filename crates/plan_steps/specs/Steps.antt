@@ -22,6 +22,7 @@ use Rattle.step_signals.specs.Step.{SignalsAt}
 use Rattle.plan_steps.specs.declared.State.{State}
 use Rattle.plan_steps.specs.declared.Taken.{Taken}
 use Rattle.plan_steps.specs.State.{Tables, StateAt}
+use Rattle.plan_steps.specs.PlanLine.{PlanAt}
 
 -- what taking all steps asks ..
 pub record RunAsked (networkText planText : List ℕ) (reading : Reading) (links movements times ledger : List ℕ) : Type 0 where
@@ -58,7 +59,7 @@ pub record Stopped (networkText planText old : List ℕ) (steps : ℕ) (r : Refu
 -- all of them pass: the state after them
 pub record AllTaken (networkText planText old : List ℕ) (steps : ℕ) (state : State) (signals waiting ledger : List ℕ) : Type 0 where
   pub passed : (m : ℕ) → m < steps → verdict (lineChecks (lines networkText) (planOf networkText planText) m) ≡ Passes
-  pub plan-starts : 0 < length planText → Starts planText (state .«plan_at») steps
+  pub plan-starts : PlanAt planText (state .«plan_at») steps
   pub signals-at : SignalsAt (lines networkText) (planOf networkText planText) steps signals
   pub totals-at : state .totals ≡ totals (lines networkText) (planOf networkText planText) steps
   pub waiting-at : WaitingTable (lines networkText) (planOf networkText planText) steps waiting

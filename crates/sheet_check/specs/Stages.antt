@@ -12,6 +12,7 @@ use Rattle.model.specs.Table.{networkChecks, lineChecks}
 use Rattle.model.specs.Hold.{planOf}
 use Rattle.tables.specs.declared.Reading.{Reading}
 use Rattle.tables.specs.Tables.{CountsHold}
+use Rattle.plan_steps.specs.PlanLine.{PlanAt}
 use Rattle.step_signals.specs.Step.{SignalsAt}
 use Rattle.sheet_lines.specs.Sheet.{phasesOf}
 use Rattle.sheet_lines.specs.Reading.{sheetFields, sheetTableSize}
@@ -41,7 +42,7 @@ pub record PassAt (networkText planText : List ℕ) (pass : Pass) (signals : Lis
   pub within : pass .boundary ≤ stepCount (lines networkText)
   pub time-is : pass .time ≡ time (lines networkText) (pass .boundary)
   pub step-starts : Starts networkText (pass .«step_at») (stepLine (lines networkText) (pass .boundary))
-  pub plan-starts : 0 < length planText → Starts planText (pass .«plan_at») (pass .boundary)
+  pub plan-starts : PlanAt planText (pass .«plan_at») (pass .boundary)
   pub signals-at : SignalsAt (lines networkText) (planOf networkText planText) (pass .boundary) signals
   pub watches-size : length (pass .watches) ≡ maxSignals
 

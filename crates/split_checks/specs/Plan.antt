@@ -9,7 +9,6 @@ use Rattle.search.specs.Checks.{verdict, Hold}
 use Rattle.records.specs.declared.LineRead.{LineRead}
 use Rattle.records.specs.declared.LineRead.the-variants.{Next, Malformed}
 use Rattle.records.specs.Lines.{lines}
-use Rattle.records.specs.Reading.{Starts}
 use Rattle.model.specs.Network.{linkCount, signalCount, movementCount, stepCount}
 use Rattle.model.specs.Table.{isForm, letterP, networkChecks}
 use Rattle.model.specs.Hold.{planOf}
@@ -17,6 +16,7 @@ use Rattle.tables.specs.declared.Counts.{Counts}
 use Rattle.tables.specs.Places.{Few}
 use Rattle.tables.specs.Fields.{signalTableSize}
 use Rattle.tables.specs.Tables.{CountsHold, SignalTable}
+use Rattle.plan_steps.specs.PlanLine.{PlanAt}
 use Rattle.step_signals.specs.Ready.{AllReady}
 use Rattle.split_model.specs.Call.{formChecks}
 
@@ -36,10 +36,6 @@ abbrev pub isFormed : List ℕ → List ℕ → ℕ → Bool
 isFormed networkText planText n =
     isForm (planOf networkText planText) n letterP
     (signalCount (lines networkText) + (2 * linkCount (lines networkText) + movementCount (lines networkText)))
-
--- the line of step n starts at a place; a text without bytes has none
-abbrev pub PlanAt : List ℕ → ℕ → ℕ → Type 0
-PlanAt planText at n = 0 < length planText → Starts planText at n
 
 -- what is told of the line at a place, whatever the network and the step
 pub record LineForm (planText : List ℕ) (at : ℕ) (signals : List ℕ) (counts : Counts) (result : LineRead) : Type 0 where

@@ -14,11 +14,11 @@ use Rattle.model.proofs.Accepted.{ValidNetwork, valid-network}
 use Rattle.tables.specs.declared.Counts.{Counts}
 use Rattle.tables.specs.Fields.{tableSignal, lineSize}
 use Rattle.tables.specs.Tables.{PlanNumbers}
-use Rattle.plan_steps.specs.PlanLine.{LineAsked, LineGot}
+use Rattle.plan_steps.specs.PlanLine.{PlanAt, LineAsked, LineGot}
 use Rattle.plan_steps.proofs.PlanLines.{line-bad, line-numbers, next-starts}
 use Rattle.plan_steps.proofs.Runs.{signals-first}
 use Rattle.split_model.proofs.Tests.{not-both}
-use Rattle.split_text.specs.Halves.{Held, PlanLineRead, PlanAt}
+use Rattle.split_text.specs.Halves.{Held, PlanLineRead}
 
 -- ---- `read_plan`
 module _ {planText : List ℕ} {at : ℕ} {signals : List ℕ} {counts : Counts} {before after : List ℕ} {r : LineRead} (got : LineGot planText at signals counts before r after) where

@@ -17,10 +17,11 @@ use Rattle.text_lines.specs.declared.Places.{Places}
 use Rattle.text_lines.specs.Put.{Put}
 use Rattle.text_lines.proofs.Put.{lines-none, lines-more}
 use Rattle.text_lines.proofs.Texts.{put-first}
+use Rattle.plan_steps.specs.PlanLine.{PlanAt}
 use Rattle.split_model.specs.Halves.{Half, stepNumbers, planNumbers, halfPlanText}
 use Rattle.split_model.specs.Call.{inSet}
 use Rattle.split_text.specs.declared.StepPlaces.{StepPlaces}
-use Rattle.split_text.specs.Halves.{OneHalf, Held, PlanAt, StepAsked, StepPut, StepsAsked, StepsPut, PlanAsked, PlanLineAsked, LinePut, PlanPut}
+use Rattle.split_text.specs.Halves.{OneHalf, Held, StepAsked, StepPut, StepsAsked, StepsPut, PlanAsked, PlanLineAsked, LinePut, PlanPut}
 
 -- ---- `put_steps`: n lines are put
 pub record StepsTo (networkText planText half : List ℕ) (counts : Counts) (at : ℕ) (old : List ℕ) (places : StepPlaces) (out : List ℕ) (n : ℕ) : Type 0 where

@@ -4,7 +4,6 @@ use mathlib.Core.Path.{_≡_}
 use mathlib.Core.Bool.{true}
 use mathlib.Core.Logic.{_⊎_}
 use mathlib.Core.List.{List}
-use lib.ListN.{length}
 use Rattle.search.specs.Checks.{Hold}
 use Rattle.records.specs.declared.LineRead.{LineRead}
 use Rattle.records.specs.declared.LineRead.the-variants.{Next}
@@ -19,7 +18,7 @@ use Rattle.tables.specs.declared.Reading.{Reading}
 use Rattle.tables.specs.Tables.{CountsHold, LinkTable, MovementTable, SignalTable}
 use Rattle.text_lines.specs.declared.Places.{Places}
 use Rattle.text_lines.specs.Put.{Put, PutWhole, Early}
-use Rattle.plan_steps.specs.PlanLine.{LineGot}
+use Rattle.plan_steps.specs.PlanLine.{PlanAt, LineGot}
 use Rattle.split_model.specs.Halves.{Half, firstHalf, secondHalf, stepNumbers, planNumbers, halfNetworkText, halfPlanText}
 use Rattle.split_model.specs.Call.{inSet, canSplit, partsSignals}
 use Rattle.half_tables.specs.Tables.{HalfTable}
@@ -46,10 +45,6 @@ pub record PlanLineRead (planText : List ℕ) (at : ℕ) (signals : List ℕ) (c
   pub result : LineRead
   pub got : LineGot planText at signals counts before result after
   pub next-is : (place : ℕ) → result ≡ Next place → next ≡ place
-
--- the `P` line of step n starts at a place; a plan text without bytes has none
-abbrev pub PlanAt : List ℕ → ℕ → ℕ → Type 0
-PlanAt planText at n = 0 < length planText → Starts planText at n
 
 -- ---- the `S` lines
 pub record StepAsked (networkText planText signals movements : List ℕ) (counts : Counts) (half : List ℕ) (places : StepPlaces) : Type 0 where
