@@ -19,7 +19,7 @@
 
 enum { EXAMPLES = 4, AVENUE = 1, LEDGER_ROOM = 512, BUFFER_ROOM = 8192, DOUBLES_ROOM = 66, HALF_TEXTS = 4 };
 
-static struct example examples[EXAMPLES], splittable;
+static struct example examples[EXAMPLES], splittable, parted;
 static struct text corridor, sheet, offsets;
 
 static struct region network_region, text_region, second_region, ledger_region, second_ledger_region, buffer_region, half_regions[HALF_TEXTS], places_region, advances_region, lines_region;
@@ -524,14 +524,14 @@ static uint32_t some_set(void)
 
 static void some_splitting(struct splitting *asked)
 {
-    const struct example *example = below(10) == 0 ? &examples[below(EXAMPLES)] : &splittable;
+    const struct example *example = below(10) == 0 ? &examples[below(EXAMPLES)] : below(20) == 0 ? &parted : &splittable;
     some_network(example, &asked->network);
     asked->plan = example->plan;
     if (below(2) == 0)
         damage(&asked->plan);
     if (below(20) == 0)
         asked->plan.length = 0;
-    asked->first_half = some_set();
+    asked->first_half = example == &parted ? below(4) : some_set();
     for (int k = 0; k < HALF_TEXTS; k++)
         asked->room[k] = below(10) == 0 ? below(BUFFER_ROOM) : BUFFER_ROOM;
 }
@@ -697,6 +697,12 @@ static void try_null(void)
     printf("NULL with length 0: every pointer of every call\n");
 }
 
+static void put_text(struct text *text, const char *bytes)
+{
+    text->length = strlen(bytes);
+    memcpy(text->bytes, bytes, text->length);
+}
+
 static void read_examples(const char *examples_folder)
 {
     static const char *const folders[EXAMPLES] = {"corridor", "avenue", "listing", "carry"};
@@ -711,6 +717,9 @@ static void read_examples(const char *examples_folder)
     snprintf(folder, sizeof folder, "%s/split", examples_folder);
     read_example(&splittable.network, folder, "network.tsv");
     read_example(&splittable.plan, folder, "plan.tsv");
+    /* two links of one signal and no movement, so that a half with one of them parts the signal (41) */
+    put_text(&parted.network, "N\t2\t1\t0\t1\t0\t0\nG\t20\t60\t2\t2\t10\t20\t10\t30\t10\t30\nQ\t60000\t10\t0\t1\t1\t0\t0\nQ\t60000\t10\t500\t1\t2\t0\t0\nS\t10\t0\t0\n");
+    put_text(&parted.plan, "P\t2\t0\t0\t0\t0\n");
     snprintf(folder, sizeof folder, "%s/cells", examples_folder);
     read_example(&corridor, folder, "corridor.tsv");
     snprintf(folder, sizeof folder, "%s/sheet", examples_folder);
