@@ -1,15 +1,14 @@
 -- A line of the plan is judged on what is left of a network as it is on the whole, and told so many lines later. Assumes nothing.
 use mathlib.Core.Path.{_≡_, refl, sym, ap₂, _∙_}
 use mathlib.Core.List.{List}
-use Prim.Native.Nat.{ℕ, zero, suc, _+_, _*_, _<_}
+use Prim.Native.Nat.{ℕ, suc, _+_, _*_, _<_}
 use native.Mathlib.Omega.{arith}
 use lib.ListN.{length, getD}
-use Rattle.search.specs.declared.Verdict.{Verdict}
 use Rattle.search.specs.Checks.{Rule, ruleAt, orElse, verdict, table}
-use Rattle.search.proofs.Table.{SameRule, same-table}
+use Rattle.search.proofs.Table.{SameRules, same-table}
 use Rattle.records.specs.Lines.{Line, noLine}
 use Rattle.model.specs.Network.{linkCount, signalCount, movementCount, stepCount}
-use Rattle.model.specs.Table.{isForm, letterP, signalRules, limitRules, sumRules, lineChecks}
+use Rattle.model.specs.Table.{isForm, letterP, stepRules, lineChecks}
 use Rattle.model.proofs.Accepted.{ValidNetwork}
 use Rattle.carry_model.specs.CarriesOn.{later}
 use Rattle.carry_model.proofs.GoesOn.{GoesOn, rule10-same, rule11-same, rule12-same, rule13-same, rule14-same, rule15-same, rule16-same, rule17-same, rule18-same, rule25-same, rule26-same, rule27-same, rule29-same}
@@ -25,30 +24,22 @@ table-later a line rules =
 
 module _ (network plan other rest : List Line) (a : ℕ) (p : GoesOn network plan other rest a) (valid : ValidNetwork network)
     (same : (n : ℕ) → n < stepCount other → getD rest n noLine ≡ getD plan (a + n) noLine) (n : ℕ) (h : n < stepCount other) where
-  signal-rule-same : (k : ℕ) → k < 6 → SameRule (ruleAt (signalRules other rest n) k) (ruleAt (signalRules network plan (a + n)) k)
-  unfolding signalRules
-  signal-rule-same zero u = record { number = refl; items = p .signals; holds = rule10-same network plan other rest a p valid n h }
-  signal-rule-same (suc zero) u = record { number = refl; items = p .signals; holds = rule29-same network plan other rest a p valid n h }
-  signal-rule-same (suc (suc zero)) u = record { number = refl; items = p .signals; holds = rule11-same network plan other rest a p valid n h }
-  signal-rule-same (suc (suc (suc zero))) u = record { number = refl; items = p .signals; holds = rule12-same network plan other rest a p valid n h }
-  signal-rule-same (suc (suc (suc (suc zero)))) u = record { number = refl; items = p .signals; holds = rule13-same network plan other rest a p valid n h }
-  signal-rule-same (suc (suc (suc (suc (suc zero))))) u = record { number = refl; items = p .signals; holds = rule14-same network plan other rest a p valid n h }
-  signal-rule-same (suc (suc (suc (suc (suc (suc k)))))) u = absurd (omega arith)
-
-  limit-rule-same : (k : ℕ) → k < 4 → SameRule (ruleAt (limitRules other rest n) k) (ruleAt (limitRules network plan (a + n)) k)
-  unfolding limitRules
-  limit-rule-same zero u = record { number = refl; items = p .links; holds = rule15-same network plan other rest a p valid n h }
-  limit-rule-same (suc zero) u = record { number = refl; items = p .links; holds = rule25-same network plan other rest a p valid n h }
-  limit-rule-same (suc (suc zero)) u = record { number = refl; items = p .movements; holds = rule26-same network plan other rest a p valid n h }
-  limit-rule-same (suc (suc (suc zero))) u = record { number = refl; items = p .movements; holds = rule27-same network plan other rest a p valid n h }
-  limit-rule-same (suc (suc (suc (suc k)))) u = absurd (omega arith)
-
-  sum-rule-same : (k : ℕ) → k < 3 → SameRule (ruleAt (sumRules other rest n) k) (ruleAt (sumRules network plan (a + n)) k)
-  unfolding sumRules
-  sum-rule-same zero u = record { number = refl; items = p .movements; holds = rule16-same network plan other rest a p valid n h }
-  sum-rule-same (suc zero) u = record { number = refl; items = p .links; holds = rule17-same network plan other rest a p valid n h }
-  sum-rule-same (suc (suc zero)) u = record { number = refl; items = p .links; holds = rule18-same network plan other rest a p valid n h }
-  sum-rule-same (suc (suc (suc k))) u = absurd (omega arith)
+  rules-same : SameRules (stepRules other rest n) (stepRules network plan (a + n))
+  unfolding SameRules stepRules
+  rules-same =
+      (record { number = refl; items = p .signals; holds = rule10-same network plan other rest a p valid n h },
+      (record { number = refl; items = p .signals; holds = rule29-same network plan other rest a p valid n h },
+      (record { number = refl; items = p .signals; holds = rule11-same network plan other rest a p valid n h },
+      (record { number = refl; items = p .signals; holds = rule12-same network plan other rest a p valid n h },
+      (record { number = refl; items = p .signals; holds = rule13-same network plan other rest a p valid n h },
+      (record { number = refl; items = p .signals; holds = rule14-same network plan other rest a p valid n h },
+      (record { number = refl; items = p .links; holds = rule15-same network plan other rest a p valid n h },
+      (record { number = refl; items = p .links; holds = rule25-same network plan other rest a p valid n h },
+      (record { number = refl; items = p .movements; holds = rule26-same network plan other rest a p valid n h },
+      (record { number = refl; items = p .movements; holds = rule27-same network plan other rest a p valid n h },
+      (record { number = refl; items = p .movements; holds = rule16-same network plan other rest a p valid n h },
+      (record { number = refl; items = p .links; holds = rule17-same network plan other rest a p valid n h },
+      (record { number = refl; items = p .links; holds = rule18-same network plan other rest a p valid n h }, refl)))))))))))))
 
   at-line : suc (a + n) ≡ a + suc n
   at-line = omega arith
@@ -61,13 +52,5 @@ module _ (network plan other rest : List Line) (a : ℕ) (p : GoesOn network pla
   unfolding verdict lineChecks
   line-same =
       rw (at-line, form-same)
-      (both _ _ (later-checked a _ 9 (suc n) 0)
-      (both _ _ (whole (signalRules network plan (a + n)) (signalRules other rest n) (unfold signalRules in refl) (unfold signalRules in signal-rule-same))
-      (both _ _ (whole (limitRules network plan (a + n)) (limitRules other rest n) (unfold limitRules in refl) (unfold limitRules in limit-rule-same))
-      (whole (sumRules network plan (a + n)) (sumRules other rest n) (unfold sumRules in refl) (unfold sumRules in sum-rule-same)))))
-    where
-      both : {v w : Verdict} (x y : Verdict) → v ≡ later a x → w ≡ later a y → orElse v w ≡ later a (orElse x y)
-      both x y e f = ap₂ orElse e f ∙ later-or-else a x y
-
-      whole : (r s : List Rule) → length s ≡ length r → ((k : ℕ) → k < length r → SameRule (ruleAt s k) (ruleAt r k)) → verdict (table (a + suc n) r) ≡ later a (verdict (table (suc n) s))
-      whole r s e f = sym (same-table (a + suc n) s r e f) ∙ table-later a (suc n) s
+      (ap₂ orElse (later-checked a _ 9 (suc n) 0) (sym (same-table (a + suc n) (stepRules other rest n) (stepRules network plan (a + n)) rules-same) ∙ table-later a (suc n) (stepRules other rest n))
+      ∙ later-or-else a _ _)

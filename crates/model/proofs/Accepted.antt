@@ -8,7 +8,7 @@ use Rattle.search.specs.Checks.{Hold, table}
 use Rattle.records.specs.Lines.{Line}
 use Rattle.model.specs.Network.{linkCount, signalCount, movementCount, stepCount, tramCount, signal}
 use Rattle.model.specs.Rules.{validPhases, validSignal, validCounts, validTram, validTramPhase, validLink, validMovement, validShares, validStep, validPast, rule10, rule11, rule12, rule13, rule14, rule15, rule16, rule17, rule18, rule25, rule26, rule27, rule29}
-use Rattle.model.specs.Table.{countChecks, tramChecks, signalChecks, tramPhaseChecks, linkChecks, movementChecks, shareChecks, pastChecks, stepChecks, networkChecks, signalRules, limitRules, sumRules, lineChecks, planLineChecks, planChecks}
+use Rattle.model.specs.Table.{countChecks, tramChecks, signalChecks, tramPhaseChecks, linkChecks, movementChecks, shareChecks, pastChecks, stepChecks, networkChecks, stepRules, lineChecks, planLineChecks, planChecks}
 
 -- refusals 2 to 6, 28 and 30 do not arise
 pub record ValidNetwork (network : List Line) : Type 0 where
@@ -61,22 +61,22 @@ valid-network network (counts, (trams, (signals, (tramPhases, (links, (movements
     }
 
 pub lawful-step : (network plan : List Line) (n : ℕ) → Hold (lineChecks network plan n) → LawfulStep network plan n
-unfolding Hold lineChecks table signalRules limitRules sumRules
-lawful-step network plan n (form, (signals, (limits, sums))) =
+unfolding Hold lineChecks table stepRules
+lawful-step network plan n (form, rules) =
     record {
-      keeps10 = signals 0 (omega arith);
-      keeps29 = signals 1 (omega arith);
-      keeps11 = signals 2 (omega arith);
-      keeps12 = signals 3 (omega arith);
-      keeps13 = signals 4 (omega arith);
-      keeps14 = signals 5 (omega arith);
-      keeps15 = limits 0 (omega arith);
-      keeps25 = limits 1 (omega arith);
-      keeps26 = limits 2 (omega arith);
-      keeps27 = limits 3 (omega arith);
-      keeps16 = sums 0 (omega arith);
-      keeps17 = sums 1 (omega arith);
-      keeps18 = sums 2 (omega arith);
+      keeps10 = rules 0 (omega arith);
+      keeps29 = rules 1 (omega arith);
+      keeps11 = rules 2 (omega arith);
+      keeps12 = rules 3 (omega arith);
+      keeps13 = rules 4 (omega arith);
+      keeps14 = rules 5 (omega arith);
+      keeps15 = rules 6 (omega arith);
+      keeps25 = rules 7 (omega arith);
+      keeps26 = rules 8 (omega arith);
+      keeps27 = rules 9 (omega arith);
+      keeps16 = rules 10 (omega arith);
+      keeps17 = rules 11 (omega arith);
+      keeps18 = rules 12 (omega arith);
     }
 
 pub accepted-plan : (network plan : List Line) (size : ℕ) → Hold (planChecks network plan size) → AcceptedPlan network plan

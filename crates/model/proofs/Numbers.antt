@@ -17,7 +17,7 @@ use Rattle.search.proofs.Laws.{refused-first}
 use Rattle.records.specs.Lines.{Line}
 use Rattle.model.specs.declared.LinkAnswer.the-variants as link-answer
 use Rattle.model.specs.Test.{_and_, every}
-use Rattle.model.specs.Table.{countChecks, tramChecks, signalChecks, tramPhaseChecks, linkChecks, movementChecks, shareChecks, pastChecks, stepChecks, networkChecks, ledgerChecks, signalRules, limitRules, sumRules, lineChecks, planLineChecks, planChecks}
+use Rattle.model.specs.Table.{countChecks, tramChecks, signalChecks, tramPhaseChecks, linkChecks, movementChecks, shareChecks, pastChecks, stepChecks, networkChecks, ledgerChecks, stepRules, lineChecks, planLineChecks, planChecks}
 use Rattle.model.specs.Guarantees.{CanArise, NetworkPromises, StatePromises}
 use Rattle.model.specs.Calls.{checkNetwork, stateChecks, linkAnswer, linkState}
 use Rattle.model.proofs.Tests.{and-left, and-right, every-at}
@@ -58,8 +58,8 @@ unfolding Numbered table
 table-numbered line rules h k l i u = every-at (length rules) (λ k. arises (ruleAt rules k .number)) h k l
 
 line-numbered : (network plan : List Line) (n : ℕ) → Numbered (lineChecks network plan n)
-unfolding Numbered lineChecks signalRules limitRules sumRules every _and_
-line-numbered network plan n = (refl, (table-numbered (suc n) _ refl, (table-numbered (suc n) _ refl, table-numbered (suc n) _ refl)))
+unfolding Numbered lineChecks stepRules every _and_
+line-numbered network plan n = (refl, table-numbered (suc n) _ refl)
 
 pub plan-numbered : (network plan : List Line) (size : ℕ) → Numbered (planChecks network plan size)
 unfolding Numbered planChecks ledgerChecks planLineChecks

@@ -106,30 +106,21 @@ module _ (network : List Line) where
   ledgerChecks size = check 8 0 0 (leb (2 * suc (stepCount network) * linkCount network) size)
 
 module _ (network plan : List Line) where
-  -- the rules at step n, in their order: 10, 29 and 11 to 14 of the signals ..
-  unfoldable pub signalRules : ℕ → List Rule
-  signalRules n =
+  -- the rules at step n, in their order: 10, 29 and 11 to 14 of the signals; 15 and 25 to 27, the limits of the volumes: admitted, let out, and the movements' two;
+  -- and 16 to 18, by sums of volumes
+  unfoldable pub stepRules : ℕ → List Rule
+  stepRules n =
       record { number = 10; items = signalCount network; holds = rule10 network plan n }
       ∷ record { number = 29; items = signalCount network; holds = rule29 network plan n }
       ∷ record { number = 11; items = signalCount network; holds = rule11 network plan n }
       ∷ record { number = 12; items = signalCount network; holds = rule12 network plan n }
       ∷ record { number = 13; items = signalCount network; holds = rule13 network plan n }
       ∷ record { number = 14; items = signalCount network; holds = rule14 network plan n }
-      ∷ []
-
-  -- .. 15 and 25 to 27, the limits of the volumes: admitted, let out, and the movements' two ..
-  unfoldable pub limitRules : ℕ → List Rule
-  limitRules n =
-      record { number = 15; items = linkCount network; holds = rule15 network plan n }
+      ∷ record { number = 15; items = linkCount network; holds = rule15 network plan n }
       ∷ record { number = 25; items = linkCount network; holds = rule25 network plan n }
       ∷ record { number = 26; items = movementCount network; holds = rule26 network plan n }
       ∷ record { number = 27; items = movementCount network; holds = rule27 network plan n }
-      ∷ []
-
-  -- .. and 16 to 18, by sums of volumes
-  unfoldable pub sumRules : ℕ → List Rule
-  sumRules n =
-      record { number = 16; items = movementCount network; holds = rule16 network plan n }
+      ∷ record { number = 16; items = movementCount network; holds = rule16 network plan n }
       ∷ record { number = 17; items = linkCount network; holds = rule17 network plan n }
       ∷ record { number = 18; items = linkCount network; holds = rule18 network plan n }
       ∷ []
@@ -138,9 +129,7 @@ module _ (network plan : List Line) where
   unfoldable pub lineChecks : ℕ → Checks
   lineChecks n =
       check 9 (suc n) 0 (isForm plan n letterP (signalCount network + (2 * linkCount network + movementCount network)))
-      then table (suc n) (signalRules n)
-      then table (suc n) (limitRules n)
-      then table (suc n) (sumRules n)
+      then table (suc n) (stepRules n)
 
   -- the plan's lines, and nothing after them
   unfoldable pub planLineChecks : Checks

@@ -13,8 +13,7 @@ use lib.Seq.{length-take-le}
 use Rattle.search.specs.declared.Refusal.{Refusal}
 use Rattle.search.specs.declared.Verdict.{Verdict}
 use Rattle.search.specs.declared.Verdict.the-variants.{Passes, Refused}
-use Rattle.search.specs.Checks.{refusal, verdict, orElse, table, Hold}
-use Rattle.search.proofs.Table.{table-holds}
+use Rattle.search.specs.Checks.{refusal, verdict, Hold}
 use Rattle.records.specs.declared.LineRead.{LineRead}
 use Rattle.records.specs.declared.LineRead.the-variants.{Next, Malformed}
 use Rattle.records.specs.Lines.{Line, lines}
@@ -23,7 +22,7 @@ use Rattle.model.specs.Signals.{phaseOf, after as signalAfter}
 use Rattle.model.specs.Network.{maxSignals, linkCount, signalCount, stepCount, tramCount, tramLine, onTimeline, stepLine, stepLength, ordinary, signal, maxSteps}
 use Rattle.model.specs.Flows.{shownMask, shownIn, signalAt, outside}
 use Rattle.model.specs.Rules.{rule10, rule13, rule14}
-use Rattle.model.specs.Table.{isForm, letterT, letterS, tramChecks, networkChecks, stepChecks, limitRules, lineChecks}
+use Rattle.model.specs.Table.{isForm, letterT, letterS, tramChecks, networkChecks, stepChecks, lineChecks}
 use Rattle.model.specs.Hold.{planOf}
 use Rattle.model.specs.Calls.{written}
 use borrow.Author.Tests.{leb-true}
@@ -48,14 +47,15 @@ use Rattle.network_steps.proofs.Steps.{load-ready, loaded-numbers, loaded-next}
 use Rattle.step_signals.specs.Ready.{Ready}
 use Rattle.step_signals.specs.Step.{ShownPhases, ShownTable, AskedTable, AdvanceAsked, Advanced, SignalsAt}
 use Rattle.step_signals.proofs.Rules.{ready-after}
-use Rattle.step_signals.proofs.Texts.{signal-rules-are}
 use Rattle.step_rows.specs.Rows.{nextRow, RowHolds}
 use Rattle.step_rows.proofs.Texts.{movements-named, next-row-fits, next-row-holds, next-row-front}
 use Rattle.step_rows.proofs.Ledger.{part-holds, next-written}
 use Rattle.step_rows.proofs.Next.{length-next}
-use Rattle.step_limits.proofs.Texts.{limit-rules-are, line-tables}
-use Rattle.step_sums.proofs.Texts.{sum-rules-are, sum-tables}
-use Rattle.step_check.specs.Step.{rowFrom, madeRow, signalVerdict, limitVerdict, sumVerdict, JudgeAsked, Judged}
+use Rattle.step_limits.specs.Limits.{LimitsKept}
+use Rattle.step_limits.proofs.Texts.{keeps-paper, line-tables}
+use Rattle.step_sums.proofs.Texts.{sum-tables}
+use Rattle.step_check.specs.Step.{rowFrom, madeRow, JudgeAsked, Judged}
+use Rattle.step_check.proofs.Texts.{rules-are}
 use Rattle.plan_steps.specs.declared.State.{State}
 use Rattle.plan_steps.specs.PlanLine.{LineAsked, LineGot}
 use Rattle.plan_steps.specs.State.{StateAt, NextAsked, NextGot, StepAsked, StepGot}
@@ -73,13 +73,6 @@ step-form network (counts, (trams, (signals, (phases, (links, (movements, (share
 pub tram-form : (network : List Line) → Hold (networkChecks network) → (k : ℕ) → k < tramCount network → isForm network (tramLine network k) letterT tramFields ≡ true
 unfolding Hold networkChecks tramChecks
 tram-form network (counts, (trams, rest)) k l = trams k l .0
-
--- the limits of a step, by their table
-limits-keep : (network plan : List Line) (m line : ℕ) → verdict (table line (limitRules network plan m)) ≡ Passes → KeepsLimits network plan m
-unfolding limitRules
-limits-keep network plan m line h =
-    let at = table-holds line (limitRules network plan m) h in
-    record { admissions = at 0 (omega arith); exits = at 1 (omega arith); movements = at 2 (omega arith) }
 
 -- the signals after a step that has passed
 module _ (network plan : List Line) (n : ℕ) (signals signals′ phases claims : List ℕ) (seconds count : ℕ) (before : SignalsAt network plan n signals)
@@ -259,27 +252,23 @@ module _ {networkText planText : List ℕ} {counts : Counts} {tramsAt : ℕ} {li
                 }
 
             module _ (row : List ℕ) (row-size : length row ≡ rowSize) where
-              limits-are : limitVerdict counts signals line step links movements phases claims ledger times arrivals′ curves′ row n ≡ verdict (table (suc n) (limitRules net pln n))
-              unfolding limitVerdict
-              limits-are = limit-rules-are valid counted plan-numbers (asked .tables .link-table) (asked .tables .movement-table) offers shown (suc n)
-
-              keeps : limitVerdict counts signals line step links movements phases claims ledger times arrivals′ curves′ row n ≡ Passes → (m : ℕ) → m < suc n → KeepsLimits net pln m
-              keeps v m l = go (let l′ : m ≤ n = omega arith in eq-or-lt-of-le l′)
+              keeps : LimitsKept counts line step links movements phases → (m : ℕ) → m < suc n → KeepsLimits net pln m
+              keeps kept m l = go (let l′ : m ≤ n = omega arith in eq-or-lt-of-le l′)
                 where
                   go : (m ≡ n) ⊎ (m < n) → KeepsLimits net pln m
-                  go (inl q) = rw q (limits-keep net pln n (suc n) (sym limits-are ∙ v))
+                  go (inl q) = rw q (keeps-paper valid counted plan-numbers (asked .tables .link-table) (asked .tables .movement-table) offers shown kept)
                   go (inr u) = lawful-limits (passed-lawful net pln m (asked .state-at .passed m u))
 
-              after : RowHolds net pln (suc n) (madeRow counts line movements ledger row n)
+              after : RowHolds net pln (suc n) (madeRow counts line movements (rowFrom counts ledger n) row)
               after = next-row-holds counted plan-numbers (asked .tables .movement-table) before (drop (2 * counts .links) row) refl
 
-              made-size : length (madeRow counts line movements ledger row n) ≡ rowSize
+              made-size : length (madeRow counts line movements (rowFrom counts ledger n) row) ≡ rowSize
               made-size =
                   length-append (nextRow counts line movements (rowFrom counts ledger n)) _
                   ∙ omega (arith, length-next counts line movements (rowFrom counts ledger n), length-drop (2 * counts .links) row, row-size, counted .few .links)
 
-              pub judge-asked : JudgeAsked counts signals line step links movements phases claims ledger times arrivals′ curves′ row n
-              judge-asked =
+              asked-of-step : JudgeAsked counts signals line step links movements phases claims (rowFrom counts ledger n) row ledger times arrivals′ curves′ (suc n)
+              asked-of-step =
                   let tables = line-tables valid counted plan-numbers (asked .tables .link-table) (asked .tables .movement-table) offers shown in
                   record {
                     signal-tables = record {
@@ -292,8 +281,7 @@ module _ {networkText planText : List ℕ} {counts : Counts} {tramsAt : ℕ} {li
                       phase-last = tables .tables .phase-last;
                     };
                     line-tables = tables;
-                    few-steps = step-few;
-                    room = room-before;
+                    few-steps = omega (arith, step-few);
                     fits = λ v.
                         next-row-fits counted plan-numbers (asked .tables .movement-table) before (movements-named counted (asked .tables .movement-table) valid) previous-size row-size
                         (entered-word net pln (asked .tables .holds) (suc n) (asked .more) (keeps v)) (left-word net pln (asked .tables .holds) (suc n) (asked .more) (keeps v));
@@ -302,15 +290,15 @@ module _ {networkText planText : List ℕ} {counts : Counts} {tramsAt : ℕ} {li
                         (drop (2 * counts .links) row) refl made-size previous-size (omega (arith, room-after));
                   }
 
-              module _ {v : Verdict} {row′ : List ℕ} (got : Judged counts signals line step links movements phases claims ledger times arrivals′ curves′ row n v row′) where
+              pub judge-asked : ((n < maxSteps) × (2 * n * counts .links ≤ length ledger)) × JudgeAsked counts signals line step links movements phases claims (rowFrom counts ledger n) row ledger times arrivals′ curves′ (n + 1)
+              judge-asked = ((step-few, room-before), rw (add-one n) asked-of-step)
+
+              module _ {v : Verdict} {row′ : List ℕ} (got : Judged counts signals line step links movements phases claims (rowFrom counts ledger n) row ledger times arrivals′ curves′ (n + 1) v row′) where
                 -- the judgement is the paper's verdict on the line
                 line-judged : v ≡ verdict (lineChecks net pln n)
-                unfolding signalVerdict sumVerdict
                 line-judged =
-                    got .told
-                    ∙ ap₂ orElse (signal-rules-are (counted .signals) (asked .state-at .signals-at) shown claimed (offers .lasts) (suc n))
-                    (ap₂ orElse limits-are
-                    (sum-rules-are (asked .tables .holds) counted plan-numbers (asked .tables .link-table) (asked .tables .movement-table) before after ledger (asked .state-at .rows) (asked .tables .time-table) arrivals-at (moved .curves-at) (asked .more)))
+                    rw (add-one n) at (got .told)
+                    ∙ rules-are (asked .tables .holds) counted plan-numbers (asked .tables .link-table) (asked .tables .movement-table) (asked .state-at .signals-at) shown claimed offers before after ledger (asked .state-at .rows) (asked .tables .time-table) arrivals-at (moved .curves-at) (asked .more)
                     ∙ sym (line-formed net pln n is-formed)
 
                 pub step-refused : {r : Refusal} → v ≡ Refused r → StepGot networkText planText ledger state (record { verdict = v; state = state }) signals arrivals′ curves′ places′ waiting ledger
@@ -324,7 +312,7 @@ module _ {networkText planText : List ℕ} {counts : Counts} {tramsAt : ℕ} {li
                     }
 
                 module _ (passes : v ≡ Passes) (same : length row′ ≡ length row) where
-                  made : row′ ≡ madeRow counts line movements ledger row n
+                  made : row′ ≡ madeRow counts line movements (rowFrom counts ledger n) row
                   made = got .made passes
 
                   passed-line : verdict (lineChecks net pln n) ≡ Passes

@@ -7,11 +7,11 @@ use lib.Dec.{eqb}
 use lib.ListN.{length}
 use Rattle.search.specs.declared.Refusal.{Refusal}
 use Rattle.search.specs.declared.Verdict.the-variants.{Passes, Refused}
-use Rattle.search.specs.Checks.{refusal, verdict, orElse, table}
+use Rattle.search.specs.Checks.{refusal, verdict, table}
 use Rattle.search.proofs.Laws.{or-else-passes, or-else-refused, first-stop, first-passes, checked-passes, checked-refused}
 use Rattle.records.specs.Lines.{Line}
 use Rattle.model.specs.Network.{linkCount, signalCount, movementCount, stepCount}
-use Rattle.model.specs.Table.{letterP, isForm, signalRules, limitRules, sumRules, lineChecks, planLineChecks}
+use Rattle.model.specs.Table.{letterP, isForm, stepRules, lineChecks, planLineChecks}
 
 module _ (network plan : List Line) where
   -- line n has the form of a `P` line
@@ -24,7 +24,7 @@ module _ (network plan : List Line) where
 
   pub line-formed : (n : ℕ) → formed n ≡ true
       → verdict (lineChecks network plan n)
-      ≡ orElse (verdict (table (suc n) (signalRules network plan n))) (orElse (verdict (table (suc n) (limitRules network plan n))) (verdict (table (suc n) (sumRules network plan n))))
+      ≡ verdict (table (suc n) (stepRules network plan n))
   unfolding verdict lineChecks
   line-formed n h = or-else-passes _ _ (checked-passes (formed n) 9 (suc n) 0 h)
 

@@ -1,18 +1,18 @@
--- The search for the first broken rule of a table, a turn at a time: the whole search finds what the search from here finds. And tables whose rules agree.
+-- The search for the first broken rule of a table, a turn at a time: every rule before the one that it is at holds of every item. And tables whose rules agree.
 -- Assumes nothing.
-use Prim.Native.Nat.{ℕ, suc, _+_, _-_, _≤_, _<_}
-use mathlib.Core.Path.{_≡_, sym, ap, ap₂, _∙_}
+use Prim.Native.Nat.{ℕ, zero, suc, _+_, _≤_, _<_}
+use mathlib.Core.Path.{_≡_, refl, sym, ap, ap₂, _∙_}
 use mathlib.Core.Bool.{Bool, true, false, not}
-use mathlib.Core.List.{List}
+use mathlib.Core.List.{List, [], _∷_}
 use native.Mathlib.Numerals.{add-one}
-use native.Mathlib.Nat.{sub-zero}
 use native.Mathlib.Omega.{arith}
+use borrow.Author.Count.{below-more}
 use borrow.Author.Tests.{not-true, not-false}
 use lib.ListN.{length}
 use Rattle.search.specs.declared.Verdict.{Verdict}
 use Rattle.search.specs.declared.Verdict.the-variants.{Passes, Refused}
-use Rattle.search.specs.Checks.{refusal, firstFrom, checked, orElse, verdict, Rule, ruleAt, table}
-use Rattle.search.proofs.Laws.{first-hit, first-next, first-done, first-same, first-all, or-else-passes, or-else-refused, checked-true, checked-passes, checked-refused}
+use Rattle.search.specs.Checks.{refusal, firstFrom, checked, verdict, Hold, Rule, ruleAt, rulesFrom, table}
+use Rattle.search.proofs.Laws.{first-same, first-all, first-stop, first-passes, checked-true, checked-passes, checked-refused}
 
 -- one item of the rule at a place, and the rule over its items, told at a line
 abbrev itemVerdict : ℕ → List Rule → ℕ → ℕ → Verdict
@@ -21,50 +21,85 @@ itemVerdict line rules place item = checked (ruleAt rules place .holds item) (ru
 abbrev ruleVerdict : ℕ → List Rule → ℕ → Verdict
 ruleVerdict line rules place = firstFrom (itemVerdict line rules place) (ruleAt rules place .items) 0
 
--- the rules of a table are left from a place on
-pub record RulesLeft (line : ℕ) (rules : List Rule) (place : ℕ) : Type 0 where
-  pub left : verdict (table line rules) ≡ firstFrom (ruleVerdict line rules) (length rules - place) place
+-- a table by index
+pub rules-length : (f : ℕ → Rule) (n i : ℕ) → length (rulesFrom f n i) ≡ n
+unfolding rulesFrom
+rules-length f zero i = refl
+rules-length f (suc n) i = ap suc (rules-length f n (i + 1))
 
--- the items of the rule at a place are left from one on, and then the rules after it
-pub record ItemsLeft (line : ℕ) (rules : List Rule) (place item : ℕ) : Type 0 where
-  pub left : verdict (table line rules)
-      ≡ orElse (firstFrom (itemVerdict line rules place) (ruleAt rules place .items - item) item) (firstFrom (ruleVerdict line rules) (length rules - (place + 1)) (place + 1))
+rule-from : (f : ℕ → Rule) (n i k : ℕ) → k < n → ruleAt (rulesFrom f n i) k ≡ f (i + k)
+unfolding rulesFrom
+rule-from f zero i k l = absurd (omega arith)
+rule-from f (suc n) i zero l = let e : i ≡ i + 0 = omega arith in ap f e
+rule-from f (suc n) i (suc k) l = let e : i + 1 + k ≡ i + suc k = omega arith in rule-from f n (i + 1) k (omega arith) ∙ ap f e
 
-pub rules-first : (line : ℕ) (rules : List Rule) → RulesLeft line rules 0
+pub rule-is : (f : ℕ → Rule) (n k : ℕ) → k < n → ruleAt (rulesFrom f n 0) k ≡ f k
+rule-is f n k l = let e : 0 + k ≡ k = omega arith in rule-from f n 0 k l ∙ ap f e
+
+-- a rule holds of every item
+abbrev pub Kept : Rule → Type 0
+Kept rule = (i : ℕ) → i < rule .items → rule .holds i ≡ true
+
+-- the rules of a table before a place hold of every item
+pub record RulesKept (rules : List Rule) (place : ℕ) : Type 0 where
+  pub kept : (k : ℕ) → k < place → Kept (ruleAt rules k)
+
+-- so does the rule at that place of the items before one
+pub record ItemsKept (rules : List Rule) (place item : ℕ) : Type 0 where
+  pub before : RulesKept rules place
+  pub kept : (i : ℕ) → i < item → ruleAt rules place .holds i ≡ true
+
+pub rules-none : (rules : List Rule) → RulesKept rules 0
+rules-none rules = record { kept = λ k l. absurd (omega arith) }
+
+pub items-none : {rules : List Rule} {place : ℕ} → RulesKept rules place → ItemsKept rules place 0
+items-none w = record { before = w; kept = λ i l. absurd (omega arith) }
+
+kept-passes : (line : ℕ) (rules : List Rule) (k : ℕ) → Kept (ruleAt rules k) → ruleVerdict line rules k ≡ Passes
+kept-passes line rules k kept = first-passes (itemVerdict line rules k) _ (λ i l. checked-passes _ _ _ _ (kept i l))
+
+pub rules-all : (line : ℕ) {rules : List Rule} {place : ℕ} → RulesKept rules place → length rules ≤ place → verdict (table line rules) ≡ Passes
 unfolding verdict table
-rules-first line rules = record { left = rw sub-zero }
+rules-all line {rules} w h = first-passes (ruleVerdict line rules) _ (λ k l. kept-passes line rules k (w .kept k (omega arith)))
 
-module _ {line : ℕ} {rules : List Rule} {place : ℕ} where
-  pub items-first : RulesLeft line rules place → place < length rules → ItemsLeft line rules place 0
-  unfolding firstFrom
-  items-first w h =
-      let s : length rules - place ≡ suc (length rules - (place + 1)) = omega arith in
-      record { left = w .left ∙ rw (s, sub-zero) }
+-- the rule at the place is known
+module _ {rules : List Rule} {place item : ℕ} (w : ItemsKept rules place item) {rule : Rule} (is : ruleAt rules place ≡ rule) where
+  pub items-more : {r : Bool} → r ≡ rule .holds item → not r ≡ false → ItemsKept rules place (item + 1)
+  items-more {r} e t = record { before = w .before; kept = below-more (λ i. ruleAt rules place .holds i ≡ true) item (w .kept) (rw is (sym e ∙ not-false r t)) }
 
-  pub rules-done : RulesLeft line rules place → length rules ≤ place → verdict (table line rules) ≡ Passes
-  rules-done w h = w .left ∙ first-done (ruleVerdict line rules) (length rules) place h
+  pub rules-more : rule .items ≤ item → RulesKept rules (place + 1)
+  rules-more h =
+      let all : ruleAt rules place .items ≤ item = rw is h in
+      record { kept = below-more (λ k. Kept (ruleAt rules k)) place (w .before .kept) (λ i l. w .kept i (omega arith)) }
 
-  -- the rule at the place is known
-  module _ {rule : Rule} (is : ruleAt rules place ≡ rule) {item : ℕ} (w : ItemsLeft line rules place item) where
-    pub items-next : {r : Bool} → item < rule .items → r ≡ rule .holds item → not r ≡ false → ItemsLeft line rules place (item + 1)
-    items-next {r} h e t =
-        record {
-          left = w .left ∙ ap (λ x. orElse x (firstFrom (ruleVerdict line rules) (length rules - (place + 1)) (place + 1)))
-              (first-next (itemVerdict line rules place) _ item (rw is h) (checked-passes (ruleAt rules place .holds item) _ _ _ (rw is (sym e ∙ not-false r t))));
-        }
-
-    pub items-done : rule .items ≤ item → RulesLeft line rules (place + 1)
-    items-done h = record { left = w .left ∙ or-else-passes _ _ (first-done (itemVerdict line rules place) _ item (rw is h)) }
-
-    pub items-hit : {r : Bool} → item < rule .items → r ≡ rule .holds item → not r ≡ true → Refused (refusal (rule .number) line (item + 1)) ≡ verdict (table line rules)
-    items-hit {r} h e t =
-        rw (← is, add-one) (sym (w .left ∙ or-else-refused _ _ _ (first-hit (itemVerdict line rules place) _ item _ (rw is h) (checked-refused (ruleAt rules place .holds item) _ _ _ (rw is (sym e ∙ not-true r t))))))
+  pub items-broken : (line : ℕ) → place < length rules → item < rule .items → {r : Bool} → r ≡ rule .holds item → not r ≡ true
+      → Refused (refusal (rule .number) line (item + 1)) ≡ verdict (table line rules)
+  unfolding verdict table
+  items-broken line h l {r} e t =
+      rw (← is, add-one)
+      (sym (first-stop (ruleVerdict line rules) _ place _ (λ k u. kept-passes line rules k (w .before .kept k u)) h
+      (first-stop (itemVerdict line rules place) _ item _ (λ i u. checked-passes _ _ _ _ (w .kept i u)) (rw is l)
+      (checked-refused (ruleAt rules place .holds item) _ _ _ (rw is (sym e ∙ not-true r t))))))
 
 -- a table that passes: each of its rules holds of every item
 pub table-holds : (line : ℕ) (rules : List Rule) → verdict (table line rules) ≡ Passes → (place : ℕ) → place < length rules
     → (item : ℕ) → item < ruleAt rules place .items → ruleAt rules place .holds item ≡ true
 unfolding verdict table
 table-holds line rules v place h item l = checked-true _ _ _ _ (first-all (itemVerdict line rules place) _ (first-all (ruleVerdict line rules) _ v place h) item l)
+
+-- every rule of a table holds of every item
+unfoldable pub AllKept : List Rule → Type 0
+AllKept [] = _≡_ {A = List Rule} [] []
+AllKept (rule ∷ rules) = Kept rule × AllKept rules
+
+pub kept-hold : (line : ℕ) (rules : List Rule) → AllKept rules → Hold (table line rules)
+unfolding Hold table AllKept
+kept-hold line rules kept k l = at rules kept k l
+  where
+    at : (rules : List Rule) → AllKept rules → (k : ℕ) → k < length rules → Kept (ruleAt rules k)
+    at [] kept k l = absurd (omega arith)
+    at (rule ∷ rules) kept zero l = kept .0
+    at (rule ∷ rules) kept (suc k) l = at rules (kept .1) k (omega arith)
 
 -- ---- two tables
 -- the same number and items, and the tests agree on every item
@@ -79,9 +114,27 @@ same-rule line r s e =
     ap₂ (λ x n. firstFrom (λ i. checked (r .holds i) x line (suc i)) n 0) (e .number) (e .items)
     ∙ first-same _ _ (s .items) 0 (λ i l u. ap (λ x. checked x (s .number) line (suc i)) (e .holds i (omega arith)))
 
-pub same-table : (line : ℕ) (a b : List Rule) → length a ≡ length b → ((k : ℕ) → k < length b → SameRule (ruleAt a k) (ruleAt b k))
-    → verdict (table line a) ≡ verdict (table line b)
+-- the rules of two tables agree, one by one
+unfoldable pub SameRules : List Rule → List Rule → Type 0
+SameRules [] b = [] ≡ b
+SameRules (r ∷ a) [] = ⊥
+SameRules (r ∷ a) (s ∷ b) = SameRule r s × SameRules a b
+
+same-length : (a b : List Rule) → SameRules a b → length a ≡ length b
+unfolding SameRules
+same-length [] b e = ap length e
+same-length (r ∷ a) [] e = absurd e
+same-length (r ∷ a) (s ∷ b) e = ap suc (same-length a b (e .1))
+
+pub same-at : (a b : List Rule) → SameRules a b → (k : ℕ) → k < length b → SameRule (ruleAt a k) (ruleAt b k)
+unfolding SameRules
+same-at [] b e k l = absurd (let z : length b ≡ 0 = sym (ap length e) in omega arith)
+same-at (r ∷ a) [] e k l = absurd e
+same-at (r ∷ a) (s ∷ b) e zero l = e .0
+same-at (r ∷ a) (s ∷ b) e (suc k) l = same-at a b (e .1) k (omega arith)
+
+pub same-table : (line : ℕ) (a b : List Rule) → SameRules a b → verdict (table line a) ≡ verdict (table line b)
 unfolding verdict table
-same-table line a b e same =
-    ap (λ n. firstFrom (ruleVerdict line a) n 0) e
-    ∙ first-same (ruleVerdict line a) (ruleVerdict line b) (length b) 0 (λ k l u. same-rule line (ruleAt a k) (ruleAt b k) (same k (omega arith)))
+same-table line a b e =
+    ap (λ n. firstFrom (ruleVerdict line a) n 0) (same-length a b e)
+    ∙ first-same (ruleVerdict line a) (ruleVerdict line b) (length b) 0 (λ k l u. same-rule line (ruleAt a k) (ruleAt b k) (same-at a b e k (omega arith)))

@@ -2,7 +2,7 @@
 use mathlib.Core.Path.{_≡_}
 use mathlib.Core.Bool.{Bool, true, false}
 use mathlib.Core.Logic.{_⊎_}
-use mathlib.Core.List.{List}
+use mathlib.Core.List.{List, [], _∷_}
 use Prim.Native.Nat.{ℕ, zero, suc, _+_, _<_}
 use lib.ListN.{length, getD}
 use Rattle.search.specs.declared.Refusal.{Refusal}
@@ -63,6 +63,11 @@ noRule = record { number = 0; items = 0; holds = λ i. true }
 
 abbrev pub ruleAt : List Rule → ℕ → Rule
 ruleAt rules k = getD rules k noRule
+
+-- n rules by rising index: f i, f (i + 1), ..
+unfoldable pub rulesFrom : (ℕ → Rule) → ℕ → ℕ → List Rule
+rulesFrom f zero i = []
+rulesFrom f (suc n) i = f i ∷ rulesFrom f n (i + 1)
 
 -- the rules of a table in order, each over rising items, told at one line
 unfoldable pub table : ℕ → List Rule → Checks

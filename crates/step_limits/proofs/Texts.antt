@@ -1,24 +1,22 @@
 -- The limits by the program's tables are those of the paper, where the tables hold what the texts say. Assumes nothing.
-use mathlib.Core.Path.{_≡_, refl, ap₂}
+use mathlib.Core.Path.{_≡_, refl, sym, ap₂, _∙_}
 use mathlib.Core.List.{List}
-use Prim.Native.Nat.{ℕ, zero, suc, _*_, _-_, _≤_, _<_}
+use Prim.Native.Nat.{ℕ, _*_, _-_, _≤_, _<_}
 use native.Mathlib.Nat.{le-trans}
 use native.Mathlib.Decide.{decLe}
 use native.Mathlib.Omega.{arith}
 use borrow.Author.Tests.{leb-true, eq-eqb}
 use lib.Dec.{leb}
 use lib.ListN.{getD}
-use Rattle.search.specs.Checks.{verdict, ruleAt, table}
-use Rattle.search.proofs.Table.{SameRule, same-table}
 use Rattle.records.specs.Lines.{Line}
 use Rattle.model.specs.Test.{_or_, within}
 use Rattle.model.specs.Network.{linkCount, signalCount, movementCount, signal, signalOf, fromLink}
 use Rattle.model.specs.Flows.{shownIn, shownMask, isOpen}
 use Rattle.model.specs.Rules.{validPhases, rule15, rule25, rule26, rule27}
-use Rattle.model.specs.Table.{limitRules}
 use Rattle.model.proofs.Tests.{and-right}
 use Rattle.model.proofs.Phases.{phase-of-le}
 use Rattle.model.proofs.Accepted.{ValidNetwork}
+use Rattle.model.proofs.Bounds.{KeepsLimits}
 use Rattle.model.proofs.Limits.{link-limits, movement-limits}
 use Rattle.tables.specs.declared.Counts.{Counts}
 use Rattle.tables.specs.Tables.{CountsHold, LinkTable, MovementTable, PlanNumbers}
@@ -27,18 +25,18 @@ use Rattle.waiting.specs.Waiting.{StepOffers}
 use Rattle.waiting.proofs.Texts.{offer-is}
 use Rattle.step_signals.specs.Step.{ShownTable}
 use Rattle.step_rows.proofs.Texts.{movements-named, let-out-is, moved-is}
-use Rattle.step_limits.specs.Limits.{admitsOffer, letsOutRate, isOpenIn, movesRate, movesOpen, limitTest, limitRulesIn, LineTables}
+use Rattle.step_limits.specs.Limits.{admitsOffer, letsOutRate, isOpenIn, movesRate, movesOpen, limitRuleHolds, LimitsKept, LineTables}
 
 module _ {network plan : List Line} {n : ℕ} {counts : Counts} {line step links movements phases : List ℕ} (valid : ValidNetwork network) (counted : CountsHold network counts)
     (numbers : PlanNumbers network plan n line) (link-table : LinkTable network links) (movement-table : MovementTable network movements)
     (offers : StepOffers network plan n step) (shown : ShownTable network plan n phases) where
-  admits-offer-is : (i : ℕ) → i < linkCount network → admitsOffer counts line step i ≡ rule15 network plan n i
-  unfolding admitsOffer
-  admits-offer-is i h = offer-is counted numbers offers i h
+  pub rule15-is : (i : ℕ) → i < linkCount network → limitRuleHolds counts line step links movements phases 0 i ≡ rule15 network plan n i
+  unfolding limitRuleHolds admitsOffer
+  rule15-is i h = offer-is counted numbers offers i h
 
-  lets-out-rate-is : (i : ℕ) → i < linkCount network → letsOutRate counts line step links i ≡ rule25 network plan n i
-  unfolding letsOutRate rule25
-  lets-out-rate-is i h = ap₂ leb (let-out-is counted numbers i h) (ap₂ (λ x y. x * y) (exit-rate-at link-table i h) (offers .lasts))
+  pub rule25-is : (i : ℕ) → i < linkCount network → limitRuleHolds counts line step links movements phases 1 i ≡ rule25 network plan n i
+  unfolding limitRuleHolds letsOutRate rule25
+  rule25-is i h = ap₂ leb (let-out-is counted numbers i h) (ap₂ (λ x y. x * y) (exit-rate-at link-table i h) (offers .lasts))
 
   is-open-is : (i : ℕ) → i < linkCount network → isOpenIn links phases i ≡ isOpen network plan n i
   unfolding isOpenIn isOpen _or_
@@ -49,27 +47,25 @@ module _ {network plan : List Line} {n : ℕ} {counts : Counts} {line step links
         | no s ↦ rw (eq-eqb (signalOf network i) 0 (omega arith)) refl
       ])
 
-  moves-rate-is : (j : ℕ) → j < movementCount network → movesRate counts line step movements j ≡ rule26 network plan n j
-  unfolding movesRate rule26
-  moves-rate-is j h = ap₂ leb (moved-is counted numbers j h) (ap₂ (λ x y. x * y) (rate-at movement-table j h) (offers .lasts))
+  pub rule26-is : (j : ℕ) → j < movementCount network → limitRuleHolds counts line step links movements phases 2 j ≡ rule26 network plan n j
+  unfolding limitRuleHolds movesRate rule26
+  rule26-is j h = ap₂ leb (moved-is counted numbers j h) (ap₂ (λ x y. x * y) (rate-at movement-table j h) (offers .lasts))
 
-  moves-open-is : (j : ℕ) → j < movementCount network → movesOpen counts line links movements phases j ≡ rule27 network plan n j
-  unfolding movesOpen rule27
-  moves-open-is j h =
+  pub rule27-is : (j : ℕ) → j < movementCount network → limitRuleHolds counts line step links movements phases 3 j ≡ rule27 network plan n j
+  unfolding limitRuleHolds movesOpen rule27
+  rule27-is j h =
       let l : fromLink network j - 1 < linkCount network = omega (arith, movement-limits network valid j h) in
       rw (moved-is counted numbers j h, from-link-at movement-table j h, is-open-is (fromLink network j - 1) l)
 
-  limit-rule-same : (k : ℕ) → k < 4 → SameRule (ruleAt (limitRulesIn counts line step links movements phases) k) (ruleAt (limitRules network plan n) k)
-  unfolding limitRulesIn limitTest limitRules
-  limit-rule-same zero h = record { number = refl; items = counted .links; holds = admits-offer-is }
-  limit-rule-same (suc zero) h = record { number = refl; items = counted .links; holds = lets-out-rate-is }
-  limit-rule-same (suc (suc zero)) h = record { number = refl; items = counted .movements; holds = moves-rate-is }
-  limit-rule-same (suc (suc (suc zero))) h = record { number = refl; items = counted .movements; holds = moves-open-is }
-  limit-rule-same (suc (suc (suc (suc k)))) h = absurd (omega arith)
-
-  pub limit-rules-are : (number : ℕ) → verdict (table number (limitRulesIn counts line step links movements phases)) ≡ verdict (table number (limitRules network plan n))
-  unfolding limitRulesIn limitRules
-  limit-rules-are number = same-table number _ _ refl limit-rule-same
+  -- a line that keeps its limits keeps the paper's
+  pub keeps-paper : LimitsKept counts line step links movements phases → KeepsLimits network plan n
+  unfolding limitRuleHolds
+  keeps-paper kept =
+      record {
+        admissions = λ i l. sym (rule15-is i l) ∙ kept .of-links i (omega (arith, counted .links)) .0;
+        exits = λ i l. sym (rule25-is i l) ∙ kept .of-links i (omega (arith, counted .links)) .1;
+        movements = λ j l. sym (rule26-is j l) ∙ kept .of-movements j (omega (arith, counted .movements)) .0;
+      }
 
   phase-small : (r : ℕ) → r < signalCount network → getD phases r 0 ≤ 8
   phase-small r h =

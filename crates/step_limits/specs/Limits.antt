@@ -6,7 +6,6 @@ use mathlib.Core.List.{List, [], _∷_}
 use Prim.Native.Nat.{ℕ, _*_, _-_, _≤_, _<_}
 use lib.Dec.{leb, eqb}
 use lib.ListN.{length, getD}
-use Rattle.search.specs.Checks.{Rule}
 use Rattle.model.specs.Test.{_or_}
 use Rattle.model.specs.Network.{maxSignals}
 use Rattle.model.specs.Signals.{opens}
@@ -36,15 +35,12 @@ movesRate counts line step movements j = leb (movedIn counts line j) (rateIn mov
 unfoldable pub movesOpen : Counts → List ℕ → List ℕ → List ℕ → List ℕ → ℕ → Bool
 movesOpen counts line links movements phases j = isOpenIn links phases (linkIn movements 0 j - 1) or eqb (movedIn counts line j) 0
 
--- test k of the four: the number it is refused by, and to how many items it is put
-abbrev pub limitNumber : ℕ → ℕ
-limitNumber k = getD (15 ∷ 25 ∷ 26 ∷ 27 ∷ []) k 0
-
+-- to how many items rule k of the four is put, and whether it holds of one
 abbrev pub limitItems : Counts → ℕ → ℕ
 limitItems counts k = getD (counts .links ∷ counts .links ∷ counts .movements ∷ counts .movements ∷ []) k 0
 
-unfoldable pub limitTest : Counts → List ℕ → List ℕ → List ℕ → List ℕ → List ℕ → ℕ → ℕ → Bool
-limitTest counts line step links movements phases k item =
+unfoldable pub limitRuleHolds : Counts → List ℕ → List ℕ → List ℕ → List ℕ → List ℕ → ℕ → ℕ → Bool
+limitRuleHolds counts line step links movements phases k item =
     getD
     (admitsOffer counts line step item
     ∷ letsOutRate counts line step links item
@@ -54,15 +50,21 @@ limitTest counts line step links movements phases k item =
     k
     true
 
-abbrev pub limitRuleIn : Counts → List ℕ → List ℕ → List ℕ → List ℕ → List ℕ → ℕ → Rule
-limitRuleIn counts line step links movements phases k =
-    record { number = limitNumber k; items = limitItems counts k; holds = limitTest counts line step links movements phases k }
+-- the first n links keep 15 and 25
+abbrev pub LinkLimitsKept : Counts → List ℕ → List ℕ → List ℕ → ℕ → Type 0
+LinkLimitsKept counts line step links n = (i : ℕ) → i < n → (admitsOffer counts line step i ≡ true) × (letsOutRate counts line step links i ≡ true)
 
--- the table of the limits
-unfoldable pub limitRulesIn : Counts → List ℕ → List ℕ → List ℕ → List ℕ → List ℕ → List Rule
-limitRulesIn counts line step links movements phases =
-    let rule = limitRuleIn counts line step links movements phases in
-    rule 0 ∷ rule 1 ∷ rule 2 ∷ rule 3 ∷ []
+-- movement j, and the first n movements, keep 26 and 27
+abbrev pub MovementKept : Counts → List ℕ → List ℕ → List ℕ → List ℕ → List ℕ → ℕ → Type 0
+MovementKept counts line step links movements phases j = (movesRate counts line step movements j ≡ true) × (movesOpen counts line links movements phases j ≡ true)
+
+abbrev pub MovementLimitsKept : Counts → List ℕ → List ℕ → List ℕ → List ℕ → List ℕ → ℕ → Type 0
+MovementLimitsKept counts line step links movements phases n = (j : ℕ) → j < n → MovementKept counts line step links movements phases j
+
+-- every limit is kept
+pub record LimitsKept (counts : Counts) (line step links movements phases : List ℕ) : Type 0 where
+  pub of-links : LinkLimitsKept counts line step links (counts .links)
+  pub of-movements : MovementLimitsKept counts line step links movements phases (counts .movements)
 
 -- the tables that rule 27 reads
 pub record OpenTables (counts : Counts) (line links movements phases : List ℕ) : Type 0 where

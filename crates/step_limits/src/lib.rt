@@ -3,13 +3,11 @@ ghost use mathlib.Core.Path.{_≡_};
 ghost use Prim.Native.Nat.{ℕ, _*_, _<_, _≤_};
 ghost use lib.Dec.{leb};
 ghost use lib.ListN.{length, getD};
-ghost use Rattle.search.specs.Checks.{verdict, table};
+ghost use mathlib.Core.Bool.{true};
 ghost use Rattle.model.specs.Network.{maxLinks, maxSignals};
 ghost use Rattle.tables.specs.Places.{Few};
 ghost use Rattle.tables.specs.Fields.{linkTableSize, movementTableSize, stepSize, lineSize, signalIn};
-ghost use Rattle.step_limits.specs.Limits.{admitsOffer, letsOutRate, isOpenIn, movesRate, movesOpen, limitNumber, limitItems, limitTest, limitRulesIn, OpenTables, LineTables};
-use search::Refusal;
-use search::Verdict;
+ghost use Rattle.step_limits.specs.Limits.{admitsOffer, letsOutRate, isOpenIn, movesRate, movesOpen, limitItems, limitRuleHolds, LinkLimitsKept, MovementKept, MovementLimitsKept, LimitsKept, OpenTables, LineTables};
 use tables::Counts;
 use tables::admitted;
 use tables::exit_rate;
@@ -85,31 +83,8 @@ fn moves_open(
     is_open(links, phases, step_rows::from_link(movements, counts, j))
 }
 
-// The number that test k of the four is refused by.
-fn limit_number(k: usize) -> u32
-    requires { ⌜ k < 4 ⌝ }
-    ensures { λ r. ⌜ r ≡ limitNumber k ⌝ }
-{
-    let numbers = [15, 25, 26, 27];
-    numbers[k]
-}
-
-// To how many items test k of the four is put.
-fn limit_items(k: usize, counts: Counts) -> usize
-    requires { ⌜ k < 4 ⌝ }
-    ensures { λ r. ⌜ r ≡ limitItems counts k ⌝ }
-{
-    let items = [
-        counts.links,
-        counts.links,
-        counts.movements,
-        counts.movements,
-    ];
-    items[k]
-}
-
-// Whether test k of the four holds of an item.
-fn limit_test(
+// Whether rule k of the four, 15 and 25 to 27, holds of an item.
+pub fn limit_rule(
     k: usize,
     item: usize,
     line: &[u32],
@@ -121,7 +96,7 @@ fn limit_test(
 ) -> bool
     requires { ⌜ LineTables counts (now line) (now step) (now links) (now movements) (now phases) ⌝ }
     requires { ⌜ item < limitItems counts k ⌝ }
-    ensures { λ r. ⌜ r ≡ limitTest counts (now (line .entry)) (now (step .entry)) (now (links .entry)) (now (movements .entry)) (now (phases .entry)) k item ⌝ }
+    ensures { λ r. ⌜ r ≡ limitRuleHolds counts (now (line .entry)) (now (step .entry)) (now (links .entry)) (now (movements .entry)) (now (phases .entry)) k item ⌝ }
 {
     match k {
         0 => admits_offer(line, step, counts, item),
@@ -132,32 +107,77 @@ fn limit_test(
     }
 }
 
-// The first of rules 15, 25, 26 and 27 that a step breaks, each over rising items; `number` is the plan's line that tells it.
-pub fn first_limit_break(
+// Whether all links keep 15 and 25, in one pass over them.
+fn keeps_link_limits(line: &[u32], step: &[u32], links: &[u32], counts: Counts) -> bool
+    requires { ⌜ Few counts × (length (now line) ≡ lineSize) × (length (now step) ≡ stepSize) × (length (now links) ≡ linkTableSize) ⌝ }
+    ensures { λ r. ⌜ (r ≡ true → LinkLimitsKept counts (now (line .entry)) (now (step .entry)) (now (links .entry)) (counts .links)) ⌝ }
+{
+    let count = counts.links;
+    for i in 0..count {
+        if !(admits_offer(line, step, counts, i) & lets_out_rate(line, step, links, counts, i)) {
+            return false;
+        }
+    }
+    true
+}
+
+// Whether a movement keeps 26 and 27, as one that is 0 does.
+fn moves_within(
     line: &[u32],
     step: &[u32],
     links: &[u32],
     movements: &[u32],
     phases: &[u32],
     counts: Counts,
-    number: u32,
-) -> Verdict
+    j: usize,
+) -> bool
     requires { ⌜ LineTables counts (now line) (now step) (now links) (now movements) (now phases) ⌝ }
-    ensures { λ r. ⌜ r ≡ verdict (table number (limitRulesIn counts (now (line .entry)) (now (step .entry)) (now (links .entry)) (now (movements .entry)) (now (phases .entry)))) ⌝ }
+    requires { ⌜ j < counts .movements ⌝ }
+    ensures { λ r. ⌜ (r ≡ true → MovementKept counts (now (line .entry)) (now (step .entry)) (now (links .entry)) (now (movements .entry)) (now (phases .entry)) j) ⌝ }
 {
-    let mut found = Verdict::Passes;
-    'judge: for k in 0..4 {
-        let items = limit_items(k, counts);
-        for item in 0..items {
-            if !limit_test(k, item, line, step, links, movements, phases, counts) {
-                found = Verdict::Refused(Refusal {
-                    number: limit_number(k),
-                    line: number,
-                    item: (item + 1) as u32,
-                });
-                break 'judge;
-            }
+    let volume = moved(line, counts, j);
+    if volume == 0 {
+        return true;
+    }
+    within_rate(volume, rate(movements, j), step[0])
+        & is_open(links, phases, step_rows::from_link(movements, counts, j))
+}
+
+// Whether all movements keep 26 and 27, in one pass over them.
+fn keeps_movement_limits(
+    line: &[u32],
+    step: &[u32],
+    links: &[u32],
+    movements: &[u32],
+    phases: &[u32],
+    counts: Counts,
+) -> bool
+    requires { ⌜ LineTables counts (now line) (now step) (now links) (now movements) (now phases) ⌝ }
+    ensures { λ r. ⌜ (r ≡ true → MovementLimitsKept counts (now (line .entry)) (now (step .entry)) (now (links .entry)) (now (movements .entry)) (now (phases .entry)) (counts .movements)) ⌝ }
+{
+    let count = counts.movements;
+    for j in 0..count {
+        if !moves_within(line, step, links, movements, phases, counts, j) {
+            return false;
         }
     }
-    found
+    true
+}
+
+// Whether all limits are kept.
+pub fn keeps_limits(
+    line: &[u32],
+    step: &[u32],
+    links: &[u32],
+    movements: &[u32],
+    phases: &[u32],
+    counts: Counts,
+) -> bool
+    requires { ⌜ LineTables counts (now line) (now step) (now links) (now movements) (now phases) ⌝ }
+    ensures { λ r. ⌜ (r ≡ true → LimitsKept counts (now (line .entry)) (now (step .entry)) (now (links .entry)) (now (movements .entry)) (now (phases .entry))) ⌝ }
+{
+    if !keeps_link_limits(line, step, links, counts) {
+        return false;
+    }
+    keeps_movement_limits(line, step, links, movements, phases, counts)
 }

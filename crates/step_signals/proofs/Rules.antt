@@ -1,38 +1,50 @@
--- The rules of a signal by their places in their table, and that they keep it ready for the next step. Assumes nothing.
-use Prim.Native.Nat.{ℕ, zero, suc, _-_, _≤_, _<_}
-use mathlib.Core.Path.{_≡_, refl, sym}
-use mathlib.Core.Bool.{true, not, _||_}
+-- The rules of a signal by their places, and that they keep it ready for the next step. Assumes nothing.
+use Prim.Native.Nat.{ℕ, zero, suc, _+_, _-_, _≤_, _<_}
+use mathlib.Core.Path.{_≡_, refl, sym, _∙_}
+use mathlib.Core.Bool.{Bool, true, false, not, _||_}
 use mathlib.Core.List.{List}
 use native.Mathlib.Nat.{le-trans}
 use native.Mathlib.Omega.{arith}
 use lib.Dec.{leb}
 use lib.ListN.{getD, List·getD-eq-default}
-use borrow.Author.Tests.{leb-true}
-use Rattle.search.specs.Checks.{ruleAt}
+use borrow.Author.Count.{below-more}
+use borrow.Author.Tests.{leb-true, not-false}
 use Rattle.model.specs.declared.Signal.{Signal}
-use Rattle.model.specs.Test.{_and_, within}
+use Rattle.model.specs.Test.{_and_, _or_, within}
 use Rattle.model.specs.Signals.{greatestTime, beginsCycle, shownForAfter, clockAfter, keepsGreatestTime, keepsCycle, after}
 use Rattle.model.specs.Rules.{validPhases, validSignal}
 use Rattle.model.proofs.Tests.{and-left, and-right, every-at}
+use Rattle.tables.specs.Fields.{tableSignal}
 use Rattle.step_signals.specs.Ready.{Ready}
-use Rattle.step_signals.specs.Step.{signalTests, signalTest, signalRuleIn, signalRulesIn}
+use Rattle.step_signals.specs.Step.{signalTests, signalTest, keepsAll, signalRuleHolds, SignalRulesKept}
 
 -- past rule 14 there is none to break
 pub no-signal-test : (k : ℕ) (s : Signal) (q asked seconds : ℕ) → 6 ≤ k → true ≡ signalTest k s q asked seconds
 unfolding signalTest
 no-signal-test k s q asked seconds h = sym (List·getD-eq-default (signalTests s q asked seconds) true h)
 
--- ---- the table of the rules
-module _ (signals : List ℕ) (count : ℕ) (phases asked : List ℕ) (seconds : ℕ) where
-  pub signal-rule-is : (k : ℕ) → k < 6 → ruleAt (signalRulesIn signals count phases asked seconds) k ≡ signalRuleIn signals count phases asked seconds k
-  unfolding signalRulesIn
-  signal-rule-is zero h = refl
-  signal-rule-is (suc zero) h = refl
-  signal-rule-is (suc (suc zero)) h = refl
-  signal-rule-is (suc (suc (suc zero))) h = refl
-  signal-rule-is (suc (suc (suc (suc zero)))) h = refl
-  signal-rule-is (suc (suc (suc (suc (suc zero))))) h = refl
-  signal-rule-is (suc (suc (suc (suc (suc (suc k)))))) h = absurd (omega arith)
+-- a signal that keeps them all keeps each
+either : (a b c : Bool) → (b ≡ true → c ≡ true) → a or b ≡ true → a or c ≡ true
+unfolding _or_
+either true b c f h = refl
+either false b c f h = f h
+
+pub keeps-each : (s : Signal) (q asked seconds : ℕ) → keepsAll s q asked seconds ≡ true → (k : ℕ) → signalTest k s q asked seconds ≡ true
+unfolding keepsAll signalTest
+keeps-each s q asked seconds h zero = and-left _ _ (and-left _ _ h)
+keeps-each s q asked seconds h (suc zero) = and-right _ _ (and-left _ _ h)
+keeps-each s q asked seconds h (suc (suc zero)) = either _ _ _ (λ e. and-left _ _ (and-left _ _ e)) (and-right _ _ h)
+keeps-each s q asked seconds h (suc (suc (suc zero))) = either _ _ _ (λ e. and-right _ _ (and-left _ _ e)) (and-right _ _ h)
+keeps-each s q asked seconds h (suc (suc (suc (suc zero)))) = either _ _ _ (λ e. and-left _ _ (and-right _ _ e)) (and-right _ _ h)
+keeps-each s q asked seconds h (suc (suc (suc (suc (suc zero))))) = either _ _ _ (λ e. and-right _ _ (and-right _ _ e)) (and-right _ _ h)
+keeps-each s q asked seconds h (suc (suc (suc (suc (suc (suc k)))))) = refl
+
+-- the first r signals keep them, and so does the next
+pub kept-more : (signals phases asked : List ℕ) (seconds r : ℕ) {s : Signal} {b : Bool} → SignalRulesKept signals r phases asked seconds → s ≡ tableSignal signals r
+    → b ≡ keepsAll s (getD phases r 0) (getD asked r 0) seconds → not b ≡ false → SignalRulesKept signals (r + 1) phases asked seconds
+unfolding signalRuleHolds
+kept-more signals phases asked seconds r {s} {b} kept e f t =
+    below-more (λ r. (k : ℕ) → signalRuleHolds signals phases asked seconds k r ≡ true) r kept (rw e at (keeps-each s (getD phases r 0) (getD asked r 0) seconds (sym f ∙ not-false b t)))
 
 -- a signal that passes the network's check is ready for the first step
 pub ready-first : (s : Signal) → validPhases s ≡ true → validSignal s ≡ true → Ready s

@@ -10,7 +10,8 @@ use borrow.Author.Count.{below-more}
 use borrow.Author.Tests.{ne-eqb}
 use Rattle.tables.specs.Fields.{signalTableSize, tableSignal}
 use Rattle.tables.specs.Tables.{showing, SignalLaid}
-use Rattle.model.specs.Signals.{phaseOf, shownForAfter, clockAfter, after}
+use Rattle.model.specs.declared.Signal.{Signal}
+use Rattle.model.specs.Signals.{phaseOf, after}
 use Rattle.step_signals.specs.Step.{ShownPhases, HeldMasks, stepped, Advanced}
 
 module _ {A : Type 0} (l : List A) (i : ℕ) (x d : A) (h : i < length l) where
@@ -47,10 +48,10 @@ held-more signals before i line mask h s e = record {
 
 -- a signal after a step: in an ordinary one it goes on ..
 module _ {before : List ℕ} {r : ℕ} (q asked seconds : ℕ) where
-  pub signal-on : asked ≡ 0 → {run clock : ℕ} → run ≡ shownForAfter (tableSignal before r) q seconds → clock ≡ clockAfter (tableSignal before r) q seconds
-      → {next : List ℕ} → SignalLaid before r (showing (tableSignal before r) q run clock) next → SignalLaid before r (stepped (tableSignal before r) q asked seconds) next
-  signal-on e f g {next} laid =
-      let on : SignalLaid before r (after (tableSignal before r) q seconds) next = rw (f, g) at laid in
+  pub signal-on : asked ≡ 0 → {s next : Signal} → s ≡ tableSignal before r → next ≡ after s q seconds
+      → {result : List ℕ} → SignalLaid before r (showing (tableSignal before r) q (next .«shown_for») (next .«cycle_clock»)) result → SignalLaid before r (stepped (tableSignal before r) q asked seconds) result
+  signal-on e {s} {next} f g {result} laid =
+      let on : SignalLaid before r (after (tableSignal before r) q seconds) result = rw (g, f) at laid in
       rw e on
 
   -- .. and in a tram's it stands still

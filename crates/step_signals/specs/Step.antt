@@ -5,10 +5,9 @@ use mathlib.Core.Bool.{Bool, true, not, cond}
 use mathlib.Core.List.{List, [], _∷_}
 use lib.Dec.{eqb}
 use lib.ListN.{length, getD}
-use Rattle.search.specs.Checks.{Rule}
 use Rattle.records.specs.Lines.{Line}
 use Rattle.model.specs.declared.Signal.{Signal}
-use Rattle.model.specs.Test.{_or_}
+use Rattle.model.specs.Test.{_and_, _or_}
 use Rattle.model.specs.Network.{maxSignals, signalCount, trams, tramPhase}
 use Rattle.model.specs.Flows.{shownIn, signalAt}
 use Rattle.tables.specs.Fields.{signalTableSize, tableSignal}
@@ -30,26 +29,22 @@ signalTests s q asked seconds =
 unfoldable pub signalTest : ℕ → Signal → ℕ → ℕ → ℕ → Bool
 signalTest k s q asked seconds = getD (signalTests s q asked seconds) k true
 
--- its number
-abbrev pub signalNumber : ℕ → ℕ
-signalNumber k = getD (10 ∷ 29 ∷ 11 ∷ 12 ∷ 13 ∷ 14 ∷ []) k 0
+-- all of them hold
+unfoldable pub keepsAll : Signal → ℕ → ℕ → ℕ → Bool
+keepsAll s q asked seconds =
+    showsOnePhase q
+    and (eqb asked 0 or eqb q asked)
+    and (not (eqb asked 0) or keepsOrder s q and keepsLeastTime s q and (keepsGreatestTime s q seconds and keepsCycle s q seconds))
 
--- rule k of these over so many signals, which show these phases, and of which trams ask these
-abbrev pub signalRuleIn : List ℕ → ℕ → List ℕ → List ℕ → ℕ → ℕ → Rule
-signalRuleIn signals count phases asked seconds k =
-    record {
-      number = signalNumber k;
-      items = count;
-      holds = λ r. signalTest k (tableSignal signals r) (getD phases r 0) (getD asked r 0) seconds;
-    }
+-- the rule at place k of these holds of signal r, where signals show these phases, and trams ask these
+unfoldable pub signalRuleHolds : List ℕ → List ℕ → List ℕ → ℕ → ℕ → ℕ → Bool
+signalRuleHolds signals phases asked seconds k r = signalTest k (tableSignal signals r) (getD phases r 0) (getD asked r 0) seconds
 
--- the table of these rules
-unfoldable pub signalRulesIn : List ℕ → ℕ → List ℕ → List ℕ → ℕ → List Rule
-signalRulesIn signals count phases asked seconds =
-    let rule = signalRuleIn signals count phases asked seconds in
-    rule 0 ∷ rule 1 ∷ rule 2 ∷ rule 3 ∷ rule 4 ∷ rule 5 ∷ []
+-- every rule holds of the first n signals
+abbrev pub SignalRulesKept : List ℕ → ℕ → List ℕ → List ℕ → ℕ → Type 0
+SignalRulesKept signals n phases asked seconds = (r : ℕ) → r < n → (k : ℕ) → signalRuleHolds signals phases asked seconds k r ≡ true
 
--- what the search of these asks of the tables
+-- what these ask of the tables
 pub record SignalTables (signals : List ℕ) (count : ℕ) (phases asked : List ℕ) (seconds : ℕ) : Type 0 where
   pub few : count ≤ maxSignals
   pub size : length signals ≡ signalTableSize

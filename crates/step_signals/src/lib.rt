@@ -2,18 +2,16 @@
 // that a tram asks of a signal, 0 in an ordinary step.
 // The definitions stand in specs/ of crate model.
 ghost use mathlib.Core.Path.{_≡_};
-ghost use mathlib.Core.Bool.{cond};
+ghost use mathlib.Core.Bool.{true, cond};
 ghost use Prim.Native.Nat.{_-_, _^_, _≤_, _<_};
 ghost use lib.ListN.{length};
 ghost use Rattle.model.specs.Network.{maxSignals};
-ghost use Rattle.model.specs.Signals.{phaseOf, opens, nextPhase, beginsCycle, shownForAfter, clockAfter, keepsOrder, keepsLeastTime, keepsGreatestTime, keepsCycle};
+ghost use Rattle.model.specs.Signals.{phaseOf, opens, nextPhase, beginsCycle, shownForAfter, clockAfter, keepsOrder, keepsLeastTime, keepsGreatestTime, keepsCycle, after};
 ghost use Rattle.tables.specs.Fields.{signalTableSize, tableSignal};
 ghost use Rattle.tables.specs.Tables.{SignalLaid};
-ghost use Rattle.step_signals.specs.Ready.{ReadyIn, AllReady};
-ghost use Rattle.search.specs.Checks.{verdict, table};
-ghost use Rattle.step_signals.specs.Step.{signalTest, signalNumber, signalRulesIn, SignalTables, ShownPhases, HeldMasks, stepped, AdvanceAsked, Advanced};
-use search::Refusal;
-use search::Verdict;
+ghost use Rattle.step_signals.specs.Ready.{Ready, ReadyIn, AllReady};
+ghost use Rattle.step_signals.specs.Step.{signalTest, keepsAll, signalRuleHolds, SignalRulesKept, SignalTables, ShownPhases, HeldMasks, stepped, AdvanceAsked, Advanced};
+use model::Signal;
 
 // The phase, among 1 to `phases`, whose bit is all of the mask; 0 where there is none, which breaks rule 10 (C7). The count of ones tests that one
 // bit is set; the trailing zeros are its place.
@@ -61,14 +59,14 @@ fn choose(condition: bool, a: u32, b: u32) -> u32
 }
 
 // The phase after the shown one, by cases (C8): after P comes 1, after any other k comes k + 1. Where none is shown, it is 1.
-fn next_phase(signals: &[u32], r: usize) -> u32
-    requires { ⌜ ReadyIn (now signals) r ⌝ }
-    ensures { λ q. ⌜ q ≡ nextPhase (tableSignal (now (signals .entry)) r) ⌝ }
+fn next_phase(signal: Signal) -> u32
+    requires { ⌜ Ready signal ⌝ }
+    ensures { λ r. ⌜ r ≡ nextPhase signal ⌝ }
 {
-    let shown = tables::shown_phase(signals, r);
-    if shown == tables::phase_count(signals, r) {
+    if signal.shown == signal.phases {
         return 1;
     }
+    let shown = signal.shown;
     match shown {
         1 => 2,
         2 => 3,
@@ -82,73 +80,84 @@ fn next_phase(signals: &[u32], r: usize) -> u32
 }
 
 // Whether phase 1 begins again, which it does on a change to it only.
-fn begins_cycle(signals: &[u32], r: usize, phase: u32) -> bool
-    requires { ⌜ ReadyIn (now signals) r ⌝ }
-    ensures { λ b. ⌜ b ≡ beginsCycle (tableSignal (now (signals .entry)) r) phase ⌝ }
+fn begins_cycle(signal: Signal, phase: u32) -> bool
+    ensures { λ r. ⌜ r ≡ beginsCycle signal phase ⌝ }
 {
-    (phase == 1) & (tables::shown_phase(signals, r) != 1)
+    (phase == 1) & (signal.shown != 1)
 }
 
 // The seconds that the phase has shown after the step: a run starts at 0 when the phase changes.
-fn shown_for_after(signals: &[u32], r: usize, phase: u32, seconds: u32) -> u32
-    requires { ⌜ ReadyIn (now signals) r ⌝ }
+fn shown_for_after(signal: Signal, phase: u32, seconds: u32) -> u32
+    requires { ⌜ Ready signal ⌝ }
     requires { ⌜ seconds ≤ 60 ⌝ }
-    ensures { λ x. ⌜ x ≡ shownForAfter (tableSignal (now (signals .entry)) r) phase seconds ⌝ }
+    ensures { λ r. ⌜ r ≡ shownForAfter signal phase seconds ⌝ }
 {
-    let shown = tables::shown_phase(signals, r);
-    let shown_for = tables::shown_for(signals, r);
-    choose(phase == shown, shown_for + seconds, seconds)
+    choose(phase == signal.shown, signal.shown_for + seconds, seconds)
 }
 
 // The cycle clock after the step: it restarts at 0 when phase 1 begins again.
-fn clock_after(signals: &[u32], r: usize, phase: u32, seconds: u32) -> u32
-    requires { ⌜ ReadyIn (now signals) r ⌝ }
+fn clock_after(signal: Signal, phase: u32, seconds: u32) -> u32
+    requires { ⌜ Ready signal ⌝ }
     requires { ⌜ seconds ≤ 60 ⌝ }
-    ensures { λ x. ⌜ x ≡ clockAfter (tableSignal (now (signals .entry)) r) phase seconds ⌝ }
+    ensures { λ r. ⌜ r ≡ clockAfter signal phase seconds ⌝ }
 {
-    let begins = begins_cycle(signals, r, phase);
-    let clock = tables::cycle_clock(signals, r);
-    choose(begins, seconds, clock + seconds)
+    choose(
+        begins_cycle(signal, phase),
+        seconds,
+        signal.cycle_clock + seconds,
+    )
 }
 
 // Rule 11 (C8): the phase is that of the step before or the next.
-fn keeps_order(signals: &[u32], r: usize, phase: u32) -> bool
-    requires { ⌜ ReadyIn (now signals) r ⌝ }
-    ensures { λ b. ⌜ b ≡ keepsOrder (tableSignal (now (signals .entry)) r) phase ⌝ }
+fn keeps_order(signal: Signal, phase: u32) -> bool
+    requires { ⌜ Ready signal ⌝ }
+    ensures { λ r. ⌜ r ≡ keepsOrder signal phase ⌝ }
 {
-    (phase == tables::shown_phase(signals, r)) | (phase == next_phase(signals, r))
+    (phase == signal.shown) | (phase == next_phase(signal))
 }
 
 // Rule 12 (C14): a phase that is left has shown at least its least time.
-fn keeps_least_time(signals: &[u32], r: usize, phase: u32) -> bool
-    requires { ⌜ ReadyIn (now signals) r ⌝ }
-    ensures { λ b. ⌜ b ≡ keepsLeastTime (tableSignal (now (signals .entry)) r) phase ⌝ }
+fn keeps_least_time(signal: Signal, phase: u32) -> bool
+    requires { ⌜ Ready signal ⌝ }
+    ensures { λ r. ⌜ r ≡ keepsLeastTime signal phase ⌝ }
 {
-    let shown = tables::shown_phase(signals, r);
-    let least = tables::least_time(signals, r, place_of(shown));
-    (phase == shown) | (least <= tables::shown_for(signals, r))
+    let place = place_of(signal.shown);
+    (phase == signal.shown) | (signal.least[place] <= signal.shown_for)
 }
 
 // Rule 13 (C9 to C13): the seconds of a run, this step included, are at most the phase's greatest time.
-fn keeps_greatest_time(signals: &[u32], r: usize, phase: u32, seconds: u32) -> bool
-    requires { ⌜ ReadyIn (now signals) r ⌝ }
+fn keeps_greatest_time(signal: Signal, phase: u32, seconds: u32) -> bool
+    requires { ⌜ Ready signal ⌝ }
     requires { ⌜ phase ≤ 8 ⌝ }
     requires { ⌜ seconds ≤ 60 ⌝ }
-    ensures { λ b. ⌜ b ≡ keepsGreatestTime (tableSignal (now (signals .entry)) r) phase seconds ⌝ }
+    ensures { λ r. ⌜ r ≡ keepsGreatestTime signal phase seconds ⌝ }
 {
-    let greatest = tables::greatest_time(signals, r, place_of(phase));
-    shown_for_after(signals, r, phase, seconds) <= greatest
+    let place = place_of(phase);
+    shown_for_after(signal, phase, seconds) <= signal.greatest[place]
 }
 
 // Rule 14 (C15, C16): phase 1 begins again after the least cycle at the earliest; after the step the clock is at most the greatest cycle.
-fn keeps_cycle(signals: &[u32], r: usize, phase: u32, seconds: u32) -> bool
-    requires { ⌜ ReadyIn (now signals) r ⌝ }
+fn keeps_cycle(signal: Signal, phase: u32, seconds: u32) -> bool
+    requires { ⌜ Ready signal ⌝ }
     requires { ⌜ seconds ≤ 60 ⌝ }
-    ensures { λ b. ⌜ b ≡ keepsCycle (tableSignal (now (signals .entry)) r) phase seconds ⌝ }
+    ensures { λ r. ⌜ r ≡ keepsCycle signal phase seconds ⌝ }
 {
-    let least = tables::least_cycle(signals, r);
-    let in_time = !begins_cycle(signals, r, phase) | (least <= tables::cycle_clock(signals, r));
-    in_time & (clock_after(signals, r, phase, seconds) <= tables::greatest_cycle(signals, r))
+    let in_time = !begins_cycle(signal, phase) | (signal.least_cycle <= signal.cycle_clock);
+    in_time & (clock_after(signal, phase, seconds) <= signal.greatest_cycle)
+}
+
+// The signal after a step that shows a phase for so many seconds.
+fn after(mut signal: Signal, phase: u32, seconds: u32) -> Signal
+    requires { ⌜ Ready signal ⌝ }
+    requires { ⌜ seconds ≤ 60 ⌝ }
+    ensures { λ r. ⌜ r ≡ after signal phase seconds ⌝ }
+{
+    let shown_for = shown_for_after(signal, phase, seconds);
+    let cycle_clock = clock_after(signal, phase, seconds);
+    signal.shown = phase;
+    signal.shown_for = shown_for;
+    signal.cycle_clock = cycle_clock;
+    signal
 }
 
 // Steps a signal on: where a tram asks a phase of it, its run and its clock stand still, and it goes on from the phase before the tram.
@@ -158,66 +167,75 @@ fn step_on(signals: &mut [u32], r: usize, phase: u32, asked: u32, seconds: u32)
     ensures { λ _. ⌜ SignalLaid (now (signals .entry)) r (stepped (tableSignal (now (signals .entry)) r) phase asked seconds) (now (signals .exit)) ⌝ }
 {
     if asked == 0 {
-        let shown_for = shown_for_after(signals, r, phase, seconds);
-        let cycle_clock = clock_after(signals, r, phase, seconds);
-        tables::show(signals, r, phase, shown_for, cycle_clock);
+        let next = after(tables::signal_in(signals, r), phase, seconds);
+        tables::show(signals, r, phase, next.shown_for, next.cycle_clock);
     }
 }
 
-// The number of test k of the six.
-fn signal_number(k: usize) -> u32
-    requires { ⌜ k < 6 ⌝ }
-    ensures { λ r. ⌜ r ≡ signalNumber k ⌝ }
-{
-    let numbers = [10, 29, 11, 12, 13, 14];
-    numbers[k]
-}
-
-// Whether test k of the six holds of a signal: 10; 29 in a tram's step; 11 to 14 in an ordinary one.
-fn signal_test(k: usize, signals: &[u32], r: usize, phase: u32, asked: u32, seconds: u32) -> bool
-    requires { ⌜ ReadyIn (now signals) r ⌝ }
+// Whether test k of the six holds of a signal that shows a phase: 10; 29 in a tram's step; 11 to 14 in an ordinary one.
+fn signal_test(k: usize, signal: Signal, phase: u32, asked: u32, seconds: u32) -> bool
+    requires { ⌜ Ready signal ⌝ }
     requires { ⌜ phase ≤ 8 ⌝ }
     requires { ⌜ seconds ≤ 60 ⌝ }
-    ensures { λ b. ⌜ b ≡ signalTest k (tableSignal (now (signals .entry)) r) phase asked seconds ⌝ }
+    ensures { λ r. ⌜ r ≡ signalTest k signal phase asked seconds ⌝ }
 {
     match k {
         0 => 1 <= phase,
         1 => (asked == 0) | (phase == asked),
-        2 => (asked != 0) | keeps_order(signals, r, phase),
-        3 => (asked != 0) | keeps_least_time(signals, r, phase),
-        4 => (asked != 0) | keeps_greatest_time(signals, r, phase, seconds),
-        5 => (asked != 0) | keeps_cycle(signals, r, phase, seconds),
+        2 => (asked != 0) | keeps_order(signal, phase),
+        3 => (asked != 0) | keeps_least_time(signal, phase),
+        4 => (asked != 0) | keeps_greatest_time(signal, phase, seconds),
+        5 => (asked != 0) | keeps_cycle(signal, phase, seconds),
         _ => true,
     }
 }
 
-// The first of rules 10, 29 and 11 to 14 that a step of so many seconds breaks, in this order, each over rising signals; `line` is the plan's line that tells
-// it.
-pub fn first_signal_break(
+// Whether rule k of the six, 10, 29 and 11 to 14, holds of signal r of the table.
+pub fn signal_rule(
+    k: usize,
+    r: usize,
     signals: &[u32],
     count: usize,
     phases: &[u32],
     asked: &[u32],
     seconds: u32,
-    line: u32,
-) -> Verdict
+) -> bool
     requires { ⌜ SignalTables (now signals) count (now phases) (now asked) seconds ⌝ }
-    ensures { λ r. ⌜ r ≡ verdict (table line (signalRulesIn (now (signals .entry)) count (now (phases .entry)) (now (asked .entry)) seconds)) ⌝ }
+    requires { ⌜ r < count ⌝ }
+    ensures { λ b. ⌜ b ≡ signalRuleHolds (now (signals .entry)) (now (phases .entry)) (now (asked .entry)) seconds k r ⌝ }
 {
-    let mut found = Verdict::Passes;
-    'judge: for k in 0..6 {
-        for item in 0..count {
-            if !signal_test(k, signals, item, phases[item], asked[item], seconds) {
-                found = Verdict::Refused(Refusal {
-                    number: signal_number(k),
-                    line,
-                    item: (item + 1) as u32,
-                });
-                break 'judge;
-            }
+    signal_test(k, tables::signal_in(signals, r), phases[r], asked[r], seconds)
+}
+
+// Whether a signal that shows a phase keeps all six rules.
+fn keeps_all(signal: Signal, phase: u32, asked: u32, seconds: u32) -> bool
+    requires { ⌜ Ready signal ⌝ }
+    requires { ⌜ phase ≤ 8 ⌝ }
+    requires { ⌜ seconds ≤ 60 ⌝ }
+    ensures { λ r. ⌜ r ≡ keepsAll signal phase asked seconds ⌝ }
+{
+    let ordered = keeps_order(signal, phase) & keeps_least_time(signal, phase);
+    let timed = keeps_greatest_time(signal, phase, seconds) & keeps_cycle(signal, phase, seconds);
+    (1 <= phase) & ((asked == 0) | (phase == asked)) & ((asked != 0) | (ordered & timed))
+}
+
+// Whether all signals keep the six rules, in one pass over them: most steps break none, and then it doesn't matter which rule is asked first.
+pub fn keeps_signal_rules(
+    signals: &[u32],
+    count: usize,
+    phases: &[u32],
+    asked: &[u32],
+    seconds: u32,
+) -> bool
+    requires { ⌜ SignalTables (now signals) count (now phases) (now asked) seconds ⌝ }
+    ensures { λ b. ⌜ (b ≡ true → SignalRulesKept (now (signals .entry)) count (now (phases .entry)) (now (asked .entry)) seconds) ⌝ }
+{
+    for r in 0..count {
+        if !keeps_all(tables::signal_in(signals, r), phases[r], asked[r], seconds) {
+            return false;
         }
     }
-    found
+    true
 }
 
 // The phase that each signal's mask shows.

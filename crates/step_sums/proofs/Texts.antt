@@ -1,20 +1,19 @@
 -- Rules 16 to 18 by the program's tables are those of the paper, where the tables hold what the texts say. Assumes nothing.
-use mathlib.Core.Path.{_≡_, refl, sym, ap, ap₂, _∙_}
+use mathlib.Core.Path.{_≡_, sym, ap, ap₂, _∙_}
 use mathlib.Core.List.{List, [], _++_}
-use Prim.Native.Nat.{ℕ, zero, suc, _+_, _*_, _-_, _≤_, _<_}
+use Prim.Native.Nat.{ℕ, suc, _+_, _*_, _-_, _≤_, _<_}
 use native.Mathlib.Decide.{decLe, ℕ-discrete}
 use native.Mathlib.Numerals.{add-one}
 use native.Mathlib.Omega.{arith}
 use borrow.Author.Tests.{lt-ltb, le-ltb, eq-eqb, ne-eqb}
 use lib.Dec.{leb}
 use lib.ListN.{length}
-use Rattle.search.specs.Checks.{verdict, ruleAt, table, Hold}
-use Rattle.search.proofs.Table.{SameRule, same-table}
+use Rattle.search.specs.Checks.{Hold}
 use Rattle.records.specs.Lines.{Line, lines}
 use Rattle.model.specs.Network.{linkCount, movementCount, stepCount, onTimeline, travelTime, arrivalStep, elapsed}
 use Rattle.model.specs.Flows.{movedFrom, timelineEntered, timelineInflow, entered, left}
 use Rattle.model.specs.Rules.{rule16, rule17, rule18}
-use Rattle.model.specs.Table.{sumRules, networkChecks}
+use Rattle.model.specs.Table.{networkChecks}
 use Rattle.model.specs.Calls.{written}
 use Rattle.model.proofs.Rows.{written-at}
 use Rattle.model.proofs.Times.{arrival-step-lt, on-timeline-mono}
@@ -32,7 +31,7 @@ use Rattle.past_curves.specs.Curves.{curveIn, CurveTo, CurvesAt}
 use Rattle.step_rows.specs.Rows.{nextRow, RowHolds}
 use Rattle.step_rows.proofs.Next.{next-left-at}
 use Rattle.step_rows.proofs.Texts.{movements-named, moved-is, moved-from-is}
-use Rattle.step_sums.specs.Sums.{keepsShare, enteredBefore, enteredAfter, leavesArrived, fitsCapacity, sumTest, sumRulesIn, SumTables}
+use Rattle.step_sums.specs.Sums.{keepsShare, enteredBefore, enteredAfter, leavesArrived, fitsCapacity, sumRuleHolds, SumTables}
 
 module _ {text : List ℕ} {plan : List Line} {n : ℕ} {counts : Counts} {line links movements previous row ledger times arrivals curves places : List ℕ} (holds : Hold (networkChecks (lines text)))
     (counted : CountsHold (lines text) counts) (numbers : PlanNumbers (lines text) plan n line) (link-table : LinkTable (lines text) links) (movement-table : MovementTable (lines text) movements)
@@ -44,9 +43,9 @@ module _ {text : List ℕ} {plan : List Line} {n : ℕ} {counts : Counts} {line 
   valid : ValidNetwork network
   valid = valid-network network holds
 
-  keeps-share-is : (j : ℕ) → j < movementCount network → keepsShare counts line movements j ≡ rule16 network plan n j
-  unfolding keepsShare rule16
-  keeps-share-is j l =
+  pub rule16-is : (j : ℕ) → j < movementCount network → sumRuleHolds counts line links movements previous row ledger times arrivals curves (suc n) 0 j ≡ rule16 network plan n j
+  unfolding sumRuleHolds keepsShare rule16
+  rule16-is j l =
       ap₂ leb (ap (λ x. 1000 * x) (moved-is counted numbers j l))
       (ap₂ (λ x y. x * y) (share-at movement-table j l)
       (moved-from-is counted numbers movement-table (linkIn movements 0 j - 1) ∙ ap (λ x. movedFrom network plan n (x - 1)) (from-link-at movement-table j l)))
@@ -103,28 +102,17 @@ module _ {text : List ℕ} {plan : List Line} {n : ℕ} {counts : Counts} {line 
     elapsed-is : elapsedIn times a (counts .past + suc n) (travelTime network i) ≡ elapsed network (suc n) i
     elapsed-is = rw at-end (elapsed-at time-table (suc n) i h)
 
-    leaves-arrived-is : leavesArrived counts links row ledger times arrivals curves (suc n) i ≡ rule17 network plan n i
-    unfolding leavesArrived rule17
-    leaves-arrived-is =
+    pub rule17-is : sumRuleHolds counts line links movements previous row ledger times arrivals curves (suc n) 1 i ≡ rule17 network plan n i
+    unfolding sumRuleHolds leavesArrived rule17
+    rule17-is =
         let part : timelineEntered network plan (suc a) i - timelineEntered network plan a i ≡ timelineInflow network plan a i = omega (arith, timeline-entered-suc network plan a i) in
         let inside : a < onTimeline network (stepCount network) = omega (arith, before-end, at-end, on-timeline-mono network (suc n) (stepCount network) h) in
         rw (arrivals-at .holds i l, after .left-at i l, travel-time-at link-table i l, seconds-is time-table a inside, elapsed-is, entered-start-is, entered-end, part)
         (sym (arrived-by-step network plan (first-lasts network valid) (left network plan (suc n) i) (suc n) i))
 
-  fits-capacity-is : (i : ℕ) → i < linkCount network → fitsCapacity links previous row i ≡ rule18 network plan n i
-  unfolding fitsCapacity rule18
-  fits-capacity-is i l = ap₂ leb (ap₂ (λ x y. x - y) (after .entered-at i l) (before .left-at i l)) (capacity-at link-table i l)
-
-  sum-rule-same : (k : ℕ) → k < 3 → SameRule (ruleAt (sumRulesIn counts line links movements previous row ledger times arrivals curves (suc n)) k) (ruleAt (sumRules network plan n) k)
-  unfolding sumRulesIn sumTest sumRules
-  sum-rule-same zero u = record { number = refl; items = counted .movements; holds = keeps-share-is }
-  sum-rule-same (suc zero) u = record { number = refl; items = counted .links; holds = leaves-arrived-is }
-  sum-rule-same (suc (suc zero)) u = record { number = refl; items = counted .links; holds = fits-capacity-is }
-  sum-rule-same (suc (suc (suc k))) u = absurd (omega arith)
-
-  pub sum-rules-are : verdict (table (suc n) (sumRulesIn counts line links movements previous row ledger times arrivals curves (suc n))) ≡ verdict (table (suc n) (sumRules network plan n))
-  unfolding sumRulesIn sumRules
-  sum-rules-are = same-table (suc n) _ _ refl sum-rule-same
+  pub rule18-is : (i : ℕ) → i < linkCount network → sumRuleHolds counts line links movements previous row ledger times arrivals curves (suc n) 2 i ≡ rule18 network plan n i
+  unfolding sumRuleHolds fitsCapacity rule18
+  rule18-is i l = ap₂ leb (ap₂ (λ x y. x - y) (after .entered-at i l) (before .left-at i l)) (capacity-at link-table i l)
 
   -- the tables are those that the tests ask for, once the row is what `next_row` leaves
   pub sum-tables : (rest : List ℕ) → row ≡ nextRow counts line movements previous ++ rest → length row ≡ rowSize

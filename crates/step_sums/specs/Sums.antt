@@ -6,7 +6,6 @@ use mathlib.Core.List.{List, [], _∷_}
 use Prim.Native.Nat.{ℕ, _+_, _*_, _-_, _≤_, _<_}
 use lib.Dec.{leb, ltb, eqb}
 use lib.ListN.{length, getD}
-use Rattle.search.specs.Checks.{Rule}
 use Rattle.model.specs.Network.{maxLinks, maxSteps, maxPast}
 use Rattle.tables.specs.declared.Counts.{Counts}
 use Rattle.tables.specs.Places.{Few}
@@ -40,23 +39,27 @@ leavesArrived counts links row ledger times arrivals curves boundary i =
 unfoldable pub fitsCapacity : List ℕ → List ℕ → List ℕ → ℕ → Bool
 fitsCapacity links previous row i = leb (enteredIn row i - leftIn previous i) (capacityIn links i)
 
--- rule 16 + k, and to how many items it is put
+-- to how many items rule 16 + k is put, and whether it holds of one
 abbrev pub sumItems : Counts → ℕ → ℕ
 sumItems counts k = getD (counts .movements ∷ counts .links ∷ counts .links ∷ []) k 0
 
-unfoldable pub sumTest : Counts → List ℕ → List ℕ → List ℕ → List ℕ → List ℕ → List ℕ → List ℕ → List ℕ → List ℕ → ℕ → ℕ → ℕ → Bool
-sumTest counts line links movements previous row ledger times arrivals curves boundary k item =
+unfoldable pub sumRuleHolds : Counts → List ℕ → List ℕ → List ℕ → List ℕ → List ℕ → List ℕ → List ℕ → List ℕ → List ℕ → ℕ → ℕ → ℕ → Bool
+sumRuleHolds counts line links movements previous row ledger times arrivals curves boundary k item =
     getD (keepsShare counts line movements item ∷ leavesArrived counts links row ledger times arrivals curves boundary item ∷ fitsCapacity links previous row item ∷ []) k true
 
-abbrev pub sumRuleIn : Counts → List ℕ → List ℕ → List ℕ → List ℕ → List ℕ → List ℕ → List ℕ → List ℕ → List ℕ → ℕ → ℕ → Rule
-sumRuleIn counts line links movements previous row ledger times arrivals curves boundary k =
-    record { number = 16 + k; items = sumItems counts k; holds = sumTest counts line links movements previous row ledger times arrivals curves boundary k }
+-- the first n movements keep 16
+abbrev pub SharesKept : Counts → List ℕ → List ℕ → ℕ → Type 0
+SharesKept counts line movements n = (j : ℕ) → j < n → keepsShare counts line movements j ≡ true
 
--- the table of rules 16 to 18
-unfoldable pub sumRulesIn : Counts → List ℕ → List ℕ → List ℕ → List ℕ → List ℕ → List ℕ → List ℕ → List ℕ → List ℕ → ℕ → List Rule
-sumRulesIn counts line links movements previous row ledger times arrivals curves boundary =
-    let rule = sumRuleIn counts line links movements previous row ledger times arrivals curves boundary in
-    rule 0 ∷ rule 1 ∷ rule 2 ∷ []
+-- the first n links keep 17 and 18
+abbrev pub LinkSumsKept : Counts → List ℕ → List ℕ → List ℕ → List ℕ → List ℕ → List ℕ → List ℕ → ℕ → ℕ → Type 0
+LinkSumsKept counts links previous row ledger times arrivals curves boundary n =
+    (i : ℕ) → i < n → (leavesArrived counts links row ledger times arrivals curves boundary i ≡ true) × (fitsCapacity links previous row i ≡ true)
+
+-- rules 16 to 18 are kept
+pub record SumsKept (counts : Counts) (line links movements previous row ledger times arrivals curves : List ℕ) (boundary : ℕ) : Type 0 where
+  pub of-movements : SharesKept counts line movements (counts .movements)
+  pub of-links : LinkSumsKept counts links previous row ledger times arrivals curves boundary (counts .links)
 
 -- the tables that rule 16 reads: left in the row is what the line makes of the row before
 pub record ShareTables (counts : Counts) (line movements previous row : List ℕ) : Type 0 where

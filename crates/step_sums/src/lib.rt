@@ -2,13 +2,11 @@
 ghost use mathlib.Core.Path.{_≡_};
 ghost use Prim.Native.Nat.{_+_, _*_, _<_, _≤_};
 ghost use lib.ListN.{length};
-ghost use Rattle.search.specs.Checks.{verdict, table};
+ghost use mathlib.Core.Bool.{true};
 ghost use Rattle.model.specs.Network.{maxLinks};
 ghost use Rattle.tables.specs.Places.{Few};
 ghost use Rattle.tables.specs.Fields.{linkTableSize, lineSize, rowSize, letOutIn, leftIn};
-ghost use Rattle.step_sums.specs.Sums.{keepsShare, enteredBefore, enteredAfter, leavesArrived, fitsCapacity, sumItems, sumTest, sumRulesIn, ShareTables, ArrivalRows, ArrivalTables, SumTables};
-use search::Refusal;
-use search::Verdict;
+ghost use Rattle.step_sums.specs.Sums.{keepsShare, enteredBefore, enteredAfter, leavesArrived, fitsCapacity, sumItems, sumRuleHolds, SharesKept, LinkSumsKept, SumsKept, ShareTables, ArrivalRows, ArrivalTables, SumTables};
 use tables::Counts;
 use tables::capacity;
 use tables::entered;
@@ -135,17 +133,8 @@ fn fits_capacity(links: &[u32], previous: &[u32], row: &[u32], i: usize) -> bool
     wide(entered(row, i)) <= wide(capacity(links, i)) + wide(left(previous, i))
 }
 
-// To how many items rule 16 + k is put.
-fn sum_items(k: usize, counts: Counts) -> usize
-    requires { ⌜ k < 3 ⌝ }
-    ensures { λ r. ⌜ r ≡ sumItems counts k ⌝ }
-{
-    let items = [counts.movements, counts.links, counts.links];
-    items[k]
-}
-
 // Whether rule 16 + k holds of an item.
-fn sum_test(
+pub fn sum_rule(
     k: usize,
     item: usize,
     line: &[u32],
@@ -162,7 +151,7 @@ fn sum_test(
 ) -> bool
     requires { ⌜ SumTables counts (now line) (now links) (now movements) (now previous) (now row) (now ledger) (now times) (now arrivals) (now curves) boundary ⌝ }
     requires { ⌜ item < sumItems counts k ⌝ }
-    ensures { λ r. ⌜ r ≡ sumTest counts (now (line .entry)) (now (links .entry)) (now (movements .entry)) (now (previous .entry)) (now (row .entry)) (now (ledger .entry)) (now (times .entry)) (now (arrivals .entry)) (now (curves .entry)) boundary k item ⌝ }
+    ensures { λ r. ⌜ r ≡ sumRuleHolds counts (now (line .entry)) (now (links .entry)) (now (movements .entry)) (now (previous .entry)) (now (row .entry)) (now (ledger .entry)) (now (times .entry)) (now (arrivals .entry)) (now (curves .entry)) boundary k item ⌝ }
 {
     match k {
         0 => keeps_share(line, movements, previous, row, counts, item),
@@ -182,8 +171,65 @@ fn sum_test(
     }
 }
 
-// The first of rules 16 to 18 that the step to a boundary breaks, each over rising items; the plan's line that tells it has the boundary's number.
-pub fn first_sum_break(
+// Whether all movements keep 16, in one pass over them.
+fn keeps_shares(
+    line: &[u32],
+    movements: &[u32],
+    previous: &[u32],
+    row: &[u32],
+    counts: Counts,
+) -> bool
+    requires { ⌜ ShareTables counts (now line) (now movements) (now previous) (now row) ⌝ }
+    ensures { λ r. ⌜ (r ≡ true → SharesKept counts (now (line .entry)) (now (movements .entry)) (counts .movements)) ⌝ }
+{
+    let count = counts.movements;
+    for j in 0..count {
+        if !keeps_share(line, movements, previous, row, counts, j) {
+            return false;
+        }
+    }
+    true
+}
+
+// Whether all links keep 17 and 18, in one pass over them.
+fn keeps_link_sums(
+    links: &[u32],
+    previous: &[u32],
+    row: &[u32],
+    ledger: &[u32],
+    times: &[u32],
+    arrivals: &[usize],
+    curves: &[u32],
+    counts: Counts,
+    boundary: usize,
+) -> bool
+    requires { ⌜ ArrivalTables counts (now links) (now row) (now ledger) (now times) (now arrivals) (now curves) boundary ⌝ }
+    requires { ⌜ 2 * counts .links ≤ length (now previous) ⌝ }
+    ensures { λ r. ⌜ (r ≡ true → LinkSumsKept counts (now (links .entry)) (now (previous .entry)) (now (row .entry)) (now (ledger .entry)) (now (times .entry)) (now (arrivals .entry)) (now (curves .entry)) boundary (counts .links)) ⌝ }
+{
+    let count = counts.links;
+    for i in 0..count {
+        if !(fits_capacity(links, previous, row, i)
+            & leaves_arrived(
+                links,
+                row,
+                ledger,
+                times,
+                arrivals,
+                curves,
+                counts,
+                boundary,
+                i,
+            ))
+        {
+            return false;
+        }
+    }
+    true
+}
+
+// Whether rules 16 to 18 are kept.
+pub fn keeps_sums(
     line: &[u32],
     links: &[u32],
     movements: &[u32],
@@ -195,37 +241,14 @@ pub fn first_sum_break(
     curves: &[u32],
     counts: Counts,
     boundary: usize,
-) -> Verdict
+) -> bool
     requires { ⌜ SumTables counts (now line) (now links) (now movements) (now previous) (now row) (now ledger) (now times) (now arrivals) (now curves) boundary ⌝ }
-    ensures { λ r. ⌜ r ≡ verdict (table boundary (sumRulesIn counts (now (line .entry)) (now (links .entry)) (now (movements .entry)) (now (previous .entry)) (now (row .entry)) (now (ledger .entry)) (now (times .entry)) (now (arrivals .entry)) (now (curves .entry)) boundary)) ⌝ }
+    ensures { λ r. ⌜ (r ≡ true → SumsKept counts (now (line .entry)) (now (links .entry)) (now (movements .entry)) (now (previous .entry)) (now (row .entry)) (now (ledger .entry)) (now (times .entry)) (now (arrivals .entry)) (now (curves .entry)) boundary) ⌝ }
 {
-    let mut found = Verdict::Passes;
-    'judge: for k in 0..3 {
-        let items = sum_items(k, counts);
-        for item in 0..items {
-            if !sum_test(
-                k,
-                item,
-                line,
-                links,
-                movements,
-                previous,
-                row,
-                ledger,
-                times,
-                arrivals,
-                curves,
-                counts,
-                boundary,
-            ) {
-                found = Verdict::Refused(Refusal {
-                    number: 16 + k as u32,
-                    line: boundary as u32,
-                    item: (item + 1) as u32,
-                });
-                break 'judge;
-            }
-        }
+    if !keeps_link_sums(
+        links, previous, row, ledger, times, arrivals, curves, counts, boundary,
+    ) {
+        return false;
     }
-    found
+    keeps_shares(line, movements, previous, row, counts)
 }

@@ -1,6 +1,6 @@
 -- A signal in the table of the `G` lines: its times, and what a write to its row keeps. Assumes nothing.
 use Prim.Native.Nat.{ℕ, zero, suc, _+_, _*_, _<_}
-use mathlib.Core.Path.{_≡_, refl, sym, ap, _∙_}
+use mathlib.Core.Path.{_≡_, refl, sym, _∙_}
 use mathlib.Core.Logic.{_≢_}
 use mathlib.Core.Bool.{cond}
 use mathlib.Core.List.{List}
@@ -20,11 +20,6 @@ numbers-same f g h =
     rw (h 0 (omega arith), h 1 (omega arith), h 2 (omega arith), h 3 (omega arith), h 4 (omega arith), h 5 (omega arith), h 6 (omega arith), h 7 (omega arith), h 8 (omega arith), h 9 (omega arith), h 10 (omega arith), h 11 (omega arith), h 12 (omega arith), h 13 (omega arith), h 14 (omega arith), h 15 (omega arith), h 16 (omega arith), h 17 (omega arith), h 18 (omega arith), h 19 (omega arith), h 20 (omega arith), h 21 (omega arith))
 
 module _ (signals : List ℕ) (r : ℕ) where
-  -- the first number of a row
-  pub least-cycle-in : getD signals (signalFields * r) 0 ≡ tableSignal signals r .«least_cycle»
-  unfolding tableSignal
-  least-cycle-in = let e : signalFields * r ≡ signalFields * r + 0 = omega arith in ap (λ x. getD signals x 0) e
-
   -- the times of the phase at a place
   pub least-time-in : (k : ℕ) → k < 8 → getD signals (signalFields * r + (6 + 2 * k)) 0 ≡ getD (tableSignal signals r .least) k 0
   unfolding tableSignal

@@ -5,10 +5,11 @@ ghost use Prim.Native.Nat.{_+_, _*_, _<_, _≤_};
 ghost use lib.ListN.{length, getD};
 ghost use Rattle.model.specs.Network.{maxLinks, maxSignals, maxMovements, maxSteps, maxTrams, maxPast};
 ghost use Rattle.tables.specs.Places.{tramLineIn, signalLineIn, linkLineIn, movementLineIn, timelineLineIn, stepLineIn, planWidth, Few};
-ghost use Rattle.tables.specs.Fields.{tramTableSize, tramIn, signalTableSize, tableSignal, linkTableSize, movementTableSize, stepSize, lineSize, capacityIn, travelTimeIn, exitRateIn, signalIn, phaseMaskIn, standingIn, waitingAtStartIn, linkIn, rateIn, shareIn, lengthIn, demandIn, admittedIn, letOutIn, movedIn, enteredIn, leftIn, enteredAt, leftAt, RowHeld};
+ghost use Rattle.tables.specs.Fields.{tramTableSize, tramIn, signalTableSize, signalBy, tableSignal, linkTableSize, movementTableSize, stepSize, lineSize, capacityIn, travelTimeIn, exitRateIn, signalIn, phaseMaskIn, standingIn, waitingAtStartIn, linkIn, rateIn, shareIn, lengthIn, demandIn, admittedIn, letOutIn, movedIn, enteredIn, leftIn, enteredAt, leftAt, RowHeld};
 ghost use Rattle.tables.specs.Rows.{RowRead, HeadRead};
 ghost use Rattle.tables.specs.Sums.{Summed};
 ghost use Rattle.tables.specs.Tables.{movedTo, showing, SignalLaid};
+use model::Signal;
 use records::LineRead;
 use search::Refusal;
 
@@ -220,13 +221,6 @@ pub fn tram(trams: &[u32], k: usize, field: usize) -> u32
 }
 
 // A signal's numbers, as its `G` line has them; what it shows changes from step to step.
-pub fn least_cycle(signals: &[u32], r: usize) -> u32
-    requires { ⌜ (r < maxSignals) × (length (now signals) ≡ signalTableSize) ⌝ }
-    ensures { λ x. ⌜ x ≡ tableSignal (now (signals .entry)) r .«least_cycle» ⌝ }
-{
-    signals[SIGNAL_FIELDS * r]
-}
-
 pub fn greatest_cycle(signals: &[u32], r: usize) -> u32
     requires { ⌜ (r < maxSignals) × (length (now signals) ≡ signalTableSize) ⌝ }
     ensures { λ x. ⌜ x ≡ tableSignal (now (signals .entry)) r .«greatest_cycle» ⌝ }
@@ -255,13 +249,6 @@ pub fn shown_for(signals: &[u32], r: usize) -> u32
     signals[SIGNAL_FIELDS * r + 4]
 }
 
-pub fn cycle_clock(signals: &[u32], r: usize) -> u32
-    requires { ⌜ (r < maxSignals) × (length (now signals) ≡ signalTableSize) ⌝ }
-    ensures { λ x. ⌜ x ≡ tableSignal (now (signals .entry)) r .«cycle_clock» ⌝ }
-{
-    signals[SIGNAL_FIELDS * r + 5]
-}
-
 // The least and the greatest time of the phase whose times stand at a place, from 0.
 pub fn least_time(signals: &[u32], r: usize, place: usize) -> u32
     requires { ⌜ (r < maxSignals) × (place < 8) × (length (now signals) ≡ signalTableSize) ⌝ }
@@ -275,6 +262,49 @@ pub fn greatest_time(signals: &[u32], r: usize, place: usize) -> u32
     ensures { λ x. ⌜ x ≡ getD (tableSignal (now (signals .entry)) r .greatest) place 0 ⌝ }
 {
     signals[SIGNAL_FIELDS * r + (7 + 2 * place)]
+}
+
+// A signal by value, by the 22 numbers from a place on.
+fn signal_from(signals: &[u32], start: usize) -> Signal
+    requires { ⌜ (start + 22 ≤ length (now signals)) × (length (now signals) ≡ signalTableSize) ⌝ }
+    ensures { λ x. ⌜ x ≡ signalBy (λ k. getD (now (signals .entry)) (start + k) 0) ⌝ }
+{
+    Signal {
+        least_cycle: signals[start + 0],
+        greatest_cycle: signals[start + 1],
+        phases: signals[start + 2],
+        shown: signals[start + 3],
+        shown_for: signals[start + 4],
+        cycle_clock: signals[start + 5],
+        least: [
+            signals[start + 6],
+            signals[start + 8],
+            signals[start + 10],
+            signals[start + 12],
+            signals[start + 14],
+            signals[start + 16],
+            signals[start + 18],
+            signals[start + 20],
+        ],
+        greatest: [
+            signals[start + 7],
+            signals[start + 9],
+            signals[start + 11],
+            signals[start + 13],
+            signals[start + 15],
+            signals[start + 17],
+            signals[start + 19],
+            signals[start + 21],
+        ],
+    }
+}
+
+// A signal by value, as its row has it.
+pub fn signal_in(signals: &[u32], r: usize) -> Signal
+    requires { ⌜ (r < maxSignals) × (length (now signals) ≡ signalTableSize) ⌝ }
+    ensures { λ x. ⌜ x ≡ tableSignal (now (signals .entry)) r ⌝ }
+{
+    signal_from(signals, SIGNAL_FIELDS * r)
 }
 
 // Has a signal show a phase, for so many seconds, with its cycle clock at so many.

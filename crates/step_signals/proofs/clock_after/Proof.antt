@@ -6,9 +6,6 @@ use Rattle.step_signals.proofs.clock_after.Tie as tie
 begins-cycle-requires : tie.Need-begins-cycle-requires
 begins-cycle-requires c κs = search needs
 
-cycle-clock-requires : tie.Need-cycle-clock-requires
-cycle-clock-requires c κs = search needs
-
 add-choose : tie.Need-add-choose
 add-choose c = search needs
 
@@ -16,9 +13,7 @@ choose-requires : tie.Need-choose-requires
 choose-requires c κs = search needs
 
 returns : tie.Need-returns
-returns c = rw (c .choose .ensures, c .before .cycle-clock .ensures, c .before .before .begins-cycle .ensures)
+returns c = rw (c .choose .ensures, c .before .before .begins-cycle .ensures)
 
 pub clock-after-spec : {M : Type 1} → statement M
-clock-after-spec =
-    tie.close
-    (tie.spec begins-cycle-requires cycle-clock-requires add-choose choose-requires returns)
+clock-after-spec = tie.close (tie.spec begins-cycle-requires add-choose choose-requires returns)

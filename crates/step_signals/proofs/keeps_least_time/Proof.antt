@@ -3,27 +3,18 @@ use borrow.Author.Needs.{needs}
 use Rattle.step_signals.proofs.keeps_least_time.Statement.{statement}
 use Rattle.step_signals.proofs.keeps_least_time.Tie as tie
 
-shown-phase-requires : tie.Need-shown-phase-requires
-shown-phase-requires c κs = search needs
-
 place-of-requires : tie.Need-place-of-requires
 place-of-requires c κs = search needs
 
-least-time-requires : tie.Need-least-time-requires
-least-time-requires c κs = search needs
+mul-result : tie.Need-mul-result
+mul-result c = search needs
 
-shown-for-requires : tie.Need-shown-for-requires
-shown-for-requires c κs = search needs
+element-copy-out-result : tie.Need-element-copy-out-result
+element-copy-out-result c = search needs
 
 returns : tie.Need-returns
-returns c = rw (c .shown-for .ensures, c .before .least-time .ensures, c .before .before .place-of .ensures, c .before .before .before .shown-phase .ensures)
+returns c = rw (c .before .place-of .ensures)
 
 pub keeps-least-time-spec : {M : Type 1} → statement M
 keeps-least-time-spec =
-    tie.close
-    (tie.spec
-    shown-phase-requires
-    place-of-requires
-    least-time-requires
-    shown-for-requires
-    returns)
+    tie.close (tie.spec place-of-requires mul-result element-copy-out-result returns)

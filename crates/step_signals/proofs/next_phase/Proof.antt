@@ -2,7 +2,6 @@
 use mathlib.Core.Path.{_≡_}
 use Prim.Native.Nat.{ℕ, suc, _+_, _≤_}
 use native.Mathlib.Omega.{arith}
-use borrow.Author.Needs.{needs}
 use borrow.Author.Tests.{eq-eqb, ne-eqb}
 use Rattle.step_signals.proofs.next_phase.Statement.{statement}
 use Rattle.step_signals.proofs.next_phase.Tie as tie
@@ -17,48 +16,40 @@ below d l = omega arith
 after-none : {k : ℕ} → k ≤ 0 → 1 ≡ k + 1
 after-none h = omega arith
 
-shown-phase-requires : tie.Need-shown-phase-requires
-shown-phase-requires c κs = search needs
-
-phase-count-requires : tie.Need-phase-count-requires
-phase-count-requires c κs = search needs
-
 returns : tie.Need-returns
-returns c = rw (← c .before .before .shown-phase .ensures, ← c .before .phase-count .ensures, eq-eqb _ _ (c .if1 .taken))
+returns c = rw (eq-eqb _ _ (c .if1 .taken))
 
 returns-2 : tie.Need-returns-2
-returns-2 c = rw (← c .before .before .before .shown-phase .ensures, ← c .before .before .phase-count .ensures, ne-eqb _ _ (c .before .if1 .left)) (omega arith)
+returns-2 c = rw (ne-eqb _ _ (c .before .if1 .left)) (omega arith)
 
 returns-3 : tie.Need-returns-3
-returns-3 c = rw (← c .before .before .before .shown-phase .ensures, ← c .before .before .phase-count .ensures, ne-eqb _ _ (c .before .if1 .left)) (omega arith)
+returns-3 c = rw (ne-eqb _ _ (c .before .if1 .left)) (omega arith)
 
 returns-4 : tie.Need-returns-4
-returns-4 c = rw (← c .before .before .before .shown-phase .ensures, ← c .before .before .phase-count .ensures, ne-eqb _ _ (c .before .if1 .left)) (omega arith)
+returns-4 c = rw (ne-eqb _ _ (c .before .if1 .left)) (omega arith)
 
 returns-5 : tie.Need-returns-5
-returns-5 c = rw (← c .before .before .before .shown-phase .ensures, ← c .before .before .phase-count .ensures, ne-eqb _ _ (c .before .if1 .left)) (omega arith)
+returns-5 c = rw (ne-eqb _ _ (c .before .if1 .left)) (omega arith)
 
 returns-6 : tie.Need-returns-6
-returns-6 c = rw (← c .before .before .before .shown-phase .ensures, ← c .before .before .phase-count .ensures, ne-eqb _ _ (c .before .if1 .left)) (omega arith)
+returns-6 c = rw (ne-eqb _ _ (c .before .if1 .left)) (omega arith)
 
 returns-7 : tie.Need-returns-7
-returns-7 c = rw (← c .before .before .before .shown-phase .ensures, ← c .before .before .phase-count .ensures, ne-eqb _ _ (c .before .if1 .left)) (omega arith)
+returns-7 c = rw (ne-eqb _ _ (c .before .if1 .left)) (omega arith)
 
 returns-8 : tie.Need-returns-8
-returns-8 c = rw (← c .before .before .before .shown-phase .ensures, ← c .before .before .phase-count .ensures, ne-eqb _ _ (c .before .if1 .left)) (omega arith)
+returns-8 c = rw (ne-eqb _ _ (c .before .if1 .left)) (omega arith)
 
 returns-9 : tie.Need-returns-9
 returns-9 c =
-    let ready = c .before .before .before .before .before .pre .ready in
-    let shown = c .before .before .before .shown-phase .ensures in
-    let phases = c .before .before .phase-count .ensures in
+    let ready = c .before .before .before .pre in
     let others = c .match .rest in
-    let seventh = below-last (c .before .if1 .left) (rw (← shown, ← phases) at (ready .shows-phase)) (rw (← phases) at (ready .few-phases)) in
+    let seventh = below-last (c .before .if1 .left) (ready .shows-phase) (ready .few-phases) in
     let fifth = below (others .0 .1) (below (others .1) seventh) in
     let third = below (others .0 .0 .0 .1) (below (others .0 .0 .1) fifth) in
     let first = below (others .0 .0 .0 .0 .0 .1) (below (others .0 .0 .0 .0 .1) third) in
-    rw (← shown, ← phases, ne-eqb _ _ (c .before .if1 .left)) (after-none (below (others .0 .0 .0 .0 .0 .0 .1) first))
+    rw (ne-eqb _ _ (c .before .if1 .left)) (after-none (below (others .0 .0 .0 .0 .0 .0 .1) first))
 
 pub next-phase-spec : {M : Type 1} → statement M
 next-phase-spec =
-    tie.close (tie.spec shown-phase-requires phase-count-requires returns returns-2 returns-3 returns-4 returns-5 returns-6 returns-7 returns-8 returns-9)
+    tie.close (tie.spec returns returns-2 returns-3 returns-4 returns-5 returns-6 returns-7 returns-8 returns-9)

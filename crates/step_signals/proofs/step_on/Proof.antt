@@ -4,11 +4,11 @@ use borrow.Author.Needs.{needs}
 use Rattle.step_signals.proofs.step_on.Statement.{statement}
 use Rattle.step_signals.proofs.step_on.Tie as tie
 
-shown-for-after-requires : tie.Need-shown-for-after-requires
-shown-for-after-requires c κs = search needs
+signal-in-requires : tie.Need-signal-in-requires
+signal-in-requires c κs = search needs
 
-clock-after-requires : tie.Need-clock-after-requires
-clock-after-requires c κs = search needs
+after-requires : tie.Need-after-requires
+after-requires c κs = (rw (c .signal-in .ensures) (c .before .before .before .before .pre .0 .ready), c .before .before .before .before .pre .1)
 
 show-requires : tie.Need-show-requires
 show-requires c κs = search needs
@@ -25,10 +25,4 @@ returns-2 c = search (signal-still, needs)
 pub step-on-spec : {M : Type 1} → statement M
 step-on-spec =
     tie.close
-    (tie.spec
-    shown-for-after-requires
-    clock-after-requires
-    show-requires
-    same-length
-    returns
-    returns-2)
+    (tie.spec signal-in-requires after-requires show-requires same-length returns returns-2)

@@ -1,11 +1,11 @@
--- `step_limits::limit_test` meets its contract. Each way out is one test of the table. Assumes nothing.
+-- `step_limits::limit_rule` meets its contract. Each way out is one test of the table. Assumes nothing.
 use Prim.Native.Nat.{_<_}
 use native.Mathlib.Omega.{arith}
-use Rattle.step_limits.specs.Limits.{limitTest}
-use Rattle.step_limits.proofs.Rules.{no-limit-test}
+use Rattle.step_limits.specs.Limits.{limitRuleHolds}
+use Rattle.step_limits.proofs.Rules.{no-limit-rule}
 use borrow.Author.Needs.{needs}
-use Rattle.step_limits.proofs.limit_test.Statement.{statement}
-use Rattle.step_limits.proofs.limit_test.Tie as tie
+use Rattle.step_limits.proofs.limit_rule.Statement.{statement}
+use Rattle.step_limits.proofs.limit_rule.Tie as tie
 
 admits-offer-requires : tie.Need-admits-offer-requires
 admits-offer-requires c κs =
@@ -29,26 +29,26 @@ moves-open-requires : tie.Need-moves-open-requires
 moves-open-requires c κs = (c .before .before .before .before .before .before .pre .0 .tables, rw (c .match .keys4) at (c .before .before .before .before .before .before .pre .1))
 
 returns : tie.Need-returns
-unfolding limitTest
+unfolding limitRuleHolds
 returns c = rw (c .before .match .keys1) (c .admits-offer .ensures)
 
 returns-2 : tie.Need-returns-2
-unfolding limitTest
+unfolding limitRuleHolds
 returns-2 c = rw (c .before .match .keys2) (c .lets-out-rate .ensures)
 
 returns-3 : tie.Need-returns-3
-unfolding limitTest
+unfolding limitRuleHolds
 returns-3 c = rw (c .before .match .keys3) (c .moves-rate .ensures)
 
 returns-4 : tie.Need-returns-4
-unfolding limitTest
+unfolding limitRuleHolds
 returns-4 c = rw (c .before .match .keys4) (c .moves-open .ensures)
 
 returns-5 : tie.Need-returns-5
-returns-5 c = no-limit-test _ _ _ _ _ _ _ _ (omega arith)
+returns-5 c = no-limit-rule _ _ _ _ _ _ _ _ (omega arith)
 
-pub limit-test-spec : {M : Type 1} → statement M
-limit-test-spec =
+pub limit-rule-spec : {M : Type 1} → statement M
+limit-rule-spec =
     tie.close
     (tie.spec
     admits-offer-requires

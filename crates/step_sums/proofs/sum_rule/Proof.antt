@@ -1,11 +1,11 @@
--- `step_sums::sum_test` meets its contract. Each way out is one rule of the table. Assumes nothing.
+-- `step_sums::sum_rule` meets its contract. Each way out is one rule of the table. Assumes nothing.
 use Prim.Native.Nat.{_<_}
 use native.Mathlib.Omega.{arith}
-use Rattle.step_sums.specs.Sums.{sumTest}
-use Rattle.step_sums.proofs.Rules.{no-sum-test}
+use Rattle.step_sums.specs.Sums.{sumRuleHolds}
+use Rattle.step_sums.proofs.Rules.{no-sum-rule}
 use borrow.Author.Needs.{needs}
-use Rattle.step_sums.proofs.sum_test.Statement.{statement}
-use Rattle.step_sums.proofs.sum_test.Tie as tie
+use Rattle.step_sums.proofs.sum_rule.Statement.{statement}
+use Rattle.step_sums.proofs.sum_rule.Tie as tie
 
 keeps-share-requires : tie.Need-keeps-share-requires
 keeps-share-requires c κs = (c .before .before .before .before .before .before .before .before .before .before .pre .0 .share, rw (c .match .keys1) at (c .before .before .before .before .before .before .before .before .before .before .pre .1))
@@ -22,22 +22,22 @@ fits-capacity-requires c κs =
     search needs
 
 returns : tie.Need-returns
-unfolding sumTest
+unfolding sumRuleHolds
 returns c = rw (c .before .match .keys1) (c .keeps-share .ensures)
 
 returns-2 : tie.Need-returns-2
-unfolding sumTest
+unfolding sumRuleHolds
 returns-2 c = rw (c .before .match .keys2) (c .leaves-arrived .ensures)
 
 returns-3 : tie.Need-returns-3
-unfolding sumTest
+unfolding sumRuleHolds
 returns-3 c = rw (c .before .match .keys3) (c .fits-capacity .ensures)
 
 returns-4 : tie.Need-returns-4
-returns-4 c = no-sum-test _ _ _ _ _ _ _ _ _ _ _ _ _ (omega arith)
+returns-4 c = no-sum-rule _ _ _ _ _ _ _ _ _ _ _ _ _ (omega arith)
 
-pub sum-test-spec : {M : Type 1} → statement M
-sum-test-spec =
+pub sum-rule-spec : {M : Type 1} → statement M
+sum-rule-spec =
     tie.close
     (tie.spec
     keeps-share-requires

@@ -1,0 +1,49 @@
+-- `step_check::keeps_rules` meets its contract. Assumes nothing.
+use borrow.Author.Tests.{not-false}
+use Rattle.step_check.proofs.Pass.{pass-stops, pass-ends}
+use borrow.Author.Needs.{needs}
+use Rattle.step_check.proofs.keeps_rules.Statement.{statement}
+use Rattle.step_check.proofs.keeps_rules.Tie as tie
+
+shared-slice-read-keeps-signal-rules : tie.Need-shared-slice-read-keeps-signal-rules
+shared-slice-read-keeps-signal-rules c = search needs
+
+keeps-signal-rules-requires : tie.Need-keeps-signal-rules-requires
+keeps-signal-rules-requires c κs = search needs
+
+returns : tie.Need-returns
+returns c = pass-stops _ _ _ _ _ _ _ _ _ _ _ _ _ _ _
+
+keeps-limits-requires : tie.Need-keeps-limits-requires
+keeps-limits-requires c κs = search needs
+
+returns-2 : tie.Need-returns-2
+returns-2 c = pass-stops _ _ _ _ _ _ _ _ _ _ _ _ _ _ _
+
+next-row-requires : tie.Need-next-row-requires
+next-row-requires c κs = c .before .before .before .before .before .before .before .before .before .before .before .before .before .before .before .before .before .before .before .pre .fits (c .before .before .keeps-limits .ensures (not-false _ (c .before .if2 .left)))
+
+keeps-sums-requires : tie.Need-keeps-sums-requires
+keeps-sums-requires c κs = rw (c .before .before .before .next-row .ensures) (c .before .before .before .before .before .before .before .before .before .before .before .before .before .before .before .before .before .before .before .before .before .before .before .pre .sums (c .before .before .before .before .before .before .keeps-limits .ensures (not-false _ (c .before .before .before .before .before .if2 .left))))
+
+same-length : tie.Need-same-length
+same-length c = search needs
+
+returns-3 : tie.Need-returns-3
+returns-3 c =
+    pass-ends _ _ _ _ _ _ _ _ _ _ _ _ _ _ _ (c .before .before .before .before .next-row .ensures) (c .before .before .before .before .next-row .kept .1 .1 .1 .1 .0) (c .before .before .before .before .before .before .before .before .before .keeps-signal-rules .ensures (not-false _ (c .before .before .before .before .before .before .before .before .if1 .left)))
+    (c .before .before .before .before .before .before .before .keeps-limits .ensures (not-false _ (c .before .before .before .before .before .before .if2 .left))) (c .keeps-sums .ensures)
+
+pub keeps-rules-spec : {M : Type 1} → statement M
+keeps-rules-spec =
+    tie.close
+    (tie.spec
+    shared-slice-read-keeps-signal-rules
+    keeps-signal-rules-requires
+    returns
+    keeps-limits-requires
+    returns-2
+    next-row-requires
+    keeps-sums-requires
+    same-length
+    returns-3)

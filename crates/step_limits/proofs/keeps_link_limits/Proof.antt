@@ -1,0 +1,59 @@
+-- `step_limits::keeps_link_limits` meets its contract. The loop's invariant: the links so far keep 15 and 25. Assumes nothing.
+use Prim.Native.Nat.{ℕ, _-_, _≤_}
+use mathlib.Core.Path.{_≡_}
+use native.Mathlib.Omega.{arith}
+use Rattle.step_limits.specs.Limits.{LinkLimitsKept}
+use Rattle.step_limits.proofs.Turns.{links-more}
+use borrow.Author.Needs.{needs}
+use Rattle.step_limits.proofs.keeps_link_limits.Statement.{statement}
+use Rattle.step_limits.proofs.keeps_link_limits.Tie as tie
+
+abbrev Inv-loop : tie.InvT-loop
+Inv-loop line step links counts count i₀ i = (i ≤ count) × LinkLimitsKept counts line step links i
+
+abbrev μ-loop : tie.MeasureT-loop
+μ-loop line step links counts count i₀ i = count - i
+
+loop-holds : tie.Need-loop-holds Inv-loop μ-loop
+loop-holds c = (omega arith, λ i l. absurd (omega arith))
+
+admits-offer-requires : tie.Need-admits-offer-requires Inv-loop μ-loop
+admits-offer-requires c κs = search needs
+
+lets-out-rate-requires : tie.Need-lets-out-rate-requires Inv-loop μ-loop
+lets-out-rate-requires c κs = search needs
+
+returns : tie.Need-returns Inv-loop μ-loop
+returns c = λ e. let z : _≡_ {A = ℕ} 0 1 = cc in absurd (omega arith)
+
+add-i : tie.Need-add-i Inv-loop μ-loop
+add-i c = search needs
+
+loop-less : tie.Need-loop-less Inv-loop μ-loop
+loop-less c = search needs
+
+loop-again : tie.Need-loop-again Inv-loop μ-loop
+loop-again c =
+    let w = c .before .before .before .before .loop in
+    (omega arith, links-more _ _ _ _ (w .i) (w .inv .1) (c .before .before .admits-offer .ensures) (c .before .lets-out-rate .ensures) (c .if1 .left))
+
+returns-2 : tie.Need-returns-2 Inv-loop μ-loop
+returns-2 c =
+    let w = c .before .loop in
+    let e : w .i ≡ c .before .before .before .before .before .args .counts .links = omega arith in
+    λ t. rw e at (w .inv .1)
+
+pub keeps-link-limits-spec : {M : Type 1} → statement M
+keeps-link-limits-spec =
+    tie.close
+    (tie.spec
+    Inv-loop
+    μ-loop
+    loop-holds
+    admits-offer-requires
+    lets-out-rate-requires
+    returns
+    add-i
+    loop-less
+    loop-again
+    returns-2)

@@ -1,0 +1,48 @@
+-- `step_limits::moves_within` meets its contract. Assumes nothing.
+use native.Mathlib.Omega.{arith}
+use Rattle.step_limits.proofs.Turns.{still-keeps, moving-keeps}
+use borrow.Author.Needs.{needs}
+use Rattle.step_limits.proofs.moves_within.Statement.{statement}
+use Rattle.step_limits.proofs.moves_within.Tie as tie
+
+moved-requires : tie.Need-moved-requires
+moved-requires c κs = search needs
+
+returns : tie.Need-returns
+returns c = λ t. still-keeps _ _ _ _ _ _ (c .before .moved .ensures) _ (c .if1 .taken)
+
+rate-requires : tie.Need-rate-requires
+rate-requires c κs = search needs
+
+shared-slice-read-within-rate : tie.Need-shared-slice-read-within-rate
+shared-slice-read-within-rate c = search needs
+
+within-rate-requires : tie.Need-within-rate-requires
+within-rate-requires c κs = search needs
+
+from-link-requires : tie.Need-from-link-requires
+from-link-requires c κs = search needs
+
+is-open-requires : tie.Need-is-open-requires
+is-open-requires c κs =
+    let asked = c .before .before .before .before .before .before .before .before .before .before .before .pre .0 .tables in
+    let from = c .from-link in
+    let last = asked .signal-last (from .result) (from .ensures .1) in
+    let few = asked .few in
+    (search needs, λ r l. asked .phase-last r (omega arith))
+
+returns-2 : tie.Need-returns-2
+returns-2 c = λ t. moving-keeps _ _ _ _ _ _ (c .before .before .before .before .before .before .moved .ensures) _ (c .before .before .before .before .before .if1 .left) _ (c .before .before .before .before .rate .ensures) (c .before .before .within-rate .ensures) (c .before .from-link .result) (c .before .from-link .ensures .0) (c .is-open .ensures) t
+
+pub moves-within-spec : {M : Type 1} → statement M
+moves-within-spec =
+    tie.close
+    (tie.spec
+    moved-requires
+    returns
+    rate-requires
+    shared-slice-read-within-rate
+    within-rate-requires
+    from-link-requires
+    is-open-requires
+    returns-2)

@@ -1,0 +1,59 @@
+-- `step_sums::keeps_link_sums` meets its contract. The loop's invariant: the links so far keep 17 and 18. Assumes nothing.
+use Prim.Native.Nat.{ℕ, _-_, _≤_}
+use mathlib.Core.Path.{_≡_}
+use native.Mathlib.Omega.{arith}
+use Rattle.step_sums.specs.Sums.{LinkSumsKept}
+use Rattle.step_sums.proofs.Turns.{links-more}
+use borrow.Author.Needs.{needs}
+use Rattle.step_sums.proofs.keeps_link_sums.Statement.{statement}
+use Rattle.step_sums.proofs.keeps_link_sums.Tie as tie
+
+abbrev Inv-loop : tie.InvT-loop
+Inv-loop links previous row ledger times arrivals curves counts boundary count i₀ i = (i ≤ count) × LinkSumsKept counts links previous row ledger times arrivals curves boundary i
+
+abbrev μ-loop : tie.MeasureT-loop
+μ-loop links previous row ledger times arrivals curves counts boundary count i₀ i = count - i
+
+loop-holds : tie.Need-loop-holds Inv-loop μ-loop
+loop-holds c = (omega arith, λ i l. absurd (omega arith))
+
+fits-capacity-requires : tie.Need-fits-capacity-requires Inv-loop μ-loop
+fits-capacity-requires c κs = search needs
+
+leaves-arrived-requires : tie.Need-leaves-arrived-requires Inv-loop μ-loop
+leaves-arrived-requires c κs = search needs
+
+returns : tie.Need-returns Inv-loop μ-loop
+returns c = λ e. let z : _≡_ {A = ℕ} 0 1 = cc in absurd (omega arith)
+
+add-i : tie.Need-add-i Inv-loop μ-loop
+add-i c = search needs
+
+loop-less : tie.Need-loop-less Inv-loop μ-loop
+loop-less c = search needs
+
+loop-again : tie.Need-loop-again Inv-loop μ-loop
+loop-again c =
+    let w = c .before .before .before .before .loop in
+    (omega arith, links-more _ _ _ _ _ _ _ _ _ (w .i) (w .inv .1) (c .before .before .fits-capacity .ensures) (c .before .leaves-arrived .ensures) (c .if1 .left))
+
+returns-2 : tie.Need-returns-2 Inv-loop μ-loop
+returns-2 c =
+    let w = c .before .loop in
+    let e : w .i ≡ c .before .before .before .before .before .before .before .before .before .args .counts .links = omega arith in
+    λ t. rw e at (w .inv .1)
+
+pub keeps-link-sums-spec : {M : Type 1} → statement M
+keeps-link-sums-spec =
+    tie.close
+    (tie.spec
+    Inv-loop
+    μ-loop
+    loop-holds
+    fits-capacity-requires
+    leaves-arrived-requires
+    returns
+    add-i
+    loop-less
+    loop-again
+    returns-2)
