@@ -1,14 +1,14 @@
 -- The rules of a signal by their places, and that they keep it ready for the next step. Assumes nothing.
 use Prim.Native.Nat.{ℕ, zero, suc, _+_, _-_, _≤_, _<_}
 use mathlib.Core.Path.{_≡_, refl, sym, _∙_}
-use mathlib.Core.Bool.{Bool, true, false, not, _||_}
+use mathlib.Core.Bool.{Bool, true, false, not, _&&_, _||_}
 use mathlib.Core.List.{List}
 use native.Mathlib.Nat.{le-trans}
 use native.Mathlib.Omega.{arith}
-use lib.Dec.{leb}
+use lib.Dec.{leb, eqb}
 use lib.ListN.{getD, List·getD-eq-default}
 use borrow.Author.Count.{below-more}
-use borrow.Author.Tests.{leb-true, not-false}
+use borrow.Author.Tests.{leb-true, eqb-true, not-false}
 use Rattle.model.specs.declared.Signal.{Signal}
 use Rattle.model.specs.Test.{_and_, _or_, within}
 use Rattle.model.specs.Signals.{greatestTime, beginsCycle, shownForAfter, clockAfter, keepsGreatestTime, keepsCycle, after}
@@ -16,7 +16,7 @@ use Rattle.model.specs.Rules.{validPhases, validSignal}
 use Rattle.model.proofs.Tests.{and-left, and-right, every-at}
 use Rattle.tables.specs.Fields.{tableSignal}
 use Rattle.step_signals.specs.Ready.{Ready}
-use Rattle.step_signals.specs.Step.{signalTests, signalTest, keepsAll, signalRuleHolds, SignalRulesKept}
+use Rattle.step_signals.specs.Step.{signalTests, signalTest, keepsAll, goesOn, signalRuleHolds, SignalRulesKept}
 
 -- past rule 14 there is none to break
 pub no-signal-test : (k : ℕ) (s : Signal) (q asked seconds : ℕ) → 6 ≤ k → true ≡ signalTest k s q asked seconds
@@ -39,12 +39,31 @@ keeps-each s q asked seconds h (suc (suc (suc (suc zero)))) = either _ _ _ (λ e
 keeps-each s q asked seconds h (suc (suc (suc (suc (suc zero))))) = either _ _ _ (λ e. and-right _ _ (and-right _ _ e)) (and-right _ _ h)
 keeps-each s q asked seconds h (suc (suc (suc (suc (suc (suc k)))))) = refl
 
+-- one that goes on keeps them all
+never-both : (b : Bool) → b && not b ≡ false
+never-both true = refl
+never-both false = refl
+
+keeps-by : (s : Signal) (q asked seconds : ℕ) → leb 1 q ≡ true → eqb q (s .shown) ≡ true → eqb asked 0 ≡ true → leb (s .«shown_for» + seconds) (greatestTime s q) ≡ true
+    → leb (s .«cycle_clock» + seconds) (s .«greatest_cycle») ≡ true → beginsCycle s q ≡ false → keepsAll s q asked seconds ≡ true
+unfolding keepsAll _and_ _or_
+keeps-by s q asked seconds one same tram run clock begins = rw (begins, one, same, tram, run, clock)
+
+pub goes-keeps : (s : Signal) (q asked seconds : ℕ) → goesOn s q asked seconds ≡ true → keepsAll s q asked seconds ≡ true
+unfolding goesOn
+goes-keeps s q asked seconds h =
+    let runs = and-left _ _ h in
+    let ordinary = and-left _ _ runs in
+    let same : eqb q (s .shown) ≡ true = and-right _ _ (and-left _ _ ordinary) in
+    keeps-by s q asked seconds (and-left _ _ (and-left _ _ ordinary)) same (and-right _ _ ordinary) (and-right _ _ runs) (and-right _ _ h)
+    (rw (← eqb-true q (s .shown) same) (never-both (eqb q 1)))
+
 -- the first r signals keep them, and so does the next
-pub kept-more : (signals phases asked : List ℕ) (seconds r : ℕ) {s : Signal} {b : Bool} → SignalRulesKept signals r phases asked seconds → s ≡ tableSignal signals r
-    → b ≡ keepsAll s (getD phases r 0) (getD asked r 0) seconds → not b ≡ false → SignalRulesKept signals (r + 1) phases asked seconds
+pub kept-more : (signals phases asked : List ℕ) (seconds r : ℕ) {b : Bool} → SignalRulesKept signals r phases asked seconds
+    → b ≡ keepsAll (tableSignal signals r) (getD phases r 0) (getD asked r 0) seconds → not b ≡ false → SignalRulesKept signals (r + 1) phases asked seconds
 unfolding signalRuleHolds
-kept-more signals phases asked seconds r {s} {b} kept e f t =
-    below-more (λ r. (k : ℕ) → signalRuleHolds signals phases asked seconds k r ≡ true) r kept (rw e at (keeps-each s (getD phases r 0) (getD asked r 0) seconds (sym f ∙ not-false b t)))
+kept-more signals phases asked seconds r {b} kept e t =
+    below-more (λ r. (k : ℕ) → signalRuleHolds signals phases asked seconds k r ≡ true) r kept (keeps-each (tableSignal signals r) (getD phases r 0) (getD asked r 0) seconds (sym e ∙ not-false b t))
 
 -- a signal that passes the network's check is ready for the first step
 pub ready-first : (s : Signal) → validPhases s ≡ true → validSignal s ≡ true → Ready s

@@ -1,9 +1,9 @@
 -- Rules 10, 29 and 11 to 14 by the program's tables, and all signals through a step. A tram asks a phase of a signal, 0 in an ordinary step. Assumes nothing.
-use Prim.Native.Nat.{ℕ, _-_, _^_, _≤_, _<_}
+use Prim.Native.Nat.{ℕ, _+_, _-_, _^_, _≤_, _<_}
 use mathlib.Core.Path.{_≡_}
 use mathlib.Core.Bool.{Bool, true, not, cond}
 use mathlib.Core.List.{List, [], _∷_}
-use lib.Dec.{eqb}
+use lib.Dec.{leb, eqb}
 use lib.ListN.{length, getD}
 use Rattle.records.specs.Lines.{Line}
 use Rattle.model.specs.declared.Signal.{Signal}
@@ -11,7 +11,7 @@ use Rattle.model.specs.Test.{_and_, _or_}
 use Rattle.model.specs.Network.{maxSignals, signalCount, trams, tramPhase}
 use Rattle.model.specs.Flows.{shownIn, signalAt}
 use Rattle.tables.specs.Fields.{signalTableSize, tableSignal}
-use Rattle.model.specs.Signals.{phaseOf, showsOnePhase, keepsOrder, keepsLeastTime, keepsGreatestTime, keepsCycle, after}
+use Rattle.model.specs.Signals.{phaseOf, greatestTime, showsOnePhase, keepsOrder, keepsLeastTime, keepsGreatestTime, keepsCycle, after}
 use Rattle.step_signals.specs.Ready.{AllReady}
 
 -- the rules of a signal that shows phase q, where a tram asks a phase, for a step of so many seconds: 10, 29, and in an ordinary step 11 to 14
@@ -35,6 +35,11 @@ keepsAll s q asked seconds =
     showsOnePhase q
     and (eqb asked 0 or eqb q asked)
     and (not (eqb asked 0) or keepsOrder s q and keepsLeastTime s q and (keepsGreatestTime s q seconds and keepsCycle s q seconds))
+
+-- it goes on with its phase in an ordinary step, and neither the phase nor the cycle lasts too long
+unfoldable pub goesOn : Signal → ℕ → ℕ → ℕ → Bool
+goesOn s q asked seconds =
+    showsOnePhase q and eqb q (s .shown) and eqb asked 0 and leb (s .«shown_for» + seconds) (greatestTime s q) and leb (s .«cycle_clock» + seconds) (s .«greatest_cycle»)
 
 -- the rule at place k of these holds of signal r, where signals show these phases, and trams ask these
 unfoldable pub signalRuleHolds : List ℕ → List ℕ → List ℕ → ℕ → ℕ → ℕ → Bool

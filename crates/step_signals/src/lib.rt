@@ -10,7 +10,7 @@ ghost use Rattle.model.specs.Signals.{phaseOf, opens, nextPhase, beginsCycle, s
 ghost use Rattle.tables.specs.Fields.{signalTableSize, tableSignal};
 ghost use Rattle.tables.specs.Tables.{SignalLaid};
 ghost use Rattle.step_signals.specs.Ready.{Ready, ReadyIn, AllReady};
-ghost use Rattle.step_signals.specs.Step.{signalTest, keepsAll, signalRuleHolds, SignalRulesKept, SignalTables, ShownPhases, HeldMasks, stepped, AdvanceAsked, Advanced};
+ghost use Rattle.step_signals.specs.Step.{signalTest, keepsAll, goesOn, signalRuleHolds, SignalRulesKept, SignalTables, ShownPhases, HeldMasks, stepped, AdvanceAsked, Advanced};
 use model::Signal;
 
 // The phase, among 1 to `phases`, whose bit is all of the mask; 0 where there is none, which breaks rule 10 (C7). The count of ones tests that one
@@ -219,6 +219,34 @@ fn keeps_all(signal: Signal, phase: u32, asked: u32, seconds: u32) -> bool
     (1 <= phase) & ((asked == 0) | (phase == asked)) & ((asked != 0) | (ordered & timed))
 }
 
+// Whether signal r of the table goes on with its phase in an ordinary step, and neither the phase nor the cycle lasts too long. Then it keeps all six, as most do in most
+// steps; its times stay in the table.
+fn goes_on(signals: &[u32], r: usize, phase: u32, asked: u32, seconds: u32) -> bool
+    requires { ⌜ ReadyIn (now signals) r ⌝ }
+    requires { ⌜ phase ≤ 8 ⌝ }
+    requires { ⌜ seconds ≤ 60 ⌝ }
+    ensures { λ b. ⌜ b ≡ goesOn (tableSignal (now (signals .entry)) r) phase asked seconds ⌝ }
+{
+    let signal = tables::signal_in(signals, r);
+    let greatest = tables::greatest_time(signals, r, place_of(phase));
+    let goes = (1 <= phase) & (phase == signal.shown) & (asked == 0);
+    let in_time = signal.shown_for + seconds <= greatest;
+    goes & in_time & (signal.cycle_clock + seconds <= signal.greatest_cycle)
+}
+
+// Whether signal r of the table keeps all six.
+fn signal_keeps(signals: &[u32], r: usize, phase: u32, asked: u32, seconds: u32) -> bool
+    requires { ⌜ ReadyIn (now signals) r ⌝ }
+    requires { ⌜ phase ≤ 8 ⌝ }
+    requires { ⌜ seconds ≤ 60 ⌝ }
+    ensures { λ b. ⌜ b ≡ keepsAll (tableSignal (now (signals .entry)) r) phase asked seconds ⌝ }
+{
+    if goes_on(signals, r, phase, asked, seconds) {
+        return true;
+    }
+    keeps_all(tables::signal_in(signals, r), phase, asked, seconds)
+}
+
 // Whether all signals keep the six rules, in one pass over them: most steps break none, and then it doesn't matter which rule is asked first.
 pub fn keeps_signal_rules(
     signals: &[u32],
@@ -231,7 +259,7 @@ pub fn keeps_signal_rules(
     ensures { λ b. ⌜ (b ≡ true → SignalRulesKept (now (signals .entry)) count (now (phases .entry)) (now (asked .entry)) seconds) ⌝ }
 {
     for r in 0..count {
-        if !keeps_all(tables::signal_in(signals, r), phases[r], asked[r], seconds) {
+        if !signal_keeps(signals, r, phases[r], asked[r], seconds) {
             return false;
         }
     }

@@ -17,26 +17,23 @@ abbrev μ-loop : tie.MeasureT-loop
 loop-holds : tie.Need-loop-holds Inv-loop μ-loop
 loop-holds c = (omega arith, λ r l. absurd (omega arith))
 
-signal-in-requires : tie.Need-signal-in-requires Inv-loop μ-loop
-signal-in-requires c κs = search needs
+mul-signal-keeps : tie.Need-mul-signal-keeps Inv-loop μ-loop
+mul-signal-keeps c = search needs
 
-mul-keeps-all : tie.Need-mul-keeps-all Inv-loop μ-loop
-mul-keeps-all c = search needs
+shared-slice-read-signal-keeps : tie.Need-shared-slice-read-signal-keeps Inv-loop μ-loop
+shared-slice-read-signal-keeps c = search needs
 
-shared-slice-read-keeps-all : tie.Need-shared-slice-read-keeps-all Inv-loop μ-loop
-shared-slice-read-keeps-all c = search needs
+mul-signal-keeps-2 : tie.Need-mul-signal-keeps-2 Inv-loop μ-loop
+mul-signal-keeps-2 c = search needs
 
-mul-keeps-all-2 : tie.Need-mul-keeps-all-2 Inv-loop μ-loop
-mul-keeps-all-2 c = search needs
+shared-slice-read-signal-keeps-2 : tie.Need-shared-slice-read-signal-keeps-2 Inv-loop μ-loop
+shared-slice-read-signal-keeps-2 c = search needs
 
-shared-slice-read-keeps-all-2 : tie.Need-shared-slice-read-keeps-all-2 Inv-loop μ-loop
-shared-slice-read-keeps-all-2 c = search needs
-
-keeps-all-requires : tie.Need-keeps-all-requires Inv-loop μ-loop
-keeps-all-requires c κs =
-    let w = c .before .before .before .before .loop in
-    let asked = c .before .before .before .before .before .before .before .before .pre in
-    (rw (c .before .before .signal-in .ensures) (asked .ready (w .r) (omega arith)), (asked .phase-last (w .r) (omega arith), asked .short))
+signal-keeps-requires : tie.Need-signal-keeps-requires Inv-loop μ-loop
+signal-keeps-requires c κs =
+    let i = c .before .before .before .loop .r in
+    let asked = c .before .before .before .before .before .before .before .pre in
+    (record { size = asked .size; few = omega (arith, asked .few); ready = asked .ready i (omega arith) }, (asked .phase-last i (omega arith), asked .short))
 
 returns : tie.Need-returns Inv-loop μ-loop
 returns c = λ e. let z : _≡_ {A = ℕ} 0 1 = cc in absurd (omega arith)
@@ -49,8 +46,8 @@ loop-less c = search needs
 
 loop-again : tie.Need-loop-again Inv-loop μ-loop
 loop-again c =
-    let w = c .before .before .before .before .before .before .loop in
-    (omega arith, kept-more _ _ _ _ (w .r) (w .inv .1) (c .before .before .before .before .signal-in .ensures) (c .before .keeps-all .ensures) (c .if1 .left))
+    let w = c .before .before .before .before .before .loop in
+    (omega arith, kept-more _ _ _ _ (w .r) (w .inv .1) (c .before .signal-keeps .ensures) (c .if1 .left))
 
 returns-2 : tie.Need-returns-2 Inv-loop μ-loop
 returns-2 c =
@@ -65,12 +62,11 @@ keeps-signal-rules-spec =
     Inv-loop
     μ-loop
     loop-holds
-    signal-in-requires
-    mul-keeps-all
-    shared-slice-read-keeps-all
-    mul-keeps-all-2
-    shared-slice-read-keeps-all-2
-    keeps-all-requires
+    mul-signal-keeps
+    shared-slice-read-signal-keeps
+    mul-signal-keeps-2
+    shared-slice-read-signal-keeps-2
+    signal-keeps-requires
     returns
     add-r
     loop-less

@@ -1,0 +1,37 @@
+-- `step_signals::goes_on` meets its contract: what it calls gives the definition's parts. Assumes nothing.
+use native.Mathlib.Omega.{arith}
+use Rattle.model.specs.Test.{_and_}
+use Rattle.step_signals.specs.Step.{goesOn}
+use borrow.Author.Needs.{needs}
+use Rattle.step_signals.proofs.goes_on.Statement.{statement}
+use Rattle.step_signals.proofs.goes_on.Tie as tie
+
+signal-in-requires : tie.Need-signal-in-requires
+signal-in-requires c κs = search needs
+
+place-of-requires : tie.Need-place-of-requires
+place-of-requires c κs = search needs
+
+greatest-time-requires : tie.Need-greatest-time-requires
+greatest-time-requires c κs = search needs
+
+add-in-time : tie.Need-add-in-time
+add-in-time c = rw (c .before .before .before .before .signal-in .ensures) (let ready = c .before .before .before .before .before .before .pre .0 .ready in search needs)
+
+add-result : tie.Need-add-result
+add-result c = rw (c .before .before .before .before .before .signal-in .ensures) (let ready = c .before .before .before .before .before .before .before .pre .0 .ready in search needs)
+
+returns : tie.Need-returns
+unfolding goesOn _and_
+returns c = rw (c .before .before .before .before .greatest-time .ensures, c .before .before .before .before .before .place-of .ensures, c .before .before .before .before .before .before .signal-in .ensures)
+
+pub goes-on-spec : {M : Type 1} → statement M
+goes-on-spec =
+    tie.close
+    (tie.spec
+    signal-in-requires
+    place-of-requires
+    greatest-time-requires
+    add-in-time
+    add-result
+    returns)
