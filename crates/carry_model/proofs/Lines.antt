@@ -26,20 +26,43 @@ module _ (network plan other rest : List Line) (a : ℕ) (p : GoesOn network pla
     (same : (n : ℕ) → n < stepCount other → getD rest n noLine ≡ getD plan (a + n) noLine) (n : ℕ) (h : n < stepCount other) where
   rules-same : SameRules (stepRules other rest n) (stepRules network plan (a + n))
   unfolding SameRules stepRules
-  rules-same =
-      (record { number = refl; items = p .signals; holds = rule10-same network plan other rest a p valid n h },
-      (record { number = refl; items = p .signals; holds = rule29-same network plan other rest a p valid n h },
-      (record { number = refl; items = p .signals; holds = rule11-same network plan other rest a p valid n h },
-      (record { number = refl; items = p .signals; holds = rule12-same network plan other rest a p valid n h },
-      (record { number = refl; items = p .signals; holds = rule13-same network plan other rest a p valid n h },
-      (record { number = refl; items = p .signals; holds = rule14-same network plan other rest a p valid n h },
-      (record { number = refl; items = p .links; holds = rule15-same network plan other rest a p valid n h },
-      (record { number = refl; items = p .links; holds = rule25-same network plan other rest a p valid n h },
-      (record { number = refl; items = p .movements; holds = rule26-same network plan other rest a p valid n h },
-      (record { number = refl; items = p .movements; holds = rule27-same network plan other rest a p valid n h },
-      (record { number = refl; items = p .movements; holds = rule16-same network plan other rest a p valid n h },
-      (record { number = refl; items = p .links; holds = rule17-same network plan other rest a p valid n h },
-      (record { number = refl; items = p .links; holds = rule18-same network plan other rest a p valid n h }, refl)))))))))))))
+  rules-same = (
+    record { number = refl; items = p .signals; holds = rule10-same network plan other rest a p valid n h },
+    (
+      record { number = refl; items = p .signals; holds = rule29-same network plan other rest a p valid n h },
+      (
+        record { number = refl; items = p .signals; holds = rule11-same network plan other rest a p valid n h },
+        (
+          record { number = refl; items = p .signals; holds = rule12-same network plan other rest a p valid n h },
+          (
+            record { number = refl; items = p .signals; holds = rule13-same network plan other rest a p valid n h },
+            (
+              record { number = refl; items = p .signals; holds = rule14-same network plan other rest a p valid n h },
+              (
+                record { number = refl; items = p .links; holds = rule15-same network plan other rest a p valid n h },
+                (
+                  record { number = refl; items = p .links; holds = rule25-same network plan other rest a p valid n h },
+                  (
+                    record { number = refl; items = p .movements; holds = rule26-same network plan other rest a p valid n h },
+                    (
+                      record { number = refl; items = p .movements; holds = rule27-same network plan other rest a p valid n h },
+                      (
+                        record { number = refl; items = p .movements; holds = rule16-same network plan other rest a p valid n h },
+                        (
+                          record { number = refl; items = p .links; holds = rule17-same network plan other rest a p valid n h },
+                          (record { number = refl; items = p .links; holds = rule18-same network plan other rest a p valid n h }, refl),
+                        ),
+                      ),
+                    ),
+                  ),
+                ),
+              ),
+            ),
+          ),
+        ),
+      ),
+    ),
+  )
 
   at-line : suc (a + n) ≡ a + suc n
   at-line = omega arith

@@ -115,10 +115,37 @@ module _ (counts : Counts) (signals line step links movements phases asked previ
       (sums : SumsKept counts line links movements previous row ledger times arrivals curves boundary) where
     all-kept : AllKept (rulesIn counts signals line step links movements phases asked previous row ledger times arrivals curves boundary)
     unfolding AllKept rulesIn rulesFrom ruleHolds limitRuleHolds sumRuleHolds
-    all-kept =
-        (λ r l. ofSignals r l 0, (λ r l. ofSignals r l 1, (λ r l. ofSignals r l 2, (λ r l. ofSignals r l 3, (λ r l. ofSignals r l 4, (λ r l. ofSignals r l 5,
-        (λ i l. limits .of-links i l .0, (λ i l. limits .of-links i l .1, (λ j l. limits .of-movements j l .0, (λ j l. limits .of-movements j l .1,
-        (sums .of-movements, (λ i l. sums .of-links i l .0, (λ i l. sums .of-links i l .1, refl)))))))))))))
+    all-kept = (
+      λ r l. ofSignals r l 0,
+      (
+        λ r l. ofSignals r l 1,
+        (
+          λ r l. ofSignals r l 2,
+          (
+            λ r l. ofSignals r l 3,
+            (
+              λ r l. ofSignals r l 4,
+              (
+                λ r l. ofSignals r l 5,
+                (
+                  λ i l. limits .of-links i l .0,
+                  (
+                    λ i l. limits .of-links i l .1,
+                    (
+                      λ j l. limits .of-movements j l .0,
+                      (
+                        λ j l. limits .of-movements j l .1,
+                        (sums .of-movements, (λ i l. sums .of-links i l .0, (λ i l. sums .of-links i l .1, refl))),
+                      ),
+                    ),
+                  ),
+                ),
+              ),
+            ),
+          ),
+        ),
+      ),
+    )
 
     pub all-pass : (number : ℕ) → verdict (table number (rulesIn counts signals line step links movements phases asked previous row ledger times arrivals curves boundary)) ≡ Passes
     all-pass number = passes-of-hold _ (kept-hold number _ all-kept)

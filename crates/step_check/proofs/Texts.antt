@@ -32,20 +32,43 @@ module _ {text : List ℕ} {plan : List Line} {n : ℕ} {counts : Counts} {signa
 
   rules-same : SameRules (rulesIn counts signals line step links movements phases asked previous row ledger times arrivals curves (suc n)) (stepRules (lines text) plan n)
   unfolding SameRules rulesIn rulesFrom ruleHolds stepRules
-  rules-same =
-      (record { number = refl; items = counted .signals; holds = rule10-is carried shown claims (offers .lasts) },
-      (record { number = refl; items = counted .signals; holds = rule29-is carried shown claims (offers .lasts) },
-      (record { number = refl; items = counted .signals; holds = rule11-is carried shown claims (offers .lasts) },
-      (record { number = refl; items = counted .signals; holds = rule12-is carried shown claims (offers .lasts) },
-      (record { number = refl; items = counted .signals; holds = rule13-is carried shown claims (offers .lasts) },
-      (record { number = refl; items = counted .signals; holds = rule14-is carried shown claims (offers .lasts) },
-      (record { number = refl; items = counted .links; holds = rule15-is valid counted numbers link-table movement-table offers shown },
-      (record { number = refl; items = counted .links; holds = rule25-is valid counted numbers link-table movement-table offers shown },
-      (record { number = refl; items = counted .movements; holds = rule26-is valid counted numbers link-table movement-table offers shown },
-      (record { number = refl; items = counted .movements; holds = rule27-is valid counted numbers link-table movement-table offers shown },
-      (record { number = refl; items = counted .movements; holds = rule16-is holds counted numbers link-table movement-table before after old rows time-table arrivals-at curves-at h },
-      (record { number = refl; items = counted .links; holds = rule17-is holds counted numbers link-table movement-table before after old rows time-table arrivals-at curves-at h },
-      (record { number = refl; items = counted .links; holds = rule18-is holds counted numbers link-table movement-table before after old rows time-table arrivals-at curves-at h }, refl)))))))))))))
+  rules-same = (
+    record { number = refl; items = counted .signals; holds = rule10-is carried shown claims (offers .lasts) },
+    (
+      record { number = refl; items = counted .signals; holds = rule29-is carried shown claims (offers .lasts) },
+      (
+        record { number = refl; items = counted .signals; holds = rule11-is carried shown claims (offers .lasts) },
+        (
+          record { number = refl; items = counted .signals; holds = rule12-is carried shown claims (offers .lasts) },
+          (
+            record { number = refl; items = counted .signals; holds = rule13-is carried shown claims (offers .lasts) },
+            (
+              record { number = refl; items = counted .signals; holds = rule14-is carried shown claims (offers .lasts) },
+              (
+                record { number = refl; items = counted .links; holds = rule15-is valid counted numbers link-table movement-table offers shown },
+                (
+                  record { number = refl; items = counted .links; holds = rule25-is valid counted numbers link-table movement-table offers shown },
+                  (
+                    record { number = refl; items = counted .movements; holds = rule26-is valid counted numbers link-table movement-table offers shown },
+                    (
+                      record { number = refl; items = counted .movements; holds = rule27-is valid counted numbers link-table movement-table offers shown },
+                      (
+                        record { number = refl; items = counted .movements; holds = rule16-is holds counted numbers link-table movement-table before after old rows time-table arrivals-at curves-at h },
+                        (
+                          record { number = refl; items = counted .links; holds = rule17-is holds counted numbers link-table movement-table before after old rows time-table arrivals-at curves-at h },
+                          (record { number = refl; items = counted .links; holds = rule18-is holds counted numbers link-table movement-table before after old rows time-table arrivals-at curves-at h }, refl),
+                        ),
+                      ),
+                    ),
+                  ),
+                ),
+              ),
+            ),
+          ),
+        ),
+      ),
+    ),
+  )
 
   pub rules-are : verdict (table (suc n) (rulesIn counts signals line step links movements phases asked previous row ledger times arrivals curves (suc n))) ≡ verdict (table (suc n) (stepRules (lines text) plan n))
   rules-are = same-table (suc n) _ _ rules-same

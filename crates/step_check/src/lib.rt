@@ -57,27 +57,10 @@ fn rule_holds(
     ensures { λ r. ⌜ r ≡ ruleHolds counts (now (signals .entry)) (now (line .entry)) (now (step .entry)) (now (links .entry)) (now (movements .entry)) (now (phases .entry)) (now (asked .entry)) (now (previous .entry)) (now (row .entry)) (now (ledger .entry)) (now (times .entry)) (now (arrivals .entry)) (now (curves .entry)) boundary k item ⌝ }
 {
     if k < 6 {
-        return step_signals::signal_rule(
-            k,
-            item,
-            signals,
-            counts.signals,
-            phases,
-            asked,
-            step[0],
-        );
+        return step_signals::signal_rule(k, item, signals, counts.signals, phases, asked, step[0]);
     }
     if k < 10 {
-        return step_limits::limit_rule(
-            k - 6,
-            item,
-            line,
-            step,
-            links,
-            movements,
-            phases,
-            counts,
-        );
+        return step_limits::limit_rule(k - 6, item, line, step, links, movements, phases, counts);
     }
     step_sums::sum_rule(
         k - 10,
@@ -238,13 +221,39 @@ pub fn judge_step(
     let at = 2 * n * counts.links;
     let previous = &ledger[at..];
     if keeps_rules(
-        signals, line, step, links, movements, phases, asked, previous, row, ledger, times,
-        arrivals, curves, counts, boundary,
+        signals,
+        line,
+        step,
+        links,
+        movements,
+        phases,
+        asked,
+        previous,
+        row,
+        ledger,
+        times,
+        arrivals,
+        curves,
+        counts,
+        boundary,
     ) {
         return Verdict::Passes;
     }
     first_break(
-        signals, line, step, links, movements, phases, asked, previous, row, ledger, times,
-        arrivals, curves, counts, boundary,
+        signals,
+        line,
+        step,
+        links,
+        movements,
+        phases,
+        asked,
+        previous,
+        row,
+        ledger,
+        times,
+        arrivals,
+        curves,
+        counts,
+        boundary,
     )
 }

@@ -204,7 +204,13 @@ pub fn signal_rule(
     requires { ⌜ r < count ⌝ }
     ensures { λ b. ⌜ b ≡ signalRuleHolds (now (signals .entry)) (now (phases .entry)) (now (asked .entry)) seconds k r ⌝ }
 {
-    signal_test(k, tables::signal_in(signals, r), phases[r], asked[r], seconds)
+    signal_test(
+        k,
+        tables::signal_in(signals, r),
+        phases[r],
+        asked[r],
+        seconds,
+    )
 }
 
 // Whether a signal that shows a phase keeps all six rules.

@@ -220,8 +220,7 @@ fn keeps_link_sums(
                 counts,
                 boundary,
                 i,
-            ))
-        {
+            )) {
             return false;
         }
     }
@@ -246,7 +245,15 @@ pub fn keeps_sums(
     ensures { λ r. ⌜ (r ≡ true → SumsKept counts (now (line .entry)) (now (links .entry)) (now (movements .entry)) (now (previous .entry)) (now (row .entry)) (now (ledger .entry)) (now (times .entry)) (now (arrivals .entry)) (now (curves .entry)) boundary) ⌝ }
 {
     if !keeps_link_sums(
-        links, previous, row, ledger, times, arrivals, curves, counts, boundary,
+        links,
+        previous,
+        row,
+        ledger,
+        times,
+        arrivals,
+        curves,
+        counts,
+        boundary,
     ) {
         return false;
     }
