@@ -1,19 +1,17 @@
--- What the tests of the code say of rule 27, and of a link or a movement that keeps its limits. Assumes nothing.
+-- What the tests of the code say of rule 27, and of a movement that keeps its limits. Assumes nothing.
 use mathlib.Core.Path.{_≡_, sym, ap, ap₂, _∙_}
-use mathlib.Core.Bool.{Bool, true, false, not, _&&_, _||_, or-true, or-false}
+use mathlib.Core.Bool.{Bool, true, false, not, _||_, or-true, or-false}
 use mathlib.Core.List.{List}
 use Prim.Native.Nat.{ℕ, _+_, _*_, _-_}
 use native.Mathlib.Omega.{arith}
-use borrow.Author.Count.{below-more}
 use borrow.Author.Tests.{eq-eqb, ne-eqb, le-leb, not-false}
 use lib.Dec.{leb, eqb}
 use lib.ListN.{getD}
-use Rattle.model.specs.Test.{_and_, _or_}
+use Rattle.model.specs.Test.{_or_}
 use Rattle.model.specs.Signals.{opens}
-use Rattle.model.proofs.Tests.{and-left, and-right}
 use Rattle.tables.specs.declared.Counts.{Counts}
 use Rattle.tables.specs.Fields.{signalIn, phaseMaskIn, linkIn, rateIn, lengthIn, movedIn}
-use Rattle.step_limits.specs.Limits.{admitsOffer, letsOutRate, isOpenIn, movesRate, movesOpen, LinkLimitsKept, MovementKept}
+use Rattle.step_limits.specs.Limits.{isOpenIn, movesRate, movesOpen, MovementKept}
 
 -- a link without a signal, and one with a signal
 module _ (links phases : List ℕ) (i : ℕ) where
@@ -43,16 +41,7 @@ module _ (counts : Counts) (line links movements phases : List ℕ) (j : ℕ) {v
     unfolding movesRate
     still-keeps e = (le-leb (movedIn counts line j) (rateIn movements j * lengthIn step) (omega (arith, v, e)), sym (nothing-moves e))
 
-    pub moving-keeps : (volume ≡ 0 → ⊥) → (rate : ℕ) {w : Bool} → rate ≡ rateIn movements j → w ≡ leb volume (rate * lengthIn step) → (f : ℕ) {o : Bool} → f + 1 ≡ linkIn movements 0 j → o ≡ isOpenIn links phases f
-        → w && o ≡ true → MovementKept counts line step links movements phases j
-    unfolding movesRate _and_
-    moving-keeps d rate {w} t u f {o} e q both =
-        (rw (← v, ← t) (sym u ∙ and-left w o both), sym (moves-open-is d f e q) ∙ and-right w o both)
-
--- one link more keeps 15 and 25
-pub links-more : (counts : Counts) (line step links : List ℕ) (i : ℕ) {a b : Bool} → LinkLimitsKept counts line step links i → a ≡ admitsOffer counts line step i → b ≡ letsOutRate counts line step links i
-    → not (a && b) ≡ false → LinkLimitsKept counts line step links (i + 1)
-unfolding _and_
-links-more counts line step links i {a} {b} kept e f t =
-    let both : a && b ≡ true = not-false (a && b) t in
-    below-more (λ i. (admitsOffer counts line step i ≡ true) × (letsOutRate counts line step links i ≡ true)) i kept (sym e ∙ and-left a b both, sym f ∙ and-right a b both)
+    pub moving-keeps : (volume ≡ 0 → ⊥) → (rate : ℕ) {w : Bool} → rate ≡ rateIn movements j → w ≡ leb volume (rate * lengthIn step) → not w ≡ false → (f : ℕ) {o : Bool} → f + 1 ≡ linkIn movements 0 j
+        → o ≡ isOpenIn links phases f → o ≡ true → MovementKept counts line step links movements phases j
+    unfolding movesRate
+    moving-keeps d rate {w} t u within f e q shows = (rw (← v, ← t) (sym u ∙ not-false w within), sym (moves-open-is d f e q) ∙ shows)

@@ -114,7 +114,10 @@ fn keeps_link_limits(line: &[u32], step: &[u32], links: &[u32], counts: Counts) 
 {
     let count = counts.links;
     for i in 0..count {
-        if !(admits_offer(line, step, counts, i) & lets_out_rate(line, step, links, counts, i)) {
+        if !admits_offer(line, step, counts, i) {
+            return false;
+        }
+        if !lets_out_rate(line, step, links, counts, i) {
             return false;
         }
     }
@@ -139,8 +142,10 @@ fn moves_within(
     if volume == 0 {
         return true;
     }
-    within_rate(volume, rate(movements, j), step[0])
-        & is_open(links, phases, step_rows::from_link(movements, counts, j))
+    if !within_rate(volume, rate(movements, j), step[0]) {
+        return false;
+    }
+    is_open(links, phases, step_rows::from_link(movements, counts, j))
 }
 
 // Whether all movements keep 26 and 27, in one pass over them.

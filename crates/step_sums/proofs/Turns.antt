@@ -1,23 +1,20 @@
 -- What the tests of the code say of rules 16 to 18. Assumes nothing.
 use mathlib.Core.Path.{_≡_, ap, ap₂, sym, _∙_}
 use mathlib.Core.Logic.{_⊎_, inl, inr}
-use mathlib.Core.Bool.{Bool, true, false, not, _&&_}
+use mathlib.Core.Bool.{true}
 use mathlib.Core.List.{List}
 use Prim.Native.Nat.{ℕ, suc, _+_, _*_, _-_, _≤_, _<_}
 use native.Mathlib.Nat.{eq-or-lt-of-le, mul-le-mul-right}
 use native.Mathlib.Decide.{decLe}
 use native.Mathlib.Omega.{arith}
-use borrow.Author.Count.{below-more}
-use borrow.Author.Tests.{not-false, le-leb, lt-leb, lt-ltb, le-ltb, eq-eqb, ne-eqb}
+use borrow.Author.Tests.{le-leb, lt-leb, lt-ltb, le-ltb, eq-eqb, ne-eqb}
 use lib.Dec.{leb}
 use lib.ListN.{getD}
-use Rattle.model.specs.Test.{_and_}
-use Rattle.model.proofs.Tests.{and-left, and-right}
 use Rattle.tables.specs.declared.Counts.{Counts}
 use Rattle.tables.specs.Fields.{travelTimeIn, linkIn, shareIn, letOutIn, movedIn, enteredIn, leftIn, enteredAt, RowHeld}
 use Rattle.arrivals.specs.Arrivals.{secondsIn, elapsedIn, Rising}
 use Rattle.step_rows.specs.Rows.{movedBy, nextLeft}
-use Rattle.step_sums.specs.Sums.{keepsShare, enteredBefore, enteredAfter, leavesArrived, fitsCapacity, LinkSumsKept, ShareTables, ArrivalRows}
+use Rattle.step_sums.specs.Sums.{keepsShare, enteredBefore, enteredAfter, leavesArrived, ShareTables, ArrivalRows}
 
 -- a sum in place of a difference
 pub leb-over : (a b c : ℕ) → leb a (c + b) ≡ leb (a - b) c
@@ -106,12 +103,3 @@ arrived-before counts links row ledger times arrivals curves boundary i {l} {sta
     let enough : leftIn row i ≤ enteredBefore counts ledger curves a i = omega arith in
     let scaled : leftIn row i * seconds ≤ enteredBefore counts ledger curves a i * seconds + more = omega (arith, mul-le-mul-right seconds enough) in
     sym (le-leb _ _ scaled)
-
--- one link more keeps 17 and 18
-pub links-more : (counts : Counts) (links previous row ledger times arrivals curves : List ℕ) (boundary i : ℕ) {a b : Bool} → LinkSumsKept counts links previous row ledger times arrivals curves boundary i
-    → a ≡ fitsCapacity links previous row i → b ≡ leavesArrived counts links row ledger times arrivals curves boundary i → not (a && b) ≡ false
-    → LinkSumsKept counts links previous row ledger times arrivals curves boundary (i + 1)
-unfolding _and_
-links-more counts links previous row ledger times arrivals curves boundary i {a} {b} kept e f t =
-    let both : a && b ≡ true = not-false (a && b) t in
-    below-more (λ i. (leavesArrived counts links row ledger times arrivals curves boundary i ≡ true) × (fitsCapacity links previous row i ≡ true)) i kept (sym f ∙ and-right a b both, sym e ∙ and-left a b both)

@@ -209,18 +209,20 @@ fn keeps_link_sums(
 {
     let count = counts.links;
     for i in 0..count {
-        if !(fits_capacity(links, previous, row, i)
-            & leaves_arrived(
-                links,
-                row,
-                ledger,
-                times,
-                arrivals,
-                curves,
-                counts,
-                boundary,
-                i,
-            )) {
+        if !fits_capacity(links, previous, row, i) {
+            return false;
+        }
+        if !leaves_arrived(
+            links,
+            row,
+            ledger,
+            times,
+            arrivals,
+            curves,
+            counts,
+            boundary,
+            i,
+        ) {
             return false;
         }
     }

@@ -1,9 +1,10 @@
 -- `step_limits::keeps_link_limits` meets its contract. The loop's invariant: the links so far keep 15 and 25. Assumes nothing.
 use Prim.Native.Nat.{ℕ, _-_, _≤_}
-use mathlib.Core.Path.{_≡_}
+use mathlib.Core.Path.{_≡_, sym, _∙_}
 use native.Mathlib.Omega.{arith}
+use borrow.Author.Count.{below-more}
+use borrow.Author.Tests.{not-false}
 use Rattle.step_limits.specs.Limits.{LinkLimitsKept}
-use Rattle.step_limits.proofs.Turns.{links-more}
 use borrow.Author.Needs.{needs}
 use Rattle.step_limits.proofs.keeps_link_limits.Statement.{statement}
 use Rattle.step_limits.proofs.keeps_link_limits.Tie as tie
@@ -20,11 +21,14 @@ loop-holds c = (omega arith, λ i l. absurd (omega arith))
 admits-offer-requires : tie.Need-admits-offer-requires Inv-loop μ-loop
 admits-offer-requires c κs = search needs
 
+returns : tie.Need-returns Inv-loop μ-loop
+returns c = λ e. let z : _≡_ {A = ℕ} 0 1 = cc in absurd (omega arith)
+
 lets-out-rate-requires : tie.Need-lets-out-rate-requires Inv-loop μ-loop
 lets-out-rate-requires c κs = search needs
 
-returns : tie.Need-returns Inv-loop μ-loop
-returns c = λ e. let z : _≡_ {A = ℕ} 0 1 = cc in absurd (omega arith)
+returns-2 : tie.Need-returns-2 Inv-loop μ-loop
+returns-2 c = λ e. let z : _≡_ {A = ℕ} 0 1 = cc in absurd (omega arith)
 
 add-i : tie.Need-add-i Inv-loop μ-loop
 add-i c = search needs
@@ -34,11 +38,11 @@ loop-less c = search needs
 
 loop-again : tie.Need-loop-again Inv-loop μ-loop
 loop-again c =
-    let w = c .before .before .before .before .loop in
-    (omega arith, links-more _ _ _ _ (w .i) (w .inv .1) (c .before .before .admits-offer .ensures) (c .before .lets-out-rate .ensures) (c .if1 .left))
+    let w = c .before .before .before .before .before .loop in
+    (omega arith, below-more _ (w .i) (w .inv .1) (sym (c .before .before .before .admits-offer .ensures) ∙ not-false _ (c .before .before .if1 .left), sym (c .before .lets-out-rate .ensures) ∙ not-false _ (c .if2 .left)))
 
-returns-2 : tie.Need-returns-2 Inv-loop μ-loop
-returns-2 c =
+returns-3 : tie.Need-returns-3 Inv-loop μ-loop
+returns-3 c =
     let w = c .before .loop in
     let e : w .i ≡ c .before .before .before .before .before .args .counts .links = omega arith in
     λ t. rw e at (w .inv .1)
@@ -51,9 +55,10 @@ keeps-link-limits-spec =
     μ-loop
     loop-holds
     admits-offer-requires
-    lets-out-rate-requires
     returns
+    lets-out-rate-requires
+    returns-2
     add-i
     loop-less
     loop-again
-    returns-2)
+    returns-3)

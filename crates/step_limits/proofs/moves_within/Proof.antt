@@ -1,4 +1,6 @@
 -- `step_limits::moves_within` meets its contract. Assumes nothing.
+use Prim.Native.Nat.{ℕ}
+use mathlib.Core.Path.{_≡_}
 use native.Mathlib.Omega.{arith}
 use Rattle.step_limits.proofs.Turns.{still-keeps, moving-keeps}
 use borrow.Author.Needs.{needs}
@@ -20,19 +22,22 @@ shared-slice-read-within-rate c = search needs
 within-rate-requires : tie.Need-within-rate-requires
 within-rate-requires c κs = search needs
 
+returns-2 : tie.Need-returns-2
+returns-2 c = λ e. let z : _≡_ {A = ℕ} 0 1 = cc in absurd (omega arith)
+
 from-link-requires : tie.Need-from-link-requires
 from-link-requires c κs = search needs
 
 is-open-requires : tie.Need-is-open-requires
 is-open-requires c κs =
-    let asked = c .before .before .before .before .before .before .before .before .before .before .before .pre .0 .tables in
+    let asked = c .before .before .before .before .before .before .before .before .before .before .before .before .pre .0 .tables in
     let from = c .from-link in
     let last = asked .signal-last (from .result) (from .ensures .1) in
     let few = asked .few in
     (search needs, λ r l. asked .phase-last r (omega arith))
 
-returns-2 : tie.Need-returns-2
-returns-2 c = λ t. moving-keeps _ _ _ _ _ _ (c .before .before .before .before .before .before .moved .ensures) _ (c .before .before .before .before .before .if1 .left) _ (c .before .before .before .before .rate .ensures) (c .before .before .within-rate .ensures) (c .before .from-link .result) (c .before .from-link .ensures .0) (c .is-open .ensures) t
+returns-3 : tie.Need-returns-3
+returns-3 c = λ t. moving-keeps _ _ _ _ _ _ (c .before .before .before .before .before .before .before .moved .ensures) _ (c .before .before .before .before .before .before .if1 .left) _ (c .before .before .before .before .before .rate .ensures) (c .before .before .before .within-rate .ensures) (c .before .before .if2 .left) (c .before .from-link .result) (c .before .from-link .ensures .0) (c .is-open .ensures) t
 
 pub moves-within-spec : {M : Type 1} → statement M
 moves-within-spec =
@@ -43,6 +48,7 @@ moves-within-spec =
     rate-requires
     shared-slice-read-within-rate
     within-rate-requires
+    returns-2
     from-link-requires
     is-open-requires
-    returns-2)
+    returns-3)
