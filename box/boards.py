@@ -12,7 +12,9 @@ import generate
 
 FOLDER = "target/box"
 LIBRARY = f"{FOLDER}/libplan_check_c.a"
-SOURCES = ["box/build", "box/calls.c", "box/arithmetic.S"]
+NARROWED = f"{FOLDER}/narrow/libplan_check_c.a"
+TRAPPING = f"{FOLDER}/trap/libplan_check_c.a"
+SOURCES = ["box/build", "box/narrow", "box/calls.c", "box/arithmetic.S", "box/fill.S"]
 STRICT = ["-std=c11", "-Wall", "-Wextra", "-Werror", "-O2", "-Iinclude", "-Ibox", "-Ibench"]
 DEBIAN = {
     "arm-none-eabi-gcc": "gcc-arm-none-eabi",
@@ -62,18 +64,18 @@ def archive():
     return f"{done.stdout.strip()}/libplan_check_c.a"
 
 
-def is_built():
-    """Whether the library for a Cortex-M0 is of the same module as the archive for x86-64, and of what stands here."""
-    if not (os.path.exists(LIBRARY) and os.path.exists(f"{FOLDER}/x86-64.a")):
+def is_built(library):
+    """Whether a library for a Cortex-M0 is of the same module as the archive for x86-64, and of what stands here."""
+    if not (os.path.exists(library) and os.path.exists(f"{FOLDER}/x86-64.a")):
         return False
     changed = max(map(os.path.getmtime, SOURCES))
-    return changed < os.path.getmtime(LIBRARY) and filecmp.cmp(f"{FOLDER}/x86-64.a", archive(), shallow=False)
+    return changed < os.path.getmtime(library) and filecmp.cmp(f"{FOLDER}/x86-64.a", archive(), shallow=False)
 
 
-def make_library():
-    """Runs box/build where the library for a Cortex-M0 has to be built."""
-    if not is_built():
-        print(output_of("box/build"), end="", flush=True)
+def make_libraries(narrow):
+    """Runs box/build where the library for a Cortex-M0, or the narrowed ones beside it, have to be built."""
+    if not all(is_built(library) for library in [LIBRARY] + [NARROWED, TRAPPING] * narrow):
+        print(output_of("box/build", *["--narrow"] * narrow), end="", flush=True)
 
 
 def made(name, sizes, tram_steps=0):
@@ -116,13 +118,13 @@ def write_inputs(path, folders, small, more):
         file.write(f"static const struct example examples[EXAMPLES] = {{\n{table}}};\n")
 
 
-def build(board, name, sources, inputs):
+def build(board, name, sources, inputs, library=LIBRARY):
     """A program for a board; the folder of inputs holds inputs.h."""
-    path = f"{FOLDER}/{name}-{board.name}.elf"
+    path = f"{os.path.dirname(library)}/{name}-{board.name}.elf"
     processor = ["-mcpu=cortex-m0", "-mthumb", "-ffunction-sections"]
     sizes = [f"-Wl,--defsym=FLASH_KB={board.flash}", f"-Wl,--defsym=RAM_KB={board.memory}"]
     linking = ["-nostartfiles", "-Wl,--gc-sections", *sizes, "-Tbox/board.ld"]
-    output_of("arm-none-eabi-gcc", *STRICT, *processor, f"-I{inputs}", "box/board.c", *sources, LIBRARY, *linking, "-o", path)
+    output_of("arm-none-eabi-gcc", *STRICT, *processor, f"-I{inputs}", "box/board.c", *sources, library, *linking, "-o", path)
     return path
 
 
