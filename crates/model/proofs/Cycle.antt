@@ -1,11 +1,11 @@
--- From one beginning of phase 1 to the next, ordinary steps last from the least to the greatest cycle. Assumes nothing.
+-- The cycle clock counts the ordinary seconds of a cycle: of one that begins in the plan, and of the one that runs at time 0. Assumes nothing.
 use mathlib.Core.Path.{_≡_, refl, sym, ap, _∙_}
 use mathlib.Core.Bool.{Bool, true, false, not, _||_}
-use mathlib.Core.Logic.{_⊎_, inl, inr, _≢_}
+use mathlib.Core.Logic.{_≢_}
 use mathlib.Core.List.{List}
-use Prim.Native.Nat.{ℕ, zero, suc, _+_, _≤_, _<_}
-use native.Mathlib.Nat.{eq-or-lt-of-le, le-refl}
-use native.Mathlib.Decide.{ℕ-discrete, decLe}
+use Prim.Native.Nat.{ℕ, zero, suc, _+_, _-_, _≤_, _<_}
+use native.Mathlib.Nat.{le-refl, le-of-lt}
+use native.Mathlib.Decide.{ℕ-discrete}
 use native.Mathlib.Omega.{arith}
 use lib.Dec.{leb}
 use borrow.Author.Tests.{leb-true, eq-eqb, ne-eqb}
@@ -16,12 +16,12 @@ use Rattle.model.specs.Network.{signalCount, stepCount, signal, stepLeng
 use Rattle.model.specs.Signals.{beginsCycle, clockAfter, keepsCycle}
 use Rattle.model.specs.Flows.{shownIn, signalAt}
 use Rattle.model.specs.Rules.{validSignal, rule14}
-use Rattle.model.specs.Guarantees.{isOrdinary, ordinaryLength, Green, Red, between, leastCycle, greatestCycle}
+use Rattle.model.specs.Guarantees.{CycleBegins, NoCycleBegins, Cycle, ordinaryLength, between, leastCycle, greatestCycle, clockAtStart}
 use Rattle.model.proofs.Tests.{and-left, and-right}
 use Rattle.model.proofs.Accepted.{AcceptedPlan}
 use Rattle.model.proofs.Ordinary.{sum-between, seconds, seconds-on, seconds-off}
-use Rattle.model.proofs.Shown.{kept, next-signal, same-signal, phase, phase-suc, change-ordinary, shows-of-phase, tested}
-use Rattle.model.proofs.Red.{green-phase, green-starts}
+use Rattle.model.proofs.Shown.{kept, next-signal, same-signal, phase, phase-suc, change-ordinary, phase-last, tested}
+use Rattle.model.proofs.Red.{green-phase, green-starts, green-from}
 
 -- the parts of rule 14
 cycle-parts : (s : Signal) (q x : ℕ) → keepsCycle s q x ≡ true → ((not (beginsCycle s q) || leb (s .«least_cycle») (s .«cycle_clock»)) ≡ true) × (clockAfter s q x ≤ s .«greatest_cycle»)
@@ -46,6 +46,16 @@ module _ (network plan : List Line) (r : ℕ) where
       go (yes e) = rw (eq-eqb (shownIn network plan n r) 1 e, eq-eqb (phase network plan r n) 1 (h (phase-suc network plan r n o ∙ e))) refl
       go (no d) = rw (ne-eqb (shownIn network plan n r) 1 d) refl
 
+  -- a cycle begins where phase 1 comes after another
+  pub begins-after : {a : ℕ} → CycleBegins network plan r a → phase network plan r a ≢ 1
+  begins-after (b, g) = green-starts network plan r g
+
+  pub begins-with : {a : ℕ} → CycleBegins network plan r a → phase network plan r (suc a) ≡ 1
+  begins-with {a} (b, g) = green-phase network plan r g (suc a) (le-refl _) (g .some-step)
+
+  begins-in-plan : {a : ℕ} → CycleBegins network plan r a → a < stepCount network
+  begins-in-plan (b, g) = omega (arith, g .some-step, g .in-plan)
+
   module _ (accepted : AcceptedPlan network plan) (lr : r < signalCount network) where
     keeps-cycle : (n : ℕ) → n < stepCount network → ordinary network n r ≡ true → keepsCycle (signalAt network plan n r) (shownIn network plan n r) (stepLength network n) ≡ true
     unfolding rule14
@@ -61,64 +71,81 @@ module _ (network plan : List Line) (r : ℕ) where
             (cycle-parts (signalAt network plan n r) (shownIn network plan n r) (stepLength network n) (keeps-cycle n h o) .1)
         go false o ih = rw (clock, same-signal network plan r n o) ih
 
-    module _ {a b c : ℕ} (red : Red network plan r 1 b c) (starts : red .start ≡ suc a) where
-      green : Green network plan r 1 (suc a) b
-      green = rw starts at (red .green)
+    -- while no cycle begins, the clock counts ordinary seconds
+    clock-next : (n : ℕ) → n < stepCount network → (CycleBegins network plan r n → ⊥) → clock (suc n) + seconds network r n ≡ clock n + seconds network r (suc n)
+    clock-next n h none = go (ordinary network n r) refl
+      where
+        goes-on : phase network plan r (suc n) ≡ 1 → phase network plan r n ≡ 1
+        goes-on e = elim (ℕ-discrete (phase network plan r n) 1) [
+          | yes f ↦ f
+          | no d ↦ absurd (none (green-from network plan r n 1 (omega arith) (rw e at (phase-last network plan r accepted lr (suc n) h)) h d e))
+        ]
 
-      ends : c < stepCount network
-      ends = omega (arith, red .next-green .some-step, red .next-green .in-plan)
+        go : (t : Bool) → ordinary network n r ≡ t → clock (suc n) + seconds network r n ≡ clock n + seconds network r (suc n)
+        go true o = omega (arith, clock-on n o goes-on, seconds-on network r n o)
+        go false o = omega (arith, ap (λ (s : Signal). s .«cycle_clock») (same-signal network plan r n o), seconds-off network r n o)
 
-      -- since the green began, the clock has counted the ordinary seconds
-      clock-is : (n : ℕ) → a < n → n ≤ c → clock n + seconds network r a ≡ seconds network r n
-      clock-is zero h l = absurd (omega arith)
-      clock-is (suc n) h l = go (eq-or-lt-of-le h) (clock-is n)
-        where
-          goes-on : a < n → phase network plan r (suc n) ≡ 1 → phase network plan r n ≡ 1
-          goes-on u e = elim (decLe n b) [
-            | yes v ↦ green-phase network plan r green n u v
-            | no v ↦ by (ℕ-discrete (phase network plan r n) 1)
-          ]
-            where
-              by : Dec (phase network plan r n ≡ 1) → phase network plan r n ≡ 1
-              by (yes f) = f
-              by (no d) =
-                  let o : isOrdinary network r (suc n) ≡ true = unfold isOrdinary in change-ordinary network plan r n (λ f. d (sym f ∙ e)) in
-                  elim (decLe (suc n) b) [
-                    | yes w ↦ green-phase network plan r green n u (omega arith)
-                    | no w ↦ absurd (red .none-between (suc n) (omega arith) l o (shows-of-phase network plan r 1 (suc n) (omega arith) o e))
-                  ]
+    clock-from : (a d : ℕ) → a + d ≤ stepCount network → NoCycleBegins network plan r a (a + d) → clock (a + d) + seconds network r a ≡ clock a + seconds network r (a + d)
+    clock-from a zero h none = let e : a + 0 ≡ a = omega arith in rw e refl
+    clock-from a (suc d) h none =
+        let e : a + suc d ≡ suc (a + d) = omega arith in
+        rw e (omega (
+          arith,
+          clock-from a d (omega arith) (λ n u v. none n u (omega arith)),
+          clock-next (a + d) (omega arith) (none (a + d) (omega arith) (omega arith)),
+        ))
 
-          on : (t : Bool) → ordinary network n r ≡ t → a < n → clock n + seconds network r a ≡ seconds network r n → clock (suc n) + seconds network r a ≡ seconds network r (suc n)
-          on true o u ih = omega (arith, ih, clock-on n o (goes-on u), seconds-on network r n o)
-          on false o u ih = omega (arith, ih, ap (λ (s : Signal). s .«cycle_clock») (same-signal network plan r n o), seconds-off network r n o)
+    clock-is : (a c : ℕ) → a ≤ c → c ≤ stepCount network → NoCycleBegins network plan r a c → clock c ≡ clock a + between a c (ordinaryLength network r)
+    clock-is a c l h none =
+        let e : a + (c - a) ≡ c = omega arith in
+        omega (arith, rw e at (clock-from a (c - a) (rw e h) (rw e none)), sum-between (ordinaryLength network r) a c l)
 
-          go : (suc a ≡ suc n) ⊎ (suc a < suc n) → (a < n → n ≤ c → clock n + seconds network r a ≡ seconds network r n) → clock (suc n) + seconds network r a ≡ seconds network r (suc n)
-          go (inl i) ih =
-              let j : a ≡ n = omega arith in
-              let d : phase network plan r n ≢ 1 = λ f. green-starts network plan r green (ap (phase network plan r) j ∙ f) in
-              let e : phase network plan r (suc n) ≡ 1 = ap (phase network plan r) (sym i) ∙ green-phase network plan r green (suc a) (le-refl _) (green .some-step) in
-              omega (arith, clock-new n d e, seconds-on network r n (change-ordinary network plan r n (λ f. d (sym f ∙ e))), ap (seconds network r) j)
-          go (inr i) ih = on (ordinary network n r) refl (omega arith) (ih (omega arith) (omega arith))
+    -- a cycle that begins in the plan, up to boundary c
+    clock-since : {a c : ℕ} → Cycle network plan r a c → c ≤ stepCount network → clock c ≡ between a c (ordinaryLength network r)
+    clock-since {a} {c} y h =
+        let d = begins-after (y .begins) in
+        let e = begins-with (y .begins) in
+        omega (
+          arith,
+          clock-is (suc a) c (y .in-order) h (y .none-between),
+          clock-new a d e,
+          seconds-on network r a (change-ordinary network plan r a (λ f. d (sym f ∙ e))),
+          sum-between (ordinaryLength network r) (suc a) c (y .in-order),
+          sum-between (ordinaryLength network r) a c (omega arith),
+        )
 
-      at-end : clock c + seconds network r a ≡ seconds network r c
-      at-end = clock-is c (omega (arith, green .some-step, red .in-order)) (le-refl _)
+    -- the cycle that runs at time 0
+    clock-first : (c : ℕ) → c ≤ stepCount network → NoCycleBegins network plan r 0 c → clock c ≡ clockAtStart network r + between 0 c (ordinaryLength network r)
+    unfolding clockAtStart signalAt signal
+    clock-first c h none = clock-is 0 c (omega arith) h none
 
-      before : phase network plan r c ≢ 1
-      before = green-starts network plan r (red .next-green)
+    clock-least : {c : ℕ} → CycleBegins network plan r c → leastCycle network r ≤ clock c
+    unfolding leastCycle signal
+    clock-least {c} b =
+        let o = change-ordinary network plan r c (λ f. begins-after b (sym f ∙ begins-with b)) in
+        let h = cycle-parts (signalAt network plan c r) (shownIn network plan c r) (stepLength network c) (keeps-cycle c (begins-in-plan b) o) .0 in
+        let l : signalAt network plan c r .«least_cycle» ≤ clock c =
+        leb-true _ _ (rw (eq-eqb (shownIn network plan c r) 1 (sym (phase-suc network plan r c o) ∙ begins-with b), ne-eqb (phase network plan r c) 1 (begins-after b)) at h) in
+        omega (arith, l, kept network plan r (λ s. s .«least_cycle») (λ s q x. refl) c)
 
-      again : phase network plan r (suc c) ≡ 1
-      again = green-phase network plan r (red .next-green) (suc c) (le-refl _) (red .next-green .some-step)
+    clock-greatest : (c : ℕ) → c ≤ stepCount network → clock c ≤ greatestCycle network r
+    unfolding greatestCycle signal
+    clock-greatest c h = clock-limit c h
 
-      pub cycle-least : leastCycle network r ≤ between a c (ordinaryLength network r)
-      unfolding leastCycle signal
-      cycle-least =
-          let o = change-ordinary network plan r c (λ f. before (sym f ∙ again)) in
-          let h = cycle-parts (signalAt network plan c r) (shownIn network plan c r) (stepLength network c) (keeps-cycle c ends o) .0 in
-          let l : signalAt network plan c r .«least_cycle» ≤ clock c =
-          leb-true _ _ (rw (eq-eqb (shownIn network plan c r) 1 (sym (phase-suc network plan r c o) ∙ again), ne-eqb (phase network plan r c) 1 before) at h) in
-          omega (arith, l, at-end, kept network plan r (λ s. s .«least_cycle») (λ s q x. refl) c, sum-between (ordinaryLength network r) a c (omega (arith, green .some-step, red .in-order)))
+    pub cycle-least : (a c : ℕ) → Cycle network plan r a c → CycleBegins network plan r c → leastCycle network r ≤ between a c (ordinaryLength network r)
+    cycle-least a c y b = rw (clock-since y (le-of-lt (begins-in-plan b))) at (clock-least b)
 
-      pub cycle-greatest : between a c (ordinaryLength network r) ≤ greatestCycle network r
-      unfolding greatestCycle signal
-      cycle-greatest =
-          omega (arith, clock-limit c (omega (arith, ends)), at-end, sum-between (ordinaryLength network r) a c (omega (arith, green .some-step, red .in-order)))
+    pub cycle-greatest : (a c : ℕ) → Cycle network plan r a c → CycleBegins network plan r c → between a c (ordinaryLength network r) ≤ greatestCycle network r
+    cycle-greatest a c y b = let l = le-of-lt (begins-in-plan b) in rw (clock-since y l) at (clock-greatest c l)
+
+    pub first-cycle-least : (c : ℕ) → NoCycleBegins network plan r 0 c → CycleBegins network plan r c → leastCycle network r ≤ clockAtStart network r + between 0 c (ordinaryLength network r)
+    first-cycle-least c none b = rw (clock-first c (le-of-lt (begins-in-plan b)) none) at (clock-least b)
+
+    pub first-cycle-greatest : (c : ℕ) → NoCycleBegins network plan r 0 c → CycleBegins network plan r c → clockAtStart network r + between 0 c (ordinaryLength network r) ≤ greatestCycle network r
+    first-cycle-greatest c none b = let l = le-of-lt (begins-in-plan b) in rw (clock-first c l none) at (clock-greatest c l)
+
+    pub last-cycle-greatest : (a : ℕ) → Cycle network plan r a (stepCount network) → between a (stepCount network) (ordinaryLength network r) ≤ greatestCycle network r
+    last-cycle-greatest a y = rw (clock-since y (le-refl _)) at (clock-greatest (stepCount network) (le-refl _))
+
+    pub only-cycle-greatest : NoCycleBegins network plan r 0 (stepCount network) → clockAtStart network r + between 0 (stepCount network) (ordinaryLength network r) ≤ greatestCycle network r
+    only-cycle-greatest none = rw (clock-first (stepCount network) (le-refl _) none) at (clock-greatest (stepCount network) (le-refl _))

@@ -30,5 +30,6 @@ pub mod Red
 pub mod Once
 pub mod Hold
 pub mod Cycle
+pub mod CycleWitness
 pub mod Promises
 pub mod Padding

@@ -25,7 +25,7 @@ use Rattle.model.proofs.TravelTime.{admitted-demand, travel-time}
 use Rattle.model.proofs.Shut.{shut-passes-nothing}
 use Rattle.model.proofs.Red.{red-greens, red-least, red-greatest}
 use Rattle.model.proofs.Once.{exactly-once}
-use Rattle.model.proofs.Cycle.{cycle-least, cycle-greatest}
+use Rattle.model.proofs.Cycle.{cycle-least, cycle-greatest, first-cycle-least, first-cycle-greatest, last-cycle-greatest, only-cycle-greatest}
 
 module _ (network plan : List Line) (accepted : AcceptedPlan network plan) where
   pub guarantees : Guarantees network plan (doubledTime network plan (stepCount network))
@@ -35,8 +35,12 @@ module _ (network plan : List Line) (accepted : AcceptedPlan network plan) where
         once = λ r l q b c red. exactly-once network plan r accepted l red;
         red-least = λ r l q b c red. red-least network plan r accepted l red;
         red-greatest = λ r l q b c red. red-greatest network plan r accepted l red;
-        cycle-least = λ r l a b c red s. cycle-least network plan r accepted l red s;
-        cycle-greatest = λ r l a b c red s. cycle-greatest network plan r accepted l red s;
+        cycle-least = λ r l. cycle-least network plan r accepted l;
+        cycle-greatest = λ r l. cycle-greatest network plan r accepted l;
+        first-cycle-least = λ r l. first-cycle-least network plan r accepted l;
+        first-cycle-greatest = λ r l. first-cycle-greatest network plan r accepted l;
+        last-cycle-greatest = λ r l. last-cycle-greatest network plan r accepted l;
+        only-cycle-greatest = λ r l. only-cycle-greatest network plan r accepted l;
         balanced = balance network plan accepted;
         left-entered = left-within network plan accepted;
         holds-capacity = within-capacity network plan accepted;

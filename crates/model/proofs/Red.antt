@@ -83,9 +83,9 @@ module _ (network plan : List Line) (r : ℕ) where
           omega (arith, run-new network plan r n d, seconds-on network r n (change-ordinary network plan r n d), ap (seconds network r) j)
       go (inr i) ih = on (ordinary network n r) refl (omega arith) (ih (omega arith) (omega arith))
 
-  -- the run of phase y that shows at s ends before boundary c, since the step after shows another
-  run-end : (y c : ℕ) → phase network plan r (suc c) ≢ y → (d s : ℕ) → s + d ≡ c → phase network plan r s ≡ y
-      → (e : ℕ) × (s ≤ e) × (e ≤ c) × ((n : ℕ) → s ≤ n → n ≤ e → phase network plan r n ≡ y) × (phase network plan r (suc e) ≢ y)
+  -- the run of phase y that shows at s ends by boundary c, where the plan ends or the step after shows another
+  run-end : (y c : ℕ) → (c < stepCount network → phase network plan r (suc c) ≢ y) → (d s : ℕ) → s + d ≡ c → phase network plan r s ≡ y
+      → (e : ℕ) × (s ≤ e) × (e ≤ c) × ((n : ℕ) → s ≤ n → n ≤ e → phase network plan r n ≡ y) × (e < stepCount network → phase network plan r (suc e) ≢ y)
   run-end y c z zero s h f =
       let i : s ≡ c = omega arith in
       (c, omega arith, le-refl _, (λ n u v. let j : n ≡ s = omega arith in ap (phase network plan r) j ∙ f), z)
@@ -93,24 +93,24 @@ module _ (network plan : List Line) (r : ℕ) where
     where
       go : Dec (phase network plan r (suc s) ≡ y)
           → (phase network plan r (suc s) ≡ y
-          → (e : ℕ) × (suc s ≤ e) × (e ≤ c) × ((n : ℕ) → suc s ≤ n → n ≤ e → phase network plan r n ≡ y) × (phase network plan r (suc e) ≢ y))
-          → (e : ℕ) × (s ≤ e) × (e ≤ c) × ((n : ℕ) → s ≤ n → n ≤ e → phase network plan r n ≡ y) × (phase network plan r (suc e) ≢ y)
-      go (no u) ih = (s, le-refl _, omega arith, (λ n v w. let j : n ≡ s = omega arith in ap (phase network plan r) j ∙ f), u)
+          → (e : ℕ) × (suc s ≤ e) × (e ≤ c) × ((n : ℕ) → suc s ≤ n → n ≤ e → phase network plan r n ≡ y) × (e < stepCount network → phase network plan r (suc e) ≢ y))
+          → (e : ℕ) × (s ≤ e) × (e ≤ c) × ((n : ℕ) → s ≤ n → n ≤ e → phase network plan r n ≡ y) × (e < stepCount network → phase network plan r (suc e) ≢ y)
+      go (no u) ih = (s, le-refl _, omega arith, (λ n v w. let j : n ≡ s = omega arith in ap (phase network plan r) j ∙ f), λ v. u)
       go (yes u) ih =
           let R = ih u in
           (R .0, omega arith, R .2, (λ n v w. ⊎-elim (λ i. ap (phase network plan r) (sym i) ∙ f) (λ i. R .3 n i w) (eq-or-lt-of-le v)), R .4)
 
-  -- the green of a run: phase y from the change after boundary b to that after e; its last ordinary step ends by e
+  -- the green of a run: phase y from the change after boundary b to that after e, or to the plan's end; its last ordinary step ends by e
   green-of-run : (b e y : ℕ) → 1 ≤ y → y ≤ P network r → suc b ≤ e → e ≤ stepCount network → phase network plan r b ≢ y
-      → ((n : ℕ) → suc b ≤ n → n ≤ e → phase network plan r n ≡ y) → phase network plan r (suc e) ≢ y
+      → ((n : ℕ) → suc b ≤ n → n ≤ e → phase network plan r n ≡ y) → (e < stepCount network → phase network plan r (suc e) ≢ y)
       → (l : ℕ) × (l ≤ e) × NoneBetween network r l (suc e) × Green network plan r y (suc b) l
   green-of-run b e y y1 yP h k before shows after = go (last-ordinary network r e)
     where
       first : isOrdinary network r (suc b) ≡ true
       first = unfold isOrdinary in change-ordinary network plan r b (λ f. before (sym f ∙ shows (suc b) (le-refl _) h))
 
-      next : isOrdinary network r (suc e) ≡ true
-      next = unfold isOrdinary in change-ordinary network plan r e (λ f. after (f ∙ shows e h (le-refl _)))
+      next : e < stepCount network → isOrdinary network r (suc e) ≡ true
+      next i = unfold isOrdinary in change-ordinary network plan r e (λ f. after i (f ∙ shows e h (le-refl _)))
 
       go : (l : ℕ) × (l ≤ e) × (isOrdinary network r l ≡ true) × NoneBetween network r l (suc e)
           → (l : ℕ) × (l ≤ e) × NoneBetween network r l (suc e) × Green network plan r y (suc b) l
@@ -132,12 +132,19 @@ module _ (network plan : List Line) (r : ℕ) where
             | no i ↦ elim (decLe n (suc e)) [
               | yes j ↦
                   let x : n ≡ suc e = omega arith in
-                  after (sym (ap (phase network plan r) x) ∙ phase-of-shows network plan r y n y1 yP p s)
-              | no j ↦ not-between network r f (omega arith) (omega arith) next
+                  after (omega arith) (sym (ap (phase network plan r) x) ∙ phase-of-shows network plan r y n y1 yP p s)
+              | no j ↦ not-between network r f (omega arith) (omega arith) (next (omega arith))
             ]
           ];
         },
       )
+
+  -- a change to phase y in the plan starts a green of it
+  pub green-from : (b y : ℕ) → 1 ≤ y → y ≤ P network r → b < stepCount network → phase network plan r b ≢ y → phase network plan r (suc b) ≡ y → (l : ℕ) × Green network plan r y (suc b) l
+  green-from b y y1 yP h d f =
+      let R = run-end y (stepCount network) (λ i. absurd (omega arith)) (stepCount network - suc b) (suc b) (omega arith) f in
+      let G = green-of-run b (R .0) y y1 yP (R .1) (R .2) d (R .3) (R .4) in
+      (G .0, G .3)
 
   module _ (accepted : AcceptedPlan network plan) (lr : r < signalCount network) where
     few-phases : P network r ≤ 8
@@ -227,9 +234,9 @@ module _ (network plan : List Line) (r : ℕ) where
         go (inr l) ih =
             let y1 : 1 ≤ y = rw sy at (phase-first network plan r accepted lr (suc b) (omega arith)) in
             let yP : y ≤ P network r = rw sy at (phase-last network plan r accepted lr (suc b) (omega arith)) in
-            let R = run-end y c (λ e. T .0 (sym e ∙ sc)) (c - suc b) (suc b) (omega arith) sy in
+            let R = run-end y c (λ i e. T .0 (sym e ∙ sc)) (c - suc b) (suc b) (omega arith) sy in
             let pe : phase network plan r (R .0) ≡ y = R .3 (R .0) (R .1) (le-refl _) in
-            let changes : phase network plan r (suc (R .0)) ≢ phase network plan r (R .0) = λ f. R .4 (f ∙ pe) in
+            let changes : phase network plan r (suc (R .0)) ≢ phase network plan r (R .0) = λ f. R .4 (omega (arith, R .2)) (f ∙ pe) in
             let rest : Greens network plan r (R .0) c (turns (P network r) m (phase network plan r (R .0))) =
             ih (R .0) (omega (arith, R .1)) (R .2) changes (rw pe (T .1)) in
             let G = green-of-run b (R .0) y y1 yP (R .1) (omega (arith, R .2)) (λ f. d (sy ∙ sym f)) (R .3) (R .4) in
