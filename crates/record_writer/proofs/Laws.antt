@@ -239,7 +239,7 @@ module _ (ns : List ℕ) (at : ℕ) (old : List ℕ) (h : at + length (fieldText
         let t : take k ns ≡ ns = rw e (take-length ns) in
         rw t at (r .wrote)
 
-record-is : (letter : ℕ) (ns : List ℕ) → length (recordText letter ns) ≡ 2 + length (fieldTexts ns)
+pub record-is : (letter : ℕ) (ns : List ℕ) → length (recordText letter ns) ≡ 2 + length (fieldTexts ns)
 unfolding recordText
 record-is letter ns = omega (arith, length-append (fieldTexts ns) (10 ∷ []))
 

@@ -1,3 +1,4 @@
 pub mod Laws
 pub mod Numerals
 pub mod Records
+pub mod Lengths

@@ -26,13 +26,13 @@ pub record Numbered (n : ℕ) (line : Line) (vs : List ℕ) : Type 0 where
   pub each : (k : ℕ) → k < n → getD vs k 0 ≡ number line k
 
 -- a record, by its parts
-record Parts (letter n : ℕ) (line : Line) : Type 0 where
-  ended : line .ended ≡ true
-  own : eqb (line .letter) letter ≡ true
-  count : length (line .fields) ≡ n
-  all : allNumbers (line .fields) ≡ true
+pub record Parts (letter n : ℕ) (line : Line) : Type 0 where
+  pub ended : line .ended ≡ true
+  pub own : eqb (line .letter) letter ≡ true
+  pub count : length (line .fields) ≡ n
+  pub all : allNumbers (line .fields) ≡ true
 
-parts : (letter n : ℕ) (line : Line) → isRecord letter n line ≡ true → Parts letter n line
+pub parts : (letter n : ℕ) (line : Line) → isRecord letter n line ≡ true → Parts letter n line
 unfolding isRecord
 parts letter n line e =
     let three = and-eq-true-iff (line .ended && eqb (line .letter) letter && eqb (length (line .fields)) n) (allNumbers (line .fields)) .0 e in

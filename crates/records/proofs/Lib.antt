@@ -3,6 +3,7 @@ mod Places
 pub mod Numerals
 pub mod Fill
 pub mod Laws
+pub mod Lengths
 pub mod Padding
 pub mod Opened
 mod Tests
