@@ -109,7 +109,7 @@
  *     plancheck_plan_from_listing   66,544    the buffer: PLANCHECK_WRITTEN_PLAN_MAX, 151,920, at most
  *     plancheck_compare_plans        6,432    two ledgers: each 4 * PLANCHECK_LEDGER_LEN(L, K), 23,232 at most
  *     plancheck_check_sheet          7,632    the ledger: 4 * PLANCHECK_LEDGER_LEN(L, K), 23,232 at most
- *     plancheck_plan_from_sheet      8,032    the buffer: PLANCHECK_WRITTEN_PLAN_MAX at most
+ *     plancheck_plan_from_sheet      8,032    the buffer: 30,960 at most
  *     plancheck_split                7,792    four buffers: each half at most the greatest network and plan text
  *     plancheck_run_cells            2,208    nothing
  *     plancheck_step_vehicles            8    nothing: the places are changed where they stand
@@ -166,12 +166,14 @@ extern "C" {
 
 /*
  * The library takes texts of any length. No valid network text and no accepted plan text is longer than this, in bytes,
- * every number padded to 10 digits: a longer one may be turned down unread.
+ * however it is padded: a longer one may be turned down unread. Both are proved (crates/text_lengths), and reached where
+ * every number is padded to 10 digits: by a network of 118 past steps, 2 steps and 16 tram lines, and by a plan of 120 steps.
  */
-#define PLANCHECK_NETWORK_TEXT_MAX 72252
+#define PLANCHECK_NETWORK_TEXT_MAX 71988
 #define PLANCHECK_PLAN_TEXT_MAX 158640
 
-/* No plan text that plancheck_plan_from_listing or plancheck_plan_from_sheet writes is longer than this, in bytes. */
+/* No plan text that plancheck_plan_from_listing or plancheck_plan_from_sheet writes is longer than this, in bytes. This is
+   proved too, and reached by a listing; a plan for a sheet, every volume of which is 0, has at most 30960. */
 #define PLANCHECK_WRITTEN_PLAN_MAX 151920
 
 /* The longest files, in bytes, that the program plancheck reads. */

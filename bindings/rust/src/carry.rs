@@ -2,9 +2,9 @@
 
 use crate::{library, refused, Refusal};
 
-/// No valid network text is longer than this, in bytes, so that a buffer of this length is enough for every one that is
-/// carried on.
-pub const MAX_NETWORK_TEXT_LEN: usize = 72_252;
+/// No valid network text is longer than this, in bytes, however it is padded, so that a buffer of this length is enough for
+/// every one that is carried on.
+pub const MAX_NETWORK_TEXT_LEN: usize = 71_988;
 
 /// Carries a network on from a boundary, for a server that plans anew while traffic runs: judges a plan of as many lines on
 /// the network cut to as many steps, writes the network text from the boundary on, and gives its length. The steps of the

@@ -7,7 +7,7 @@ mod Judge
 mod Stored
 mod Reading
 mod Whole
-mod ReadBack
+pub mod ReadBack
 pub mod Theorem
 mod Call
 mod Examples

@@ -144,7 +144,7 @@ module _ (network : List Line) (listing : List Entry) where
       go true e ih = line-fits (stepLength network) v n (lineAt listing i) l s e (f i (omega arith))
       go false e ih = ih
 
-  mask-small : (n r : ℕ) → maskOf network listing n r < 256
+  pub mask-small : (n r : ℕ) → maskOf network listing n r < 256
   unfolding maskOf
   mask-small n r = bits-below 8 (λ k. eqb (value listing (Shown (suc r) (suc k) (suc n))) one)
 
@@ -153,7 +153,7 @@ module _ (network : List Line) (listing : List Entry) where
     unfolding volumeOf value
     volume-small n v h s = value-fits (listing-fits fitting) v n h s (length listing) (omega arith)
 
-    numbers-small : (n : ℕ) → Small (planNumbers network listing n)
+    pub numbers-small : (n : ℕ) → Small (planNumbers network listing n)
     unfolding planNumbers hasVolume stepOf
     numbers-small n =
         let a = list (signalCount network) (maskOf network listing n) in

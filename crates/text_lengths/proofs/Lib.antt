@@ -1,0 +1,4 @@
+mod Trams
+mod Network
+mod Written
+pub mod Lengths
