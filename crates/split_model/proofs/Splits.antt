@@ -1,5 +1,5 @@
 -- The theorem of T-14, of texts. Assumes nothing.
-use mathlib.Core.Path.{_≡_, sym, _∙_}
+use mathlib.Core.Path.{_≡_, refl, sym, _∙_}
 use mathlib.Core.Logic.{_↔_}
 use mathlib.Core.Bool.{true, not}
 use mathlib.Core.List.{List}
@@ -23,7 +23,7 @@ use Rattle.model.proofs.Hold.{meant-lines}
 use Rattle.split_model.specs.Numbering.{rank}
 use Rattle.split_model.specs.Halves.{Half, firstHalf, secondHalf, halfNetwork, halfPlan, halfNetworkText, halfPlanText}
 use Rattle.split_model.specs.Call.{inSet, formChecks, partChecks, networkText₁, planText₁, networkText₂, planText₂}
-use Rattle.split_model.specs.Splits.{Texts, networkOf, planFor, Accepts, totalsOf, rowOf, first, second, number₁, number₂, writtenLetOut, writtenAdmitted, Match, borderVolume, Splits}
+use Rattle.split_model.specs.Splits.{Texts, networkOf, planFor, Accepts, ledgerSize, totalsOf, rowOf, first, second, number₁, number₂, writtenLetOut, writtenAdmitted, Match, borderVolume, Room, HalvesAccepted, AddUp, Splits}
 use Rattle.split_model.proofs.Numbering.{rank-lt}
 use Rattle.split_model.proofs.Border.{Splittable, splittable}
 use Rattle.split_model.proofs.Lines.{half-links, half-steps, plan-length}
@@ -103,23 +103,34 @@ module _ (whole : Texts) (set : ℕ) (passes : verdict (partChecks (networkOf wh
   accepts-half half N P size n p =
       rw (p, n) (λ e. judged N P size (hold-of-passes _ e), λ j. passes-of-hold _ (of-judged N P size j))
 
-  exactly : (size : ℕ) → 2 * suc K * L ≤ size → Accepts whole size ↔ (Accepts (first whole set) size × Accepts (second whole set) size × Match whole set)
-  exactly size room = (
-    λ e. let r = both .0 (accepts size e) in (one .1 (r .0), two .1 (r .1), match-is .1 (r .2)),
-    λ e. passes-of-hold _ (of-judged network plan size (both .1 (one .0 (e .0), two .0 (e .1), match-is .0 (e .2)))),
-  )
-    where
-      both : Judged network plan size
-          ↔ (Judged (networkBy network plan (inSet set) (firstHalf network (inSet set))) (planBy network plan (inSet set) (firstHalf network (inSet set))) size
-          × Judged (networkBy network plan (inSet set) (secondHalf network (inSet set))) (planBy network plan (inSet set) (secondHalf network (inSet set))) size
-          × Matched network plan (inSet set))
-      both = theorem.exactly network plan (inSet set) (can .holds) (can .parted) (can .planned) size room
+  abbrev Judged₁ : ℕ → Type 0
+  Judged₁ size = Judged (networkBy network plan (inSet set) (firstHalf network (inSet set))) (planBy network plan (inSet set) (firstHalf network (inSet set))) size
 
-      one : Accepts (first whole set) size ↔ Judged (networkBy network plan (inSet set) (firstHalf network (inSet set))) (planBy network plan (inSet set) (firstHalf network (inSet set))) size
-      one = accepts-half (first whole set) _ _ size N₁ P₁
+  abbrev Judged₂ : ℕ → Type 0
+  Judged₂ size = Judged (networkBy network plan (inSet set) (secondHalf network (inSet set))) (planBy network plan (inSet set) (secondHalf network (inSet set))) size
 
-      two : Accepts (second whole set) size ↔ Judged (networkBy network plan (inSet set) (secondHalf network (inSet set))) (planBy network plan (inSet set) (secondHalf network (inSet set))) size
-      two = accepts-half (second whole set) _ _ size N₂ P₂
+  one : (size : ℕ) → Accepts (first whole set) size ↔ Judged₁ size
+  one size = accepts-half (first whole set) _ _ size N₁ P₁
+
+  two : (size : ℕ) → Accepts (second whole set) size ↔ Judged₂ size
+  two size = accepts-half (second whole set) _ _ size N₂ P₂
+
+  -- the ledger of each half, by the links that it has
+  size₁-is : ledgerSize (first whole set) ≡ 2 * suc K * rank (inSet set) L
+  size₁-is = rw (N₁, half-links network plan (inSet set) (firstHalf network (inSet set)), half-steps network plan (inSet set) (firstHalf network (inSet set))) (unfold firstHalf in refl)
+
+  size₂-is : ledgerSize (second whole set) ≡ 2 * suc K * rank (λ i. not (inSet set i)) L
+  size₂-is = rw (N₂, half-links network plan (inSet set) (secondHalf network (inSet set)), half-steps network plan (inSet set) (secondHalf network (inSet set))) (unfold secondHalf in refl)
+
+  whole-accepted : (size size₁ size₂ : ℕ) → ledgerSize whole ≤ size → HalvesAccepted whole set size₁ size₂ → Accepts whole size
+  whole-accepted size size₁ size₂ room e =
+      passes-of-hold _ (of-judged network plan size
+      (theorem.from-halves network plan (inSet set) (can .holds) (can .parted) (can .planned) size size₁ size₂ room (one size₁ .0 (e .first-accepted)) (two size₂ .0 (e .second-accepted)) (match-is .0 (e .match))))
+
+  halves-accepted : (size size₁ size₂ : ℕ) → Room whole set size size₁ size₂ → Accepts whole size → HalvesAccepted whole set size₁ size₂
+  halves-accepted size size₁ size₂ room e =
+      let r = theorem.from-whole network plan (inSet set) (can .holds) (can .parted) size size₁ size₂ (omega (arith, room .for-first, size₁-is)) (omega (arith, room .for-second, size₂-is)) (accepts size e) in
+      record { first-accepted = one size₁ .1 (r .0); second-accepted = two size₂ .1 (r .1); match = match-is .1 (r .2) }
 
   -- ---- rows and totals
   module _ (size : ℕ) (accepted : Accepts whole size) where
@@ -172,16 +183,16 @@ module _ (whole : Texts) (set : ℕ) (passes : verdict (partChecks (networkOf wh
     unfolding totals
     times = rw (P₁, N₁, P₂, N₂, steps₁, steps₂) (times-add network plan (inSet set) (can .parted) size t)
 
+    adds-up : AddUp whole set
+    adds-up =
+        record { first-rows = first-rows; second-rows = second-rows; admissions = admissions; exits = exits; vehicles = vehicles; times = times }
+
   pub splits : Splits whole set
   splits =
       record {
         first-back = record { network = unfold halfNetwork in N₁; plan = P₁ };
         second-back = record { network = unfold halfNetwork in N₂; plan = P₂ };
-        exactly = exactly;
-        first-rows = first-rows;
-        second-rows = second-rows;
-        admissions = admissions;
-        exits = exits;
-        vehicles = vehicles;
-        times = times;
+        exactly = λ size size₁ size₂ room. (halves-accepted size size₁ size₂ room, whole-accepted size size₁ size₂ (room .for-whole));
+        whole-adds-up = adds-up;
+        halves-add-up = λ size₁ size₂ e. adds-up (ledgerSize whole) (whole-accepted (ledgerSize whole) size₁ size₂ (omega arith) e);
       }

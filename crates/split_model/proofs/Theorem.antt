@@ -1,10 +1,9 @@
 -- The whole is accepted exactly when both halves are and the let-out and admitted border volumes match, all by their lines. Assumes nothing.
 use mathlib.Core.Path.{_≡_, refl, sym, _∙_}
 use mathlib.Core.Bool.{Bool, true, false, cond, not}
-use mathlib.Core.Logic.{_⊎_, inl, inr, _↔_}
+use mathlib.Core.Logic.{_⊎_, inl, inr}
 use mathlib.Core.List.{List}
 use Prim.Native.Nat.{ℕ, suc, _+_, _*_, _-_, _≤_, _<_, min}
-use native.Mathlib.Nat.{le-trans, mul-le-mul}
 use native.Mathlib.Omega.{arith}
 use lib.Dec.{eqb}
 use borrow.Author.Tests.{leb-true, le-leb, eqb-true, eq-eqb}
@@ -27,7 +26,6 @@ use Rattle.network_text.proofs.Formed.{Formed, formed-of-holds}
 use Rattle.split_model.specs.Numbering.{rank}
 use Rattle.split_model.specs.Halves.{Half, inField, inside, crosses, crossingInto, crossingFrom, inSecond, firstHalf, secondHalf, borderRate, borderIn, borderOut, halfNumbers, halfPlan}
 use Rattle.split_model.proofs.Tests.{either-way, true-not, or-left, sum-one}
-use Rattle.split_model.proofs.Numbering.{rank-le}
 use Rattle.split_model.proofs.Same.{Apart}
 use Rattle.split_model.proofs.Border.{Splittable, Crossing, NoCrossing, crossing-from, first-apart, second-apart}
 use Rattle.split_model.proofs.Lines.{half-links, half-steps, admitted-written, let-out-written, plan-form, plan-length}
@@ -206,17 +204,15 @@ module _ (network plan : List Line) (first : ℕ → Bool) (holds : Hold (networ
 
   -- ---- forward: both halves are accepted, and match
   module _ (size : ℕ) (t : Judged network plan size) where
-    half-judged : (h : Half) → Apart network first h → 1 ≤ rank (h .has-link) L → Judged (networkBy network plan first h) (planBy network plan first h) size
-    half-judged h parted some =
+    pub half-judged : (h : Half) → Apart network first h → 1 ≤ rank (h .has-link) L → (own : ℕ) → 2 * suc K * rank (h .has-link) L ≤ own
+        → Judged (networkBy network plan first h) (planBy network plan first h) own
+    half-judged h parted some own room =
         record {
           holds = half-holds network plan first h formed valid s parted some (λ n i l. half-limits network plan first h formed valid s parted (t .lawful) n l .demands i);
-          room = rw (half-links network plan first h, half-steps network plan first h) (le-trans (mul-le-mul (same (2 * suc K)) (rank-le (h .has-link) L)) (t .room));
+          room = rw (half-links network plan first h, half-steps network plan first h) room;
           formed = record { forms = λ n l. plan-form network plan first h n (omega (arith, half-steps network plan first h)); all = plan-length network plan first h ∙ omega (arith, half-steps network plan first h) };
           lawful = λ n l. half-keeps network plan first h formed valid s parted (t .lawful) n (omega (arith, half-steps network plan first h));
         }
-      where
-        same : (k : ℕ) → k ≤ k
-        same k = omega arith
 
     -- nothing else is let out at the border
     border-out : (n j : ℕ) → n < K → j < M → crosses network first j ≡ true → letOut network plan n (fromLink network j - 1) ≡ 0
@@ -311,14 +307,22 @@ module _ (network plan : List Line) (first : ℕ → Bool) (holds : Hold (networ
   keeps-of : (size : ℕ) (h : Half) → Apart network first h → Judged (networkBy network plan first h) (planBy network plan first h) size → (n : ℕ) → n < K → KeepsHalf network plan first h n
   keeps-of size h parted t n l = keeps-half network plan first h formed valid s parted (valid-network _ (t .holds)) (t .lawful) n l
 
-  pub exactly : FormedPlan network plan → (size : ℕ) → 2 * suc K * L ≤ size
-      → Judged network plan size ↔ (Judged (networkBy network plan first one) (planBy network plan first one) size × Judged (networkBy network plan first two) (planBy network plan first two) size × Matched network plan first)
-  exactly planned size room = (
-    λ t. (half-judged size t one (first-apart network first s) some-one, half-judged size t two (second-apart network first s) some-two, matched size t),
-    λ e. record {
-      holds = holds;
-      room = room;
-      formed = planned;
-      lawful = λ n l. whole-keeps (keeps-of size one (first-apart network first s) (e .0)) (keeps-of size two (second-apart network first s) (e .1)) (e .2) n l;
-    },
+  -- ledgers long enough for each half, and for the whole
+  pub from-whole : (size size₁ size₂ : ℕ) → 2 * suc K * rank first L ≤ size₁ → 2 * suc K * rank (λ i. not (first i)) L ≤ size₂ → Judged network plan size
+      → Judged (networkBy network plan first one) (planBy network plan first one) size₁ × Judged (networkBy network plan first two) (planBy network plan first two) size₂ × Matched network plan first
+  unfolding firstHalf secondHalf
+  from-whole size size₁ size₂ room₁ room₂ t = (
+    half-judged size t one (first-apart network first s) some-one size₁ room₁,
+    half-judged size t two (second-apart network first s) some-two size₂ room₂,
+    matched size t,
   )
+
+  pub from-halves : FormedPlan network plan → (size size₁ size₂ : ℕ) → 2 * suc K * L ≤ size → Judged (networkBy network plan first one) (planBy network plan first one) size₁
+      → Judged (networkBy network plan first two) (planBy network plan first two) size₂ → Matched network plan first → Judged network plan size
+  from-halves planned size size₁ size₂ room a b match =
+      record {
+        holds = holds;
+        room = room;
+        formed = planned;
+        lawful = λ n l. whole-keeps (keeps-of size₁ one (first-apart network first s) a) (keeps-of size₂ two (second-apart network first s) b) match n l;
+      }

@@ -40,6 +40,10 @@ planFor t = planOf (t .network) (t .plan)
 abbrev pub Accepts : Texts → ℕ → Type 0
 Accepts t size = verdict (planChecks (networkOf t) (planFor t) size) ≡ Passes
 
+-- the numbers that its ledger has at least
+abbrev pub ledgerSize : Texts → ℕ
+ledgerSize t = 2 * suc (stepCount (networkOf t)) * linkCount (networkOf t)
+
 abbrev pub totalsOf : Texts → Totals
 totalsOf t = totals (networkOf t) (planFor t) (stepCount (networkOf t))
 
@@ -89,29 +93,43 @@ pub record ReadsBack (whole half : Texts) (set : ℕ) (h : Half) : Type 0 where
   pub network : networkOf half ≡ halfNetwork (networkOf whole) (inSet set) (planFor whole) h
   pub plan : planFor half ≡ halfPlan (networkOf whole) (inSet set) (planFor whole) h
 
+-- three ledgers, each long enough for its own plan: a box with a half lends the half's
+pub record Room (whole : Texts) (set size size₁ size₂ : ℕ) : Type 0 where
+  pub for-whole : ledgerSize whole ≤ size
+  pub for-first : ledgerSize (first whole set) ≤ size₁
+  pub for-second : ledgerSize (second whole set) ≤ size₂
+
+-- both halves are accepted, each with a ledger of its own, and the let-out and admitted border volumes match
+pub record HalvesAccepted (whole : Texts) (set size₁ size₂ : ℕ) : Type 0 where
+  pub first-accepted : Accepts (first whole set) size₁
+  pub second-accepted : Accepts (second whole set) size₂
+  pub match : Match whole set
+
+-- what the halves' ledgers and totals come to together
+pub record AddUp (whole : Texts) (set : ℕ) : Type 0 where
+  -- the rows of a half are its links' columns of the whole's ..
+  pub first-rows : (n i : ℕ) → n ≤ stepCount (networkOf whole) → i < linkCount (networkOf whole) → inSet set i ≡ true
+      → (getD (rowOf (first whole set) n) (2 * number₁ whole set i) 0 ≡ getD (rowOf whole n) (2 * i) 0)
+      × (getD (rowOf (first whole set) n) (2 * number₁ whole set i + 1) 0 ≡ getD (rowOf whole n) (2 * i + 1) 0)
+  pub second-rows : (n i : ℕ) → n ≤ stepCount (networkOf whole) → i < linkCount (networkOf whole) → not (inSet set i) ≡ true
+      → (getD (rowOf (second whole set) n) (2 * number₂ whole set i) 0 ≡ getD (rowOf whole n) (2 * i) 0)
+      × (getD (rowOf (second whole set) n) (2 * number₂ whole set i + 1) 0 ≡ getD (rowOf whole n) (2 * i + 1) 0)
+  -- .. admitted and let out add up with the border volumes left out ..
+  pub admissions : totalsOf (first whole set) .admitted + totalsOf (second whole set) .admitted ≡ totalsOf whole .admitted + borderVolume whole set
+  pub exits : totalsOf (first whole set) .«let_out» + totalsOf (second whole set) .«let_out» ≡ totalsOf whole .«let_out» + borderVolume whole set
+  -- .. and so do the vehicles at the end and the doubled times, in which the border has no part
+  pub vehicles : totalsOf (first whole set) .inside + totalsOf (second whole set) .inside ≡ totalsOf whole .inside
+  pub times : totalsOf (first whole set) .«doubled_time» + totalsOf (second whole set) .«doubled_time» ≡ totalsOf whole .«doubled_time»
+
 -- For texts that can be split. The halves' networks depend on the plan, whose border volumes are demands in them.
 pub record Splits (whole : Texts) (set : ℕ) : Type 0 where
   pub first-back : ReadsBack whole (first whole set) set (firstHalf (networkOf whole) (inSet set))
   pub second-back : ReadsBack whole (second whole set) set (secondHalf (networkOf whole) (inSet set))
-  -- with a ledger that is long enough for the whole, the whole is accepted exactly when both halves are and the let-out and admitted border volumes match
-  pub exactly : (size : ℕ) → 2 * suc (stepCount (networkOf whole)) * linkCount (networkOf whole) ≤ size
-      → Accepts whole size ↔ (Accepts (first whole set) size × Accepts (second whole set) size × Match whole set)
-  -- the ledger rows of a half are then its links' columns of the whole's ..
-  pub first-rows : (size : ℕ) → Accepts whole size → (n i : ℕ) → n ≤ stepCount (networkOf whole) → i < linkCount (networkOf whole) → inSet set i ≡ true
-      → (getD (rowOf (first whole set) n) (2 * number₁ whole set i) 0 ≡ getD (rowOf whole n) (2 * i) 0)
-      × (getD (rowOf (first whole set) n) (2 * number₁ whole set i + 1) 0 ≡ getD (rowOf whole n) (2 * i + 1) 0)
-  pub second-rows : (size : ℕ) → Accepts whole size → (n i : ℕ) → n ≤ stepCount (networkOf whole) → i < linkCount (networkOf whole) → not (inSet set i) ≡ true
-      → (getD (rowOf (second whole set) n) (2 * number₂ whole set i) 0 ≡ getD (rowOf whole n) (2 * i) 0)
-      × (getD (rowOf (second whole set) n) (2 * number₂ whole set i + 1) 0 ≡ getD (rowOf whole n) (2 * i + 1) 0)
-  -- .. admitted and let out add up with the border volumes left out ..
-  pub admissions : (size : ℕ) → Accepts whole size
-      → totalsOf (first whole set) .admitted + totalsOf (second whole set) .admitted ≡ totalsOf whole .admitted + borderVolume whole set
-  pub exits : (size : ℕ) → Accepts whole size
-      → totalsOf (first whole set) .«let_out» + totalsOf (second whole set) .«let_out» ≡ totalsOf whole .«let_out» + borderVolume whole set
-  -- .. and so do the vehicles at the end and the doubled times, in which the border has no part
-  pub vehicles : (size : ℕ) → Accepts whole size → totalsOf (first whole set) .inside + totalsOf (second whole set) .inside ≡ totalsOf whole .inside
-  pub times : (size : ℕ) → Accepts whole size
-      → totalsOf (first whole set) .«doubled_time» + totalsOf (second whole set) .«doubled_time» ≡ totalsOf whole .«doubled_time»
+  -- the whole is accepted exactly when both halves are and match ..
+  pub exactly : (size size₁ size₂ : ℕ) → Room whole set size size₁ size₂ → Accepts whole size ↔ HalvesAccepted whole set size₁ size₂
+  -- .. and then their rows and totals add up, whichever of the two a caller knows
+  pub whole-adds-up : (size : ℕ) → Accepts whole size → AddUp whole set
+  pub halves-add-up : (size₁ size₂ : ℕ) → HalvesAccepted whole set size₁ size₂ → AddUp whole set
 
 -- ---- the call
 -- the four buffers
