@@ -8,6 +8,7 @@ mod comparison_calls;
 mod corridor_file;
 mod corridors;
 mod damage;
+mod every_call;
 mod fixed_signals;
 mod form;
 mod hold;
@@ -668,6 +669,8 @@ pub fn stored_cases(seed: u64) -> Vec<Case> {
     comparison_calls::corridor(&mut maker);
     damage::random_texts(&mut maker, 60);
     largest_cases(&mut maker);
+    every_call::refused_networks(&mut maker, 4);
+    every_call::refused_plans(&mut maker, 3);
     maker.judged()
 }
 

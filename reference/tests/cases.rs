@@ -140,6 +140,46 @@ impl Traffics {
     }
 }
 
+/// The number of a refusal, whichever plan it is told of.
+fn refused_number(answer: &Answer) -> Option<u64> {
+    match answer {
+        Answer::Refused(refusal) => Some(refusal.number),
+        Answer::RefusedPlan(told) => Some(told.refusal.number),
+        _ => None,
+    }
+}
+
+#[test]
+fn each_call_that_judges_a_network_or_a_plan_tells_each_of_its_numbers() {
+    let of_networks = [1, 2, 3, 4, 5, 6, 28, 30];
+    let of_plans = (9..=18).chain([25, 26, 27, 29]);
+    let of_both: Vec<u64> = of_networks.into_iter().chain(of_plans).collect();
+    let is_asked = |asked: Call, call: Call| match asked {
+        Call::CarryOn { .. } => matches!(call, Call::CarryOn { .. }),
+        _ => asked == call,
+    };
+    for (call, numbers) in [
+        (Call::CheckNetwork, &of_networks[..]),
+        (Call::CheckPlan, &of_both),
+        (Call::PlanFromListing, &of_networks),
+        (Call::CheckSheet, &of_both),
+        (Call::PlanFromSheet, &of_networks),
+        (Call::CarryOn { boundary: 1 }, &of_both),
+        (Call::ComparePlans, &of_both),
+    ] {
+        let cases = stored()
+            .iter()
+            .filter(|case| is_asked(call, case.question.call));
+        let told: Vec<Option<u64>> = cases
+            .map(|case| refused_number(&case.outcome.answer))
+            .collect();
+        for &number in numbers {
+            let count = told.iter().filter(|&&told| told == Some(number)).count();
+            assert!(count > 0, "{call:?}: refusal {number} is never told");
+        }
+    }
+}
+
 #[test]
 fn the_stored_cases_leave_nothing_out() {
     let cases = stored();

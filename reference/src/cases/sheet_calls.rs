@@ -12,7 +12,7 @@ use crate::{Network, PlanStep, Refusal};
 const MOST: u64 = u32::MAX as u64;
 
 /// The text of a sheet, whose lines end in an offset if there are any.
-fn sheet(durations: &[Vec<u64>], offsets: Option<&[u64]>) -> Sheet {
+pub fn sheet(durations: &[Vec<u64>], offsets: Option<&[u64]>) -> Sheet {
     let mut sheet = Sheet { lines: Vec::new() };
     for (signal, fixed) in durations.iter().enumerate() {
         let mut numbers = fixed.clone();
