@@ -41,7 +41,7 @@ use Rattle.listing.specs.ReadsBack.{PlanGot}
 use Rattle.listing.specs.Tables.{hasIn, secondsIn, TablesAsked, ListingGot, ListingAsked, numberTableSize, seenSize}
 use Rattle.listing.specs.Numbers.{textIn, Kept, LinesAsked}
 use Rattle.listing.specs.Writing.{answerOf, bytesOf, Told, roomVerdict, StoredGot, WriteGot, NetworkAsked, ListingWritten}
-use Rattle.listing.proofs.Theorem.{reads-back}
+use Rattle.listing.proofs.Theorem.{text-some, text-meant, reads-back}
 use Rattle.plan_times.specs.Times.{ShiftAsked, Shifted}
 use Rattle.plan_times.proofs.Times.{shift-asked, plan-times}
 use Rattle.listing.proofs.Whole.{verdict-same, text-same}
@@ -172,14 +172,14 @@ module _ (text : List ℕ) (reading : Reading) (times : List ℕ) (a : NetworkAs
 
 -- ---- the whole call
 written-parts : (text : List ℕ) (v : Verdict) (old : List ℕ) (answer : ListingAnswer) (new : List ℕ) → Told text (orElse v (roomVerdict text old)) old answer new
-    → (end : ℕ) → answer ≡ Written end → (v ≡ verdicts.Passes) × (take end new ≡ text)
+    → (end : ℕ) → answer ≡ Written end → (v ≡ verdicts.Passes) × (take end new ≡ text) × (end ≡ length text)
 unfolding orElse checked answerOf bytesOf
 written-parts text verdicts.Passes old answer new t end e = go (leb (length text) (length old)) t
   where
-    go : (b : Bool) → Told text (checked b 24 0 0) old answer new → (verdicts.Passes ≡ verdicts.Passes) × (take end new ≡ text)
+    go : (b : Bool) → Told text (checked b 24 0 0) old answer new → (verdicts.Passes ≡ verdicts.Passes) × (take end new ≡ text) × (end ≡ length text)
     go true s =
         let z : length text ≡ end = cc in
-        (refl, ap (take end) (s .holds) ∙ ap (λ x. take x (over text old)) (sym z) ∙ over-front text old)
+        (refl, ap (take end) (s .holds) ∙ ap (λ x. take x (over text old)) (sym z) ∙ over-front text old, sym z)
     go false s = let z : _≡_ {A = ℕ} 0 1 = cc in absurd (omega arith)
 written-parts text (verdicts.Refused r) old answer new t end e = let z : _≡_ {A = ℕ} 0 1 = cc in absurd (omega arith)
 
@@ -226,6 +226,7 @@ module _ (text : List ℕ) (r : Stage) (links movements times : List ℕ) (g : J
         record {
           told = t;
           holds = sym (ap (λ (x : Verdict). writtenBytes (lines text) listing x old) o);
+          some-bytes = λ end q. let z : _≡_ {A = ℕ} 0 1 = cc in absurd (omega arith);
           reads-back = λ end q. let z : _≡_ {A = ℕ} 0 1 = cc in absurd (omega arith);
           refused-number = λ r e. answer-number (lines text) listing (length old) r (sym t ∙ e);
         }
@@ -239,7 +240,13 @@ module _ (text : List ℕ) (r : Stage) (links movements times : List ℕ) (g : J
         record {
           told = t;
           holds = w .holds ∙ buffers (lines text) listing _ old ∙ ap (λ (x : Verdict). writtenBytes (lines text) listing x old) (sym o);
-          reads-back = λ end q. let p = written-parts (planText (lines text) listing) (verdict (listingChecks (lines text) listing)) old answer new w end q in
-              rw (p .1) (reads-back (lines text) listing (hold-of-passes (listingChecks (lines text) listing) (p .0)) (loaded .holds));
+          some-bytes = λ end q. let p = parts end q in omega (arith, p .2, text-some (lines text) listing (passed end q) (loaded .holds));
+          reads-back = λ end q. rw (parts end q .1, text-meant (lines text) listing (passed end q) (loaded .holds)) (reads-back (lines text) listing (passed end q) (loaded .holds));
           refused-number = λ r e. answer-number (lines text) listing (length old) r (sym t ∙ e);
         }
+      where
+        parts : (end : ℕ) → answer ≡ Written end → (verdict (listingChecks (lines text) listing) ≡ verdicts.Passes) × (take end new ≡ planText (lines text) listing) × (end ≡ length (planText (lines text) listing))
+        parts end q = written-parts (planText (lines text) listing) (verdict (listingChecks (lines text) listing)) old answer new w end q
+
+        passed : (end : ℕ) → answer ≡ Written end → Hold (listingChecks (lines text) listing)
+        passed end q = hold-of-passes (listingChecks (lines text) listing) (parts end q .0)

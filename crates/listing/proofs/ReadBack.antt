@@ -130,7 +130,7 @@ module _ (network : List Line) (listing : List Entry) where
   abbrev Fit : Type 0
   Fit = (i : ℕ) → i < length listing → fitsBy (stepLength network) (lineAt listing i) ≡ true
 
-  listing-fits : Hold (listingChecks network listing) → Fit
+  pub listing-fits : Hold (listingChecks network listing) → Fit
   unfolding listingChecks entryChecksBy Hold
   listing-fits h i l = h i l .1
 

@@ -1,37 +1,41 @@
 -- Reading the written plan gives just the listing's numbers. Assumes nothing.
-use Prim.Native.Nat.{ℕ, zero, suc, _-_, _/_, _≤_, _<_}
+use Prim.Native.Nat.{ℕ, zero, suc, _*_, _-_, _%_, _≤_, _<_}
 use mathlib.Core.Path.{_≡_, refl, sym, ap, _∙_}
 use mathlib.Core.Logic.{_⊎_, inl, inr}
 use mathlib.Core.Bool.{Bool, true, false, not}
 use mathlib.Core.List.{List}
 use native.Mathlib.Numerals.{add-one}
 use native.Mathlib.Decide.{decLe}
-use native.Mathlib.Nat.{eq-or-lt-of-le}
+use native.Mathlib.Nat.{eq-or-lt-of-le, div-add-mod'}
 use native.Mathlib.Omega.{arith}
 use borrow.Author.Tests.{eqb-true, leb-true}
 use lib.Dec.{eqb}
 use lib.ListN.{length}
 use Rattle.search.specs.Checks.{Hold}
 use Rattle.records.specs.Lines.{Line, lines}
+use Rattle.records.proofs.Laws.{starts-first, starts-end, end-of-none}
 use Rattle.model.specs.Test.{_and_, _or_, within}
 use Rattle.model.specs.Network.{linkCount, signalCount, movementCount, stepCount, signal, stepLength}
 use Rattle.model.specs.Flows.{shownMask}
 use Rattle.model.specs.Rules.{validPhases}
 use Rattle.model.specs.Table.{networkChecks}
+use Rattle.model.specs.Hold.{meant}
 use Rattle.model.proofs.Accepted.{valid-network}
+use Rattle.model.proofs.Hold.{meant-lines}
+use Rattle.model.proofs.Limits.{counts}
 use Rattle.model.proofs.Tests.{and-left, and-right, or-cases}
 use Rattle.listing_lines.specs.declared.Variable.{Variable}
 use Rattle.listing_lines.specs.declared.Variable.the-variants.{Shown, Admitted, LetOut, Moved}
 use Rattle.listing_lines.specs.declared.Entry.{Entry}
 use Rattle.listing_lines.specs.declared.Entry.the-variants.{Sets, Malformed}
-use Rattle.listing.specs.Listing.{sets, one, volume, hasVariable, validValue, lineAt, setBefore, valueBefore, value, formedBy, entryChecksBy, listingChecks, maskOf, volumeOf, planText}
-use Rattle.listing.specs.ReadsBack.{bitOf, planned, stated, ReadsBack}
+use Rattle.listing.specs.Listing.{sets, one, volume, isVolume, hasVariable, validValue, fits, stepOf, lineAt, setBefore, valueBefore, value, formedBy, fitsBy, entryChecksBy, listingChecks, maskOf, volumeOf, planText}
+use Rattle.listing.specs.ReadsBack.{bitOf, planned, inMillionths, stated, ReadsBack}
 use Rattle.listing.specs.Tables.{bit}
 use Rattle.listing.proofs.Bits.{bit-in, bit-past}
 use Rattle.listing.proofs.Turns.{within-parts}
 use Rattle.listing.proofs.Places.{same-self}
 use Rattle.listing.proofs.Stored.{same-not, value-now, value-unset, volume-none}
-use Rattle.listing.proofs.ReadBack.{mask-back, admitted-back, let-out-back, moved-back, form-is, count-is}
+use Rattle.listing.proofs.ReadBack.{listing-fits, mask-back, admitted-back, let-out-back, moved-back, form-is, count-is}
 
 -- ---- what the lines that have passed say of a variable
 few-phases : (network : List Line) → Hold (networkChecks network) → (r : ℕ) → r < signalCount network → signal network r .phases ≤ 8
@@ -61,6 +65,13 @@ sets-not listing j v n = go (lineAt listing j) refl
 or-none : (a b : Bool) → a ≡ false → b ≡ false → a or b ≡ false
 unfolding _or_
 or-none a b p q = rw (p, q)
+
+-- a text that has a line has bytes
+text-of-lines : (text : List ℕ) → 0 < length (lines text) → 1 ≤ length text
+text-of-lines text h = elim (decLe 1 (length text)) [
+  | yes l ↦ l
+  | no l ↦ absurd (let q = eqb-true (length (lines text)) 0 (sym (starts-end text 0 0 (starts-first text) (omega arith)) ∙ end-of-none text 0 (omega arith)) in omega (arith, q))
+]
 
 module _ (listing : List Entry) (v : Variable) where
   unset-of : (k : ℕ) → ((i : ℕ) → i < k → (m : ℕ) → lineAt listing i ≡ Sets v m → ⊥) → setBefore listing k v ≡ false
@@ -153,16 +164,22 @@ module _ (network : List Line) (listing : List Entry) (hold : Hold (listingCheck
       let c = within-parts n (stepCount network) (and-right _ _ h) in
       rw (back j (a .0), back n (c .0)) at (moved-back network listing hold (n - 1) (omega arith) (j - 1) (omega arith))
 
-  given-stated : (v : Variable) (m : ℕ) → validValue v m ≡ true → given v m ≡ stated network v m
-  unfolding given stated validValue bit
-  given-stated (Shown r k n) m e = go (or-cases (eqb m 0) (eqb m one) e)
+  -- a volume that is whole, × 1000, is the rate over the step
+  whole : (m s : ℕ) → isVolume m s ≡ true → volume m s * 1000 ≡ m * s
+  unfolding volume isVolume
+  whole m s e = let q = eqb-true (m * s % 1000) 0 (and-left _ _ e) in omega (arith, q, div-add-mod' (m * s) 1000)
+
+  given-stated : (v : Variable) (m : ℕ) → validValue v m ≡ true → fits v m (stepLength network (stepOf v - 1)) ≡ true
+      → inMillionths v (given v m) ≡ stated network v m
+  unfolding inMillionths given stated validValue fits stepOf bit
+  given-stated (Shown r k n) m e f = go (or-cases (eqb m 0) (eqb m one) e)
     where
-      go : (eqb m 0 ≡ true) ⊎ (eqb m one ≡ true) → bit (eqb m one) ≡ m / one
+      go : (eqb m 0 ≡ true) ⊎ (eqb m one ≡ true) → bit (eqb m one) * one ≡ m
       go (inl z) = let q : m ≡ 0 = eqb-true m 0 z in rw q
       go (inr z) = let q : m ≡ one = eqb-true m one z in rw q
-  given-stated (Admitted i n) m e = refl
-  given-stated (LetOut i n) m e = refl
-  given-stated (Moved j n) m e = refl
+  given-stated (Admitted i n) m e f = whole m (stepLength network (n - 1)) f
+  given-stated (LetOut i n) m e f = whole m (stepLength network (n - 1)) f
+  given-stated (Moved j n) m e f = whole m (stepLength network (n - 1)) f
 
   given-none : (v : Variable) → given v 0 ≡ 0
   unfolding given bit
@@ -193,6 +210,21 @@ module _ (network : List Line) (listing : List Entry) (hold : Hold (listingCheck
       mask-end : (n r k : ℕ) → 8 ≤ k → bitOf (maskOf network listing n r) k ≡ 0
       mask-end n r k l = bit-past 8 (λ t. eqb (value listing (Shown (suc r) (suc t) (suc n))) one) k l
 
+  line-fits : (i : ℕ) → i < length listing → (v : Variable) (m : ℕ) → lineAt listing i ≡ Sets v m → fits v m (stepLength network (stepOf v - 1)) ≡ true
+  unfolding fitsBy
+  line-fits i l v m e = rw e at (listing-fits network listing hold i l)
+
+  module _ (valid : Hold (networkChecks network)) where
+    some-lines : 0 < length plan
+    some-lines = omega (arith, count-is network listing hold, counts network (valid-network network valid) .some-step)
+
+    -- the text has bytes, and does not mean hold
+    pub text-some : 1 ≤ length (planText network listing)
+    text-some = text-of-lines (planText network listing) some-lines
+
+    pub text-meant : meant network plan ≡ plan
+    text-meant = meant-lines network plan some-lines
+
   pub reads-back : Hold (networkChecks network) → ReadsBack network listing plan
   reads-back valid =
       record {
@@ -200,7 +232,7 @@ module _ (network : List Line) (listing : List Entry) (hold : Hold (listingCheck
         form = λ n h. form-is network listing hold n h;
         named = λ i l v m e.
             let f = formed i l v m e in
-            planned-is (few-phases network valid) v (f .0) ∙ ap (given v) (named-value i l v m e) ∙ given-stated v m (f .1);
+            ap (inMillionths v) (planned-is (few-phases network valid) v (f .0) ∙ ap (given v) (named-value i l v m e)) ∙ given-stated v m (f .1) (line-fits i l v m e);
         others = λ v h n. planned-is (few-phases network valid) v h ∙ ap (given v) (unset-value listing v n) ∙ given-none v;
         past = λ n r k h a p. mask-past n r k h a p;
       }
