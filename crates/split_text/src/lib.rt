@@ -55,7 +55,7 @@ fn put_step(
         movements,
         half,
         counts.movements,
-        1,
+        1, // the link that it enters has its volume as demand
         &line,
         moved,
         1,
@@ -96,7 +96,7 @@ fn put_plan_line(
         movements,
         half,
         counts.movements,
-        1,
+        1, // admitted on the link that it enters
         &line,
         moved,
         1,
@@ -106,7 +106,7 @@ fn put_plan_line(
         movements,
         half,
         counts.movements,
-        0,
+        0, // let out of the link that it leaves
         &line,
         moved,
         1,
@@ -197,7 +197,7 @@ pub fn put_network(
         movements,
         half,
         counts.movements,
-        0,
+        0, // exit rate of the link that it leaves
         movements,
         2,
         4,
