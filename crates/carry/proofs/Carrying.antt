@@ -2,7 +2,7 @@
 use Prim.Native.Nat.{ℕ, suc, _+_, _*_, _-_, _≤_, _<_}
 use mathlib.Core.Path.{_≡_, refl, sym, ap, ap₂, _∙_}
 use mathlib.Core.Bool.{Bool, true, false, not, cond}
-use mathlib.Core.List.{List, [], _∷_}
+use mathlib.Core.List.{List, []}
 use native.Mathlib.Decide.{decLt}
 use native.Mathlib.Numerals.{add-one}
 use native.Mathlib.Omega.{arith}
@@ -15,9 +15,9 @@ use Rattle.search.specs.declared.Verdict.{Verdict}
 use Rattle.search.specs.declared.Verdict.the-variants as verdicts
 use Rattle.search.specs.Checks.{refusal, verdict, orElse, checked, each, Hold}
 use Rattle.search.proofs.Laws.{passes-of-hold, hold-of-passes, or-else-passes, or-else-refused, checked-passes, checked-refused, first-stop, first-passes}
-use Rattle.records.specs.Lines.{Line, noLine, split, linesOf, lines, number}
+use Rattle.records.specs.Lines.{Line, noLine, lines, number}
 use Rattle.records.specs.Reading.{Starts, atEnd, over}
-use Rattle.records.proofs.Laws.{some-lines, starts-end, end-of-none}
+use Rattle.records.proofs.Laws.{some-lines, no-lines, starts-end, end-of-none}
 use Rattle.model.specs.Test.{_and_, within}
 use Rattle.model.specs.Network.{entry, maxLinks, linkCount, stepCount}
 use Rattle.model.specs.Flows.{offered, waits}
@@ -137,11 +137,6 @@ module _ (networkText planText : List ℕ) (b : ℕ) (ledger buffer : List ℕ) 
           let f = was-short got e in
           let all : verdict (carryChecks net plan b (length ledger) (length buffer)) ≡ verdicts.Refused (refusal 32 0 0) = text-judged ∙ checked-refused _ 32 0 0 (f .0) in
           record { told = rw all (unfold carryAnswer in refl); rows = rw within rows; holds = rw all (unfold writtenBytes in (f .1)) }
-
-no-lines : (text : List ℕ) → length text ≡ 0 → lines text ≡ []
-unfolding lines split linesOf
-no-lines [] h = refl
-no-lines (x ∷ xs) h = absurd (omega arith)
 
 module _ (networkText planText : List ℕ) (b : ℕ) (buffer : List ℕ) {reading : Reading} {links movements times ledger : List ℕ} (a : StepsAsked networkText b reading links movements times ledger) where
   abbrev network : List Line

@@ -15,8 +15,8 @@ use Rattle.search.specs.declared.Verdict.the-variants.{Passes, Refused}
 use Rattle.search.specs.Checks.{verdict}
 use Rattle.search.proofs.Laws.{or-else-refused, hold-of-passes}
 use Rattle.records.specs.Field.{largest}
-use Rattle.records.specs.Lines.{Line, split, linesOf, lines}
-use Rattle.records.proofs.Laws.{some-lines}
+use Rattle.records.specs.Lines.{Line, lines}
+use Rattle.records.proofs.Laws.{some-lines, no-lines}
 use Rattle.record_writer.proofs.Records.{Small, text-back, lines-count, entry-back, form-back}
 use Rattle.model.specs.Test.{within}
 use Rattle.model.specs.Sum.{only, list}
@@ -52,7 +52,7 @@ module _ (networkText planText : List ℕ) where
   plan-of-text h = meant-lines (lines networkText) (lines planText) (some-lines planText h)
 
   pub plan-of-empty : length planText ≡ 0 → planOf networkText planText ≡ holdLines (lines networkText)
-  plan-of-empty h = rw (no-bytes planText h) (unfold meant lines split linesOf in refl)
+  plan-of-empty h = rw (no-lines planText h) (unfold meant in refl)
 
 module _ (network : List Line) where
   hold-length : length (holdNumbers network) ≡ signalCount network + (2 * linkCount network + movementCount network)
@@ -122,10 +122,10 @@ module _ (network : List Line) where
 
 -- ---- the theorem of T-07
 same-meant : (network : List Line) → ValidNetwork network → meant network (lines []) ≡ meant network (lines (holdText network))
-unfolding meant lines split linesOf
+unfolding meant
 same-meant network valid =
     let some : 0 < length (holdLines network) = omega (arith, hold-count network, counts network valid .some-step) in
-    sym (ap (meant network) (hold-back network valid) ∙ meant-lines network (holdLines network) some)
+    ap (meant network) (no-lines [] refl) ∙ sym (ap (meant network) (hold-back network valid) ∙ meant-lines network (holdLines network) some)
 
 -- a network that is refused gets that refusal with every plan, and no row
 module _ (network : List Line) (r : Refusal) (refused : verdict (networkChecks network) ≡ Refused r) where

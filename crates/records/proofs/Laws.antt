@@ -2,7 +2,7 @@
 use Prim.Native.Nat.{ℕ, zero, suc, _+_, _-_, _≤_, _<_}
 use mathlib.Core.Path.{_≡_, refl, sym, ap, _∙_}
 use mathlib.Core.Bool.{Bool, true, false, cond, _&&_, and-eq-true-iff}
-use mathlib.Core.List.{List, [], _∷_, append-nil}
+use mathlib.Core.List.{List, [], _∷_, map, append-nil}
 use native.Mathlib.Numerals.{add-one}
 use native.Mathlib.Nat.{add-zero}
 use native.Mathlib.Omega.{arith}
@@ -14,7 +14,8 @@ use Rattle.records.specs.declared.Field.{Field}
 use Rattle.records.specs.declared.Field.the-variants.{Number, NoNumber}
 use Rattle.records.specs.declared.LineRead.{LineRead}
 use Rattle.records.specs.declared.LineRead.the-variants.{Next, Malformed}
-use Rattle.records.specs.Lines.{Line, split, linesOf, lines, noLine, isNumber, allNumbers, isRecord, startsAs, numberOf, number}
+use Rattle.records.specs.Field.{decimal, largest, digits, isNumeral, fieldOf}
+use Rattle.records.specs.Lines.{Line, split, lineOf, linesOf, lines, noLine, isNumber, allNumbers, isRecord, startsAs, numberOf, number}
 use Rattle.records.specs.Reading.{lineAt, nextLine, leading, leadingAs, over, recordAt, atEnd, Starts, Got}
 use Rattle.records.proofs.Bytes.{piece, lines-next, lines-some, piece-within}
 use Rattle.records.proofs.Places.{line-ended, next-piece}
@@ -180,7 +181,52 @@ pub some-lines : (text : List ℕ) → 0 < length text → 0 < length (lines tex
 some-lines [] h = absurd (omega arith)
 some-lines (b ∷ bs) h = lines-some b bs
 
--- an empty text is at its end everywhere
+-- an empty text has none
+pub no-lines : (text : List ℕ) → length text ≡ 0 → lines text ≡ []
+unfolding lines split linesOf
+no-lines [] h = refl
+no-lines (b ∷ bs) h = absurd (omega arith)
+
+-- it is at its end everywhere
 pub end-of-none : (text : List ℕ) (at : ℕ) → length text ≡ 0 → atEnd text at ≡ true
-unfolding atEnd lines split linesOf
-end-of-none text at h = let few : length text ≤ at = omega arith in rw (drop-of-length-le text few) refl
+unfolding atEnd
+end-of-none text at h = let few : length text ≤ at = omega arith in rw (drop-of-length-le text few, no-lines [] refl)
+
+-- ---- every number that is read fits a field
+field-small : (bs : List ℕ) → numberOf (fieldOf bs) ≤ largest
+unfolding fieldOf
+field-small bs = go (isNumeral bs) refl
+  where
+    go : (t : Bool) → isNumeral bs ≡ t → numberOf (cond t (Number (decimal bs)) NoNumber) ≤ largest
+    go true e =
+        unfold numberOf in leb-true (decimal bs) largest (unfold isNumeral in and-eq-true-iff (leb 1 (length bs) && leb (length bs) 10 && digits bs) (leb (decimal bs) largest) .0 e .1)
+    go false e = unfold numberOf in omega arith
+
+fields-small : (pieces : List (List ℕ)) (k : ℕ) → numberOf (getD (map fieldOf pieces) k NoNumber) ≤ largest
+fields-small [] k = unfold numberOf in omega arith
+fields-small (bs ∷ more) zero = field-small bs
+fields-small (bs ∷ more) (suc k) = fields-small more k
+
+line-small : (ended : Bool) (bytes : List ℕ) (k : ℕ) → number (lineOf ended bytes) k ≤ largest
+unfolding number lineOf
+line-small ended bytes k = fields-small (drop 1 (split 9 bytes)) k
+
+no-line-small : (k : ℕ) → number noLine k ≤ largest
+unfolding number numberOf
+no-line-small k = omega arith
+
+lines-small : (pieces : List (List ℕ)) (i k : ℕ) → number (getD (linesOf pieces) i noLine) k ≤ largest
+unfolding linesOf
+lines-small [] i k = no-line-small k
+lines-small (last ∷ []) i k = go (eqb (length last) 0) i
+  where
+    go : (t : Bool) (i : ℕ) → number (getD (cond t [] (lineOf false last ∷ [])) i noLine) k ≤ largest
+    go true i = no-line-small k
+    go false zero = line-small false last k
+    go false (suc i) = no-line-small k
+lines-small (bytes ∷ next ∷ more) zero k = line-small true bytes k
+lines-small (bytes ∷ next ∷ more) (suc i) k = lines-small (next ∷ more) i k
+
+pub number-small : (text : List ℕ) (i k : ℕ) → number (getD (lines text) i noLine) k ≤ largest
+unfolding lines
+number-small text i k = lines-small (split 10 text) i k

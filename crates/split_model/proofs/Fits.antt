@@ -1,19 +1,18 @@
 -- Every number that is read from a text fits a field, and so does every number that is written of a half. Assumes nothing.
-use mathlib.Core.Path.{_≡_, refl}
-use mathlib.Core.Bool.{Bool, true, false, cond, _&&_, and-eq-true-iff}
+use mathlib.Core.Path.{_≡_}
+use mathlib.Core.Bool.{Bool, true, false, cond}
 use mathlib.Core.Logic.{_⊎_, inl, inr}
-use mathlib.Core.List.{List, [], _∷_, _++_, map}
+use mathlib.Core.List.{List, [], _++_}
 use Prim.Native.Nat.{ℕ, zero, suc, _+_, _*_, _-_, _≤_, _<_}
 use native.Mathlib.Decide.{decLe}
 use native.Mathlib.Omega.{arith}
-use lib.Dec.{leb, eqb}
-use lib.ListN.{length, getD, drop, List·getD-append, List·getD-eq-default}
+use lib.Dec.{eqb}
+use lib.ListN.{length, getD, List·getD-append, List·getD-eq-default}
 use lib.Seq.{getD-append-add}
-use borrow.Author.Tests.{leb-true}
 use Rattle.search.specs.Checks.{Hold}
-use Rattle.records.specs.declared.Field.the-variants.{Number, NoNumber}
-use Rattle.records.specs.Field.{decimal, largest, digits, isNumeral, fieldOf}
-use Rattle.records.specs.Lines.{Line, noLine, split, lineOf, linesOf, lines, numberOf, number}
+use Rattle.records.specs.Field.{largest}
+use Rattle.records.specs.Lines.{Line, lines, number}
+use Rattle.records.proofs.Laws.{number-small}
 use Rattle.record_writer.proofs.Records.{Small, text-back}
 use Rattle.model.specs.Sum.{list}
 use Rattle.model.specs.Network.{entry, linkCount, signalCount, movementCount, stepCount, tramCount, onTimeline, tramLine, signalLine, linkLine, movementLine, timelineLine, signal, capacity, travelTime, signalOf, phaseMask, standing, waitingAtStart, fromLink, toLink, rate, share, timelineLength, stepLength, demand}
@@ -37,43 +36,9 @@ use Rattle.split_model.proofs.Lines.{masks, admissions, exits, moves}
 use Rattle.split_model.proofs.HalfValid.{exit-small}
 
 -- ---- a text
-field-small : (bs : List ℕ) → numberOf (fieldOf bs) ≤ largest
-unfolding fieldOf
-field-small bs = go (isNumeral bs) refl
-  where
-    go : (t : Bool) → isNumeral bs ≡ t → numberOf (cond t (Number (decimal bs)) NoNumber) ≤ largest
-    go true e =
-        unfold numberOf in leb-true (decimal bs) largest (unfold isNumeral in and-eq-true-iff (leb 1 (length bs) && leb (length bs) 10 && digits bs) (leb (decimal bs) largest) .0 e .1)
-    go false e = unfold numberOf in omega arith
-
-fields-small : (pieces : List (List ℕ)) (k : ℕ) → numberOf (getD (map fieldOf pieces) k NoNumber) ≤ largest
-fields-small [] k = unfold numberOf in omega arith
-fields-small (bs ∷ more) zero = field-small bs
-fields-small (bs ∷ more) (suc k) = fields-small more k
-
-line-small : (ended : Bool) (bytes : List ℕ) (k : ℕ) → number (lineOf ended bytes) k ≤ largest
-unfolding number lineOf
-line-small ended bytes k = fields-small (drop 1 (split 9 bytes)) k
-
-no-line-small : (k : ℕ) → number noLine k ≤ largest
-unfolding number numberOf
-no-line-small k = omega arith
-
-lines-small : (pieces : List (List ℕ)) (i k : ℕ) → number (getD (linesOf pieces) i noLine) k ≤ largest
-unfolding linesOf
-lines-small [] i k = no-line-small k
-lines-small (last ∷ []) i k = go (eqb (length last) 0) i
-  where
-    go : (t : Bool) (i : ℕ) → number (getD (cond t [] (lineOf false last ∷ [])) i noLine) k ≤ largest
-    go true i = no-line-small k
-    go false zero = line-small false last k
-    go false (suc i) = no-line-small k
-lines-small (bytes ∷ next ∷ more) zero k = line-small true bytes k
-lines-small (bytes ∷ next ∷ more) (suc i) k = lines-small (next ∷ more) i k
-
 read-small : (text : List ℕ) (i k : ℕ) → entry (lines text) i k ≤ largest
-unfolding entry lines
-read-small text i k = lines-small (split 10 text) i k
+unfolding entry
+read-small text i k = number-small text i k
 
 -- a plan that a text stands for, also the one that holds (T-07)
 plan-small : (networkText planText : List ℕ) → ValidNetwork (lines networkText) → (n k : ℕ) → entry (planOf networkText planText) n k ≤ largest
