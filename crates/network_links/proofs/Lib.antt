@@ -1,2 +1,3 @@
 mod Links
 pub mod Movements
+pub mod Shares

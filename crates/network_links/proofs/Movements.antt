@@ -52,7 +52,7 @@ pub movement-tested : (movements : List ℕ) (links j : ℕ) {leaves from enters
 unfolding validMovementIn within _and_
 movement-tested movements links j l f e t v p r = rw (r, f, t, l, e, v, p)
 
--- ---- the turns of `last_movement` and `share_sum`
+-- ---- the turns of `last_movement`
 module _ (movements : List ℕ) (link j : ℕ) where
   module _ {leaves from : ℕ} (l : leaves ≡ linkIn movements 0 j) (f : from ≡ leaves) where
     pub last-here : from ≡ link → {last : ℕ} → last ≡ j + 1 → last ≡ lastMovementIn movements (j + 1) link
@@ -63,25 +63,27 @@ module _ (movements : List ℕ) (link j : ℕ) where
     unfolding lastMovementIn
     last-other n q e = q ∙ e ∙ rw (add-one j, ← l, ← f, ne-eqb from link n)
 
-    pub shares-here : from ≡ link → shareSumIn movements (j + 1) link ≡ shareSumIn movements j link + shareIn movements j
-    unfolding shareSumIn sum
-    shares-here e = rw (add-one j, eq-eqb (linkIn movements 0 j) link (sym l ∙ sym f ∙ e))
-
-    pub shares-other : (from ≡ link → ⊥) → {sum before : ℕ} → sum ≡ before → before ≡ shareSumIn movements j link → sum ≡ shareSumIn movements (j + 1) link
-    unfolding shareSumIn sum
-    shares-other n q s = rw (q, s, add-one j, ← l, ← f, ne-eqb from link n) (omega arith)
-
   module _ (count : ℕ) (l : j ≤ count) (h : count ≤ j) where
     pub last-all : {last : ℕ} → last ≡ lastMovementIn movements j link → last ≡ lastMovementIn movements count link
     last-all e = let same : j ≡ count = omega arith in rw same at e
 
-    pub shares-all : {sum : ℕ} → sum ≡ shareSumIn movements j link → sum ≡ shareSumIn movements count link
-    shares-all e = let same : j ≡ count = omega arith in rw same at e
+-- ---- `valid_shares`
+module _ (movements : List ℕ) (count link : ℕ) {sum : ℕ} (e : sum ≡ shareSumIn movements count link) where
+  pub shares-whole : sum ≡ 1000 → true ≡ validSharesIn movements count link
+  unfolding validSharesIn _or_
+  shares-whole q = rw (← e, eq-eqb sum 1000 q) (by (eqb (lastMovementIn movements count link) 0))
+    where
+      by : (b : Bool) → true ≡ (b || true)
+      by true = refl
+      by false = refl
 
-pub shares-tested : (movements : List ℕ) (count link : ℕ) {last sum : ℕ} → last ≡ lastMovementIn movements count link → sum ≡ shareSumIn movements count link
-    → (eqb last 0 || eqb sum 1000) ≡ validSharesIn movements count link
-unfolding validSharesIn _or_
-shares-tested movements count link l s = rw (l, s)
+  pub shares-short : (sum ≡ 1000 → ⊥) → {last : ℕ} → last ≡ lastMovementIn movements count link → eqb last 0 ≡ validSharesIn movements count link
+  unfolding validSharesIn _or_
+  shares-short n l = rw (← e, ne-eqb sum 1000 n, ← l) (by _)
+    where
+      by : (b : Bool) → b ≡ (b || false)
+      by true = refl
+      by false = refl
 
 -- ---- the paper's test of movement j
 module _ (network : List Line) (movements : List ℕ) (j : ℕ) (q : RowsTo network (movementBlock network) movementFields (j + 1) movements) where

@@ -1,12 +1,12 @@
 -- The tests of movements by the table of the `M` lines. Links are numbered from 1. Assumes nothing.
-use Prim.Native.Nat.{ℕ, zero, suc, _-_, _≤_}
+use Prim.Native.Nat.{ℕ, zero, suc, _+_, _-_, _≤_, _<_}
 use mathlib.Core.Path.{_≡_}
 use mathlib.Core.Bool.{Bool, not, cond}
 use mathlib.Core.List.{List}
 use lib.Dec.{ltb, eqb}
-use lib.ListN.{length}
+use lib.ListN.{length, getD}
 use Rattle.search.specs.Checks.{Checks, check}
-use Rattle.model.specs.Network.{maxMovements}
+use Rattle.model.specs.Network.{maxLinks, maxMovements}
 use Rattle.model.specs.Test.{_and_, _or_, within}
 use Rattle.model.specs.Sum.{sum, only}
 use Rattle.tables.specs.declared.Counts.{Counts}
@@ -49,3 +49,22 @@ shareChecksIn movements counts i =
 pub record MovementsKnown (movements : List ℕ) (m : ℕ) : Type 0 where
   pub room : length movements ≡ movementTableSize
   pub few : m ≤ maxMovements
+
+-- what adding a share to the sum of a link asks, and gives; no link but the first 24 has a sum
+pub record AddAsked (part : ℕ) (sums : List ℕ) : Type 0 where
+  pub size : length sums ≡ maxLinks
+  pub fits : (i : ℕ) → i < maxLinks → getD sums i 0 + part < 18446744073709551616
+
+pub record Added (from part : ℕ) (before after : List ℕ) : Type 0 where
+  pub size : length after ≡ maxLinks
+  pub each-sum : (i : ℕ) → i < maxLinks → getD after i 0 ≡ getD before i 0 + only (eqb from (i + 1)) part
+
+-- what summing up the shares of m movements asks, with nothing summed up yet, and gives
+pub record SumsAsked (movements : List ℕ) (m : ℕ) (sums : List ℕ) : Type 0 where
+  pub known : MovementsKnown movements m
+  pub size : length sums ≡ maxLinks
+  pub none : (i : ℕ) → i < maxLinks → getD sums i 0 ≡ 0
+
+pub record ShareSums (movements : List ℕ) (m : ℕ) (sums : List ℕ) : Type 0 where
+  pub size : length sums ≡ maxLinks
+  pub each-sum : (i : ℕ) → i < maxLinks → getD sums i 0 ≡ shareSumIn movements m (i + 1)

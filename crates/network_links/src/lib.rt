@@ -6,11 +6,12 @@ ghost use Rattle.records.specs.Lines.{lines};
 ghost use Rattle.tables.specs.Tables.{Judged};
 ghost use Rattle.tables.specs.Blocks.{blockChecks, linkBlock, movementBlock};
 ghost use Rattle.network_links.specs.Links.{validMaskIn, validLinkIn, PhasesKnown, LinkAsked};
-ghost use Rattle.network_links.specs.Movements.{pairRisesIn, validMovementIn, lastMovementIn, shareSumIn, validSharesIn, shareChecksIn, MovementsKnown};
+ghost use Rattle.network_links.specs.Movements.{pairRisesIn, validMovementIn, lastMovementIn, shareSumIn, validSharesIn, shareChecksIn, MovementsKnown, AddAsked, Added, SumsAsked, ShareSums};
 ghost use Rattle.network_links.specs.Stages.{LinksAsked, LinksHeld, MovementsAsked, MovementsHeld, SharesAsked};
 use records::LineRead;
 use search::Refusal;
 use tables::LINK_FIELDS;
+use tables::MAX_LINKS;
 use tables::MOVEMENT_FIELDS;
 use tables::Reading;
 use tables::Stage;
@@ -141,28 +142,43 @@ fn last_movement(movements: &[u32], count: usize, link: usize) -> usize
     last
 }
 
-// The sum of the shares of the movements that leave a link.
-fn share_sum(movements: &[u32], count: usize, link: usize) -> u64
-    requires { ⌜ MovementsKnown (now movements) count ⌝ }
-    ensures { λ r. ⌜ r ≡ shareSumIn (now (movements .entry)) count link ⌝ }
+// Adds the share of a movement to the sum of the link that it leaves, numbered from 1.
+fn add_share(from: usize, share: u32, sums: &mut [u64])
+    requires { ⌜ AddAsked share (now sums) ⌝ }
+    ensures { λ _. ⌜ Added from share (now (sums .entry)) (now (sums .exit)) ⌝ }
 {
-    let mut sum: u64 = 0;
+    if from == 0 {
+        return;
+    }
+    if MAX_LINKS < from {
+        return;
+    }
+    let link = from - 1;
+    sums[link] = sums[link] + tables::wide(share);
+}
+
+// The sum of the shares of the movements that leave each link, in one pass.
+fn add_shares(movements: &[u32], count: usize, sums: &mut [u64])
+    requires { ⌜ SumsAsked (now movements) count (now sums) ⌝ }
+    ensures { λ _. ⌜ ShareSums (now (movements .entry)) count (now (sums .exit)) ⌝ }
+{
     let mut j = 0;
     while j < count {
-        if tables::index(tables::link_of(movements, j, 0)) == link {
-            sum += tables::wide(tables::share(movements, j));
-        }
+        let from = tables::index(tables::link_of(movements, j, 0));
+        add_share(from, tables::share(movements, j), sums);
         j += 1;
     }
-    sum
 }
 
 // Refusal 5: a link has no movements, or their shares sum to 1000.
-fn valid_shares(movements: &[u32], count: usize, link: usize) -> bool
-    requires { ⌜ MovementsKnown (now movements) count ⌝ }
+fn valid_shares(movements: &[u32], count: usize, link: usize, sum: u64) -> bool
+    requires { ⌜ (MovementsKnown (now movements) count) × (sum ≡ shareSumIn (now movements) count link) ⌝ }
     ensures { λ r. ⌜ r ≡ validSharesIn (now (movements .entry)) count link ⌝ }
 {
-    (last_movement(movements, count, link) == 0) | (share_sum(movements, count, link) == 1000)
+    if sum == 1000 {
+        return true;
+    }
+    last_movement(movements, count, link) == 0
 }
 
 // Refusal 5 after all `M` lines: the shares by rising link, told at the link's last movement.
@@ -172,9 +188,11 @@ pub fn check_shares(movements: &[u32], reading: Reading) -> Stage
 {
     let counts = reading.counts;
     let count = counts.movements;
+    let mut sums = [0u64; MAX_LINKS];
+    add_shares(movements, count, &mut sums);
     let mut i = 0;
     while i < counts.links {
-        if !valid_shares(movements, count, i + 1) {
+        if !valid_shares(movements, count, i + 1, sums[i]) {
             let last = last_movement(movements, count, i + 1);
             return Stage::Refused(Refusal::new(5, counts.movement_line(last), last));
         }

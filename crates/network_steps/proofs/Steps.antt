@@ -3,10 +3,12 @@ use Prim.Native.Nat.{ℕ, suc, _+_, _*_, _≤_, _<_}
 use mathlib.Core.Path.{_≡_, refl, sym, ap, _∙_}
 use mathlib.Core.Bool.{Bool, true, false, not}
 use mathlib.Core.List.{List}
+use native.Mathlib.Decide.{ℕ-discrete}
 use native.Mathlib.Numerals.{add-one}
 use native.Mathlib.Omega.{arith}
 use borrow.Author.Tests.{not-true, not-false}
-use lib.ListN.{length, getD}
+use lib.ListN.{length, getD, set, length-set}
+use lib.Seq.{getD-set-same, getD-set-other}
 use Rattle.search.specs.declared.Refusal.{Refusal}
 use Rattle.search.specs.Checks.{refusal}
 use Rattle.records.specs.declared.LineRead.{LineRead}
@@ -21,9 +23,8 @@ use Rattle.model.specs.Table.{isForm, letterS, stepChecks}
 use Rattle.tables.specs.declared.Reading.{Reading}
 use Rattle.tables.specs.declared.Stage.the-variants.{Passed, Refused}
 use Rattle.tables.specs.Places.{stepLineIn}
-use Rattle.tables.specs.Fields.{stepSize, lengthIn}
+use Rattle.tables.specs.Fields.{stepSize, lengthIn, demandIn}
 use Rattle.tables.specs.Rows.{LineHeld, RowRead}
-use Rattle.tables.specs.Sums.{Summed}
 use Rattle.tables.specs.Blocks.{blockChecks, ReadTo, Records, stepBlock}
 use Rattle.tables.specs.Tables.{Judged, StepNumbers}
 use Rattle.tables.proofs.Tables.{step-length-at, demand-at}
@@ -32,7 +33,7 @@ use Rattle.tables.proofs.Blocks.{passed-all, block-begin, block-end, records-ma
 use Rattle.tables.proofs.Stages.{judged-refused, judged-passed}
 use Rattle.arrivals.specs.Timed.{TimeAsked, TimeSet, TimedTo}
 use Rattle.arrivals.proofs.Timed.{time-ready, timed-next}
-use Rattle.network_steps.specs.Steps.{validStepIn, LoadAsked, Loaded, StepsAsked, StepsHeld}
+use Rattle.network_steps.specs.Steps.{validStepIn, LoadAsked, Loaded, AddAsked, Added, StepsAsked, StepsHeld}
 use Rattle.network_steps.proofs.Values.{step-within, demand-few, valid-step-is}
 
 -- ---- one line
@@ -68,6 +69,41 @@ module _ (text : List ℕ) (at n links : ℕ) (s : Starts text at (stepLine (lin
 
   pub loaded-next : {next : ℕ} {step : List ℕ} → Loaded text at links next step → Starts text next (stepLine (lines text) (suc n))
   loaded-next m = rw (step-line-suc (lines text) n) (m .held (stepLine (lines text) n) s .starts)
+
+-- ---- the turns of `add_demands`
+pub record AddedTo (step : List ℕ) (links : ℕ) (before demands : List ℕ) (n : ℕ) : Type 0 where
+  pub within : n ≤ links
+  pub added : Added step n before demands
+  pub rest : (i : ℕ) → n ≤ i → getD demands i 0 ≡ getD before i 0
+
+module _ {step : List ℕ} {links : ℕ} {before : List ℕ} (asked : AddAsked step links before) where
+  pub add-begin : AddedTo step links before before 0
+  add-begin = record { within = omega arith; added = record { size = refl; added = λ i l. absurd (omega arith) }; rest = λ i l. refl }
+
+  module _ {demands : List ℕ} {n : ℕ} (inv : AddedTo step links before demands n) where
+    pub add-done : links ≤ n → Added step links before demands
+    add-done h = let e : n ≡ links = omega (arith, inv .within) in rw e at (inv .added)
+
+    module _ (h : n < links) {asks : ℕ} (e : asks ≡ demandIn step n) where
+      room : n < length demands
+      room = omega (arith, inv .added .size, asked .size, asked .few)
+
+      pub add-fits : getD demands n 0 + asks < 4294967296
+      add-fits = omega (arith, inv .rest n (omega arith), asked .fits n h)
+
+      pub add-next : AddedTo step links before (set demands n (getD demands n 0 + asks)) (n + 1)
+      add-next =
+          record {
+            within = omega arith;
+            added = record {
+              size = length-set demands n _ ∙ inv .added .size;
+              added = λ i l. elim (ℕ-discrete i n) [
+                | yes q ↦ rw (q, getD-set-same demands n (getD demands n 0 + asks) 0 room, e, inv .rest n (omega arith)) refl
+                | no q ↦ getD-set-other demands n i (getD demands n 0 + asks) 0 q ∙ inv .added .added i (omega arith)
+              ];
+            };
+            rest = λ i l. getD-set-other demands n i (getD demands n 0 + asks) 0 (λ q. omega arith) ∙ inv .rest i (omega arith);
+          }
 
 -- ---- the loop over all lines
 step-records : (network : List Line) → Records network (stepBlock network) letterS (1 + linkCount network) 6 (validStep network)
@@ -136,9 +172,6 @@ module _ {text : List ℕ} {reading : Reading} {times₀ demands₀ : List ℕ} 
       pub time-asked : {m : ℕ} → m ≡ reading .counts .past + n → TimeAsked times m (reading .timed)
       time-asked e = rw (e, asked .reached .counted .past) (time-ready (inv .timed-to) (omega (arith, below)))
 
-      pub sums-asked : (reading .counts .links < length after) × (reading .counts .links ≤ length demands)
-      sums-asked = (omega (arith, row .size, inv .step-room, asked .reached .counted .few .links), omega (arith, inv .demand-room, asked .reached .counted .few .links))
-
       module _ {next : ℕ} (e : r ≡ Next next) {v : Bool} (told : v ≡ validStepIn after (reading .counts .links) (reading .shortest)) where
         numbers : StepNumbers (lines text) n after
         numbers = held-numbers (own .held next e (stepLine (lines text) n) (inv .read .starts)) refl (row .size ∙ inv .step-room)
@@ -152,17 +185,28 @@ module _ {text : List ℕ} {reading : Reading} {times₀ demands₀ : List ℕ} 
             rw (t, told-line l, add-one)
             (judged-refused (records-invalid (inv .read) (step-records (lines text)) below own e (sym judged ∙ not-true v b)))
 
-        module _ (b : not v ≡ false) {seconds : ℕ} (s : seconds ≡ lengthIn after) where
-          passed : validStep (lines text) n ≡ true
-          passed = sym judged ∙ not-false v b
+        passed : not v ≡ false → validStep (lines text) n ≡ true
+        passed b = sym judged ∙ not-false v b
 
+        -- no sum of demands is too large
+        pub add-asked : not v ≡ false → AddAsked after (reading .counts .links) demands
+        add-asked b =
+            record {
+              few = asked .reached .counted .few .links;
+              step-size = row .size ∙ inv .step-room;
+              size = inv .demand-room;
+              fits = λ i h. let l : i < linkCount (lines text) = omega (arith, asked .reached .counted .links) in
+                  omega (arith, inv .demanded i l, inv .small i l, demand-at numbers i l, demand-few (lines text) n (passed b) i l, asked .reached .counted .few .steps, below);
+            }
+
+        module _ (b : not v ≡ false) {seconds : ℕ} (s : seconds ≡ lengthIn after) where
           lasts : seconds ≡ timelineLength (lines text) (pastCount (lines text) + n)
           lasts = s ∙ step-length-at numbers ∙ (unfold stepLength onTimeline in refl)
 
           -- a valid step stays timed where the past is
           same-timed : {result : Bool} → result ≡ (reading .timed and within 1 seconds 60) → result ≡ reading .timed
           unfolding _and_
-          same-timed q = q ∙ ap (λ w. reading .timed and w) (ap (λ x. within 1 x 60) (s ∙ step-length-at numbers) ∙ step-within (lines text) n passed) ∙ by (reading .timed)
+          same-timed q = q ∙ ap (λ w. reading .timed and w) (ap (λ x. within 1 x 60) (s ∙ step-length-at numbers) ∙ step-within (lines text) n (passed b)) ∙ by (reading .timed)
             where
               by : (c : Bool) → c and true ≡ c
               by true = refl
@@ -174,26 +218,15 @@ module _ {text : List ℕ} {reading : Reading} {times₀ demands₀ : List ℕ} 
               let p : pastCount (lines text) + n + 1 ≡ pastCount (lines text) + (n + 1) = omega arith in
               rw (same-timed (got .told), p) at (timed-next (inv .timed-to) (omega (arith, below)) lasts (rw (q, asked .reached .counted .past) at got))
 
-          -- no sum of demands is too large
-          summed : {result : Bool} {demands′ : List ℕ} → Summed after (reading .counts .links) demands result demands′ → result ≡ true
-          summed {result} got = go result refl
-            where
-              go : (c : Bool) → result ≡ c → result ≡ true
-              go true q = q
-              go false q =
-                  let o = got .overflows q in
-                  let l : o .at < linkCount (lines text) = omega (arith, o .below, asked .reached .counted .links) in
-                  absurd (omega (arith, o .over, inv .demanded (o .at) l, inv .small (o .at) l, demand-at numbers (o .at) l, demand-few (lines text) n passed (o .at) l, asked .reached .counted .few .steps, below))
-
           pub steps-next : {m : ℕ} → m ≡ reading .counts .past + n → {timed : Bool} {times′ : List ℕ} → TimeSet times m seconds (reading .timed) timed times′
-              → {fit : Bool} {demands′ : List ℕ} → Summed after (reading .counts .links) demands fit demands′ → StepsTo text (reading .timed) times′ demands′ after next (n + 1)
+              → {demands′ : List ℕ} → Added after (reading .counts .links) demands demands′ → StepsTo text (reading .timed) times′ demands′ after next (n + 1)
           unfolding sum
           steps-next q got sums =
               record {
-                read = records-next (inv .read) (step-records (lines text)) below own e passed;
+                read = records-next (inv .read) (step-records (lines text)) below own e (passed b);
                 step-room = row .size ∙ inv .step-room;
                 timed-to = timed-more q got;
                 demand-room = sums .size ∙ inv .demand-room;
-                demanded = λ i l. rw (add-one n) (omega (arith, sums .added (summed sums) i (omega (arith, asked .reached .counted .links)), inv .demanded i l, demand-at numbers i l));
-                small = λ i l. rw (add-one n) (omega (arith, inv .small i l, demand-few (lines text) n passed i l));
+                demanded = λ i l. rw (add-one n) (omega (arith, sums .added i (omega (arith, asked .reached .counted .links)), inv .demanded i l, demand-at numbers i l));
+                small = λ i l. rw (add-one n) (omega (arith, inv .small i l, demand-few (lines text) n (passed b) i l));
               }

@@ -38,6 +38,18 @@ pub record Loaded (text : List ℕ) (at links next : ℕ) (step : List ℕ) : Ty
   pub size : length step ≡ stepSize
   pub held : (line : ℕ) → Starts text at line → LineHeld letterS (1 + links) text line next 0 step
 
+-- what adding the demands of a line to the sums of so many links asks: no sum is too large ..
+pub record AddAsked (step : List ℕ) (links : ℕ) (demands : List ℕ) : Type 0 where
+  pub few : links ≤ maxLinks
+  pub step-size : length step ≡ stepSize
+  pub size : length demands ≡ maxLinks
+  pub fits : (i : ℕ) → i < links → getD demands i 0 + demandIn step i < 4294967296
+
+-- .. and gives
+pub record Added (step : List ℕ) (links : ℕ) (before after : List ℕ) : Type 0 where
+  pub size : length after ≡ length before
+  pub added : (i : ℕ) → i < links → getD after i 0 ≡ getD before i 0 + demandIn step i
+
 -- what the reading of all `S` lines asks ..
 pub record StepsAsked (text : List ℕ) (reading : Reading) (times demands : List ℕ) : Type 0 where
   pub reached : Reached text (stepLine (lines text) 0) reading

@@ -7,7 +7,7 @@ ghost use Rattle.model.specs.Network.{maxLinks};
 ghost use Rattle.tables.specs.Fields.{stepSize};
 ghost use Rattle.tables.specs.Tables.{Judged};
 ghost use Rattle.tables.specs.Blocks.{blockChecks, stepBlock};
-ghost use Rattle.network_steps.specs.Steps.{validDemandsIn, validStepIn, LoadAsked, Loaded, StepsAsked, StepsHeld};
+ghost use Rattle.network_steps.specs.Steps.{validDemandsIn, validStepIn, LoadAsked, Loaded, AddAsked, Added, StepsAsked, StepsHeld};
 use records::LineRead;
 use search::Refusal;
 use tables::Reading;
@@ -49,6 +49,18 @@ pub fn load_step(text: &[u8], at: usize, links: usize, step: &mut [u32]) -> usiz
     }
 }
 
+// Adds the demand of each link to its sum, which fits 32 bits.
+fn add_demands(step: &[u32], links: usize, demands: &mut [u32])
+    requires { ⌜ AddAsked (now step) links (now demands) ⌝ }
+    ensures { λ _. ⌜ Added (now (step .entry)) links (now (demands .entry)) (now (demands .exit)) ⌝ }
+{
+    let mut i = 0;
+    while i < links {
+        demands[i] = demands[i] + tables::demand(step, i);
+        i += 1;
+    }
+}
+
 // Refusals 1 and 6: reads the `S` lines, sets the time of each boundary, if the past is timed, and sums up the demands of each link.
 pub fn read_steps(text: &[u8], reading: Reading, times: &mut [u32], demands: &mut [u32]) -> Stage
     requires { ⌜ StepsAsked (now text) reading (now times) (now demands) ⌝ }
@@ -70,7 +82,7 @@ pub fn read_steps(text: &[u8], reading: Reading, times: &mut [u32], demands: &mu
         }
         let seconds = tables::step_length(&step);
         arrivals::next_time(times, counts.past + n, seconds, reading.timed);
-        tables::add_numbers(&step, links, demands);
+        add_demands(&step, links, demands);
         place = next;
         n += 1;
     }

@@ -1,18 +1,26 @@
 -- `network_links::check_shares` meets its contract. Assumes nothing.
 use Prim.Native.Nat.{_-_}
+use mathlib.Core.Path.{refl}
 use borrow.Author.Needs.{needs}
 use Rattle.tables.specs.Blocks.{PassedTo}
 use Rattle.tables.proofs.Blocks.{passed-none}
 use Rattle.network_links.specs.Movements.{shareChecksIn}
 use Rattle.network_links.proofs.Movements.{shares-broken, shares-next, shares-done}
+use Rattle.network_links.proofs.Shares.{sums-asked, sum-at}
 use Rattle.network_links.proofs.check_shares.Statement.{statement}
 use Rattle.network_links.proofs.check_shares.Tie as tie
 
 abbrev Inv-loop : tie.InvT-loop
-Inv-loop movements reading counts count i₀ i = PassedTo (reading .counts .links) (shareChecksIn movements (reading .counts)) i
+Inv-loop movements reading counts count sums i₀ i = PassedTo (reading .counts .links) (shareChecksIn movements (reading .counts)) i
 
 abbrev μ-loop : tie.MeasureT-loop
-μ-loop movements reading counts count i₀ i = counts .links - i
+μ-loop movements reading counts count sums i₀ i = counts .links - i
+
+slice-aggregate-add-shares : tie.Need-slice-aggregate-add-shares Inv-loop μ-loop
+slice-aggregate-add-shares c = search needs
+
+add-shares-requires : tie.Need-add-shares-requires Inv-loop μ-loop
+add-shares-requires c κs = sums-asked (c .before .before .before .pre) refl
 
 loop-holds : tie.Need-loop-holds Inv-loop μ-loop
 loop-holds c = search (passed-none, needs)
@@ -20,8 +28,14 @@ loop-holds c = search (passed-none, needs)
 add-valid-shares : tie.Need-add-valid-shares Inv-loop μ-loop
 add-valid-shares c = search needs
 
+mul-valid-shares : tie.Need-mul-valid-shares Inv-loop μ-loop
+mul-valid-shares c = search needs
+
+array-read-valid-shares : tie.Need-array-read-valid-shares Inv-loop μ-loop
+array-read-valid-shares c = search needs
+
 valid-shares-requires : tie.Need-valid-shares-requires Inv-loop μ-loop
-valid-shares-requires c κs = search needs
+valid-shares-requires c κs = (search needs, sum-at (c .before .before .before .before .before .before .before .before .pre) (c .before .before .before .before .add-shares .ensures) (c .before .before .loop .i) (search needs))
 
 add-last-movement : tie.Need-add-last-movement Inv-loop μ-loop
 add-last-movement c = search needs
@@ -45,7 +59,7 @@ loop-less : tie.Need-loop-less Inv-loop μ-loop
 loop-less c = search needs
 
 loop-again : tie.Need-loop-again Inv-loop μ-loop
-loop-again c = search (shares-next, needs)
+loop-again c = shares-next (c .before .before .before .before .before .before .before .before .before .before .args .movements .now) (c .before .before .before .before .before .before .before .before .before .before .args .reading) (c .before .before .before .before .loop .inv) (search needs) (c .before .valid-shares .ensures) (c .if2 .left)
 
 returns-2 : tie.Need-returns-2 Inv-loop μ-loop
 returns-2 c = search (shares-done, needs)
@@ -56,8 +70,12 @@ check-shares-spec =
     (tie.spec
     Inv-loop
     μ-loop
+    slice-aggregate-add-shares
+    add-shares-requires
     loop-holds
     add-valid-shares
+    mul-valid-shares
+    array-read-valid-shares
     valid-shares-requires
     add-last-movement
     last-movement-requires

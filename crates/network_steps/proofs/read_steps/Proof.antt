@@ -1,7 +1,7 @@
 -- `network_steps::read_steps` meets its contract. The invariant: n lines have passed, and their times and demands are reckoned. Assumes nothing.
 use Prim.Native.Nat.{_-_}
 use mathlib.Core.Path.{refl}
-use Rattle.network_steps.proofs.Steps.{StepsTo, steps-begin, steps-malformed, steps-invalid, time-asked, sums-asked, steps-next, steps-done}
+use Rattle.network_steps.proofs.Steps.{StepsTo, steps-begin, steps-malformed, steps-invalid, time-asked, add-asked, steps-next, steps-done}
 use borrow.Author.Needs.{needs}
 use Rattle.network_steps.proofs.read_steps.Statement.{statement}
 use Rattle.network_steps.proofs.read_steps.Tie as tie
@@ -81,11 +81,11 @@ add-next-time c = search needs
 next-time-requires : tie.Need-next-time-requires Inv-loop μ-loop
 next-time-requires c κs = search (time-asked, needs)
 
-slice-aggregate-add-numbers : tie.Need-slice-aggregate-add-numbers Inv-loop μ-loop
-slice-aggregate-add-numbers c = search needs
+slice-aggregate-add-demands : tie.Need-slice-aggregate-add-demands Inv-loop μ-loop
+slice-aggregate-add-demands c = search needs
 
-add-numbers-requires : tie.Need-add-numbers-requires Inv-loop μ-loop
-add-numbers-requires c κs = sums-asked (c .before .before .before .before .before .before .before .before .before .before .before .before .before .before .before .before .before .before .before .before .before .before .before .before .before .before .pre) (c .before .before .before .before .before .before .before .before .before .before .before .before .before .before .before .before .before .before .before .before .before .loop .inv) (search needs) (c .before .before .before .before .before .before .before .before .before .before .before .before .before .before .before .before .read-row .ensures)
+add-demands-requires : tie.Need-add-demands-requires Inv-loop μ-loop
+add-demands-requires c κs = add-asked (c .before .before .before .before .before .before .before .before .before .before .before .before .before .before .before .before .before .before .before .before .before .before .before .before .before .before .pre) (c .before .before .before .before .before .before .before .before .before .before .before .before .before .before .before .before .before .before .before .before .before .loop .inv) (search needs) (c .before .before .before .before .before .before .before .before .before .before .before .before .before .before .before .before .read-row .ensures) (c .before .before .before .before .before .before .before .before .before .before .before .before .before .read .given .1) (c .before .before .before .before .before .before .before .before .before .before .valid-step .ensures) (c .before .before .before .before .before .before .before .before .before .if2 .left)
 
 add-n : tie.Need-add-n Inv-loop μ-loop
 add-n c = search needs
@@ -94,7 +94,7 @@ loop-less : tie.Need-loop-less Inv-loop μ-loop
 loop-less c = search needs
 
 loop-again : tie.Need-loop-again Inv-loop μ-loop
-loop-again c = steps-next (c .before .before .before .before .before .before .before .before .before .before .before .before .before .before .before .before .before .before .before .before .before .before .before .before .before .before .before .before .before .pre) (c .before .before .before .before .before .before .before .before .before .before .before .before .before .before .before .before .before .before .before .before .before .before .before .before .loop .inv) (search needs) (c .before .before .before .before .before .before .before .before .before .before .before .before .before .before .before .before .before .before .before .read-row .ensures) (c .before .before .before .before .before .before .before .before .before .before .before .before .before .before .before .before .read .given .1) (c .before .before .before .before .before .before .before .before .before .before .before .before .before .valid-step .ensures) (c .before .before .before .before .before .before .before .before .before .before .before .before .if2 .left) (c .before .before .before .before .before .before .before .before .before .before .step-length .ensures) refl (c .before .before .before .before .before .before .before .next-time .ensures) (c .before .before .add-numbers .ensures)
+loop-again c = steps-next (c .before .before .before .before .before .before .before .before .before .before .before .before .before .before .before .before .before .before .before .before .before .before .before .before .before .before .before .before .before .pre) (c .before .before .before .before .before .before .before .before .before .before .before .before .before .before .before .before .before .before .before .before .before .before .before .before .loop .inv) (search needs) (c .before .before .before .before .before .before .before .before .before .before .before .before .before .before .before .before .before .before .before .read-row .ensures) (c .before .before .before .before .before .before .before .before .before .before .before .before .before .before .before .before .read .given .1) (c .before .before .before .before .before .before .before .before .before .before .before .before .before .valid-step .ensures) (c .before .before .before .before .before .before .before .before .before .before .before .before .if2 .left) (c .before .before .before .before .before .before .before .before .before .before .step-length .ensures) refl (c .before .before .before .before .before .before .before .next-time .ensures) (c .before .before .add-demands .ensures)
 
 same-length-5 : tie.Need-same-length-5 Inv-loop μ-loop
 same-length-5 c = search needs
@@ -134,8 +134,8 @@ read-steps-spec =
     step-length-requires
     add-next-time
     next-time-requires
-    slice-aggregate-add-numbers
-    add-numbers-requires
+    slice-aggregate-add-demands
+    add-demands-requires
     add-n
     loop-less
     loop-again
