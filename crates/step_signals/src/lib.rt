@@ -6,7 +6,7 @@ ghost use mathlib.Core.Bool.{true, cond};
 ghost use Prim.Native.Nat.{_-_, _^_, _≤_, _<_};
 ghost use lib.ListN.{length};
 ghost use Rattle.model.specs.Network.{maxSignals};
-ghost use Rattle.model.specs.Signals.{phaseOf, opens, nextPhase, beginsCycle, shownForAfter, clockAfter, keepsOrder, keepsLeastTime, keepsGreatestTime, keepsCycle, after};
+ghost use Rattle.model.specs.Signals.{phaseOf, opens, leastTime, greatestTime, nextPhase, beginsCycle, shownForAfter, clockAfter, keepsOrder, keepsLeastTime, keepsGreatestTime, keepsCycle, after};
 ghost use Rattle.tables.specs.Fields.{signalTableSize, tableSignal};
 ghost use Rattle.tables.specs.Tables.{SignalLaid};
 ghost use Rattle.step_signals.specs.Ready.{Ready, ReadyIn, AllReady};
@@ -213,15 +213,24 @@ pub fn signal_rule(
     )
 }
 
-// Whether a signal that shows a phase keeps all six rules.
-fn keeps_all(signal: Signal, phase: u32, asked: u32, seconds: u32) -> bool
+// Whether a signal that shows a phase keeps all six rules, by the least time of the phase before and the greatest of this one.
+fn keeps_all(
+    signal: Signal,
+    least: u32,
+    greatest: u32,
+    phase: u32,
+    asked: u32,
+    seconds: u32,
+) -> bool
     requires { ⌜ Ready signal ⌝ }
-    requires { ⌜ phase ≤ 8 ⌝ }
     requires { ⌜ seconds ≤ 60 ⌝ }
+    requires { ⌜ (least ≡ leastTime signal (signal .shown)) × (greatest ≡ greatestTime signal phase) ⌝ }
     ensures { λ r. ⌜ r ≡ keepsAll signal phase asked seconds ⌝ }
 {
-    let ordered = keeps_order(signal, phase) & keeps_least_time(signal, phase);
-    let timed = keeps_greatest_time(signal, phase, seconds) & keeps_cycle(signal, phase, seconds);
+    let left_in_time = (phase == signal.shown) | (least <= signal.shown_for);
+    let runs_in_time = shown_for_after(signal, phase, seconds) <= greatest;
+    let ordered = keeps_order(signal, phase) & left_in_time;
+    let timed = runs_in_time & keeps_cycle(signal, phase, seconds);
     (1 <= phase) & ((asked == 0) | (phase == asked)) & ((asked != 0) | (ordered & timed))
 }
 
@@ -240,7 +249,7 @@ fn goes_on(signals: &[u32], r: usize, phase: u32, asked: u32, seconds: u32) -> b
     goes & in_time & (signal.cycle_clock + seconds <= signal.greatest_cycle)
 }
 
-// Whether signal r of the table keeps all six.
+// Whether signal r of the table keeps all six. Its two times are read in the table: an array by value is laid out for an index that is not known.
 fn signal_keeps(signals: &[u32], r: usize, phase: u32, asked: u32, seconds: u32) -> bool
     requires { ⌜ ReadyIn (now signals) r ⌝ }
     requires { ⌜ phase ≤ 8 ⌝ }
@@ -250,7 +259,10 @@ fn signal_keeps(signals: &[u32], r: usize, phase: u32, asked: u32, seconds: u32)
     if goes_on(signals, r, phase, asked, seconds) {
         return true;
     }
-    keeps_all(tables::signal_in(signals, r), phase, asked, seconds)
+    let signal = tables::signal_in(signals, r);
+    let least = tables::least_time(signals, r, place_of(signal.shown));
+    let greatest = tables::greatest_time(signals, r, place_of(phase));
+    keeps_all(signal, least, greatest, phase, asked, seconds)
 }
 
 // Whether all signals keep the six rules, in one pass over them: most steps break none, and then it doesn't matter which rule is asked first.

@@ -5,28 +5,26 @@ use borrow.Author.Needs.{needs}
 use Rattle.step_signals.proofs.keeps_all.Statement.{statement}
 use Rattle.step_signals.proofs.keeps_all.Tie as tie
 
+shown-for-after-requires : tie.Need-shown-for-after-requires
+shown-for-after-requires c κs = search needs
+
 keeps-order-requires : tie.Need-keeps-order-requires
 keeps-order-requires c κs = search needs
-
-keeps-least-time-requires : tie.Need-keeps-least-time-requires
-keeps-least-time-requires c κs = search needs
-
-keeps-greatest-time-requires : tie.Need-keeps-greatest-time-requires
-keeps-greatest-time-requires c κs = search needs
 
 keeps-cycle-requires : tie.Need-keeps-cycle-requires
 keeps-cycle-requires c κs = search needs
 
 returns : tie.Need-returns
 unfolding keepsAll _and_ _or_
-returns c = rw (c .keeps-cycle .ensures, c .before .keeps-greatest-time .ensures, c .before .before .keeps-least-time .ensures, c .before .before .before .keeps-order .ensures)
+returns c =
+    let s = c .before .before .before .before .before in
+    rw (c .keeps-cycle .ensures, c .before .keeps-order .ensures, c .before .before .shown-for-after .ensures, s .pre .1 .1 .0, s .pre .1 .1 .1)
 
 pub keeps-all-spec : {M : Type 1} → statement M
 keeps-all-spec =
     tie.close
     (tie.spec
+    shown-for-after-requires
     keeps-order-requires
-    keeps-least-time-requires
-    keeps-greatest-time-requires
     keeps-cycle-requires
     returns)

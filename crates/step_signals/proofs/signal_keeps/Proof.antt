@@ -1,5 +1,5 @@
 -- `step_signals::signal_keeps` meets its contract. Assumes nothing.
-use mathlib.Core.Path.{sym, _∙_}
+use mathlib.Core.Path.{refl, sym, _∙_}
 use Rattle.step_signals.proofs.Rules.{goes-keeps}
 use borrow.Author.Needs.{needs}
 use Rattle.step_signals.proofs.signal_keeps.Statement.{statement}
@@ -14,12 +14,32 @@ returns c = sym (goes-keeps _ _ _ _ (sym (c .before .goes-on .ensures) ∙ c .if
 signal-in-requires : tie.Need-signal-in-requires
 signal-in-requires c κs = search needs
 
+place-of-requires : tie.Need-place-of-requires
+place-of-requires c κs = search needs
+
+least-time-requires : tie.Need-least-time-requires
+least-time-requires c κs =
+    let shown = c .place-of .ensures in
+    let ready = rw (← c .before .signal-in .ensures) at (c .before .before .before .before .before .pre .0 .ready) in
+    search needs
+
+place-of-requires-2 : tie.Need-place-of-requires-2
+place-of-requires-2 c κs = search needs
+
+greatest-time-requires : tie.Need-greatest-time-requires
+greatest-time-requires c κs = let phase = c .place-of2 .ensures in search needs
+
 keeps-all-requires : tie.Need-keeps-all-requires
-keeps-all-requires c κs = let s = c .before .before .before .before in (rw (c .signal-in .ensures) (s .pre .0 .ready), s .pre .1)
+keeps-all-requires c κs =
+    let s = c .before .before .before .before .before .before .before .before in
+    let is = c .before .before .before .before .signal-in .ensures in (
+      rw is (s .pre .0 .ready),
+      (s .pre .1 .1, (c .before .before .least-time .ensures ∙ rw (c .before .before .before .place-of .ensures, is) refl, c .greatest-time .ensures ∙ rw (c .before .place-of2 .ensures, is) refl)),
+    )
 
 returns-2 : tie.Need-returns-2
-returns-2 c = rw (c .keeps-all .ensures, c .before .signal-in .ensures)
+returns-2 c = rw (c .keeps-all .ensures, c .before .before .before .before .before .signal-in .ensures)
 
 pub signal-keeps-spec : {M : Type 1} → statement M
 signal-keeps-spec =
-    tie.close (tie.spec goes-on-requires returns signal-in-requires keeps-all-requires returns-2)
+    tie.close (tie.spec goes-on-requires returns signal-in-requires place-of-requires least-time-requires place-of-requires-2 greatest-time-requires keeps-all-requires returns-2)
