@@ -167,6 +167,17 @@ module _ (network plan : List Line) where
           from-all n,
         )
 
+    -- while rule 17 is kept, the network holds what has entered and not left, and a step changes that by what it admits and lets out
+    vehicles-are : (n : ℕ) → n ≤ stepCount network → ((m i : ℕ) → m < n → i < linkCount network → rule17 network plan m i ≡ true)
+        → vehicles network plan n + sum (linkCount network) (left network plan n) ≡ sum (linkCount network) (entered network plan n)
+    unfolding vehicles held
+    vehicles-are n h kept = sum-sub (linkCount network) (entered network plan n) (left network plan n) (λ i l. left-entered n i h l (λ m u. kept m i u l))
+
+    pub balance-while : (n : ℕ) → n < stepCount network → ((m i : ℕ) → m ≤ n → i < linkCount network → rule17 network plan m i ≡ true)
+        → vehicles network plan (suc n) + allLetOut network plan n ≡ vehicles network plan n + allAdmitted network plan n
+    balance-while n h kept =
+        omega (arith, vehicles-are n (omega arith) (λ m i u. kept m i (omega arith)), vehicles-are (suc n) h (λ m i u. kept m i (omega arith)), entered-step n, left-step n)
+
   module _ (accepted : AcceptedPlan network plan) where
     pub left-over : (n i : ℕ) → n ≤ stepCount network → i < linkCount network → left network plan n i ≤ standing network i + sum (onTimeline network n) (over n i)
     left-over n i h l =
@@ -180,12 +191,8 @@ module _ (network plan : List Line) where
     pub within-capacity : (n i : ℕ) → n ≤ stepCount network → i < linkCount network → entered network plan n i - left network plan n i ≤ capacity network i
     within-capacity n i h l = held-capacity (accepted .valid) n i l (λ m k. accepted .lawful m (omega arith) .keeps18 i l)
 
-    vehicles-are : (n : ℕ) → n ≤ stepCount network → vehicles network plan n + sum (linkCount network) (left network plan n) ≡ sum (linkCount network) (entered network plan n)
-    unfolding vehicles held
-    vehicles-are n h = sum-sub (linkCount network) (entered network plan n) (left network plan n) (λ i l. left-within n i h l)
-
     pub balance-step : (n : ℕ) → n < stepCount network → vehicles network plan (suc n) + allLetOut network plan n ≡ vehicles network plan n + allAdmitted network plan n
-    balance-step n h = omega (arith, vehicles-are n (omega arith), vehicles-are (suc n) h, entered-step (accepted .valid) n, left-step (accepted .valid) n)
+    balance-step n h = balance-while (accepted .valid) n h (λ m i u l. accepted .lawful m (omega arith) .keeps17 i l)
 
     balance-from : (a d : ℕ) → a + d ≤ stepCount network
         → vehicles network plan (a + d) + sum d (λ k. allLetOut network plan (a + k)) ≡ vehicles network plan a + sum d (λ k. allAdmitted network plan (a + k))

@@ -12,7 +12,7 @@ use lib.ListN.{length}
 use Rattle.search.specs.declared.Verdict.{Verdict}
 use Rattle.search.specs.declared.Verdict.the-variants.{Passes, Refused}
 use Rattle.search.specs.Checks.{refusal, firstFrom, checked, verdict, Hold, Rule, ruleAt, rulesFrom, table}
-use Rattle.search.proofs.Laws.{first-same, first-all, first-stop, first-passes, checked-true, checked-passes, checked-refused}
+use Rattle.search.proofs.Laws.{first-same, first-stop, first-passes, checked-passes, checked-refused}
 
 -- one item of the rule at a place, and the rule over its items, told at a line
 abbrev itemVerdict : ℕ → List Rule → ℕ → ℕ → Verdict
@@ -80,12 +80,6 @@ module _ {rules : List Rule} {place item : ℕ} (w : ItemsKept rules place item)
       (sym (first-stop (ruleVerdict line rules) _ place _ (λ k u. kept-passes line rules k (w .before .kept k u)) h
       (first-stop (itemVerdict line rules place) _ item _ (λ i u. checked-passes _ _ _ _ (w .kept i u)) (rw is l)
       (checked-refused (ruleAt rules place .holds item) _ _ _ (rw is (sym e ∙ not-true r t))))))
-
--- a table that passes: each of its rules holds of every item
-pub table-holds : (line : ℕ) (rules : List Rule) → verdict (table line rules) ≡ Passes → (place : ℕ) → place < length rules
-    → (item : ℕ) → item < ruleAt rules place .items → ruleAt rules place .holds item ≡ true
-unfolding verdict table
-table-holds line rules v place h item l = checked-true _ _ _ _ (first-all (itemVerdict line rules place) _ (first-all (ruleVerdict line rules) _ v place h) item l)
 
 -- every rule of a table holds of every item
 unfoldable pub AllKept : List Rule → Type 0
