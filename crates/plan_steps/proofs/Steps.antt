@@ -269,7 +269,7 @@ module _ {networkText planText : List ℕ} {counts : Counts} {tramsAt : ℕ} {li
 
               asked-of-step : JudgeAsked counts signals line step links movements phases claims (rowFrom counts ledger n) row ledger times arrivals′ curves′ (suc n)
               asked-of-step =
-                  let tables = line-tables valid counted plan-numbers (asked .tables .link-table) (asked .tables .movement-table) offers shown in
+                  let tables = line-tables valid counted plan-numbers (asked .tables .link-table) (asked .tables .movement-table) offers shown (asked .more) in
                   record {
                     signal-tables = record {
                       few = counted .few .signals;

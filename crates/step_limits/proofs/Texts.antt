@@ -10,14 +10,14 @@ use lib.Dec.{leb}
 use lib.ListN.{getD}
 use Rattle.records.specs.Lines.{Line}
 use Rattle.model.specs.Test.{_or_, within}
-use Rattle.model.specs.Network.{linkCount, signalCount, movementCount, signal, signalOf, fromLink}
+use Rattle.model.specs.Network.{linkCount, signalCount, movementCount, stepCount, signal, signalOf, fromLink}
 use Rattle.model.specs.Flows.{shownIn, shownMask, isOpen}
 use Rattle.model.specs.Rules.{validPhases, rule15, rule25, rule26, rule27}
 use Rattle.model.proofs.Tests.{and-right}
 use Rattle.model.proofs.Phases.{phase-of-le}
 use Rattle.model.proofs.Accepted.{ValidNetwork}
 use Rattle.model.proofs.Bounds.{KeepsLimits}
-use Rattle.model.proofs.Limits.{link-limits, movement-limits}
+use Rattle.model.proofs.Limits.{link-limits, movement-limits, step-limits}
 use Rattle.tables.specs.declared.Counts.{Counts}
 use Rattle.tables.specs.Tables.{CountsHold, LinkTable, MovementTable, PlanNumbers}
 use Rattle.tables.proofs.Tables.{exit-rate-at, signal-of-at, phase-mask-at, from-link-at, rate-at}
@@ -73,8 +73,8 @@ module _ {network plan : List Line} {n : ℕ} {counts : Counts} {line step links
       rw (shown .holds r h) (unfold shownIn in le-trans (phase-of-le (shownMask network plan n r) (signal network r .phases)) p)
 
   -- the tables are those that the tests ask for
-  pub line-tables : LineTables counts line step links movements phases
-  line-tables =
+  pub line-tables : n < stepCount network → LineTables counts line step links movements phases
+  line-tables more =
       record {
         tables = record {
           few = counted .few;
@@ -85,5 +85,13 @@ module _ {network plan : List Line} {n : ℕ} {counts : Counts} {line step links
           signal-last = λ i h. omega (arith, signal-of-at link-table i (omega arith), link-limits network valid i (omega arith), counted .signals);
           phase-last = λ r h. phase-small r (omega (arith, counted .signals));
         };
-        step-size = offers .size;
+        link-tables = record {
+          few = counted .few;
+          line-size = numbers .size;
+          step-size = offers .size;
+          links-size = link-table .size;
+          short = omega (arith, offers .lasts, step-limits network valid n more .length-limit);
+          exit-limit = λ i h. omega (arith, exit-rate-at link-table i (omega (arith, counted .links)), link-limits network valid i (omega (arith, counted .links)));
+        };
+        rate-limit = λ j h. omega (arith, rate-at movement-table j (omega (arith, counted .movements)), movement-limits network valid j (omega (arith, counted .movements)));
       }

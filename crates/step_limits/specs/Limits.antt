@@ -76,7 +76,17 @@ pub record OpenTables (counts : Counts) (line links movements phases : List ℕ)
   pub signal-last : (i : ℕ) → i < counts .links → signalIn links i ≤ counts .signals
   pub phase-last : (r : ℕ) → r < counts .signals → getD phases r 0 ≤ 8
 
+-- the tables that the limits of links read
+pub record LinkTables (counts : Counts) (line step links : List ℕ) : Type 0 where
+  pub few : Few counts
+  pub line-size : length line ≡ lineSize
+  pub step-size : length step ≡ stepSize
+  pub links-size : length links ≡ linkTableSize
+  pub short : lengthIn step ≤ 60
+  pub exit-limit : (i : ℕ) → i < counts .links → exitRateIn links i ≤ 10_000
+
 -- the tables that the four limits read
 pub record LineTables (counts : Counts) (line step links movements phases : List ℕ) : Type 0 where
   pub tables : OpenTables counts line links movements phases
-  pub step-size : length step ≡ stepSize
+  pub link-tables : LinkTables counts line step links
+  pub rate-limit : (j : ℕ) → j < counts .movements → rateIn movements j ≤ 10_000

@@ -6,8 +6,8 @@ ghost use lib.ListN.{length, getD};
 ghost use mathlib.Core.Bool.{true};
 ghost use Rattle.model.specs.Network.{maxLinks, maxSignals};
 ghost use Rattle.tables.specs.Places.{Few};
-ghost use Rattle.tables.specs.Fields.{linkTableSize, movementTableSize, stepSize, lineSize, signalIn};
-ghost use Rattle.step_limits.specs.Limits.{admitsOffer, letsOutRate, isOpenIn, movesRate, movesOpen, limitItems, limitRuleHolds, LinkLimitsKept, MovementKept, MovementLimitsKept, LimitsKept, OpenTables, LineTables};
+ghost use Rattle.tables.specs.Fields.{linkTableSize, movementTableSize, stepSize, lineSize, signalIn, rateIn, lengthIn};
+ghost use Rattle.step_limits.specs.Limits.{admitsOffer, letsOutRate, isOpenIn, movesRate, movesOpen, limitItems, limitRuleHolds, LinkLimitsKept, MovementKept, MovementLimitsKept, LimitsKept, LinkTables, OpenTables, LineTables};
 use tables::Counts;
 use tables::admitted;
 use tables::exit_rate;
@@ -17,14 +17,13 @@ use tables::moved;
 use tables::phase_mask;
 use tables::rate;
 use tables::signal_of;
-use tables::times;
-use tables::wide;
 
-// A volume is at most what a rate lets through in so many seconds.
+// A volume is at most what a rate lets through in so many seconds: both are small enough for 32 bits.
 fn within_rate(volume: u32, rate: u32, seconds: u32) -> bool
+    requires { ⌜ (rate ≤ 10000) × (seconds ≤ 60) ⌝ }
     ensures { λ r. ⌜ r ≡ leb volume (rate * seconds) ⌝ }
 {
-    wide(volume) <= times(rate, seconds)
+    volume <= rate * seconds
 }
 
 // 15, link i: admitted is at most who is at its entry, those who wait and the step's demand.
@@ -37,7 +36,8 @@ fn admits_offer(line: &[u32], step: &[u32], counts: Counts, i: usize) -> bool
 
 // 25, link i: let out is at most exit rate × length.
 fn lets_out_rate(line: &[u32], step: &[u32], links: &[u32], counts: Counts, i: usize) -> bool
-    requires { ⌜ (i < counts .links) × Few counts × (length (now line) ≡ lineSize) × (length (now step) ≡ stepSize) × (length (now links) ≡ linkTableSize) ⌝ }
+    requires { ⌜ LinkTables counts (now line) (now step) (now links) ⌝ }
+    requires { ⌜ i < counts .links ⌝ }
     ensures { λ r. ⌜ r ≡ letsOutRate counts (now (line .entry)) (now (step .entry)) (now (links .entry)) i ⌝ }
 {
     within_rate(let_out(line, counts, i), exit_rate(links, i), step[0])
@@ -59,6 +59,7 @@ fn is_open(links: &[u32], phases: &[u32], i: usize) -> bool
 // 26, movement j: it is at most its rate × length.
 fn moves_rate(line: &[u32], step: &[u32], movements: &[u32], counts: Counts, j: usize) -> bool
     requires { ⌜ (j < counts .movements) × Few counts × (length (now line) ≡ lineSize) × (length (now step) ≡ stepSize) × (length (now movements) ≡ movementTableSize) ⌝ }
+    requires { ⌜ (rateIn (now movements) j ≤ 10000) × (lengthIn (now step) ≤ 60) ⌝ }
     ensures { λ r. ⌜ r ≡ movesRate counts (now (line .entry)) (now (step .entry)) (now (movements .entry)) j ⌝ }
 {
     within_rate(moved(line, counts, j), rate(movements, j), step[0])
@@ -109,7 +110,7 @@ pub fn limit_rule(
 
 // Whether all links keep 15 and 25, in one pass over them.
 fn keeps_link_limits(line: &[u32], step: &[u32], links: &[u32], counts: Counts) -> bool
-    requires { ⌜ Few counts × (length (now line) ≡ lineSize) × (length (now step) ≡ stepSize) × (length (now links) ≡ linkTableSize) ⌝ }
+    requires { ⌜ LinkTables counts (now line) (now step) (now links) ⌝ }
     ensures { λ r. ⌜ (r ≡ true → LinkLimitsKept counts (now (line .entry)) (now (step .entry)) (now (links .entry)) (counts .links)) ⌝ }
 {
     let count = counts.links;

@@ -18,7 +18,10 @@ shared-slice-read-within-rate : tie.Need-shared-slice-read-within-rate
 shared-slice-read-within-rate c = search needs
 
 within-rate-requires : tie.Need-within-rate-requires
-within-rate-requires c κs = search needs
+within-rate-requires c κs =
+    let s = c .before .before .before .before .before .before in
+    let small = s .pre .0 .exit-limit (s .args .i) (s .pre .1) in
+    search needs
 
 returns : tie.Need-returns
 unfolding letsOutRate

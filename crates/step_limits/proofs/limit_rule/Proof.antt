@@ -17,12 +17,13 @@ lets-out-rate-requires : tie.Need-lets-out-rate-requires
 lets-out-rate-requires c κs =
     let asked = c .before .before .before .before .before .before .pre .0 in
     let h : c .before .before .before .before .before .before .args .item < c .before .before .before .before .before .before .args .counts .links = rw (c .match .keys2) at (c .before .before .before .before .before .before .pre .1) in
-    search needs
+    (asked .link-tables, h)
 
 moves-rate-requires : tie.Need-moves-rate-requires
 moves-rate-requires c κs =
     let asked = c .before .before .before .before .before .before .pre .0 in
     let h : c .before .before .before .before .before .before .args .item < c .before .before .before .before .before .before .args .counts .movements = rw (c .match .keys3) at (c .before .before .before .before .before .before .pre .1) in
+    let small = asked .rate-limit (c .before .before .before .before .before .before .args .item) h in
     search needs
 
 moves-open-requires : tie.Need-moves-open-requires

@@ -20,7 +20,10 @@ shared-slice-read-within-rate : tie.Need-shared-slice-read-within-rate
 shared-slice-read-within-rate c = search needs
 
 within-rate-requires : tie.Need-within-rate-requires
-within-rate-requires c κs = search needs
+within-rate-requires c κs =
+    let s = c .before .before .before .before .before .before .before .before .before in
+    let small = s .pre .0 .rate-limit (s .args .j) (s .pre .1) in
+    search needs
 
 returns-2 : tie.Need-returns-2
 returns-2 c = λ e. let z : _≡_ {A = ℕ} 0 1 = cc in absurd (omega arith)
