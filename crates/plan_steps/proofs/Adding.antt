@@ -1,11 +1,12 @@
 -- The totals, one step after another. Assumes nothing.
-use Prim.Native.Nat.{ℕ, suc, _+_, _*_, _≤_, _<_}
+use Prim.Native.Nat.{ℕ, suc, _+_, _*_, _-_, _≤_, _<_}
 use mathlib.Core.Path.{_≡_, ap, _∙_}
 use mathlib.Core.Bool.{true}
 use mathlib.Core.List.{List}
+use native.Mathlib.Decide.{decLe}
 use native.Mathlib.Nat.{mul-le-mul-right}
 use native.Mathlib.Omega.{arith}
-use lib.ListN.{length, getD}
+use lib.ListN.{getD}
 use Rattle.search.specs.declared.Verdict.the-variants.{Passes}
 use Rattle.search.specs.Checks.{verdict, Hold}
 use Rattle.search.proofs.Laws.{hold-of-passes}
@@ -13,15 +14,16 @@ use Rattle.records.specs.Lines.{Line}
 use Rattle.model.specs.declared.Totals.{Totals}
 use Rattle.model.specs.Sum.{sum}
 use Rattle.model.specs.Network.{maxSteps, linkCount, stepCount}
-use Rattle.model.specs.Flows.{outside, underWay, doubledTime, totals}
-use Rattle.model.specs.Rules.{rule18}
+use Rattle.model.specs.Flows.{vehicles, allAdmitted, allLetOut, outside, underWay, doubledTime, totals}
+use Rattle.model.specs.Rules.{rule17, rule18}
 use Rattle.model.specs.Table.{networkChecks, lineChecks}
 use Rattle.model.proofs.Sums.{sum-ext}
 use Rattle.model.proofs.Accepted.{valid-network, lawful-step, LawfulStep}
 use Rattle.model.proofs.Limits.{step-limits}
+use Rattle.model.proofs.Flow.{balance-while}
 use Rattle.model.proofs.Bounds.{KeepsLimits, lawful-limits, admitted-total-small, let-out-total-small, vehicles-small, outside-small, doubled-small}
 use Rattle.tables.specs.declared.Counts.{Counts}
-use Rattle.tables.specs.Fields.{lineSize, rowSize, lengthIn, admittedIn, letOutIn}
+use Rattle.tables.specs.Fields.{lengthIn, admittedIn, letOutIn}
 use Rattle.tables.specs.Tables.{CountsHold, PlanNumbers}
 use Rattle.waiting.specs.Waiting.{waitingIn, StepOffers}
 use Rattle.step_rows.specs.Rows.{RowHolds}
@@ -32,14 +34,20 @@ use Rattle.plan_steps.specs.Totals.{heldIn, totalsAfter, TotalsAsked}
 pub outside-sum : (links : ℕ) (waiting : List ℕ) {total : ℕ} → total ≡ sum links (λ i. getD waiting (0 + i) 0) → total ≡ sum links (waitingIn waiting)
 outside-sum links waiting e = e ∙ sum-ext links _ _ (λ i l. ap (λ k. getD waiting k 0) (omega arith))
 
+-- what a line lets out, by its place in the line
+pub all-out : (counts : Counts) (line : List ℕ) {l : ℕ} → l ≡ sum (counts .links) (λ i. getD line (counts .signals + counts .links + i) 0) → l ≡ sum (counts .links) (letOutIn counts line)
+all-out counts line e = e ∙ sum-ext (counts .links) _ _ (λ i u. ap (λ k. getD line k 0) (omega arith))
+
+-- no more leave than there are
+pub enough-inside : {t : Totals} {before after : ℕ} {counts : Counts} {line step : List ℕ} → TotalsAsked t before after counts line step → {a l : ℕ}
+    → a ≡ sum (counts .links) (admittedIn counts line) → l ≡ sum (counts .links) (λ i. getD line (counts .signals + counts .links + i) 0) → l ≤ t .inside + a
+enough-inside {counts = counts} {line} asked ea el = rw ea (omega (arith, all-out counts line el, asked .enough))
+
 -- what `add_step` returns
-pub totals-made : (t : Totals) (before after : ℕ) (counts : Counts) (line step row : List ℕ) (a l h w : ℕ)
-    → a ≡ sum (counts .links) (admittedIn counts line) → l ≡ sum (counts .links) (λ i. getD line (counts .signals + counts .links + i) 0)
-    → h ≡ heldIn counts row → w ≡ lengthIn step * (t .inside + before + (h + after))
-    → _≡_ {A = Totals} (record { admitted = t .admitted + a; «let_out» = t .«let_out» + l; inside = h; «doubled_time» = t .«doubled_time» + w }) (totalsAfter t before after counts line step row)
-totals-made t before after counts line step row a l h w ea el eh ew =
-    let out : l ≡ sum (counts .links) (letOutIn counts line) = el ∙ sum-ext (counts .links) _ _ (λ i u. ap (λ k. getD line k 0) (omega arith)) in
-    rw (ew, eh, out, ea)
+pub totals-made : (t : Totals) (before after : ℕ) (counts : Counts) (line step : List ℕ) (a l w : ℕ)
+    → a ≡ sum (counts .links) (admittedIn counts line) → l ≡ sum (counts .links) (letOutIn counts line) → w ≡ lengthIn step * (t .inside + before + (t .inside + a - l + after))
+    → _≡_ {A = Totals} (record { admitted = t .admitted + a; «let_out» = t .«let_out» + l; inside = t .inside + a - l; «doubled_time» = t .«doubled_time» + w }) (totalsAfter t before after counts line step)
+totals-made t before after counts line step a l w ea el ew = rw (ew, el, ea)
 
 -- the rules of a line that has passed
 pub passed-lawful : (network plan : List Line) (m : ℕ) → verdict (lineChecks network plan m) ≡ Passes → LawfulStep network plan m
@@ -58,33 +66,44 @@ module _ (network plan : List Line) (holds : Hold (networkChecks network)) (coun
     keeps-18 : (m : ℕ) → m < n → (i : ℕ) → i < linkCount network → rule18 network plan m i ≡ true
     keeps-18 m l = passed-lawful network plan m (passed m l) .keeps18
 
-    pub totals-asked : (before after : ℕ) (line step row : List ℕ) → before ≡ outside network plan n → after ≡ outside network plan (suc n) → n < stepCount network → length line ≡ lineSize
-        → StepOffers network plan n step → length row ≡ rowSize → TotalsAsked t before after counts line step row
-    unfolding totals
-    totals-asked before after line step row eb ea more ls so rs =
-        let valid = valid-network network holds in
-        record {
-          few = counted .few;
-          line-size = ls;
-          step-size = so .size;
-          row-size = rs;
-          short = omega (arith, so .lasts, step-limits network valid n more .length-limit);
-          few-admitted = rw at (admitted-total-small network plan holds n h keeps-limits);
-          few-let-out = rw at (omega (arith, let-out-total-small network plan holds n h keeps-limits, mul-le-mul-right 14_400_000 few-steps));
-          few-inside = rw at (omega (arith, vehicles-small network plan holds n keeps-18, mul-le-mul-right 2_000_000_000 few-links));
-          few-before = rw eb (outside-small network plan holds n h);
-          few-after = rw ea (outside-small network plan holds (suc n) more);
-          little-time = rw at (omega (arith, doubled-small network plan holds n h keeps-18, mul-le-mul-right 10_696_896_000_000 few-steps));
-        }
-      where
-        few-steps : n ≤ maxSteps
-        few-steps = omega (arith, h, counted .steps, counted .few .steps)
+    module _ (more : n < stepCount network) (lawful : LawfulStep network plan n) {before after : ℕ} {line step : List ℕ} (eb : before ≡ outside network plan n) (ea : after ≡ outside network plan (suc n))
+        (pn : PlanNumbers network plan n line) (so : StepOffers network plan n step) where
+      -- by the steps that have passed, and this one
+      keeps-17 : (m i : ℕ) → m ≤ n → i < linkCount network → rule17 network plan m i ≡ true
+      keeps-17 m i u l = elim (decLe n m) [
+        | yes w ↦ let q : m ≡ n = omega arith in rw q (lawful .keeps17 i l)
+        | no w ↦ passed-lawful network plan m (passed m (omega arith)) .keeps17 i l
+      ]
 
-        few-links : linkCount network ≤ 24
-        few-links = omega (arith, counted .links, counted .few .links)
+      balanced : vehicles network plan (suc n) + allLetOut network plan n ≡ vehicles network plan n + allAdmitted network plan n
+      balanced = balance-while network plan (valid-network network holds) n more keeps-17
 
-    pub totals-next : (before after : ℕ) (line step row : List ℕ) → before ≡ outside network plan n → after ≡ outside network plan (suc n) → PlanNumbers network plan n line
-        → StepOffers network plan n step → RowHolds network plan (suc n) row → totalsAfter t before after counts line step row ≡ totals network plan (suc n)
-    unfolding totals sum doubledTime underWay
-    totals-next before after line step row eb ea pn so r =
-        rw (at, eb, ea, all-admitted-is counted pn, all-let-out-is counted pn, vehicles-is counted r, so .lasts)
+      few-steps : n ≤ maxSteps
+      few-steps = omega (arith, h, counted .steps, counted .few .steps)
+
+      few-links : linkCount network ≤ 24
+      few-links = omega (arith, counted .links, counted .few .links)
+
+      pub totals-asked : TotalsAsked t before after counts line step
+      unfolding totals
+      totals-asked =
+          let valid = valid-network network holds in
+          record {
+            few = counted .few;
+            line-size = pn .size;
+            step-size = so .size;
+            short = omega (arith, so .lasts, step-limits network valid n more .length-limit);
+            few-admitted = rw at (admitted-total-small network plan holds n h keeps-limits);
+            few-let-out = rw at (omega (arith, let-out-total-small network plan holds n h keeps-limits, mul-le-mul-right 14_400_000 few-steps));
+            few-inside = rw at (omega (arith, vehicles-small network plan holds n keeps-18, mul-le-mul-right 2_000_000_000 few-links));
+            enough = rw (at, all-admitted-is counted pn, all-let-out-is counted pn) (omega (arith, balanced));
+            few-before = rw eb (outside-small network plan holds n h);
+            few-after = rw ea (outside-small network plan holds (suc n) more);
+            little-time = rw at (omega (arith, doubled-small network plan holds n h keeps-18, mul-le-mul-right 10_696_896_000_000 few-steps));
+          }
+
+      pub totals-next : totalsAfter t before after counts line step ≡ totals network plan (suc n)
+      unfolding totals sum doubledTime underWay
+      totals-next =
+          let held : vehicles network plan n + allAdmitted network plan n - allLetOut network plan n ≡ vehicles network plan (suc n) = omega (arith, balanced) in
+          rw (at, eb, ea, all-admitted-is counted pn, all-let-out-is counted pn, held, so .lasts)

@@ -345,18 +345,18 @@ module _ {networkText planText : List ℕ} {counts : Counts} {tramsAt : ℕ} {li
                         asked-size = omega (arith, claimed .size, counted .few .signals);
                       }
 
-                  pub next-asked : {waiting′ : List ℕ} → Waits counts step line (counts .links) waiting′ → NextAsked placed counts step line row′ waiting′
+                  pub next-asked : {waiting′ : List ℕ} → Waits counts step line (counts .links) waiting′ → NextAsked placed counts step line waiting′
                   next-asked stay =
                       record {
                         few-steps = step-few;
                         waiting-size = stay .size;
-                        totals-asked = totals-asked net pln (asked .tables .holds) counts counted n (asked .state-at .within) (state .totals) (asked .state-at .totals-at) (asked .state-at .passed) _ _ line step row′
-                            (asked .state-at .outside-at) (outside-is counted (waiting-at stay)) (asked .more) (plan-numbers .size) offers (same ∙ row-size);
+                        totals-asked = totals-asked net pln (asked .tables .holds) counts counted n (asked .state-at .within) (state .totals) (asked .state-at .totals-at) (asked .state-at .passed) (asked .more) lawful
+                            (asked .state-at .outside-at) (outside-is counted (waiting-at stay)) plan-numbers offers;
                       }
 
                   module _ {waiting′ ledger′ : List ℕ} (stay : Waits counts step line (counts .links) waiting′)
                       (wrote : ledger′ ≡ take (2 * (n + 1) * counts .links) ledger ++ (take (2 * counts .links) row′ ++ drop (2 * (n + 1) * counts .links + 2 * counts .links) ledger))
-                      {signals′ : List ℕ} (advanced : Advanced signals (counts .signals) phases claims (lengthIn step) signals′) {next : State} (on : NextGot placed counts step line row′ waiting′ next) where
+                      {signals′ : List ℕ} (advanced : Advanced signals (counts .signals) phases claims (lengthIn step) signals′) {next : State} (on : NextGot placed counts step line waiting′ next) where
                     rows-written : ledger′ ≡ written net pln ledger (suc (suc n))
                     rows-written =
                         next-written net pln ledger row′ (suc n) (asked .state-at .rows) (next-row-front counted plan-numbers (asked .tables .movement-table) before (drop (2 * counts .links) row) made)
@@ -385,8 +385,8 @@ module _ {networkText planText : List ℕ} {counts : Counts} {tramsAt : ℕ} {li
                               (signals-next net pln n signals signals′ phases claims (lengthIn step) (counts .signals) (asked .state-at .signals-at) shown claimed lawful (counted .signals)
                               (offers .lasts) advanced);
                           totals-at = rw is-next
-                              (on .totals ∙ totals-next net pln (asked .tables .holds) counts counted n (asked .state-at .within) (state .totals) (asked .state-at .totals-at) (asked .state-at .passed) _ _ line step row′ (asked .state-at .outside-at) outside-next plan-numbers offers
-                              (rw made after));
+                              (on .totals ∙ totals-next net pln (asked .tables .holds) counts counted n (asked .state-at .within) (state .totals) (asked .state-at .totals-at) (asked .state-at .passed) (asked .more) lawful
+                              (asked .state-at .outside-at) outside-next plan-numbers offers);
                           outside-at = rw is-next outside-next;
                           arrivals-at = rw is-next arrivals-at;
                           curves-at = moved .curves-at;

@@ -54,17 +54,17 @@ pub record StateAt (networkText planText : List ℕ) (state : State) (signals ar
   pub rows : ledger ≡ written (lines networkText) (planOf networkText planText) ledger (suc (state .boundary))
 
 -- what the state after a step that is kept asks, by the step's tables ..
-pub record NextAsked (state : State) (counts : Counts) (step line row waiting : List ℕ) : Type 0 where
+pub record NextAsked (state : State) (counts : Counts) (step line waiting : List ℕ) : Type 0 where
   pub few-steps : state .boundary < maxSteps
   pub waiting-size : length waiting ≡ maxLinks
-  pub totals-asked : TotalsAsked (state .totals) (state .outside) (sum (counts .links) (waitingIn waiting)) counts line step row
+  pub totals-asked : TotalsAsked (state .totals) (state .outside) (sum (counts .links) (waitingIn waiting)) counts line step
 
 -- .. and is: it has the state's places, which are those of the next lines already
-pub record NextGot (state : State) (counts : Counts) (step line row waiting : List ℕ) (next : State) : Type 0 where
+pub record NextGot (state : State) (counts : Counts) (step line waiting : List ℕ) (next : State) : Type 0 where
   pub boundary : next .boundary ≡ state .boundary + 1
   pub step-place : next .«step_at» ≡ state .«step_at»
   pub plan-place : next .«plan_at» ≡ state .«plan_at»
-  pub totals : next .totals ≡ totalsAfter (state .totals) (state .outside) (next .outside) counts line step row
+  pub totals : next .totals ≡ totalsAfter (state .totals) (state .outside) (next .outside) counts line step
   pub outside : next .outside ≡ sum (counts .links) (waitingIn waiting)
 
 -- what taking the next step asks, with room for the row after it ..

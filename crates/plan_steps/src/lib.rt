@@ -39,28 +39,27 @@ pub struct Taken {
 
 // Length × (vehicles under way at the step's start + at its end).
 fn travel_time(seconds: u32, start: u64, end: u64) -> u64
-    requires { ⌜ (seconds ≤ 60) × (start ≤ 144220015080) × (end ≤ 144220015080) ⌝ }
-    ensures { λ r. ⌜ (r ≡ seconds * (start + end)) × (r ≤ 17306401809600) ⌝ }
+    requires { ⌜ (seconds ≤ 60) × (start ≤ 192220015080) × (end ≤ 192220015080) ⌝ }
+    ensures { λ r. ⌜ (r ≡ seconds * (start + end)) × (r ≤ 23066401809600) ⌝ }
 {
     wide(seconds) * (start + end)
 }
 
-// The totals with one step more. Those who wait outside, so many before the step and after it, are in its travel time alone.
+// The totals with one step more. What is inside changes by what the step admits and lets out; those who wait outside, so many before the step and after it, are in its travel time alone.
 fn add_step(
     totals: Totals,
     before: u64,
     after: u64,
     line: &[u32],
     step: &[u32],
-    row: &[u32],
     counts: Counts,
 ) -> Totals
-    requires { ⌜ TotalsAsked totals before after counts (now line) (now step) (now row) ⌝ }
-    ensures { λ r. ⌜ r ≡ totalsAfter totals before after counts (now (line .entry)) (now (step .entry)) (now (row .entry)) ⌝ }
+    requires { ⌜ TotalsAsked totals before after counts (now line) (now step) ⌝ }
+    ensures { λ r. ⌜ r ≡ totalsAfter totals before after counts (now (line .entry)) (now (step .entry)) ⌝ }
 {
     let admitted = step_rows::sum_of(line, counts.signals, counts.links);
     let let_out = step_rows::sum_of(line, counts.signals + counts.links, counts.links);
-    let inside = step_rows::held_in(row, counts.links);
+    let inside = totals.inside + admitted - let_out;
     let time = travel_time(step[0], totals.inside + before, inside + after);
     Totals {
         admitted: totals.admitted + admitted,
@@ -70,28 +69,13 @@ fn add_step(
     }
 }
 
-// The state after a step that is kept: `row` is the row after it, `waiting` has those who wait after it, and the state has the places of the next lines already.
-fn next_state(
-    state: State,
-    step: &[u32],
-    line: &[u32],
-    row: &[u32],
-    waiting: &[u32],
-    counts: Counts,
-) -> State
-    requires { ⌜ NextAsked state counts (now step) (now line) (now row) (now waiting) ⌝ }
-    ensures { λ r. ⌜ NextGot state counts (now (step .entry)) (now (line .entry)) (now (row .entry)) (now (waiting .entry)) r ⌝ }
+// The state after a step that is kept: `waiting` has those who wait after it, and the state has the places of the next lines already.
+fn next_state(state: State, step: &[u32], line: &[u32], waiting: &[u32], counts: Counts) -> State
+    requires { ⌜ NextAsked state counts (now step) (now line) (now waiting) ⌝ }
+    ensures { λ r. ⌜ NextGot state counts (now (step .entry)) (now (line .entry)) (now (waiting .entry)) r ⌝ }
 {
     let outside = step_rows::sum_of(waiting, 0, counts.links);
-    let totals = add_step(
-        state.totals,
-        state.outside,
-        outside,
-        line,
-        step,
-        row,
-        counts,
-    );
+    let totals = add_step(state.totals, state.outside, outside, line, step, counts);
     State {
         boundary: state.boundary + 1,
         step_at: state.step_at,
@@ -188,7 +172,7 @@ fn take_step(
     step_signals::advance(signals, counts.signals, &phases, &asked, step[0]);
     state.step_at = step_end;
     state.plan_at = plan_end;
-    let next = next_state(state, &step, &line, &row, waiting, counts);
+    let next = next_state(state, &step, &line, waiting, counts);
     Taken {
         verdict,
         state: next,

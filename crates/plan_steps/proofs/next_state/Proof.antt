@@ -9,13 +9,13 @@ sum-of-requires : tie.Need-sum-of-requires
 sum-of-requires c κs = search needs
 
 add-step-requires : tie.Need-add-step-requires
-add-step-requires c κs = let a = c .before .before .before .before .before .args in rw (outside-sum (a .counts .links) (a .waiting .now) (c .sum-of .ensures .0)) (c .before .before .before .before .before .pre .totals-asked)
+add-step-requires c κs = let a = c .before .before .before .before .args in rw (outside-sum (a .counts .links) (a .waiting .now) (c .sum-of .ensures .0)) (c .before .before .before .before .pre .totals-asked)
 
-add-t9 : tie.Need-add-t9
-add-t9 c = search needs
+add-t8 : tie.Need-add-t8
+add-t8 c = search needs
 
 returns : tie.Need-returns
-returns c = let a = c .before .before .before .before .before .before .before .args in record { boundary = refl; step-place = refl; plan-place = refl; totals = c .before .add-step .ensures; outside = outside-sum (a .counts .links) (a .waiting .now) (c .before .before .sum-of .ensures .0) }
+returns c = let a = c .before .before .before .before .before .before .args in record { boundary = refl; step-place = refl; plan-place = refl; totals = c .before .add-step .ensures; outside = outside-sum (a .counts .links) (a .waiting .now) (c .before .before .sum-of .ensures .0) }
 
 pub next-state-spec : {M : Type 1} → statement M
 next-state-spec =
@@ -23,5 +23,5 @@ next-state-spec =
     (tie.spec
     sum-of-requires
     add-step-requires
-    add-t9
+    add-t8
     returns)
