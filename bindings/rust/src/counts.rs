@@ -6,22 +6,22 @@ use crate::{library, refused, required_ledger_len, Refusal};
 #[derive(Clone, Copy, Debug, PartialEq, Eq, Hash)]
 pub struct Counts {
     /// Links, at least one.
-    pub links: u32,
+    pub links: usize,
     /// Signals.
-    pub signals: u32,
+    pub signals: usize,
     /// Movements.
-    pub movements: u32,
+    pub movements: usize,
     /// Steps, at least one.
-    pub steps: u32,
+    pub steps: usize,
     /// Tram lines.
-    pub trams: u32,
+    pub trams: usize,
 }
 
 impl Counts {
     /// The ledger length that the network needs.
     #[must_use]
     pub const fn required_ledger_len(&self) -> usize {
-        required_ledger_len(self.links as usize, self.steps as usize)
+        required_ledger_len(self.links, self.steps)
     }
 }
 
@@ -46,11 +46,11 @@ pub fn network_counts(network: &[u8]) -> Result<Counts, Refusal> {
     let result = unsafe { library::plancheck_network_counts(network.as_ptr(), network.len()) };
     refused(result.number, result.line, result.item)?;
     Ok(Counts {
-        links: result.links,
-        signals: result.signals,
-        movements: result.movements,
-        steps: result.steps,
-        trams: result.trams,
+        links: result.links as usize,
+        signals: result.signals as usize,
+        movements: result.movements as usize,
+        steps: result.steps as usize,
+        trams: result.trams as usize,
     })
 }
 

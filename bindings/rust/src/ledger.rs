@@ -1,9 +1,11 @@
 //! A ledger read by boundary and link.
 
-/// What has entered and what has left one link by a boundary, in thousandths of a vehicle.
-#[derive(Clone, Copy, Debug, PartialEq, Eq, Hash)]
+use crate::Counts;
+
+/// What has entered and what has left one link by a boundary, or in a past step, in thousandths of a vehicle.
+#[derive(Clone, Copy, Debug, Default, PartialEq, Eq, Hash)]
 pub struct Volumes {
-    /// The standing start, and all that came onto the link.
+    /// All that came onto the link; by a boundary, with the standing start.
     pub entered: u32,
     /// All that went from it.
     pub left: u32,
@@ -13,13 +15,14 @@ pub struct Volumes {
 /// from 0, links from 1. The ledger is only read, and whatever it holds, nothing here panics.
 ///
 /// ```
-/// use plancheck::{check_plan, required_ledger_len, Rows};
+/// use plancheck::{check_plan, network_counts, Rows};
 ///
 /// let network = "N\t1\t0\t0\t2\t0\t0\nQ\t60000\t10\t500\t0\t0\t0\t0\nS\t10\t5000\nS\t10\t0\n";
-/// let mut ledger = [0; required_ledger_len(1, 2)];
+/// let counts = network_counts(network.as_bytes())?;
+/// let mut ledger = vec![0; counts.required_ledger_len()];
 /// check_plan(network.as_bytes(), b"P\t5000\t0\nP\t0\t2000\n", &mut ledger)?;
 ///
-/// let rows = Rows::new(&ledger, 1, 2);
+/// let rows = Rows::of(&ledger, &counts);
 /// let at_the_end = rows.at(2, 1).unwrap();
 /// assert_eq!((at_the_end.entered, at_the_end.left), (5000, 2000));
 /// assert_eq!(rows.at(3, 1), None);
@@ -39,6 +42,12 @@ impl<'a> Rows<'a> {
     #[must_use]
     pub const fn new(ledger: &'a [u32], links: usize, steps: usize) -> Rows<'a> {
         Rows { ledger, links, steps }
+    }
+
+    /// The rows of a ledger for a network that has so much of each.
+    #[must_use]
+    pub const fn of(ledger: &'a [u32], counts: &Counts) -> Rows<'a> {
+        Rows::new(ledger, counts.links, counts.steps)
     }
 
     /// The volumes of a link at a boundary; none where there is no such boundary or link.

@@ -13,6 +13,12 @@ mod counts;
 mod ledger;
 mod library;
 mod listing;
+#[cfg(feature = "alloc")]
+mod network_text;
+#[cfg(feature = "alloc")]
+mod plan_text;
+#[cfg(feature = "alloc")]
+mod records;
 mod refusal;
 mod sheets;
 mod split;
@@ -24,6 +30,10 @@ pub use comparison::{compare_plans, Comparison, ComparisonRefusal, Order, Refuse
 pub use counts::{library_version, network_counts, Counts, Version};
 pub use ledger::{Rows, Volumes};
 pub use listing::{plan_from_listing, MAX_WRITTEN_PLAN_LEN};
+#[cfg(feature = "alloc")]
+pub use network_text::{phase_mask, Link, Movement, NetworkText, PastStep, Phase, Signal, Step, Tram};
+#[cfg(feature = "alloc")]
+pub use plan_text::{PlanStep, PlanText};
 pub use refusal::{ItemKind, Reason, Refusal, Text};
 pub use sheets::{check_sheet, plan_from_sheet};
 #[cfg(feature = "alloc")]

@@ -44,3 +44,24 @@ fn a_ledger_that_is_too_short_has_the_rows_that_are_there() {
 fn a_ledger_of_something_else_holds_nothing_below_0() {
     assert_eq!(Rows::new(&[3, 5], 1, 0).at(0, 1).unwrap().held(), 0);
 }
+
+#[test]
+fn rows_of_counts() {
+    let counts = plancheck::network_counts(NETWORK).unwrap();
+    let mut ledger = vec![0; counts.required_ledger_len()];
+    check_plan(NETWORK, PLAN, &mut ledger).unwrap();
+    let rows = Rows::of(&ledger, &counts);
+    for boundary in 0..=counts.steps {
+        assert!(rows
+            .of_boundary(boundary)
+            .eq(Rows::new(&ledger, 2, 4).of_boundary(boundary)));
+    }
+    assert_eq!(
+        rows.at(4, 2),
+        Some(Volumes {
+            entered: 5000,
+            left: 5000
+        })
+    );
+    assert_eq!((rows.at(5, 1), rows.at(0, 3)), (None, None));
+}
