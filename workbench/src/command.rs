@@ -9,6 +9,8 @@ pub enum Ended {
     Done,
     /// The library refused a text.
     Refused,
+    /// Something was not read, which has been told; the rest is done.
+    Unread,
 }
 
 /// Why nothing could be done, in words: a wrong command, or a file that was not read or written. It has no words where nobody
@@ -27,7 +29,8 @@ impl From<io::Error> for Problem {
     }
 }
 
-/// One command: its name, its arguments as the usage tells them, what it does, and the function that does it.
+/// One command: its name, its arguments as the usage tells them, what it does, and the function that does it. `workbench/run`
+/// reads the three texts here too, each on one line, for help before anything is built.
 pub struct Command {
     pub name: &'static str,
     pub arguments: &'static str,
@@ -44,6 +47,11 @@ impl Command {
     pub fn wrong(&self) -> Problem {
         Problem(format!("usage: workbench {} {}", self.name, self.arguments))
     }
+
+    /// The same, with what is wrong.
+    pub fn wrong_as(&self, words: &str) -> Problem {
+        Problem(format!("{words}; {}", self.wrong().0))
+    }
 }
 
 /// The arguments of a command: options with their values, which a flag has none of, and the others.
@@ -52,7 +60,20 @@ pub struct Parted<'a> {
     pub others: Vec<&'a str>,
 }
 
-/// Parts arguments; an option that is neither among those with a value nor among the flags is a problem.
+impl<'a> Parted<'a> {
+    /// The value of an option, the last where it is given several times.
+    pub fn value(&self, option: &str) -> Option<&'a str> {
+        let given = self.options.iter().rev().find(|(name, _)| *name == option);
+        given.map(|&(_, value)| value)
+    }
+
+    pub fn has(&self, flag: &str) -> bool {
+        self.value(flag).is_some()
+    }
+}
+
+/// Parts arguments; an option that is neither among those with a value nor among the flags is a problem. `-` is no option:
+/// it stands for standard input.
 pub fn part<'a>(
     command: &Command,
     arguments: &'a [String],
@@ -65,10 +86,11 @@ pub fn part<'a>(
         if flags.contains(&argument.as_str()) {
             options.push((argument.as_str(), ""));
         } else if with_value.contains(&argument.as_str()) {
-            let value = rest.next().ok_or_else(|| command.wrong())?;
+            let value = rest.next();
+            let value = value.ok_or_else(|| command.wrong_as(&format!("{argument} has no value")))?;
             options.push((argument.as_str(), value.as_str()));
-        } else if argument.starts_with('-') {
-            return Err(command.wrong());
+        } else if argument.starts_with('-') && argument != "-" {
+            return Err(command.wrong_as(&format!("there is no option {argument}")));
         } else {
             others.push(argument.as_str());
         }

@@ -1,5 +1,6 @@
 //! A network in two halves: which links each has, and why it can't be split there.
 
+use crate::faults::{Fault, Mark};
 use crate::network::{Movement, Network};
 use crate::show;
 
@@ -25,32 +26,32 @@ impl Halves<'_> {
     }
 
     /// Each reason of refusal 40.
-    pub fn faults(&self) -> Vec<String> {
+    pub fn faults(&self) -> Vec<Fault> {
         let mut faults = Vec::new();
+        let mut push = |line: usize, field: usize, words: String| faults.push(fault(&[(line, field)], words));
         for (half, is_first) in [("first", true), ("second", false)] {
             if self.links(is_first).is_empty() {
-                faults.push(format!("the {half} half has no links"));
+                push(0, 0, format!("the {half} half has no links"));
             }
         }
         let beyond = self.all_links().end() + 1..=u32::BITS;
-        let named = beyond.filter(|&link| self.is_in_first(link));
-        faults.extend(named.map(|link| format!("there is no link {link}")));
-        if self.network.past > 0 {
-            faults.push(format!("steps that are past: {}", self.network.past));
+        for link in beyond.filter(|&link| self.is_in_first(link)) {
+            push(0, 0, format!("there is no link {link}"));
         }
-        for (link, waiting) in self.all_links().zip(self.network.links.iter().map(|link| link.waiting)) {
-            if waiting > 0 {
-                let vehicles = show::vehicles(waiting.into());
-                faults.push(format!("vehicles that wait outside link {link}: {vehicles}"));
+        if self.network.past > 0 {
+            push(1, 6, format!("steps that are past: {}", self.network.past));
+        }
+        for (number, link) in self.all_links().zip(&self.network.links) {
+            if link.waiting > 0 {
+                let vehicles = show::vehicles(link.waiting.into());
+                push(
+                    link.line,
+                    7,
+                    format!("vehicles that wait outside link {number}: {vehicles}"),
+                );
             }
         }
-        for movement in self.borders() {
-            let Movement { from, to, .. } = movement;
-            let reasons = self.border_faults(movement);
-            faults.extend(
-                reasons.map(|reason| format!("from link {from} to link {to} a movement crosses, and {reason}")),
-            );
-        }
+        faults.extend(self.borders().flat_map(|movement| self.border_faults(movement)));
         faults
     }
 
@@ -59,31 +60,46 @@ impl Halves<'_> {
         movements.filter(|movement| self.is_in_first(movement.from) != self.is_in_first(movement.to))
     }
 
-    fn border_faults(&self, border: &Movement) -> impl Iterator<Item = String> {
+    /// The faults of a border movement: the movement's line is marked, and the field that forbids it.
+    fn border_faults(&self, border: &Movement) -> Vec<Fault> {
         let Movement { from, to, line, .. } = *border;
         let left = &self.network.links[from as usize - 1];
         let is_other = |movement: &&Movement| movement.line != line;
-        let leaves_too = self
-            .network
-            .movements
-            .iter()
-            .filter(is_other)
-            .any(|other| other.from == from);
-        let enters_too = self.borders().filter(is_other).any(|other| other.to == to);
+        let mut movements = self.network.movements.iter().filter(is_other);
+        let leaves_too = movements.find(|other| other.from == from);
+        let enters_too = self.borders().filter(is_other).find(|other| other.to == to);
         let mut steps = self.network.steps.iter();
-        let has_demand = steps.any(|step| step.demands[to as usize - 1] > 0);
+        let with_demand = steps.find(|step| step.demands[to as usize - 1] > 0);
+        let own = |is_fault: bool, field: usize| is_fault.then_some((left.line, field));
         let reasons = [
-            (left.signal > 0, format!("link {from} has signal {}", left.signal)),
-            (left.exit_rate > 0, format!("link {from} has an exit")),
-            (leaves_too, format!("another movement leaves link {from}")),
-            (has_demand, format!("link {to} has demand")),
-            (enters_too, format!("another that crosses enters link {to}")),
+            (
+                own(left.signal > 0, 4),
+                format!("link {from} has signal {}", left.signal),
+            ),
+            (own(left.exit_rate > 0, 3), format!("link {from} has an exit")),
+            (
+                leaves_too.map(|other| (other.line, 1)),
+                format!("another movement leaves link {from}"),
+            ),
+            (
+                with_demand.map(|step| (step.line, to as usize + 1)),
+                format!("link {to} has demand"),
+            ),
+            (
+                enters_too.map(|other| (other.line, 2)),
+                format!("another that crosses enters link {to}"),
+            ),
         ];
-        reasons.into_iter().filter(|(holds, _)| *holds).map(|(_, words)| words)
+        let crossing = format!("from link {from} to link {to} a movement crosses");
+        let told = reasons.into_iter().filter_map(|(mark, reason)| {
+            let marks = [(line, 1), (line, 2), mark?];
+            Some(fault(&marks, format!("{crossing}, and {reason}")))
+        });
+        told.collect()
     }
 
     /// The signals that have links in both halves (41).
-    pub fn divided_signals(&self) -> Vec<String> {
+    pub fn divided_signals(&self) -> Vec<Fault> {
         let mut divided = Vec::new();
         for signal in 1..=self.network.signals.len() {
             let is_own = |link: &u32| self.network.links[*link as usize - 1].signal as usize == signal;
@@ -92,11 +108,25 @@ impl Halves<'_> {
                 own.map(|link| link.to_string()).collect::<Vec<String>>().join(", ")
             });
             if !first.is_empty() && !second.is_empty() {
-                divided.push(format!(
-                    "signal {signal}: links {first} in the first half, {second} in the second"
-                ));
+                let links = self.network.links.iter().filter(|link| link.signal as usize == signal);
+                let marks: Vec<(usize, usize)> = links.map(|link| (link.line, 4)).collect();
+                let words = format!("signal {signal}: links {first} in the first half, {second} in the second");
+                divided.push(fault(&marks, words));
             }
         }
         divided
+    }
+}
+
+/// A fault of fields of the network, each a line and its field; line 0 is none.
+fn fault(marked: &[(usize, usize)], words: String) -> Fault {
+    let marked = marked.iter().filter(|(line, _)| *line > 0);
+    let mark = |&(line, field): &(usize, usize)| Mark {
+        line,
+        fields: vec![field],
+    };
+    Fault {
+        marks: marked.map(mark).collect(),
+        words,
     }
 }

@@ -1,10 +1,13 @@
 //! The engineer's tool over the plan check library. `workbench` alone prints what it can do.
 
+mod answer;
 mod command;
 mod commands;
+mod faults;
 mod files;
 mod form;
 mod halves;
+mod json;
 mod judge;
 mod make;
 mod network;
@@ -20,6 +23,9 @@ use command::{Ended, Problem};
 use std::io::{self, BufWriter, Write};
 use std::process::ExitCode;
 
+/// What holds of all commands, at the end of the usage.
+const NOTES: &str = include_str!("notes.txt");
+
 fn main() -> ExitCode {
     let arguments: Vec<String> = std::env::args().skip(1).collect();
     let mut out = BufWriter::new(io::stdout().lock());
@@ -30,6 +36,7 @@ fn main() -> ExitCode {
     match outcome {
         Ok(Ended::Done) => ExitCode::SUCCESS,
         Ok(Ended::Refused) => ExitCode::from(1),
+        Ok(Ended::Unread) => ExitCode::from(2),
         Err(Problem(words)) if words.is_empty() => ExitCode::SUCCESS,
         Err(Problem(words)) => {
             eprintln!("workbench: {words}");
@@ -46,6 +53,11 @@ fn run(arguments: &[String], out: &mut dyn Write) -> command::Outcome {
         }
         [word, ..] if word == "-h" || word == "--help" => {
             write_usage(out)?;
+            Ok(Ended::Done)
+        }
+        [word, ..] if word == "--version" => {
+            let (own, library) = (env!("CARGO_PKG_VERSION"), answer::version());
+            writeln!(out, "workbench {own}, plan check library {library}")?;
             Ok(Ended::Done)
         }
         [name, rest @ ..] => match commands::ALL.iter().find(|command| command.name == name) {
@@ -70,10 +82,6 @@ fn write_usage(out: &mut dyn Write) -> io::Result<()> {
     for command in commands::ALL {
         writeln!(out, "  {} {}\n      {}", command.name, command.arguments, command.does)?;
     }
-    writeln!(
-        out,
-        "\nA FOLDER has network.tsv and plan.tsv. Volumes are told in vehicles, times in seconds; CSV has the library's numbers:\n\
-         volumes in thousandths of a vehicle, the doubled travel time in thousandths of a vehicle times seconds.\n\
-         Exit status: 0 accepted or done, 1 refused, 2 a file was not read or the command was wrong."
-    )
+    out.write_all(b"\n")?;
+    out.write_all(NOTES.as_bytes())
 }

@@ -1,11 +1,12 @@
 //! The lines of the texts that a refusal points at, with the fields that its rule is about.
 
+use crate::faults::marks;
 use crate::files::Texts;
 use crate::judge::Run;
 use crate::network::{Link, Movement, Network};
 use crate::records::lines;
 use crate::show;
-use crate::words::item_line;
+use crate::words::{item_line, network_faults, plan_faults};
 use plancheck::{ItemKind, Reason, Refusal, Text};
 
 /// A line of a text.
@@ -27,13 +28,21 @@ pub enum Fields {
 pub fn pointed(refusal: &Refusal, texts: &Texts, run: Option<&Run>) -> Vec<Pointed> {
     let network = run.map(|run| &run.network);
     let mut pointed = Vec::new();
-    match refusal.text() {
-        Some(Text::Network) => pointed.push(quoted(Text::Network, &texts.network, refusal.line as usize, &[])),
-        Some(Text::Plan) => {
-            let marked = network.map_or(Vec::new(), |network| plan_fields(refusal, network));
-            pointed.push(quoted(Text::Plan, &texts.plan, refusal.line as usize, &marked));
-        }
-        _ => {}
+    let of_network = network_faults(refusal, &texts.network);
+    let refused = (refusal.text() == Some(Text::Network)).then_some(refusal.line as usize);
+    for mark in marks(refused, &of_network.iter().collect::<Vec<_>>()) {
+        pointed.push(quoted(Text::Network, &texts.network, mark.line, &mark.fields));
+    }
+    if refusal.text() == Some(Text::Plan) {
+        let mut marked = network.map_or(Vec::new(), |network| plan_fields(refusal, network));
+        let of_form = plan_faults(refusal, &texts.plan, network);
+        marked.extend(
+            of_form
+                .into_iter()
+                .flat_map(|fault| fault.marks)
+                .flat_map(|mark| mark.fields),
+        );
+        pointed.push(quoted(Text::Plan, &texts.plan, refusal.line as usize, &marked));
     }
     let of_plan = run.filter(|_| refusal.text() == Some(Text::Plan));
     let Some(run) = of_plan else { return pointed };
@@ -63,7 +72,8 @@ pub fn quoted(text: Text, bytes: &[u8], line: usize, marked: &[usize]) -> Pointe
         }
         None => Fields::Missing("(there is none)"),
         Some(found) => {
-            let fields = found.split(|&byte| byte == b'\t').enumerate();
+            let parts = if text == Text::Listing { b' ' } else { b'\t' };
+            let fields = found.split(|&byte| byte == parts).enumerate();
             Fields::There(
                 fields
                     .map(|(place, field)| (show::line(field), marked.contains(&place)))

@@ -53,14 +53,24 @@ fn digits(number: u64, places: u32) -> String {
     format!("{}.{:0width$}", number / unit, number % unit, width = places as usize)
 }
 
-/// A text of the house format on one line, tabs as spaces, bytes that no text has as dots.
+/// A field, or a line that has no tabs, as it stands: a tab or carriage return there is shown, other bytes that no text has as
+/// dots.
 pub fn line(bytes: &[u8]) -> String {
-    let shown = |&byte: &u8| match byte {
-        b'\t' => ' ',
-        b' '..=b'~' => char::from(byte),
-        _ => '\u{b7}',
-    };
-    bytes.iter().map(shown).collect()
+    let mut line = String::new();
+    for &byte in bytes {
+        match byte {
+            b'\t' => line.push_str("\\t"),
+            b'\r' => line.push_str("\\r"),
+            b' '..=b'~' => line.push(char::from(byte)),
+            _ => line.push('\u{b7}'),
+        }
+    }
+    line
+}
+
+/// Millionths, without zeros at the end.
+pub fn millionths(number: u64) -> String {
+    decimal(number, 6)
 }
 
 #[cfg(test)]
@@ -91,6 +101,6 @@ mod tests {
 
     #[test]
     fn lines() {
-        assert_eq!(line(b"P\t1\r"), "P 1\u{b7}");
+        assert_eq!(line(b"i_1_1\t0.5\r\0"), "i_1_1\\t0.5\\r\u{b7}");
     }
 }

@@ -1,12 +1,13 @@
 //! A refusal in words: where it is, what it means, whom to tell and what to look at. The words are those of
 //! `docs/REFUSALS.md`, so that a number is described in one place.
 
+use crate::faults::{self, Fault};
 use crate::files::Texts;
 use crate::judge::Run;
 use crate::network::Network;
 use crate::pointed::quoted;
 use crate::{form, show};
-use plancheck::{ItemKind, Refusal, Text};
+use plancheck::{ItemKind, Reason, Refusal, Text};
 use std::fmt::Write;
 
 const TABLES: &str = include_str!("../../docs/REFUSALS.md");
@@ -110,28 +111,74 @@ pub fn sentence(refusal: &Refusal, network: Option<&Network>) -> String {
     format!("refused with {}{parted}{place}: {}", refusal.number, refusal.meaning())
 }
 
-/// The sentence and, below it, the line that is refused of the texts that the call was given.
-pub fn with_line(refusal: &Refusal, given: &[(Text, &[u8])], network: Option<&Network>) -> String {
+/// The sentence and, below it, the lines of the texts that the call was given, with the fields that are wrong, then why, and
+/// what to do. Faults of the network are found here; those of other texts are given.
+pub fn told(
+    refusal: &Refusal,
+    given: &[(Text, &[u8])],
+    network: Option<&Network>,
+    of_others: &[(Text, Vec<Fault>)],
+) -> String {
     let mut words = sentence(refusal, network);
-    let refused = given.iter().find(|(text, _)| refusal.text() == Some(*text));
-    if let Some((text, bytes)) = refused {
-        let _ = write!(
-            words,
-            "\n  {}",
-            quoted(*text, bytes, refusal.line as usize, &[]).words()
-        );
+    let mut why = Vec::new();
+    for &(text, bytes) in given {
+        let own = if text == Text::Network {
+            network_faults(refusal, bytes)
+        } else {
+            Vec::new()
+        };
+        let others = of_others
+            .iter()
+            .filter(|(of, _)| *of == text)
+            .flat_map(|(_, faults)| faults);
+        let faults: Vec<&Fault> = own.iter().chain(others).collect();
+        let refused = (refusal.text() == Some(text)).then_some(refusal.line as usize);
+        for mark in faults::marks(refused, &faults) {
+            let line = quoted(text, bytes, mark.line, &mark.fields);
+            let _ = write!(words, "\n  {}", line.words());
+        }
+        why.extend(faults.iter().map(|fault| fault.words.clone()));
+    }
+    for words_of in why {
+        let _ = write!(words, "\nwhy: {words_of}");
+    }
+    if let Some(row) = row(refusal.number) {
+        let _ = write!(words, "\nwhat to do: {}", row.action());
     }
     words
 }
 
-/// What is wrong with the form of the line that is refused with 1 or 9; nothing for another number.
-pub fn faults(refusal: &Refusal, texts: &Texts, network: Option<&Network>) -> Vec<String> {
-    let line = refusal.line as usize;
-    match (refusal.number, network) {
-        (1, _) => form::of_network(&texts.network, line),
-        (9, Some(network)) => form::of_plan(network, &texts.plan, line, network.steps.len()),
+/// The same where no text but the network's is looked at.
+pub fn with_line(refusal: &Refusal, given: &[(Text, &[u8])], network: Option<&Network>) -> String {
+    told(refusal, given, network, &[])
+}
+
+/// What is wrong with a network that is refused; nothing for a refusal of something else.
+pub fn network_faults(refusal: &Refusal, text: &[u8]) -> Vec<Fault> {
+    match refusal.reason() {
+        Some(Reason::NetworkForm) => form::of_network(text, refusal.line as usize),
+        Some(reason) if refusal.text() == Some(Text::Network) || reason == Reason::PastValues => {
+            faults::of_network(refusal, text)
+        }
         _ => Vec::new(),
     }
+}
+
+/// What is wrong with the form of the plan's line that is refused with 9; nothing for another number.
+pub fn plan_faults(refusal: &Refusal, plan: &[u8], network: Option<&Network>) -> Vec<Fault> {
+    match (refusal.reason(), network) {
+        (Some(Reason::PlanForm), Some(network)) => {
+            form::of_plan(network, plan, refusal.line as usize, network.steps.len())
+        }
+        _ => Vec::new(),
+    }
+}
+
+/// What is wrong with a network's line, or with the form of a plan's, in words.
+pub fn faults(refusal: &Refusal, texts: &Texts, network: Option<&Network>) -> Vec<String> {
+    let of_network = network_faults(refusal, &texts.network);
+    let of_plan = plan_faults(refusal, &texts.plan, network);
+    of_network.into_iter().chain(of_plan).map(|fault| fault.words).collect()
 }
 
 /// What the library tells of the link that breaks a rule, at the start of the step.
@@ -158,7 +205,6 @@ pub fn before_the_step(refusal: &Refusal, run: &Run) -> Option<String> {
 #[cfg(test)]
 mod tests {
     use super::*;
-    use plancheck::Reason;
 
     #[test]
     fn every_refusal_has_its_rows() {

@@ -1,8 +1,9 @@
 //! `cells`: a run of a corridor in cells.
 
 use crate::command::{Command, Ended, Outcome};
+use crate::faults::of_corridor;
 use crate::files::read;
-use crate::{show, words};
+use crate::{form, show, words};
 use plancheck::{run_cells, Text};
 use std::io::Write;
 use std::path::Path;
@@ -30,7 +31,13 @@ fn run(arguments: &[String], out: &mut dyn Write) -> Outcome {
         }
         Err(refusal) => {
             let given = [(Text::Corridor, &corridor[..])];
-            writeln!(out, "{}", words::with_line(&refusal, &given, None))?;
+            let mut faults = form::of_corridor(&corridor, refusal.line as usize);
+            faults.extend(of_corridor(&refusal, &corridor));
+            writeln!(
+                out,
+                "{}",
+                words::told(&refusal, &given, None, &[(Text::Corridor, faults)])
+            )?;
             Ok(Ended::Refused)
         }
     }

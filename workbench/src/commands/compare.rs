@@ -1,7 +1,7 @@
 //! `compare`: which of two plans is ahead.
 
 use crate::command::{Command, Ended, Outcome};
-use crate::files::read;
+use crate::files::{read, read_network};
 use crate::network::Network;
 use crate::{show, words};
 use plancheck::{compare_plans, Order, Refused, Text, MAX_LEDGER_LEN};
@@ -20,7 +20,7 @@ fn run(arguments: &[String], out: &mut dyn Write) -> Outcome {
     let [network, first, second] = arguments else {
         return Err(COMMAND.wrong());
     };
-    let network = read(Path::new(network))?;
+    let network = read_network(network)?;
     let (first, second) = (read(Path::new(first))?, read(Path::new(second))?);
     let mut ledgers = [vec![0; MAX_LEDGER_LEN], vec![0; MAX_LEDGER_LEN]];
     let [one, other] = &mut ledgers;

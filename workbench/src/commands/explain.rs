@@ -1,7 +1,7 @@
 //! `explain`: a refusal with its place, the lines that it points at, and what to do.
 
-use crate::command::{Command, Ended, Outcome, Problem};
-use crate::files::{read_folder, Texts};
+use crate::command::{part, Command, Ended, Outcome, Problem};
+use crate::files::{read_given, Texts, PLAN_OPTION};
 use crate::judge::Run;
 use crate::network::Network;
 use crate::pointed::pointed;
@@ -13,21 +13,20 @@ use std::path::Path;
 
 pub const COMMAND: Command = Command {
     name: "explain",
-    arguments: "FOLDER | NUMBER",
-    does: "says of a refused folder where it breaks, by which lines, and what to do; or what a refusal's number means",
+    arguments: "FOLDER [--plan FILE] | NETWORK PLAN | NUMBER",
+    does: "says of a refused network or plan where it breaks, by which lines and numbers, and what to do; or what a refusal's number means",
     run,
 };
 
 fn run(arguments: &[String], out: &mut dyn Write) -> Outcome {
-    let [argument] = arguments else {
-        return Err(COMMAND.wrong());
-    };
-    if let Ok(number) = argument.parse::<u32>() {
-        if !Path::new(argument).is_dir() {
+    let parted = part(&COMMAND, arguments, &[PLAN_OPTION], &[])?;
+    if let [argument] = parted.others[..] {
+        let number = argument.parse::<u32>().ok();
+        if let Some(number) = number.filter(|_| !Path::new(argument).exists()) {
             return explain_number(number, out);
         }
     }
-    let texts = read_folder(Path::new(argument))?;
+    let texts = read_given(&COMMAND, &parted.others, parted.value(PLAN_OPTION))?.texts;
     let (refusal, run) = match Run::new(&texts) {
         Ok(run) => match run.answer {
             Ok(_) => {
@@ -66,14 +65,12 @@ fn explain(out: &mut dyn Write, refusal: &Refusal, texts: &Texts, run: Option<&R
     for line in pointed(refusal, texts, run) {
         writeln!(out, "  {}", line.words())?;
     }
-    for fault in words::faults(refusal, texts, network) {
-        writeln!(out, "  {fault}")?;
-    }
     if let Some(words) = run.and_then(|run| words::before_the_step(refusal, run)) {
         writeln!(out, "  {words}")?;
     }
-    if let Some(why) = run.and_then(|run| why(refusal, texts, run)) {
-        writeln!(out, "why: {}", why.words)?;
+    let of_step = run.and_then(|run| why(refusal, texts, run)).map(|why| why.words);
+    for words in words::faults(refusal, texts, network).into_iter().chain(of_step) {
+        writeln!(out, "why: {words}")?;
     }
     if let Some(row) = words::row(refusal.number) {
         writeln!(out, "what to do: {}", row.action())?;

@@ -1,7 +1,8 @@
 //! `listing`: a plan text from a solver's listing.
 
 use crate::command::{Command, Ended, Outcome};
-use crate::files::read;
+use crate::faults::of_listing;
+use crate::files::{read, read_network};
 use crate::network::Network;
 use crate::words;
 use plancheck::{plan_from_listing, Text, MAX_WRITTEN_PLAN_LEN};
@@ -19,7 +20,7 @@ fn run(arguments: &[String], out: &mut dyn Write) -> Outcome {
     let [network, listing] = arguments else {
         return Err(COMMAND.wrong());
     };
-    let (network, listing) = (read(Path::new(network))?, read(Path::new(listing))?);
+    let (network, listing) = (read_network(network)?, read(Path::new(listing))?);
     let mut plan = vec![0; MAX_WRITTEN_PLAN_LEN];
     match plan_from_listing(&network, &listing, &mut plan) {
         Ok(length) => {
@@ -29,7 +30,12 @@ fn run(arguments: &[String], out: &mut dyn Write) -> Outcome {
         Err(refusal) => {
             let given = [(Text::Network, &network[..]), (Text::Listing, &listing[..])];
             let network = Network::read(&network).ok();
-            eprintln!("workbench: {}", words::with_line(&refusal, &given, network.as_ref()));
+            let faults = network.as_ref().map(|network| of_listing(&refusal, network, &listing));
+            let faults = [(Text::Listing, faults.unwrap_or_default())];
+            eprintln!(
+                "workbench: {}",
+                words::told(&refusal, &given, network.as_ref(), &faults)
+            );
             Ok(Ended::Refused)
         }
     }

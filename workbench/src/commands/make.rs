@@ -17,6 +17,9 @@ pub const COMMAND: Command = Command {
     run,
 };
 
+/// The longest files that the program plancheck reads, and so `./check`.
+const MAX_CHECK_NETWORK: usize = 16_384;
+const MAX_CHECK_PLAN: usize = 24_576;
 /// How many signals' draws are tried before a seed is given up.
 const TRIES: u32 = 100;
 
@@ -47,6 +50,7 @@ fn run(arguments: &[String], out: &mut dyn Write) -> Outcome {
     ];
     writeln!(out, "{}", counts.join(", "))?;
     let mut name = PLAN.to_string();
+    let mut longest_plan = 0;
     for number in 1..=sizes.plans {
         if number > 1 {
             name = format!("plan-{number}.tsv");
@@ -54,7 +58,14 @@ fn run(arguments: &[String], out: &mut dyn Write) -> Outcome {
         }
         let time = accepted_time(&avenue, &plan)?;
         write(&folder.join(&name), plan.as_bytes())?;
+        longest_plan = longest_plan.max(plan.len());
         writeln!(out, "{name}: travel time {time} vehicle seconds")?;
+    }
+    if avenue.text().len() > MAX_CHECK_NETWORK || longest_plan > MAX_CHECK_PLAN {
+        eprintln!(
+            "workbench: ./check takes networks of at most {MAX_CHECK_NETWORK} bytes and plans of at most {MAX_CHECK_PLAN}, \
+             and not all of these; workbench/run check does"
+        );
     }
     Ok(Ended::Done)
 }

@@ -1,5 +1,6 @@
 //! The commands, one a file. A new one is a file with its `COMMAND`, and a line in each of the two lists here.
 
+mod batch;
 mod carry;
 mod cells;
 mod check;
@@ -22,6 +23,7 @@ pub const ALL: &[Command] = &[
     report::COMMAND,
     states::COMMAND,
     rank::COMMAND,
+    batch::COMMAND,
     compare::COMMAND,
     carry::COMMAND,
     split::COMMAND,

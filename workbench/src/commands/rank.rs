@@ -1,7 +1,7 @@
 //! `rank`: many plans on one network, by travel time.
 
 use crate::command::{part, Command, Ended, Outcome, Parted, Problem};
-use crate::files::{plans_in, read, Texts, NETWORK};
+use crate::files::{network_at, plans_in, read, Found, Texts, NETWORK};
 use crate::judge::judge;
 use crate::{show, words};
 use plancheck::{check_network, Refusal, Totals};
@@ -11,8 +11,8 @@ use std::time::{Duration, Instant};
 
 pub const COMMAND: Command = Command {
     name: "rank",
-    arguments: "[--csv] FOLDER..",
-    does: "judges every plan of the folders (their .tsv files) on the network.tsv of the first one, and sorts them by travel time",
+    arguments: "[--csv] FOLDER.. | NETWORK PLAN..",
+    does: "judges every plan of the folders (.tsv files that start with P) and every PLAN on the first network, and sorts them by travel time",
     run,
 };
 
@@ -22,22 +22,19 @@ struct Ranked {
 }
 
 fn run(arguments: &[String], out: &mut dyn Write) -> Outcome {
-    let Parted {
-        options,
-        others: folders,
-    } = part(&COMMAND, arguments, &[], &["--csv"])?;
-    let Some(first) = folders.first() else {
+    let Parted { options, others: named } = part(&COMMAND, arguments, &[], &["--csv"])?;
+    let Some(first) = named.first() else {
         return Err(COMMAND.wrong());
     };
-    let network = read(&Path::new(first).join(NETWORK))?;
+    let network = read(&network_at(first))?;
     if let Err(refusal) = check_network(&network) {
         eprintln!("workbench: {}", words::sentence(&refusal, None));
         return Ok(Ended::Refused);
     }
-    let plans = plans_of(&folders, &network)?;
+    let plans = plans_of(&named, &network)?;
     if plans.is_empty() {
-        return Err(Problem(format!(
-            "there is no plan, a .tsv file beside {NETWORK}, in the folders"
+        return Err(COMMAND.wrong_as(&format!(
+            "there is no plan: neither a file that is named behind the network, nor a .tsv file beside {NETWORK} that starts with P"
         )));
     }
     let mut ranked = judge_all(network.clone(), plans)?;
@@ -55,25 +52,42 @@ fn run(arguments: &[String], out: &mut dyn Write) -> Outcome {
             ranked.len()
         );
     }
-    Ok(Ended::Done)
+    Ok(if refused == ranked.len() {
+        Ended::Refused
+    } else {
+        Ended::Done
+    })
 }
 
-/// The plans of all folders, by folder and name. A folder that has another network is a problem.
-fn plans_of(folders: &[&str], network: &[u8]) -> Result<Vec<PathBuf>, Problem> {
+/// The plans that are named, those of a folder by name; the first name is also that of the network. A folder that has another
+/// network is a problem, and what is no plan is told.
+fn plans_of(named: &[&str], network: &[u8]) -> Result<Vec<PathBuf>, Problem> {
     let mut plans = Vec::new();
-    for folder in folders {
-        let folder = Path::new(folder);
-        let own = folder.join(NETWORK);
-        if own.exists() && read(&own)? != network {
+    for (place, name) in named.iter().enumerate() {
+        let path = Path::new(name);
+        if !path.is_dir() {
+            plans.extend((place > 0).then(|| path.to_path_buf()));
+            continue;
+        }
+        let own = path.join(NETWORK);
+        if place > 0 && own.exists() && read(&own)? != network {
             return Err(Problem(format!(
                 "{} is another network than that of {}: travel times of two networks do not compare",
                 own.display(),
-                folders[0]
+                named[0]
             )));
         }
-        plans.extend(plans_in(folder)?);
+        let found = plans_in(path)?;
+        tell_others(&found);
+        plans.extend(found.plans);
     }
     Ok(plans)
+}
+
+fn tell_others(found: &Found) {
+    for other in &found.others {
+        eprintln!("workbench: {} is passed over: a plan starts with P", other.display());
+    }
 }
 
 fn judge_all(network: Vec<u8>, plans: Vec<PathBuf>) -> Result<Vec<Ranked>, Problem> {

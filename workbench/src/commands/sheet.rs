@@ -1,11 +1,12 @@
 //! `sheet`: whether a plan keeps a fixed-time sheet, or a plan for one.
 
 use crate::command::{Command, Ended, Outcome};
-use crate::files::{read, Texts};
+use crate::faults::{of_sheet, off_boundaries, Fault, Faults};
+use crate::files::{read, read_network, Texts};
 use crate::judge::carried;
 use crate::network::Network;
 use crate::records::{lines, record};
-use crate::{show, words};
+use crate::{form, show, words};
 use plancheck::{check_sheet, plan_from_sheet, Reason, Refusal, Text, MAX_LEDGER_LEN, MAX_WRITTEN_PLAN_LEN};
 use std::io::Write;
 use std::path::Path;
@@ -19,11 +20,11 @@ pub const COMMAND: Command = Command {
 
 fn run(arguments: &[String], out: &mut dyn Write) -> Outcome {
     match arguments {
-        [network, sheet] => write_plan(&read(Path::new(network))?, &read(Path::new(sheet))?, out),
+        [network, sheet] => write_plan(&read_network(network)?, &read(Path::new(sheet))?, out),
         [network, sheet, plan] => {
             let sheet = read(Path::new(sheet))?;
             let texts = Texts {
-                network: read(Path::new(network))?,
+                network: read_network(network)?,
                 plan: read(Path::new(plan))?,
             };
             hold_to(&texts, &sheet, out)
@@ -42,10 +43,9 @@ fn write_plan(network: &[u8], sheet: &[u8], out: &mut dyn Write) -> Outcome {
         Err(refusal) => {
             let given = [(Text::Network, network), (Text::Sheet, sheet)];
             let network = Network::read(network).ok();
-            eprintln!("workbench: {}", words::with_line(&refusal, &given, network.as_ref()));
-            if let Some(due) = network.and_then(|network| due_line(&refusal, &network)) {
-                eprintln!("  {due}, then the offset");
-            }
+            let faults = network.as_ref().map(|network| faults(&refusal, network, sheet, true));
+            let words = words::told(&refusal, &given, network.as_ref(), &faults.unwrap_or_default());
+            eprintln!("workbench: {words}");
             Ok(Ended::Refused)
         }
     }
@@ -66,32 +66,34 @@ fn hold_to(texts: &Texts, sheet: &[u8], out: &mut dyn Write) -> Outcome {
                 (Text::Sheet, sheet),
             ];
             let network = Network::read(&texts.network).ok();
-            writeln!(out, "{}", words::with_line(&refusal, &given, network.as_ref()))?;
-            if let Some(due) = network.and_then(|network| due_line(&refusal, &network)) {
-                writeln!(out, "  {due}, and no offset")?;
-            }
-            if let Some(run) = run_in_words(&refusal, texts, sheet) {
-                writeln!(out, "  {run}")?;
-            }
+            let faults = network.as_ref().map(|network| faults(&refusal, network, sheet, false));
+            let mut faults = faults.unwrap_or_default();
+            faults.push((Text::Plan, words::plan_faults(&refusal, &texts.plan, network.as_ref())));
+            faults.extend(run_not_kept(&refusal, texts, sheet));
+            writeln!(out, "{}", words::told(&refusal, &given, network.as_ref(), &faults))?;
             Ok(Ended::Refused)
         }
     }
 }
 
-/// What is due in a line of the sheet that is refused, up to its offset.
-fn due_line(refusal: &Refusal, network: &Network) -> Option<String> {
-    let signal = network.signals.get((refusal.line as usize).checked_sub(1)?)?;
-    if refusal.reason() != Some(Reason::SheetValues) {
-        return None;
+/// What is wrong with the sheet, which has offsets where a plan is to be written.
+fn faults(refusal: &Refusal, network: &Network, sheet: &[u8], has_offset: bool) -> Vec<(Text, Vec<Fault>)> {
+    match refusal.reason() {
+        Some(Reason::SheetValues) => {
+            let mut faults = form::of_sheet(network, sheet, refusal.line as usize, has_offset);
+            faults.extend(of_sheet(refusal, network, sheet, has_offset));
+            vec![(Text::Sheet, faults)]
+        }
+        Some(Reason::SheetOffBoundaries) => {
+            let (runs, trams) = off_boundaries(refusal, network, sheet);
+            vec![(Text::Sheet, runs), (Text::Network, trams)]
+        }
+        _ => Vec::new(),
     }
-    let limits = signal.times.iter().enumerate();
-    let limits = limits.map(|(phase, [least, greatest])| format!("phase {} {least} to {greatest} s", phase + 1));
-    let limits: Vec<String> = limits.collect();
-    Some(format!("due is F, a duration for each phase: {}", limits.join(", ")))
 }
 
 /// How long the run lasts that does not keep the sheet, and how long the sheet has it last.
-fn run_in_words(refusal: &Refusal, texts: &Texts, sheet: &[u8]) -> Option<String> {
+fn run_not_kept(refusal: &Refusal, texts: &Texts, sheet: &[u8]) -> Option<(Text, Vec<Fault>)> {
     if refusal.reason() != Some(Reason::SheetNotKept) {
         return None;
     }
@@ -101,8 +103,11 @@ fn run_in_words(refusal: &Refusal, texts: &Texts, sheet: &[u8]) -> Option<String
     let shown = &by_then.signals[signal];
     let durations = record(lines(sheet).get(signal)?).numbers;
     let duration = durations.get(shown.shown as usize - 1)?;
-    Some(format!(
+    let mut faults = Faults::of(signal + 1);
+    let words = format!(
         "phase {} has shown for {} s by then and is left, and the sheet has {duration} s",
         shown.shown, shown.shown_for
-    ))
+    );
+    faults.push(&[shown.shown as usize], words);
+    Some((Text::Sheet, faults.found))
 }

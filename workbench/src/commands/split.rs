@@ -1,28 +1,29 @@
 //! `split`: the networks and plans of two boxes from those of the whole corridor.
 
-use crate::command::{part, Command, Ended, Outcome, Parted};
-use crate::files::{make_folder, read_folder, write, Texts, NETWORK, PLAN};
+use crate::command::{part, Command, Ended, Outcome, Problem};
+use crate::faults::Fault;
+use crate::files::{make_folder, read_given, write, NETWORK, PLAN, PLAN_OPTION};
 use crate::halves::Halves;
 use crate::network::Network;
 use crate::words;
-use plancheck::{split, Reason, Refusal, Text};
+use plancheck::{split, Reason, Refusal, Text, MAX_LINKS};
 use std::io::Write;
 use std::path::Path;
 
 pub const COMMAND: Command = Command {
     name: "split",
-    arguments: "FOLDER LINKS -o OUT",
+    arguments: "FOLDER [--plan FILE] | NETWORK PLAN, LINKS -o OUT",
     does: "splits network and plan between two boxes, by the links of the first, as 1,2,5-7: writes OUT/first and OUT/second",
     run,
 };
 
 fn run(arguments: &[String], out: &mut dyn Write) -> Outcome {
-    let Parted { options, others } = part(&COMMAND, arguments, &["-o"], &[])?;
-    let ([folder, links], [(_, written)]) = (&others[..], &options[..]) else {
+    let parted = part(&COMMAND, arguments, &["-o", PLAN_OPTION], &[])?;
+    let ([named @ .., links], Some(written)) = (&parted.others[..], parted.value("-o")) else {
         return Err(COMMAND.wrong());
     };
-    let first_half = set_of(links).ok_or_else(|| COMMAND.wrong())?;
-    let texts = read_folder(Path::new(folder))?;
+    let first_half = set_of(links)?;
+    let texts = read_given(&COMMAND, named, parted.value(PLAN_OPTION))?.texts;
     let network = Network::read(&texts.network).ok();
     let halves = network.as_ref().map(|network| Halves { network, first_half });
     match split(&texts.network, &texts.plan, first_half) {
@@ -41,44 +42,57 @@ fn run(arguments: &[String], out: &mut dyn Write) -> Outcome {
         }
         Err(refusal) => {
             let given = [(Text::Network, &texts.network[..]), (Text::Plan, &texts.plan[..])];
-            eprintln!("workbench: {}", words::with_line(&refusal, &given, network.as_ref()));
-            for words in hints(&refusal, &texts, halves.as_ref()) {
-                eprintln!("  {words}");
-            }
+            let faults = [
+                (Text::Network, faults(&refusal, halves.as_ref())),
+                (Text::Plan, words::plan_faults(&refusal, &texts.plan, network.as_ref())),
+            ];
+            eprintln!(
+                "workbench: {}",
+                words::told(&refusal, &given, network.as_ref(), &faults)
+            );
             Ok(Ended::Refused)
         }
     }
 }
 
-/// Each reason why a network can't be split, or what is wrong with a line.
-fn hints(refusal: &Refusal, texts: &Texts, halves: Option<&Halves>) -> Vec<String> {
+/// Each reason why a network can't be split.
+fn faults(refusal: &Refusal, halves: Option<&Halves>) -> Vec<Fault> {
     match (refusal.reason(), halves) {
         (Some(Reason::CannotSplit), Some(halves)) => halves.faults(),
         (Some(Reason::DividedSignal), Some(halves)) => halves.divided_signals(),
-        _ => words::faults(refusal, texts, halves.map(|halves| halves.network)),
+        _ => Vec::new(),
     }
 }
 
-/// Bit i − 1 for link i of a list such as `1,2,5-7`; none where it is no such list. A set has room for 32 links, more than a
-/// network may have.
-fn set_of(links: &str) -> Option<u32> {
+/// Bit i − 1 for link i of a list such as `1,2,5-7`. A set has room for 32 links, more than a network may have.
+fn set_of(links: &str) -> Result<u32, Problem> {
     let mut set = 0;
     for piece in links.split(',') {
         let (first, last) = piece.split_once('-').unwrap_or((piece, piece));
-        let (first, last) = (number_of(first)?, number_of(last)?);
+        let (first, last) = (number_of(first, links)?, number_of(last, links)?);
         if first > last {
-            return None;
+            return Err(no_list(links, &format!("{first} is above {last}")));
         }
         for link in first..=last {
             set |= 1 << (link - 1);
         }
     }
-    Some(set)
+    Ok(set)
 }
 
-fn number_of(digits: &str) -> Option<u32> {
-    let number = digits.parse().ok()?;
-    (1..=u32::BITS).contains(&number).then_some(number)
+fn number_of(digits: &str, links: &str) -> Result<u32, Problem> {
+    match digits.parse() {
+        Ok(number) if (1..=u32::BITS).contains(&number) => Ok(number),
+        Ok(_) => Err(no_list(
+            links,
+            &format!("{digits} is no link: they count from 1, and a network has at most {MAX_LINKS}"),
+        )),
+        Err(_) => Err(no_list(links, &format!("'{digits}' is no number"))),
+    }
+}
+
+fn no_list(links: &str, why: &str) -> Problem {
+    COMMAND.wrong_as(&format!("'{links}' is no list of links, as 1,2,5-7 is: {why}"))
 }
 
 #[cfg(test)]
@@ -87,10 +101,14 @@ mod tests {
 
     #[test]
     fn sets() {
-        assert_eq!(set_of("1"), Some(0b1));
-        assert_eq!(set_of("1,2,5-7"), Some(0b111_0011));
-        assert_eq!(set_of("3,1,3"), Some(0b101));
-        assert_eq!(set_of("1-32"), Some(u32::MAX));
+        for (links, set) in [
+            ("1", 0b1),
+            ("1,2,5-7", 0b111_0011),
+            ("3,1,3", 0b101),
+            ("1-32", u32::MAX),
+        ] {
+            assert_eq!(set_of(links).unwrap(), set, "{links}");
+        }
         for wrong in [
             "",
             ",",
@@ -105,7 +123,7 @@ mod tests {
             "1-2-3",
             "4294967297",
         ] {
-            assert_eq!(set_of(wrong), None, "{wrong}");
+            assert!(set_of(wrong).is_err(), "{wrong}");
         }
     }
 }

@@ -1,25 +1,22 @@
 //! `states`: what is queued and in transit on each link at each boundary.
 
-use crate::command::{Command, Ended, Outcome};
-use crate::files::read_folder;
+use crate::command::{part, Command, Ended, Outcome};
+use crate::files::{read_given, PLAN_OPTION};
 use crate::judge::states_of;
 use crate::network::Network;
 use crate::words;
 use std::io::Write;
-use std::path::Path;
 
 pub const COMMAND: Command = Command {
     name: "states",
-    arguments: "FOLDER",
+    arguments: "FOLDER [--plan FILE] | NETWORK PLAN",
     does: "writes what is queued and in transit on each link at each boundary as CSV, in thousandths of a vehicle",
     run,
 };
 
 fn run(arguments: &[String], out: &mut dyn Write) -> Outcome {
-    let [folder] = arguments else {
-        return Err(COMMAND.wrong());
-    };
-    let texts = read_folder(Path::new(folder))?;
+    let parted = part(&COMMAND, arguments, &[PLAN_OPTION], &[])?;
+    let texts = read_given(&COMMAND, &parted.others, parted.value(PLAN_OPTION))?.texts;
     let network = Network::read(&texts.network);
     let told = match &network {
         Ok(network) => states_of(&texts, network),

@@ -8,8 +8,8 @@ fn usage_tells_the_commands_that_there_are() {
     let said = workbench(&[]);
     assert_eq!(said.status, 0);
     for name in [
-        "check", "explain", "report", "states", "rank", "compare", "carry", "split", "listing", "sheet", "cells",
-        "make",
+        "check", "explain", "report", "states", "rank", "batch", "compare", "carry", "split", "listing", "sheet",
+        "cells", "make",
     ] {
         assert!(said.out.contains(&format!("\n  {name} ")), "{name}");
     }
@@ -18,7 +18,7 @@ fn usage_tells_the_commands_that_there_are() {
     assert_eq!(said.status, 0);
     assert!(said
         .out
-        .starts_with("usage: workbench rank [--csv] FOLDER..\njudges every plan"));
+        .starts_with("usage: workbench rank [--csv] FOLDER.. | NETWORK PLAN..\njudges every plan"));
 }
 
 #[test]
@@ -28,7 +28,11 @@ fn wrong_commands() {
     assert!(said.err.contains("there is no command chek"));
     for wrong in [
         &["check"][..],
-        &["check", "a", "b"],
+        &["check", "a", "b", "c"],
+        &["check", "a", "b", "--plan", "c"],
+        &["check", "a", "--plan"],
+        &["check", "--jsn", "a"],
+        &["check", "-"],
         &["rank"],
         &["rank", "--cvs", "a"],
         &["carry", "a", "one", "b"],
@@ -106,7 +110,7 @@ fn explain_what_cannot_be_drawn() {
     assert!(said.out.starts_with("refused with 1 in line 4 of the network text: "));
     assert!(said
         .out
-        .contains("  network line 4: Q x\n  it has 2 fields, and 8 are due\n"));
+        .contains("  network line 4: Q [x]\nwhy: it has 2 fields, and 8 are due: Q, capacity, travel time, "));
 
     let surplus = corridor_with("explain_surplus", "plan.tsv", 4, "P\t2\t0\t0\t0\t2000\t0\nP");
     let said = workbench(&["explain", &surplus]);
@@ -231,7 +235,9 @@ fn carry_writes_the_network_from_a_boundary_on() {
         said.err
     );
     assert!(
-        said.err.contains("the text has 24 lines, and 8 are due"),
+        said.err.contains(
+            "why: the text has 24 lines, and 8 are due\nwhy: carry takes the lines that have run, and no more: head -n 8 PLAN has them\n"
+        ),
         "{}",
         said.err
     );
@@ -272,26 +278,26 @@ fn split_refuses_and_writes_nothing() {
         (
             "avenue",
             "1-3",
-            "  from link 1 to link 8 a movement crosses, and link 1 has signal 1\n",
+            "\nwhy: from link 1 to link 8 a movement crosses, and link 1 has signal 1\n",
         ),
         (
             "avenue",
             "1-3",
-            "  from link 1 to link 8 a movement crosses, and another movement leaves link 1\n",
+            "\nwhy: from link 1 to link 8 a movement crosses, and another movement leaves link 1\n",
         ),
         (
             "avenue",
             "1-3",
-            "  from link 2 to link 8 a movement crosses, and another that crosses enters link 8\n",
+            "\nwhy: from link 2 to link 8 a movement crosses, and another that crosses enters link 8\n",
         ),
         (
             "split",
             "1-2",
-            "  from link 1 to link 3 a movement crosses, and link 1 has signal 1\n",
+            "\nwhy: from link 1 to link 3 a movement crosses, and link 1 has signal 1\n",
         ),
-        ("split", "1-11", "  the second half has no links\n"),
-        ("split", "1-3,9,12", "  there is no link 12\n"),
-        ("carry", "1", "  steps that are past: 8\n"),
+        ("split", "1-11", "\nwhy: the second half has no links\n"),
+        ("split", "1-3,9,12", "\nwhy: there is no link 12\n"),
+        ("carry", "1", "\nwhy: steps that are past: 8\n"),
     ] {
         let said = workbench(&["split", &example(folder), links, "-o", &name]);
         assert_eq!((said.status, said.out.as_str()), (1, ""), "{folder} {links}");
@@ -305,7 +311,8 @@ fn split_refuses_and_writes_nothing() {
     let said = workbench(&["split", &folder.display().to_string(), "2", "-o", &name]);
     assert_eq!((said.status, said.out.as_str()), (1, ""));
     assert!(said.err.contains("refused with 41: "), "{}", said.err);
-    let words = "  signal 1: links 2 in the first half, 1 in the second\n";
+    let words = "  network line 3: Q 9 10 0 [1] 1 0 0\n  network line 4: Q 9 10 0 [1] 2 0 0\n\
+        why: signal 1: links 2 in the first half, 1 in the second\n";
     assert!(said.err.contains(words), "{}", said.err);
     let plan = fs::read_to_string(example("split/plan.tsv")).unwrap();
     fs::copy(example("split/network.tsv"), folder.join("network.tsv")).unwrap();
@@ -388,7 +395,8 @@ fn listing_writes_the_plan() {
     let said = workbench(&["listing", &network, &wrong.display().to_string()]);
     assert_eq!((said.status, said.out.as_str()), (1, ""));
     assert!(said.err.contains("refused with 22 in line 2 of the listing text"));
-    assert!(said.err.ends_with("\n  listing line 2: i_9_1 0.5\n"), "{}", said.err);
+    let why = "\n  listing line 2: [i_9_1] 0.5\nwhy: there is no link 9: the network has 2\nwhat to do: keep the running plan, ";
+    assert!(said.err.contains(why), "{}", said.err);
 }
 
 /// One link and a signal whose cycle is twenty seconds; six steps of ten seconds.
@@ -427,15 +435,17 @@ fn sheet_writes_a_plan_and_holds_it_to_the_sheet() {
     assert_eq!(
         said.out,
         "refused with 34 in step 4 (line 4 of the plan text, seconds 30 to 40), signal 1 (line 2 of the network text): \
-         a run does not last its duration\n  plan line 4: P 2 0 0\n\
-         \x20 phase 2 has shown for 10 s by then and is left, and the sheet has 20 s\n"
+         a run does not last its duration\n  plan line 4: P 2 0 0\n  sheet line 1: F 10 [20]\n\
+         why: phase 2 has shown for 10 s by then and is left, and the sheet has 20 s\n\
+         what to do: keep the running plan, and tell the planner to look at the seconds of the run whose last step the line names, \
+         tram steps left out, and the duration of its phase in the sheet\n"
     );
     let said = workbench(&["sheet", &network, &write("short.tsv", "F\t10\n"), &plan]);
     assert_eq!(said.status, 1);
     assert!(said.out.starts_with("refused with 33 in line 1 of the sheet text: "));
     assert!(
-        said.out.ends_with(
-            "\n  sheet line 1: F 10\n  due is F, a duration for each phase: phase 1 10 to 30 s, phase 2 10 to 30 s, and no offset\n"
+        said.out.contains(
+            "\n  sheet line 1: F 10\nwhy: it has 2 fields, and 3 are due: F, the duration of each phase, and the offset where a plan is"
         ),
         "{}",
         said.out

@@ -1,14 +1,18 @@
 //! The tool as its user meets it: what each command prints, and how it ends.
 
+mod batch;
 mod commands;
+mod faults;
 mod made;
 mod reports;
+mod ways;
 mod why;
 mod words;
 
 use std::fs;
+use std::io::Write;
 use std::path::{Path, PathBuf};
-use std::process::Command;
+use std::process::{Command, Output, Stdio};
 
 /// What a run of the tool gave.
 struct Said {
@@ -17,16 +21,40 @@ struct Said {
     err: String,
 }
 
-fn workbench(arguments: &[&str]) -> Said {
-    let run = Command::new(env!("CARGO_BIN_EXE_workbench"))
-        .args(arguments)
-        .output()
-        .unwrap();
-    Said {
-        status: run.status.code().unwrap(),
-        out: String::from_utf8(run.stdout).unwrap(),
-        err: String::from_utf8(run.stderr).unwrap(),
+impl Said {
+    fn of(command: &mut Command) -> Said {
+        Said::by(command.output().unwrap())
     }
+
+    fn by(run: Output) -> Said {
+        Said {
+            status: run.status.code().unwrap(),
+            out: String::from_utf8(run.stdout).unwrap(),
+            err: String::from_utf8(run.stderr).unwrap(),
+        }
+    }
+}
+
+fn workbench(arguments: &[&str]) -> Said {
+    Said::of(Command::new(env!("CARGO_BIN_EXE_workbench")).args(arguments))
+}
+
+/// A run with this standard input.
+fn workbench_with(arguments: &[&str], input: &[u8]) -> Said {
+    let mut run = Command::new(env!("CARGO_BIN_EXE_workbench"))
+        .args(arguments)
+        .stdin(Stdio::piped())
+        .stdout(Stdio::piped())
+        .stderr(Stdio::piped())
+        .spawn()
+        .unwrap();
+    let mut to = run.stdin.take().unwrap();
+    let input = input.to_vec();
+    // The tool need not read all of it.
+    let writer = std::thread::spawn(move || to.write_all(&input).is_ok());
+    let run = run.wait_with_output().unwrap();
+    writer.join().unwrap();
+    Said::by(run)
 }
 
 /// A folder of the examples.

@@ -139,12 +139,12 @@ fn a_mask_that_is_no_phase() {
 fn texts_that_cannot_be_drawn() {
     let network = page(&corridor_with("report_network", "network.tsv", 4, "Q\t<b>&\u{7}"));
     assert!(network.contains("refused: R 1 4 0"));
-    assert!(network.contains("<code>Q &lt;b&gt;&amp;\u{b7}</code>"));
+    assert!(network.contains("<code>Q <mark>&lt;b&gt;&amp;\u{b7}</mark></code>"));
     assert!(!network.contains("<svg"));
 
     let plan = page(&corridor_with("report_plan", "plan.tsv", 2, "P\tx"));
     assert!(plan.contains("refused: R 9 2 0"));
-    assert!(plan.contains("<code>P x</code>"));
+    assert!(plan.contains("<code>P <mark>x</mark></code>"));
     assert_eq!(count(&plan, "class=\"broken"), 0);
     assert_eq!(count(&plan, "class=\"refused-span\""), 6);
 }
