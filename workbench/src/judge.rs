@@ -140,7 +140,7 @@ pub fn arrived_by_the_end(texts: &Texts, run: &Run, link: usize) -> Option<u64> 
     }
     let is_still_enough = run.network.links[link].travel_time >= run.network.steps[run.passed].length;
     let tries = [Some(staying), is_still_enough.then_some(still)];
-    let network = cut(&texts.network, step);
+    let network = cut(&texts.network, step).ok()?;
     let before = first_lines(&texts.plan, run.passed);
     let mut ledger = vec![0; MAX_LEDGER_LEN];
     let left = run.volumes[run.passed][link].left;
@@ -169,7 +169,7 @@ fn running(texts: &Texts, network: &Network, volumes: &[Vec<Volumes>], passed: u
     for steps in 1..=passed {
         let time_before = totals.doubled_time;
         totals = check_plan(
-            cut(&texts.network, steps).as_bytes(),
+            cut(&texts.network, steps)?.as_bytes(),
             first_lines(&texts.plan, steps),
             &mut ledger,
         )?;

@@ -1,7 +1,6 @@
 //! What the lines of a valid network say, and the network cut to its first steps.
 
-use crate::records::{lines, record, write_record, Record};
-use plancheck::{check_network, Refusal};
+use plancheck::{NetworkText, Refusal};
 
 pub struct Signal {
     pub line: usize,
@@ -65,56 +64,30 @@ pub struct Network {
 impl Network {
     /// Reads a network text, once the library has found it valid.
     pub fn read(text: &[u8]) -> Result<Network, Refusal> {
-        check_network(text)?;
-        let mut network = Network {
-            trams: Vec::new(),
-            signals: Vec::new(),
-            links: Vec::new(),
-            movements: Vec::new(),
-            past: 0,
-            steps: Vec::new(),
-        };
-        for (place, bytes) in lines(text).into_iter().enumerate() {
-            network.take(place + 1, &record(bytes));
-        }
-        Ok(network)
-    }
-
-    fn take(&mut self, line: usize, record: &Record) {
-        let field = |place: usize| record.numbers.get(place).copied().unwrap_or(0);
-        match record.letter {
-            b'T' => self.trams.push(Tram {
-                line,
-                signal: field(0),
-                phase: field(1),
-                first: field(2),
-                last: field(3),
-            }),
-            b'G' => self.signals.push(Signal::new(line, &record.numbers)),
-            b'Q' => self.links.push(Link {
-                line,
-                capacity: field(0),
-                travel_time: field(1),
-                exit_rate: field(2),
-                signal: field(3),
-                mask: field(4),
-                waiting: field(6),
-            }),
-            b'M' => self.movements.push(Movement {
-                line,
-                from: field(0),
-                to: field(1),
-                rate: field(2),
-                share: field(3),
-            }),
-            b'H' => self.past += 1,
-            b'S' => self.steps.push(Step {
-                line,
-                length: field(0),
-                demands: record.numbers[1..].to_vec(),
-            }),
-            _ => {}
-        }
+        let text = NetworkText::read(text)?;
+        // The lines behind the `N` line, in their order.
+        let mut places = 2..;
+        let mut line = || places.next().unwrap_or(usize::MAX);
+        let trams = text.trams.iter().map(|tram| Tram::new(line(), tram)).collect();
+        let signals = text.signals.iter().map(|signal| Signal::new(line(), signal)).collect();
+        let links = text.links.iter().map(|link| Link::new(line(), link)).collect();
+        let movements = text.movements.iter().map(|movement| Movement::new(line(), movement));
+        let movements = movements.collect();
+        let past = text.past.iter().map(|_| line()).count();
+        let steps = text.steps.into_iter().map(|step| Step {
+            line: line(),
+            length: step.length,
+            demands: step.demands,
+        });
+        let steps = steps.collect();
+        Ok(Network {
+            trams,
+            signals,
+            links,
+            movements,
+            past,
+            steps,
+        })
     }
 
     /// The tram that claims a signal, counted from 0, in a step, counted from 1.
@@ -135,27 +108,66 @@ impl Network {
     }
 }
 
+impl Tram {
+    fn new(line: usize, tram: &plancheck::Tram) -> Tram {
+        let plancheck::Tram {
+            signal,
+            phase,
+            first,
+            last,
+        } = *tram;
+        Tram {
+            line,
+            signal,
+            phase,
+            first,
+            last,
+        }
+    }
+}
+
 impl Signal {
-    /// Reads the numbers of a `G` line.
-    fn new(line: usize, numbers: &[u32]) -> Signal {
-        let field = |place: usize| numbers.get(place).copied().unwrap_or(0);
-        let phases = field(2);
+    fn new(line: usize, signal: &plancheck::Signal) -> Signal {
+        let times = signal.phases.iter().map(|phase| [phase.least, phase.greatest]);
         Signal {
             line,
-            least_cycle: field(0),
-            greatest_cycle: field(1),
-            phases,
-            shown: field(3),
-            shown_for: field(4),
-            cycle_clock: field(5),
-            times: (0..phases as usize)
-                .map(|phase| [field(6 + 2 * phase), field(7 + 2 * phase)])
-                .collect(),
+            least_cycle: signal.least_cycle,
+            greatest_cycle: signal.greatest_cycle,
+            phases: u32::try_from(signal.phases.len()).unwrap_or(u32::MAX),
+            shown: signal.shown,
+            shown_for: signal.shown_for,
+            cycle_clock: signal.cycle_clock,
+            times: times.collect(),
+        }
+    }
+}
+
+impl Movement {
+    fn new(line: usize, movement: &plancheck::Movement) -> Movement {
+        let plancheck::Movement { from, to, rate, share } = *movement;
+        Movement {
+            line,
+            from,
+            to,
+            rate,
+            share,
         }
     }
 }
 
 impl Link {
+    fn new(line: usize, own: &plancheck::Link) -> Link {
+        Link {
+            line,
+            capacity: own.capacity,
+            travel_time: own.travel_time,
+            exit_rate: own.exit_rate,
+            signal: own.signal,
+            mask: own.mask,
+            waiting: own.waiting,
+        }
+    }
+
     /// Whether the link is open while the signals show these masks.
     pub fn is_open(&self, masks: &[u32]) -> bool {
         let shown = (self.signal as usize).checked_sub(1).map(|signal| masks[signal]);
@@ -164,29 +176,13 @@ impl Link {
 }
 
 /// A valid network with its first steps alone: what later steps say is left out, and trams end with the last step.
-pub fn cut(text: &[u8], steps: usize) -> String {
+pub fn cut(text: &[u8], steps: usize) -> Result<String, Refusal> {
     let last_step = u32::try_from(steps).unwrap_or(u32::MAX);
-    let records: Vec<Record> = lines(text).into_iter().map(record).collect();
-    let runs = |record: &Record| record.letter != b'T' || record.numbers[2] <= last_step;
-    let trams = records
-        .iter()
-        .filter(|record| record.letter == b'T' && runs(record))
-        .count();
-    let mut cut = String::new();
-    let mut steps_left = steps;
-    for record in records.iter().filter(|record| runs(record)) {
-        let mut numbers = record.numbers.clone();
-        match record.letter {
-            b'N' => {
-                numbers[3] = last_step;
-                numbers[4] = u32::try_from(trams).unwrap_or(u32::MAX);
-            }
-            b'T' => numbers[3] = numbers[3].min(last_step),
-            b'S' if steps_left == 0 => continue,
-            b'S' => steps_left -= 1,
-            _ => {}
-        }
-        write_record(&mut cut, char::from(record.letter), &numbers);
+    let mut network = NetworkText::read(text)?;
+    network.steps.truncate(steps);
+    network.trams.retain(|tram| tram.first <= last_step);
+    for tram in &mut network.trams {
+        tram.last = tram.last.min(last_step);
     }
-    cut
+    Ok(network.to_string())
 }
