@@ -33,20 +33,21 @@ fn main() -> Result<(), Box<dyn Error>> {
     let carried = &carried[..length];
 
     let now = NetworkText::read(carried)?;
-    for (place, signal) in now.signals.iter().enumerate() {
-        let (shown, shown_for) = (signal.shown, signal.shown_for);
-        println!("signal {} shows phase {shown}, for {shown_for} s so far", place + 1);
-    }
-    let waiting: u32 = now.links.iter().map(|link| link.waiting).sum();
-    println!(
-        "{waiting} thousandths of a vehicle wait outside, {} steps are left",
-        now.steps.len()
-    );
-
+    tell(&now);
     let held = PlanText::hold(&now);
     match check_plan(carried, held.to_string().as_bytes(), &mut ledger) {
         Ok(totals) => println!("held still: accepted, {} inside at the end", totals.inside),
         Err(refusal) => println!("held still: {refusal}"),
     }
     Ok(())
+}
+
+fn tell(now: &NetworkText) {
+    for (place, signal) in now.signals.iter().enumerate() {
+        let (shown, shown_for) = (signal.shown, signal.shown_for);
+        println!("signal {} shows phase {shown}, for {shown_for} s so far", place + 1);
+    }
+    let waiting: u32 = now.links.iter().map(|link| link.waiting).sum();
+    let left = now.steps.len();
+    println!("{waiting} thousandths of a vehicle wait outside, {left} steps are left");
 }

@@ -1,8 +1,8 @@
 //! A network by its parts, written as a text and read from one.
 
-use crate::records::{count, read, write};
+use crate::records::{count, read, write, write_all, Record};
 use crate::{check_network, Counts, Refusal, Volumes};
-use alloc::vec::Vec;
+use alloc::{vec, vec::Vec};
 use core::fmt;
 
 /// A network by its parts. `Display` writes its text, so that `to_string()` gives what the calls take; [`NetworkText::read`]
@@ -182,53 +182,15 @@ impl NetworkText {
         }
     }
 
-    /// Takes the numbers of a line. What a valid text always has is there.
+    /// Takes a line by its letter and numbers.
     fn take(&mut self, letter: u8, numbers: &[u32]) {
-        match (letter, numbers) {
-            (b'T', &[signal, phase, first, last]) => self.trams.push(Tram {
-                signal,
-                phase,
-                first,
-                last,
-            }),
-            (b'G', &[least_cycle, greatest_cycle, _, shown, shown_for, cycle_clock, ref times @ ..]) => {
-                let phases = times.chunks_exact(2).map(|times| Phase {
-                    least: times[0],
-                    greatest: times[1],
-                });
-                self.signals.push(Signal {
-                    least_cycle,
-                    greatest_cycle,
-                    shown,
-                    shown_for,
-                    cycle_clock,
-                    phases: phases.collect(),
-                });
-            }
-            (b'Q', &[capacity, travel_time, exit_rate, signal, mask, standing, waiting]) => self.links.push(Link {
-                capacity,
-                travel_time,
-                exit_rate,
-                signal,
-                mask,
-                standing,
-                waiting,
-            }),
-            (b'M', &[from, to, rate, share]) => self.movements.push(Movement { from, to, rate, share }),
-            (b'H', &[length, ref volumes @ ..]) => {
-                let volumes = volumes.chunks_exact(2).map(|volumes| Volumes {
-                    entered: volumes[0],
-                    left: volumes[1],
-                });
-                self.past.push(PastStep {
-                    length,
-                    volumes: volumes.collect(),
-                });
-            }
-            (b'S', &[length, ref demands @ ..]) => self.steps.push(Step {
-                length,
-                demands: demands.to_vec(),
-            }),
+        match letter {
+            b'T' => self.trams.extend(Tram::read(numbers)),
+            b'G' => self.signals.extend(Signal::read(numbers)),
+            b'Q' => self.links.extend(Link::read(numbers)),
+            b'M' => self.movements.extend(Movement::read(numbers)),
+            b'H' => self.past.extend(PastStep::read(numbers)),
+            b'S' => self.steps.extend(Step::read(numbers)),
             _ => {}
         }
     }
@@ -245,48 +207,148 @@ impl fmt::Display for NetworkText {
             count(&self.past),
         ];
         write(formatter, 'N', counts)?;
-        for tram in &self.trams {
-            write(formatter, 'T', [tram.signal, tram.phase, tram.first, tram.last])?;
-        }
-        for signal in &self.signals {
-            let fixed = [
-                signal.least_cycle,
-                signal.greatest_cycle,
-                count(&signal.phases),
-                signal.shown,
-                signal.shown_for,
-                signal.cycle_clock,
-            ];
-            let times = signal.phases.iter().flat_map(|phase| [phase.least, phase.greatest]);
-            write(formatter, 'G', fixed.into_iter().chain(times))?;
-        }
-        for link in &self.links {
-            let numbers = [
-                link.capacity,
-                link.travel_time,
-                link.exit_rate,
-                link.signal,
-                link.mask,
-                link.standing,
-                link.waiting,
-            ];
-            write(formatter, 'Q', numbers)?;
-        }
-        for movement in &self.movements {
-            let numbers = [movement.from, movement.to, movement.rate, movement.share];
-            write(formatter, 'M', numbers)?;
-        }
-        for step in &self.past {
-            let volumes = step.volumes.iter().flat_map(|volumes| [volumes.entered, volumes.left]);
-            write(formatter, 'H', [step.length].into_iter().chain(volumes))?;
-        }
-        for step in &self.steps {
-            write(
-                formatter,
-                'S',
-                [step.length].into_iter().chain(step.demands.iter().copied()),
-            )?;
-        }
-        Ok(())
+        write_all(formatter, &self.trams)?;
+        write_all(formatter, &self.signals)?;
+        write_all(formatter, &self.links)?;
+        write_all(formatter, &self.movements)?;
+        write_all(formatter, &self.past)?;
+        write_all(formatter, &self.steps)
     }
+}
+
+impl Record for Tram {
+    const LETTER: char = 'T';
+
+    fn read(numbers: &[u32]) -> Option<Tram> {
+        let &[signal, phase, first, last] = numbers else {
+            return None;
+        };
+        Some(Tram {
+            signal,
+            phase,
+            first,
+            last,
+        })
+    }
+
+    fn numbers(&self) -> Vec<u32> {
+        vec![self.signal, self.phase, self.first, self.last]
+    }
+}
+
+impl Record for Signal {
+    const LETTER: char = 'G';
+
+    fn read(numbers: &[u32]) -> Option<Signal> {
+        let &[least_cycle, greatest_cycle, _, shown, shown_for, cycle_clock, ref times @ ..] = numbers else {
+            return None;
+        };
+        let phases = pairs(times).map(|[least, greatest]| Phase { least, greatest });
+        Some(Signal {
+            least_cycle,
+            greatest_cycle,
+            shown,
+            shown_for,
+            cycle_clock,
+            phases: phases.collect(),
+        })
+    }
+
+    fn numbers(&self) -> Vec<u32> {
+        let mut numbers = vec![
+            self.least_cycle,
+            self.greatest_cycle,
+            count(&self.phases),
+            self.shown,
+            self.shown_for,
+            self.cycle_clock,
+        ];
+        numbers.extend(self.phases.iter().flat_map(|phase| [phase.least, phase.greatest]));
+        numbers
+    }
+}
+
+impl Record for Link {
+    const LETTER: char = 'Q';
+
+    fn read(numbers: &[u32]) -> Option<Link> {
+        let &[capacity, travel_time, exit_rate, signal, mask, standing, waiting] = numbers else {
+            return None;
+        };
+        Some(Link {
+            capacity,
+            travel_time,
+            exit_rate,
+            signal,
+            mask,
+            standing,
+            waiting,
+        })
+    }
+
+    fn numbers(&self) -> Vec<u32> {
+        vec![
+            self.capacity,
+            self.travel_time,
+            self.exit_rate,
+            self.signal,
+            self.mask,
+            self.standing,
+            self.waiting,
+        ]
+    }
+}
+
+impl Record for Movement {
+    const LETTER: char = 'M';
+
+    fn read(numbers: &[u32]) -> Option<Movement> {
+        let &[from, to, rate, share] = numbers else {
+            return None;
+        };
+        Some(Movement { from, to, rate, share })
+    }
+
+    fn numbers(&self) -> Vec<u32> {
+        vec![self.from, self.to, self.rate, self.share]
+    }
+}
+
+impl Record for PastStep {
+    const LETTER: char = 'H';
+
+    fn read(numbers: &[u32]) -> Option<PastStep> {
+        let (&length, volumes) = numbers.split_first()?;
+        let volumes = pairs(volumes).map(|[entered, left]| Volumes { entered, left });
+        Some(PastStep {
+            length,
+            volumes: volumes.collect(),
+        })
+    }
+
+    fn numbers(&self) -> Vec<u32> {
+        let volumes = self.volumes.iter().flat_map(|volumes| [volumes.entered, volumes.left]);
+        [self.length].into_iter().chain(volumes).collect()
+    }
+}
+
+impl Record for Step {
+    const LETTER: char = 'S';
+
+    fn read(numbers: &[u32]) -> Option<Step> {
+        let (&length, demands) = numbers.split_first()?;
+        Some(Step {
+            length,
+            demands: demands.to_vec(),
+        })
+    }
+
+    fn numbers(&self) -> Vec<u32> {
+        let demands = self.demands.iter().copied();
+        [self.length].into_iter().chain(demands).collect()
+    }
+}
+
+fn pairs(numbers: &[u32]) -> impl Iterator<Item = [u32; 2]> + '_ {
+    numbers.chunks_exact(2).map(|pair| [pair[0], pair[1]])
 }

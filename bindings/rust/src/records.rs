@@ -3,6 +3,22 @@
 use alloc::vec::Vec;
 use core::fmt;
 
+/// A line of one letter by type.
+pub(crate) trait Record: Sized {
+    const LETTER: char;
+
+    /// The record of these numbers; none where they are too few or too many.
+    fn read(numbers: &[u32]) -> Option<Self>;
+
+    fn numbers(&self) -> Vec<u32>;
+}
+
+/// Writes records, a line each.
+pub(crate) fn write_all<R: Record>(formatter: &mut fmt::Formatter<'_>, records: &[R]) -> fmt::Result {
+    let mut records = records.iter();
+    records.try_for_each(|record| write(formatter, R::LETTER, record.numbers()))
+}
+
 /// Writes a record, its numbers without leading zeros.
 pub(crate) fn write(
     formatter: &mut fmt::Formatter<'_>,

@@ -7,6 +7,18 @@ use plancheck::{Refusal, MAX_CELLS, MAX_DEMANDS};
 
 const MAX_VOLUME: u32 = 2_000_000_000;
 
+/// A field's name and its limits.
+type Limits = (&'static str, [u32; 2]);
+
+const CELL: [Limits; 4] = [
+    ("the flow limit", [0, MAX_VOLUME]),
+    ("the holding limit", [0, MAX_VOLUME]),
+    ("the wave ratio", [1, 1000]),
+    ("the volume at the start", [0, MAX_VOLUME]),
+];
+const EXIT: [Limits; 1] = [("the exit limit", [0, MAX_VOLUME])];
+const DEMAND: [Limits; 1] = [("the demand", [0, MAX_VOLUME])];
+
 pub fn of_corridor(refusal: &Refusal, text: &[u8]) -> Vec<Fault> {
     let line = refusal.line as usize;
     let all: Vec<_> = lines(text).into_iter().map(record).collect();
@@ -14,45 +26,24 @@ pub fn of_corridor(refusal: &Refusal, text: &[u8]) -> Vec<Fault> {
     let Some(own) = line.checked_sub(1).and_then(|place| all.get(place)) else {
         return faults.found;
     };
-    let before = all[..line - 1]
-        .iter()
-        .filter(|other| other.letter == own.letter)
-        .count();
-    let field = |field: usize| own.numbers.get(field - 1).copied();
-    let mut outside = |place: usize, name: &str, limits: [u32; 2]| {
-        if let Some(number) = field(place) {
-            faults.outside(place, name, number, limits);
-        }
+    let (limits, things, most): (&[Limits], _, _) = match own.letter {
+        b'C' => (&CELL, "cells", MAX_CELLS),
+        b'X' => (&EXIT, "exits", 1),
+        _ => (&DEMAND, "demands", MAX_DEMANDS),
     };
-    match own.letter {
-        b'C' => {
-            outside(1, "the flow limit", [0, MAX_VOLUME]);
-            outside(2, "the holding limit", [0, MAX_VOLUME]);
-            outside(3, "the wave ratio", [1, 1000]);
-            outside(4, "the volume at the start", [0, MAX_VOLUME]);
-            if before >= MAX_CELLS {
-                faults.push(
-                    &[0],
-                    format!("{MAX_CELLS} cells are before it, and there may be no more"),
-                );
-            }
-            if let Some((start, holding)) = field(4).zip(field(2)).filter(|(start, holding)| start > holding) {
-                let [start, holding] = [start, holding].map(|volume| vehicles(volume.into()));
-                let words = format!("it starts with {start} vehicles, and its holding limit is {holding}");
-                faults.push(&[4, 2], words);
-            }
+    for (field, (&number, &(name, limits))) in (1..).zip(own.numbers.iter().zip(limits)) {
+        faults.outside(field, name, number, limits);
+    }
+    let before = all[..line - 1].iter().filter(|other| other.letter == own.letter);
+    if before.count() >= most {
+        faults.push(&[0], format!("{most} {things} are before it, and there may be no more"));
+    }
+    if let (b'C', &[_, holding, _, start]) = (own.letter, &own.numbers[..]) {
+        if start > holding {
+            let [start, holding] = [start, holding].map(|volume| vehicles(volume.into()));
+            let words = format!("it starts with {start} vehicles, and its holding limit is {holding}");
+            faults.push(&[4, 2], words);
         }
-        b'X' => outside(1, "the exit limit", [0, MAX_VOLUME]),
-        b'D' => {
-            outside(1, "the demand", [0, MAX_VOLUME]);
-            if before >= MAX_DEMANDS {
-                faults.push(
-                    &[0],
-                    format!("{MAX_DEMANDS} demands are before it, and there may be no more"),
-                );
-            }
-        }
-        _ => {}
     }
     faults.found
 }

@@ -23,14 +23,7 @@ pub fn of_listing(refusal: &Refusal, network: &Network, text: &[u8]) -> Vec<Faul
         return faults.found;
     };
     let variable = variable(&mut faults, name, network);
-    let rate = millionths(value);
-    if rate.is_none() {
-        let shown = show::line(value);
-        let words = format!(
-            "its value is '{shown}', and 1 to 10 digits are due, then perhaps a point and 1 to 6 more: neither sign nor exponent"
-        );
-        faults.push(&[VALUE], words);
-    }
+    let rate = rate(&mut faults, value);
     if let Some((variable, rate)) = variable.zip(rate) {
         if refusal.reason() == Some(Reason::ListingVolume) {
             volume(&mut faults, variable.step, rate, network);
@@ -41,19 +34,25 @@ pub fn of_listing(refusal: &Refusal, network: &Network, text: &[u8]) -> Vec<Faul
             );
         }
     }
-    let is_again = |earlier: &&[u8]| earlier.split(|&byte| byte == b' ').next() == Some(name);
-    if let Some(place) = all[..line - 1].iter().position(is_again) {
-        let mark = Mark {
-            line: place + 1,
-            fields: vec![VARIABLE],
-        };
-        let words = format!("line {} has set {} before", place + 1, show::line(name));
-        faults.push_with(&[VARIABLE], &[mark], words);
-    }
+    set_before(&mut faults, name, &all[..line - 1]);
     if line == all.len() && !text.ends_with(b"\n") {
         faults.push(&[], "no line feed ends it".to_string());
     }
     faults.found
+}
+
+/// A variable that an earlier line has set.
+fn set_before(faults: &mut Faults, name: &[u8], earlier: &[&[u8]]) {
+    let is_again = |line: &&[u8]| line.split(|&byte| byte == b' ').next() == Some(name);
+    let Some(place) = earlier.iter().position(is_again) else {
+        return;
+    };
+    let mark = Mark {
+        line: place + 1,
+        fields: vec![VARIABLE],
+    };
+    let words = format!("line {} has set {} before", place + 1, show::line(name));
+    faults.push_with(&[VARIABLE], &[mark], words);
 }
 
 /// The variable and the value of a line, around its first space.
@@ -133,6 +132,19 @@ fn index(digits: &[u8]) -> Option<usize> {
 fn decimal(digits: &[u8], most: usize) -> Option<u64> {
     let is_decimal = (1..=most).contains(&digits.len()) && digits.iter().all(u8::is_ascii_digit);
     std::str::from_utf8(digits).ok().filter(|_| is_decimal)?.parse().ok()
+}
+
+/// The rate of a value, in millionths.
+fn rate(faults: &mut Faults, value: &[u8]) -> Option<u64> {
+    let rate = millionths(value);
+    if rate.is_none() {
+        let shown = show::line(value);
+        let words = format!(
+            "its value is '{shown}', and 1 to 10 digits are due, then perhaps a point and 1 to 6 more: neither sign nor exponent"
+        );
+        faults.push(&[VALUE], words);
+    }
+    rate
 }
 
 /// A decimal in millionths.

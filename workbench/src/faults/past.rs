@@ -48,47 +48,39 @@ fn of_link(raw: &Raw, link: u32) -> Vec<Fault> {
     let sum = |field: usize| -> u64 { past_steps(raw).map(|(_, step)| u64::from(step.field(field))).sum() };
     let (came, left) = (sum(field), sum(field + 1));
     let [capacity, travel_time, standing, waiting] = [1, 2, 6, 7].map(|field| u64::from(own.field(field)));
-    let told = |volume: u64| vehicles(volume);
     let arrived = standing + arrived(raw, field, travel_time);
     if left > arrived {
+        let [left, arrived, standing] = [left, arrived, standing].map(vehicles);
         let words = format!(
-            "link {link}: {} vehicles have left by the past's end, and {} have arrived, {} that stood there among them",
-            told(left),
-            told(arrived),
-            told(standing)
+            "link {link}: {left} vehicles have left by the past's end, and {arrived} have arrived, {standing} that stood there among them"
         );
         faults.push(&[2, 6], words);
     }
     let held = (standing + came).saturating_sub(left);
     if held > capacity {
+        let [standing, came, left, held, capacity] = [standing, came, left, held, capacity].map(vehicles);
         let words = format!(
-            "link {link}: {} vehicles stood on it, {} entered and {} left in the past: it holds {}, and its capacity is {}",
-            told(standing),
-            told(came),
-            told(left),
-            told(held),
-            told(capacity)
+            "link {link}: {standing} vehicles stood on it, {came} entered and {left} left in the past: it holds {held}, and its capacity is {capacity}"
         );
         faults.push(&[1, 6], words);
     }
+    coming(&mut faults, raw, link, [came, waiting]);
+    faults.found
+}
+
+/// What comes to a link in all: what entered in the past, waits outside and is its demand.
+fn coming(faults: &mut Faults, raw: &Raw, link: u32, [came, waiting]: [u64; 2]) {
     let steps = (1..=raw.steps).filter_map(|step| raw.item(b'S', step));
     let demand: u64 = steps.map(|(_, step)| u64::from(step.field(1 + link as usize))).sum();
-    let (coming, most) = (
-        came + waiting + demand,
-        MAX_COMING + MAX_COMING_A_STEP * u64::from(raw.past),
-    );
+    let coming = came + waiting + demand;
+    let most = MAX_COMING + MAX_COMING_A_STEP * u64::from(raw.past);
     if coming > most {
+        let [came, waiting, demand, coming, most] = [came, waiting, demand, coming, most].map(vehicles);
         let words = format!(
-            "link {link}: {} vehicles entered in the past, {} wait outside and {} are its demand: {} in all, and at most {} are due",
-            told(came),
-            told(waiting),
-            told(demand),
-            told(coming),
-            told(most)
+            "link {link}: {came} vehicles entered in the past, {waiting} wait outside and {demand} are its demand: {coming} in all, and at most {most} are due"
         );
         faults.push(&[7], words);
     }
-    faults.found
 }
 
 /// What entered a link at least its travel time before the past's end, the part of a step taken evenly and rounded down.
