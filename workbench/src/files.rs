@@ -81,7 +81,7 @@ pub fn read_given(command: &Command, named: &[&str], plan: Option<&str>) -> Resu
         ([folder], None) if Path::new(folder).is_file() || *folder == INPUT => {
             return Err(command.wrong_as(&format!("{folder} is one text, and a network and a plan are due")));
         }
-        ([folder], None) => (Path::new(folder).join(NETWORK), Path::new(folder).join(PLAN)),
+        ([folder], None) => of_folder(Path::new(folder))?,
         (&[network], Some(plan)) | (&[network, plan], None) => (network_at(network), PathBuf::from(plan)),
         _ => return Err(command.wrong()),
     };
@@ -90,6 +90,18 @@ pub fn read_given(command: &Command, named: &[&str], plan: Option<&str>) -> Resu
         plan: read(&plan)?,
     };
     Ok(Given { texts, network, plan })
+}
+
+/// The two files of a folder.
+fn of_folder(folder: &Path) -> Result<(PathBuf, PathBuf), Problem> {
+    let (network, plan) = (folder.join(NETWORK), folder.join(PLAN));
+    if network.exists() && !plan.exists() {
+        let folder = folder.display();
+        return Err(Problem(format!(
+            "{folder} has no {PLAN}; {PLAN_OPTION} FILE names another plan"
+        )));
+    }
+    Ok((network, plan))
 }
 
 impl Given {

@@ -404,6 +404,30 @@ mod tests {
         }
     }
 
+    /// Each byte of a line replaced: it is read or it is not, and what is read is written and read again as it is.
+    #[test]
+    fn damaged_lines() {
+        let line = r#"{"id":[-1.5e3,null,{"a":true}],"plan":"P\t1\u00e9\ud83d\ude00\n"}"#;
+        let (mut read_ones, mut wrong_ones) = (0, 0);
+        for place in 0..line.len() {
+            for byte in 0..=0x7f {
+                let mut bytes = line.as_bytes().to_vec();
+                bytes[place] = byte;
+                match read(std::str::from_utf8(&bytes).unwrap()) {
+                    Ok(value) => {
+                        read_ones += 1;
+                        assert_eq!(read(&value.to_string()), Ok(value));
+                    }
+                    Err(wrong) => {
+                        wrong_ones += 1;
+                        assert!((1..=line.len() + 1).contains(&wrong.byte), "{wrong}");
+                    }
+                }
+            }
+        }
+        assert!(read_ones > 1000 && wrong_ones > 1000, "{read_ones} {wrong_ones}");
+    }
+
     #[test]
     fn depth_is_limited() {
         let nested = |depth: usize| "[".repeat(depth) + &"]".repeat(depth);

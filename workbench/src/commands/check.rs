@@ -34,6 +34,7 @@ fn run(arguments: &[String], out: &mut dyn Write) -> Outcome {
         Err(refusal) => {
             let network = Network::read(&given.texts.network).ok();
             writeln!(out, "{}", words::sentence(&refusal, network.as_ref()))?;
+            eprintln!("workbench: explain, with the same arguments, shows the place and says why");
         }
     }
     Ok(ended)

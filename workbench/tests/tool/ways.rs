@@ -118,6 +118,14 @@ fn what_is_wrong_is_said() {
         assert_eq!((said.status, said.out.as_str()), (2, ""), "{arguments:?}");
         assert!(said.err.contains(words), "{arguments:?}: {}", said.err);
     }
+    let folder = scratch("ways_no_plan");
+    fs::copy(example("corridor/network.tsv"), folder.join("network.tsv")).unwrap();
+    let said = workbench(&["check", &folder.display().to_string()]);
+    assert!(
+        said.err.contains("has no plan.tsv; --plan FILE names another plan"),
+        "{}",
+        said.err
+    );
     let said = workbench(&["check", &example("corridor/plan.tsv")]);
     assert!(
         said.err
