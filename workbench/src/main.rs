@@ -10,12 +10,15 @@ mod halves;
 mod json;
 mod judge;
 mod make;
+mod names;
 mod network;
 mod plan;
 mod pointed;
 mod records;
 mod report;
 mod show;
+mod summary;
+mod wave;
 mod why;
 mod words;
 

@@ -13,6 +13,7 @@ mod report;
 mod sheet;
 mod split;
 mod states;
+mod wave;
 
 use crate::command::Command;
 
@@ -21,6 +22,7 @@ pub const ALL: &[Command] = &[
     check::COMMAND,
     explain::COMMAND,
     report::COMMAND,
+    wave::COMMAND,
     states::COMMAND,
     rank::COMMAND,
     batch::COMMAND,

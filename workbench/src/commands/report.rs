@@ -16,7 +16,7 @@ pub const COMMAND: Command = Command {
 fn run(arguments: &[String], out: &mut dyn Write) -> Outcome {
     let parted = part(&COMMAND, arguments, &["-o", PLAN_OPTION], &[])?;
     let given = read_given(&COMMAND, &parted.others, parted.value(PLAN_OPTION))?;
-    let page = page(&given.name(), &given.texts);
+    let page = page(&given.name(), &given.texts, &given.network);
     match parted.value("-o") {
         Some(path) => write(Path::new(path), page.as_bytes())?,
         None => out.write_all(page.as_bytes())?,

@@ -1,7 +1,9 @@
 //! Two pictures of each link: what has entered, arrived and left, and what is queued and in transit.
 
+use super::capital;
 use super::svg::{area_key, escape, figure, line_key, most_of, Frame, Point, LEFT};
 use crate::judge::Run;
+use crate::names::Names;
 use crate::network::Link;
 use crate::plan::PlanLine;
 use crate::show;
@@ -22,7 +24,7 @@ impl Breaks<'_> {
     }
 }
 
-pub fn cards(run: &Run, refusal: Option<&Refusal>, why: Option<&Why>) -> String {
+pub fn cards(run: &Run, names: &Names, refusal: Option<&Refusal>, why: Option<&Why>) -> String {
     let broken = refusal.and_then(|refusal| broken_link(run, refusal));
     let mut cards = String::new();
     for (place, link) in run.network.links.iter().enumerate() {
@@ -33,8 +35,8 @@ pub fn cards(run: &Run, refusal: Option<&Refusal>, why: Option<&Why>) -> String 
         let _ = writeln!(cards, "<section class=\"{class}\" id=\"link-{}\">", place + 1);
         let _ = writeln!(
             cards,
-            "<h3>Link {}</h3>\n<p>{}</p>",
-            place + 1,
+            "<h3>{}<a href=\"#table\">to the table</a></h3>\n<p>{}</p>",
+            escape(&capital(&names.link(place + 1))),
             escape(&about(run, place, link))
         );
         if let Some((Breaks { refusal, why }, step)) = breaks.zip(run.refused_step()) {
@@ -147,7 +149,11 @@ fn curves(run: &Run, place: usize, link: &Link, breaks: Option<Breaks>) -> Strin
         + &frame.curve("left", &left)
         + &frame.curve("arrived", &arrived)
         + &frame.curve("would", &would)
-        + &open_strip(run, &frame, &times, link);
+        + &open_strip(run, &frame, &times, link)
+        + &frame.told(&times[..=run.passed], |boundary| {
+            let [entered, arrived, left] = [&entered, &arrived, &left].map(|curve| show::vehicles(curve[boundary].1));
+            format!("{entered} entered, {arrived} arrived, {left} left")
+        });
     let picture = frame.picture(&format!("Entered, arrived and left, link {}", place + 1), &drawn);
     figure("Vehicles:", &keys, &picture)
 }
@@ -180,6 +186,11 @@ fn queue(run: &Run, place: usize, link: &Link, breaks: Option<Breaks>) -> String
     if shows_capacity {
         drawn += &frame.level("capacity", capacity, "capacity");
     }
+    drawn += &frame.told(&times[..=run.passed], |boundary| {
+        let [queued, in_transit] =
+            [state(boundary).queued, state(boundary).in_transit].map(|volume| show::vehicles(volume.into()));
+        format!("{queued} queued, {in_transit} in transit")
+    });
     let picture = frame.picture(&format!("Queued and in transit, link {}", place + 1), &drawn);
     figure("Vehicles:", &keys, &picture)
 }

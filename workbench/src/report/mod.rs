@@ -1,49 +1,65 @@
-//! A plan on one HTML page, without scripts, with pictures. Its numbers come from the library's calls alone.
+//! Pages with pictures, without scripts. The numbers of a plan come from the library's calls alone.
 
 mod links;
 mod refusal;
+mod shell;
 mod signals;
 mod svg;
+mod table;
+mod wave;
 mod whole;
 
 use crate::files::Texts;
 use crate::judge::Run;
+use crate::names::Names;
 use crate::show::counted;
+use crate::wave::Path as Links;
 use crate::why::{why, Why};
-use plancheck::{library_version, Refusal};
+use plancheck::Refusal;
+use shell::shell;
 use std::fmt::Write;
-use svg::escape;
+use std::path::Path;
 
-const STYLE: &str = include_str!("style.css");
-
-pub fn page(name: &str, texts: &Texts) -> String {
+/// The page of a plan; the names are those beside the network, whose place this is.
+pub fn page(name: &str, texts: &Texts, network: &Path) -> String {
     let judged = Run::new(texts);
     let (run, refusal) = match &judged {
         Ok(run) => (Some(run), run.answer.err()),
         Err(refusal) => (None, Some(*refusal)),
     };
-    let mut page = format!(
-        "<!DOCTYPE html>\n<html lang=\"en\">\n<head>\n<meta charset=\"utf-8\">\n<title>Plan of {name}</title>\n\
-         <meta name=\"viewport\" content=\"width=device-width\">\n<style>\n{STYLE}</style>\n</head>\n<body>\n\
-         <h1>Plan of {name}</h1>\n",
-        name = escape(name)
-    );
+    let names = Names::beside(network, run.map(|run| &run.network));
     let why = refusal.zip(run).and_then(|(refusal, run)| why(&refusal, texts, run));
-    page += &verdict(refusal.as_ref());
+    let mut body = verdict(refusal.as_ref());
     if let Some(refusal) = &refusal {
-        page += &refusal::section(refusal, texts, run, why.as_ref());
+        body += &refusal::section(refusal, texts, run, why.as_ref());
     }
     if let Some(run) = run {
-        page += &pictures(run, refusal.as_ref(), why.as_ref());
+        body += &navigation(run, &names);
+        body += &pictures(texts, run, &names, refusal.as_ref(), why.as_ref());
     }
-    let version = library_version();
-    let _ = writeln!(
-        page,
-        "<p class=\"key\">Judged by the plan check library {}.{}.{}.</p>\n</body>\n</html>",
-        version.major, version.minor, version.patch
-    );
-    page
+    shell(&format!("Plan of {name}"), &body)
 }
+
+/// A page with the time-distance diagrams of some paths or, where there are none, of the usual ones.
+pub fn wave_page(name: &str, texts: &Texts, run: &Run, names: &Names, mut paths: Vec<Links>) -> String {
+    if paths.is_empty() {
+        paths = wave::usual_paths(run);
+    }
+    let body = format!(
+        "{}<p>{}</p>\n{}{WAVE}{}",
+        verdict(run.answer.err().as_ref()),
+        extent(run),
+        svg::PATTERNS,
+        wave::diagrams(&texts.network, run, names, &paths)
+    );
+    shell(&format!("Time and distance, plan of {name}"), &body)
+}
+
+/// How the diagrams are read.
+const WAVE: &str = "<p class=\"key\">Upwards, the way by its travel time; a second path is drawn downwards. At a link's end the bar is \
+    thick and green where the signal opens it, thin and red where it shuts it, hatched above where a tram claims the signal. A \
+    vehicle that starts within a through band meets every signal open. Vehicles come first in, first out; who stands is drawn \
+    behind those before him, and a queue takes the part of the link that it takes of its capacity.</p>\n";
 
 fn verdict(refusal: Option<&Refusal>) -> String {
     match refusal {
@@ -54,23 +70,57 @@ fn verdict(refusal: Option<&Refusal>) -> String {
     }
 }
 
-fn pictures(run: &Run, refusal: Option<&Refusal>, why: Option<&Why>) -> String {
-    let mut page = String::new();
-    let _ = writeln!(page, "<h2>Totals</h2>\n<p>{}</p>\n{}", extent(run), whole::totals(run));
+/// A bar that stays on the screen: to each part of the page, and to each link.
+fn navigation(run: &Run, names: &Names) -> String {
+    let mut bar = String::from("<nav><a href=\"#totals\">Totals</a><a href=\"#table\">Table of links</a><a href=\"#wave\">Time and distance</a>");
+    if !run.network.signals.is_empty() {
+        bar += "<a href=\"#signals\">Signals</a>";
+    }
+    bar += "<a href=\"#network\">Network</a> Links:";
+    for number in 1..=run.network.links.len() {
+        let title = svg::escape(&names.link(number));
+        let _ = write!(bar, "<a href=\"#link-{number}\" title=\"{title}\">{number}</a>");
+    }
+    bar + "</nav>\n"
+}
+
+fn pictures(texts: &Texts, run: &Run, names: &Names, refusal: Option<&Refusal>, why: Option<&Why>) -> String {
+    let mut page = String::from(svg::PATTERNS);
+    let _ = writeln!(
+        page,
+        "<h2 id=\"totals\">Totals</h2>\n<p>{}</p>\n{}",
+        extent(run),
+        whole::totals(run)
+    );
+    let _ = writeln!(
+        page,
+        "<h2 id=\"table\">Table of links</h2>\n<p class=\"key\">The delay is that of vehicles that came to the link's end, in its \
+         queue. At capacity: the seconds of steps in which the link took in all that it can hold, so that those behind had to wait.</p>\n{}",
+        table::links(run, names)
+    );
+    let _ = writeln!(
+        page,
+        "<h2 id=\"wave\">Time and distance</h2>\n{WAVE}{}",
+        wave::diagrams(&texts.network, run, names, &wave::usual_paths(run))
+    );
     if !run.network.signals.is_empty() {
         let _ = writeln!(
             page,
-            "<h2>Signals</h2>\n<p class=\"key\">The number of the phase that each signal shows, over the seconds; in front of second 0, \
-             the one shown before the plan.{}</p>\n{}",
+            "<h2 id=\"signals\">Signals</h2>\n<p class=\"key\">The number of the phase that each signal shows, over the seconds; in \
+             front of second 0, the one shown before the plan.{}</p>\n{}",
             if run.network.trams.is_empty() {
                 ""
             } else {
                 " A hatched bar is a tram that claims the signal, with the phase that it asks for."
             },
-            signals::picture(run, refusal, why)
+            signals::picture(run, names, refusal, why)
         );
     }
-    let _ = writeln!(page, "<h2>The whole network</h2>\n{}", whole::pictures(run));
+    let _ = writeln!(
+        page,
+        "<h2 id=\"network\">The whole network</h2>\n{}",
+        whole::pictures(run)
+    );
     let _ = writeln!(
         page,
         "<h2>Links</h2>\n<p class=\"key\">{}The strip under the seconds is thick and green where the signal opens the link, thin \
@@ -80,7 +130,7 @@ fn pictures(run: &Run, refusal: Option<&Refusal>, why: Option<&Why>) -> String {
         } else {
             ""
         },
-        links::cards(run, refusal, why)
+        links::cards(run, names, refusal, why)
     );
     page
 }
@@ -108,4 +158,14 @@ fn extent(run: &Run) -> String {
             format!("{extent}. Steps 1 to {passed} pass, up to second {until}: the totals are those by then.")
         }
     }
+}
+
+/// Words with a capital at their start.
+fn capital(words: &str) -> String {
+    words
+        .chars()
+        .take(1)
+        .flat_map(char::to_uppercase)
+        .chain(words.chars().skip(1))
+        .collect()
 }

@@ -1,5 +1,6 @@
 //! Where and why a plan breaks, with the lines that the refusal points at.
 
+use super::capital;
 use super::links::broken_link;
 use super::svg::escape;
 use crate::files::Texts;
@@ -39,16 +40,6 @@ pub fn section(refusal: &Refusal, texts: &Texts, run: Option<&Run>, why: Option<
         let _ = writeln!(section, "<p>{}.</p>", escape(&capital(&row.action())));
     }
     section + "</section>\n"
-}
-
-/// Words with a capital at their start.
-fn capital(words: &str) -> String {
-    words
-        .chars()
-        .take(1)
-        .flat_map(char::to_uppercase)
-        .chain(words.chars().skip(1))
-        .collect()
 }
 
 /// A line of a text, the fields that the rule is about marked.

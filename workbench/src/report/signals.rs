@@ -1,7 +1,8 @@
 //! The phases that each signal shows over time, trams marked.
 
-use super::svg::Frame;
+use super::svg::{escape, shortened, Frame};
 use crate::judge::Run;
+use crate::names::Names;
 use crate::network::Signal;
 use crate::why::Why;
 use plancheck::{ItemKind, Refusal, Text};
@@ -14,10 +15,12 @@ const TOP: f64 = 8.0;
 const BAR: f64 = 22.0;
 /// Room for words above the bar of the signal that breaks a rule.
 const WORDS: f64 = 20.0;
+/// Phases have so many colours; those behind have the same again, hatched.
+const COLOURS: u32 = 4;
 /// About as wide as a letter of a phase's name.
 const LETTER: f64 = 7.0;
 
-pub fn picture(run: &Run, refusal: Option<&Refusal>, why: Option<&Why>) -> String {
+pub fn picture(run: &Run, names: &Names, refusal: Option<&Refusal>, why: Option<&Why>) -> String {
     let times = run.network.times();
     let signals = run.network.signals.len();
     let broken_signal = (0..signals).find(|&signal| refusal.is_some_and(|refusal| breaks(refusal, signal)));
@@ -38,6 +41,7 @@ pub fn picture(run: &Run, refusal: Option<&Refusal>, why: Option<&Why>) -> Strin
     let mut drawn = String::new();
     for signal in 0..signals {
         let top = top_of(signal);
+        drawn += &row_name(names, signal + 1, top);
         drawn += &row(run, &frame, &times, signal, top);
         drawn += &trams(run, &frame, &times, signal, top);
         if let Some(refusal) = refusal.filter(|_| broken_signal == Some(signal)) {
@@ -47,14 +51,26 @@ pub fn picture(run: &Run, refusal: Option<&Refusal>, why: Option<&Why>) -> Strin
     let scale = frame.seconds_scale(height - 26.0);
     let label = "The phases of each signal over time";
     format!(
-        "<div class=\"wide\"><svg viewBox=\"0 0 1060 {height}\" role=\"img\" aria-label=\"{label}\">\n{HATCH}{drawn}{scale}</svg></div>\n"
+        "<div class=\"wide\"><svg viewBox=\"0 0 1060 {height}\" role=\"img\" aria-label=\"{label}\">\n{drawn}{scale}</svg></div>\n"
     )
 }
 
-const HATCH: &str = "<defs><pattern id=\"hatch\" width=\"6\" height=\"6\" patternUnits=\"userSpaceOnUse\" \
-    patternTransform=\"rotate(45)\"><rect width=\"3\" height=\"6\" fill=\"#1f2933\"/></pattern></defs>\n";
+/// The signal's number and, below it, its name, as far as there is room.
+fn row_name(names: &Names, number: usize, top: f64) -> String {
+    let own = names.of_signal(number).map_or(String::new(), |name| {
+        let shown = shortened(name, 13);
+        format!(
+            "<text class=\"own-name\" x=\"2\" y=\"{:.1}\">{}<title>{}</title></text>\n",
+            top + BAR + 8.0,
+            escape(&shown),
+            escape(name)
+        )
+    });
+    let base = top + BAR - 6.0;
+    format!("<text class=\"row-name\" x=\"2\" y=\"{base:.1}\">signal {number}</text>\n{own}")
+}
 
-/// The signal's name and the phase that it showed before the plan, in front of second 0.
+/// The phase that a signal showed before the plan, in front of second 0.
 fn before_the_plan(frame: &Frame, name: usize, signal: &Signal, top: f64) -> String {
     let Signal {
         shown,
@@ -63,11 +79,18 @@ fn before_the_plan(frame: &Frame, name: usize, signal: &Signal, top: f64) -> Str
         ..
     } = signal;
     let (x, base) = (frame.x(0), top + BAR - 6.0);
+    let hatched = if *shown > COLOURS {
+        format!(
+            "<rect class=\"hatched\" x=\"{:.1}\" y=\"{top:.1}\" width=\"14\" height=\"{BAR}\"/>\n",
+            x - 18.0
+        )
+    } else {
+        String::new()
+    };
     format!(
-        "<text class=\"row-name\" x=\"2\" y=\"{base:.1}\">signal {name}</text>\n\
-         <rect class=\"phase phase-{shown}\" x=\"{:.1}\" y=\"{top:.1}\" width=\"14\" height=\"{BAR}\"><title>signal {name} showed \
+        "<rect class=\"phase phase-{shown}\" x=\"{:.1}\" y=\"{top:.1}\" width=\"14\" height=\"{BAR}\"><title>signal {name} showed \
          phase {shown} for {shown_for} s before the plan; phase 1 began {cycle_clock} s before it</title></rect>\n\
-         <text class=\"phase-name\" x=\"{:.1}\" y=\"{base:.1}\">{shown}</text>\n",
+         {hatched}<text class=\"phase-name\" x=\"{:.1}\" y=\"{base:.1}\">{shown}</text>\n",
         x - 18.0,
         x - 11.0
     )
@@ -104,7 +127,8 @@ fn phase_bar(frame: &Frame, signal: usize, mask: u32, phases: u32, seconds: [u32
     } else {
         0
     };
-    let (class, label) = if (1..=phases).contains(&phase) {
+    let known = (1..=phases).contains(&phase);
+    let (class, label) = if known {
         (format!("phase phase-{phase}"), phase.to_string())
     } else {
         ("phase no-phase".to_string(), format!("mask {mask}"))
@@ -115,6 +139,9 @@ fn phase_bar(frame: &Frame, signal: usize, mask: u32, phases: u32, seconds: [u32
         to - from
     );
     let mut bar = frame.bar(&class, from, to, top, BAR, &title);
+    if known && phase > COLOURS {
+        bar += &frame.bar("hatched", from, to, top, BAR, &title);
+    }
     // A bar that is too narrow for its name tells it as a title alone.
     let room = (frame.x(to) - frame.x(from)) / LETTER;
     if room >= f64::from(u32::try_from(label.len()).unwrap_or(u32::MAX)) {

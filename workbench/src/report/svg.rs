@@ -11,6 +11,13 @@ const RIGHT: f64 = 20.0;
 const TOP: f64 = 10.0;
 const BOTTOM: f64 = 26.0;
 
+/// Patterns that pictures of a page fill with: of trams, and of phases whose colour is that of another.
+pub const PATTERNS: &str = "<svg class=\"patterns\" width=\"0\" height=\"0\" aria-hidden=\"true\"><defs>\
+    <pattern id=\"hatch\" width=\"6\" height=\"6\" patternUnits=\"userSpaceOnUse\" patternTransform=\"rotate(45)\">\
+    <rect class=\"ink\" width=\"3\" height=\"6\"/></pattern>\
+    <pattern id=\"thin-hatch\" width=\"7\" height=\"7\" patternUnits=\"userSpaceOnUse\" patternTransform=\"rotate(-45)\">\
+    <rect class=\"thin-ink\" width=\"2\" height=\"7\"/></pattern></defs></svg>\n";
+
 /// A picture with seconds from left to right and, upwards, volumes in thousandths of a vehicle.
 pub struct Frame {
     pub left: f64,
@@ -25,7 +32,11 @@ pub type Point = (u32, u64);
 
 impl Frame {
     pub fn x(&self, second: u32) -> f64 {
-        self.left + (self.width - self.left - RIGHT) * f64::from(second) / f64::from(self.seconds.max(1))
+        self.x_at(f64::from(second))
+    }
+
+    pub fn x_at(&self, second: f64) -> f64 {
+        self.left + (self.width - self.left - RIGHT) * second / f64::from(self.seconds.max(1))
     }
 
     /// Where the middle of a span of seconds is.
@@ -74,9 +85,9 @@ impl Frame {
     /// The marks of the seconds, under a line at this height.
     pub fn seconds_scale(&self, bottom: f64) -> String {
         let mut scale = String::new();
-        let marks = marks(self.seconds.into(), 9, SECOND_UNITS);
+        let marks = second_marks(self.seconds);
         for &second in &marks {
-            let x = self.x(u32::try_from(second).unwrap_or(0));
+            let x = self.x(second);
             let unit = if Some(&second) == marks.last() { " s" } else { "" };
             let _ = writeln!(
                 scale,
@@ -134,6 +145,26 @@ impl Frame {
         )
     }
 
+    /// What is told of each boundary while the pointer is near it.
+    pub fn told(&self, times: &[u32], words: impl Fn(usize) -> String) -> String {
+        self.columns(times, [TOP, self.height - TOP - BOTTOM], words)
+    }
+
+    /// The same within some height, from its top on.
+    pub fn columns(&self, times: &[u32], [top, height]: [f64; 2], words: impl Fn(usize) -> String) -> String {
+        let column = |boundary: usize| {
+            let middle = |other: usize| f64::from(times[boundary] + times[other]) / 2.0;
+            let from = self.x_at(middle(boundary.saturating_sub(1)));
+            let width = self.x_at(middle((boundary + 1).min(times.len() - 1))) - from;
+            format!(
+                "<rect class=\"told\" x=\"{from:.1}\" y=\"{top:.1}\" width=\"{width:.1}\" height=\"{height:.1}\"><title>second {}: {}</title></rect>\n",
+                times[boundary],
+                escape(&words(boundary))
+            )
+        };
+        (0..times.len()).map(column).collect()
+    }
+
     /// A span of seconds over the whole height.
     pub fn span(&self, class: &str, from: u32, to: u32) -> String {
         self.bar(class, from, to, TOP, self.height - TOP - BOTTOM, "")
@@ -176,7 +207,7 @@ impl Frame {
     }
 }
 
-fn text(class: &str, x: f64, y: f64, anchor: &str, words: &str) -> String {
+pub fn text(class: &str, x: f64, y: f64, anchor: &str, words: &str) -> String {
     let words = escape(words);
     format!("<text class=\"{class}\" x=\"{x:.1}\" y=\"{y:.1}\" text-anchor=\"{anchor}\">{words}</text>\n")
 }
@@ -204,6 +235,26 @@ fn marks(greatest: u64, count: u64, units: &[u64]) -> Vec<u64> {
     (0..=greatest / unit).map(|mark| mark * unit).collect()
 }
 
+/// The multiples of a unit up to the last second, and the last second itself; a multiple that its label would touch gives way.
+fn second_marks(last: u32) -> Vec<u32> {
+    let mut marks: Vec<u32> = marks(last.into(), 9, SECOND_UNITS)
+        .into_iter()
+        .filter_map(|mark| u32::try_from(mark).ok())
+        .collect();
+    let unit = marks.get(1).copied().unwrap_or(0);
+    if marks.len() > 1
+        && marks
+            .last()
+            .is_some_and(|&mark| mark < last && 4 * (last - mark) < 3 * unit)
+    {
+        marks.pop();
+    }
+    if marks.last() != Some(&last) {
+        marks.push(last);
+    }
+    marks
+}
+
 /// A picture below what is drawn in it: its keys, each behind its own swatch.
 pub fn figure(drawn: &str, keys: &[String], picture: &str) -> String {
     format!(
@@ -227,6 +278,15 @@ fn swatch(drawn: &str, name: &str) -> String {
     format!("<svg class=\"swatch\" viewBox=\"0 0 18 10\">{drawn}</svg>{name}")
 }
 
+/// A name of at most so many letters, cut where it is longer.
+pub fn shortened(name: &str, letters: usize) -> String {
+    if name.chars().count() <= letters {
+        return name.to_string();
+    }
+    let kept: String = name.chars().take(letters - 1).collect();
+    format!("{}\u{2026}", kept.trim_end())
+}
+
 /// A text as HTML shows it.
 pub fn escape(text: &str) -> String {
     text.replace('&', "&amp;")
@@ -241,9 +301,25 @@ mod tests {
 
     #[test]
     fn marks_of_scales() {
-        assert_eq!(marks(40, 9, SECOND_UNITS), [0, 5, 10, 15, 20, 25, 30, 35, 40]);
+        assert_eq!(second_marks(40), [0, 5, 10, 15, 20, 25, 30, 35, 40]);
         assert_eq!(marks(5000, 4, &volume_units()), [0, 2000, 4000]);
         assert_eq!(marks(0, 4, &volume_units()), [0]);
+    }
+
+    #[test]
+    fn the_last_second_is_marked() {
+        for last in 0..8000 {
+            let marks = second_marks(last);
+            assert_eq!((marks[0], marks[marks.len() - 1]), (0, last));
+            assert!(
+                marks.windows(2).all(|pair| pair[0] < pair[1]) && marks.len() <= 11,
+                "{marks:?}"
+            );
+        }
+        // 840 would stand too near to 900.
+        assert_eq!(second_marks(900), [0, 120, 240, 360, 480, 600, 720, 900]);
+        assert_eq!(second_marks(300), [0, 60, 120, 180, 240, 300]);
+        assert_eq!(second_marks(290), [0, 30, 60, 90, 120, 150, 180, 210, 240, 290]);
     }
 
     #[test]

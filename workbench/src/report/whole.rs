@@ -1,9 +1,10 @@
 //! The whole network over time: what is inside, what waits outside, what was admitted and let out.
 
 use super::links::{frame, refused_span};
-use super::svg::{area_key, figure, line_key, most_of, Point};
+use super::svg::{area_key, figure, line_key, most_of, Frame, Point};
 use crate::judge::{Run, Running};
 use crate::show;
+use crate::summary::of_vehicles;
 use std::fmt::Write;
 
 pub fn pictures(run: &Run) -> String {
@@ -21,6 +22,11 @@ fn points(run: &Run, times: &[u32], volume: fn(&Running) -> u64) -> Vec<Point> {
     run.running.iter().zip(times).map(at).collect()
 }
 
+/// What is told of each boundary that passed.
+fn told(run: &Run, frame: &Frame, times: &[u32], words: fn(&Running) -> String) -> String {
+    frame.told(&times[..run.running.len()], |boundary| words(&run.running[boundary]))
+}
+
 /// What is in the network and, above it, who waits outside.
 fn under_way(run: &Run, times: &[u32]) -> String {
     let ground = points(run, times, |_| 0);
@@ -29,7 +35,11 @@ fn under_way(run: &Run, times: &[u32]) -> String {
     let frame = frame(times, most_of(&[&under_way]));
     let drawn = refused_span(run, &frame, times, None)
         + &frame.area("outside", &inside, &under_way)
-        + &frame.area("inside", &ground, &inside);
+        + &frame.area("inside", &ground, &inside)
+        + &told(run, &frame, times, |running| {
+            let [inside, outside] = [running.totals.inside, running.outside].map(show::vehicles);
+            format!("{inside} in the network, {outside} waiting outside")
+        });
     let keys = [
         area_key("inside", "in the network"),
         area_key("outside", "waiting outside"),
@@ -43,8 +53,13 @@ fn flow(run: &Run, times: &[u32]) -> String {
     let admitted = points(run, times, |running| running.totals.admitted);
     let let_out = points(run, times, |running| running.totals.let_out);
     let frame = frame(times, most_of(&[&admitted, &let_out]));
-    let drawn =
-        refused_span(run, &frame, times, None) + &frame.curve("entered", &admitted) + &frame.curve("left", &let_out);
+    let drawn = refused_span(run, &frame, times, None)
+        + &frame.curve("entered", &admitted)
+        + &frame.curve("left", &let_out)
+        + &told(run, &frame, times, |running| {
+            let [admitted, let_out] = [running.totals.admitted, running.totals.let_out].map(show::vehicles);
+            format!("{admitted} admitted so far, {let_out} let out so far")
+        });
     let keys = [
         line_key("entered", "admitted so far"),
         line_key("left", "let out so far"),
@@ -69,8 +84,14 @@ pub fn totals(run: &Run) -> String {
             "vehicle seconds",
         ),
     ];
+    let means = of_vehicles(run).map(|spent| spent.map(|spent| show::mean_seconds(spent.doubled_time, spent.volume)));
+    let [mean_time, mean_delay] = means.unwrap_or_default();
+    let means = [("mean travel time", mean_time), ("mean delay", mean_delay)];
+    let means = means
+        .into_iter()
+        .filter_map(|(name, mean)| mean.map(|mean| (name, mean, "seconds a vehicle")));
     let mut table = String::from("<table class=\"totals\">\n");
-    for (name, number, unit) in rows {
+    for (name, number, unit) in rows.into_iter().chain(means) {
         let _ = writeln!(
             table,
             "<tr><th>{name}</th><td>{number}</td><td class=\"unit\">{unit}</td></tr>"

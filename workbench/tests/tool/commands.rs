@@ -8,8 +8,8 @@ fn usage_tells_the_commands_that_there_are() {
     let said = workbench(&[]);
     assert_eq!(said.status, 0);
     for name in [
-        "check", "explain", "report", "states", "rank", "batch", "compare", "carry", "split", "listing", "sheet",
-        "cells", "make",
+        "check", "explain", "report", "wave", "states", "rank", "batch", "compare", "carry", "split", "listing",
+        "sheet", "cells", "make",
     ] {
         assert!(said.out.contains(&format!("\n  {name} ")), "{name}");
     }
@@ -49,6 +49,8 @@ fn wrong_commands() {
         &["make", "1", "y", "--steps", "121"],
         &["make", "1", "y", "--plans"],
         &["report"],
+        &["wave"],
+        &["wave", "a", "--links"],
         &["explain"],
         &["compare", "a", "b"],
         &["sheet", "a"],

@@ -1,10 +1,12 @@
 //! The tool as its user meets it: what each command prints, and how it ends.
 
 mod batch;
+mod colours;
 mod commands;
 mod faults;
 mod made;
 mod reports;
+mod waves;
 mod ways;
 mod why;
 mod words;

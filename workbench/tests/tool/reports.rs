@@ -44,8 +44,15 @@ fn the_corridor() {
     assert_eq!(count(&page, "<polyline class=\"entered\""), 3);
     assert_eq!(count(&page, "<polyline class=\"arrived\""), 2);
     assert_eq!(count(&page, "class=\"broken"), 0);
-    // link 1 is open in three steps and shut in one, in both of its pictures; link 2 has no signal
-    assert_eq!((count(&page, "class=\"open\""), count(&page, "class=\"shut\"")), (6, 2));
+    // link 1 is open in three steps and shut in one, in both of its pictures; link 2 has no signal. The diagram has one green on
+    // a line that is shut else, and a key for each.
+    assert_eq!(
+        (count(&page, "class=\"open\""), count(&page, "class=\"shut\"")),
+        (6 + 2, 2 + 2)
+    );
+    assert!(page.contains("<th>mean travel time</th><td>24.0</td>"));
+    // two of the five stand for 10 s at most: 2 * 10 / 2 at its rise, as much at its fall
+    assert!(page.contains("<th>mean delay</th><td>4.0</td>"));
 }
 
 #[test]
@@ -66,7 +73,98 @@ fn trams_are_marked() {
         .matches("\nT\t")
         .count();
     assert!(trams > 0);
-    assert_eq!(count(&page(&name), "class=\"tram\""), trams);
+    // in the row of the signal and in the diagram, whose path passes all of them
+    assert_eq!(count(&page(&name), "class=\"tram\""), 2 * trams);
+}
+
+/// A folder of the examples with names beside its network.
+fn with_names(test: &str, name: &str, names: &str) -> String {
+    let folder = scratch(test);
+    for file in ["network.tsv", "plan.tsv"] {
+        fs::copy(format!("{}/{file}", example(name)), folder.join(file)).unwrap();
+    }
+    fs::write(folder.join("names.tsv"), names).unwrap();
+    folder.display().to_string()
+}
+
+/// The cells of a row of the table of links.
+fn row(page: &str, link: usize) -> Vec<String> {
+    let at = page.find(&format!("<tr><td><a href=\"#link-{link}\">")).unwrap();
+    let row = &page[at..at + page[at..].find("</tr>").unwrap()];
+    let cells = row.split("<td").skip(1);
+    cells
+        .map(|cell| {
+            cell.split('>')
+                .skip(1)
+                .map(|piece| piece.split('<').next().unwrap())
+                .collect()
+        })
+        .collect()
+}
+
+#[test]
+fn a_table_of_links() {
+    let page = page(&example("corridor"));
+    // Of link 1 two stand at second 20, after and before none: 20 vehicle seconds of five.
+    assert_eq!(row(&page, 1), ["1", "5", "4.0", "2", "20", "0"]);
+    assert_eq!(row(&page, 2), ["2", "5", "0.0", "0", "\u{2013}", "0"]);
+    assert!(page.contains("<section class=\"link\" id=\"link-1\">"));
+    // A capacity of five is full in step 1, and in step 2, at whose start nobody has left.
+    let full = self::page(&corridor_with(
+        "report_at_capacity",
+        "network.tsv",
+        3,
+        "Q\t5000\t10\t0\t1\t1\t0\t0",
+    ));
+    assert_eq!(row(&full, 1)[5], "20");
+}
+
+#[test]
+fn values_are_told_at_each_boundary() {
+    let page = page(&example("corridor"));
+    for words in [
+        "<title>second 20: 5 entered, 5 arrived, 3 left</title>",
+        "<title>second 20: 2 queued, 0 in transit</title>",
+        "<title>second 10: 5 in the network, 0 waiting outside</title>",
+        "<title>second 30: 5 admitted so far, 3 let out so far</title>",
+        "<title>second 20: link 1: 2 queued, 0 in transit</title>",
+    ] {
+        assert!(page.contains(words), "{words}");
+    }
+}
+
+#[test]
+fn names_stand_beside_numbers() {
+    let folder = with_names(
+        "report_names",
+        "corridor",
+        "L\t1\tHigh <Street>\nG\t1\tStation\nL\t3\tx\n",
+    );
+    let said = workbench(&["report", &folder]);
+    assert_eq!(said.status, 0);
+    assert!(
+        said.err.ends_with("names.tsv line 3: the network has no link 3\n"),
+        "{}",
+        said.err
+    );
+    is_whole(&said.out);
+    assert!(said.out.contains("<h3>Link 1, High &lt;Street&gt;<a"));
+    assert!(said.out.contains("<h3>Link 2<a"));
+    assert!(said.out.contains(">1 High &lt;Street&gt;</a>"));
+    // in the row of the signal, with the whole name behind it, and in the diagram
+    assert_eq!(count(&said.out, ">Station<"), 3);
+}
+
+#[test]
+fn every_link_is_led_to() {
+    let page = page(&example("avenue"));
+    let bar = &page[page.find("<nav>").unwrap()..page.find("</nav>").unwrap()];
+    for link in 1..=10 {
+        assert!(bar.contains(&format!("<a href=\"#link-{link}\"")));
+    }
+    for part in ["totals", "table", "wave", "signals", "network"] {
+        assert!(bar.contains(&format!("<a href=\"#{part}\">")) && page.contains(&format!("<h2 id=\"{part}\">")));
+    }
 }
 
 #[test]
@@ -146,7 +244,7 @@ fn texts_that_cannot_be_drawn() {
     assert!(plan.contains("refused: R 9 2 0"));
     assert!(plan.contains("<code>P <mark>x</mark></code>"));
     assert_eq!(count(&plan, "class=\"broken"), 0);
-    assert_eq!(count(&plan, "class=\"refused-span\""), 6);
+    assert_eq!(count(&plan, "class=\"refused-span\""), 7);
 }
 
 #[test]
