@@ -162,3 +162,9 @@ fn begins_as_plan(path: &Path) -> Result<bool, Problem> {
         _ => false,
     })
 }
+
+/// The name of a file, without its folders.
+pub fn name_of(path: &str) -> &str {
+    let name = Path::new(path).file_name().and_then(|name| name.to_str());
+    name.unwrap_or(path)
+}

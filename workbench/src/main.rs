@@ -1,6 +1,7 @@
 //! The engineer's tool over the plan check library. `workbench` alone prints what it can do.
 
 mod answer;
+mod cells;
 mod command;
 mod commands;
 mod faults;
@@ -17,6 +18,7 @@ mod pointed;
 mod records;
 mod report;
 mod show;
+mod street;
 mod summary;
 mod wave;
 mod why;

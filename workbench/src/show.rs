@@ -19,6 +19,11 @@ pub fn mean_seconds(doubled_time: u64, volume: u64) -> Option<String> {
     Some(digits(tenths, 1))
 }
 
+/// A number of tenths, without a zero at its end.
+pub fn tenths(tenths: u64) -> String {
+    decimal(tenths, 1)
+}
+
 /// Numbers of a column, by vehicles or vehicle seconds: with all their digits, so that their points stand below each other.
 pub fn vehicles_in_column(volume: u64) -> String {
     digits(volume, 3)

@@ -1,31 +1,38 @@
 //! `cells`: a run of a corridor in cells.
 
-use crate::command::{Command, Ended, Outcome};
+use crate::cells::over_time;
+use crate::command::{part, Command, Ended, Outcome, Parted};
 use crate::faults::of_corridor;
-use crate::files::read;
+use crate::files::{name_of, read, write};
+use crate::report::cells_page;
 use crate::{form, show, words};
-use plancheck::{run_cells, Text};
+use plancheck::Text;
 use std::io::Write;
 use std::path::Path;
 
 pub const COMMAND: Command = Command {
     name: "cells",
-    arguments: "CORRIDOR",
-    does: "runs a corridor in cells: total flow in and out, and the volume of each cell after the last step",
+    arguments: "CORRIDOR [-o PAGE.html]",
+    does: "runs a corridor in cells: total flow in and out, and the volume of each cell after the last step; draws how full each cell is after each step",
     run,
 };
 
 fn run(arguments: &[String], out: &mut dyn Write) -> Outcome {
-    let [corridor] = arguments else {
+    let Parted { options, others } = part(&COMMAND, arguments, &["-o"], &[])?;
+    let [path] = others[..] else {
         return Err(COMMAND.wrong());
     };
-    let corridor = read(Path::new(corridor))?;
-    match run_cells(&corridor) {
-        Ok(run) => {
+    let corridor = read(Path::new(path))?;
+    match over_time(&corridor) {
+        Ok(over_time) => {
+            let run = &over_time.run;
             writeln!(out, "flow in   {} vehicles", show::vehicles(run.flow_in))?;
             writeln!(out, "flow out  {} vehicles", show::vehicles(run.flow_out))?;
             for (cell, &volume) in run.volumes.iter().enumerate().take(run.cells as usize) {
                 writeln!(out, "cell {:<4} {} vehicles", cell + 1, show::vehicles(volume.into()))?;
+            }
+            if let Some((_, page)) = options.last() {
+                write(Path::new(page), cells_page(name_of(path), &over_time).as_bytes())?;
             }
             Ok(Ended::Done)
         }

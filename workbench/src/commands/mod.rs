@@ -13,6 +13,7 @@ mod report;
 mod sheet;
 mod split;
 mod states;
+mod traces;
 mod wave;
 
 use crate::command::Command;
@@ -32,5 +33,6 @@ pub const ALL: &[Command] = &[
     listing::COMMAND,
     sheet::COMMAND,
     cells::COMMAND,
+    traces::COMMAND,
     make::COMMAND,
 ];

@@ -1,13 +1,20 @@
 //! Pages with pictures, without scripts. The numbers of a plan come from the library's calls alone.
 
+mod cells;
+mod comparison;
 mod links;
 mod refusal;
 mod shell;
 mod signals;
 mod svg;
 mod table;
+mod traces;
 mod wave;
 mod whole;
+
+pub use cells::page as cells_page;
+pub use comparison::{crossings_of, page as comparison_page};
+pub use traces::page as traces_page;
 
 use crate::files::Texts;
 use crate::judge::Run;

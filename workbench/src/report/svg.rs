@@ -84,11 +84,20 @@ impl Frame {
 
     /// The marks of the seconds, under a line at this height.
     pub fn seconds_scale(&self, bottom: f64) -> String {
+        self.scale(bottom, " s")
+    }
+
+    /// The same for a picture over steps.
+    pub fn steps_scale(&self, bottom: f64) -> String {
+        self.scale(bottom, "")
+    }
+
+    fn scale(&self, bottom: f64, unit: &str) -> String {
         let mut scale = String::new();
         let marks = second_marks(self.seconds);
         for &second in &marks {
             let x = self.x(second);
-            let unit = if Some(&second) == marks.last() { " s" } else { "" };
+            let unit = if Some(&second) == marks.last() { unit } else { "" };
             let _ = writeln!(
                 scale,
                 "<line class=\"tick\" x1=\"{x:.1}\" y1=\"{bottom}\" x2=\"{x:.1}\" y2=\"{:.1}\"/>",
@@ -163,6 +172,24 @@ impl Frame {
             )
         };
         (0..times.len()).map(column).collect()
+    }
+
+    /// A line at a second, with its name in the row of its place, so that the names of neighbours stay apart.
+    pub fn mark(&self, class: &str, second: f64, place: u32, name: &str) -> String {
+        let (x, bottom) = (self.x_at(second), self.height - BOTTOM);
+        let (words_x, anchor) = if x > self.width - 80.0 {
+            (x - 4.0, "end")
+        } else {
+            (x + 4.0, "start")
+        };
+        format!("<line class=\"{class}\" x1=\"{x:.1}\" y1=\"{TOP}\" x2=\"{x:.1}\" y2=\"{bottom}\"/>\n")
+            + &text(
+                "mark-name",
+                words_x,
+                TOP + 10.0 + 13.0 * f64::from(place % 6),
+                anchor,
+                name,
+            )
     }
 
     /// A span of seconds over the whole height.
@@ -274,8 +301,8 @@ pub fn line_key(class: &str, name: &str) -> String {
     )
 }
 
-fn swatch(drawn: &str, name: &str) -> String {
-    format!("<svg class=\"swatch\" viewBox=\"0 0 18 10\">{drawn}</svg>{name}")
+pub fn swatch(drawn: &str, name: &str) -> String {
+    format!("<span class=\"one-key\"><svg class=\"swatch\" viewBox=\"0 0 18 10\">{drawn}</svg>{name}</span> ")
 }
 
 /// A name of at most so many letters, cut where it is longer.

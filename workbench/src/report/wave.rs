@@ -18,7 +18,7 @@ const BOTTOM: f64 = 32.0;
 const SHORTEST: f64 = 36.0;
 const HEIGHTS: [f64; 2] = [260.0, 560.0];
 /// At most about so many vehicles are drawn.
-const VEHICLES: f64 = 80.0;
+const VEHICLES: f64 = 110.0;
 
 /// The paths that are drawn where none is asked for: the main one, and the way back along its signals.
 pub fn usual_paths(run: &Run) -> Vec<Path> {
@@ -30,14 +30,12 @@ pub fn usual_paths(run: &Run) -> Vec<Path> {
 /// The diagrams of some paths. A second path is drawn from above, so that a way back has its junctions where the first has.
 pub fn diagrams(network: &[u8], run: &Run, names: &Names, paths: &[Path]) -> String {
     let mut drawn = String::new();
-    for (place, path) in paths.iter().enumerate() {
-        let wave = Wave::new(network, run, path);
-        let words = escape(&super::capital(&words(&wave, names)));
-        let _ = writeln!(
-            drawn,
-            "<p>{words}.</p>\n{}",
-            Diagram::new(&wave, run, names, place).figure()
-        );
+    let waves: Vec<Wave> = paths.iter().map(|path| Wave::new(network, run, path)).collect();
+    let each = waves.iter().map(|wave| every(wave, VEHICLES)).max().unwrap_or(0);
+    for (place, wave) in waves.iter().enumerate() {
+        let words = escape(&super::capital(&words(wave, names)));
+        let diagram = Diagram::new(wave, run, names, place);
+        let _ = writeln!(drawn, "<p>{words}.</p>\n{}", diagram.figure(each));
     }
     drawn
 }
@@ -112,15 +110,18 @@ impl Diagram<'_> {
         TOP + self.height * if self.place % 2 == 0 { 1.0 - part } else { part }
     }
 
-    fn figure(&self) -> String {
-        let each = every(self.wave, VEHICLES);
+    /// The diagram with its keys, a vehicle drawn for each so much volume.
+    fn figure(&self, each: u32) -> String {
         let bands = self.wave.bands().unwrap_or_default();
         let mut keys = vec![line_key("vehicle", &every_in_words(each)), area_key("queue", "queue")];
         if first_signal(self.wave).is_some() {
             keys.extend([area_key("open", "open"), area_key("shut", "shut")]);
         }
-        if !bands.is_empty() {
-            keys.extend([area_key("band", "through band"), area_key("widest", "the widest")]);
+        if let Some(widest) = widest(&bands) {
+            keys.push(area_key("widest", "the widest through bands"));
+            if bands.iter().any(|band| band.seconds() < widest.seconds()) {
+                keys.push(area_key("band", "others"));
+            }
         }
         let (id, [x, y, width, height]) = (
             self.place,
@@ -135,19 +136,19 @@ impl Diagram<'_> {
             self.frame.height,
             escape(&label),
             refused_span(self.run, &self.frame, &self.run.network.times(), None),
-            bands.iter().map(|band| self.band(band, &bands)).collect::<String>(),
+            bands.iter().map(|band| self.band(band, widest(&bands))).collect::<String>(),
             self.wave.along.iter().map(|along| self.queue(along)).collect::<String>(),
             vehicles.iter().map(|vehicle| self.vehicle(vehicle)).collect::<String>(),
             self.wave.along.iter().map(|along| self.stop_line(along)).collect::<String>(),
-            widest(&bands).map_or(String::new(), |band| self.band_words(band)),
+            bands.iter().map(|band| self.band_words(band)).collect::<String>(),
             self.frame.seconds_scale(TOP + self.height + 6.0),
         );
         figure("", &keys, &picture)
     }
 
     /// A band goes on before the first and behind the last signal, at free travel.
-    fn band(&self, band: &Span, all: &[Span]) -> String {
-        let is_widest = widest(all) == Some(band);
+    fn band(&self, band: &Span, widest: Option<&Span>) -> String {
+        let is_widest = widest.is_some_and(|widest| band.seconds() == widest.seconds());
         let class = if is_widest { "widest" } else { "band" };
         let length = i64::from(self.wave.length);
         let corner = |second: i64, distance: i64| {
@@ -163,7 +164,7 @@ impl Diagram<'_> {
         )
     }
 
-    /// The widest band's seconds, where it leaves the first signal.
+    /// A band's seconds, where it leaves the first signal.
     fn band_words(&self, band: &Span) -> String {
         let Some(first) = first_signal(self.wave) else {
             return String::new();

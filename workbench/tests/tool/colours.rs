@@ -145,12 +145,14 @@ fn the_difference_is_the_published_one() {
 #[test]
 fn what_a_picture_tells_apart_differs() {
     // Phases behind the fourth are hatched.
-    let pictures: [&[&str]; 7] = [
+    let pictures: [&[&str]; 9] = [
         &["phase-1", "phase-2", "phase-3", "phase-4"],
         &["entered", "arrived", "left"],
         &["queued", "in-transit"],
         &["inside", "outside"],
         &["open", "shut"],
+        &["first", "second"],
+        &["empty", "full"],
         &["band", "widest"],
         &["paper", "widest"],
     ];
@@ -180,6 +182,8 @@ fn words_are_legible() {
         ("good", &["good-ground"]),
         ("bad", &["bad-ground", "bad-span", "paper"]),
         ("entered", &["paper"]),
+        ("ink", &["empty"]),
+        ("paper", &["full"]),
     ];
     for scheme in schemes() {
         for (words, grounds) in grounds {

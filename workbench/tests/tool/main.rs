@@ -5,6 +5,7 @@ mod colours;
 mod commands;
 mod faults;
 mod made;
+mod pictures;
 mod reports;
 mod waves;
 mod ways;

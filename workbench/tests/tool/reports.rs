@@ -11,7 +11,7 @@ fn page(folder: &str) -> String {
 }
 
 /// Every element that is opened is closed, in order; there is nothing that runs or is fetched.
-fn is_whole(page: &str) {
+pub fn is_whole(page: &str) {
     let lowered = page.to_lowercase();
     assert!(!lowered.contains("<script") && !lowered.contains("http") && !lowered.contains("onload"));
     let mut open: Vec<&str> = Vec::new();

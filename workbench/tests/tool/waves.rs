@@ -1,5 +1,6 @@
 //! The time-distance diagram: which path it takes, its widest band, its vehicles.
 
+use super::reports::is_whole;
 use super::{corridor_with, example, scratch, workbench};
 
 /// The page of the command, and what it says of each path.
@@ -17,6 +18,7 @@ fn wave(arguments: &[&str]) -> (String, Vec<String>) {
 #[test]
 fn the_corridor() {
     let (page, told) = wave(&[&example("corridor")]);
+    is_whole(&page);
     assert_eq!(
         told,
         ["1, 2, 20 s of travel: the widest through band is 30 s, from second 0 to second 30 at the stop line of link 1; 1 band in all"]
@@ -51,6 +53,23 @@ fn a_past_goes_on() {
             "{link}"
         );
     }
+}
+
+#[test]
+fn both_directions_of_a_road() {
+    let (page, told) = wave(&[&example("wave")]);
+    assert_eq!(
+        told,
+        [
+            "1, 2, 3, 4, 100 s of travel: the widest through band is 30 s, from second 5 to second 35 at the stop line of link 1, \
+             Harbour Road east; 4 bands in all",
+            "5, 6, 7, 8, 110 s of travel: the widest through band is 25 s, from second 5 to second 30 at the stop line of link 5, \
+             Harbour Road west; 4 bands in all"
+        ]
+    );
+    // one tram a signal, in both directions
+    assert_eq!(page.matches("<rect class=\"tram\"").count(), 6);
+    assert_eq!(page.matches(">Station Street</text>").count(), 2);
 }
 
 #[test]

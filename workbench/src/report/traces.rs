@@ -1,0 +1,114 @@
+//! Vehicles along a street: steps from left to right, metres upwards, red lines where and while they are red.
+
+use super::shell::shell;
+use super::svg::{figure, line_key, text, Frame};
+use crate::show::counted;
+use crate::street::Street;
+use std::fmt::Write;
+
+const LEFT: f64 = 64.0;
+const TOP: f64 = 12.0;
+const BOTTOM: f64 = 30.0;
+const HEIGHT: f64 = 420.0;
+
+pub fn page(name: &str, street: &Street) -> String {
+    let vehicles = street.places.first().map_or(0, Vec::len);
+    let body = format!(
+        "<p>{}, {}.</p>\n{}",
+        counted(vehicles, "vehicle"),
+        counted(street.red_lines.len(), "step"),
+        picture(street)
+    );
+    shell(&format!("Vehicles of {name}"), &body)
+}
+
+fn picture(street: &Street) -> String {
+    let steps = street.red_lines.len();
+    let frame = Frame {
+        left: LEFT,
+        width: 1060.0,
+        height: HEIGHT,
+        seconds: u32::try_from(steps).unwrap_or(u32::MAX),
+        most: 0,
+    };
+    let all = street.places.iter().chain(&street.red_lines).flatten().copied();
+    let metres = metre_marks(all.fold([f64::MAX, f64::MIN], |[least, most], place| {
+        [least.min(place), most.max(place)]
+    }));
+    let (least, most) = (metres[0], metres[metres.len() - 1]);
+    let y = |place: f64| HEIGHT - BOTTOM - (HEIGHT - TOP - BOTTOM) * (place - least) / (most - least);
+    let mut drawn = String::new();
+    for &metre in &metres {
+        let (y, right) = (y(metre), frame.x(frame.seconds));
+        let _ = writeln!(
+            drawn,
+            "<line class=\"grid\" x1=\"{LEFT}\" y1=\"{y:.1}\" x2=\"{right:.1}\" y2=\"{y:.1}\"/>"
+        );
+        drawn += &text("volume", LEFT - 6.0, y + 4.0, "end", &format!("{metre} m"));
+    }
+    for (step, red_lines) in (0..).zip(&street.red_lines) {
+        for &line in red_lines {
+            let title = format!("red at {line} m in step {}", step + 1);
+            drawn += &frame.bar("shut", step, step + 1, y(line) - 2.0, 4.0, &title);
+        }
+    }
+    for vehicle in 0..street.places.first().map_or(0, Vec::len) {
+        let place = |(step, places): (u32, &Vec<f64>)| format!("{:.1},{:.1}", frame.x(step), y(places[vehicle]));
+        let places: Vec<String> = (0..).zip(&street.places).map(place).collect();
+        let _ = writeln!(
+            drawn,
+            "<polyline class=\"vehicle\" points=\"{}\"><title>vehicle {}</title></polyline>",
+            places.join(" "),
+            vehicle + 1
+        );
+    }
+    drawn += &text("volume", LEFT - 6.0, HEIGHT - BOTTOM + 16.0, "end", "step");
+    drawn += &frame.steps_scale(HEIGHT - BOTTOM);
+    let keys = [line_key("vehicle", "a vehicle"), line_key("red-line", "red line")];
+    let picture = format!(
+        "<div class=\"wide\"><svg viewBox=\"0 0 1060 {HEIGHT}\" role=\"img\" aria-label=\"Vehicles over time\">\n{drawn}</svg></div>\n"
+    );
+    figure("", &keys, &picture)
+}
+
+/// Multiples of 1, 2 or 5 times a power of ten, at most nine, from at or below the least place to at or above the greatest.
+fn metre_marks([least, most]: [f64; 2]) -> Vec<f64> {
+    if least > most {
+        return vec![0.0, 1.0];
+    }
+    let units = (-1..8).flat_map(|power| [1.0, 2.0, 5.0].map(|unit| unit * 10_f64.powi(power)));
+    let ends = |unit: f64| {
+        [
+            (least / unit).floor(),
+            (most / unit).ceil().max((least / unit).floor() + 1.0),
+        ]
+    };
+    let fits = |unit: &f64| ends(*unit)[1] - ends(*unit)[0] <= 8.0;
+    let unit = units.into_iter().find(fits).unwrap_or(1e7);
+    let [mut mark, last] = ends(unit);
+    let mut marks = Vec::new();
+    while mark <= last {
+        marks.push(mark * unit);
+        mark += 1.0;
+    }
+    marks
+}
+
+// The numbers are exact in floats.
+#[allow(clippy::float_cmp)]
+#[cfg(test)]
+mod tests {
+    use super::metre_marks;
+
+    #[test]
+    fn marks_around_all_places() {
+        assert_eq!(
+            metre_marks([12.5, 122.5]),
+            [0.0, 20.0, 40.0, 60.0, 80.0, 100.0, 120.0, 140.0]
+        );
+        assert_eq!(metre_marks([-7.0, -7.0]), [-7.0, -6.9]);
+        assert_eq!(metre_marks([f64::MAX, f64::MIN]), [0.0, 1.0]);
+        let wide = metre_marks([-1e6, 1e6]);
+        assert!(wide.len() <= 9 && wide[0] <= -1e6 && wide[wide.len() - 1] >= 1e6);
+    }
+}
