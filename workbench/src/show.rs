@@ -13,12 +13,6 @@ pub fn vehicle_seconds(doubled_time: u64) -> String {
     decimal(5 * doubled_time, 4)
 }
 
-/// The mean of a doubled time over the volume that spent it, in seconds to the tenth; none where there is no volume.
-pub fn mean_seconds(doubled_time: u64, volume: u64) -> Option<String> {
-    let tenths = (5 * doubled_time + volume / 2).checked_div(volume)?;
-    Some(digits(tenths, 1))
-}
-
 /// A number of tenths, without a zero at its end.
 pub fn tenths(tenths: u64) -> String {
     decimal(tenths, 1)
@@ -27,6 +21,10 @@ pub fn tenths(tenths: u64) -> String {
 /// Numbers of a column, by vehicles or vehicle seconds: with all their digits, so that their points stand below each other.
 pub fn vehicles_in_column(volume: u64) -> String {
     digits(volume, 3)
+}
+
+pub fn tenths_in_column(tenths: u64) -> String {
+    digits(tenths, 1)
 }
 
 pub fn vehicle_seconds_in_column(doubled_time: u64) -> String {
@@ -99,14 +97,6 @@ mod tests {
         assert_eq!(vehicle_seconds(716_083_200_000_000), "358041600000");
         assert_eq!(vehicles_in_column(2500), "2.500");
         assert_eq!(vehicle_seconds_in_column(240_000), "120.0000");
-    }
-
-    #[test]
-    fn means() {
-        assert_eq!(mean_seconds(240_000, 5000), Some("24.0".to_string()));
-        assert_eq!(mean_seconds(2 * 1150, 1000), Some("1.2".to_string()));
-        assert_eq!(mean_seconds(0, 1000), Some("0.0".to_string()));
-        assert_eq!(mean_seconds(0, 0), None);
     }
 
     #[test]

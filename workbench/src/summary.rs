@@ -10,6 +10,13 @@ pub struct Spent {
     pub volume: u64,
 }
 
+impl Spent {
+    /// The mean in tenths of a second; none where there is no volume.
+    pub fn mean(&self) -> Option<u64> {
+        (5 * self.doubled_time + self.volume / 2).checked_div(self.volume)
+    }
+}
+
 pub struct OfLink {
     /// In the queue: by those who stood in it at the start or came to the link's end since.
     pub delay: Spent,
@@ -62,4 +69,19 @@ fn doubled_time(run: &Run, volumes: &[u64]) -> u64 {
     steps
         .map(|(step, ends)| u64::from(step.length) * (ends[0] + ends[1]))
         .sum()
+}
+
+#[cfg(test)]
+mod tests {
+    use super::Spent;
+
+    #[test]
+    fn means() {
+        let mean = |doubled_time: u64, volume: u64| Spent { doubled_time, volume }.mean();
+        assert_eq!(mean(240_000, 5000), Some(240));
+        assert_eq!(mean(2 * 1150, 1000), Some(12));
+        assert_eq!(mean(2 * 1149, 1000), Some(11));
+        assert_eq!(mean(0, 1000), Some(0));
+        assert_eq!(mean(0, 0), None);
+    }
 }

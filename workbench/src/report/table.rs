@@ -9,6 +9,7 @@ use std::fmt::Write;
 
 pub fn links(run: &Run, names: &Names) -> String {
     let of_links: Vec<OfLink> = (0..run.network.links.len()).map(|link| of_link(run, link)).collect();
+    let longest_delay = of_links.iter().filter_map(|link| link.delay.mean()).max().unwrap_or(0);
     let most_queued = of_links.iter().map(|link| link.greatest_queue).max().unwrap_or(0);
     let longest_full = of_links.iter().map(|link| link.seconds_at_capacity).max().unwrap_or(0);
     let mut table = String::from(
@@ -20,18 +21,19 @@ pub fn links(run: &Run, names: &Names) -> String {
         let name = names
             .of_link(number)
             .map_or(String::new(), |name| format!(" {}", escape(name)));
-        let delay = show::mean_seconds(link.delay.doubled_time, link.delay.volume);
+        let delay = link.delay.mean();
         let (when, queue) = match link.greatest_queue {
             0 => ("\u{2013}".to_string(), "0".to_string()),
             queue => (link.greatest_at.to_string(), show::vehicles(queue.into())),
         };
         let _ = writeln!(
             table,
-            "<tr><td><a href=\"#link-{number}\">{number}{name}</a></td><td>{}</td><td>{}</td><td{}>{queue}</td><td>{when}</td><td{}>{}</td></tr>",
+            "<tr><td><a href=\"#link-{number}\">{number}{name}</a></td><td>{}</td><td{}>{}</td><td{}>{queue}</td><td>{when}</td><td{}>{}</td></tr>",
             show::vehicles(link.delay.volume),
-            delay.unwrap_or_else(|| "\u{2013}".to_string()),
-            worst(link.greatest_queue, most_queued),
-            worst(link.seconds_at_capacity, longest_full),
+            worst(delay.unwrap_or(0), longest_delay),
+            delay.map_or("\u{2013}".to_string(), show::tenths_in_column),
+            worst(link.greatest_queue.into(), most_queued.into()),
+            worst(link.seconds_at_capacity.into(), longest_full.into()),
             link.seconds_at_capacity,
         );
     }
@@ -39,7 +41,7 @@ pub fn links(run: &Run, names: &Names) -> String {
 }
 
 /// Marks the greatest number of a column, unless all are 0.
-fn worst(number: u32, greatest: u32) -> &'static str {
+fn worst(number: u64, greatest: u64) -> &'static str {
     if number > 0 && number == greatest {
         " class=\"worst\""
     } else {

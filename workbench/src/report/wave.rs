@@ -173,7 +173,7 @@ impl Diagram<'_> {
         let middle = (band.from + band.to) as f64 / 2.0 + f64::from(first.stop_line());
         let end = f64::from(self.frame.seconds);
         let x = self.frame.x_at(middle.clamp(0.0, end));
-        let above = if self.place % 2 == 0 { -10.0 } else { 20.0 };
+        let above = if self.place % 2 == 0 { -14.0 } else { 20.0 };
         let y = self.y(first.stop_line().into()) + above;
         text("band-words", x, y, "middle", &format!("{} s", band.seconds()))
     }

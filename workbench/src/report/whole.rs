@@ -84,12 +84,10 @@ pub fn totals(run: &Run) -> String {
             "vehicle seconds",
         ),
     ];
-    let means = of_vehicles(run).map(|spent| spent.map(|spent| show::mean_seconds(spent.doubled_time, spent.volume)));
-    let [mean_time, mean_delay] = means.unwrap_or_default();
-    let means = [("mean travel time", mean_time), ("mean delay", mean_delay)];
-    let means = means
-        .into_iter()
-        .filter_map(|(name, mean)| mean.map(|mean| (name, mean, "seconds a vehicle")));
+    let means = of_vehicles(run).map(|spent| spent.map(|spent| spent.mean()));
+    let names = ["mean travel time", "mean delay"];
+    let means = names.into_iter().zip(means.unwrap_or_default());
+    let means = means.filter_map(|(name, mean)| Some((name, show::tenths_in_column(mean?), "seconds a vehicle")));
     let mut table = String::from("<table class=\"totals\">\n");
     for (name, number, unit) in rows.into_iter().chain(means) {
         let _ = writeln!(
