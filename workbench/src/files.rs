@@ -8,6 +8,8 @@ use std::sync::atomic::{AtomicBool, Ordering};
 
 pub const NETWORK: &str = "network.tsv";
 pub const PLAN: &str = "plan.tsv";
+/// Names of links and signals, which may stand beside a network.
+pub const NAMES: &str = "names.tsv";
 /// Stands for standard input.
 pub const INPUT: &str = "-";
 /// The option that names the plan.
@@ -119,7 +121,7 @@ impl Given {
     }
 }
 
-/// The `.tsv` files of a folder by name, but for the network: the plans, and what is none.
+/// The `.tsv` files of a folder by name, but for the network and names: the plans, and what is none.
 pub struct Found {
     pub plans: Vec<PathBuf>,
     pub others: Vec<PathBuf>,
@@ -136,7 +138,7 @@ pub fn plans_in(folder: &Path) -> Result<Found, Problem> {
     for entry in fs::read_dir(folder).map_err(problem)? {
         let path = entry.map_err(problem)?.path();
         let is_text = path.extension().is_some_and(|extension| extension == "tsv");
-        if !is_text || path.file_name().is_some_and(|name| name == NETWORK) {
+        if !is_text || path.file_name().is_some_and(|name| name == NETWORK || name == NAMES) {
             continue;
         }
         if begins_as_plan(&path)? {

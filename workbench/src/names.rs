@@ -1,12 +1,11 @@
 //! Names of links and signals, for pages that people read: from a file beside the network, which need not be there. A line is
 //! `L` for a link or `G` for a signal, its number and its name, parted by tabs.
 
+use crate::files::{INPUT, NAMES};
 use crate::network::Network;
 use std::collections::HashMap;
 use std::path::Path;
 use std::{fs, io};
-
-pub const NAMES: &str = "names.tsv";
 
 #[derive(Default)]
 pub struct Names {
@@ -15,8 +14,11 @@ pub struct Names {
 }
 
 impl Names {
-    /// The names of a file beside a network; what is wrong with it is told, and the rest taken.
+    /// The names of a file beside a network, where it is a file; what is wrong with them is told, and the rest taken.
     pub fn beside(path: &Path, network: Option<&Network>) -> Names {
+        if path == Path::new(INPUT) {
+            return Names::default();
+        }
         let path = path.with_file_name(NAMES);
         let read = fs::read(&path);
         let (names, faults) = match (read, network) {

@@ -28,48 +28,28 @@ pub enum Stopped {
     Refused(usize, Refusal),
 }
 
+/// A street as far as its text is read.
+struct Reader {
+    street: Street,
+    spacing: Option<f64>,
+    red_lines: Vec<f64>,
+}
+
 impl Street {
     /// Reads and runs a text.
     pub fn run(text: &str) -> Result<Street, Stopped> {
-        let mut street = Street {
-            places: Vec::new(),
+        let mut reader = Reader {
+            street: Street {
+                places: Vec::new(),
+                red_lines: Vec::new(),
+            },
+            spacing: None,
             red_lines: Vec::new(),
         };
-        let mut spacing = None;
-        let mut red_lines = Vec::new();
         for (place, line) in text.lines().enumerate() {
-            let wrong = |words: &str| Stopped::Line(place + 1, words.to_string());
-            let mut fields = line.split('\t').map(str::trim);
-            let letter = fields.next().unwrap_or("");
-            let numbers: Result<Vec<f64>, Stopped> = fields
-                .map(|field| field.parse().map_err(|_| wrong(&format!("{field:?} is no number"))))
-                .collect();
-            let numbers = numbers?;
-            match (letter, &numbers[..]) {
-                ("V", _) if street.places.is_empty() => street.places.push(numbers),
-                ("D", &[distance]) if spacing.is_none() => spacing = Some(distance),
-                ("R", _) => red_lines = numbers,
-                ("A", [count, advances @ ..]) => {
-                    let count = steps(*count).ok_or_else(|| wrong("the first number is how many steps, from 1 on"))?;
-                    let spacing =
-                        spacing.ok_or_else(|| wrong("a D line with the distance to keep is due before it"))?;
-                    if street.places.is_empty() {
-                        return Err(wrong("a V line with the places of the vehicles is due before it"));
-                    }
-                    if street.red_lines.len() + count > MAX_STEPS {
-                        return Err(wrong(&format!("these are more than {MAX_STEPS} steps")));
-                    }
-                    for _ in 0..count {
-                        let step = street.step(advances, &red_lines, spacing);
-                        step.map_err(|refusal| Stopped::Refused(place + 1, refusal))?;
-                    }
-                }
-                ("", []) => {}
-                ("V" | "D", _) => return Err(wrong("there is one V line, and one D line with one number")),
-                _ => return Err(wrong("a line begins with V, D, R or A and has numbers, parted by tabs")),
-            }
+            reader.take(line).map_err(|fault| fault.at(place + 1))?;
         }
-        Ok(street)
+        Ok(reader.street)
     }
 
     fn step(&mut self, advances: &[f64], red_lines: &[f64], spacing: f64) -> Result<(), Refusal> {
@@ -81,10 +61,71 @@ impl Street {
     }
 }
 
+/// What is wrong with a line.
+enum Fault {
+    Words(String),
+    Refused(Refusal),
+}
+
+impl Fault {
+    fn at(self, line: usize) -> Stopped {
+        match self {
+            Fault::Words(words) => Stopped::Line(line, words),
+            Fault::Refused(refusal) => Stopped::Refused(line, refusal),
+        }
+    }
+}
+
+impl From<&str> for Fault {
+    fn from(words: &str) -> Fault {
+        Fault::Words(words.to_string())
+    }
+}
+
+impl Reader {
+    fn take(&mut self, line: &str) -> Result<(), Fault> {
+        let mut fields = line.split('\t').map(str::trim);
+        let letter = fields.next().unwrap_or("");
+        let number = |field: &str| {
+            let number = field.parse::<f64>();
+            number.map_err(|_| Fault::Words(format!("{field:?} is no number")))
+        };
+        let numbers: Vec<f64> = fields.map(number).collect::<Result<_, _>>()?;
+        match (letter, &numbers[..]) {
+            ("V", _) if self.street.places.is_empty() => self.street.places.push(numbers),
+            ("D", &[distance]) if self.spacing.is_none() => self.spacing = Some(distance),
+            ("R", _) => self.red_lines = numbers,
+            ("A", [count, advances @ ..]) => self.steps(*count, advances)?,
+            ("", []) => {}
+            ("V" | "D", _) => return Err("there is one V line, and one D line with one number".into()),
+            _ => return Err("a line begins with V, D, R or A and has numbers, parted by tabs".into()),
+        }
+        Ok(())
+    }
+
+    fn steps(&mut self, count: f64, advances: &[f64]) -> Result<(), Fault> {
+        let count = whole(count).ok_or("the first number is how many steps, from 1 on")?;
+        let spacing = self
+            .spacing
+            .ok_or("a D line with the distance to keep is due before it")?;
+        if self.street.places.is_empty() {
+            return Err("a V line with the places of the vehicles is due before it".into());
+        }
+        if self.street.red_lines.len() + count > MAX_STEPS {
+            return Err(Fault::Words(format!("these are more than {MAX_STEPS} steps")));
+        }
+        for _ in 0..count {
+            let step = self.street.step(advances, &self.red_lines, spacing);
+            step.map_err(Fault::Refused)?;
+        }
+        Ok(())
+    }
+}
+
 /// A number of steps, which is whole and at least 1.
 #[allow(clippy::cast_possible_truncation, clippy::cast_sign_loss)]
-fn steps(number: f64) -> Option<usize> {
-    (number >= 1.0 && number <= 1e6 && number.fract() == 0.0).then_some(number as usize)
+fn whole(number: f64) -> Option<usize> {
+    ((1.0..=1e6).contains(&number) && number.fract() == 0.0).then_some(number as usize)
 }
 
 #[cfg(test)]

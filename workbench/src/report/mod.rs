@@ -53,7 +53,7 @@ pub fn wave_page(name: &str, texts: &Texts, run: &Run, names: &Names, mut paths:
         paths = wave::usual_paths(run);
     }
     let body = format!(
-        "{}<p>{}</p>\n{}{WAVE}{}",
+        "{}<p>{}</p>\n{}<p class=\"key\">{WAVE}</p>\n{}",
         verdict(run.answer.err().as_ref()),
         extent(run),
         svg::PATTERNS,
@@ -61,12 +61,6 @@ pub fn wave_page(name: &str, texts: &Texts, run: &Run, names: &Names, mut paths:
     );
     shell(&format!("Time and distance, plan of {name}"), &body)
 }
-
-/// How the diagrams are read.
-const WAVE: &str = "<p class=\"key\">Upwards, the way by its travel time; a second path is drawn downwards. At a link's end the bar is \
-    thick and green where the signal opens it, thin and red where it shuts it, hatched above where a tram claims the signal. A \
-    vehicle that starts within a through band meets every signal open. Vehicles come first in, first out; who stands is drawn \
-    behind those before him, and a queue takes the part of the link that it takes of its capacity.</p>\n";
 
 fn verdict(refusal: Option<&Refusal>) -> String {
     match refusal {
@@ -93,54 +87,46 @@ fn navigation(run: &Run, names: &Names) -> String {
 
 fn pictures(texts: &Texts, run: &Run, names: &Names, refusal: Option<&Refusal>, why: Option<&Why>) -> String {
     let mut page = String::from(svg::PATTERNS);
-    let _ = writeln!(
-        page,
-        "<h2 id=\"totals\">Totals</h2>\n<p>{}</p>\n{}",
-        extent(run),
-        whole::totals(run)
-    );
-    let _ = writeln!(
-        page,
-        "<h2 id=\"table\">Table of links</h2>\n<p class=\"key\">The delay is that of vehicles that came to the link's end, in its \
-         queue. At capacity: the seconds of steps in which the link took in all that it can hold, so that those behind had to wait.</p>\n{}",
-        table::links(run, names)
-    );
-    let _ = writeln!(
-        page,
-        "<h2 id=\"wave\">Time and distance</h2>\n{WAVE}{}",
-        wave::diagrams(&texts.network, run, names, &wave::usual_paths(run))
-    );
+    let totals = format!("<p>{}</p>\n{}", extent(run), whole::totals(run));
+    page += &section("totals", "Totals", "", &totals);
+    page += &section("table", "Table of links", TABLE, &table::links(run, names));
+    let diagrams = wave::diagrams(&texts.network, run, names, &wave::usual_paths(run));
+    page += &section("wave", "Time and distance", WAVE, &diagrams);
     if !run.network.signals.is_empty() {
-        let _ = writeln!(
-            page,
-            "<h2 id=\"signals\">Signals</h2>\n<p class=\"key\">The number of the phase that each signal shows, over the seconds; in \
-             front of second 0, the one shown before the plan.{}</p>\n{}",
-            if run.network.trams.is_empty() {
-                ""
-            } else {
-                " A hatched bar is a tram that claims the signal, with the phase that it asks for."
-            },
-            signals::picture(run, names, refusal, why)
-        );
+        let trams = if run.network.trams.is_empty() { "" } else { TRAMS };
+        let picture = signals::picture(run, names, refusal, why);
+        page += &section("signals", "Signals", &format!("{SIGNALS}{trams}"), &picture);
     }
-    let _ = writeln!(
-        page,
-        "<h2 id=\"network\">The whole network</h2>\n{}",
-        whole::pictures(run)
-    );
-    let _ = writeln!(
-        page,
-        "<h2>Links</h2>\n<p class=\"key\">{}The strip under the seconds is thick and green where the signal opens the link, thin \
-         and red where it shuts it.</p>\n{}",
-        if run.network.past > 0 {
-            "What has entered, arrived and left counts from the first past step on. "
-        } else {
-            ""
-        },
-        links::cards(run, names, refusal, why)
-    );
-    page
+    page += &section("network", "The whole network", "", &whole::pictures(run));
+    let past = if run.network.past > 0 { PAST } else { "" };
+    let cards = links::cards(run, names, refusal, why);
+    page + &section("links", "Links", &format!("{past}{LINKS}"), &cards)
 }
+
+/// A part of a page: its heading, how it is read, and what it shows.
+fn section(id: &str, title: &str, words: &str, shown: &str) -> String {
+    let words = if words.is_empty() {
+        String::new()
+    } else {
+        format!("<p class=\"key\">{words}</p>\n")
+    };
+    format!("<h2 id=\"{id}\">{title}</h2>\n{words}{shown}\n")
+}
+
+const TABLE: &str =
+    "The delay is that of vehicles that came to the link's end, in its queue. At capacity: the seconds of steps in \
+    which the link took in all that it can hold, so that those behind had to wait.";
+const WAVE: &str = "Upwards, the way by its travel time; a second path is drawn downwards. At a link's end the bar is thick and \
+    green where the signal opens it, thin and red where it shuts it, hatched above where a tram claims the signal. A vehicle that \
+    starts within a through band meets every signal open. Vehicles come first in, first out; who stands is drawn behind those \
+    before him, and a queue takes the part of the link that it takes of its capacity.";
+const SIGNALS: &str =
+    "The number of the phase that each signal shows, over the seconds; in front of second 0, the one shown \
+    before the plan.";
+const TRAMS: &str = " A hatched bar is a tram that claims the signal, with the phase that it asks for.";
+const PAST: &str = "What has entered, arrived and left counts from the first past step on. ";
+const LINKS: &str =
+    "The strip under the seconds is thick and green where the signal opens the link, thin and red where it shuts it.";
 
 /// What the network has, and how far its plan passes.
 fn extent(run: &Run) -> String {

@@ -177,3 +177,76 @@ fn greens(run: &Run, times: &[u32], link: usize) -> Option<Vec<Span>> {
     }
     Some(greens)
 }
+
+#[cfg(test)]
+mod tests {
+    use super::*;
+    use crate::files::Texts;
+    use std::fs;
+
+    fn texts(example: &str) -> Texts {
+        let read =
+            |file: &str| fs::read(format!("{}/../examples/{example}/{file}", env!("CARGO_MANIFEST_DIR"))).unwrap();
+        Texts {
+            network: read("network.tsv"),
+            plan: read("plan.tsv"),
+        }
+    }
+
+    /// Where a vehicle is by a second, while it is on the path.
+    fn place_by(vehicle: &Vehicle, second: f64) -> Option<f64> {
+        let pair = vehicle
+            .places
+            .windows(2)
+            .find(|pair| pair[0].0 <= second && second < pair[1].0)?;
+        let part = (second - pair[0].0) / (pair[1].0 - pair[0].0);
+        Some(pair[0].1 + (pair[1].1 - pair[0].1) * part)
+    }
+
+    #[test]
+    fn as_many_vehicles_are_on_each_link_as_the_ledger_says() {
+        let each = 50.0;
+        for example in ["corridor", "avenue", "carry", "wave"] {
+            let texts = texts(example);
+            let run = Run::new(&texts).unwrap();
+            let path = main_path(&run);
+            let wave = Wave::new(&texts.network, &run, &path);
+            let vehicles = wave.vehicles(each);
+            for (boundary, time) in run.network.times().into_iter().enumerate().take(run.passed) {
+                let second = f64::from(time);
+                let places: Vec<f64> = vehicles
+                    .iter()
+                    .filter_map(|vehicle| place_by(vehicle, second))
+                    .collect();
+                for along in &wave.along {
+                    let ends = [along.start, along.stop_line()].map(f64::from);
+                    let on_it = places.iter().filter(|&&place| ends[0] <= place && place < ends[1]);
+                    let drawn = each * f64::from(u32::try_from(on_it.count()).unwrap());
+                    let held = f64::from(run.volumes[boundary][along.link].held());
+                    assert!(
+                        (drawn - held).abs() <= 4.0 * each,
+                        "{example}, link {}, second {second}: {drawn} drawn, {held} held",
+                        along.link + 1
+                    );
+                }
+            }
+        }
+    }
+
+    #[test]
+    fn the_past_ends_where_the_ledger_begins() {
+        let texts = texts("carry");
+        let run = Run::new(&texts).unwrap();
+        let rows = past_of(&texts.network);
+        assert_eq!(rows.len(), 8);
+        assert_eq!((rows[0].second, rows[7].second), (-40, -5));
+        // The last past step, as its line has it.
+        let whole = String::from_utf8(texts.network).unwrap();
+        let last = whole.lines().rfind(|line| line.starts_with('H')).unwrap();
+        let numbers: Vec<u32> = last.split('\t').skip(2).map(|field| field.parse().unwrap()).collect();
+        for (link, volumes) in run.volumes[0].iter().enumerate() {
+            assert_eq!(rows[7].entered[link] + numbers[2 * link], volumes.entered);
+            assert_eq!(rows[7].left[link] + numbers[2 * link + 1], volumes.left);
+        }
+    }
+}

@@ -17,11 +17,12 @@ fn with_page(test: &str, arguments: &[&str]) -> (String, String) {
 
 /// The corridor's plan with other volumes let out in its last two steps.
 fn plan(test: &str, third: u32, fourth: u32) -> String {
-    let text = fs::read_to_string(example("corridor/plan.tsv")).unwrap();
-    let text = text.replace("P\t1\t0\t0\t0\t3000\t2000", &format!("P\t1\t0\t0\t0\t{third}\t2000"));
-    let text = text.replace("P\t2\t0\t0\t0\t2000\t0", &format!("P\t2\t0\t0\t0\t{fourth}\t0"));
+    let whole = fs::read_to_string(example("corridor/plan.tsv")).unwrap();
+    let changed = whole
+        .replace("P\t1\t0\t0\t0\t3000\t2000", &format!("P\t1\t0\t0\t0\t{third}\t2000"))
+        .replace("P\t2\t0\t0\t0\t2000\t0", &format!("P\t2\t0\t0\t0\t{fourth}\t0"));
     let path = scratch(test).join("plan.tsv");
-    fs::write(&path, text).unwrap();
+    fs::write(&path, changed).unwrap();
     path.display().to_string()
 }
 

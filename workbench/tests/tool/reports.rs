@@ -156,6 +156,14 @@ fn names_stand_beside_numbers() {
 }
 
 #[test]
+fn names_are_no_plan() {
+    let folder = with_names("rank_names", "corridor", "L\t1\tPark Lane\n");
+    let said = workbench(&["rank", &folder]);
+    assert_eq!((said.status, said.err.as_str()), (0, ""));
+    assert_eq!(said.out.matches(".tsv").count(), 1);
+}
+
+#[test]
 fn every_link_is_led_to() {
     let page = page(&example("avenue"));
     let bar = &page[page.find("<nav>").unwrap()..page.find("</nav>").unwrap()];

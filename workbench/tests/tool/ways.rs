@@ -172,7 +172,7 @@ fn rank_takes_plans_alone_and_says_what_is_none() {
     fs::copy(example("corridor/plan.tsv"), folder.join("plan.tsv")).unwrap();
     fs::write(folder.join("hold.tsv"), "").unwrap();
     fs::write(folder.join("marked.tsv"), "\u{feff}P\t1\n").unwrap();
-    fs::write(folder.join("names.tsv"), "Park\t1\n").unwrap();
+    fs::write(folder.join("parks.tsv"), "Park\t1\n").unwrap();
     fs::write(folder.join("sheet.tsv"), "F\t10\t10\n").unwrap();
     let said = workbench(&["rank", "--csv", &name]);
     assert_eq!(said.status, 0);
@@ -184,7 +184,7 @@ fn rank_takes_plans_alone_and_says_what_is_none() {
         .collect();
     let expected = ["plan.tsv", "hold.tsv", "marked.tsv"].map(|plan| format!("{name}/{plan}"));
     assert_eq!(plans, expected);
-    for other in ["names.tsv", "sheet.tsv"] {
+    for other in ["parks.tsv", "sheet.tsv"] {
         assert!(
             said.err.contains(&format!("{name}/{other} is passed over")),
             "{}",
