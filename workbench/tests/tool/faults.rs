@@ -303,7 +303,7 @@ fn other_lines_that_have_a_part_are_shown_too() {
          why: it goes from link 1 to link 2, behind the movement from link 1 to link 2: the pairs must rise"
     );
     assert_eq!(
-        told("faults_length", &TWO_MOVEMENTS.replace("S\t10", "S\t21")),
+        told("faults_two_lengths", &TWO_MOVEMENTS.replace("S\t10", "S\t21")),
         "  network line 8: S [21] 0 0 0\n  network line 2: G 20 60 2 1 10 10 10 60 10 [20]\n\
          why: the step lasts 21 s, and the greatest time of phase 2 of signal 1 is 20 s"
     );
