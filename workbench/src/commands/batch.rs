@@ -129,7 +129,10 @@ fn next_line(input: &mut dyn BufRead) -> io::Result<Option<Read>> {
     let mut line = Vec::new();
     let (mut is_there, mut is_too_long) = (false, false);
     loop {
-        let bytes = input.fill_buf()?;
+        let bytes = match input.fill_buf() {
+            Err(error) if error.kind() == io::ErrorKind::Interrupted => continue,
+            read => read?,
+        };
         if bytes.is_empty() {
             break;
         }
@@ -219,10 +222,12 @@ fn texts_in(line: &str, has_network: bool, named: &mut Vec<(&str, Value)>) -> Re
     let Value::Object(members) = json::read(line).map_err(|wrong| wrong.to_string())? else {
         return Err("an object is due".to_string());
     };
+    let id = members.iter().find(|(key, _)| key == "id");
+    named.extend(id.map(|(_, id)| ("id", id.clone())));
     let (mut own, mut plan) = (None, None);
     for (key, value) in members {
         match (key.as_str(), value) {
-            ("id", id) => named.push(("id", id)),
+            ("id", _) => {}
             ("network", _) if has_network => {
                 return Err("the network is that of --network, and the line has one".to_string())
             }

@@ -4,6 +4,8 @@ use super::{corridor_with, example, scratch, workbench, workbench_with};
 use std::fs;
 use std::io::{BufRead, BufReader, Write};
 use std::process::{Command, Stdio};
+use std::thread;
+use std::time::Duration;
 
 const EARLY: &str = "P\t1\t5000\t0\t0\t0\t3000";
 const ACCEPTED: &str = "\"answer\":\"accepted\",\"totals\":{\"admitted\":5000,\"let_out\":5000,\"inside\":0,\"doubled_time\":240000},\"version\":\"0.1.0\"}";
@@ -50,7 +52,7 @@ fn lines_of_each_kind_in_their_order() {
         "nowhere\tplan".to_string(),
         String::new(),
         format!("{{\"network\":{network}}}"),
-        format!("{{\"network\":{network},\"plan\":1}}"),
+        format!("{{\"network\":{network},\"plan\":1,\"id\":null}}"),
         "{\"plan\":\"\"}".to_string(),
         "{\"netwrok\":\"\"}".to_string(),
         "{\"plan\":\"\\u12\"}".to_string(),
@@ -67,7 +69,7 @@ fn lines_of_each_kind_in_their_order() {
             .to_string(),
         "{\"line\":7,\"answer\":\"unread\",\"why\":\"the line is empty\",\"version\":\"0.1.0\"}".to_string(),
         "{\"line\":8,\"answer\":\"unread\",\"why\":\"there is no plan: ".to_string(),
-        "{\"line\":9,\"answer\":\"unread\",\"why\":\"plan is no string\"".to_string(),
+        "{\"line\":9,\"id\":null,\"answer\":\"unread\",\"why\":\"plan is no string\"".to_string(),
         "{\"line\":10,\"answer\":\"unread\",\"why\":\"there is no network\"".to_string(),
         "{\"line\":11,\"answer\":\"unread\",\"why\":\"there is no key netwrok: network, plan and id are\"".to_string(),
         "{\"line\":12,\"answer\":\"unread\",\"why\":\"no JSON at byte 14: four hexadecimal digits are due\""
@@ -150,10 +152,13 @@ fn answers_come_at_once_and_a_closed_pipe_ends_it() {
             assert!(answer.starts_with(&format!("{{\"line\":{number},")), "{answer}");
         }
         drop(answers);
-        writeln!(input, "{}", example("corridor")).unwrap();
+        // A child that another test starts just now may hold the pipe for a moment.
+        while tool.try_wait().unwrap().is_none() {
+            let _ = writeln!(input, "{}", example("corridor"));
+            thread::sleep(Duration::from_millis(10));
+        }
         let ended = tool.wait_with_output().unwrap();
         assert_eq!((ended.status.code(), ended.stderr.len()), (Some(0), 0));
-        drop(input);
     }
 }
 
