@@ -148,11 +148,6 @@ pub fn told(
     words
 }
 
-/// The same where no text but the network's is looked at.
-pub fn with_line(refusal: &Refusal, given: &[(Text, &[u8])], network: Option<&Network>) -> String {
-    told(refusal, given, network, &[])
-}
-
 /// What is wrong with a network that is refused; nothing for a refusal of something else.
 pub fn network_faults(refusal: &Refusal, text: &[u8]) -> Vec<Fault> {
     match refusal.reason() {

@@ -50,7 +50,8 @@ fn run(arguments: &[String], out: &mut dyn Write) -> Outcome {
             let plan = if refused.of == Refused::First { &first } else { &second };
             let given = [(Text::Network, &network[..]), (Text::Plan, &plan[..])];
             let read = Network::read(&network).ok();
-            let words = words::with_line(&refused.refusal, &given, read.as_ref());
+            let faults = words::plan_faults(&refused.refusal, plan, read.as_ref());
+            let words = words::told(&refused.refusal, &given, read.as_ref(), &[(Text::Plan, faults)]);
             writeln!(out, "{}: {words}", refused.of)?;
             Ok(Ended::Refused)
         }

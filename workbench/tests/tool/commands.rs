@@ -379,6 +379,14 @@ fn compare_tells_which_plan_is_ahead() {
     );
 
     let broken = folder.join("broken.tsv");
+    fs::write(&broken, "P\t3\n").unwrap();
+    let said = workbench(&["compare", &network, &broken.display().to_string(), &quick]);
+    let why = "\n  plan line 1: P 3\nwhy: it has 2 fields, and 7 are due: P, the mask of each signal, ";
+    assert!(
+        said.out.starts_with("first plan: refused with 9 ") && said.out.contains(why),
+        "{}",
+        said.out
+    );
     fs::write(&broken, "P\t3\t0\t0\t0\t0\t0\n").unwrap();
     let said = workbench(&["compare", &network, &quick, &broken.display().to_string()]);
     assert_eq!(said.status, 1);
