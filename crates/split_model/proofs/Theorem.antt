@@ -204,7 +204,7 @@ module _ (network plan : List Line) (first : ℕ → Bool) (holds : Hold (networ
 
   -- ---- forward: both halves are accepted, and match
   module _ (size : ℕ) (t : Judged network plan size) where
-    pub half-judged : (h : Half) → Apart network first h → 1 ≤ rank (h .has-link) L → (own : ℕ) → 2 * suc K * rank (h .has-link) L ≤ own
+    half-judged : (h : Half) → Apart network first h → 1 ≤ rank (h .has-link) L → (own : ℕ) → 2 * suc K * rank (h .has-link) L ≤ own
         → Judged (networkBy network plan first h) (planBy network plan first h) own
     half-judged h parted some own room =
         record {
