@@ -128,6 +128,7 @@ static void ask_counts(void)
     add(r.movements);
     add(r.steps);
     add(r.trams);
+    add(r.past);
 }
 
 static void fill_ledger(void)

@@ -96,9 +96,10 @@ static void try_counts(void)
     if (checked.number == 0) {
         DEMAND(counts[0].links >= 1 && counts[0].links <= PLANCHECK_MAX_LINKS && counts[0].signals <= PLANCHECK_MAX_SIGNALS);
         DEMAND(counts[0].movements <= PLANCHECK_MAX_MOVEMENTS && counts[0].trams <= PLANCHECK_MAX_TRAMS);
-        DEMAND(counts[0].steps >= 1 && counts[0].steps <= PLANCHECK_MAX_STEPS);
+        DEMAND(counts[0].steps >= 1 && counts[0].steps + counts[0].past <= PLANCHECK_MAX_STEPS);
     } else {
-        DEMAND(counts[0].links == 0 && counts[0].signals == 0 && counts[0].movements == 0 && counts[0].steps == 0 && counts[0].trams == 0);
+        DEMAND(counts[0].links == 0 && counts[0].signals == 0 && counts[0].movements == 0);
+        DEMAND(counts[0].steps == 0 && counts[0].trams == 0 && counts[0].past == 0);
     }
     count_number(counts[0].number);
 }

@@ -138,7 +138,7 @@ extern "C" {
 
 /* The version of the calls, of their answers and of the texts (CHANGELOG.md); plancheck_version tells the library's. */
 #define PLANCHECK_VERSION_MAJOR 0
-#define PLANCHECK_VERSION_MINOR 1
+#define PLANCHECK_VERSION_MINOR 2
 #define PLANCHECK_VERSION_PATCH 0
 
 /* Limits of a network. Links and steps are at least 1; there may be no signals, movements, tram lines and past steps. Past
@@ -323,7 +323,7 @@ typedef struct {
     uint32_t item;
 } plancheck_network_result;
 
-/* Answer of plancheck_network_counts. 32 bytes. */
+/* Answer of plancheck_network_counts. 36 bytes. */
 typedef struct {
     uint32_t number; /* PLANCHECK_OK: the network is valid, with these counts */
     uint32_t line;
@@ -333,6 +333,7 @@ typedef struct {
     uint32_t movements;
     uint32_t steps;
     uint32_t trams; /* tram lines */
+    uint32_t past;  /* past steps */
 } plancheck_counts_result;
 
 /* Answer of plancheck_version. 12 bytes. */
@@ -423,7 +424,7 @@ typedef struct {
  */
 #define PLANCHECK_ASSERT(name, holds) typedef char plancheck_assert_##name[(holds) ? 1 : -1]
 PLANCHECK_ASSERT(network_result, sizeof(plancheck_network_result) == 12);
-PLANCHECK_ASSERT(counts_result, sizeof(plancheck_counts_result) == 32);
+PLANCHECK_ASSERT(counts_result, sizeof(plancheck_counts_result) == 36);
 PLANCHECK_ASSERT(version_result, sizeof(plancheck_version_result) == 12);
 PLANCHECK_ASSERT(plan_result, sizeof(plancheck_plan_result) == 48);
 PLANCHECK_ASSERT(plan_totals, offsetof(plancheck_plan_result, admitted) == 16);
@@ -449,8 +450,8 @@ plancheck_version_result plancheck_version(void);
 plancheck_network_result plancheck_check_network(const uint8_t *network, size_t network_len);
 
 /*
- * Checks a network text and tells what a valid one has: links, signals, movements, steps and tram lines, as its N line
- * says. Refusals 1 to 6, 28 and 30. A ledger of PLANCHECK_LEDGER_LEN(links, steps) numbers is enough for it.
+ * Checks a network text and tells what a valid one has: links, signals, movements, steps, tram lines and past steps, as
+ * its N line says. Refusals 1 to 6, 28 and 30. A ledger of PLANCHECK_LEDGER_LEN(links, steps) numbers is enough for it.
  *
  * Reads network[0 .. network_len - 1]. Writes nothing.
  */

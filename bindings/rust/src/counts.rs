@@ -15,6 +15,8 @@ pub struct Counts {
     pub steps: usize,
     /// Tram lines.
     pub trams: usize,
+    /// Past steps.
+    pub past: usize,
 }
 
 impl Counts {
@@ -51,6 +53,7 @@ pub fn network_counts(network: &[u8]) -> Result<Counts, Refusal> {
         movements: result.movements as usize,
         steps: result.steps as usize,
         trams: result.trams as usize,
+        past: result.past as usize,
     })
 }
 
@@ -69,7 +72,7 @@ pub struct Version {
 ///
 /// ```
 /// let version = plancheck::library_version();
-/// assert_eq!((version.major, version.minor), (0, 1));
+/// assert_eq!((version.major, version.minor), (0, 2));
 /// ```
 #[must_use]
 pub fn library_version() -> Version {

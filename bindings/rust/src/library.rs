@@ -19,6 +19,7 @@ pub struct CountsResult {
     pub movements: u32,
     pub steps: u32,
     pub trams: u32,
+    pub past: u32,
 }
 
 #[repr(C)]

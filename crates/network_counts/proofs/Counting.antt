@@ -41,7 +41,7 @@ module _ {text : List ℕ} {stage : Stage} {links movements times : List ℕ} (g
   counted-told {reading} e a =
       let held = got .held _ e .counted in
       let same : countedAnswer (reading .counts) ≡ countsAnswer (lines text) verdicts.Passes =
-      unfold countsAnswer in rw (held .links) (rw (held .signals) (rw (held .movements) (rw (held .steps) (rw (held .trams) refl)))) in
+      unfold countsAnswer in rw (held .links) (rw (held .signals) (rw (held .movements) (rw (held .steps) (rw (held .trams) (rw (held .past) refl))))) in
       answered verdicts.Passes (unfold checkNetwork in verdict-passed got e) (a ∙ same)
 
   pub refused-told : {r : Refusal} → stage ≡ Refused r → (counts-answer.Refused r ≡ countNetwork (lines text)) × CountPromises (counts-answer.Refused r)

@@ -5,7 +5,7 @@ use Rattle.search.specs.declared.Refusal.{Refusal}
 use Rattle.search.specs.declared.Verdict.{Verdict}
 use Rattle.search.specs.declared.Verdict.the-variants.{Passes, Refused}
 use Rattle.records.specs.Lines.{Line}
-use Rattle.model.specs.Network.{linkCount, signalCount, movementCount, stepCount, tramCount}
+use Rattle.model.specs.Network.{linkCount, signalCount, movementCount, stepCount, tramCount, pastCount}
 use Rattle.model.specs.Calls.{checkNetwork}
 use Rattle.model.specs.Guarantees.{CanArise}
 use Rattle.tables.specs.declared.Counts.{Counts}
@@ -14,11 +14,12 @@ use Rattle.network_counts.specs.declared.CountsAnswer.the-variants as co
 
 -- some counts as an answer
 abbrev pub countedAnswer : Counts → CountsAnswer
-countedAnswer c = counts-answer.Counted (c .links) (c .signals) (c .movements) (c .steps) (c .trams)
+countedAnswer c = counts-answer.Counted (c .links) (c .signals) (c .movements) (c .steps) (c .trams) (c .past)
 
 -- the counts of a network that passes, or its refusal
 unfoldable pub countsAnswer : List Line → Verdict → CountsAnswer
-countsAnswer network Passes = counts-answer.Counted (linkCount network) (signalCount network) (movementCount network) (stepCount network) (tramCount network)
+countsAnswer network Passes =
+    counts-answer.Counted (linkCount network) (signalCount network) (movementCount network) (stepCount network) (tramCount network) (pastCount network)
 countsAnswer network (Refused r) = counts-answer.Refused r
 
 unfoldable pub countNetwork : List Line → CountsAnswer

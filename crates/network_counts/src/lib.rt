@@ -10,7 +10,7 @@ use tables::MOVEMENT_TABLE_SIZE;
 use tables::Stage;
 use tables::TIME_TABLE_SIZE;
 
-// How many links, signals, movements, steps and tram lines; or the network's refusal.
+// How many links, signals, movements, steps, tram lines and past steps; or the network's refusal.
 pub enum CountsAnswer {
     Counted {
         links: u32,
@@ -18,6 +18,7 @@ pub enum CountsAnswer {
         movements: u32,
         steps: u32,
         trams: u32,
+        past: u32,
     },
     Refused(Refusal),
 }
@@ -33,10 +34,11 @@ fn counted(counts: Counts) -> CountsAnswer
         movements: counts.movements as u32,
         steps: counts.steps as u32,
         trams: counts.trams as u32,
+        past: counts.past as u32,
     }
 }
 
-// Counts a network that is valid: refusals 1 to 6 and 28.
+// Counts a network that is valid: refusals 1 to 6, 28 and 30.
 pub fn count_network(text: &[u8]) -> CountsAnswer
     ensures { λ r. ⌜ r ≡ countNetwork (lines (now (text .entry))) ⌝ }
     ensures { λ r. ⌜ CountPromises r ⌝ }

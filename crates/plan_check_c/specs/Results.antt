@@ -47,14 +47,14 @@ abbrev pub verdictOf : NetworkResult → Verdict
 verdictOf r = cond (eqb (r .number) 0) Passes (Refused (refusal (r .number) (r .line) (r .item)))
 
 abbrev pub countsResult : CountsAnswer → CountsResult
-countsResult (counts-answer.Counted links signals movements steps trams) =
-    record { number = 0; line = 0; item = 0; links = links; signals = signals; movements = movements; steps = steps; trams = trams }
+countsResult (counts-answer.Counted links signals movements steps trams past) =
+    record { number = 0; line = 0; item = 0; links = links; signals = signals; movements = movements; steps = steps; trams = trams; past = past }
 countsResult (counts-answer.Refused r) =
-    record { number = r .number; line = r .line; item = r .item; links = 0; signals = 0; movements = 0; steps = 0; trams = 0 }
+    record { number = r .number; line = r .line; item = r .item; links = 0; signals = 0; movements = 0; steps = 0; trams = 0; past = 0 }
 
 -- the version of the calls, of their answers and of the texts (CHANGELOG.md)
 abbrev pub version : VersionResult
-version = record { major = 0; minor = 1; patch = 0 }
+version = record { major = 0; minor = 2; patch = 0 }
 
 abbrev pub planResult : PlanAnswer → PlanResult
 planResult (plan-answer.Accepted t) =

@@ -55,6 +55,7 @@ pub struct CountsResult {
     pub movements: u32,
     pub steps: u32,
     pub trams: u32,
+    pub past: u32,
 }
 
 // The version of the calls, of their answers and of the texts.
@@ -169,6 +170,7 @@ pub extern "C" fn plancheck_network_counts(network: &[u8]) -> CountsResult
             movements,
             steps,
             trams,
+            past,
         } => CountsResult {
             number: 0,
             line: 0,
@@ -178,6 +180,7 @@ pub extern "C" fn plancheck_network_counts(network: &[u8]) -> CountsResult
             movements,
             steps,
             trams,
+            past,
         },
         CountsAnswer::Refused(r) => CountsResult {
             number: r.number,
@@ -188,6 +191,7 @@ pub extern "C" fn plancheck_network_counts(network: &[u8]) -> CountsResult
             movements: 0,
             steps: 0,
             trams: 0,
+            past: 0,
         },
     }
 }
@@ -198,7 +202,7 @@ pub extern "C" fn plancheck_version() -> VersionResult
 {
     VersionResult {
         major: 0,
-        minor: 1,
+        minor: 2,
         patch: 0,
     }
 }

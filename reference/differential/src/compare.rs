@@ -193,16 +193,17 @@ fn order_number(order: Order) -> u32 {
 
 /// What a network has; 0 of each where it is refused.
 fn counts(network: &[u8], [number, line, item]: [u32; 3]) -> CountsResult {
-    let counts = Network::read(network).map_or([0; 5], |network| {
+    let counts = Network::read(network).map_or([0; 6], |network| {
         [
             network.links.len(),
             network.signals.len(),
             network.movements.len(),
             network.steps.len(),
             network.trams.len(),
+            network.past.len(),
         ]
     });
-    let [links, signals, movements, steps, trams] = counts.map(|count| narrow(count as u64));
+    let [links, signals, movements, steps, trams, past] = counts.map(|count| narrow(count as u64));
     CountsResult {
         number,
         line,
@@ -212,6 +213,7 @@ fn counts(network: &[u8], [number, line, item]: [u32; 3]) -> CountsResult {
         movements,
         steps,
         trams,
+        past,
     }
 }
 
