@@ -1,14 +1,15 @@
 -- The difference of two naturals in the integers: its sign, its negation and zero. Assumes nothing.
 use Prim.Native.Nat.{ℕ, zero, suc, _-_, _≤_, _<_}
 use mathlib.Core.Path.{_≡_, refl, ap}
+use mathlib.Core.Logic.{_↔_}
 use native.Mathlib.Decide.{decLt}
 use native.Mathlib.Omega.{arith}
 use lib.IntN.{ℤ, pos, negℤ, _-ℤ_, subℕ}
-use lib.Signed.{_≤ℤ_, _<ℤ_, leZ-yes, ltZ-yes}
+use lib.Signed.{_≤ℤ_, _<ℤ_, leZ-yes, ltZ-yes, clashℤ}
 use mir.Syntax.{w64}
 use mir.Val.{SFits, toZ, ofZ}
 use mir.Facts.{toZ-ofZ}
-use borrow.Author.Tests.{lt-ltb, le-ltb}
+use borrow.Author.Tests.{le-leb, lt-ltb, le-ltb}
 
 pub gap-none : (a b : ℕ) → a ≡ b → subℕ a b ≡ pos 0
 gap-none a b e = let d : a - b ≡ 0 = omega arith in rw (le-ltb a b (omega arith), d)
@@ -21,6 +22,25 @@ gap-not-above a b h = elim (decLt a b) [
   | yes l ↦ rw (lt-ltb a b l) (leZ-yes tt)
   | no l ↦ rw (gap-none a b (omega arith)) (leZ-yes tt)
 ]
+
+-- the gap tells which is the lesser
+pub gap-quicker : (a b : ℕ) → (subℕ a b <ℤ pos 0) ↔ (a < b)
+gap-quicker a b = (
+  λ h. elim (decLt a b) [
+    | yes l ↦ l
+    | no l ↦ clashℤ h (rw (le-ltb a b (omega arith)) (leZ-yes (rw (le-leb 0 (a - b) (omega arith)) tt)))
+  ],
+  gap-below a b,
+)
+
+pub gap-as-quick : (a b : ℕ) → (subℕ a b ≡ pos 0) ↔ (a ≡ b)
+gap-as-quick a b = (
+  λ h. elim (decLt a b) [
+    | yes l ↦ let e = rw (lt-ltb a b l) at h in let z : _≡_ {A = ℕ} 0 1 = cc in absurd (omega arith)
+    | no l ↦ let e = rw (le-ltb a b (omega arith)) at h in let d : a - b ≡ 0 = cc in omega arith
+  ],
+  gap-none a b,
+)
 
 pub gap-negated : (a b : ℕ) → subℕ b a ≡ negℤ (subℕ a b)
 gap-negated a b = elim (decLt a b) [

@@ -24,7 +24,7 @@ use Rattle.comparison.specs.declared.ComparisonAnswer.the-variants.{Comp
 use Rattle.comparison.specs.Comparison.{order, plansAnswer, networkAnswer, comparePlans}
 use Rattle.comparison.specs.Promises.{NeverFewer, SomewhereMore, PlansCompared, ComparisonPromises}
 use Rattle.comparison.proofs.Orders.{order-stands, stands-order, order-swapped}
-use Rattle.comparison.proofs.Gap.{gap-none, gap-below, gap-not-above, gap-negated}
+use Rattle.comparison.proofs.Gap.{gap-none, gap-below, gap-not-above, gap-quicker, gap-as-quick, gap-negated}
 use Rattle.comparison.proofs.Times.{time-le, time-less}
 
 -- a plan that is accepted with these totals
@@ -42,6 +42,10 @@ accepts network plan size t e =
 module _ {network plan : List Line} {size : ℕ} {t : Totals} (a : Accepts network plan size t) where
   pub accepted : AcceptedPlan network plan
   accepted = accepted-plan network plan size (a .holds)
+
+  -- with no other totals
+  same-totals : {other : Totals} → checkPlan network plan size ≡ Accepted other → other ≡ t
+  same-totals e = let told = a .told in cc
 
 module _ {network first second : List Line} {firstSize secondSize : ℕ} {t u : Totals} (one : Accepts network first firstSize t) (other : Accepts network second secondSize u) where
   not-greater : NeverFewer network first second → t .«doubled_time» ≤ u .«doubled_time»
@@ -61,6 +65,8 @@ module _ {network first second : List Line} {firstSize secondSize : ℕ} {t u : 
   plans-compared =
       record {
         accepted = (t, u, one .told, other .told, refl);
+        quicker = λ t′ u′ e f. rw (same-totals one e, same-totals other f) (gap-quicker _ _);
+        as-quick = λ t′ u′ e f. rw (same-totals one e, same-totals other f) (gap-as-quick _ _);
         stands = order-stands network first second;
         no-other = stands-order network first second;
         never-greater = λ h. gap-not-above _ _ (not-greater one other h);

@@ -1,6 +1,7 @@
 -- What a comparison of two plans promises, and the theorem of T-11. Assumes nothing.
 use Prim.Native.Nat.{ℕ, _≤_, _<_}
 use mathlib.Core.Path.{_≡_}
+use mathlib.Core.Logic.{_↔_}
 use mathlib.Core.List.{List}
 use lib.ListN.{length}
 use lib.IntN.{ℤ, pos, negℤ, subℕ}
@@ -47,6 +48,11 @@ pub record PlansCompared (network first second : List Line) (firstSize secondSiz
   -- both are accepted, and the gap is the doubled time of the first minus that of the second
   pub accepted : (t : Totals) × (u : Totals) × (checkPlan network first firstSize ≡ Accepted t) × (checkPlan network second secondSize ≡ Accepted u)
       × (gap ≡ subℕ (t .«doubled_time») (u .«doubled_time»))
+  -- it is below 0 exactly when the first is quicker, and 0 exactly when the times are equal
+  pub quicker : (t u : Totals) → checkPlan network first firstSize ≡ Accepted t → checkPlan network second secondSize ≡ Accepted u
+      → (gap <ℤ pos 0) ↔ (t .«doubled_time» < u .«doubled_time»)
+  pub as-quick : (t u : Totals) → checkPlan network first firstSize ≡ Accepted t → checkPlan network second secondSize ≡ Accepted u
+      → (gap ≡ pos 0) ↔ (t .«doubled_time» ≡ u .«doubled_time»)
   -- the plans stand in their order and in no other
   pub stands : Stands network order first second
   pub no-other : (other : Order) → Stands network other first second → other ≡ order
