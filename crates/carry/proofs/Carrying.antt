@@ -16,8 +16,10 @@ use Rattle.search.specs.declared.Verdict.the-variants as verdicts
 use Rattle.search.specs.Checks.{refusal, verdict, orElse, checked, each, Hold}
 use Rattle.search.proofs.Laws.{passes-of-hold, hold-of-passes, or-else-passes, or-else-refused, checked-passes, checked-refused, first-stop, first-passes}
 use Rattle.records.specs.Lines.{Line, noLine, lines, number}
+use Rattle.records.specs.Padding.{PaddingIgnored}
 use Rattle.records.specs.Reading.{Starts, atEnd, over}
 use Rattle.records.proofs.Laws.{some-lines, no-lines, starts-end, end-of-none}
+use Rattle.records.proofs.Padding.{same-lines}
 use Rattle.model.specs.Test.{_and_, within}
 use Rattle.model.specs.Network.{entry, maxLinks, linkCount, stepCount}
 use Rattle.model.specs.Flows.{offered, waits}
@@ -330,4 +332,11 @@ network-refused networkText planText b ledger buffer {r = r} got e =
 -- the call's whole promise
 pub promised : {networkText planText : List ℕ} {b : ℕ} {ledger ledger′ buffer buffer′ : List ℕ} {answer : CarryAnswer} → CarryGot networkText planText b ledger ledger′ buffer buffer′ answer
     → CarriedOn (lines networkText) (plannedOn (lines networkText) b planText) b ledger ledger′ buffer buffer′ answer
-promised {networkText} {planText} {b} {ledger} {buffer = buffer} got = carried-on (lines networkText) (plannedOn (lines networkText) b planText) b ledger buffer (got .told) (got .rows) (got .holds)
+    × PaddingIgnored networkText (λ paddedNetwork. PaddingIgnored planText (λ paddedPlan. CarryGot paddedNetwork paddedPlan b ledger ledger′ buffer buffer′ answer))
+promised {networkText} {planText} {b} {ledger} {buffer = buffer} got = (
+  carried-on (lines networkText) (plannedOn (lines networkText) b planText) b ledger buffer (got .told) (got .rows) (got .holds),
+  λ paddedNetwork n paddedPlan p.
+      let net = same-lines networkText paddedNetwork n in
+      let one = same-lines planText paddedPlan p in
+      record { told = got .told ∙ rw (net, one); rows = got .rows ∙ rw (net, one); holds = got .holds ∙ rw (net, one) },
+)

@@ -1,5 +1,6 @@
 // Carry on from a boundary (T-09): the call `carry_on`.
 ghost use Rattle.records.specs.Lines.{lines};
+ghost use Rattle.records.specs.Padding.{PaddingIgnored};
 ghost use Rattle.network.specs.Loading.{Loaded};
 ghost use Rattle.carry_model.specs.Call.{plannedOn};
 ghost use Rattle.carry_model.specs.CarriesOn.{CarriedOn};
@@ -116,6 +117,7 @@ pub fn carry_on(
     carried: &mut [u8],
 ) -> CarryAnswer
     ensures { λ r. ⌜ CarriedOn (lines (now (network .entry))) (plannedOn (lines (now (network .entry))) boundary (now (plan .entry))) boundary (now (ledger .entry)) (now (ledger .exit)) (now (carried .entry)) (now (carried .exit)) r ⌝ }
+    ensures { λ r. ⌜ PaddingIgnored (now (network .entry)) (λ paddedNetwork. PaddingIgnored (now (plan .entry)) (λ paddedPlan. CarryGot paddedNetwork paddedPlan boundary (now (ledger .entry)) (now (ledger .exit)) (now (carried .entry)) (now (carried .exit)) r)) ⌝ }
 {
     let mut links = [0u32; LINK_TABLE_SIZE];
     let mut movements = [0u32; MOVEMENT_TABLE_SIZE];

@@ -1,40 +1,31 @@
--- What the call promises beside the theorem: padding plays no part, and the number of a refusal is one that can arise. Assumes nothing.
+-- What the call promises beside the theorem: what it wrote, and that the number of a refusal is one that can arise. Assumes nothing.
 use mathlib.Core.Path.{_≡_, refl, sym, ap, _∙_}
 use mathlib.Core.List.{List}
 use Prim.Native.Nat.{ℕ}
 use lib.ListN.{length, take}
 use lib.Seq.{take-at}
-use borrow.Author.Needs.{needs}
 use Rattle.search.specs.declared.Refusal.{Refusal}
 use Rattle.search.specs.declared.Verdict.{Verdict}
 use Rattle.search.specs.declared.Verdict.the-variants.{Passes, Refused}
 use Rattle.search.specs.Checks.{verdict}
+use Rattle.search.specs.Numbers.{isOneOf}
+use Rattle.search.proofs.Numbers.{Numbered, refused-number, allOf}
 use Rattle.records.specs.Lines.{Line, lines}
 use Rattle.records.specs.Reading.{over}
-use Rattle.records.proofs.Padding.{same-lines}
 use Rattle.model.specs.Table.{networkChecks}
 use Rattle.model.specs.Calls.{checkNetwork}
-use Rattle.model.proofs.Numbers.{Numbered, refused-number, network-numbered, plan-numbered}
+use Rattle.model.proofs.Numbers.{network-among, plan-among}
 use Rattle.carry_model.specs.declared.CarryAnswer.{CarryAnswer}
 use Rattle.carry_model.specs.declared.CarryAnswer.the-variants as answers
 use Rattle.carry_model.specs.Part.{cut, carriedText}
-use Rattle.carry_model.specs.Call.{boundaryChecks, carryChecks, carryAnswer, carryOn, carryLedger, writtenBytes, carryBuffer}
+use Rattle.carry_model.specs.Call.{boundaryChecks, carryNumbers, carryChecks, carryAnswer, carryOn, carryLedger, writtenBytes, carryBuffer}
 use Rattle.carry_model.specs.CarriesOn.{CarriedOn}
 use Rattle.carry_model.proofs.CarriesOn.{carries-on}
-use Rattle.carry_model.specs.Padding.{PaddingIgnored}
-
-pub padding-ignored : (network paddedNetwork plan paddedPlan : List ℕ) → PaddingIgnored network paddedNetwork plan paddedPlan
-padding-ignored network paddedNetwork plan paddedPlan =
-    record {
-      same-answer = λ n p b size room. rw (same-lines network paddedNetwork n, same-lines plan paddedPlan p);
-      same-ledger = λ n p b before. rw (same-lines network paddedNetwork n, same-lines plan paddedPlan p);
-      same-buffer = λ n p b size before. rw (same-lines network paddedNetwork n, same-lines plan paddedPlan p);
-    }
 
 module _ (network plan : List Line) (b size room : ℕ) where
-  carry-numbered : Numbered (carryChecks network plan b size room)
-  unfolding Numbered carryChecks boundaryChecks
-  carry-numbered = search (needs, network-numbered network, plan-numbered (cut network b) plan size)
+  pub carry-numbered : Numbered carryNumbers (carryChecks network plan b size room)
+  unfolding Numbered isOneOf allOf carryChecks boundaryChecks
+  carry-numbered = ((network-among network carryNumbers refl, refl), (plan-among (cut network b) plan size carryNumbers refl, refl))
 
   -- the verdict by the answer
   of-written : (v : Verdict) (end : ℕ) → carryAnswer network plan b v ≡ answers.Written end → (v ≡ Passes) × (end ≡ length (carriedText network plan b))
@@ -63,7 +54,7 @@ carried-on network plan b ledger buffer {bufferAfter = after} {answer = answer} 
           ∙ carries-on network .valid plan b (length ledger) (length buffer) (of-written network plan b (length ledger) (length buffer) _ end (sym told ∙ e) .0);
       untouched = λ r e. holds ∙ kept _ r (of-refused network plan b (length ledger) (length buffer) _ r (sym told ∙ e));
       carries-on = carries-on network;
-      refused-number = λ r e. refused-number _ r (carry-numbered network plan b (length ledger) (length buffer)) (of-refused network plan b (length ledger) (length buffer) _ r (sym told ∙ e));
+      refused-number = λ r e. refused-number carryNumbers _ r (carry-numbered network plan b (length ledger) (length buffer)) (of-refused network plan b (length ledger) (length buffer) _ r (sym told ∙ e));
     }
   where
     bytes-of : (v : Verdict) → v ≡ Passes → writtenBytes network plan b v buffer ≡ over (carriedText network plan b) buffer

@@ -2,7 +2,7 @@
 -- (`plannedOn`). Assumes nothing.
 use Prim.Native.Nat.{ℕ, _-_}
 use mathlib.Core.Bool.{cond}
-use mathlib.Core.List.{List}
+use mathlib.Core.List.{List, [], _∷_, _++_}
 use lib.Dec.{leb}
 use lib.ListN.{length}
 use Rattle.search.specs.declared.Verdict.{Verdict}
@@ -15,6 +15,7 @@ use Rattle.model.specs.Network.{stepCount}
 use Rattle.model.specs.Table.{networkChecks, planChecks}
 use Rattle.model.specs.Calls.{isPassed, ledgerAfter}
 use Rattle.model.specs.Hold.{meant}
+use Rattle.model.specs.Guarantees.{planNumbers}
 use Rattle.carry_model.specs.declared.CarryAnswer.{CarryAnswer}
 use Rattle.carry_model.specs.declared.CarryAnswer.the-variants.{Written, Refused}
 use Rattle.carry_model.specs.Part.{cut, carriedText}
@@ -26,6 +27,10 @@ plannedOn network b planText = meant (cut network b) (lines planText)
 -- the network is judged whole; then 31, a boundary outside 1 to K - 1
 unfoldable pub boundaryChecks : List Line → ℕ → Checks
 boundaryChecks network b = networkChecks network then check 31 0 0 (within 1 b (stepCount network - 1))
+
+-- the numbers with which the call refuses
+abbrev pub carryNumbers : List ℕ
+carryNumbers = planNumbers ++ (31 ∷ 32 ∷ [])
 
 module _ (network plan : List Line) (b : ℕ) where
   -- then the plan, checked on the network cut to b steps, with 8 and the rows of that; last 32, an output buffer that is too short

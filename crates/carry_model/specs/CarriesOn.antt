@@ -8,18 +8,18 @@ use Rattle.search.specs.declared.Refusal.{Refusal}
 use Rattle.search.specs.declared.Verdict.{Verdict}
 use Rattle.search.specs.declared.Verdict.the-variants.{Passes, Refused}
 use Rattle.search.specs.Checks.{refusal, orElse, verdict}
+use Rattle.search.specs.Numbers.{CanArise}
 use Rattle.records.specs.Lines.{Line, lines}
 use Rattle.model.specs.Network.{linkCount, stepCount}
 use Rattle.model.specs.Flows.{doubledTime, row}
 use Rattle.model.specs.Table.{networkChecks, planChecks}
 use Rattle.model.specs.Calls.{checkNetwork}
 use Rattle.model.specs.Hold.{meant}
-use Rattle.model.specs.Guarantees.{CanArise}
 use Rattle.carry_model.specs.declared.CarryAnswer.{CarryAnswer}
 use Rattle.carry_model.specs.declared.CarryAnswer.the-variants as answers
 use Rattle.carry_model.specs.declared.CarryAnswer.the-variants.{Written}
 use Rattle.carry_model.specs.Part.{cut, carriedText}
-use Rattle.carry_model.specs.Call.{carryChecks, carryOn, carryLedger, carryBuffer}
+use Rattle.carry_model.specs.Call.{carryNumbers, carryChecks, carryOn, carryLedger, carryBuffer}
 
 -- a verdict whose line is told so many lines later
 unfoldable pub later : ℕ → Verdict → Verdict
@@ -80,4 +80,4 @@ pub record CarriedOn (network plan : List Line) (b : ℕ) (ledger ledgerAfter bu
   pub written-valid : (end : ℕ) → answer ≡ Written end → checkNetwork (lines (take end bufferAfter)) ≡ Passes
   pub untouched : (r : Refusal) → answer ≡ answers.Refused r → bufferAfter ≡ buffer
   pub carries-on : CarriesOn network
-  pub refused-number : (r : Refusal) → answer ≡ answers.Refused r → CanArise (r .number)
+  pub refused-number : (r : Refusal) → answer ≡ answers.Refused r → CanArise carryNumbers (r .number)

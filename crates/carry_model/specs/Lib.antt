@@ -1,4 +1,3 @@
 pub mod Part
 pub mod Call
 pub mod CarriesOn
-pub mod Padding

@@ -8,6 +8,8 @@ use lib.Seq.{length-take-le, ext-getD, getD-drop}
 use Rattle.search.specs.declared.Verdict.the-variants.{Passes, Refused}
 use Rattle.search.specs.Checks.{refusal, verdict}
 use Rattle.records.specs.Lines.{Line, lines}
+use Rattle.records.specs.Padding.{PaddingIgnored}
+use Rattle.records.proofs.Padding.{same-lines}
 use Rattle.lists.proofs.Laws.{length-list, get-list}
 use Rattle.cell_steps.specs.declared.Totals.{Totals}
 use Rattle.cell_steps.specs.Steps.{chainOf, volumesAfter, totalIn, totalOut, Ready}
@@ -37,9 +39,21 @@ pub record Done (text : List Line) (run : CellsRun) : Type 0 where
   pub is-answer : run .answer ≡ runCells text
   pub are-volumes : run .volumes ≡ finalVolumes text
 
-pub promised : (text : List Line) (run : CellsRun) → Done text run
-    → (run .answer ≡ runCells text) × ((run .volumes ≡ finalVolumes text) × RunKeeps text (run .answer) (run .volumes))
-promised text run d = (d .is-answer, (d .are-volumes, rw (d .is-answer, d .are-volumes) (run-keeps text)))
+pub promised : (text : List ℕ) (run : CellsRun) → Done (lines text) run
+    → (run .answer ≡ runCells (lines text))
+    × ((run .volumes ≡ finalVolumes (lines text))
+    × (RunKeeps (lines text) (run .answer) (run .volumes)
+    × PaddingIgnored text (λ padded. (run .answer ≡ runCells (lines padded)) × (run .volumes ≡ finalVolumes (lines padded)))))
+promised text run d = (
+  d .is-answer,
+  (
+    d .are-volumes,
+    (
+      rw (d .is-answer, d .are-volumes) (run-keeps (lines text)),
+      λ padded same. (d .is-answer ∙ ap runCells (same-lines text padded same), d .are-volumes ∙ ap finalVolumes (same-lines text padded same)),
+    ),
+  ),
+)
 
 module _ (text : List ℕ) (result : CorridorRead) (volumes₀ flows holdings ratios volumes table : List ℕ)
     (got : CorridorGot text result volumes₀ flows holdings ratios volumes table) where

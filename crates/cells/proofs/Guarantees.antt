@@ -1,15 +1,15 @@
 -- What a run keeps, by its definitions. Assumes nothing.
-use Prim.Native.Nat.{ℕ, zero, suc, _≤_}
+use Prim.Native.Nat.{ℕ, zero, suc}
 use mathlib.Core.Path.{_≡_, refl, _∙_}
-use mathlib.Core.Logic.{inl, inr}
 use mathlib.Core.List.{List, [], _∷_, _++_, append-assoc, append-nil}
 use native.Mathlib.Omega.{arith}
+use borrow.Author.Needs.{needs}
 use lib.ListN.{length, List·getD-append}
-use Rattle.search.specs.declared.Refusal.{Refusal}
 use Rattle.search.specs.declared.Verdict.{Verdict}
 use Rattle.search.specs.declared.Verdict.the-variants.{Passes, Refused}
-use Rattle.search.specs.Checks.{verdict, FirstBroken}
-use Rattle.search.proofs.Laws.{refused-first}
+use Rattle.search.specs.Checks.{verdict}
+use Rattle.search.specs.Numbers.{isOneOf}
+use Rattle.search.proofs.Numbers.{Numbered, refused-number}
 use Rattle.records.specs.Lines.{Line}
 use Rattle.lists.specs.Indexed.{list}
 use Rattle.lists.proofs.Tests.{zero-one}
@@ -17,7 +17,7 @@ use Rattle.cell_steps.specs.Steps.{volumesAfter, totalIn, totalOut}
 use Rattle.cell_steps.specs.Guarantees.{total}
 use Rattle.cell_steps.proofs.Guarantees.{total-last, keeps, length-all-after}
 use Rattle.cell_lines.specs.Corridor.{cellCount, cellChecks, exitCheck, demandCheck, demandChecks, corridorChecks, chain, starts, demands}
-use Rattle.cells.specs.Call.{answerOf, runCells, zeros, padded, volumesOf, finalVolumes, Kept, RunKeeps}
+use Rattle.cells.specs.Call.{cellsNumbers, answerOf, runCells, zeros, padded, volumesOf, finalVolumes, Kept, RunKeeps}
 use Rattle.cells.proofs.Ready.{starts-length, corridor-ready}
 
 total-padded : (volumes : List ℕ) (n : ℕ) → total (volumes ++ zeros n) ≡ total volumes
@@ -43,13 +43,9 @@ module _ (text : List Line) where
         balanced = rw total-padded (k .balanced (demands text));
       }
 
-  broken-number : (r : Refusal) → FirstBroken (corridorChecks text) r → 1 ≤ r .number
-  unfolding FirstBroken corridorChecks cellChecks exitCheck demandChecks demandCheck
-  broken-number r (inl (i, h, inl b, p)) = rw (b .1) (omega arith)
-  broken-number r (inl (i, h, inr b, p)) = rw (b .1 .1) (omega arith)
-  broken-number r (inr (h, inl b)) = rw (b .1) (omega arith)
-  broken-number r (inr (h, inr (k, inl b))) = rw (b .2 .1) (omega arith)
-  broken-number r (inr (h, inr (k, inr b))) = rw (b .1 .1) (omega arith)
+  pub corridor-numbered : Numbered cellsNumbers (corridorChecks text)
+  unfolding Numbered isOneOf corridorChecks cellChecks exitCheck demandChecks demandCheck
+  corridor-numbered = search needs depth 9
 
   pub run-keeps : RunKeeps text (runCells text) (finalVolumes text)
   unfolding runCells answerOf finalVolumes volumesOf
@@ -68,5 +64,5 @@ module _ (text : List Line) where
       go (Refused r) e =
           record {
             ran = λ cells entered left q. zero-one (cc);
-            refused-number = λ s q. let same : r ≡ s = cc in rw (← same) (broken-number r (refused-first (corridorChecks text) r e));
+            refused-number = λ s q. let same : r ≡ s = cc in rw (← same) (refused-number cellsNumbers (corridorChecks text) r corridor-numbered e);
           }

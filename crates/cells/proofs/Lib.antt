@@ -2,4 +2,3 @@ pub mod Ready
 pub mod Guarantees
 pub mod Calls
 pub mod Cases
-pub mod Padding

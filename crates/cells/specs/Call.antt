@@ -1,12 +1,13 @@
 -- The call `run_cells` (T-12): its answer, the final volumes, and what it keeps. Assumes nothing.
 use Prim.Native.Nat.{ℕ, _+_, _-_, _≤_, _<_}
 use mathlib.Core.Path.{_≡_}
-use mathlib.Core.List.{List, [], _++_}
+use mathlib.Core.List.{List, [], _∷_, _++_}
 use lib.ListN.{length, getD}
 use Rattle.search.specs.declared.Refusal.{Refusal}
 use Rattle.search.specs.declared.Verdict.{Verdict}
 use Rattle.search.specs.declared.Verdict.the-variants.{Passes, Refused}
 use Rattle.search.specs.Checks.{verdict}
+use Rattle.search.specs.Numbers.{CanArise}
 use Rattle.records.specs.Lines.{Line}
 use Rattle.lists.specs.Indexed.{list}
 use Rattle.cell_steps.specs.Steps.{volumesAfter, totalIn, totalOut}
@@ -14,6 +15,10 @@ use Rattle.cell_steps.specs.Guarantees.{total, Keeps}
 use Rattle.cell_lines.specs.Corridor.{cellCount, corridorChecks, chain, starts, demands}
 use Rattle.cells.specs.declared.CellsAnswer.{CellsAnswer}
 use Rattle.cells.specs.declared.CellsAnswer.the-variants as cells-answer
+
+-- the numbers with which the call refuses
+abbrev pub cellsNumbers : List ℕ
+cellsNumbers = 36 ∷ 37 ∷ []
 
 -- how many cells, total flow in and total flow out; or the refusal of the first broken check
 unfoldable pub answerOf : Verdict → List Line → CellsAnswer
@@ -46,7 +51,7 @@ pub record Kept (text : List Line) (cells entered left : ℕ) (volumes : List �
   -- the total is start plus in minus out
   pub balanced : total volumes + left ≡ total (starts text) + entered
 
--- the same of an answer with its volumes, and no refusal has the number 0
+-- the same of an answer with its volumes, and a refusal's number is one that can arise
 pub record RunKeeps (text : List Line) (answer : CellsAnswer) (volumes : List ℕ) : Type 0 where
   pub ran : (cells entered left : ℕ) → answer ≡ cells-answer.Ran cells entered left → Kept text cells entered left volumes
-  pub refused-number : (r : Refusal) → answer ≡ cells-answer.Refused r → 1 ≤ r .number
+  pub refused-number : (r : Refusal) → answer ≡ cells-answer.Refused r → CanArise cellsNumbers (r .number)

@@ -4,6 +4,7 @@ ghost use Prim.Native.Nat.{_≤_};
 ghost use mathlib.Core.List.{[]};
 ghost use Rattle.search.specs.Checks.{refusal};
 ghost use Rattle.records.specs.Lines.{lines};
+ghost use Rattle.records.specs.Padding.{PaddingIgnored};
 ghost use Rattle.cells.specs.Call.{runCells, padded, finalVolumes, RunKeeps};
 use cell_lines::CorridorRead;
 use cell_steps::Totals;
@@ -30,6 +31,7 @@ pub fn run_cells(text: &[u8]) -> CellsRun
     ensures { λ r. ⌜ r .answer ≡ runCells (lines (now (text .entry))) ⌝ }
     ensures { λ r. ⌜ r .volumes ≡ finalVolumes (lines (now (text .entry))) ⌝ }
     ensures { λ r. ⌜ RunKeeps (lines (now (text .entry))) (r .answer) (r .volumes) ⌝ }
+    ensures { λ r. ⌜ PaddingIgnored (now (text .entry)) (λ padded. (r .answer ≡ runCells (lines padded)) × (r .volumes ≡ finalVolumes (lines padded))) ⌝ }
 {
     let mut flow_limits = [0u32; 64];
     let mut holding_limits = [0u32; 64];

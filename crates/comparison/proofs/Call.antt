@@ -11,8 +11,12 @@ use mir.Val.{SFits, toZ, ofZ}
 use Rattle.search.specs.declared.Refusal.{Refusal}
 use Rattle.search.specs.declared.Verdict.the-variants as verdicts
 use Rattle.search.specs.Checks.{Hold}
+use Rattle.search.specs.Numbers.{isOneOf}
 use Rattle.search.proofs.Laws.{passes-of-hold}
+use Rattle.search.proofs.Numbers.{refused-number, allOf}
 use Rattle.records.specs.Lines.{Line, lines}
+use Rattle.records.specs.Padding.{PaddingIgnored}
+use Rattle.records.proofs.Padding.{same-lines}
 use Rattle.model.specs.declared.Totals.{Totals}
 use Rattle.model.specs.declared.PlanAnswer.{PlanAnswer}
 use Rattle.model.specs.declared.PlanAnswer.the-variants as plan-answer
@@ -20,10 +24,11 @@ use Rattle.model.specs.Network.{stepCount}
 use Rattle.model.specs.Table.{networkChecks, planChecks}
 use Rattle.model.specs.Hold.{planOf}
 use Rattle.model.specs.Calls.{checkNetwork, ledgerAfter}
+use Rattle.model.specs.Guarantees.{planNumbers}
 use Rattle.model.proofs.Limits.{counts}
 use Rattle.model.proofs.Bounds.{doubled-small}
 use Rattle.model.proofs.Hold.{refused-answer, refused-rows}
-use Rattle.model.proofs.Numbers.{refused-number, network-numbered}
+use Rattle.model.proofs.Numbers.{network-among}
 use Rattle.tables.specs.declared.Counts.{Counts}
 use Rattle.tables.specs.declared.Reading.{Reading}
 use Rattle.tables.specs.declared.Stage.{Stage}
@@ -68,14 +73,14 @@ module _ (networkText firstText secondText firstOld secondOld : List ℕ) where
   -- the network is refused
   pub network-refused : {stage : Stage} {Held : Reading → Type 0} {r : Refusal} → Judged (networkChecks net) Held stage → stage ≡ stages.Refused r
       → ComparisonGot networkText firstText secondText firstOld secondOld (Refused 0 r) firstOld secondOld
-  unfolding comparePlans networkAnswer secondLedgerAfter onceAccepted checkNetwork
+  unfolding comparePlans networkAnswer secondLedgerAfter onceAccepted checkNetwork isOneOf allOf
   network-refused {r = r} got e =
       let v = verdict-refused got e in
       record {
         answered = sym (rw v refl);
         first-rows = sym (refused-rows net r v one firstOld);
         second-rows = sym (rw (refused-answer net r v one (length firstOld)) refl);
-        promised = refused-promises 0 r (refused-number (networkChecks net) r (network-numbered net) v);
+        promised = refused-promises 0 r (refused-number planNumbers (networkChecks net) r (network-among net planNumbers refl) v);
       }
 
   -- it has passed
@@ -145,5 +150,28 @@ pub got-promised : {networkText firstText secondText firstOld secondOld : List �
     → (answer ≡ comparePlans (lines networkText) (planOf networkText firstText) (planOf networkText secondText) (length firstOld) (length secondOld))
     × ((firstNew ≡ ledgerAfter (lines networkText) (planOf networkText firstText) firstOld)
     × ((secondNew ≡ secondLedgerAfter (lines networkText) (planOf networkText firstText) (planOf networkText secondText) (length firstOld) secondOld)
-    × ComparisonPromises (lines networkText) (planOf networkText firstText) (planOf networkText secondText) (length firstOld) (length secondOld) answer))
-got-promised got = (got .answered, (got .first-rows, (got .second-rows, got .promised)))
+    × (ComparisonPromises (lines networkText) (planOf networkText firstText) (planOf networkText secondText) (length firstOld) (length secondOld) answer
+    × PaddingIgnored networkText (λ paddedNetwork. PaddingIgnored firstText (λ paddedFirst. PaddingIgnored secondText (λ paddedSecond.
+    ComparisonGot paddedNetwork paddedFirst paddedSecond firstOld secondOld answer firstNew secondNew))))))
+got-promised {networkText} {firstText} {secondText} got = (
+  got .answered,
+  (
+    got .first-rows,
+    (
+      got .second-rows,
+      (
+        got .promised,
+        λ paddedNetwork n paddedFirst f paddedSecond s.
+            let net = same-lines networkText paddedNetwork n in
+            let one = same-lines firstText paddedFirst f in
+            let other = same-lines secondText paddedSecond s in
+            record {
+              answered = got .answered ∙ rw (net, one, other);
+              first-rows = got .first-rows ∙ rw (net, one);
+              second-rows = got .second-rows ∙ rw (net, one, other);
+              promised = rw (← net, ← one, ← other) (got .promised);
+            },
+      ),
+    ),
+  ),
+)

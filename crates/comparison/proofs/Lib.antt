@@ -5,4 +5,3 @@ pub mod Promises
 pub mod Curves
 pub mod Call
 pub mod Cases
-pub mod Padding

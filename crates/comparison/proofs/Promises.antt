@@ -8,6 +8,7 @@ use lib.IntN.{ℤ, subℕ}
 use Rattle.search.specs.declared.Refusal.{Refusal}
 use Rattle.search.specs.declared.Verdict.the-variants.{Passes}
 use Rattle.search.specs.Checks.{Hold, verdict}
+use Rattle.search.specs.Numbers.{CanArise}
 use Rattle.search.proofs.Laws.{hold-of-passes}
 use Rattle.records.specs.Lines.{Line}
 use Rattle.model.specs.declared.Totals.{Totals}
@@ -16,7 +17,7 @@ use Rattle.model.specs.Network.{stepCount}
 use Rattle.model.specs.Flows.{doubledTime}
 use Rattle.model.specs.Table.{planChecks}
 use Rattle.model.specs.Calls.{checkNetwork, checkPlan}
-use Rattle.model.specs.Guarantees.{CanArise}
+use Rattle.model.specs.Guarantees.{planNumbers}
 use Rattle.model.proofs.Accepted.{AcceptedPlan, accepted-plan}
 use Rattle.model.proofs.Promises.{passes-of-accepted}
 use Rattle.comparison.specs.declared.Order.{Order}
@@ -89,7 +90,7 @@ module _ {network first second : List Line} {firstSize secondSize : ℕ} {t u : 
       same {o} {o′} {gap} {gap′} p e = let a : o′ ≡ o = cc in let b : gap′ ≡ gap = cc in rw (a, b) p
 
 module _ {network first second : List Line} {firstSize secondSize : ℕ} where
-  pub refused-promises : (plan : ℕ) (r : Refusal) → CanArise (r .number) → ComparisonPromises network first second firstSize secondSize (Refused plan r)
+  pub refused-promises : (plan : ℕ) (r : Refusal) → CanArise planNumbers (r .number) → ComparisonPromises network first second firstSize secondSize (Refused plan r)
   refused-promises plan r h =
       record {
         compared = λ o gap e. let z : _≡_ {A = ℕ} 0 1 = cc in absurd (omega arith);

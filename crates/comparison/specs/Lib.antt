@@ -1,4 +1,3 @@
 pub mod Comparison
 pub mod Promises
 pub mod Curves
-pub mod Padding

@@ -7,13 +7,14 @@ use lib.ListN.{length}
 use lib.IntN.{ℤ, pos, negℤ, subℕ}
 use lib.Signed.{_≤ℤ_, _<ℤ_}
 use Rattle.search.specs.declared.Refusal.{Refusal}
+use Rattle.search.specs.Numbers.{CanArise}
 use Rattle.records.specs.Lines.{Line, lines}
 use Rattle.model.specs.declared.Totals.{Totals}
 use Rattle.model.specs.declared.PlanAnswer.the-variants.{Accepted}
 use Rattle.model.specs.Network.{stepCount}
 use Rattle.model.specs.Hold.{planOf}
 use Rattle.model.specs.Calls.{checkPlan, ledgerAfter}
-use Rattle.model.specs.Guarantees.{CanArise}
+use Rattle.model.specs.Guarantees.{planNumbers}
 use Rattle.comparison.specs.declared.Order.{Order}
 use Rattle.comparison.specs.declared.Order.the-variants.{Ahead, Behind, Equal, Crossing}
 use Rattle.comparison.specs.declared.ComparisonAnswer.{ComparisonAnswer}
@@ -66,7 +67,7 @@ pub record PlansCompared (network first second : List Line) (firstSize secondSiz
 -- What a comparison promises of its answer: of two plans that were compared the theorem of T-11, and of a refusal that its number is one that can arise.
 pub record ComparisonPromises (network first second : List Line) (firstSize secondSize : ℕ) (answer : ComparisonAnswer) : Type 0 where
   pub compared : (order : Order) (gap : ℤ) → answer ≡ Compared order gap → PlansCompared network first second firstSize secondSize order gap
-  pub refused-number : (plan : ℕ) (r : Refusal) → answer ≡ Refused plan r → CanArise (r .number)
+  pub refused-number : (plan : ℕ) (r : Refusal) → answer ≡ Refused plan r → CanArise planNumbers (r .number)
 
 -- what comparing two plan texts gives, whatever was handed in: the answer and both ledgers are those of the definitions
 pub record ComparisonGot (networkText firstText secondText firstOld secondOld : List ℕ) (answer : ComparisonAnswer) (firstLedger secondLedger : List ℕ) : Type 0 where

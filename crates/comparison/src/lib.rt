@@ -4,6 +4,7 @@ ghost use Prim.Native.Nat.{_+_, _<_};
 ghost use lib.IntN.{subℕ};
 ghost use lib.ListN.{length};
 ghost use Rattle.records.specs.Lines.{lines};
+ghost use Rattle.records.specs.Padding.{PaddingIgnored};
 ghost use Rattle.model.specs.Network.{maxSteps};
 ghost use Rattle.model.specs.Hold.{planOf};
 ghost use Rattle.model.specs.Calls.{ledgerAfter};
@@ -182,6 +183,7 @@ pub fn compare_plans(
     ensures { λ r. ⌜ now («first_ledger» .exit) ≡ ledgerAfter (lines (now (network .entry))) (planOf (now (network .entry)) (now (first .entry))) (now («first_ledger» .entry)) ⌝ }
     ensures { λ r. ⌜ now («second_ledger» .exit) ≡ secondLedgerAfter (lines (now (network .entry))) (planOf (now (network .entry)) (now (first .entry))) (planOf (now (network .entry)) (now (second .entry))) (length (now («first_ledger» .entry))) (now («second_ledger» .entry)) ⌝ }
     ensures { λ r. ⌜ ComparisonPromises (lines (now (network .entry))) (planOf (now (network .entry)) (now (first .entry))) (planOf (now (network .entry)) (now (second .entry))) (length (now («first_ledger» .entry))) (length (now («second_ledger» .entry))) r ⌝ }
+    ensures { λ r. ⌜ PaddingIgnored (now (network .entry)) (λ paddedNetwork. PaddingIgnored (now (first .entry)) (λ paddedFirst. PaddingIgnored (now (second .entry)) (λ paddedSecond. ComparisonGot paddedNetwork paddedFirst paddedSecond (now («first_ledger» .entry)) (now («second_ledger» .entry)) r (now («first_ledger» .exit)) (now («second_ledger» .exit))))) ⌝ }
 {
     let mut links = [0u32; LINK_TABLE_SIZE];
     let mut movements = [0u32; MOVEMENT_TABLE_SIZE];

@@ -15,6 +15,8 @@ use Rattle.search.specs.declared.Verdict.the-variants as verdicts
 use Rattle.search.specs.Checks.{refusal, orElse, checked, verdict}
 use Rattle.search.proofs.Laws.{or-else-passes, or-else-refused, checked-passes, checked-refused, passes-of-hold}
 use Rattle.records.specs.Lines.{Line, lines}
+use Rattle.records.specs.Padding.{PaddingIgnored}
+use Rattle.records.proofs.Padding.{same-lines}
 use Rattle.model.specs.declared.LinkAnswer.{LinkAnswer}
 use Rattle.model.specs.declared.LinkAnswer.the-variants.{State, Refused}
 use Rattle.model.specs.Test.{_and_, within}
@@ -172,9 +174,15 @@ module _ {text : List ℕ} {reading : Reading} {links times : List ℕ} (t : Tab
         unfolding ledgerEntered ledgerLeft
         found-told e f a q = q ∙ rw (e, f, a, own, t .counted .links) (state-is network ledger boundary link passed room reached first (omega (arith, t .counted .links)))
 
-promised : (network : List Line) (ledger : List ℕ) (boundary link : ℕ) {answer : LinkAnswer} → answer ≡ linkState network ledger boundary link
-    → (answer ≡ linkState network ledger boundary link) × StatePromises answer
-promised network ledger boundary link e = (e, rw e (state-promises network ledger boundary link))
+-- all that the call promises of its answer
+abbrev pub Promised : List ℕ → List ℕ → ℕ → ℕ → LinkAnswer → Type 0
+Promised text ledger boundary link answer =
+    (answer ≡ linkState (lines text) ledger boundary link)
+    × (StatePromises answer × PaddingIgnored text (λ padded. answer ≡ linkState (lines padded) ledger boundary link))
+
+promised : (text ledger : List ℕ) (boundary link : ℕ) {answer : LinkAnswer} → answer ≡ linkState (lines text) ledger boundary link → Promised text ledger boundary link answer
+promised text ledger boundary link e =
+    (e, (rw e (state-promises (lines text) ledger boundary link), λ padded same. e ∙ ap (λ (network : List Line). linkState network ledger boundary link) (same-lines text padded same)))
 
 module _ {text : List ℕ} {stage : Stage} {links movements times : List ℕ} (got : Judged (networkChecks (lines text)) (Loaded text links movements times) stage) where
   pub tabled : {reading : Reading} → stage ≡ stages.Passed reading → Tabled text reading links times
@@ -183,9 +191,9 @@ module _ {text : List ℕ} {stage : Stage} {links movements times : List ℕ} (g
       record { counted = l .counted; past-start = l .past-start; link-table = l .link-table; time-table = l .time-table; holds = l .holds }
 
   pub refused-told : (ledger : List ℕ) (boundary link : ℕ) {r : Refusal} → stage ≡ stages.Refused r
-      → (Refused r ≡ linkState (lines text) ledger boundary link) × StatePromises (Refused r)
-  refused-told ledger boundary link {r} e = promised (lines text) ledger boundary link (network-refused (lines text) ledger boundary link r (verdict-refused got e))
+      → Promised text ledger boundary link (Refused r)
+  refused-told ledger boundary link {r} e = promised text ledger boundary link (network-refused (lines text) ledger boundary link r (verdict-refused got e))
 
   pub told-by : (ledger : List ℕ) (boundary link : ℕ) {answer : LinkAnswer} → answer ≡ linkState (lines text) ledger boundary link
-      → (answer ≡ linkState (lines text) ledger boundary link) × StatePromises answer
-  told-by ledger boundary link e = promised (lines text) ledger boundary link e
+      → Promised text ledger boundary link answer
+  told-by ledger boundary link e = promised text ledger boundary link e

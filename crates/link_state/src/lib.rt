@@ -2,6 +2,7 @@
 ghost use mathlib.Core.Path.{_≡_};
 ghost use Prim.Native.Nat.{_+_, _≤_};
 ghost use Rattle.records.specs.Lines.{lines};
+ghost use Rattle.records.specs.Padding.{PaddingIgnored};
 ghost use Rattle.search.specs.Checks.{refusal};
 ghost use Rattle.model.specs.declared.LinkAnswer.the-variants.{Refused};
 ghost use Rattle.model.specs.Calls.{linkState};
@@ -162,6 +163,7 @@ fn state_by(
 pub fn link_state(network: &[u8], ledger: &[u32], boundary: u32, link: u32) -> LinkAnswer
     ensures { λ r. ⌜ r ≡ linkState (lines (now (network .entry))) (now (ledger .entry)) boundary link ⌝ }
     ensures { λ r. ⌜ StatePromises r ⌝ }
+    ensures { λ r. ⌜ PaddingIgnored (now (network .entry)) (λ padded. r ≡ linkState (lines padded) (now (ledger .entry)) boundary link) ⌝ }
 {
     let mut links = [0u32; LINK_TABLE_SIZE];
     let mut movements = [0u32; MOVEMENT_TABLE_SIZE];

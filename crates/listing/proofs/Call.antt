@@ -14,17 +14,20 @@ use Rattle.search.specs.declared.Refusal.{Refusal}
 use Rattle.search.specs.declared.Verdict.{Verdict}
 use Rattle.search.specs.declared.Verdict.the-variants as verdicts
 use Rattle.search.specs.Checks.{refusal, each, orElse, checked, verdict, Hold}
+use Rattle.search.specs.Numbers.{isOneOf, CanArise}
 use Rattle.search.proofs.Laws.{hold-of-passes, passes-of-hold, or-else-passes, or-else-refused}
+use Rattle.search.proofs.Numbers.{Numbered, refused-number, allOf}
 use Rattle.records.specs.Lines.{Line, lines}
+use Rattle.records.specs.Padding.{PaddingIgnored}
+use Rattle.records.proofs.Padding.{same-lines}
 use Rattle.records.specs.Reading.{over}
 use Rattle.record_writer.specs.Writing.{putAt, Wrote}
 use Rattle.model.specs.Sum.{sum}
 use Rattle.model.specs.Network.{stepLength, time}
 use Rattle.model.specs.Table.{networkChecks}
-use Rattle.model.specs.Guarantees.{CanArise}
 use Rattle.model.proofs.Accepted.{valid-network}
 use Rattle.model.proofs.Limits.{step-limits}
-use Rattle.model.proofs.Numbers.{Numbered, refused-number, network-numbered}
+use Rattle.model.proofs.Numbers.{network-among}
 use Rattle.tables.specs.declared.Counts.{Counts}
 use Rattle.tables.specs.declared.Reading.{Reading}
 use Rattle.tables.specs.declared.Stage.{Stage}
@@ -36,7 +39,7 @@ use Rattle.network.specs.Loading.{Loaded}
 use Rattle.listing_lines.specs.declared.Entry.{Entry}
 use Rattle.listing.specs.declared.ListingAnswer.{ListingAnswer}
 use Rattle.listing.specs.declared.ListingAnswer.the-variants.{Written, Refused}
-use Rattle.listing.specs.Listing.{entryChecksBy, listingChecks, planText, writeChecks, writtenAnswer, planFromListing, writtenBytes, bufferAfter}
+use Rattle.listing.specs.Listing.{listingNumbers, entryChecksBy, listingChecks, planText, writeChecks, writtenAnswer, planFromListing, writtenBytes, bufferAfter}
 use Rattle.listing.specs.ReadsBack.{PlanGot}
 use Rattle.listing.specs.Tables.{hasIn, secondsIn, TablesAsked, ListingGot, ListingAsked, numberTableSize, seenSize}
 use Rattle.listing.specs.Numbers.{textIn, Kept, LinesAsked}
@@ -193,19 +196,19 @@ unfolding bytesOf writtenBytes
 buffers network listing verdicts.Passes old = refl
 buffers network listing (verdicts.Refused r) old = refl
 
-write-numbered : (network : List Line) (listing : List Entry) (size : ℕ) → Numbered (writeChecks network listing size)
-unfolding Numbered writeChecks listingChecks entryChecksBy
-write-numbered network listing size = search (needs, network-numbered network)
+pub write-numbered : (network : List Line) (listing : List Entry) (size : ℕ) → Numbered listingNumbers (writeChecks network listing size)
+unfolding Numbered isOneOf allOf writeChecks listingChecks entryChecksBy
+write-numbered network listing size = (network-among network listingNumbers refl, search needs)
 
 of-answer : (network : List Line) (listing : List Entry) (v : Verdict) (r : Refusal) → writtenAnswer network listing v ≡ Refused r → v ≡ verdicts.Refused r
 unfolding writtenAnswer
 of-answer network listing verdicts.Passes r h = cc
 of-answer network listing (verdicts.Refused q) r h = cc
 
-answer-number : (network : List Line) (listing : List Entry) (size : ℕ) (r : Refusal) → planFromListing network listing size ≡ Refused r → CanArise (r .number)
+answer-number : (network : List Line) (listing : List Entry) (size : ℕ) (r : Refusal) → planFromListing network listing size ≡ Refused r → CanArise listingNumbers (r .number)
 unfolding planFromListing
 answer-number network listing size r h =
-    refused-number (writeChecks network listing size) r (write-numbered network listing size) (of-answer network listing _ r h)
+    refused-number listingNumbers (writeChecks network listing size) r (write-numbered network listing size) (of-answer network listing _ r h)
 
 module _ (text : List ℕ) (r : Stage) (links movements times : List ℕ) (g : Judged (networkChecks (lines text)) (Loaded text links movements times) r) where
   pub times-asked : (reading : Reading) → r ≡ stages.Passed reading → ShiftAsked times (reading .counts .past) (reading .counts .steps)
@@ -250,3 +253,8 @@ module _ (text : List ℕ) (r : Stage) (links movements times : List ℕ) (g : J
 
         passed : (end : ℕ) → answer ≡ Written end → Hold (listingChecks (lines text) listing)
         passed end q = hold-of-passes (listingChecks (lines text) listing) (parts end q .0)
+
+-- the same of a network that differs only in padding
+pub padding-too : (text : List ℕ) {listing : List Entry} {old new : List ℕ} {answer : ListingAnswer} → PlanGot (lines text) listing old answer new
+    → PlanGot (lines text) listing old answer new × PaddingIgnored text (λ padded. PlanGot (lines padded) listing old answer new)
+padding-too text got = (got, λ padded same. rw (← same-lines text padded same) got)

@@ -11,4 +11,3 @@ pub mod ReadBack
 pub mod Theorem
 mod Call
 mod Examples
-pub mod Padding

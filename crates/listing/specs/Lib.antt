@@ -3,4 +3,3 @@ pub mod ReadsBack
 pub mod Tables
 pub mod Numbers
 pub mod Writing
-pub mod Padding

@@ -2,7 +2,7 @@
 -- lines (crate `listing_lines`). Steps, signals, links and movements are counted from 0 here, from 1 in a variable, phases from 1. Assumes nothing.
 use Prim.Native.Nat.{ℕ, zero, suc, _+_, _*_, _-_, _/_, _%_, _^_}
 use mathlib.Core.Bool.{Bool, true, false, cond, not}
-use mathlib.Core.List.{List, _++_}
+use mathlib.Core.List.{List, [], _∷_, _++_}
 use lib.Dec.{leb, eqb}
 use lib.ListN.{length, getD}
 use Rattle.search.specs.declared.Verdict.{Verdict}
@@ -16,12 +16,17 @@ use Rattle.model.specs.Test.{_and_, _or_, within}
 use Rattle.model.specs.Sum.{sum, only, list}
 use Rattle.model.specs.Network.{linkCount, signalCount, movementCount, stepCount, signal, stepLength}
 use Rattle.model.specs.Table.{networkChecks, letterP}
+use Rattle.model.specs.Guarantees.{networkNumbers}
 use Rattle.listing_lines.specs.declared.Variable.{Variable}
 use Rattle.listing_lines.specs.declared.Variable.the-variants.{Shown, Admitted, LetOut, Moved}
 use Rattle.listing_lines.specs.declared.Entry.{Entry}
 use Rattle.listing_lines.specs.declared.Entry.the-variants.{Sets, Malformed}
 use Rattle.listing.specs.declared.ListingAnswer.{ListingAnswer}
 use Rattle.listing.specs.declared.ListingAnswer.the-variants.{Written, Refused}
+
+-- the numbers with which the call refuses
+abbrev pub listingNumbers : List ℕ
+listingNumbers = networkNumbers ++ (22 ∷ 23 ∷ 24 ∷ [])
 
 -- ---- one variable
 unfoldable pub same : Variable → Variable → Bool

@@ -5,19 +5,19 @@ use mathlib.Core.Bool.{true}
 use mathlib.Core.List.{List}
 use lib.ListN.{length, take}
 use Rattle.search.specs.declared.Refusal.{Refusal}
+use Rattle.search.specs.Numbers.{CanArise}
 use Rattle.records.specs.Lines.{Line, lines}
 use Rattle.model.specs.Network.{linkCount, signalCount, movementCount, stepCount, signal, stepLength}
 use Rattle.model.specs.Flows.{shownMask, admitted, letOut, moved}
 use Rattle.model.specs.Table.{letterP, isForm}
 use Rattle.model.specs.Hold.{meant}
-use Rattle.model.specs.Guarantees.{CanArise}
 use Rattle.listing_lines.specs.declared.Variable.{Variable}
 use Rattle.listing_lines.specs.declared.Variable.the-variants.{Shown, Admitted, LetOut, Moved}
 use Rattle.listing_lines.specs.declared.Entry.{Entry}
 use Rattle.listing_lines.specs.declared.Entry.the-variants.{Sets}
 use Rattle.listing.specs.declared.ListingAnswer.{ListingAnswer}
 use Rattle.listing.specs.declared.ListingAnswer.the-variants.{Written, Refused}
-use Rattle.listing.specs.Listing.{one, hasVariable, lineAt, planFromListing, bufferAfter}
+use Rattle.listing.specs.Listing.{listingNumbers, one, hasVariable, lineAt, planFromListing, bufferAfter}
 
 -- bit k of a number
 abbrev pub bitOf : ℕ → ℕ → ℕ
@@ -63,4 +63,4 @@ pub record PlanGot (network : List Line) (listing : List Entry) (old : List ℕ)
   pub holds : new ≡ bufferAfter network listing old
   pub some-bytes : (end : ℕ) → answer ≡ Written end → 1 ≤ end
   pub reads-back : (end : ℕ) → answer ≡ Written end → ReadsBack network listing (meant network (lines (take end new)))
-  pub refused-number : (r : Refusal) → answer ≡ Refused r → CanArise (r .number)
+  pub refused-number : (r : Refusal) → answer ≡ Refused r → CanArise listingNumbers (r .number)

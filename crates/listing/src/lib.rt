@@ -4,6 +4,7 @@ ghost use Prim.Native.Nat.{_+_, _*_, _/_, _≤_, _<_};
 ghost use lib.ListN.{length};
 ghost use lib.Dec.{eqb};
 ghost use Rattle.records.specs.Lines.{lines};
+ghost use Rattle.records.specs.Padding.{PaddingIgnored};
 ghost use Rattle.records.specs.Reading.{over};
 ghost use Rattle.record_writer.specs.Writing.{Wrote};
 ghost use Rattle.model.specs.Test.{within};
@@ -465,6 +466,7 @@ fn write_on_network(
 // The plan text of a solver's listing: refusals 1 to 6, 28 and 30, then 22 and 23 line by line, then 24.
 pub fn plan_from_listing(network: &[u8], listing: &[u8], out: &mut [u8]) -> ListingAnswer
     ensures { λ r. ⌜ PlanGot (lines (now (network .entry))) (entries (now (listing .entry))) (now (out .entry)) r (now (out .exit)) ⌝ }
+    ensures { λ r. ⌜ PaddingIgnored (now (network .entry)) (λ padded. PlanGot (lines padded) (entries (now (listing .entry))) (now (out .entry)) r (now (out .exit))) ⌝ }
 {
     let mut links = [0u32; LINK_TABLE_SIZE];
     let mut movements = [0u32; MOVEMENT_TABLE_SIZE];

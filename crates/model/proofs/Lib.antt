@@ -32,4 +32,3 @@ pub mod Hold
 pub mod Cycle
 pub mod CycleWitness
 pub mod Promises
-pub mod Padding

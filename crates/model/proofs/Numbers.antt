@@ -1,73 +1,51 @@
--- No refusal of a call has the number 0, which the C library gives for what passes, and none has the number 7. Assumes nothing.
+-- Every refusal of a call has one of its numbers. Assumes nothing.
 use mathlib.Core.Path.{_≡_, refl}
-use mathlib.Core.Bool.{Bool, true, not, _&&_}
-use mathlib.Core.Logic.{inl, inr}
+use mathlib.Core.Bool.{true}
 use mathlib.Core.List.{List}
-use Prim.Native.Nat.{ℕ, suc, _<_}
-use native.Mathlib.Omega.{arith}
+use Prim.Native.Nat.{ℕ, suc}
 use borrow.Author.Needs.{needs}
-use borrow.Author.Tests.{leb-true}
-use lib.Dec.{leb, eqb}
 use lib.ListN.{length}
 use Rattle.search.specs.declared.Refusal.{Refusal}
 use Rattle.search.specs.declared.Verdict.{Verdict}
 use Rattle.search.specs.declared.Verdict.the-variants.{Passes, Refused}
-use Rattle.search.specs.Checks.{Checks, check, each, _then_, verdict, FirstBroken, Rule, ruleAt, table}
-use Rattle.search.proofs.Laws.{refused-first}
+use Rattle.search.specs.Checks.{Rule, ruleAt, table}
+use Rattle.search.specs.Numbers.{isOneOf}
+use Rattle.search.proofs.Numbers.{arises, Numbered, refused-number, allOf, wider}
 use Rattle.records.specs.Lines.{Line}
 use Rattle.model.specs.declared.LinkAnswer.the-variants as link-answer
 use Rattle.model.specs.Test.{_and_, every}
 use Rattle.model.specs.Table.{countChecks, tramChecks, signalChecks, tramPhaseChecks, linkChecks, movementChecks, shareChecks, pastChecks, stepChecks, networkChecks, ledgerChecks, stepRules, lineChecks, planLineChecks, planChecks}
-use Rattle.model.specs.Guarantees.{CanArise, NetworkPromises, StatePromises}
+use Rattle.model.specs.Guarantees.{networkNumbers, stateNumbers, planNumbers, NetworkPromises, StatePromises}
 use Rattle.model.specs.Calls.{checkNetwork, stateChecks, linkAnswer, linkState}
-use Rattle.model.proofs.Tests.{and-left, and-right, every-at}
-
--- whether a refusal of this number can arise
-abbrev arises : ℕ → Bool
-arises number = leb 1 number && not (eqb number 7)
-
-can-arise : (number : ℕ) → arises number ≡ true → CanArise number
-unfolding _and_
-can-arise number h = record { not-0 = leb-true 1 number (and-left _ _ h); never-7 = λ e. let z = rw e at (and-right (leb 1 number) _ h) in let w : _≡_ {A = ℕ} 0 1 = cc in omega arith }
-
--- every check has such a number
-unfoldable pub Numbered : Checks → Type 0
-Numbered (check number line item holds) = arises number ≡ true
-Numbered (each n f) = (i : ℕ) → i < n → Numbered (f i)
-Numbered (a then b) = Numbered a × Numbered b
-
-broken-number : (c : Checks) (r : Refusal) → Numbered c → FirstBroken c r → CanArise (r .number)
-unfolding Numbered FirstBroken
-broken-number (check number line item holds) r h b = rw (b .1) (can-arise number h)
-broken-number (each n f) r h b = broken-number (f (b .0)) r (h (b .0) (b .1)) (b .2)
-broken-number (a then b) r h (inl c) = broken-number a r (h .0) c
-broken-number (a then b) r h (inr c) = broken-number b r (h .1) (c .1)
-
--- a refusal of such checks
-pub refused-number : (c : Checks) (r : Refusal) → Numbered c → verdict c ≡ Refused r → CanArise (r .number)
-refused-number c r h v = broken-number c r h (refused-first c r v)
+use Rattle.model.proofs.Tests.{every-at}
 
 -- ---- the checks of the three calls
-pub network-numbered : (network : List Line) → Numbered (networkChecks network)
-unfolding Numbered networkChecks countChecks tramChecks signalChecks tramPhaseChecks linkChecks movementChecks shareChecks pastChecks stepChecks
+pub network-numbered : (network : List Line) → Numbered networkNumbers (networkChecks network)
+unfolding Numbered isOneOf networkChecks countChecks tramChecks signalChecks tramPhaseChecks linkChecks movementChecks shareChecks pastChecks stepChecks
 network-numbered network = search needs depth 14
 
+pub network-among : (network : List Line) (numbers : List ℕ) → allOf networkNumbers numbers ≡ true → Numbered numbers (networkChecks network)
+network-among network numbers h = wider networkNumbers numbers h (networkChecks network) (network-numbered network)
+
 -- a table whose rules have such numbers
-table-numbered : (line : ℕ) (rules : List Rule) → every (length rules) (λ k. arises (ruleAt rules k .number)) ≡ true → Numbered (table line rules)
+table-numbered : (numbers : List ℕ) (line : ℕ) (rules : List Rule) → every (length rules) (λ k. arises numbers (ruleAt rules k .number)) ≡ true → Numbered numbers (table line rules)
 unfolding Numbered table
-table-numbered line rules h k l i u = every-at (length rules) (λ k. arises (ruleAt rules k .number)) h k l
+table-numbered numbers line rules h k l i u = every-at (length rules) (λ k. arises numbers (ruleAt rules k .number)) h k l
 
-line-numbered : (network plan : List Line) (n : ℕ) → Numbered (lineChecks network plan n)
-unfolding Numbered lineChecks stepRules every _and_
-line-numbered network plan n = (refl, table-numbered (suc n) _ refl)
+line-numbered : (network plan : List Line) (n : ℕ) → Numbered planNumbers (lineChecks network plan n)
+unfolding Numbered isOneOf lineChecks stepRules every _and_
+line-numbered network plan n = (refl, table-numbered planNumbers (suc n) _ refl)
 
-pub plan-numbered : (network plan : List Line) (size : ℕ) → Numbered (planChecks network plan size)
-unfolding Numbered planChecks ledgerChecks planLineChecks
-plan-numbered network plan size = search (needs, network-numbered network, line-numbered network plan)
+pub plan-numbered : (network plan : List Line) (size : ℕ) → Numbered planNumbers (planChecks network plan size)
+unfolding Numbered isOneOf allOf planChecks ledgerChecks planLineChecks
+plan-numbered network plan size = (network-among network planNumbers refl, search (needs, line-numbered network plan))
 
-state-numbered : (network : List Line) (ledger : List ℕ) (boundary link : ℕ) → Numbered (stateChecks network ledger boundary link)
-unfolding Numbered stateChecks ledgerChecks
-state-numbered network ledger boundary link = search (needs, network-numbered network)
+pub plan-among : (network plan : List Line) (size : ℕ) (numbers : List ℕ) → allOf planNumbers numbers ≡ true → Numbered numbers (planChecks network plan size)
+plan-among network plan size numbers h = wider planNumbers numbers h (planChecks network plan size) (plan-numbered network plan size)
+
+pub state-numbered : (network : List Line) (ledger : List ℕ) (boundary link : ℕ) → Numbered stateNumbers (stateChecks network ledger boundary link)
+unfolding Numbered isOneOf allOf stateChecks ledgerChecks
+state-numbered network ledger boundary link = (network-among network stateNumbers refl, search needs)
 
 -- ---- refusals of a network and of a link's state
 of-link : (network : List Line) (ledger : List ℕ) (boundary link : ℕ) (v : Verdict) (r : Refusal) → linkAnswer network ledger boundary link v ≡ link-answer.Refused r → v ≡ Refused r
@@ -77,11 +55,11 @@ of-link network ledger boundary link (Refused q) r h = cc
 
 pub network-promises : (network : List Line) → NetworkPromises (checkNetwork network)
 unfolding checkNetwork
-network-promises network = record { refused-number = λ r h. refused-number (networkChecks network) r (network-numbered network) h }
+network-promises network = record { refused-number = λ r h. refused-number networkNumbers (networkChecks network) r (network-numbered network) h }
 
 pub state-promises : (network : List Line) (ledger : List ℕ) (boundary link : ℕ) → StatePromises (linkState network ledger boundary link)
 unfolding linkState
 state-promises network ledger boundary link =
     record {
-      refused-number = λ r h. refused-number (stateChecks network ledger boundary link) r (state-numbered network ledger boundary link) (of-link network ledger boundary link _ r h);
+      refused-number = λ r h. refused-number stateNumbers (stateChecks network ledger boundary link) r (state-numbered network ledger boundary link) (of-link network ledger boundary link _ r h);
     }

@@ -8,6 +8,7 @@ use Rattle.search.specs.declared.Verdict.{Verdict}
 use Rattle.search.specs.declared.Verdict.the-variants.{Passes, Refused}
 use Rattle.search.specs.Checks.{Hold, verdict}
 use Rattle.search.proofs.Laws as laws
+use Rattle.search.proofs.Numbers.{refused-number}
 use Rattle.records.specs.Lines.{Line}
 use Rattle.model.specs.declared.Totals.{Totals}
 use Rattle.model.specs.declared.PlanAnswer.the-variants as plan-answer
@@ -15,9 +16,9 @@ use Rattle.model.specs.Network.{stepCount}
 use Rattle.model.specs.Flows.{offered, allDemand, taken, allLetOut, doubledTime, totals}
 use Rattle.model.specs.Table.{planChecks}
 use Rattle.model.specs.Calls.{planAnswer, checkPlan, ledgerAfter}
-use Rattle.model.specs.Guarantees.{weight, Guarantees, Promises}
+use Rattle.model.specs.Guarantees.{weight, Guarantees, planNumbers, Promises}
 use Rattle.model.proofs.Written.{ledger-promises}
-use Rattle.model.proofs.Numbers.{refused-number, plan-numbered}
+use Rattle.model.proofs.Numbers.{plan-numbered}
 use Rattle.model.proofs.Accepted.{AcceptedPlan, accepted-plan}
 use Rattle.model.proofs.Integers.{signed-sum}
 use Rattle.model.proofs.Flow.{left-over, left-within, within-capacity, balance}
@@ -77,7 +78,7 @@ module _ (network plan : List Line) where
         accepted-holds = holds;
         holds-accepted = λ h. accepted-of-passes (verdict c) (laws.passes-of-hold c h);
         refused-first = λ r h. laws.refused-first c r (refused-of-refused (verdict c) r h);
-        refused-number = λ r h. refused-number c r (plan-numbered network plan (length old)) (refused-of-refused (verdict c) r h);
+        refused-number = λ r h. refused-number planNumbers c r (plan-numbered network plan (length old)) (refused-of-refused (verdict c) r h);
         guaranteed = λ t h. rw (passes-of-accepted (verdict c) t h .1) (guarantees network plan (accepted-plan network plan (length old) (holds t h)));
         ledger = ledger-promises network plan old;
       }

@@ -9,4 +9,3 @@ pub mod Calls
 pub mod Hold
 pub mod Report
 pub mod Guarantees
-pub mod Padding

@@ -1,6 +1,6 @@
 -- The stages of a network's reading, one after another: where one is refused, so is the network; and what each asks of those before it. Assumes nothing.
 use Prim.Native.Nat.{ℕ}
-use mathlib.Core.Path.{_≡_, sym, _∙_}
+use mathlib.Core.Path.{_≡_, sym, ap, _∙_}
 use mathlib.Core.List.{List}
 use lib.ListN.{length}
 use Rattle.search.specs.declared.Refusal.{Refusal}
@@ -9,6 +9,8 @@ use Rattle.search.specs.declared.Verdict.the-variants as verdicts
 use Rattle.search.specs.Checks.{Checks, each, _then_, verdict}
 use Rattle.search.proofs.Laws.{or-else-passes, or-else-refused, hold-of-passes}
 use Rattle.records.specs.Lines.{lines}
+use Rattle.records.specs.Padding.{PaddingIgnored}
+use Rattle.records.proofs.Padding.{same-lines}
 use Rattle.model.specs.Network.{maxSignals, linkCount}
 use Rattle.model.specs.Table.{countChecks, shareChecks, networkChecks}
 use Rattle.model.specs.Calls.{checkNetwork}
@@ -148,11 +150,15 @@ module _ {text links₀ movements₀ times₀ : List ℕ} (rooms : Rooms links�
 
 -- ---- the answer
 module _ {text : List ℕ} {stage : Stage} {links movements times : List ℕ} (got : Judged (networkChecks (lines text)) (Loaded text links movements times) stage) where
-  promised : {v : Verdict} → v ≡ checkNetwork (lines text) → (v ≡ checkNetwork (lines text)) × NetworkPromises v
-  promised e = (e, rw e (network-promises (lines text)))
+  -- all that the check promises of its verdict
+  abbrev pub Promised : Verdict → Type 0
+  Promised v = (v ≡ checkNetwork (lines text)) × (NetworkPromises v × PaddingIgnored text (λ padded. v ≡ checkNetwork (lines padded)))
 
-  pub answer-passes : {reading : Reading} → stage ≡ Passed reading → (verdicts.Passes ≡ checkNetwork (lines text)) × NetworkPromises verdicts.Passes
+  promised : {v : Verdict} → v ≡ checkNetwork (lines text) → Promised v
+  promised e = (e, (rw e (network-promises (lines text)), λ padded same. e ∙ ap checkNetwork (same-lines text padded same)))
+
+  pub answer-passes : {reading : Reading} → stage ≡ Passed reading → Promised verdicts.Passes
   answer-passes e = promised (unfold checkNetwork in sym (verdict-passed got e))
 
-  pub answer-refused : {r : Refusal} → stage ≡ Refused r → (verdicts.Refused r ≡ checkNetwork (lines text)) × NetworkPromises (verdicts.Refused r)
+  pub answer-refused : {r : Refusal} → stage ≡ Refused r → Promised (verdicts.Refused r)
   answer-refused e = promised (unfold checkNetwork in sym (verdict-refused got e))

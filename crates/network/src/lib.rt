@@ -1,6 +1,7 @@
 // Reads a whole network text into tables and judges it: refusals 1 to 6, 28 and 30.
 ghost use mathlib.Core.Path.{_≡_};
 ghost use Rattle.records.specs.Lines.{lines};
+ghost use Rattle.records.specs.Padding.{PaddingIgnored};
 ghost use Rattle.model.specs.Table.{networkChecks};
 ghost use Rattle.model.specs.Calls.{checkNetwork};
 ghost use Rattle.model.specs.Guarantees.{NetworkPromises};
@@ -106,6 +107,7 @@ pub fn load_network(
 pub fn check_network(text: &[u8]) -> Verdict
     ensures { λ r. ⌜ r ≡ checkNetwork (lines (now (text .entry))) ⌝ }
     ensures { λ r. ⌜ NetworkPromises r ⌝ }
+    ensures { λ r. ⌜ PaddingIgnored (now (text .entry)) (λ padded. r ≡ checkNetwork (lines padded)) ⌝ }
 {
     let mut links = [0u32; LINK_TABLE_SIZE];
     let mut movements = [0u32; MOVEMENT_TABLE_SIZE];

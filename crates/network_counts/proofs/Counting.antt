@@ -7,6 +7,8 @@ use Rattle.search.specs.declared.Refusal.{Refusal}
 use Rattle.search.specs.declared.Verdict.{Verdict}
 use Rattle.search.specs.declared.Verdict.the-variants as verdicts
 use Rattle.records.specs.Lines.{Line, lines}
+use Rattle.records.specs.Padding.{PaddingIgnored}
+use Rattle.records.proofs.Padding.{same-lines}
 use Rattle.model.specs.Table.{networkChecks}
 use Rattle.model.specs.Calls.{checkNetwork}
 use Rattle.model.specs.Guarantees.{NetworkPromises}
@@ -32,17 +34,22 @@ module _ {text : List ℕ} {stage : Stage} {links movements times : List ℕ} (g
   pub few : {reading : Reading} → stage ≡ Passed reading → Few (reading .counts)
   few e = got .held _ e .counted .few
 
-  answered : (v : Verdict) {answer : CountsAnswer} → checkNetwork (lines text) ≡ v → answer ≡ countsAnswer (lines text) v → (answer ≡ countNetwork (lines text)) × CountPromises answer
+  -- all that the call promises of its answer
+  abbrev pub Promised : CountsAnswer → Type 0
+  Promised answer = (answer ≡ countNetwork (lines text)) × (CountPromises answer × PaddingIgnored text (λ padded. answer ≡ countNetwork (lines padded)))
+
+  answered : (v : Verdict) {answer : CountsAnswer} → checkNetwork (lines text) ≡ v → answer ≡ countsAnswer (lines text) v → Promised answer
   answered v e a =
       let whole : countNetwork (lines text) ≡ countsAnswer (lines text) v = unfold countNetwork in ap (countsAnswer (lines text)) e in
-      (a ∙ sym whole, rw a (promises (lines text) v (rw (sym e) (network-promises (lines text)))))
+      let told = a ∙ sym whole in
+      (told, (rw a (promises (lines text) v (rw (sym e) (network-promises (lines text)))), λ padded same. told ∙ ap countNetwork (same-lines text padded same)))
 
-  pub counted-told : {reading : Reading} {answer : CountsAnswer} → stage ≡ Passed reading → answer ≡ countedAnswer (reading .counts) → (answer ≡ countNetwork (lines text)) × CountPromises answer
+  pub counted-told : {reading : Reading} {answer : CountsAnswer} → stage ≡ Passed reading → answer ≡ countedAnswer (reading .counts) → Promised answer
   counted-told {reading} e a =
       let held = got .held _ e .counted in
       let same : countedAnswer (reading .counts) ≡ countsAnswer (lines text) verdicts.Passes =
       unfold countsAnswer in rw (held .links) (rw (held .signals) (rw (held .movements) (rw (held .steps) (rw (held .trams) (rw (held .past) refl))))) in
       answered verdicts.Passes (unfold checkNetwork in verdict-passed got e) (a ∙ same)
 
-  pub refused-told : {r : Refusal} → stage ≡ Refused r → (counts-answer.Refused r ≡ countNetwork (lines text)) × CountPromises (counts-answer.Refused r)
+  pub refused-told : {r : Refusal} → stage ≡ Refused r → Promised (counts-answer.Refused r)
   refused-told {r} e = answered (verdicts.Refused r) (unfold checkNetwork in verdict-refused got e) (unfold countsAnswer in refl)

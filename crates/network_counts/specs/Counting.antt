@@ -4,10 +4,11 @@ use mathlib.Core.List.{List}
 use Rattle.search.specs.declared.Refusal.{Refusal}
 use Rattle.search.specs.declared.Verdict.{Verdict}
 use Rattle.search.specs.declared.Verdict.the-variants.{Passes, Refused}
+use Rattle.search.specs.Numbers.{CanArise}
 use Rattle.records.specs.Lines.{Line}
 use Rattle.model.specs.Network.{linkCount, signalCount, movementCount, stepCount, tramCount, pastCount}
 use Rattle.model.specs.Calls.{checkNetwork}
-use Rattle.model.specs.Guarantees.{CanArise}
+use Rattle.model.specs.Guarantees.{networkNumbers}
 use Rattle.tables.specs.declared.Counts.{Counts}
 use Rattle.network_counts.specs.declared.CountsAnswer.{CountsAnswer}
 use Rattle.network_counts.specs.declared.CountsAnswer.the-variants as counts-answer
@@ -27,4 +28,4 @@ countNetwork network = countsAnswer network (checkNetwork network)
 
 -- the number of a refusal is one that can arise
 pub record CountPromises (answer : CountsAnswer) : Type 0 where
-  pub refused-number : (r : Refusal) → answer ≡ counts-answer.Refused r → CanArise (r .number)
+  pub refused-number : (r : Refusal) → answer ≡ counts-answer.Refused r → CanArise networkNumbers (r .number)

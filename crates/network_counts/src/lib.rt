@@ -1,6 +1,7 @@
 // The call that tells what a valid network has, by its `N` line.
 ghost use mathlib.Core.Path.{_≡_};
 ghost use Rattle.records.specs.Lines.{lines};
+ghost use Rattle.records.specs.Padding.{PaddingIgnored};
 ghost use Rattle.tables.specs.Places.{Few};
 ghost use Rattle.network_counts.specs.Counting.{countedAnswer, countNetwork, CountPromises};
 use search::Refusal;
@@ -42,6 +43,7 @@ fn counted(counts: Counts) -> CountsAnswer
 pub fn count_network(text: &[u8]) -> CountsAnswer
     ensures { λ r. ⌜ r ≡ countNetwork (lines (now (text .entry))) ⌝ }
     ensures { λ r. ⌜ CountPromises r ⌝ }
+    ensures { λ r. ⌜ PaddingIgnored (now (text .entry)) (λ padded. r ≡ countNetwork (lines padded)) ⌝ }
 {
     let mut links = [0u32; LINK_TABLE_SIZE];
     let mut movements = [0u32; MOVEMENT_TABLE_SIZE];

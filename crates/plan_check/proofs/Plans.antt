@@ -12,6 +12,8 @@ use Rattle.search.specs.declared.Verdict.the-variants as verdicts
 use Rattle.search.specs.Checks.{refusal, verdict}
 use Rattle.search.proofs.Laws.{passes-of-hold, or-else-passes, or-else-refused, checked-passes, checked-refused}
 use Rattle.records.specs.Lines.{Line, lines}
+use Rattle.records.specs.Padding.{PaddingIgnored}
+use Rattle.records.proofs.Padding.{same-lines}
 use Rattle.model.specs.declared.PlanAnswer.{PlanAnswer}
 use Rattle.model.specs.declared.PlanAnswer.the-variants as plan-answer
 use Rattle.model.specs.Network.{linkCount, stepCount}
@@ -113,6 +115,22 @@ plan-refused networkText planText old {r = r} got e =
 
 pub plan-promised : {networkText planText old : List ℕ} {answer : PlanAnswer} {ledger : List ℕ} → PlanGot networkText planText old answer ledger
     → (answer ≡ checkPlan (lines networkText) (planOf networkText planText) (length old)) × ((ledger ≡ ledgerAfter (lines networkText) (planOf networkText planText) old)
-    × (Promises (lines networkText) (planOf networkText planText) old ledger answer × EmptyHolds networkText planText old ledger answer))
-plan-promised {networkText} {planText} {old} got =
-    (got .answered, (got .written-rows, (rw (got .answered, got .written-rows) (promises (lines networkText) (planOf networkText planText) old), empty-holds networkText planText old (got .answered) (got .written-rows))))
+    × (Promises (lines networkText) (planOf networkText planText) old ledger answer
+    × (EmptyHolds networkText planText old ledger answer
+    × PaddingIgnored networkText (λ paddedNetwork. PaddingIgnored planText (λ paddedPlan. PlanGot paddedNetwork paddedPlan old answer ledger)))))
+plan-promised {networkText} {planText} {old} got = (
+  got .answered,
+  (
+    got .written-rows,
+    (
+      rw (got .answered, got .written-rows) (promises (lines networkText) (planOf networkText planText) old),
+      (
+        empty-holds networkText planText old (got .answered) (got .written-rows),
+        λ paddedNetwork n paddedPlan p.
+            let one = same-lines networkText paddedNetwork n in
+            let other = same-lines planText paddedPlan p in
+            record { answered = got .answered ∙ rw (one, other); written-rows = got .written-rows ∙ rw (one, other) },
+      ),
+    ),
+  ),
+)

@@ -2,6 +2,7 @@
 ghost use mathlib.Core.Path.{_≡_};
 ghost use lib.ListN.{length};
 ghost use Rattle.records.specs.Lines.{lines};
+ghost use Rattle.records.specs.Padding.{PaddingIgnored};
 ghost use Rattle.model.specs.Hold.{planOf, EmptyHolds};
 ghost use Rattle.model.specs.Calls.{checkPlan, ledgerAfter};
 ghost use Rattle.model.specs.Guarantees.{Promises};
@@ -41,6 +42,7 @@ pub fn check_plan(network: &[u8], plan: &[u8], ledger: &mut [u32]) -> PlanAnswer
     ensures { λ r. ⌜ now (ledger .exit) ≡ ledgerAfter (lines (now (network .entry))) (planOf (now (network .entry)) (now (plan .entry))) (now (ledger .entry)) ⌝ }
     ensures { λ r. ⌜ Promises (lines (now (network .entry))) (planOf (now (network .entry)) (now (plan .entry))) (now (ledger .entry)) (now (ledger .exit)) r ⌝ }
     ensures { λ r. ⌜ EmptyHolds (now (network .entry)) (now (plan .entry)) (now (ledger .entry)) (now (ledger .exit)) r ⌝ }
+    ensures { λ r. ⌜ PaddingIgnored (now (network .entry)) (λ paddedNetwork. PaddingIgnored (now (plan .entry)) (λ paddedPlan. PlanGot paddedNetwork paddedPlan (now (ledger .entry)) r (now (ledger .exit)))) ⌝ }
 {
     let mut links = [0u32; LINK_TABLE_SIZE];
     let mut movements = [0u32; MOVEMENT_TABLE_SIZE];

@@ -2,12 +2,15 @@
 use Prim.Native.Nat.{ℕ}
 use mathlib.Core.Bool.{cond}
 use mathlib.Core.List.{List}
+use mathlib.Core.Path.{_≡_}
+use mathlib.Core.Logic.{_≢_}
 use lib.Dec.{eqb}
 use lib.IntN.{pos}
 use Rattle.search.specs.declared.Refusal.{Refusal}
 use Rattle.search.specs.declared.Verdict.{Verdict}
 use Rattle.search.specs.declared.Verdict.the-variants.{Passes, Refused}
-use Rattle.search.specs.Checks.{refusal}
+use Rattle.search.specs.Checks.{refusal, Checks, Hold}
+use Rattle.search.specs.Numbers.{CanArise}
 use Rattle.model.specs.declared.PlanAnswer.{PlanAnswer}
 use Rattle.model.specs.declared.PlanAnswer.the-variants as plan-answer
 use Rattle.model.specs.declared.LinkAnswer.{LinkAnswer}
@@ -37,6 +40,12 @@ use Rattle.plan_check_c.specs.declared.TextResult.{TextResult}
 use Rattle.plan_check_c.specs.declared.CellsResult.{CellsResult}
 use Rattle.plan_check_c.specs.declared.ComparisonResult.{ComparisonResult}
 use Rattle.plan_check_c.specs.declared.SplitResult.{SplitResult}
+
+-- What a C caller reads off a result's number: 0 exactly where every check of the call holds, else one of the numbers with which the call refuses.
+pub record NumberTells (checks : Checks) (numbers : List ℕ) (number : ℕ) : Type 0 where
+  pub zero-holds : number ≡ 0 → Hold checks
+  pub holds-zero : Hold checks → number ≡ 0
+  pub arises : number ≢ 0 → CanArise numbers number
 
 abbrev pub verdictResult : Verdict → NetworkResult
 verdictResult Passes = record { number = 0; line = 0; item = 0 }

@@ -1,28 +1,34 @@
 // The C library: the calls over slices, each a pointer and a length, with answers by value. include/plancheck.h declares them.
 ghost use mathlib.Core.Path.{_≡_};
-ghost use mathlib.Core.Logic.{_≢_};
 ghost use lib.ListN.{length};
+ghost use Rattle.search.specs.Checks.{_then_};
 ghost use Rattle.records.specs.Lines.{lines};
+ghost use Rattle.records.specs.Padding.{PaddingIgnored};
+ghost use Rattle.model.specs.Table.{networkChecks, planChecks};
 ghost use Rattle.model.specs.Hold.{planOf, EmptyHolds};
-ghost use Rattle.model.specs.Calls.{checkNetwork, checkPlan, ledgerAfter, linkState};
-ghost use Rattle.model.specs.Guarantees.{Promises};
-ghost use Rattle.traces.specs.Call.{stepVehicles, placesAfter};
+ghost use Rattle.model.specs.Calls.{checkNetwork, checkPlan, ledgerAfter, stateChecks, linkState};
+ghost use Rattle.model.specs.Guarantees.{networkNumbers, stateNumbers, planNumbers, Promises};
+ghost use Rattle.traces.specs.Call.{stepChecks, vehiclesNumbers, stepVehicles, placesAfter};
 ghost use Rattle.traces.specs.Guarantees.{StepKeeps};
-ghost use Rattle.cells.specs.Call.{runCells, finalVolumes, RunKeeps};
+ghost use Rattle.cell_lines.specs.Corridor.{corridorChecks};
+ghost use Rattle.cells.specs.Call.{cellsNumbers, runCells, finalVolumes, RunKeeps};
 ghost use Rattle.listing_lines.specs.Entry.{entries};
-ghost use Rattle.listing.specs.Listing.{planFromListing};
+ghost use Rattle.listing.specs.Listing as Listing;
+ghost use Rattle.listing.specs.Listing.{listingNumbers, planFromListing};
 ghost use Rattle.listing.specs.ReadsBack.{PlanGot};
 ghost use Rattle.network_counts.specs.Counting.{countNetwork};
-ghost use Rattle.carry_model.specs.Call.{plannedOn, carryOn};
+ghost use Rattle.carry_model.specs.Call.{plannedOn, carryNumbers, carryChecks, carryOn};
 ghost use Rattle.carry_model.specs.CarriesOn.{CarriedOn};
-ghost use Rattle.sheet_model.specs.Calls.{checkSheet, planFromSheet};
+ghost use Rattle.carry.specs.Carrying.{CarryGot};
+ghost use Rattle.sheet_model.specs.Cycle.{writeChecks};
+ghost use Rattle.sheet_model.specs.Calls.{sheetNumbers, sheetPlanNumbers, keepChecks, checkSheet, planFromSheet};
 ghost use Rattle.sheet_model.specs.Promises.{SheetPromises, WritePromises};
 ghost use Rattle.comparison.specs.Comparison.{comparePlans, secondLedgerAfter};
-ghost use Rattle.comparison.specs.Promises.{ComparisonPromises};
-ghost use Rattle.split_model.specs.Call.{splitNetwork};
+ghost use Rattle.comparison.specs.Promises.{ComparisonPromises, ComparisonGot};
+ghost use Rattle.split_model.specs.Call.{splitNumbers, splitChecks, splitNetwork};
 ghost use Rattle.split_model.specs.Splits.{SplitInTwo, roomOf};
-ghost use Rattle.split.specs.Splitting.{texts, buffers};
-ghost use Rattle.plan_check_c.specs.Results.{verdictResult, verdictOf, countsResult, version, planResult, planAnswerOf, linkResult, writtenText, refusedText, listingResult, listingAnswerOf, carryResult, carryAnswerOf, sheetResult, sheetAnswerOf, orderNumber, comparisonResult, comparisonAnswerOf, splitResult, splitAnswerOf, cellsResult, cellsAnswerOf};
+ghost use Rattle.split.specs.Splitting.{texts, buffers, SplitGot};
+ghost use Rattle.plan_check_c.specs.Results.{NumberTells, verdictResult, verdictOf, countsResult, version, planResult, planAnswerOf, linkResult, writtenText, refusedText, listingResult, listingAnswerOf, carryResult, carryAnswerOf, sheetResult, sheetAnswerOf, orderNumber, comparisonResult, comparisonAnswerOf, splitResult, splitAnswerOf, cellsResult, cellsAnswerOf};
 use carry_model::CarryAnswer;
 use cells::CellsAnswer;
 use comparison::ComparisonAnswer;
@@ -136,7 +142,8 @@ pub struct SplitResult {
 #[no_mangle]
 pub extern "C" fn plancheck_check_network(network: &[u8]) -> NetworkResult
     ensures { λ r. ⌜ r ≡ verdictResult (checkNetwork (lines (now (network .entry)))) ⌝ }
-    ensures { λ r. ⌜ r .number ≢ 7 ⌝ }
+    ensures { λ r. ⌜ NumberTells (networkChecks (lines (now (network .entry)))) networkNumbers (r .number) ⌝ }
+    ensures { λ r. ⌜ PaddingIgnored (now (network .entry)) (λ padded. r ≡ verdictResult (checkNetwork (lines padded))) ⌝ }
 {
     verdict_result(network::check_network(network))
 }
@@ -161,7 +168,8 @@ fn verdict_result(verdict: Verdict) -> NetworkResult
 #[no_mangle]
 pub extern "C" fn plancheck_network_counts(network: &[u8]) -> CountsResult
     ensures { λ r. ⌜ r ≡ countsResult (countNetwork (lines (now (network .entry)))) ⌝ }
-    ensures { λ r. ⌜ r .number ≢ 7 ⌝ }
+    ensures { λ r. ⌜ NumberTells (networkChecks (lines (now (network .entry)))) networkNumbers (r .number) ⌝ }
+    ensures { λ r. ⌜ PaddingIgnored (now (network .entry)) (λ padded. r ≡ countsResult (countNetwork (lines padded))) ⌝ }
 {
     match network_counts::count_network(network) {
         CountsAnswer::Counted {
@@ -217,6 +225,8 @@ pub extern "C" fn plancheck_check_plan(
     ensures { λ r. ⌜ now (ledger .exit) ≡ ledgerAfter (lines (now (network .entry))) (planOf (now (network .entry)) (now (plan .entry))) (now (ledger .entry)) ⌝ }
     ensures { λ r. ⌜ Promises (lines (now (network .entry))) (planOf (now (network .entry)) (now (plan .entry))) (now (ledger .entry)) (now (ledger .exit)) (planAnswerOf r) ⌝ }
     ensures { λ r. ⌜ EmptyHolds (now (network .entry)) (now (plan .entry)) (now (ledger .entry)) (now (ledger .exit)) (planAnswerOf r) ⌝ }
+    ensures { λ r. ⌜ NumberTells (planChecks (lines (now (network .entry))) (planOf (now (network .entry)) (now (plan .entry))) (length (now (ledger .entry)))) planNumbers (r .number) ⌝ }
+    ensures { λ r. ⌜ PaddingIgnored (now (network .entry)) (λ paddedNetwork. PaddingIgnored (now (plan .entry)) (λ paddedPlan. (r ≡ planResult (checkPlan (lines paddedNetwork) (planOf paddedNetwork paddedPlan) (length (now (ledger .entry))))) × (now (ledger .exit) ≡ ledgerAfter (lines paddedNetwork) (planOf paddedNetwork paddedPlan) (now (ledger .entry))))) ⌝ }
 {
     plan_result(plan_check::check_plan(network, plan, ledger))
 }
@@ -255,6 +265,8 @@ pub extern "C" fn plancheck_check_sheet(
 ) -> PlanResult
     ensures { λ r. ⌜ r ≡ planResult (checkSheet (lines (now (network .entry))) (lines (now (sheet .entry))) (planOf (now (network .entry)) (now (plan .entry))) (length (now (ledger .entry)))) ⌝ }
     ensures { λ r. ⌜ SheetPromises (lines (now (network .entry))) (lines (now (sheet .entry))) (planOf (now (network .entry)) (now (plan .entry))) (now (ledger .entry)) (now (ledger .exit)) (planAnswerOf r) ⌝ }
+    ensures { λ r. ⌜ NumberTells (keepChecks (lines (now (network .entry))) (lines (now (sheet .entry))) (planOf (now (network .entry)) (now (plan .entry))) (length (now (ledger .entry)))) sheetNumbers (r .number) ⌝ }
+    ensures { λ r. ⌜ PaddingIgnored (now (network .entry)) (λ paddedNetwork. PaddingIgnored (now (plan .entry)) (λ paddedPlan. PaddingIgnored (now (sheet .entry)) (λ paddedSheet. SheetPromises (lines paddedNetwork) (lines paddedSheet) (planOf paddedNetwork paddedPlan) (now (ledger .entry)) (now (ledger .exit)) (planAnswerOf r)))) ⌝ }
 {
     plan_result(sheet_check::check_sheet(network, plan, sheet, ledger))
 }
@@ -267,6 +279,8 @@ pub extern "C" fn plancheck_plan_from_sheet(
 ) -> TextResult
     ensures { λ r. ⌜ r ≡ sheetResult (planFromSheet (lines (now (network .entry))) (lines (now (sheet .entry))) (length (now (plan .entry)))) ⌝ }
     ensures { λ r. ⌜ WritePromises (lines (now (network .entry))) (lines (now (sheet .entry))) (now (plan .entry)) (sheetAnswerOf r) (now (plan .exit)) ⌝ }
+    ensures { λ r. ⌜ NumberTells (writeChecks (lines (now (network .entry))) (lines (now (sheet .entry))) (length (now (plan .entry)))) sheetPlanNumbers (r .number) ⌝ }
+    ensures { λ r. ⌜ PaddingIgnored (now (network .entry)) (λ paddedNetwork. PaddingIgnored (now (sheet .entry)) (λ paddedSheet. WritePromises (lines paddedNetwork) (lines paddedSheet) (now (plan .entry)) (sheetAnswerOf r) (now (plan .exit)))) ⌝ }
 {
     match sheet_writer::plan_from_sheet(network, sheet, plan) {
         SheetAnswer::Written(length) => written_text(length),
@@ -282,7 +296,8 @@ pub extern "C" fn plancheck_link_state(
     link: u32,
 ) -> LinkResult
     ensures { λ r. ⌜ r ≡ linkResult (linkState (lines (now (network .entry))) (now (ledger .entry)) boundary link) ⌝ }
-    ensures { λ r. ⌜ r .number ≢ 7 ⌝ }
+    ensures { λ r. ⌜ NumberTells (stateChecks (lines (now (network .entry))) (now (ledger .entry)) boundary link) stateNumbers (r .number) ⌝ }
+    ensures { λ r. ⌜ PaddingIgnored (now (network .entry)) (λ padded. r ≡ linkResult (linkState (lines padded) (now (ledger .entry)) boundary link)) ⌝ }
 {
     match link_state::link_state(network, ledger, boundary, link) {
         LinkAnswer::State { queued, in_transit } => LinkResult {
@@ -332,6 +347,8 @@ pub extern "C" fn plancheck_plan_from_listing(
 ) -> TextResult
     ensures { λ r. ⌜ r ≡ listingResult (planFromListing (lines (now (network .entry))) (entries (now (listing .entry))) (length (now (plan .entry)))) ⌝ }
     ensures { λ r. ⌜ PlanGot (lines (now (network .entry))) (entries (now (listing .entry))) (now (plan .entry)) (listingAnswerOf r) (now (plan .exit)) ⌝ }
+    ensures { λ r. ⌜ NumberTells (Listing.writeChecks (lines (now (network .entry))) (entries (now (listing .entry))) (length (now (plan .entry)))) listingNumbers (r .number) ⌝ }
+    ensures { λ r. ⌜ PaddingIgnored (now (network .entry)) (λ padded. PlanGot (lines padded) (entries (now (listing .entry))) (now (plan .entry)) (listingAnswerOf r) (now (plan .exit))) ⌝ }
 {
     match listing::plan_from_listing(network, listing, plan) {
         ListingAnswer::Written(length) => written_text(length),
@@ -349,6 +366,8 @@ pub extern "C" fn plancheck_carry_on(
 ) -> TextResult
     ensures { λ r. ⌜ r ≡ carryResult (carryOn (lines (now (network .entry))) (plannedOn (lines (now (network .entry))) boundary (now (plan .entry))) boundary (length (now (ledger .entry))) (length (now (carried .entry)))) ⌝ }
     ensures { λ r. ⌜ CarriedOn (lines (now (network .entry))) (plannedOn (lines (now (network .entry))) boundary (now (plan .entry))) boundary (now (ledger .entry)) (now (ledger .exit)) (now (carried .entry)) (now (carried .exit)) (carryAnswerOf r) ⌝ }
+    ensures { λ r. ⌜ NumberTells (carryChecks (lines (now (network .entry))) (plannedOn (lines (now (network .entry))) boundary (now (plan .entry))) boundary (length (now (ledger .entry))) (length (now (carried .entry)))) carryNumbers (r .number) ⌝ }
+    ensures { λ r. ⌜ PaddingIgnored (now (network .entry)) (λ paddedNetwork. PaddingIgnored (now (plan .entry)) (λ paddedPlan. CarryGot paddedNetwork paddedPlan boundary (now (ledger .entry)) (now (ledger .exit)) (now (carried .entry)) (now (carried .exit)) (carryAnswerOf r))) ⌝ }
 {
     match carry::carry_on(network, boundary, plan, ledger, carried) {
         CarryAnswer::Written(length) => written_text(length),
@@ -379,6 +398,8 @@ pub extern "C" fn plancheck_compare_plans(
     ensures { λ _. ⌜ now («first_ledger» .exit) ≡ ledgerAfter (lines (now (network .entry))) (planOf (now (network .entry)) (now (first .entry))) (now («first_ledger» .entry)) ⌝ }
     ensures { λ _. ⌜ now («second_ledger» .exit) ≡ secondLedgerAfter (lines (now (network .entry))) (planOf (now (network .entry)) (now (first .entry))) (planOf (now (network .entry)) (now (second .entry))) (length (now («first_ledger» .entry))) (now («second_ledger» .entry)) ⌝ }
     ensures { λ r. ⌜ ComparisonPromises (lines (now (network .entry))) (planOf (now (network .entry)) (now (first .entry))) (planOf (now (network .entry)) (now (second .entry))) (length (now («first_ledger» .entry))) (length (now («second_ledger» .entry))) (comparisonAnswerOf r) ⌝ }
+    ensures { λ r. ⌜ NumberTells (planChecks (lines (now (network .entry))) (planOf (now (network .entry)) (now (first .entry))) (length (now («first_ledger» .entry))) then planChecks (lines (now (network .entry))) (planOf (now (network .entry)) (now (second .entry))) (length (now («second_ledger» .entry)))) planNumbers (r .number) ⌝ }
+    ensures { λ r. ⌜ PaddingIgnored (now (network .entry)) (λ paddedNetwork. PaddingIgnored (now (first .entry)) (λ paddedFirst. PaddingIgnored (now (second .entry)) (λ paddedSecond. ComparisonGot paddedNetwork paddedFirst paddedSecond (now («first_ledger» .entry)) (now («second_ledger» .entry)) (comparisonAnswerOf r) (now («first_ledger» .exit)) (now («second_ledger» .exit))))) ⌝ }
 {
     match comparison::compare_plans(network, first, second, first_ledger, second_ledger) {
         ComparisonAnswer::Compared { order, gap } => ComparisonResult {
@@ -412,6 +433,8 @@ pub extern "C" fn plancheck_split(
 ) -> SplitResult
     ensures { λ r. ⌜ r ≡ splitResult (splitNetwork (lines (now (network .entry))) (planOf (now (network .entry)) (now (plan .entry))) «first_half» (roomOf (buffers (now («network_1» .entry)) (now («plan_1» .entry)) (now («network_2» .entry)) (now («plan_2» .entry))))) ⌝ }
     ensures { λ r. ⌜ SplitInTwo (texts (now (network .entry)) (now (plan .entry))) «first_half» (buffers (now («network_1» .entry)) (now («plan_1» .entry)) (now («network_2» .entry)) (now («plan_2» .entry))) (buffers (now («network_1» .exit)) (now («plan_1» .exit)) (now («network_2» .exit)) (now («plan_2» .exit))) (splitAnswerOf r) ⌝ }
+    ensures { λ r. ⌜ NumberTells (splitChecks (lines (now (network .entry))) (planOf (now (network .entry)) (now (plan .entry))) «first_half» (roomOf (buffers (now («network_1» .entry)) (now («plan_1» .entry)) (now («network_2» .entry)) (now («plan_2» .entry))))) splitNumbers (r .number) ⌝ }
+    ensures { λ r. ⌜ PaddingIgnored (now (network .entry)) (λ paddedNetwork. PaddingIgnored (now (plan .entry)) (λ paddedPlan. SplitGot paddedNetwork paddedPlan «first_half» (buffers (now («network_1» .entry)) (now («plan_1» .entry)) (now («network_2» .entry)) (now («plan_2» .entry))) (buffers (now («network_1» .exit)) (now («plan_1» .exit)) (now («network_2» .exit)) (now («plan_2» .exit))) (splitAnswerOf r))) ⌝ }
 {
     match split::split(
         network,
@@ -453,6 +476,7 @@ pub extern "C" fn plancheck_step_vehicles(
     ensures { λ r. ⌜ r ≡ verdictResult (stepVehicles (now (places .entry)) (now (advances .entry)) (now («red_lines» .entry)) spacing) ⌝ }
     ensures { λ _. ⌜ now (places .exit) ≡ placesAfter (now (places .entry)) (now (advances .entry)) (now («red_lines» .entry)) spacing ⌝ }
     ensures { λ r. ⌜ StepKeeps (now (places .entry)) (now (advances .entry)) (now («red_lines» .entry)) spacing (verdictOf r) (now (places .exit)) ⌝ }
+    ensures { λ r. ⌜ NumberTells (stepChecks (now (places .entry)) (now (advances .entry)) (now («red_lines» .entry)) spacing) vehiclesNumbers (r .number) ⌝ }
 {
     verdict_result(traces::step_vehicles(places, advances, red_lines, spacing))
 }
@@ -461,6 +485,8 @@ pub extern "C" fn plancheck_step_vehicles(
 pub extern "C" fn plancheck_run_cells(corridor: &[u8]) -> CellsResult
     ensures { λ r. ⌜ r ≡ cellsResult (runCells (lines (now (corridor .entry)))) (finalVolumes (lines (now (corridor .entry)))) ⌝ }
     ensures { λ r. ⌜ RunKeeps (lines (now (corridor .entry))) (cellsAnswerOf r) (r .volumes) ⌝ }
+    ensures { λ r. ⌜ NumberTells (corridorChecks (lines (now (corridor .entry)))) cellsNumbers (r .number) ⌝ }
+    ensures { λ r. ⌜ PaddingIgnored (now (corridor .entry)) (λ padded. r ≡ cellsResult (runCells (lines padded)) (finalVolumes (lines padded))) ⌝ }
 {
     let run = cells::run_cells(corridor);
     let answer = run.answer;

@@ -12,6 +12,8 @@ use Rattle.search.specs.declared.Verdict.the-variants.{Passes, Refused}
 use Rattle.search.specs.Checks.{_then_, orElse, verdict, Hold}
 use Rattle.search.proofs.Laws.{or-else-passes, or-else-first, checked-passes, hold-of-passes}
 use Rattle.records.specs.Lines.{Line, lines}
+use Rattle.records.specs.Padding.{SameText}
+use Rattle.records.proofs.Padding.{same-lines}
 use Rattle.model.specs.declared.Totals.{Totals}
 use Rattle.model.specs.declared.PlanAnswer.{PlanAnswer}
 use Rattle.model.specs.declared.PlanAnswer.the-variants.{Accepted}
@@ -99,3 +101,9 @@ module _ (networkText planText old : List ℕ) {ledger : List ℕ} {answer : Pla
       let t : answerText network answer ledger ≡ reportText network plan (verdict (networkChecks network then planLineChecks network plan)) =
       ap₂ (answerText network) of-verdict after-verdict ∙ verdict-told network plan old size (verdict (planChecks network plan ledgerSize)) refl ∙ ap (reportText network plan) (same-verdict network plan) in
       rw t at w
+
+-- texts that differ only in padding have the same report
+pub same-report : (networkText planText paddedNetwork paddedPlan : List ℕ) → SameText networkText paddedNetwork → SameText planText paddedPlan
+    → report networkText planText ≡ report paddedNetwork paddedPlan
+unfolding report
+same-report networkText planText paddedNetwork paddedPlan n p = rw (same-lines networkText paddedNetwork n, same-lines planText paddedPlan p)

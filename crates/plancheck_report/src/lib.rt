@@ -4,6 +4,7 @@ ghost use mathlib.Core.List.{_∷_, _++_};
 ghost use Prim.Native.Nat.{suc, _+_, _*_, _≤_};
 ghost use lib.ListN.{length, getD};
 ghost use Rattle.records.specs.Lines.{lines};
+ghost use Rattle.records.specs.Padding.{PaddingIgnored};
 ghost use Rattle.record_writer.specs.Records.{recordText, recordTexts};
 ghost use Rattle.record_writer.specs.Writing.{putAt, Wrote};
 ghost use Rattle.model.specs.Report.{report, notRead};
@@ -125,6 +126,7 @@ fn write_answer(out: &mut [u8], network: &[u8], answer: PlanAnswer, ledger: &[u3
 pub fn write_report(network: &[u8], plan: &[u8], out: &mut [u8]) -> usize
     requires { ⌜ 131072 ≤ length (now out) ⌝ }
     ensures { λ r. ⌜ Wrote (report (now (network .entry)) (now (plan .entry))) 0 (now (out .entry)) (now (out .exit)) r ⌝ }
+    ensures { λ r. ⌜ PaddingIgnored (now (network .entry)) (λ paddedNetwork. PaddingIgnored (now (plan .entry)) (λ paddedPlan. Wrote (report paddedNetwork paddedPlan) 0 (now (out .entry)) (now (out .exit)) r)) ⌝ }
 {
     let mut ledger = [0u32; LEDGER_SIZE];
     let answer = plan_check::check_plan(network, plan, &mut ledger);

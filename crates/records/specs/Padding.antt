@@ -34,3 +34,8 @@ SameLine a b = (getD (split 9 a) 0 [] ≡ getD (split 9 b) 0 []) × Pairwise Sam
 -- texts that differ only in padding
 unfoldable pub SameText : List ℕ → List ℕ → Type 0
 SameText a b = Pairwise SameLine (split 10 a) (split 10 b)
+
+-- Padding plays no part (T-03): what is said of a text, as of a call's answer and of all that it writes, holds of every text that differs from it only in padding.
+-- Of several texts it is said of one inside the other.
+abbrev pub PaddingIgnored : List ℕ → (List ℕ → Type 0) → Type 0
+PaddingIgnored text Said = (padded : List ℕ) → SameText text padded → Said padded

@@ -11,6 +11,8 @@ use Rattle.search.specs.declared.Verdict.the-variants as verdicts
 use Rattle.search.specs.Checks.{Checks, _then_, orElse, verdict, Hold}
 use Rattle.search.proofs.Laws.{or-else-passes, or-else-refused, hold-of-passes, passes-of-hold}
 use Rattle.records.specs.Lines.{Line, lines}
+use Rattle.records.specs.Padding.{PaddingIgnored}
+use Rattle.records.proofs.Padding.{same-lines}
 use Rattle.records.proofs.Laws.{starts-first}
 use Rattle.model.specs.declared.Totals.{Totals}
 use Rattle.model.specs.declared.PlanAnswer.{PlanAnswer}
@@ -227,3 +229,13 @@ module _ {text links movements times : List ℕ} {reading : Reading} (loaded : L
         pub runs-broken : {q : Refusal} → v ≡ verdicts.Refused q → SheetPromises network sheet plan old after (plan-answer.Refused q)
         unfolding planAnswer
         runs-broken p = runs-told (sym (rw p))
+
+-- the same of texts that differ only in padding
+pub padding-too : (network plan sheet : List ℕ) {before after : List ℕ} {answer : PlanAnswer} → SheetPromises (lines network) (lines sheet) (planOf network plan) before after answer
+    → SheetPromises (lines network) (lines sheet) (planOf network plan) before after answer
+    × PaddingIgnored network (λ paddedNetwork. PaddingIgnored plan (λ paddedPlan. PaddingIgnored sheet (λ paddedSheet.
+    SheetPromises (lines paddedNetwork) (lines paddedSheet) (planOf paddedNetwork paddedPlan) before after answer)))
+padding-too network plan sheet got = (
+  got,
+  λ paddedNetwork n paddedPlan p paddedSheet s. rw (← same-lines network paddedNetwork n, ← same-lines plan paddedPlan p, ← same-lines sheet paddedSheet s) got,
+)

@@ -5,6 +5,7 @@ ghost use mathlib.Core.Bool.{cond};
 ghost use Prim.Native.Nat.{_<_, _≤_};
 ghost use lib.ListN.{length};
 ghost use Rattle.records.specs.Lines.{lines};
+ghost use Rattle.records.specs.Padding.{PaddingIgnored};
 ghost use Rattle.model.specs.Hold.{planOf};
 ghost use Rattle.model.specs.Network.{maxSignals};
 ghost use Rattle.tables.specs.Fields.{signalTableSize, tableSignal};
@@ -303,6 +304,7 @@ fn check_on_network(
 // Whether an accepted plan keeps a sheet: refusals 1 to 6, 28 and 30, then 33, 8, the plan's own, and last 34. A refusal by 34 leaves all rows written.
 pub fn check_sheet(network: &[u8], plan: &[u8], sheet: &[u8], ledger: &mut [u32]) -> PlanAnswer
     ensures { λ r. ⌜ SheetPromises (lines (now (network .entry))) (lines (now (sheet .entry))) (planOf (now (network .entry)) (now (plan .entry))) (now (ledger .entry)) (now (ledger .exit)) r ⌝ }
+    ensures { λ r. ⌜ PaddingIgnored (now (network .entry)) (λ paddedNetwork. PaddingIgnored (now (plan .entry)) (λ paddedPlan. PaddingIgnored (now (sheet .entry)) (λ paddedSheet. SheetPromises (lines paddedNetwork) (lines paddedSheet) (planOf paddedNetwork paddedPlan) (now (ledger .entry)) (now (ledger .exit)) r))) ⌝ }
 {
     let mut links = [0u32; LINK_TABLE_SIZE];
     let mut movements = [0u32; MOVEMENT_TABLE_SIZE];

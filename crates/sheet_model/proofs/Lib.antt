@@ -13,4 +13,3 @@ pub mod Masks
 pub mod Checks
 pub mod Written
 pub mod Promises
-pub mod Padding

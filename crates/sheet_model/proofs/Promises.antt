@@ -10,7 +10,9 @@ use Rattle.search.specs.declared.Refusal.{Refusal}
 use Rattle.search.specs.declared.Verdict.{Verdict}
 use Rattle.search.specs.declared.Verdict.the-variants as verdicts
 use Rattle.search.specs.Checks.{_then_, verdict, Hold}
+use Rattle.search.specs.Numbers.{isOneOf}
 use Rattle.search.proofs.Laws.{or-else-passes, hold-of-passes, passes-of-hold, refused-first}
+use Rattle.search.proofs.Numbers.{Numbered, refused-number, allOf}
 use Rattle.records.specs.Lines.{Line, lines}
 use Rattle.records.specs.Reading.{over}
 use Rattle.model.specs.Test.{_and_}
@@ -22,7 +24,7 @@ use Rattle.model.specs.Table.{networkChecks, planChecks}
 use Rattle.model.specs.Calls.{planAnswer, ledgerAfter}
 use Rattle.model.proofs.Tests.{and-left, and-right}
 use Rattle.model.proofs.Accepted.{valid-network, accepted-plan}
-use Rattle.model.proofs.Numbers.{Numbered, refused-number, network-numbered, plan-numbered}
+use Rattle.model.proofs.Numbers.{network-among, plan-among}
 use Rattle.model.proofs.Written.{ledger-promises}
 use Rattle.model.proofs.Promises.{guarantees, passes-of-accepted, accepted-of-passes, refused-of-refused}
 use Rattle.sheet_lines.specs.Sheet.{phasesOf, sheetLineChecks, signalsChecks, sheetChecks}
@@ -30,7 +32,7 @@ use Rattle.sheet_model.specs.declared.SheetAnswer.the-variants.{Written,
 use Rattle.sheet_model.specs.Kept.{Kept, FirstRun}
 use Rattle.sheet_model.specs.Runs.{runChecks}
 use Rattle.sheet_model.specs.Cycle.{hasNoTram, canWrite, boundaryChecks, sheetText, EndsOnBoundaries, writeChecks}
-use Rattle.sheet_model.specs.Calls.{acceptChecks, keepChecks, checkSheet, rowsAfter, sheetLedger, writtenAnswer, planFromSheet, writtenBytes, bufferAfter}
+use Rattle.sheet_model.specs.Calls.{sheetNumbers, sheetPlanNumbers, acceptChecks, keepChecks, checkSheet, rowsAfter, sheetLedger, writtenAnswer, planFromSheet, writtenBytes, bufferAfter}
 use Rattle.sheet_model.specs.Promises.{SheetPromises, PlanWritten, WritePromises}
 use Rattle.sheet_model.proofs.Exactly.{kept-exactly}
 use Rattle.sheet_model.proofs.First.{first-run}
@@ -62,14 +64,12 @@ module _ (network sheet plan : List Line) where
       λ (p, s, k). let a = accept-of p s in (a, kept-exactly network plan sheet (ten a) .1 k),
     )
 
-    keep-numbered : Numbered (keepChecks network sheet plan size)
-    unfolding Numbered keepChecks acceptChecks sheetChecks signalsChecks sheetLineChecks runChecks
-    keep-numbered =
-        let p = plan-numbered network plan size in
-        (numbered p, λ n l r u. refl)
+    pub keep-numbered : Numbered sheetNumbers (keepChecks network sheet plan size)
+    unfolding Numbered isOneOf allOf keepChecks acceptChecks sheetChecks signalsChecks sheetLineChecks runChecks
+    keep-numbered = (numbered (plan-among network plan size sheetNumbers refl), λ n l r u. refl)
       where
-        numbered : Numbered (planChecks network plan size) → Numbered (acceptChecks network sheet plan size)
-        numbered p = unfold Numbered acceptChecks planChecks sheetChecks signalsChecks sheetLineChecks in (p .0, (((λ r l. (refl, refl)), refl), (p .1 .0, p .1 .1)))
+        numbered : Numbered sheetNumbers (planChecks network plan size) → Numbered sheetNumbers (acceptChecks network sheet plan size)
+        numbered p = unfold Numbered isOneOf acceptChecks planChecks sheetChecks signalsChecks sheetLineChecks in (p .0, (((λ r l. (refl, refl)), refl), (p .1 .0, p .1 .1)))
 
     -- where all others hold, a refusal is of the runs
     first-told : Hold (acceptChecks network sheet plan size) → (r : Refusal) → verdict (keepChecks network sheet plan size) ≡ verdicts.Refused r
@@ -102,7 +102,7 @@ module _ (network sheet plan : List Line) where
         accepted-exactly = (λ (t, h). k .0 (holds t h), λ h. accepted-of-passes network plan (verdict c) (passes-of-hold c (k .1 h)));
         guaranteed = λ t h. rw (passes-of-accepted network plan (verdict c) t h .1) (guarantees network plan (accepted-plan network plan (length old) (k .0 (holds t h) .0)));
         refused-first = λ r h. refused-first c r (refused-of-refused network plan (verdict c) r h);
-        refused-number = λ r h. refused-number c r (keep-numbered (length old)) (refused-of-refused network plan (verdict c) r h);
+        refused-number = λ r h. refused-number sheetNumbers c r (keep-numbered (length old)) (refused-of-refused network plan (verdict c) r h);
         first-run = λ a r h. first-told (length old) a r (refused-of-refused network plan (verdict c) r h);
         ledger = λ a b. rw (rows-written old a b) (ledger-promises network plan old);
         untouched = rows-kept old;
@@ -127,9 +127,9 @@ module _ (text : List ℕ) where
   text-of (verdicts.Refused r) old h = cc
 
 module _ (network sheet : List Line) where
-  write-numbered : (size : ℕ) → Numbered (writeChecks network sheet size)
-  unfolding Numbered writeChecks sheetChecks signalsChecks sheetLineChecks boundaryChecks
-  write-numbered size = (network-numbered network, (((λ r l. (refl, refl)), refl), ((λ r l. refl), refl)))
+  pub write-numbered : (size : ℕ) → Numbered sheetPlanNumbers (writeChecks network sheet size)
+  unfolding Numbered isOneOf allOf writeChecks sheetChecks signalsChecks sheetLineChecks boundaryChecks
+  write-numbered size = (network-among network sheetPlanNumbers refl, (((λ r l. (refl, refl)), refl), ((λ r l. refl), refl)))
 
   write-parts : (size : ℕ) → Hold (writeChecks network sheet size) → Hold (networkChecks network) × Hold (sheetChecks network sheet 1) × Hold (boundaryChecks network sheet)
   unfolding Hold writeChecks
@@ -153,7 +153,7 @@ module _ (network sheet : List Line) where
         holds = refl;
         written = λ end h. plan end h;
         refused-first = λ r h. refused-first c r (refused-of-answer (sheetText network sheet) (verdict c) r h);
-        refused-number = λ r h. refused-number c r (write-numbered (length old)) (refused-of-answer (sheetText network sheet) (verdict c) r h);
+        refused-number = λ r h. refused-number sheetPlanNumbers c r (write-numbered (length old)) (refused-of-answer (sheetText network sheet) (verdict c) r h);
         shows = λ n s r t l. let v = valid-network network n in shows (entry sheet r) (phasesOf network r) (two-phases (signal network r) (v .phases r l) .0) (duration-some network sheet 1 s v r l) t;
         boundaries = boundaries;
       }

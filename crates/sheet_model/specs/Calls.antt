@@ -1,6 +1,6 @@
 -- The two calls: their answers, and what they write. A plan is given by the lines that its text stands for. Assumes nothing.
 use Prim.Native.Nat.{ℕ}
-use mathlib.Core.List.{List}
+use mathlib.Core.List.{List, [], _∷_, _++_}
 use lib.ListN.{length}
 use Rattle.search.specs.declared.Verdict.{Verdict}
 use Rattle.search.specs.declared.Verdict.the-variants as verdicts
@@ -10,6 +10,7 @@ use Rattle.records.specs.Reading.{over}
 use Rattle.model.specs.declared.PlanAnswer.{PlanAnswer}
 use Rattle.model.specs.Table.{networkChecks, ledgerChecks, planLineChecks}
 use Rattle.model.specs.Calls.{planAnswer, ledgerAfter}
+use Rattle.model.specs.Guarantees.{networkNumbers, planNumbers}
 use Rattle.sheet_lines.specs.Sheet.{sheetChecks}
 use Rattle.sheet_model.specs.declared.SheetAnswer.{SheetAnswer}
 use Rattle.sheet_model.specs.declared.SheetAnswer.the-variants.{Written, Refused}
@@ -17,6 +18,9 @@ use Rattle.sheet_model.specs.Runs.{runChecks}
 use Rattle.sheet_model.specs.Cycle.{sheetText, writeChecks}
 
 -- ---- does a plan keep a sheet: the network's own, 33, 8, the plan's, and last 34
+abbrev pub sheetNumbers : List ℕ
+sheetNumbers = planNumbers ++ (33 ∷ 34 ∷ [])
+
 module _ (network sheet plan : List Line) where
   unfoldable pub acceptChecks : ℕ → Checks
   acceptChecks size = networkChecks network then sheetChecks network sheet 0 then ledgerChecks network size then planLineChecks network plan
@@ -36,7 +40,10 @@ module _ (network sheet plan : List Line) where
   unfoldable pub sheetLedger : List ℕ → List ℕ
   sheetLedger old = rowsAfter (verdict (networkChecks network then sheetChecks network sheet 0)) old
 
--- ---- a plan for a sheet
+-- ---- a plan for a sheet: the network's own, 33, 35, and last 24
+abbrev pub sheetPlanNumbers : List ℕ
+sheetPlanNumbers = networkNumbers ++ (33 ∷ 35 ∷ 24 ∷ [])
+
 -- the answer by the verdict on a text, and the buffer after: the text, and the bytes past it as they were; untouched by a refusal
 unfoldable pub writtenAnswer : List ℕ → Verdict → SheetAnswer
 writtenAnswer text verdicts.Passes = Written (length text)

@@ -3,4 +3,3 @@ pub mod Runs
 pub mod Cycle
 pub mod Calls
 pub mod Promises
-pub mod Padding

@@ -7,6 +7,7 @@ use mathlib.Core.List.{List}
 use lib.ListN.{length, take}
 use Rattle.search.specs.declared.Refusal.{Refusal}
 use Rattle.search.specs.Checks.{Hold, FirstBroken}
+use Rattle.search.specs.Numbers.{CanArise}
 use Rattle.records.specs.Lines.{Line, lines}
 use Rattle.model.specs.declared.Totals.{Totals}
 use Rattle.model.specs.declared.PlanAnswer.{PlanAnswer}
@@ -15,14 +16,14 @@ use Rattle.model.specs.Network.{entry, linkCount, signalCount, movementCount, s
 use Rattle.model.specs.Flows.{shownMask}
 use Rattle.model.specs.Table.{isForm, letterP, networkChecks, planChecks}
 use Rattle.model.specs.Hold.{meant}
-use Rattle.model.specs.Guarantees.{CanArise, Guarantees, LedgerPromises}
+use Rattle.model.specs.Guarantees.{Guarantees, LedgerPromises}
 use Rattle.sheet_lines.specs.Sheet.{phasesOf, endOf, sheetChecks}
 use Rattle.sheet_model.specs.declared.SheetAnswer.{SheetAnswer}
 use Rattle.sheet_model.specs.declared.SheetAnswer.the-variants.{Written, Refused}
 use Rattle.sheet_model.specs.Kept.{Kept, FirstRun}
 use Rattle.sheet_model.specs.Runs.{runChecks}
 use Rattle.sheet_model.specs.Cycle.{cyclePlace, cyclePhase, hasNoTram, canWrite, plainSheet, EndsOnBoundaries, writeChecks}
-use Rattle.sheet_model.specs.Calls.{acceptChecks, keepChecks, checkSheet, sheetLedger, planFromSheet, bufferAfter}
+use Rattle.sheet_model.specs.Calls.{sheetNumbers, sheetPlanNumbers, acceptChecks, keepChecks, checkSheet, sheetLedger, planFromSheet, bufferAfter}
 
 -- The check of a plan by a sheet, whatever the ledger held before:
 pub record SheetPromises (network sheet plan : List Line) (before after : List ℕ) (answer : PlanAnswer) : Type 0 where
@@ -35,7 +36,7 @@ pub record SheetPromises (network sheet plan : List Line) (before after : List �
   pub guaranteed : (t : Totals) → answer ≡ plan-answer.Accepted t → Guarantees network plan (t .«doubled_time»)
   -- a refusal is that of the first broken check ..
   pub refused-first : (r : Refusal) → answer ≡ plan-answer.Refused r → FirstBroken (keepChecks network sheet plan (length before)) r
-  pub refused-number : (r : Refusal) → answer ≡ plan-answer.Refused r → CanArise (r .number)
+  pub refused-number : (r : Refusal) → answer ≡ plan-answer.Refused r → CanArise sheetNumbers (r .number)
   -- .. and where all others hold, it is 34 and names the first broken run
   pub first-run : Hold (acceptChecks network sheet plan (length before)) → (r : Refusal) → answer ≡ plan-answer.Refused r
       → (r .number ≡ 34) × ((i : ℕ) × (r .item ≡ suc i) × FirstRun network sheet plan (r .line) i)
@@ -65,7 +66,7 @@ pub record WritePromises (network sheet : List Line) (old : List ℕ) (answer : 
   -- reading back what was written gives such a plan
   pub written : (end : ℕ) → answer ≡ Written end → PlanWritten network sheet (lines (take end new))
   pub refused-first : (r : Refusal) → answer ≡ Refused r → FirstBroken (writeChecks network sheet (length old)) r
-  pub refused-number : (r : Refusal) → answer ≡ Refused r → CanArise (r .number)
+  pub refused-number : (r : Refusal) → answer ≡ Refused r → CanArise sheetPlanNumbers (r .number)
   -- of a network and a sheet that pass: at any time the cycle shows the phase that has begun and is not over ..
   pub shows : Hold (networkChecks network) → Hold (sheetChecks network sheet 1) → (r t : ℕ) → r < signalCount network
       → (p : ℕ) × (cyclePhase network sheet r t ≡ suc p) × (p < phasesOf network r)

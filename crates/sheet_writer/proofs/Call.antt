@@ -15,6 +15,8 @@ use Rattle.search.specs.declared.Verdict.the-variants as verdicts
 use Rattle.search.specs.Checks.{orElse, checked, verdict, Hold}
 use Rattle.search.proofs.Laws.{first-same, or-else-passes, or-else-refused, hold-of-passes, passes-of-hold}
 use Rattle.records.specs.Lines.{Line, lines}
+use Rattle.records.specs.Padding.{PaddingIgnored}
+use Rattle.records.proofs.Padding.{same-lines}
 use Rattle.record_writer.proofs.Laws.{records-same}
 use Rattle.model.specs.Test.{_and_}
 use Rattle.model.specs.Sum.{sum, only, list}
@@ -238,3 +240,9 @@ module _ {text : List ℕ} {r : Stage} {links movements times : List ℕ} (g : J
     pub call-written : {reading : Reading} → r ≡ stages.Passed reading → {answer : SheetAnswer} {new : List ℕ} → SheetWritten (lines text) sheet old answer new → WritePromises (lines text) sheet old answer new
     call-written {reading} e w =
         call-told (rw (written-is (lines text) sheet old ∙ or-else-passes _ _ (passes-of-hold (networkChecks (lines text)) (g .held reading e .holds))) (w .told))
+
+-- the same of texts that differ only in padding
+pub padding-too : (network sheet : List ℕ) {old new : List ℕ} {answer : SheetAnswer} → WritePromises (lines network) (lines sheet) old answer new
+    → WritePromises (lines network) (lines sheet) old answer new
+    × PaddingIgnored network (λ paddedNetwork. PaddingIgnored sheet (λ paddedSheet. WritePromises (lines paddedNetwork) (lines paddedSheet) old answer new))
+padding-too network sheet got = (got, λ paddedNetwork n paddedSheet s. rw (← same-lines network paddedNetwork n, ← same-lines sheet paddedSheet s) got)

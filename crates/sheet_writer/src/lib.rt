@@ -5,6 +5,7 @@ ghost use Prim.Native.Nat.{_+_, _*_, _≤_};
 ghost use lib.Dec.{ltb};
 ghost use lib.ListN.{length, getD};
 ghost use Rattle.records.specs.Lines.{lines};
+ghost use Rattle.records.specs.Padding.{PaddingIgnored};
 ghost use Rattle.records.specs.Reading.{over};
 ghost use Rattle.record_writer.specs.Writing.{Wrote};
 ghost use Rattle.model.specs.Sum.{only};
@@ -307,6 +308,7 @@ fn write_on_network(
 // The plan text of a sheet with offsets: refusals 1 to 6, 28 and 30, then 33, 35 and 24.
 pub fn plan_from_sheet(network: &[u8], sheet: &[u8], out: &mut [u8]) -> SheetAnswer
     ensures { λ r. ⌜ WritePromises (lines (now (network .entry))) (lines (now (sheet .entry))) (now (out .entry)) r (now (out .exit)) ⌝ }
+    ensures { λ r. ⌜ PaddingIgnored (now (network .entry)) (λ paddedNetwork. PaddingIgnored (now (sheet .entry)) (λ paddedSheet. WritePromises (lines paddedNetwork) (lines paddedSheet) (now (out .entry)) r (now (out .exit)))) ⌝ }
 {
     let mut links = [0u32; LINK_TABLE_SIZE];
     let mut movements = [0u32; MOVEMENT_TABLE_SIZE];

@@ -12,6 +12,8 @@ use Rattle.search.specs.declared.Verdict.the-variants as verdicts
 use Rattle.search.specs.Checks.{refusal, orElse, checked, verdict, Hold}
 use Rattle.search.proofs.Laws.{or-else-passes, or-else-refused, checked-passes, checked-refused, passes-of-hold, hold-of-passes}
 use Rattle.records.specs.Lines.{Line, lines}
+use Rattle.records.specs.Padding.{PaddingIgnored}
+use Rattle.records.proofs.Padding.{same-lines}
 use Rattle.model.specs.Network.{maxSignals, linkCount}
 use Rattle.model.specs.Table.{networkChecks}
 use Rattle.model.specs.Hold.{planOf}
@@ -37,8 +39,7 @@ use Rattle.split_model.specs.declared.SplitAnswer.the-variants.{Refused}
 use Rattle.split_model.specs.Halves.{firstHalf, secondHalf}
 use Rattle.split_model.specs.Call.{inSet, formChecks, partChecks, lengths, splitChecks, splitAnswer, splitNetwork, bufferAfter}
 use Rattle.split_model.specs.Splits.{Buffers, roomOf, buffersAfter, SplitInTwo}
-use Rattle.split_model.specs.Padding.{PaddingIgnored}
-use Rattle.split_model.proofs.Promises.{padding-ignored, split-in-two}
+use Rattle.split_model.proofs.Promises.{split-in-two}
 use Rattle.split_checks.specs.Tables.{PartsAsked}
 use Rattle.split_checks.specs.Network.{SplitAsked, SplitTold, PartsTold}
 use Rattle.split_checks.specs.Plan.{FormAsked, FormTold}
@@ -218,8 +219,12 @@ pub network-refused : (networkText planText : List ℕ) (set : ℕ) (before : Bu
 network-refused networkText planText set before {r = r} got e = got-refused networkText planText set before (unfold partChecks verdict in or-else-refused _ _ r (verdict-refused got e))
 
 pub promised : {networkText planText : List ℕ} {set : ℕ} {before after : Buffers} {answer : SplitAnswer} → SplitGot networkText planText set before after answer
-    → SplitInTwo (texts networkText planText) set before after answer × ((paddedNetwork paddedPlan : List ℕ) → PaddingIgnored networkText paddedNetwork planText paddedPlan)
+    → SplitInTwo (texts networkText planText) set before after answer
+    × PaddingIgnored networkText (λ paddedNetwork. PaddingIgnored planText (λ paddedPlan. SplitGot paddedNetwork paddedPlan set before after answer))
 promised {networkText} {planText} {set} {before} got = (
   split-in-two (texts networkText planText) set before (got .told) (got .holds),
-  λ paddedNetwork paddedPlan. padding-ignored networkText paddedNetwork planText paddedPlan,
+  λ paddedNetwork n paddedPlan p.
+      let net = same-lines networkText paddedNetwork n in
+      let one = same-lines planText paddedPlan p in
+      record { told = got .told ∙ rw (net, one); holds = got .holds ∙ rw (net, one) },
 )

@@ -1,9 +1,7 @@
 // Two boxes, one corridor (T-14): the call `split`.
 ghost use mathlib.Core.Path.{_≡_};
-ghost use mathlib.Core.List.{List};
-ghost use Prim.Native.Nat.{ℕ};
+ghost use Rattle.records.specs.Padding.{PaddingIgnored};
 ghost use Rattle.split_model.specs.Splits.{SplitInTwo};
-ghost use Rattle.split_model.specs.Padding.{PaddingIgnored};
 ghost use Rattle.split_text.specs.Halves.{NetworkAsked};
 ghost use Rattle.split.specs.Splitting.{texts, buffers, HalfPut, Passed, JudgeAsked, HalvesJudged, WriteAsked, Measured, fits, HalvesWritten, SplitGot};
 use half_tables::HALF_SIZE;
@@ -271,7 +269,7 @@ pub fn split(
     plan_2: &mut [u8],
 ) -> SplitAnswer
     ensures { λ r. ⌜ SplitInTwo (texts (now (network .entry)) (now (plan .entry))) «first_half» (buffers (now («network_1» .entry)) (now («plan_1» .entry)) (now («network_2» .entry)) (now («plan_2» .entry))) (buffers (now («network_1» .exit)) (now («plan_1» .exit)) (now («network_2» .exit)) (now («plan_2» .exit))) r ⌝ }
-    ensures { λ r. ⌜ ((paddedNetwork paddedPlan : List ℕ) → PaddingIgnored (now (network .entry)) paddedNetwork (now (plan .entry)) paddedPlan) ⌝ }
+    ensures { λ r. ⌜ PaddingIgnored (now (network .entry)) (λ paddedNetwork. PaddingIgnored (now (plan .entry)) (λ paddedPlan. SplitGot paddedNetwork paddedPlan «first_half» (buffers (now («network_1» .entry)) (now («plan_1» .entry)) (now («network_2» .entry)) (now («plan_2» .entry))) (buffers (now («network_1» .exit)) (now («plan_1» .exit)) (now («network_2» .exit)) (now («plan_2» .exit))) r)) ⌝ }
 {
     let mut links = [0u32; LINK_TABLE_SIZE];
     let mut movements = [0u32; MOVEMENT_TABLE_SIZE];

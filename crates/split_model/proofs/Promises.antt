@@ -1,4 +1,4 @@
--- What the call promises beside the theorem: what it wrote, that padding plays no part, and that the number of a refusal is one that can arise. Assumes nothing.
+-- What the call promises beside the theorem: what it wrote, and that the number of a refusal is one that can arise. Assumes nothing.
 use mathlib.Core.Path.{_≡_, refl, sym, ap, _∙_}
 use mathlib.Core.List.{List}
 use Prim.Native.Nat.{ℕ}
@@ -9,30 +9,23 @@ use Rattle.search.specs.declared.Refusal.{Refusal}
 use Rattle.search.specs.declared.Verdict.{Verdict}
 use Rattle.search.specs.declared.Verdict.the-variants.{Passes, Refused}
 use Rattle.search.specs.Checks.{verdict}
+use Rattle.search.specs.Numbers.{isOneOf}
 use Rattle.search.proofs.Laws.{or-else-first}
+use Rattle.search.proofs.Numbers.{Numbered, refused-number, allOf}
 use Rattle.records.specs.Lines.{Line}
 use Rattle.records.specs.Reading.{over}
-use Rattle.records.proofs.Padding.{same-lines}
-use Rattle.model.proofs.Numbers.{Numbered, refused-number, network-numbered}
+use Rattle.model.proofs.Numbers.{network-among}
 use Rattle.split_model.specs.declared.Lengths.{Lengths}
 use Rattle.split_model.specs.declared.SplitAnswer.{SplitAnswer}
 use Rattle.split_model.specs.declared.SplitAnswer.the-variants as answers
-use Rattle.split_model.specs.Call.{formChecks, partChecks, networkText₁, planText₁, networkText₂, planText₂, lengths, splitChecks, splitAnswer, splitNetwork, bufferAfter}
+use Rattle.split_model.specs.Call.{formChecks, partChecks, networkText₁, planText₁, networkText₂, planText₂, lengths, splitNumbers, splitChecks, splitAnswer, splitNetwork, bufferAfter}
 use Rattle.split_model.specs.Splits.{Texts, networkOf, planFor, first, second, Buffers, roomOf, buffersAfter, SplitInTwo}
-use Rattle.split_model.specs.Padding.{PaddingIgnored}
 use Rattle.split_model.proofs.Splits.{splits}
 
-pub padding-ignored : (network paddedNetwork plan paddedPlan : List ℕ) → PaddingIgnored network paddedNetwork plan paddedPlan
-padding-ignored network paddedNetwork plan paddedPlan =
-    record {
-      same-answer = λ n p set room. rw (same-lines network paddedNetwork n, same-lines plan paddedPlan p);
-      same-buffers = λ n p set before. rw (same-lines network paddedNetwork n, same-lines plan paddedPlan p);
-    }
-
 module _ (network plan : List Line) (set : ℕ) where
-  split-numbered : (room : Lengths) → Numbered (splitChecks network plan set room)
-  unfolding Numbered splitChecks partChecks formChecks
-  split-numbered room = search (needs, network-numbered network)
+  pub split-numbered : (room : Lengths) → Numbered splitNumbers (splitChecks network plan set room)
+  unfolding Numbered isOneOf allOf splitChecks partChecks formChecks
+  split-numbered room = ((network-among network splitNumbers refl, search needs), refl)
 
   parts-pass : (room : Lengths) → verdict (splitChecks network plan set room) ≡ Passes → verdict (partChecks network plan set) ≡ Passes
   unfolding splitChecks verdict
@@ -72,7 +65,7 @@ split-in-two whole set before {after = after} {answer = answer} told holds =
         front _ (planText₂ N P set) (before .plan₂) (end .«plan_2») (passed end e) (ap (λ (l : Lengths). l .«plan_2») (ends end e) ∙ (unfold lengths in refl)),
       ));
       splits = λ end e. splits whole set (parts-pass N P set (roomOf before) (passed end e));
-      refused-number = λ r e. refused-number _ r (split-numbered N P set (roomOf before)) (of-refused N P set _ r (sym told ∙ e));
+      refused-number = λ r e. refused-number splitNumbers _ r (split-numbered N P set (roomOf before)) (of-refused N P set _ r (sym told ∙ e));
     }
   where
     N : List Line

@@ -1,7 +1,7 @@
 -- The call that splits (T-14): when it declines, and what it writes. The plan is the list of the lines that its text stands for (`planOf`). Assumes nothing.
 use Prim.Native.Nat.{ℕ, suc, _+_, _*_, _-_, _^_, _/_, _%_}
 use mathlib.Core.Bool.{Bool, not}
-use mathlib.Core.List.{List}
+use mathlib.Core.List.{List, [], _∷_, _++_}
 use lib.Dec.{leb, ltb, eqb}
 use lib.ListN.{length}
 use Rattle.search.specs.declared.Verdict.{Verdict}
@@ -12,6 +12,7 @@ use Rattle.records.specs.Reading.{over}
 use Rattle.model.specs.Test.{_and_, _or_, every}
 use Rattle.model.specs.Network.{linkCount, signalCount, movementCount, stepCount, pastCount, exitRate, signalOf, waitingAtStart, fromLink, toLink, demand}
 use Rattle.model.specs.Table.{isForm, letterP, networkChecks}
+use Rattle.model.specs.Guarantees.{networkNumbers}
 use Rattle.split_model.specs.declared.Lengths.{Lengths}
 use Rattle.split_model.specs.declared.SplitAnswer.{SplitAnswer}
 use Rattle.split_model.specs.declared.SplitAnswer.the-variants.{Written, Refused}
@@ -48,6 +49,10 @@ unfoldable pub formChecks : List Line → List Line → Checks
 formChecks network plan =
     each (stepCount network) (λ n. check 9 (suc n) 0 (isForm plan n letterP (signalCount network + (2 * linkCount network + movementCount network))))
     then check 9 (suc (stepCount network)) 0 (eqb (length plan) (stepCount network))
+
+-- the numbers with which the call refuses
+abbrev pub splitNumbers : List ℕ
+splitNumbers = networkNumbers ++ (40 ∷ 41 ∷ 9 ∷ 42 ∷ [])
 
 module _ (network plan : List Line) (set : ℕ) where
   -- the network's own; 40, with a link above L; 41; the plan's form

@@ -2,4 +2,3 @@ pub mod Numbering
 pub mod Halves
 pub mod Call
 pub mod Splits
-pub mod Padding

@@ -8,6 +8,7 @@ use lib.ListN.{length, getD, take}
 use Rattle.search.specs.declared.Refusal.{Refusal}
 use Rattle.search.specs.declared.Verdict.the-variants.{Passes}
 use Rattle.search.specs.Checks.{verdict}
+use Rattle.search.specs.Numbers.{CanArise}
 use Rattle.records.specs.Lines.{Line, lines}
 use Rattle.model.specs.declared.Totals.{Totals}
 use Rattle.model.specs.Sum.{sum, only}
@@ -15,14 +16,13 @@ use Rattle.model.specs.Network.{linkCount, movementCount, stepCount, fromLink, 
 use Rattle.model.specs.Flows.{admitted, letOut, moved, totals, row}
 use Rattle.model.specs.Table.{planChecks}
 use Rattle.model.specs.Hold.{planOf}
-use Rattle.model.specs.Guarantees.{CanArise}
 use Rattle.split_model.specs.declared.Lengths.{Lengths}
 use Rattle.split_model.specs.declared.SplitAnswer.{SplitAnswer}
 use Rattle.split_model.specs.declared.SplitAnswer.the-variants as answers
 use Rattle.split_model.specs.declared.SplitAnswer.the-variants.{Written}
 use Rattle.split_model.specs.Numbering.{rank}
 use Rattle.split_model.specs.Halves.{Half, crosses, firstHalf, secondHalf, halfNetwork, halfPlan}
-use Rattle.split_model.specs.Call.{inSet, networkText₁, planText₁, networkText₂, planText₂, splitChecks, splitNetwork, bufferAfter}
+use Rattle.split_model.specs.Call.{inSet, networkText₁, planText₁, networkText₂, planText₂, splitNumbers, splitChecks, splitNetwork, bufferAfter}
 
 -- a network text and a plan text, which another call may be given
 pub record Texts : Type 0 where
@@ -163,4 +163,4 @@ pub record SplitInTwo (whole : Texts) (set : ℕ) (before after : Buffers) (answ
   pub second-written : (end : Lengths) → answer ≡ Written end
       → (take (end .«network_2») (after .network₂) ≡ second whole set .network) × (take (end .«plan_2») (after .plan₂) ≡ second whole set .plan)
   pub splits : (end : Lengths) → answer ≡ Written end → Splits whole set
-  pub refused-number : (r : Refusal) → answer ≡ answers.Refused r → CanArise (r .number)
+  pub refused-number : (r : Refusal) → answer ≡ answers.Refused r → CanArise splitNumbers (r .number)

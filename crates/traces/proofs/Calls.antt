@@ -7,14 +7,15 @@ use borrow.Author.Tests.{not-true, not-false, eqb-true}
 use lib.Dec.{leb}
 use lib.ListN.{length}
 use lib.Ieee.{Float}
-use Prim.Native.Nat.{ℕ, _≤_}
+use Prim.Native.Nat.{ℕ}
 use Rattle.search.specs.declared.Verdict.{Verdict}
 use Rattle.search.specs.declared.Verdict.the-variants.{Passes, Refused}
 use Rattle.search.specs.Checks.{refusal, verdict, checked, orElse}
+use Rattle.search.specs.Numbers.{isOneOf, CanArise}
 use Rattle.lists.specs.Indexed.{list}
 use Rattle.lists.proofs.Tests.{and-right, zero-one}
 use Rattle.traces.specs.Step.{placeAfter}
-use Rattle.traces.specs.Call.{validCounts, validValues, stepChecks, stepVehicles, placesBy, placesAfter}
+use Rattle.traces.specs.Call.{vehiclesNumbers, validCounts, validValues, stepChecks, stepVehicles, placesBy, placesAfter}
 use Rattle.traces.specs.Guarantees.{StepKeeps}
 use Rattle.traces.proofs.Guarantees.{valid-of, keeps}
 
@@ -36,19 +37,19 @@ module _ (places advances lines : List Float) (spacing : Float) where
   promised answer after d = (d .is-answer, (d .are-places, d .kept))
 
   -- a refused step: no vehicle has moved
-  refused-keeps : (answer : Verdict) (number : ℕ) → 1 ≤ number → answer ≡ Refused (refusal number 0 0) → StepKeeps places advances lines spacing answer places
+  refused-keeps : (answer : Verdict) (number : ℕ) → CanArise vehiclesNumbers number → answer ≡ Refused (refusal number 0 0) → StepKeeps places advances lines spacing answer places
   refused-keeps answer number l e =
       record {
         stepped = λ s. zero-one (cc);
         unchanged = λ r f. refl;
-        refused-number = λ r f. let q : number ≡ r .number = cc in omega arith;
+        refused-number = λ r f. let q : number ≡ r .number = cc in rw q at l;
       }
 
   pub counts-refused : (v : Bool) (answer : Verdict) → v ≡ validCounts places advances lines → not v ≡ true → answer ≡ Refused (refusal 39 0 0) → Done places advances lines spacing answer places
   unfolding stepVehicles placesAfter placesBy stepChecks verdict checked orElse
   counts-refused v answer p n e =
       let c = sym p ∙ not-true v n in
-      record { is-answer = e ∙ rw c; are-places = rw c; kept = refused-keeps answer 39 (omega arith) e }
+      record { is-answer = e ∙ rw c; are-places = rw c; kept = refused-keeps answer 39 (record { not-0 = omega arith; one-of = unfold isOneOf in refl }) e }
 
   module _ (u : Bool) (p : u ≡ validCounts places advances lines) (n : not u ≡ false) where
     pub values-refused : (v : Bool) (answer : Verdict) → v ≡ validValues places advances lines spacing → not v ≡ true → answer ≡ Refused (refusal 38 0 0) → Done places advances lines spacing answer places
@@ -56,7 +57,7 @@ module _ (places advances lines : List Float) (spacing : Float) where
     values-refused v answer q m e =
         let c = sym p ∙ not-false u n in
         let d = sym q ∙ not-true v m in
-        record { is-answer = e ∙ rw (c, d); are-places = rw (c, d); kept = refused-keeps answer 38 (omega arith) e }
+        record { is-answer = e ∙ rw (c, d); are-places = rw (c, d); kept = refused-keeps answer 38 (record { not-0 = omega arith; one-of = unfold isOneOf in refl }) e }
 
     pub all-stepped : (v : Bool) (after : List Float) → v ≡ validValues places advances lines spacing → not v ≡ false
         → after ≡ list (length places) (placeAfter places advances lines spacing) → Done places advances lines spacing Passes after

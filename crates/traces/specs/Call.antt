@@ -1,6 +1,7 @@
 -- The call `step_vehicles` (T-13): its refusals, its answer, and the places after it. Assumes nothing.
+use Prim.Native.Nat.{ℕ}
 use mathlib.Core.Bool.{Bool, _&&_, not}
-use mathlib.Core.List.{List}
+use mathlib.Core.List.{List, [], _∷_}
 use lib.Dec.{leb, eqb}
 use lib.ListN.{length}
 use lib.IntN.{pos}
@@ -36,6 +37,10 @@ validCounts places advances lines = leb (length places) 64 && leb (length lines)
 unfoldable pub stepChecks : List Float → List Float → List Float → Float → Checks
 stepChecks places advances lines spacing =
     check 39 0 0 (validCounts places advances lines) then check 38 0 0 (validValues places advances lines spacing)
+
+-- the numbers with which the call refuses
+abbrev pub vehiclesNumbers : List ℕ
+vehiclesNumbers = 39 ∷ 38 ∷ []
 
 unfoldable pub stepVehicles : List Float → List Float → List Float → Float → Verdict
 stepVehicles places advances lines spacing = verdict (stepChecks places advances lines spacing)

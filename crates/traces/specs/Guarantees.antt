@@ -1,5 +1,5 @@
 -- What a step keeps (T-13), a field for each sentence, in the words of the call alone. Assumes nothing.
-use Prim.Native.Nat.{ℕ, suc, _≤_, _<_}
+use Prim.Native.Nat.{ℕ, suc, _<_}
 use mathlib.Core.Path.{_≡_}
 use mathlib.Core.Bool.{true}
 use mathlib.Core.List.{List}
@@ -9,6 +9,8 @@ use lib.Ieee.Scale.{finite}
 use Rattle.search.specs.declared.Refusal.{Refusal}
 use Rattle.search.specs.declared.Verdict.{Verdict}
 use Rattle.search.specs.declared.Verdict.the-variants.{Passes, Refused}
+use Rattle.search.specs.Numbers.{CanArise}
+use Rattle.traces.specs.Call.{vehiclesNumbers}
 
 pub record Keeps (places advances lines : List Float) (spacing : Float) (after : List Float) : Type 0 where
   -- there are as many vehicles as before
@@ -24,9 +26,9 @@ pub record Keeps (places advances lines : List Float) (spacing : Float) (after :
   -- every place is finite
   pub stays-finite : (i : ℕ) → i < length places → finite (getD after i nan) ≡ true
 
--- a step that is not refused keeps all that, and no refusal has the number 0
+-- a step that is not refused keeps all that, and a refusal's number is one that can arise
 pub record StepKeeps (places advances lines : List Float) (spacing : Float) (answer : Verdict) (after : List Float) : Type 0 where
   pub stepped : answer ≡ Passes → Keeps places advances lines spacing after
   -- a refused step changes no place
   pub unchanged : (r : Refusal) → answer ≡ Refused r → after ≡ places
-  pub refused-number : (r : Refusal) → answer ≡ Refused r → 1 ≤ r .number
+  pub refused-number : (r : Refusal) → answer ≡ Refused r → CanArise vehiclesNumbers (r .number)

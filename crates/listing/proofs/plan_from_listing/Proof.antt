@@ -1,5 +1,5 @@
 -- `listing::plan_from_listing` meets its contract. Assumes nothing.
-use Rattle.listing.proofs.Call.{plan-refused, times-asked, plan-asked, plan-written}
+use Rattle.listing.proofs.Call.{plan-refused, times-asked, plan-asked, plan-written, padding-too}
 use borrow.Author.Needs.{needs}
 use Rattle.listing.proofs.plan_from_listing.Statement.{statement}
 use Rattle.listing.proofs.plan_from_listing.Tie as tie
@@ -38,10 +38,10 @@ same-length : tie.Need-same-length
 same-length c = search needs
 
 returns : tie.Need-returns
-returns c = search plan-written
+returns c = padding-too _ (search plan-written)
 
 returns-2 : tie.Need-returns-2
-returns-2 c = search plan-refused
+returns-2 c = padding-too _ (search plan-refused)
 
 pub plan-from-listing-spec : {M : Type 1} → statement M
 plan-from-listing-spec =

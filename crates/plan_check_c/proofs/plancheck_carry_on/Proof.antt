@@ -1,31 +1,31 @@
 -- `plan_check_c::plancheck_carry_on` meets its contract. Assumes nothing.
 use Prim.Native.Nat.{ℕ}
-use mathlib.Core.Path.{_≡_, refl, sym, ap, _∙_}
 use mathlib.Core.List.{List}
-use lib.ListN.{length}
-use Rattle.records.specs.Lines.{Line}
+use mathlib.Core.Path.{_≡_, sym, ap, _∙_}
 use Rattle.carry_model.specs.declared.CarryAnswer.{CarryAnswer}
-use Rattle.carry_model.specs.declared.CarryAnswer.the-variants as carry-answer
-use Rattle.carry_model.specs.Call.{carryOn}
 use Rattle.carry_model.specs.CarriesOn.{CarriedOn}
-use Rattle.plan_check_c.specs.declared.TextResult.{TextResult}
+use Rattle.carry.specs.Carrying.{CarryGot}
 use Rattle.plan_check_c.specs.Results.{carryResult, carryAnswerOf}
-use native.Mathlib.Omega.{arith}
-use borrow.Author.Tests.{ne-eqb}
+use Rattle.plan_check_c.proofs.Numbers.{carry-tells}
+use Rattle.plan_check_c.proofs.Read.{of-carry}
+use Rattle.plan_check_c.specs.declared.TextResult.{TextResult}
+use Rattle.search.specs.declared.Refusal.{Refusal}
+use Rattle.search.specs.Numbers.{CanArise}
+use Rattle.carry_model.specs.declared.CarryAnswer.the-variants as carry-answer
+use Rattle.carry_model.specs.Call.{carryNumbers}
+use Rattle.records.specs.Lines.{Line}
 use borrow.Author.Needs.{needs}
 use Rattle.plan_check_c.proofs.plancheck_carry_on.Statement.{statement}
 use Rattle.plan_check_c.proofs.plancheck_carry_on.Tie as tie
 
-module _ {network plan : List Line} {b : ℕ} {ledger ledgerAfter buffer bufferAfter : List ℕ} where
-  -- what holds of an answer holds of the answer that its result is read as, since no refusal has the number 0
-  read-off : (a : CarryAnswer) → CarriedOn network plan b ledger ledgerAfter buffer bufferAfter a
-      → CarriedOn network plan b ledger ledgerAfter buffer bufferAfter (carryAnswerOf (carryResult a))
-  read-off (carry-answer.Written end) g = g
-  read-off (carry-answer.Refused r) g = rw (ne-eqb (r .number) 0 (λ e. omega (arith, g .refused-number r refl .not-0))) g
+-- what is promised of an answer is promised of the answer that its result is read as
+module _ (a : CarryAnswer) (r : TextResult) (is : r ≡ carryResult a) {b : ℕ} {ledger ledgerAfter buffer bufferAfter : List ℕ} where
+  promised : {network plan : List Line} → CarriedOn network plan b ledger ledgerAfter buffer bufferAfter a → CarriedOn network plan b ledger ledgerAfter buffer bufferAfter (carryAnswerOf r)
+  promised {network} {plan} g = of-carry (λ (x : CarryAnswer). CarriedOn network plan b ledger ledgerAfter buffer bufferAfter x) a r is (g .refused-number) g
 
-  told : {a : CarryAnswer} {r : TextResult} → CarriedOn network plan b ledger ledgerAfter buffer bufferAfter a → r ≡ carryResult a
-      → (r ≡ carryResult (carryOn network plan b (length ledger) (length buffer))) × CarriedOn network plan b ledger ledgerAfter buffer bufferAfter (carryAnswerOf r)
-  told g e = (e ∙ ap carryResult (g .told), rw e (read-off _ g))
+  got : {network plan : List ℕ} → ((q : Refusal) → a ≡ carry-answer.Refused q → CanArise carryNumbers (q .number)) → CarryGot network plan b ledger ledgerAfter buffer bufferAfter a
+      → CarryGot network plan b ledger ledgerAfter buffer bufferAfter (carryAnswerOf r)
+  got {network} {plan} h g = of-carry (λ (x : CarryAnswer). CarryGot network plan b ledger ledgerAfter buffer bufferAfter x) a r is h g
 
 carry-on-requires : tie.Need-carry-on-requires
 carry-on-requires c κs = search needs
@@ -49,7 +49,20 @@ same-length-2 : tie.Need-same-length-2
 same-length-2 c = search needs
 
 returns : tie.Need-returns
-returns c = told (c .before .before .before .before .before .before .before .before .carry-on .ensures) (c .written-text .ensures ∙ sym (ap carryResult (c .before .before .length .given .1)))
+returns c =
+    let e = c .before .before .before .before .before .before .before .before .carry-on .ensures in
+    let is = c .written-text .ensures ∙ sym (ap carryResult (c .before .before .length .given .1)) in
+    let told = is ∙ ap carryResult (e .0 .told) in
+    let numbers = e .0 .refused-number in (
+      told,
+      (
+        promised _ _ is (e .0),
+        (
+          carry-tells _ _ _ _ _ told,
+          λ paddedNetwork n paddedPlan p. got _ _ is numbers (e .1 paddedNetwork n paddedPlan p),
+        ),
+      ),
+    )
 
 same-length-3 : tie.Need-same-length-3
 same-length-3 c = search needs
@@ -58,7 +71,20 @@ same-length-4 : tie.Need-same-length-4
 same-length-4 c = search needs
 
 returns-2 : tie.Need-returns-2
-returns-2 c = told (c .before .before .before .before .before .before .before .before .carry-on .ensures) (c .refused-text .ensures ∙ sym (ap carryResult (c .before .before .refusal .given .1)))
+returns-2 c =
+    let e = c .before .before .before .before .before .before .before .before .carry-on .ensures in
+    let is = c .refused-text .ensures ∙ sym (ap carryResult (c .before .before .refusal .given .1)) in
+    let told = is ∙ ap carryResult (e .0 .told) in
+    let numbers = e .0 .refused-number in (
+      told,
+      (
+        promised _ _ is (e .0),
+        (
+          carry-tells _ _ _ _ _ told,
+          λ paddedNetwork n paddedPlan p. got _ _ is numbers (e .1 paddedNetwork n paddedPlan p),
+        ),
+      ),
+    )
 
 pub plancheck-carry-on-spec : {M : Type 1} → statement M
 plancheck-carry-on-spec =

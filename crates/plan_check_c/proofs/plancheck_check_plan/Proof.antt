@@ -1,24 +1,29 @@
 -- `plan_check_c::plancheck_check_plan` meets its contract. Assumes nothing.
 use Prim.Native.Nat.{ℕ}
-use mathlib.Core.Path.{refl, ap, _∙_}
 use mathlib.Core.List.{List}
-use Rattle.records.specs.Lines.{Line}
+use mathlib.Core.Path.{_≡_, ap, _∙_}
 use Rattle.model.specs.declared.PlanAnswer.{PlanAnswer}
-use Rattle.model.specs.declared.PlanAnswer.the-variants as plan-answer
-use Rattle.model.specs.Guarantees.{Promises}
+use Rattle.model.specs.Guarantees.{planNumbers, Promises}
 use Rattle.model.specs.Hold.{EmptyHolds}
 use Rattle.plan_check_c.specs.Results.{planResult, planAnswerOf}
-use native.Mathlib.Omega.{arith}
-use borrow.Author.Tests.{ne-eqb}
+use Rattle.plan_check_c.proofs.Numbers.{plan-tells}
+use Rattle.plan_check_c.proofs.Read.{of-plan}
+use Rattle.plan_check_c.specs.declared.PlanResult.{PlanResult}
+use Rattle.search.specs.declared.Refusal.{Refusal}
+use Rattle.search.specs.Numbers.{CanArise}
+use Rattle.model.specs.declared.PlanAnswer.the-variants as plan-answer
+use Rattle.records.specs.Lines.{Line}
 use borrow.Author.Needs.{needs}
 use Rattle.plan_check_c.proofs.plancheck_check_plan.Statement.{statement}
 use Rattle.plan_check_c.proofs.plancheck_check_plan.Tie as tie
 
--- what is promised of an answer is promised of the answer that its result is read as, since no refusal has the number 0
-promised : (network plan : List Line) (networkText planText before after : List ℕ) (a : PlanAnswer) → Promises network plan before after a × EmptyHolds networkText planText before after a
-    → Promises network plan before after (planAnswerOf (planResult a)) × EmptyHolds networkText planText before after (planAnswerOf (planResult a))
-promised network plan networkText planText before after (plan-answer.Accepted t) p = p
-promised network plan networkText planText before after (plan-answer.Refused r) p = rw (ne-eqb (r .number) 0 (λ e. omega (arith, p .0 .refused-number r refl .not-0))) p
+-- what is promised of an answer is promised of the answer that its result is read as
+module _ (a : PlanAnswer) (r : PlanResult) (is : r ≡ planResult a) {before after : List ℕ} where
+  promised : {network plan : List Line} → Promises network plan before after a → Promises network plan before after (planAnswerOf r)
+  promised {network} {plan} g = of-plan (λ (x : PlanAnswer). Promises network plan before after x) a r is (g .refused-number) g
+
+  empty : {network plan : List ℕ} → ((q : Refusal) → a ≡ plan-answer.Refused q → CanArise planNumbers (q .number)) → EmptyHolds network plan before after a → EmptyHolds network plan before after (planAnswerOf r)
+  empty {network} {plan} h g = of-plan (λ (x : PlanAnswer). EmptyHolds network plan before after x) a r is h g
 
 check-plan-requires : tie.Need-check-plan-requires
 check-plan-requires c κs = search needs
@@ -32,7 +37,24 @@ same-length c = search needs
 returns : tie.Need-returns
 returns c =
     let e = c .before .before .before .check-plan .ensures in
-    (c .plan-result .ensures ∙ ap planResult (e .0), (e .1 .0, rw (c .plan-result .ensures) (promised _ _ _ _ _ _ _ (e .1 .1))))
+    let is = c .plan-result .ensures in
+    let told = is ∙ ap planResult (e .0) in
+    let numbers = e .1 .1 .0 .refused-number in (
+      told,
+      (
+        e .1 .0,
+        (
+          promised _ _ is (e .1 .1 .0),
+          (
+            empty _ _ is numbers (e .1 .1 .1 .0),
+            (
+              plan-tells _ _ _ told,
+              λ paddedNetwork n paddedPlan p. let got = e .1 .1 .1 .1 paddedNetwork n paddedPlan p in (is ∙ ap planResult (got .answered), got .written-rows),
+            ),
+          ),
+        ),
+      ),
+    )
 
 pub plancheck-check-plan-spec : {M : Type 1} → statement M
 plancheck-check-plan-spec = tie.close (tie.spec check-plan-requires plan-result-requires same-length returns)

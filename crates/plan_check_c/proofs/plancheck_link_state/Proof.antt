@@ -1,7 +1,7 @@
 -- `plan_check_c::plancheck_link_state` meets its contract. Assumes nothing.
 use mathlib.Core.Path.{sym, ap, _∙_}
-use native.Mathlib.Omega.{arith}
 use Rattle.plan_check_c.specs.Results.{linkResult}
+use Rattle.plan_check_c.proofs.Numbers.{link-tells}
 use borrow.Author.Needs.{needs}
 use Rattle.plan_check_c.proofs.plancheck_link_state.Statement.{statement}
 use Rattle.plan_check_c.proofs.plancheck_link_state.Tie as tie
@@ -18,12 +18,16 @@ enum-known-r c = search needs
 returns : tie.Need-returns
 returns c =
     let got = c .before .before .before .link-state .ensures in
-    (sym (ap linkResult (sym (got .0) ∙ c .before .queued .given .1)), λ e. omega arith)
+    let is = c .before .queued .given .1 in
+    let told = sym (ap linkResult (sym (got .0) ∙ is)) in
+    (told, (link-tells _ _ _ _ told, λ padded same. sym (ap linkResult (sym (got .1 .1 padded same) ∙ is))))
 
 returns-2 : tie.Need-returns-2
 returns-2 c =
     let got = c .before .before .before .link-state .ensures in
-    (sym (ap linkResult (sym (got .0) ∙ c .before .r .given .1)), got .1 .refused-number _ (c .before .r .given .1) .never-7)
+    let is = c .before .r .given .1 in
+    let told = sym (ap linkResult (sym (got .0) ∙ is)) in
+    (told, (link-tells _ _ _ _ told, λ padded same. sym (ap linkResult (sym (got .1 .1 padded same) ∙ is))))
 
 pub plancheck-link-state-spec : {M : Type 1} → statement M
 plancheck-link-state-spec =

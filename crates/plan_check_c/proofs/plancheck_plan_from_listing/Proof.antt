@@ -3,29 +3,43 @@ use Prim.Native.Nat.{ℕ}
 use mathlib.Core.Path.{_≡_, refl, sym, ap, _∙_}
 use mathlib.Core.List.{List}
 use lib.ListN.{length}
+use Rattle.search.specs.declared.Refusal.{Refusal}
+use Rattle.search.specs.declared.Verdict.{Verdict}
+use Rattle.search.specs.declared.Verdict.the-variants.{Passes, Refused}
 use Rattle.records.specs.Lines.{Line}
 use Rattle.listing_lines.specs.declared.Entry.{Entry}
 use Rattle.listing.specs.declared.ListingAnswer.{ListingAnswer}
 use Rattle.listing.specs.declared.ListingAnswer.the-variants as listing-answer
-use Rattle.listing.specs.Listing.{planFromListing}
+use Rattle.listing.specs.Listing.{listingNumbers, writeChecks, writtenAnswer, planFromListing}
 use Rattle.listing.specs.ReadsBack.{PlanGot}
 use Rattle.plan_check_c.specs.declared.TextResult.{TextResult}
-use Rattle.plan_check_c.specs.Results.{listingResult, listingAnswerOf}
-use native.Mathlib.Omega.{arith}
-use borrow.Author.Tests.{ne-eqb}
+use Rattle.plan_check_c.specs.Results.{NumberTells, listingResult, listingAnswerOf}
+use Rattle.plan_check_c.proofs.Numbers.{numberOf, tells-by}
+use Rattle.plan_check_c.proofs.Read.{of-listing}
 use borrow.Author.Needs.{needs}
 use Rattle.plan_check_c.proofs.plancheck_plan_from_listing.Statement.{statement}
 use Rattle.plan_check_c.proofs.plancheck_plan_from_listing.Tie as tie
 
-module _ {network : List Line} {listing : List Entry} {before after : List ℕ} where
-  -- what holds of an answer holds of the answer that its result is read as, since no refusal has the number 0
-  read-off : (a : ListingAnswer) → PlanGot network listing before a after → PlanGot network listing before (listingAnswerOf (listingResult a)) after
-  read-off (listing-answer.Written end) g = g
-  read-off (listing-answer.Refused r) g = rw (ne-eqb (r .number) 0 (λ e. omega (arith, g .refused-number r refl .not-0))) g
+module _ (network : List Line) (listing : List Entry) where
+  number : (v : Verdict) → listingResult (writtenAnswer network listing v) .number ≡ numberOf v
+  unfolding writtenAnswer
+  number Passes = refl
+  number (Refused q) = refl
 
-  told : {a : ListingAnswer} {r : TextResult} → PlanGot network listing before a after → r ≡ listingResult a
-      → (r ≡ listingResult (planFromListing network listing (length before))) × PlanGot network listing before (listingAnswerOf r) after
-  told g e = (e ∙ ap listingResult (g .told), rw e (read-off _ g))
+  refused : (v : Verdict) (q : Refusal) → v ≡ Refused q → writtenAnswer network listing v ≡ listing-answer.Refused q
+  unfolding writtenAnswer
+  refused v q e = rw e
+
+-- what is promised of an answer is promised of the answer that its result is read as, and its number tells whether the checks hold
+module _ (a : ListingAnswer) (r : TextResult) (is : r ≡ listingResult a) {network : List Line} {listing : List Entry} {old new : List ℕ} (g : PlanGot network listing old a new) where
+  promised : PlanGot network listing old (listingAnswerOf r) new
+  promised = of-listing (λ (x : ListingAnswer). PlanGot network listing old x new) a r is (g .refused-number) g
+
+  listing-tells : NumberTells (writeChecks network listing (length old)) listingNumbers (r .number)
+  unfolding planFromListing
+  listing-tells =
+      tells-by (writeChecks network listing (length old)) listingNumbers (λ q v. g .refused-number q (g .told ∙ refused network listing _ q v))
+      (ap (λ (x : TextResult). x .number) (is ∙ ap listingResult (g .told)) ∙ number network listing _)
 
 plan-from-listing-requires : tie.Need-plan-from-listing-requires
 plan-from-listing-requires c κs = search needs
@@ -46,13 +60,37 @@ same-length : tie.Need-same-length
 same-length c = search needs
 
 returns : tie.Need-returns
-returns c = told (c .before .before .before .before .before .before .plan-from-listing .ensures) (c .written-text .ensures ∙ sym (ap listingResult (c .before .before .length .given .1)))
+returns c =
+    let e = c .before .before .before .before .before .before .plan-from-listing .ensures in
+    let is = c .written-text .ensures ∙ sym (ap listingResult (c .before .before .length .given .1)) in
+    let told = is ∙ ap listingResult (e .0 .told) in (
+      told,
+      (
+        promised _ _ is (e .0),
+        (
+          listing-tells _ _ is (e .0),
+          λ padded same. promised _ _ is (e .1 padded same),
+        ),
+      ),
+    )
 
 same-length-2 : tie.Need-same-length-2
 same-length-2 c = search needs
 
 returns-2 : tie.Need-returns-2
-returns-2 c = told (c .before .before .before .before .before .before .plan-from-listing .ensures) (c .refused-text .ensures ∙ sym (ap listingResult (c .before .before .refusal .given .1)))
+returns-2 c =
+    let e = c .before .before .before .before .before .before .plan-from-listing .ensures in
+    let is = c .refused-text .ensures ∙ sym (ap listingResult (c .before .before .refusal .given .1)) in
+    let told = is ∙ ap listingResult (e .0 .told) in (
+      told,
+      (
+        promised _ _ is (e .0),
+        (
+          listing-tells _ _ is (e .0),
+          λ padded same. promised _ _ is (e .1 padded same),
+        ),
+      ),
+    )
 
 pub plancheck-plan-from-listing-spec : {M : Type 1} → statement M
 plancheck-plan-from-listing-spec =

@@ -1,27 +1,30 @@
 -- `plan_check_c::plancheck_split` meets its contract. Assumes nothing.
 use Prim.Native.Nat.{ℕ}
-use mathlib.Core.Path.{_≡_, refl, sym, ap, _∙_}
+use mathlib.Core.List.{List}
+use mathlib.Core.Path.{_≡_, sym, ap, _∙_}
 use Rattle.split_model.specs.declared.SplitAnswer.{SplitAnswer}
-use Rattle.split_model.specs.declared.SplitAnswer.the-variants as split-answer
-use Rattle.split_model.specs.Call.{splitNetwork}
-use Rattle.split_model.specs.Splits.{Texts, Buffers, networkOf, planFor, roomOf, SplitInTwo}
-use Rattle.plan_check_c.specs.declared.SplitResult.{SplitResult}
+use Rattle.split_model.specs.Splits.{Texts, Buffers, SplitInTwo}
+use Rattle.split.specs.Splitting.{SplitGot}
 use Rattle.plan_check_c.specs.Results.{splitResult, splitAnswerOf}
-use native.Mathlib.Omega.{arith}
-use borrow.Author.Tests.{ne-eqb}
+use Rattle.plan_check_c.proofs.Numbers.{split-tells}
+use Rattle.plan_check_c.proofs.Read.{of-split}
+use Rattle.plan_check_c.specs.declared.SplitResult.{SplitResult}
+use Rattle.search.specs.declared.Refusal.{Refusal}
+use Rattle.search.specs.Numbers.{CanArise}
+use Rattle.split_model.specs.declared.SplitAnswer.the-variants as split-answer
+use Rattle.split_model.specs.Call.{splitNumbers}
 use borrow.Author.Needs.{needs}
 use Rattle.plan_check_c.proofs.plancheck_split.Statement.{statement}
 use Rattle.plan_check_c.proofs.plancheck_split.Tie as tie
 
-module _ {whole : Texts} {set : ℕ} {before after : Buffers} where
-  -- what holds of an answer holds of the answer that its result is read as, since no refusal has the number 0
-  read-off : (a : SplitAnswer) → SplitInTwo whole set before after a → SplitInTwo whole set before after (splitAnswerOf (splitResult a))
-  read-off (split-answer.Written end) g = g
-  read-off (split-answer.Refused r) g = rw (ne-eqb (r .number) 0 (λ e. omega (arith, g .refused-number r refl .not-0))) g
+-- what is promised of an answer is promised of the answer that its result is read as
+module _ (a : SplitAnswer) (r : SplitResult) (is : r ≡ splitResult a) {set : ℕ} {before after : Buffers} where
+  promised : {whole : Texts} → SplitInTwo whole set before after a → SplitInTwo whole set before after (splitAnswerOf r)
+  promised {whole} g = of-split (λ (x : SplitAnswer). SplitInTwo whole set before after x) a r is (g .refused-number) g
 
-  told : {a : SplitAnswer} {r : SplitResult} → SplitInTwo whole set before after a → r ≡ splitResult a
-      → (r ≡ splitResult (splitNetwork (networkOf whole) (planFor whole) set (roomOf before))) × SplitInTwo whole set before after (splitAnswerOf r)
-  told g e = (e ∙ ap splitResult (g .told), rw e (read-off _ g))
+  got : {network plan : List ℕ} → ((q : Refusal) → a ≡ split-answer.Refused q → CanArise splitNumbers (q .number)) → SplitGot network plan set before after a
+      → SplitGot network plan set before after (splitAnswerOf r)
+  got {network} {plan} h g = of-split (λ (x : SplitAnswer). SplitGot network plan set before after x) a r is h g
 
 split-requires : tie.Need-split-requires
 split-requires c κs = search needs
@@ -45,7 +48,20 @@ same-length-4 : tie.Need-same-length-4
 same-length-4 c = search needs
 
 returns : tie.Need-returns
-returns c = told (c .before .before .before .before .before .before .before .before .before .before .before .split .ensures .0) (sym (ap splitResult (c .before .lengths .given .1)))
+returns c =
+    let e = c .before .before .before .before .before .before .before .before .before .before .before .split .ensures in
+    let is = sym (ap splitResult (c .before .lengths .given .1)) in
+    let told = is ∙ ap splitResult (e .0 .told) in
+    let numbers = e .0 .refused-number in (
+      told,
+      (
+        promised _ _ is (e .0),
+        (
+          split-tells _ _ _ _ told,
+          λ paddedNetwork n paddedPlan p. got _ _ is numbers (e .1 paddedNetwork n paddedPlan p),
+        ),
+      ),
+    )
 
 same-length-5 : tie.Need-same-length-5
 same-length-5 c = search needs
@@ -60,7 +76,20 @@ same-length-8 : tie.Need-same-length-8
 same-length-8 c = search needs
 
 returns-2 : tie.Need-returns-2
-returns-2 c = told (c .before .before .before .before .before .before .before .before .before .before .before .split .ensures .0) (sym (ap splitResult (c .before .r .given .1)))
+returns-2 c =
+    let e = c .before .before .before .before .before .before .before .before .before .before .before .split .ensures in
+    let is = sym (ap splitResult (c .before .r .given .1)) in
+    let told = is ∙ ap splitResult (e .0 .told) in
+    let numbers = e .0 .refused-number in (
+      told,
+      (
+        promised _ _ is (e .0),
+        (
+          split-tells _ _ _ _ told,
+          λ paddedNetwork n paddedPlan p. got _ _ is numbers (e .1 paddedNetwork n paddedPlan p),
+        ),
+      ),
+    )
 
 pub plancheck-split-spec : {M : Type 1} → statement M
 plancheck-split-spec =

@@ -51,7 +51,7 @@ same-length-3 c = search needs
 
 returns-3 : tie.Need-returns-3
 unfolding output
-returns-3 c = rw (c .before .before .before .before .before .before .before .before .before .before .network-read .given .1, c .before .before .before .before .before .before .before .plan-read .given .1) (c .before .before .write-report .ensures)
+returns-3 c = rw (c .before .before .before .before .before .before .before .before .before .before .network-read .given .1, c .before .before .before .before .before .before .before .plan-read .given .1) (c .before .before .write-report .ensures .0)
 
 pub write-output-spec : {M : Type 1} → statement M
 write-output-spec =

@@ -3,7 +3,7 @@ use Prim.Native.Nat.{ℕ}
 use borrow.Author.Needs.{needs}
 use lib.ListN.{replicate, length-replicate}
 use Rattle.plancheck_report.specs.Boundaries.{ledgerSize}
-use Rattle.plancheck_report.proofs.Report.{answer-asked, report-wrote}
+use Rattle.plancheck_report.proofs.Report.{answer-asked, report-wrote, same-report}
 use Rattle.plancheck_report.proofs.write_report.Statement.{statement}
 use Rattle.plancheck_report.proofs.write_report.Tie as tie
 
@@ -30,7 +30,8 @@ returns c =
     let w = c .before .before in
     let p = w .before .before .before .before in
     let s = p .before .before .before .before .before in
-    report-wrote (s .args .network .now) (s .args .plan .now) (replicate ledgerSize 0) (length-replicate {A = ℕ} ledgerSize 0) (p .check-plan .ensures .0) (p .check-plan .ensures .1 .0) (w .write-answer .ensures)
+    let wrote = report-wrote (s .args .network .now) (s .args .plan .now) (replicate ledgerSize 0) (length-replicate {A = ℕ} ledgerSize 0) (p .check-plan .ensures .0) (p .check-plan .ensures .1 .0) (w .write-answer .ensures) in
+    (wrote, λ paddedNetwork n paddedPlan q. rw (← same-report _ _ paddedNetwork paddedPlan n q) wrote)
 
 pub write-report-spec : {M : Type 1} → statement M
 write-report-spec =

@@ -1,5 +1,5 @@
 -- `sheet_check::check_sheet` meets its contract. Assumes nothing.
-use Rattle.sheet_check.proofs.Call.{network-refused}
+use Rattle.sheet_check.proofs.Call.{network-refused, padding-too}
 use borrow.Author.Needs.{needs}
 use Rattle.sheet_check.proofs.check_sheet.Statement.{statement}
 use Rattle.sheet_check.proofs.check_sheet.Tie as tie
@@ -35,13 +35,13 @@ check-on-network-requires : tie.Need-check-on-network-requires
 check-on-network-requires c κs = c .before .before .before .before .before .before .before .before .before .before .load-network .ensures .held _ (c .before .before .before .before .before .reading .given .1)
 
 returns : tie.Need-returns
-returns c = search (network-refused, needs)
+returns c = padding-too _ _ _ (search (network-refused, needs))
 
 same-length : tie.Need-same-length
 same-length c = search needs
 
 returns-2 : tie.Need-returns-2
-returns-2 c = search needs
+returns-2 c = padding-too _ _ _ (search needs)
 
 pub check-sheet-spec : {M : Type 1} → statement M
 check-sheet-spec =

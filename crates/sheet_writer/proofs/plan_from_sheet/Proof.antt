@@ -1,5 +1,5 @@
 -- `sheet_writer::plan_from_sheet` meets its contract. Assumes nothing.
-use Rattle.sheet_writer.proofs.Call.{times-asked, call-asked, call-refused, call-written}
+use Rattle.sheet_writer.proofs.Call.{times-asked, call-asked, call-refused, call-written, padding-too}
 use borrow.Author.Needs.{needs}
 use Rattle.sheet_writer.proofs.plan_from_sheet.Statement.{statement}
 use Rattle.sheet_writer.proofs.plan_from_sheet.Tie as tie
@@ -38,10 +38,10 @@ same-length : tie.Need-same-length
 same-length c = search needs
 
 returns : tie.Need-returns
-returns c = search (call-written, needs)
+returns c = padding-too _ _ (search (call-written, needs))
 
 returns-2 : tie.Need-returns-2
-returns-2 c = search (call-refused, needs)
+returns-2 c = padding-too _ _ (search (call-refused, needs))
 
 pub plan-from-sheet-spec : {M : Type 1} → statement M
 plan-from-sheet-spec =

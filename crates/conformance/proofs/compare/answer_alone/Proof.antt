@@ -43,7 +43,7 @@ same-length-2 : tie.Need-same-length-2
 same-length-2 c = search needs
 
 returns-3 : tie.Need-returns-3
-returns-3 c = answered-listing _ _ _ _ _ _ _ _ (c .before .before .before .before .before .if3 .taken) (c .before .before .before .plan-from-listing .ensures) (c .of-listing .ensures)
+returns-3 c = answered-listing _ _ _ _ _ _ _ _ (c .before .before .before .before .before .if3 .taken) (c .before .before .before .plan-from-listing .ensures .0) (c .of-listing .ensures)
 
 check-sheet-requires : tie.Need-check-sheet-requires
 check-sheet-requires c κs = search needs
@@ -55,7 +55,7 @@ same-length-3 : tie.Need-same-length-3
 same-length-3 c = search needs
 
 returns-4 : tie.Need-returns-4
-returns-4 c = answered-sheet _ _ _ _ _ _ _ _ (c .before .before .before .before .before .if4 .taken) (c .before .before .before .check-sheet .ensures) (c .of-plan2 .ensures)
+returns-4 c = answered-sheet _ _ _ _ _ _ _ _ (c .before .before .before .before .before .if4 .taken) (c .before .before .before .check-sheet .ensures .0) (c .of-plan2 .ensures)
 
 plan-from-sheet-requires : tie.Need-plan-from-sheet-requires
 plan-from-sheet-requires c κs = search needs
@@ -67,7 +67,7 @@ same-length-4 : tie.Need-same-length-4
 same-length-4 c = search needs
 
 returns-5 : tie.Need-returns-5
-returns-5 c = answered-written _ _ _ _ _ _ _ _ (c .before .before .before .before .before .if5 .taken) (c .before .before .before .plan-from-sheet .ensures) (c .of-sheet .ensures)
+returns-5 c = answered-written _ _ _ _ _ _ _ _ (c .before .before .before .before .before .if5 .taken) (c .before .before .before .plan-from-sheet .ensures .0) (c .of-sheet .ensures)
 
 carry-on-requires : tie.Need-carry-on-requires
 carry-on-requires c κs = search needs
@@ -82,7 +82,7 @@ same-length-6 : tie.Need-same-length-6
 same-length-6 c = search needs
 
 returns-6 : tie.Need-returns-6
-returns-6 c = answered-carry _ _ _ _ _ _ _ _ _ (c .before .before .before .before .before .before .before .before .if6 .taken) (c .before .before .before .before .before .carry-on .ensures) (c .of-carry .ensures)
+returns-6 c = answered-carry _ _ _ _ _ _ _ _ _ (c .before .before .before .before .before .before .before .before .if6 .taken) (c .before .before .before .before .before .carry-on .ensures .0) (c .of-carry .ensures)
 
 link-state-requires : tie.Need-link-state-requires
 link-state-requires c κs = search needs
