@@ -264,13 +264,16 @@ pub fn greatest_time(signals: &[u32], r: usize, place: usize) -> u32
     signals[SIGNAL_FIELDS * r + (7 + 2 * place)]
 }
 
+// Where a signal's row starts stands its least cycle.
+const LEAST_CYCLE: usize = 0;
+
 // A signal by value, by the 22 numbers from a place on.
 fn signal_from(signals: &[u32], start: usize) -> Signal
     requires { ⌜ (start + 22 ≤ length (now signals)) × (length (now signals) ≡ signalTableSize) ⌝ }
     ensures { λ x. ⌜ x ≡ signalBy (λ k. getD (now (signals .entry)) (start + k) 0) ⌝ }
 {
     Signal {
-        least_cycle: signals[start + 0],
+        least_cycle: signals[start + LEAST_CYCLE],
         greatest_cycle: signals[start + 1],
         phases: signals[start + 2],
         shown: signals[start + 3],
