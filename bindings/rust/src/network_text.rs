@@ -179,6 +179,7 @@ impl NetworkText {
             movements: self.movements.len(),
             steps: self.steps.len(),
             trams: self.trams.len(),
+            past: self.past.len(),
         }
     }
 
