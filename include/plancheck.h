@@ -167,13 +167,14 @@ extern "C" {
 /*
  * The library takes texts of any length. No valid network text and no accepted plan text is longer than this, in bytes,
  * however it is padded: a longer one may be turned down unread. Both are proved (crates/text_lengths), and reached where
- * every number is padded to 10 digits: by a network of 118 past steps, 2 steps and 16 tram lines, and by a plan of 120 steps.
+ * every number is padded to 10 digits: by a network of 118 past steps, 2 steps and 16 tram lines, and by a plan of 120
+ * steps.
  */
 #define PLANCHECK_NETWORK_TEXT_MAX 71988
 #define PLANCHECK_PLAN_TEXT_MAX 158640
 
-/* No plan text that plancheck_plan_from_listing or plancheck_plan_from_sheet writes is longer than this, in bytes. This is
-   proved too, and reached by a listing; a plan for a sheet, every volume of which is 0, has at most 30960. */
+/* No plan text that plancheck_plan_from_listing or plancheck_plan_from_sheet writes is longer than this, in bytes. This
+   is proved too, and reached by a listing; a plan for a sheet, every volume of which is 0, has at most 30960. */
 #define PLANCHECK_WRITTEN_PLAN_MAX 151920
 
 /* The longest files, in bytes, that the program plancheck reads. */

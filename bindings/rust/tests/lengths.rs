@@ -1,4 +1,5 @@
-//! The greatest lengths of texts are reached: by a text that passes, every number of it padded, and by one that is written.
+//! The greatest lengths of texts are reached, by a text that passes, every number of it padded, and by one that is
+//! written.
 
 use plancheck::{
     check_network, check_plan, plan_from_listing, plan_from_sheet, MAX_LEDGER_LEN, MAX_LINKS, MAX_MOVEMENTS,
@@ -35,8 +36,8 @@ fn network(trams: &str, past_steps: usize, steps: usize) -> String {
     text + &format!("S\t1{}\n", "\t0".repeat(MAX_LINKS)).repeat(steps)
 }
 
-/// Two steps, in each of which a tram claims every signal: with one step there is no room for as many tram lines, and a step
-/// is shorter than a past step.
+/// Two steps, in each of which a tram claims every signal: with one there is no room for as many tram lines, and the
+/// line of a step is shorter than that of a past step.
 #[test]
 fn a_network_text() {
     let trams: String = (1..=MAX_TRAMS)
