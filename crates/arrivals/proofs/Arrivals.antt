@@ -61,7 +61,7 @@ module _ (times : List ℕ) where
   rising-le n k zero r h l = let e : k ≡ 0 = omega arith in rw e (omega arith)
   rising-le n k (suc m) r h l = go (eq-or-lt-of-le h) (rising-le n k m r) (rw add-one at (r .rises m (omega arith)))
     where
-      go : (k ≡ suc m) ⊎ (k < suc m) → (k ≤ m → m ≤ n → getD times k 0 ≤ getD times m 0) → getD times m 0 ≤ getD times (suc m) 0 → getD times k 0 ≤ getD times (suc m) 0
+      go : (k ≡ suc m) ⊎ (k < suc m) → (k ≤ m → m ≤ n → getD times k 0 ≤ getD times m 0) → getD times m 0 < getD times (suc m) 0 → getD times k 0 ≤ getD times (suc m) 0
       go (inl e) ih q = rw e (omega arith)
       go (inr u) ih q = omega (arith, ih (omega arith) (omega arith))
 
@@ -74,14 +74,43 @@ pub arrival-le : (times : List ℕ) (boundary travel : ℕ) → arrivalStepIn ti
 arrival-le times zero travel = unfold arrivalStepIn stepAtIn in omega arith
 arrival-le times (suc n) travel = omega (arith, arrival-lt times (suc n) travel (omega arith))
 
-pub cursor-le : {times : List ℕ} {m boundary travel : ℕ} → Cursor times m boundary travel → m ≤ boundary
-cursor-le {times} {m} {boundary} {travel} c = omega (arith, c .behind, arrival-le times boundary travel)
+-- the step after it starts later than the travel time ends
+pub arrival-later : (times : List ℕ) (n travel end : ℕ) → Rising times end → n ≤ end → 1 ≤ end → 1 ≤ travel
+    → getD times n 0 - travel < getD times (arrivalStepIn times n travel + 1) 0
+unfolding arrivalStepIn stepAtIn
+arrival-later times zero travel end r h some long = omega (arith, r .rises 0 some)
+arrival-later times (suc n) travel end r h some long = go (eq-or-lt-of-le (step-lt times n x))
+  where
+    x : ℕ
+    x = getD times (suc n) 0 - travel
+
+    a : ℕ
+    a = stepAtIn times (suc n) x
+
+    go : (a ≡ n) ⊎ (a < n) → x < getD times (a + 1) 0
+    go (inl e) = rw (e, add-one n) (omega (arith, rw (add-one n) at (r .rises n (omega arith))))
+    go (inr l) = elim (decLe (getD times (a + 1) 0) x) [
+      | yes q ↦ absurd (omega (arith, step-above times (suc n) x (a + 1) (omega arith) (λ p. q)))
+      | no q ↦ omega arith
+    ]
+
+pub cursor-at : {times : List ℕ} {from n travel end : ℕ} → Rising times end → n ≤ end → 1 ≤ end → 1 ≤ travel → from ≤ arrivalStepIn times n travel → Cursor times from n travel
+cursor-at {times} {from} {n} {travel} {end} r h some long behind =
+    record {
+      rising = record { room = omega (arith, r .room); rises = λ k l. r .rises k (omega arith); small = λ k l. r .small k (omega arith) };
+      behind = behind;
+      room = elim (decLe 1 n) [
+        | yes u ↦ omega (arith, arrival-lt times n travel u, r .room)
+        | no u ↦ omega (arith, arrival-le times n travel, r .room)
+      ];
+      later = arrival-later times n travel end r h some long;
+    }
 
 module _ (times : List ℕ) (boundary travel : ℕ) {latest : ℕ} (e : latest ≡ getD times boundary 0 - travel) (m : ℕ) (c : Cursor times m boundary travel) where
   -- the step after m starts too late
-  pub arrival-here : m + 1 < boundary → latest < getD times (m + 1) 0 → m ≡ arrivalStepIn times boundary travel
+  pub arrival-here : latest < getD times (m + 1) 0 → m ≡ arrivalStepIn times boundary travel
   unfolding arrivalStepIn
-  arrival-here l q =
+  arrival-here q =
       let a = stepAtIn times boundary (getD times boundary 0 - travel) in
       elim (decLe a m) [
         | yes u ↦ omega (arith, c .behind)
@@ -90,15 +119,26 @@ module _ (times : List ℕ) (boundary travel : ℕ) {latest : ℕ} (e : latest �
       ]
 
   -- it does not
-  pub arrival-on : m + 1 < boundary → getD times (m + 1) 0 ≤ latest → Cursor times (m + 1) boundary travel
-  unfolding arrivalStepIn
-  arrival-on l q = record { rising = c .rising; behind = step-above times boundary (getD times boundary 0 - travel) (m + 1) l (λ p. omega arith) }
+  pub arrival-on : getD times (m + 1) 0 ≤ latest → Cursor times (m + 1) boundary travel
+  arrival-on q = record {
+    rising = c .rising;
+    behind = elim (decLe (m + 1) (arrivalStepIn times boundary travel)) [
+      | yes u ↦ u
+      | no u ↦
+          let z : m ≡ arrivalStepIn times boundary travel = omega (arith, c .behind) in
+          absurd (omega (arith, rw (← z) at (c .later)))
+    ];
+    room = c .room;
+    later = c .later;
+  }
 
-  pub arrival-end : boundary ≤ m + 1 → m ≡ arrivalStepIn times boundary travel
-  arrival-end h = elim (decLe 1 boundary) [
-    | yes u ↦ omega (arith, c .behind, arrival-lt times boundary travel u)
-    | no u ↦ omega (arith, c .behind, arrival-le times boundary travel)
-  ]
+-- a step that is not past it starts before the travel time ends
+pub arrival-reached : (times : List ℕ) (n travel m : ℕ) → Rising times n → m < arrivalStepIn times n travel → getD times (m + 1) 0 + travel ≤ getD times n 0
+unfolding arrivalStepIn
+arrival-reached times n travel m r h =
+    let x = getD times n 0 - travel in
+    let a = stepAtIn times n x in
+    omega (arith, step-time times n x (omega arith), rising-le times n (m + 1) a r (omega arith) (arrival-le times n travel), r .rises m (omega (arith, arrival-le times n travel)))
 
 -- from one boundary to the next it only moves on
 pub arrival-rises : (times : List ℕ) (n travel : ℕ) → Rising times (n + 1) → arrivalStepIn times n travel ≤ arrivalStepIn times (n + 1) travel

@@ -6,14 +6,14 @@ use native.Mathlib.Numerals.{add-one}
 use native.Mathlib.Omega.{arith}
 use Rattle.search.specs.Checks.{Hold}
 use Rattle.records.specs.Lines.{Line}
-use Rattle.model.specs.Network.{stepCount, pastCount, onTimeline, travelTime, timelineLength, timelineTime, stepAt, arrivalStep, elapsed}
+use Rattle.model.specs.Network.{linkCount, stepCount, pastCount, onTimeline, travelTime, timelineLength, timelineTime, stepAt, arrivalStep, elapsed}
 use Rattle.model.specs.Table.{networkChecks}
 use Rattle.model.proofs.Times.{timeline-suc, on-timeline-suc, on-timeline-mono, arrival-step-le}
-use Rattle.model.proofs.Limits.{counts, timeline-small}
+use Rattle.model.proofs.Limits.{counts, link-limits, timeline-small, timeline-lasts}
 use Rattle.model.proofs.Accepted.{valid-network}
 use Rattle.tables.specs.Tables.{TimeTable}
 use Rattle.arrivals.specs.Arrivals.{stepAtIn, arrivalStepIn, secondsIn, elapsedIn, Rising, Cursor}
-use Rattle.arrivals.proofs.Arrivals.{arrival-rises}
+use Rattle.arrivals.proofs.Arrivals.{arrival-rises, cursor-at}
 
 module _ {network : List Line} {times : List ℕ} (t : TimeTable network times) where
   step-is : (m x : ℕ) → m ≤ onTimeline network (stepCount network) → stepAtIn times m x ≡ stepAt network m x
@@ -43,7 +43,7 @@ module _ {network : List Line} {times : List ℕ} (holds : Hold (networkChecks n
   times-rise m h =
       record {
         room = omega (arith, t .size, together, counts network (valid-network network holds) .together);
-        rises = λ k l. omega (arith, t .holds k (omega arith), t .holds (k + 1) (omega arith), timeline-suc network k, ap (timelineTime network) (add-one k));
+        rises = λ k l. omega (arith, t .holds k (omega arith), t .holds (k + 1) (omega arith), timeline-suc network k, ap (timelineTime network) (add-one k), timeline-lasts network (valid-network network holds) k (omega arith));
         small = λ k l. omega (arith, t .holds k (omega arith), timeline-small network (valid-network network holds) k (omega arith));
       }
     where
@@ -56,11 +56,17 @@ module _ {network : List Line} {times : List ℕ} (holds : Hold (networkChecks n
       rw (← arrival-is t n i (omega arith), ← arrival-is t (suc n) i h, on-timeline-suc, ← add-one)
       (arrival-rises times (onTimeline network n) (travelTime network i) (times-rise (onTimeline network n + 1) (omega (arith, on-timeline-suc network n, on-timeline-mono network (suc n) (stepCount network) h))))
 
-  -- a cursor that stood at link i's arrival step of boundary n is ready for the next
-  pub cursor-ready : (n i : ℕ) → n < stepCount network → {from travel : ℕ} → from ≡ arrivalStep network n i → travel ≡ travelTime network i
+  -- a cursor of link i that is not past its arrival step at boundary n
+  pub cursor-on : (n i : ℕ) → n ≤ stepCount network → i < linkCount network → {from travel : ℕ} → from ≤ arrivalStep network n i → travel ≡ travelTime network i
+      → Cursor times from (onTimeline network n) travel
+  unfolding onTimeline
+  cursor-on n i h own behind q =
+      cursor-at (times-rise (onTimeline network (stepCount network)) (omega arith)) (on-timeline-mono network n (stepCount network) h)
+      (omega (arith, counts network (valid-network network holds) .some-step))
+      (omega (arith, link-limits network (valid-network network holds) i own .some-travel))
+      (rw (q, arrival-is t n i h) behind)
+
+  -- one that stood at its arrival step of boundary n is ready for the next
+  pub cursor-ready : (n i : ℕ) → n < stepCount network → i < linkCount network → {from travel : ℕ} → from ≡ arrivalStep network n i → travel ≡ travelTime network i
       → Cursor times from (onTimeline network (suc n)) travel
-  cursor-ready n i h e q =
-      record {
-        rising = times-rise (onTimeline network (suc n)) (on-timeline-mono network (suc n) (stepCount network) h);
-        behind = rw (q, arrival-is t (suc n) i h) (omega (arith, arrival-moves-on n i h));
-      }
+  cursor-ready n i h own e = cursor-on (suc n) i h own (omega (arith, arrival-moves-on n i h))

@@ -95,6 +95,6 @@ module _ {network : List Line} where
     timed-rise h =
         record {
           room = omega (arith, inv .room);
-          rises = λ k l. omega (arith, inv .times-set refl k (omega arith), inv .times-set refl (k + 1) (omega arith), timeline-suc network k, ap (timelineTime network) (add-one k));
+          rises = λ k l. omega (arith, inv .times-set refl k (omega arith), inv .times-set refl (k + 1) (omega arith), inv .lasts refl k l, timeline-suc network k, ap (timelineTime network) (add-one k));
           small = λ k l. omega (arith, inv .times-set refl k l, inv .short refl k l);
         }

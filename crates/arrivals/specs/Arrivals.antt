@@ -33,13 +33,15 @@ scaledIn start end seconds elapsed = start * seconds + (end - start) * elapsed
 -- the times of the boundaries 0 to n rise, and none is past 120 steps of 60 seconds
 pub record Rising (times : List ℕ) (n : ℕ) : Type 0 where
   pub room : n < length times
-  pub rises : (k : ℕ) → k < n → getD times k 0 ≤ getD times (k + 1) 0
+  pub rises : (k : ℕ) → k < n → getD times k 0 < getD times (k + 1) 0
   pub small : (k : ℕ) → k ≤ n → getD times k 0 ≤ 7200
 
--- A cursor of one link stands at a step that is not past the one to be found.
+-- A cursor of one link stands at a step that is not past the one to be found, and the step after that starts later than the travel time ends.
 pub record Cursor (times : List ℕ) (from boundary travel : ℕ) : Type 0 where
   pub rising : Rising times boundary
   pub behind : from ≤ arrivalStepIn times boundary travel
+  pub room : arrivalStepIn times boundary travel + 1 < length times
+  pub later : getD times boundary 0 - travel < getD times (arrivalStepIn times boundary travel + 1) 0
 
 -- the cursors of so many links can be moved on to a boundary
 pub record ArrivalsAsked (times links : List ℕ) (count boundary : ℕ) (arrivals : List ℕ) : Type 0 where

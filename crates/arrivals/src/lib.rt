@@ -26,17 +26,14 @@ pub fn next_time(times: &mut [u32], m: usize, seconds: u32, timed: bool) -> bool
 }
 
 // The step in which `boundary`'s time minus the travel time lies: the cursor of one link, which starts at a step that was found before and only moves on, so
-// that the work over all steps is linear.
+// that the work over all steps is linear. The step after it starts too late, so that no other test ends the search.
 pub fn arrival_step(times: &[u32], from: usize, boundary: usize, travel: u32) -> usize
     requires { ⌜ Cursor (now times) from boundary travel ⌝ }
     ensures { λ r. ⌜ r ≡ arrivalStepIn (now (times .entry)) boundary travel ⌝ }
 {
     let latest = minus(times[boundary], travel);
     let mut m = from;
-    while m + 1 < boundary {
-        if latest < times[m + 1] {
-            return m;
-        }
+    while times[m + 1] <= latest {
         m += 1;
     }
     m

@@ -26,7 +26,7 @@ use Rattle.tables.specs.declared.Reading.{Reading}
 use Rattle.tables.specs.Fields.{travelTimeIn, standingIn, enteredAt, RowHeld}
 use Rattle.tables.proofs.Tables.{travel-time-at, standing-at}
 use Rattle.arrivals.specs.Arrivals.{arrivalStepIn, secondsIn, elapsedIn, scaledIn, Cursor}
-use Rattle.arrivals.proofs.Boundaries.{times-rise, arrival-is, elapsed-at, seconds-is}
+use Rattle.arrivals.proofs.Boundaries.{times-rise, cursor-on, arrival-is, elapsed-at, seconds-is}
 use Rattle.past_curves.specs.declared.Curve.{Curve}
 use Rattle.past_curves.specs.Curves.{CurveTo, ReadAsked}
 use Rattle.past_curves.proofs.Valid.{past-form, past-fits}
@@ -105,8 +105,8 @@ module _ {text : List ℕ} {reading : Reading} {links times ledger : List ℕ} {
   pub since-fits : getD times (reading .counts .past) 0 ≤ getD times (reading .counts .past + n) 0
   since-fits = omega (arith, since-past)
 
-  pub cursor-first : (travel : ℕ) → Cursor times 0 (reading .counts .past + n) travel
-  cursor-first travel = record { rising = rw on-time (times-rise (t .holds) (t .time-table) (onTimeline net n) on-last); behind = omega arith }
+  pub cursor-first : (travel : ℕ) → travel ≡ travelTimeIn links i → Cursor times 0 (reading .counts .past + n) travel
+  cursor-first travel e = rw on-time (cursor-on (t .holds) (t .time-table) n i (asked .early) (asked .link) (omega arith) (e ∙ travel-is))
 
   module _ {travel : ℕ} (u : travel ≡ travelTimeIn links i) {step : ℕ} (e : step ≡ arrivalStepIn times (reading .counts .past + n) travel) where
     is-step : step ≡ a

@@ -26,8 +26,10 @@ use Rattle.tables.specs.declared.Stage.the-variants.{Passed, Refused}
 use Rattle.tables.specs.Fields.{rowSize}
 use Rattle.tables.specs.Tables.{Judged, TimeTable}
 use Rattle.tables.proofs.Stages.{judged-refused, judged-passed}
+use Rattle.tables.proofs.Tables.{travel-time-at}
 use Rattle.arrivals.specs.Arrivals.{Rising}
 use Rattle.arrivals.specs.Timed.{validLengths, TimedTo}
+use Rattle.arrivals.proofs.Arrivals.{cursor-at}
 use Rattle.arrivals.proofs.Timed.{timed-table, timed-rise}
 use Rattle.past_curves.specs.Curves.{pastEntered, pastLeft, PastAsked, PastOverflows, PastLoaded}
 use Rattle.network_past.specs.Past.{validPastIn, validLinksIn, LinksAsked, pastEndChecks, EndAsked}
@@ -116,7 +118,8 @@ module _ {text : List ℕ} {reading : Reading} {links times demands : List ℕ} 
           forms = asked .forms;
           link-table = asked .link-table;
           time-table = time-table;
-          rising = rising-to (reading .counts .past) (omega (arith, asked .counted .past));
+          cursors = λ i l. let l′ : i < linkCount net = omega (arith, asked .counted .links) in
+              cursor-at rising (omega (arith, asked .counted .past)) (omega (arith, some)) (omega (arith, travel-time-at (asked .link-table) i l′, asked .limits i l′ .1 .1)) (omega arith);
           row-room = omega (arith, asked .counted .few .links);
           arrival-size = rw zeros (length-replicate {A = ℕ} maxLinks 0);
           none = λ i l. rw zeros (getD-replicate {A = ℕ} maxLinks i 0 0 l);

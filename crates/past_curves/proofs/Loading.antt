@@ -60,7 +60,7 @@ module _ {text : List ℕ} {at : ℕ} {counts : Counts} {links times before arri
         few = asked .counted .few .links;
         link-size = asked .link-table .size;
         size = asked .arrival-size;
-        cursors = λ i l. record { rising = asked .rising; behind = rw (asked .none i (omega (arith, asked .counted .few .links))) (omega arith) };
+        cursors = λ i l. rw (asked .none i (omega (arith, asked .counted .few .links))) (asked .cursors i l);
       }
 
   module _ {row₀ : List ℕ} (started : Started links (counts .links) (counts .links) before row₀) {arrivals : List ℕ} (arrived : Arrived times links (counts .links) (counts .past) arrivals) where

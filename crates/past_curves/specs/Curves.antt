@@ -12,7 +12,7 @@ use Rattle.model.specs.Table.{isForm, letterH}
 use Rattle.tables.specs.declared.Counts.{Counts}
 use Rattle.tables.specs.Fields.{linkTableSize, rowSize, pastSize, travelTimeIn, standingIn, pastEntriesIn, enteredIn, leftIn}
 use Rattle.tables.specs.Tables.{CountsHold, LinkTable, TimeTable}
-use Rattle.arrivals.specs.Arrivals.{arrivalStepIn, Rising, Cursor, Arrived, ArrivalTable}
+use Rattle.arrivals.specs.Arrivals.{arrivalStepIn, Cursor, Arrived, ArrivalTable}
 use Rattle.past_curves.specs.declared.Curve.{Curve}
 
 -- entered and left of link i at boundary m of the timeline, at most the end of the past
@@ -105,7 +105,7 @@ pub record PastAsked (text : List ℕ) (at : ℕ) (counts : Counts) (links times
   pub forms : PastForms (lines text)
   pub link-table : LinkTable (lines text) links
   pub time-table : TimeTable (lines text) times
-  pub rising : Rising times (counts .past)
+  pub cursors : (i : ℕ) → i < counts .links → Cursor times 0 (counts .past) (travelTimeIn links i)
   pub row-room : 2 * counts .links ≤ length row
   pub arrival-size : length arrivals ≡ maxLinks
   pub none : (i : ℕ) → i < maxLinks → getD arrivals i 0 ≡ 0

@@ -29,14 +29,14 @@ use Rattle.model.specs.Calls.{planAnswer, written, ledgerAfter}
 use Rattle.model.specs.Guarantees.{RowDue}
 use Rattle.model.proofs.Accepted.{ValidNetwork, valid-network}
 use Rattle.model.proofs.Rows.{length-written}
-use Rattle.model.proofs.Times.{on-timeline-mono}
 use Rattle.model.proofs.Timeline.{past-entered, start-left}
 use Rattle.model.proofs.Written.{refused-fails, due-written, rows-until}
 use Rattle.tables.specs.declared.Counts.{Counts}
 use Rattle.tables.specs.declared.Reading.{Reading}
 use Rattle.tables.specs.Tables.{SignalTable}
+use Rattle.tables.proofs.Tables.{travel-time-at}
 use Rattle.tables.specs.Fields.{signalTableSize, rowSize}
-use Rattle.arrivals.proofs.Boundaries.{times-rise}
+use Rattle.arrivals.proofs.Boundaries.{cursor-on}
 use Rattle.network_signals.proofs.Passed.{load-zeros}
 use Rattle.past_curves.specs.Curves.{PastAsked, PastLoaded}
 use Rattle.waiting.specs.Waiting.{FirstAsked, FirstWaits, WaitingTable}
@@ -116,7 +116,8 @@ module _ {networkText planText : List ℕ} {reading : Reading} {steps : ℕ} {li
         forms = past-form netw (a .tables .holds);
         link-table = a .tables .link-table;
         time-table = a .tables .time-table;
-        rising = rw (a .tables .counted .past, ← at-start) (times-rise (a .tables .holds) (a .tables .time-table) (onTimeline netw 0) (on-timeline-mono netw 0 (stepCount netw) (omega arith)));
+        cursors = λ i l. let l′ : i < linkCount netw = omega (arith, a .tables .counted .links) in
+            rw (a .tables .counted .past, ← at-start) (cursor-on (a .tables .holds) (a .tables .time-table) 0 i (omega arith) l′ (omega arith) (travel-time-at (a .tables .link-table) i l′));
         row-room = omega (arith, start-room, a .tables .counted .links);
         arrival-size = rw zeros (length-replicate {A = ℕ} maxLinks 0);
         none = λ i l. rw zeros (getD-replicate {A = ℕ} maxLinks i 0 0 l);

@@ -225,7 +225,7 @@ module _ {networkText planText : List ℕ} {counts : Counts} {tramsAt : ℕ} {li
               };
               arrival-size = asked .state-at .arrivals-at .size;
               cursors = λ i l. let l′ : i < linkCount net = omega (arith, counted .links) in
-                  rw at-next (cursor-ready (asked .tables .holds) (asked .tables .time-table) n i (asked .more) (asked .state-at .arrivals-at .holds i l′) (travel-time-at (asked .tables .link-table) i l′));
+                  rw at-next (cursor-ready (asked .tables .holds) (asked .tables .time-table) n i (asked .more) l′ (asked .state-at .arrivals-at .holds i l′) (travel-time-at (asked .tables .link-table) i l′));
               curves-at = asked .state-at .curves-at;
             }
 

@@ -1,10 +1,10 @@
 -- `arrivals::arrival_step` meets its contract. The cursor is never past the step to be found. Assumes nothing.
 use Prim.Native.Nat.{_-_}
 use mathlib.Core.Path.{_≡_}
-use lib.ListN.{getD}
+use lib.ListN.{length, getD}
 use borrow.Author.Needs.{needs}
 use Rattle.arrivals.specs.Arrivals.{Cursor}
-use Rattle.arrivals.proofs.Arrivals.{cursor-le, arrival-here, arrival-on, arrival-end}
+use Rattle.arrivals.proofs.Arrivals.{arrival-here, arrival-on}
 use Rattle.arrivals.proofs.arrival_step.Statement.{statement}
 use Rattle.arrivals.proofs.arrival_step.Tie as tie
 
@@ -12,7 +12,7 @@ abbrev Inv-loop : tie.InvT-loop
 Inv-loop times from boundary travel latest m₀ m = (latest ≡ getD times boundary 0 - travel) × Cursor times m boundary travel
 
 abbrev μ-loop : tie.MeasureT-loop
-μ-loop times from boundary travel latest m₀ m = boundary - m
+μ-loop times from boundary travel latest m₀ m = length times - m
 
 mul-minus : tie.Need-mul-minus Inv-loop μ-loop
 mul-minus c = search needs
@@ -26,9 +26,6 @@ minus-requires c κs = search needs
 loop-holds : tie.Need-loop-holds Inv-loop μ-loop
 loop-holds c = search needs
 
-add-loop : tie.Need-add-loop Inv-loop μ-loop
-add-loop c = let h = cursor-le (c .loop .inv .1) in search needs
-
 add-if1 : tie.Need-add-if1 Inv-loop μ-loop
 add-if1 c = search needs
 
@@ -37,9 +34,6 @@ mul-if1 c = search needs
 
 shared-slice-read-if1 : tie.Need-shared-slice-read-if1 Inv-loop μ-loop
 shared-slice-read-if1 c = search needs
-
-returns : tie.Need-returns Inv-loop μ-loop
-returns c = search (arrival-here, needs)
 
 add-m : tie.Need-add-m Inv-loop μ-loop
 add-m c = search needs
@@ -50,8 +44,8 @@ loop-less c = search needs
 loop-again : tie.Need-loop-again Inv-loop μ-loop
 loop-again c = search (arrival-on, needs)
 
-returns-2 : tie.Need-returns-2 Inv-loop μ-loop
-returns-2 c = search (arrival-end, needs)
+returns : tie.Need-returns Inv-loop μ-loop
+returns c = search (arrival-here, needs)
 
 pub arrival-step-spec : {M : Type 1} → statement M
 arrival-step-spec =
@@ -63,12 +57,10 @@ arrival-step-spec =
     shared-slice-read-minus
     minus-requires
     loop-holds
-    add-loop
     add-if1
     mul-if1
     shared-slice-read-if1
-    returns
     add-m
     loop-less
     loop-again
-    returns-2)
+    returns)

@@ -12,7 +12,7 @@ add-at : tie.Need-add-at
 add-at c = search needs
 
 arrival-step-requires : tie.Need-arrival-step-requires
-arrival-step-requires c κs = cursor-first (c .before .before .before .before .before .before .before .pre) _
+arrival-step-requires c κs = cursor-first (c .before .before .before .before .before .before .before .pre) _ (c .before .before .travel-time .ensures)
 
 entered-over-requires : tie.Need-entered-over-requires
 entered-over-requires c κs = over-asked (c .before .before .before .before .before .before .before .before .pre) (c .before .before .before .travel-time .ensures) (c .arrival-step .ensures)
