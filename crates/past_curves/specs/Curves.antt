@@ -3,7 +3,7 @@ use Prim.Native.Nat.{ℕ, suc, _+_, _*_, _-_, _≤_, _<_}
 use mathlib.Core.Path.{_≡_}
 use mathlib.Core.Bool.{Bool, true, false}
 use mathlib.Core.List.{List, []}
-use lib.ListN.{length, getD, set}
+use lib.ListN.{length, getD}
 use Rattle.records.specs.Lines.{Line, lines}
 use Rattle.records.specs.Reading.{Starts}
 use Rattle.model.specs.Network.{maxLinks, linkCount, pastCount, timelineLine}
@@ -14,6 +14,7 @@ use Rattle.tables.specs.Fields.{linkTableSize, rowSize, pastSize, travelTimeIn,
 use Rattle.tables.specs.Tables.{CountsHold, LinkTable, TimeTable}
 use Rattle.arrivals.specs.Arrivals.{arrivalStepIn, Cursor, Arrived, ArrivalTable}
 use Rattle.past_curves.specs.declared.Curve.{Curve}
+use Rattle.past_curves.specs.declared.PastLine.{PastLine}
 
 -- entered and left of link i at boundary m of the timeline, at most the end of the past
 abbrev pub pastEntered : List Line → ℕ → ℕ → ℕ
@@ -139,20 +140,73 @@ pub record MoveTables (text : List ℕ) (counts : Counts) (links : List ℕ) : T
   pub forms : PastForms (lines text)
   pub fits : (i : ℕ) → i < linkCount (lines text) → (m : ℕ) → m ≤ pastCount (lines text) → pastEntered (lines text) m i < 4294967296
 
+-- the step and the curve of link i are the same in both tables
+abbrev pub SameLink : ℕ → List ℕ → List ℕ → List ℕ → List ℕ → List ℕ → List ℕ → Type 0
+SameLink i arrivals curves places arrivals′ curves′ places′ = (getD arrivals′ i 0 ≡ getD arrivals i 0) × (curveIn curves′ places′ i ≡ curveIn curves places i)
+
+-- an `H` line moves link i on, if the link is at the step before it and its travel time ends in the line's step or later; else the link stays
+pub record MovedBy (fields : List ℕ) (line : PastLine) (i travel from : ℕ) (before : Curve) (to : ℕ) (after : Curve) : Type 0 where
+  pub goes : from ≡ line .from → travel ≤ line .since
+      → (to ≡ line .from + 1) × (after ≡ record { start = before .stop; stop = before .stop + pastEntriesIn fields i; place = line .next })
+  pub stays : (from ≡ line .from → travel ≤ line .since → ⊥) → (to ≡ from) × (after ≡ before)
+
+pub record LinkAsked (fields links : List ℕ) (line : PastLine) (i : ℕ) (arrivals curves places : List ℕ) : Type 0 where
+  pub link : i < maxLinks
+  pub field-size : length fields ≡ pastSize
+  pub link-size : length links ≡ linkTableSize
+  pub arrival-size : length arrivals ≡ maxLinks
+  pub rooms : CurveRooms curves places
+  pub few : line .from < 120
+  pub fits : getD arrivals i 0 ≡ line .from → travelTimeIn links i ≤ line .since → getD curves (2 * i + 1) 0 + pastEntriesIn fields i < 4294967296
+
+pub record LinkMoved (fields links : List ℕ) (line : PastLine) (i : ℕ) (arrivals curves places arrivals′ curves′ places′ : List ℕ) : Type 0 where
+  pub arrival-size : length arrivals′ ≡ maxLinks
+  pub rooms : CurveRooms curves′ places′
+  pub own : MovedBy fields line i (travelTimeIn links i) (getD arrivals i 0) (curveIn curves places i) (getD arrivals′ i 0) (curveIn curves′ places′ i)
+  pub others : (j : ℕ) → (j ≡ i → ⊥) → SameLink j arrivals curves places arrivals′ curves′ places′
+
+pub record LinksAsked (fields : List ℕ) (counts : Counts) (links : List ℕ) (line : PastLine) (first : ℕ) (arrivals curves places : List ℕ) : Type 0 where
+  pub few-links : counts .links ≤ maxLinks
+  pub own : first < counts .links
+  pub field-size : length fields ≡ pastSize
+  pub link-size : length links ≡ linkTableSize
+  pub arrival-size : length arrivals ≡ maxLinks
+  pub rooms : CurveRooms curves places
+  pub few : line .from < 120
+  pub fits : (i : ℕ) → first ≤ i → i < counts .links → getD arrivals i 0 ≡ line .from → travelTimeIn links i ≤ line .since
+      → getD curves (2 * i + 1) 0 + pastEntriesIn fields i < 4294967296
+
+pub record LinksMoved (fields : List ℕ) (counts : Counts) (links : List ℕ) (line : PastLine) (first : ℕ) (arrivals curves places arrivals′ curves′ places′ : List ℕ) : Type 0 where
+  pub arrival-size : length arrivals′ ≡ maxLinks
+  pub rooms : CurveRooms curves′ places′
+  pub each-link : (i : ℕ) → first ≤ i → i < counts .links
+      → MovedBy fields line i (travelTimeIn links i) (getD arrivals i 0) (curveIn curves places i) (getD arrivals′ i 0) (curveIn curves′ places′ i)
+  pub before : (i : ℕ) → i < first → SameLink i arrivals curves places arrivals′ curves′ places′
+
+-- link i is at a step that is not past its arrival step at a boundary, with the curve of that step if it is a past one
+pub record Behind (text times : List ℕ) (at i travel from : ℕ) (curve : Curve) : Type 0 where
+  pub cursor : Cursor times from at travel
+  pub curved : from < pastCount (lines text) → CurveTo text i (from + 1) curve
+
+-- links i and those behind it are to be moved on
 pub record MoveAsked (text : List ℕ) (counts : Counts) (links times : List ℕ) (at i : ℕ) (arrivals curves places : List ℕ) : Type 0 where
   pub tables : MoveTables text counts links
   pub link : i < counts .links
   pub arrival-size : length arrivals ≡ maxLinks
-  pub cursor : Cursor times (getD arrivals i 0) at (travelTimeIn links i)
   pub rooms : CurveRooms curves places
-  pub curved : getD arrivals i 0 < pastCount (lines text) → CurveTo text i (getD arrivals i 0 + 1) (curveIn curves places i)
+  pub behind : (j : ℕ) → i ≤ j → j < counts .links → Behind text times at j (travelTimeIn links j) (getD arrivals j 0) (curveIn curves places j)
 
--- link i is moved on, and all others are as they were
+pub record PastMoveAsked (text : List ℕ) (counts : Counts) (links times : List ℕ) (at i : ℕ) (arrivals curves places : List ℕ) : Type 0 where
+  pub asked : MoveAsked text counts links times at i arrivals curves places
+  pub early : arrivalStepIn times at (travelTimeIn links i) < counts .past
+
+-- link i is moved on, those behind it are not past their steps, and those before it are as they were
 pub record Moved (text : List ℕ) (counts : Counts) (links times : List ℕ) (at i : ℕ) (arrivals curves places arrivals′ curves′ places′ : List ℕ) : Type 0 where
-  pub step-set : arrivals′ ≡ set arrivals i (arrivalStepIn times at (travelTimeIn links i))
+  pub arrival-size : length arrivals′ ≡ maxLinks
   pub rooms : CurveRooms curves′ places′
-  pub own : getD arrivals′ i 0 < pastCount (lines text) → CurveTo text i (getD arrivals′ i 0 + 1) (curveIn curves′ places′ i)
-  pub others : (j : ℕ) → (j ≡ i → ⊥) → curveIn curves′ places′ j ≡ curveIn curves places j
+  pub arrived : getD arrivals′ i 0 ≡ arrivalStepIn times at (travelTimeIn links i)
+  pub behind : (j : ℕ) → i ≤ j → j < counts .links → Behind text times at j (travelTimeIn links j) (getD arrivals′ j 0) (curveIn curves′ places′ j)
+  pub before : (j : ℕ) → j < i → SameLink j arrivals curves places arrivals′ curves′ places′
 
 pub record NextAsked (text : List ℕ) (counts : Counts) (links times : List ℕ) (at : ℕ) (arrivals curves places : List ℕ) : Type 0 where
   pub tables : MoveTables text counts links

@@ -1,6 +1,7 @@
 // What entered the links in the past, by the `H` lines, which have passed and are read again: row 0, and for each link what had entered it by the start and by
-// the end of the past step in which its travel time ends. No table of the past is kept: each link has the place of the `H` line that is next for it.
-ghost use Rattle.past_curves.specs.Curves.{ReadAsked, CurveTo, StartAsked, Started, KeepAsked, Kept, KeepAllAsked, KeptAll, PastAsked, PastLoaded, MoveAsked, Moved, NextAsked, NextGot};
+// the end of the past step in which its travel time ends. No table of the past is kept: each link has the place of the `H` line that is next for it, and a
+// line is read once for all links that it is next for.
+ghost use Rattle.past_curves.specs.Curves.{ReadAsked, CurveTo, StartAsked, Started, KeepAsked, Kept, KeepAllAsked, KeptAll, PastAsked, PastLoaded, LinkAsked, LinkMoved, LinksAsked, LinksMoved, MoveAsked, PastMoveAsked, Moved, NextAsked, NextGot};
 use records::LineRead;
 use tables::Counts;
 use tables::PAST_SIZE;
@@ -137,8 +138,92 @@ pub fn load_past(
     true
 }
 
-// Moves link `i` on to the timeline's boundary `at`: the step in which its travel time ends and, as long as that is a past one, its curve.
+// An `H` line that is read while links are moved on to a boundary: the step before its own, where the next line starts, and the seconds from the start of the
+// line's step to the boundary.
+pub struct PastLine {
+    pub from: usize,
+    pub next: usize,
+    pub since: u32,
+}
+
+// Moves link `i` on by an `H` line, if the link is at the step before and its travel time ends in the line's step or later.
 fn move_link(
+    fields: &[u32],
+    links: &[u32],
+    line: PastLine,
+    i: usize,
+    arrivals: &mut [usize],
+    curves: &mut [u32],
+    places: &mut [usize],
+)
+    requires { ⌜ LinkAsked (now fields) (now links) line i (now arrivals) (now curves) (now places) ⌝ }
+    ensures { λ _. ⌜ LinkMoved (now (fields .entry)) (now (links .entry)) line i (now (arrivals .entry)) (now (curves .entry)) (now (places .entry)) (now (arrivals .exit)) (now (curves .exit)) (now (places .exit)) ⌝ }
+{
+    if arrivals[i] != line.from {
+        return;
+    }
+    if line.since < tables::travel_time(links, i) {
+        return;
+    }
+    let entered = curves[2 * i + 1];
+    curves[2 * i] = entered;
+    curves[2 * i + 1] = entered + fields[1 + 2 * i];
+    places[i] = line.next;
+    arrivals[i] = line.from + 1;
+}
+
+// The same of each link from `first` on.
+fn move_links(
+    fields: &[u32],
+    counts: Counts,
+    links: &[u32],
+    line: PastLine,
+    first: usize,
+    arrivals: &mut [usize],
+    curves: &mut [u32],
+    places: &mut [usize],
+)
+    requires { ⌜ LinksAsked (now fields) counts (now links) line first (now arrivals) (now curves) (now places) ⌝ }
+    ensures { λ _. ⌜ LinksMoved (now (fields .entry)) counts (now (links .entry)) line first (now (arrivals .entry)) (now (curves .entry)) (now (places .entry)) (now (arrivals .exit)) (now (curves .exit)) (now (places .exit)) ⌝ }
+{
+    let mut i = first;
+    while i < counts.links {
+        move_link(fields, links, line, i, arrivals, curves, places);
+        i += 1;
+    }
+}
+
+// Moves link `i`, whose travel time ends in the past, on to the timeline's boundary `at`. An `H` line that is read for it moves the links behind it on too.
+fn move_past(
+    text: &[u8],
+    counts: Counts,
+    links: &[u32],
+    times: &[u32],
+    at: usize,
+    i: usize,
+    arrivals: &mut [usize],
+    curves: &mut [u32],
+    places: &mut [usize],
+)
+    requires { ⌜ PastMoveAsked (now text) counts (now links) (now times) at i (now arrivals) (now curves) (now places) ⌝ }
+    ensures { λ _. ⌜ Moved (now (text .entry)) counts (now (links .entry)) (now (times .entry)) at i (now (arrivals .entry)) (now (curves .entry)) (now (places .entry)) (now (arrivals .exit)) (now (curves .exit)) (now (places .exit)) ⌝ }
+{
+    let to = arrivals::arrival_step(times, arrivals[i], at, tables::travel_time(links, i));
+    let mut fields = [0u32; PAST_SIZE];
+    while arrivals[i] < to {
+        let from = arrivals[i];
+        let read = tables::read_row(text, places[i], b'H', &mut fields, 0, 1 + 2 * counts.links);
+        let LineRead::Next(next) = read else {
+            return;
+        };
+        let since = times[at] - times[from + 1];
+        let line = PastLine { from, next, since };
+        move_links(&fields, counts, links, line, i, arrivals, curves, places);
+    }
+}
+
+// Moves link `i` on to the timeline's boundary `at`: the step in which its travel time ends and, as long as that is a past one, its curve.
+fn move_on(
     text: &[u8],
     counts: Counts,
     links: &[u32],
@@ -154,19 +239,14 @@ fn move_link(
 {
     let from = arrivals[i];
     let to = arrivals::arrival_step(times, from, at, tables::travel_time(links, i));
-    arrivals[i] = to;
     if counts.past <= to {
+        arrivals[i] = to;
         return;
     }
-    let curve = Curve {
-        start: curves[2 * i],
-        stop: curves[2 * i + 1],
-        place: places[i],
-    };
-    let moved = read_on(text, counts.links, i, from + 1, to + 1, curve);
-    curves[2 * i] = moved.start;
-    curves[2 * i + 1] = moved.stop;
-    places[i] = moved.place;
+    if from == to {
+        return;
+    }
+    move_past(text, counts, links, times, at, i, arrivals, curves, places);
 }
 
 // Moves every link on to the timeline's boundary `at`.
@@ -185,7 +265,7 @@ pub fn next_arrivals(
 {
     let mut i = 0;
     while i < counts.links {
-        move_link(text, counts, links, times, at, i, arrivals, curves, places);
+        move_on(text, counts, links, times, at, i, arrivals, curves, places);
         i += 1;
     }
 }

@@ -6,7 +6,7 @@ use Rattle.past_curves.proofs.next_arrivals.Statement.{statement}
 use Rattle.past_curves.proofs.next_arrivals.Tie as tie
 
 abbrev Inv-loop : tie.InvT-loop
-Inv-loop text counts links times at arrivals₀ curves₀ places₀ i₀ arrivals curves places i = MovedTo text counts links times at arrivals₀ curves₀ places₀ arrivals curves places i
+Inv-loop text counts links times at arrivals₀ curves₀ places₀ i₀ arrivals curves places i = MovedTo text counts links times at arrivals curves places i
 
 abbrev μ-loop : tie.MeasureT-loop
 μ-loop text counts links times at arrivals₀ curves₀ places₀ i₀ arrivals curves places i = counts .links - i
@@ -14,8 +14,8 @@ abbrev μ-loop : tie.MeasureT-loop
 loop-holds : tie.Need-loop-holds Inv-loop μ-loop
 loop-holds c = search moved-none
 
-move-link-requires : tie.Need-move-link-requires Inv-loop μ-loop
-move-link-requires c κs = search move-asked
+move-on-requires : tie.Need-move-on-requires Inv-loop μ-loop
+move-on-requires c κs = search move-asked
 
 add-i : tie.Need-add-i Inv-loop μ-loop
 add-i c = search needs
@@ -45,7 +45,7 @@ next-arrivals-spec =
     Inv-loop
     μ-loop
     loop-holds
-    move-link-requires
+    move-on-requires
     add-i
     loop-less
     loop-again
