@@ -97,3 +97,49 @@ fn signals_of(network: &Network, path: &Path) -> Vec<u32> {
 fn left(run: &Run, link: usize) -> u32 {
     run.volumes[run.passed][link].left - run.volumes[0][link].left
 }
+
+#[cfg(test)]
+mod tests {
+    use super::*;
+    use crate::files::Texts;
+
+    /// Two roads of three links, 1 to 3 and 4 to 6. The first passes signals 1 and 2, the second those that are given.
+    fn roads(second: [u32; 2]) -> Run {
+        let signal = "G\t20\t3600\t2\t1\t0\t0\t10\t3600\t10\t3600\n";
+        let link = |signal: u32| format!("Q\t60000\t10\t0\t{signal}\t1\t0\t0\n");
+        let out = "Q\t60000\t10\t500\t0\t0\t0\t0\n";
+        let links = [
+            link(1),
+            link(2),
+            out.to_string(),
+            link(second[0]),
+            link(second[1]),
+            out.to_string(),
+        ]
+        .concat();
+        let movements = ["1\t2", "2\t3", "4\t5", "5\t6"].map(|ends| format!("M\t{ends}\t500\t1000\n"));
+        let network = format!(
+            "N\t6\t2\t4\t1\t0\t0\n{signal}{signal}{links}{}S\t10\t0\t0\t0\t0\t0\t0\n",
+            movements.concat()
+        );
+        let texts = Texts {
+            network: network.into_bytes(),
+            plan: Vec::new(),
+        };
+        Run::new(&texts).unwrap()
+    }
+
+    #[test]
+    fn of_two_paths_alike_the_one_from_the_least_link() {
+        assert_eq!(main_path(&roads([2, 1])), [0, 1, 2]);
+    }
+
+    #[test]
+    fn a_way_back_has_the_signals_in_the_other_order() {
+        let path = vec![0, 1, 2];
+        assert_eq!(way_back(&roads([2, 1]), &path), Some(vec![3, 4, 5]));
+        // The same way, beside it; and a road with one of the signals alone.
+        assert_eq!(way_back(&roads([1, 2]), &path), None);
+        assert_eq!(way_back(&roads([2, 2]), &path), None);
+    }
+}

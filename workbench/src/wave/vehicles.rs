@@ -264,7 +264,7 @@ mod tests {
         // The one that stood; two that entered 7.5 s and 2.5 s before second 0.
         let firsts: Vec<(f64, f64)> = vehicles.iter().map(|vehicle| vehicle.places[0]).collect();
         assert_eq!(firsts, [(0.0, 9.5), (0.0, 7.5), (0.0, 2.5)]);
-        // The second leaves when half of the rest has; the third not before its travel time has passed.
+        // They leave when 1500, 2500 and 3500 have, of which 3000 leave evenly in 10 s from 1000 on.
         let lasts: Vec<f64> = vehicles
             .iter()
             .map(|vehicle| vehicle.places.last().unwrap().0)
@@ -276,6 +276,22 @@ mod tests {
                 .all(|(last, due)| (last - due).abs() < 1e-9),
             "{lasts:?}"
         );
+    }
+
+    #[test]
+    fn nobody_leaves_before_his_travel_time_has_passed() {
+        let mut wave = wave();
+        wave.along.truncate(1);
+        wave.along[0].moved_on = None;
+        // Within a step the curve may be ahead of arrivals: it has left 5 s after it has entered, and travel takes 10 s.
+        wave.along[0].left = Curve::new(vec![(0.0, 0.0), (5.0, 0.0), (15.0, 5000.0), (60.0, 5000.0)]);
+        let vehicles = wave.vehicles(1000.0);
+        assert_eq!(vehicles.len(), 5);
+        for (vehicle, entered) in vehicles.iter().zip([1.0, 3.0, 5.0, 7.0, 9.0]) {
+            assert_eq!(vehicle.places.first(), Some(&(entered, 0.0)));
+            assert_eq!(vehicle.places.last(), Some(&(entered + 10.0, 10.0)));
+            assert_eq!(vehicle.delay, 0.0);
+        }
     }
 
     #[test]
