@@ -196,7 +196,7 @@ unfolding bytesOf writtenBytes
 buffers network listing verdicts.Passes old = refl
 buffers network listing (verdicts.Refused r) old = refl
 
-pub write-numbered : (network : List Line) (listing : List Entry) (size : ℕ) → Numbered listingNumbers (writeChecks network listing size)
+write-numbered : (network : List Line) (listing : List Entry) (size : ℕ) → Numbered listingNumbers (writeChecks network listing size)
 unfolding Numbered isOneOf allOf writeChecks listingChecks entryChecksBy
 write-numbered network listing size = (network-among network listingNumbers refl, search needs)
 
