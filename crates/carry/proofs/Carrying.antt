@@ -8,7 +8,7 @@ use native.Mathlib.Numerals.{add-one}
 use native.Mathlib.Omega.{arith}
 use borrow.Author.Tests.{le-leb, lt-leb, eq-eqb}
 use lib.Dec.{leb, eqb}
-use lib.ListN.{length, getD, replicate}
+use lib.ListN.{length, getD}
 use lib.Seq.{getD-take}
 use Rattle.search.specs.declared.Refusal.{Refusal}
 use Rattle.search.specs.declared.Verdict.{Verdict}
@@ -33,13 +33,11 @@ use Rattle.model.proofs.Written.{refused-fails, rows-none, rows-until}
 use Rattle.tables.specs.declared.Reading.{Reading}
 use Rattle.tables.specs.declared.Stage.{Stage}
 use Rattle.tables.specs.declared.Stage.the-variants as stages
-use Rattle.tables.specs.Fields.{signalTableSize}
-use Rattle.tables.specs.Tables.{Judged}
+use Rattle.tables.specs.Tables.{Judged, SignalTable}
 use Rattle.tables.proofs.Stages.{verdict-refused}
 use Rattle.network.specs.Loading.{Loaded}
 use Rattle.plan_steps.specs.declared.Taken.{Taken}
 use Rattle.plan_steps.specs.Steps as steps
-use Rattle.network_signals.proofs.Passed.{signals-passed, load-zeros}
 use Rattle.plan_steps.proofs.Runs.{lines-within}
 use Rattle.plan_steps.proofs.Ledger.{written-again}
 use Rattle.carried_text.specs.declared.CarriedAnswer.{CarriedAnswer}
@@ -140,7 +138,7 @@ module _ (networkText planText : List ℕ) (b : ℕ) (ledger buffer : List ℕ) 
           let all : verdict (carryChecks net plan b (length ledger) (length buffer)) ≡ verdicts.Refused (refusal 32 0 0) = text-judged ∙ checked-refused _ 32 0 0 (f .0) in
           record { told = rw all (unfold carryAnswer in refl); rows = rw within rows; holds = rw all (unfold writtenBytes in (f .1)) }
 
-module _ (networkText planText : List ℕ) (b : ℕ) (buffer : List ℕ) {reading : Reading} {links movements times ledger : List ℕ} (a : StepsAsked networkText b reading links movements times ledger) where
+module _ (networkText planText : List ℕ) (b : ℕ) (buffer : List ℕ) {reading : Reading} {links movements times signals₀ ledger : List ℕ} (a : StepsAsked networkText b reading links movements times signals₀ ledger) where
   abbrev network : List Line
   network = lines networkText
 
@@ -190,12 +188,12 @@ module _ (networkText planText : List ℕ) (b : ℕ) (buffer : List ℕ) {readin
       let d = cut-due network b is-valid (a .first) (a .last) whole first same (length ledger) n h (a .room) (λ m l. hold-of-passes (lineChecks network whole m) (passed m l)) in
       rows ∙ sym (cut-written network b is-valid (a .first) (a .last) whole first same ledger (suc n) (omega arith)) ∙ ap (written (cut network b) first ledger) (sym (rows-until (cut network b) first (length ledger) n d last))
 
-  pub steps-asked : {signals : List ℕ} → signals ≡ replicate signalTableSize 0 → {waiting : List ℕ} → length waiting ≡ maxLinks → steps.StepsAsked networkText planText reading b links movements times signals waiting ledger
-  steps-asked zeros size =
+  pub steps-asked : {waiting : List ℕ} → length waiting ≡ maxLinks → steps.StepsAsked networkText planText reading b links movements times signals₀ waiting ledger
+  steps-asked size =
       let loaded = a .loaded in
       record {
         tables = record { holds = loaded .holds; counted = loaded .counted; trams-start = loaded .trams-start; link-table = loaded .link-table; movement-table = loaded .movement-table; time-table = loaded .time-table };
-        signals-asked = load-zeros (signals-passed (loaded .signals-start) (loaded .counted) (loaded .holds)) zeros;
+        signal-table = a .signal-table;
         past-start = loaded .past-start;
         steps-start = loaded .steps-start;
         few-steps = omega (arith, a .last);
@@ -320,8 +318,8 @@ module _ (networkText planText : List ℕ) (b : ℕ) (ledger buffer : List ℕ) 
         (cut-judged found b (loaded .holds) o last plan plan (λ n l. refl) (length ledger) ∙ or-else-refused _ _ _ (checked-refused _ 8 0 0 (lt-leb _ _ few)))
         (rows-none-are (cut found b) plan ledger (λ d. omega (arith, due-of-cut found b (loaded .holds) o last plan plan (λ n l. refl) (length ledger) 0 d .1)))
 
-    pub asked : 2 * (b + 1) * reading .counts .links ≤ length ledger → StepsAsked networkText b reading links movements times ledger
-    asked h = record { loaded = loaded; first = o; last = last; room = rw needed at h }
+    pub asked : 2 * (b + 1) * reading .counts .links ≤ length ledger → {signals : List ℕ} → SignalTable found signals → StepsAsked networkText b reading links movements times signals ledger
+    asked h table = record { loaded = loaded; signal-table = table; first = o; last = last; room = rw needed at h }
 
 -- a network's refusal
 pub network-refused : (networkText planText : List ℕ) (b : ℕ) (ledger buffer : List ℕ) {stage : Stage} {Held : Reading → Type 0} {r : Refusal} → Judged (networkChecks (lines networkText)) Held stage

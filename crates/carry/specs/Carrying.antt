@@ -6,13 +6,15 @@ use lib.ListN.{length}
 use Rattle.records.specs.Lines.{lines}
 use Rattle.model.specs.Network.{linkCount, stepCount}
 use Rattle.tables.specs.declared.Reading.{Reading}
+use Rattle.tables.specs.Tables.{SignalTable}
 use Rattle.network.specs.Loading.{Loaded}
 use Rattle.carry_model.specs.declared.CarryAnswer.{CarryAnswer}
 use Rattle.carry_model.specs.Call.{plannedOn, carryOn, carryLedger, carryBuffer}
 
 -- a boundary of the plan, and room for the rows up to it
-pub record StepsAsked (networkText : List ℕ) (b : ℕ) (reading : Reading) (links movements times ledger : List ℕ) : Type 0 where
+pub record StepsAsked (networkText : List ℕ) (b : ℕ) (reading : Reading) (links movements times signals ledger : List ℕ) : Type 0 where
   pub loaded : Loaded networkText links movements times reading
+  pub signal-table : SignalTable (lines networkText) signals
   pub first : 1 ≤ b
   pub last : b < stepCount (lines networkText)
   pub room : 2 * suc b * linkCount (lines networkText) ≤ length ledger

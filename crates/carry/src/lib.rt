@@ -1,7 +1,7 @@
 // Carry on from a boundary (T-09): the call `carry_on`.
 ghost use Rattle.records.specs.Lines.{lines};
 ghost use Rattle.records.specs.Padding.{PaddingIgnored};
-ghost use Rattle.network.specs.Loading.{Loaded};
+ghost use Rattle.network.specs.Loading.{LoadedWithSignals};
 ghost use Rattle.carry_model.specs.Call.{plannedOn};
 ghost use Rattle.carry_model.specs.CarriesOn.{CarriedOn};
 ghost use Rattle.carry.specs.Carrying.{StepsAsked, CarryGot};
@@ -26,13 +26,13 @@ fn carry_steps(
     links: &[u32],
     movements: &[u32],
     times: &[u32],
+    signals: &mut [u32],
     ledger: &mut [u32],
     carried: &mut [u8],
 ) -> CarryAnswer
-    requires { ⌜ StepsAsked (now network) boundary reading (now links) (now movements) (now times) (now ledger) ⌝ }
+    requires { ⌜ StepsAsked (now network) boundary reading (now links) (now movements) (now times) (now signals) (now ledger) ⌝ }
     ensures { λ r. ⌜ CarryGot (now (network .entry)) (now (plan .entry)) boundary (now (ledger .entry)) (now (ledger .exit)) (now (carried .entry)) (now (carried .exit)) r ⌝ }
 {
-    let mut signals = [0u32; SIGNAL_TABLE_SIZE];
     let mut waiting = [0u32; MAX_LINKS];
     let taken = plan_steps::take_steps(
         network,
@@ -42,7 +42,7 @@ fn carry_steps(
         links,
         movements,
         times,
-        &mut signals,
+        signals,
         &mut waiting,
         ledger,
     );
@@ -57,7 +57,7 @@ fn carry_steps(
         network,
         reading,
         boundary,
-        &signals,
+        signals,
         links,
         movements,
         &waiting,
@@ -78,10 +78,11 @@ fn carry_from(
     links: &[u32],
     movements: &[u32],
     times: &[u32],
+    signals: &mut [u32],
     ledger: &mut [u32],
     carried: &mut [u8],
 ) -> CarryAnswer
-    requires { ⌜ Loaded (now network) (now links) (now movements) (now times) reading ⌝ }
+    requires { ⌜ LoadedWithSignals (now network) (now signals) (now links) (now movements) (now times) reading ⌝ }
     ensures { λ r. ⌜ CarryGot (now (network .entry)) (now (plan .entry)) boundary (now (ledger .entry)) (now (ledger .exit)) (now (carried .entry)) (now (carried .exit)) r ⌝ }
 {
     let counts = reading.counts;
@@ -102,6 +103,7 @@ fn carry_from(
         links,
         movements,
         times,
+        signals,
         ledger,
         carried,
     )
@@ -119,10 +121,17 @@ pub fn carry_on(
     ensures { λ r. ⌜ CarriedOn (lines (now (network .entry))) (plannedOn (lines (now (network .entry))) boundary (now (plan .entry))) boundary (now (ledger .entry)) (now (ledger .exit)) (now (carried .entry)) (now (carried .exit)) r ⌝ }
     ensures { λ r. ⌜ PaddingIgnored (now (network .entry)) (λ paddedNetwork. PaddingIgnored (now (plan .entry)) (λ paddedPlan. CarryGot paddedNetwork paddedPlan boundary (now (ledger .entry)) (now (ledger .exit)) (now (carried .entry)) (now (carried .exit)) r)) ⌝ }
 {
+    let mut signals = [0u32; SIGNAL_TABLE_SIZE];
     let mut links = [0u32; LINK_TABLE_SIZE];
     let mut movements = [0u32; MOVEMENT_TABLE_SIZE];
     let mut times = [0u32; TIME_TABLE_SIZE];
-    match network::load_network(network, &mut links, &mut movements, &mut times) {
+    match network::load_with_signals(
+        network,
+        &mut signals,
+        &mut links,
+        &mut movements,
+        &mut times,
+    ) {
         Stage::Refused(refusal) => CarryAnswer::Refused(refusal),
         Stage::Passed(reading) => carry_from(
             network,
@@ -132,6 +141,7 @@ pub fn carry_on(
             &links,
             &movements,
             &times,
+            &mut signals,
             ledger,
             carried,
         ),

@@ -32,10 +32,12 @@ use Rattle.tables.specs.declared.Counts.{Counts}
 use Rattle.tables.specs.declared.Reading.{Reading}
 use Rattle.tables.specs.declared.Stage.{Stage}
 use Rattle.tables.specs.declared.Stage.the-variants as stages
+use Rattle.tables.specs.Fields.{signalTableSize}
 use Rattle.tables.specs.Blocks.{blockChecks, signalBlock}
 use Rattle.tables.specs.Tables.{stageVerdict, movedTo, Judged, PhaseTable}
 use Rattle.network_signals.specs.Stages.{SignalsAsked, SignalsHeld}
 use Rattle.network.specs.Loading.{Loaded}
+use Rattle.network.proofs.Rooms.{zeros-size, zeros-blank}
 use Rattle.listing_lines.specs.declared.Entry.{Entry}
 use Rattle.listing.specs.declared.ListingAnswer.{ListingAnswer}
 use Rattle.listing.specs.declared.ListingAnswer.the-variants.{Written, Refused}
@@ -129,10 +131,12 @@ unfolding time sum
 time-next network n = rw add-one
 
 module _ (text : List ℕ) (reading : Reading) (times : List ℕ) (a : NetworkAsked text reading times) where
-  pub signals-asked : (first : Reading) → first ≡ movedTo reading (reading .«signals_at») → (phases : List ℕ) → length phases ≡ 8 → SignalsAsked text first phases
-  signals-asked first e phases l = rw e (record { counted = a .counted; trams-start = a .trams-start; starts = a .signals-start; room = l })
+  pub signals-asked : (first : Reading) → first ≡ movedTo reading (reading .«signals_at») → (phases : List ℕ) → length phases ≡ 8
+      → (signals : List ℕ) → signals ≡ replicate signalTableSize 0 → SignalsAsked text first phases signals
+  signals-asked first e phases l signals zeros =
+      rw e (record { counted = a .counted; trams-start = a .trams-start; starts = a .signals-start; room = l; signal-room = zeros-size zeros; blank = zeros-blank zeros })
 
-  module _ (phases : List ℕ) (r : Stage) (g : Judged (blockChecks (signalBlock (lines text))) (SignalsHeld text phases) r) where
+  module _ (phases signals : List ℕ) (r : Stage) (g : Judged (blockChecks (signalBlock (lines text))) (SignalsHeld text phases signals) r) where
     pub signals-stopped : (listing : List Entry) (old : List ℕ) (q : Refusal) → r ≡ stages.Refused q → ListingWritten (lines text) listing old (Refused q) old
     unfolding stageVerdict
     signals-stopped listing old q e =

@@ -27,6 +27,7 @@ use tables::MAX_SIGNALS;
 use tables::MAX_STEPS;
 use tables::MOVEMENT_TABLE_SIZE;
 use tables::Reading;
+use tables::SIGNAL_TABLE_SIZE;
 use tables::Stage;
 use tables::TIME_TABLE_SIZE;
 
@@ -456,8 +457,9 @@ fn write_on_network(
     ensures { λ r. ⌜ ListingWritten (lines (now (network .entry))) (entries (now (listing .entry))) (now (out .entry)) r (now (out .exit)) ⌝ }
 {
     let mut phases = [0u32; MAX_SIGNALS];
+    let mut signals = [0u32; SIGNAL_TABLE_SIZE];
     let first = reading.moved_to(reading.signals_at);
-    match network_signals::read_signals(network, first, &mut phases) {
+    match network_signals::read_signals(network, first, &mut phases, &mut signals) {
         Stage::Passed(_) => write_listing(listing, reading.counts, &phases, times, out),
         Stage::Refused(refusal) => ListingAnswer::Refused(refusal),
     }

@@ -27,7 +27,7 @@ use Rattle.network_signals.specs.Stages.{SignalsHeld}
 use Rattle.network_links.specs.Movements.{shareChecksIn}
 use Rattle.network_links.specs.Stages.{LinksAsked, LinksHeld, MovementsAsked, MovementsHeld, SharesAsked}
 use Rattle.network_links.proofs.Movements.{shares-asked, shares-checked}
-use Rattle.network.specs.Loading.{firstChecks, FirstAsked, endChecks, timelineChecks, TimelineAsked, TimelineHeld, Rooms, Loaded}
+use Rattle.network.specs.Loading.{firstChecks, FirstAsked, endChecks, timelineChecks, TimelineAsked, TimelineHeld, SignalRooms, Loaded, LoadedWithSignals}
 use Rattle.network.proofs.First.{first-joined}
 use Rattle.network.proofs.Timeline.{link-limits}
 
@@ -63,25 +63,26 @@ module _ (text : List ℕ) where
   whole = first-joined (lines text) (countChecks (lines text)) (fromLinks)
 
 -- ---- the stages
-module _ {text links₀ movements₀ times₀ : List ℕ} (rooms : Rooms links₀ movements₀ times₀) {counts : Stage} (j : Judged (countChecks (lines text)) (CountsHeld text) counts) where
+module _ {text signals₀ links₀ movements₀ times₀ : List ℕ} (room : SignalRooms signals₀ links₀ movements₀ times₀) {counts : Stage} (j : Judged (countChecks (lines text)) (CountsHeld text) counts) where
   pub counts-stop : {Held : Reading → Type 0} {r : Refusal} → counts ≡ Refused r → Judged (networkChecks (lines text)) Held counts
   counts-stop e = stop text _ (fromSignals text) (whole text) e (verdict-refused j e)
 
   module _ {atSignals : Reading} (e₁ : counts ≡ Passed atSignals) where
-    pub signals-asked : {phases : List ℕ} → length phases ≡ maxSignals → FirstAsked text atSignals phases
-    signals-asked room =
-        let held = j .held _ e₁ in record { counted = held .counted; starts = held .starts; trams-start = held .trams-start; room = room }
+    pub signals-asked : {phases : List ℕ} → length phases ≡ maxSignals → FirstAsked text atSignals phases signals₀
+    signals-asked size =
+        let held = j .held _ e₁ in
+        record { counted = held .counted; starts = held .starts; trams-start = held .trams-start; room = size; signal-room = room .signal-room; blank = room .blank }
 
     left₁ : Left text (fromSignals text)
     left₁ = on text _ (fromSignals text) (whole text) (verdict-passed j e₁)
 
-    module _ {phases : List ℕ} {signals : Stage} (j₁ : Judged (firstChecks (lines text)) (SignalsHeld text phases) signals) where
+    module _ {phases table : List ℕ} {signals : Stage} (j₁ : Judged (firstChecks (lines text)) (SignalsHeld text phases table) signals) where
       pub signals-stop : {Held : Reading → Type 0} {r : Refusal} → signals ≡ Refused r → Judged (networkChecks (lines text)) Held signals
       signals-stop e = stop text _ (fromLinks text) left₁ e (verdict-refused j₁ e)
 
       module _ {atLinks : Reading} (e₂ : signals ≡ Passed atLinks) where
         pub links-asked : LinksAsked text atLinks phases links₀
-        links-asked = record { reached = j₁ .held _ e₂ .reached; phased = j₁ .held _ e₂ .phase-table; room = rooms .link-room }
+        links-asked = record { reached = j₁ .held _ e₂ .reached; phased = j₁ .held _ e₂ .phase-table; room = room .rooms .link-room }
 
         left₂ : Left text (fromLinks text)
         left₂ = on text _ (fromLinks text) left₁ (verdict-passed j₁ e₂)
@@ -92,7 +93,7 @@ module _ {text links₀ movements₀ times₀ : List ℕ} (rooms : Rooms links�
 
           module _ {atMovements : Reading} (e₃ : linked ≡ Passed atMovements) where
             pub movements-asked : MovementsAsked text atMovements movements₀
-            movements-asked = record { reached = j₂ .held _ e₃ .reached; room = rooms .movement-room }
+            movements-asked = record { reached = j₂ .held _ e₃ .reached; room = room .rooms .movement-room }
 
             left₃ : Left text (fromMovements text)
             left₃ = on text _ (fromMovements text) left₂ (verdict-passed j₂ e₃)
@@ -122,31 +123,39 @@ module _ {text links₀ movements₀ times₀ : List ℕ} (rooms : Rooms links�
                           reached = rw (j₄ .held _ e₅) (j₃ .held _ e₄ .reached);
                           link-table = j₂ .held _ e₃ .table;
                           limits = link-limits (lines text) (verdict-passed j₂ e₃);
-                          room = rooms .time-room;
+                          room = room .rooms .time-room;
                         }
 
                     left₅ : Left text (timelineChecks (lines text))
                     left₅ = on text _ (timelineChecks (lines text)) left₄ (sym checked ∙ verdict-passed j₄ e₅)
 
                     module _ {times : List ℕ} {timed : Stage} (j₅ : Judged (timelineChecks (lines text)) (TimelineHeld text times) timed) where
-                      pub network-judged : Judged (networkChecks (lines text)) (Loaded text links movements times) timed
+                      pub network-judged : Judged (networkChecks (lines text)) (LoadedWithSignals text table links movements times) timed
                       network-judged =
                           record {
                             told = j₅ .told ∙ sym left₅;
                             held = λ after e.
                                 let held = j₅ .held after e in
                                 record {
-                                  counted = held .counted;
-                                  trams-start = held .trams-start;
-                                  signals-start = held .signals-start;
-                                  past-start = held .past-start;
-                                  steps-start = held .steps-start;
-                                  link-table = j₂ .held _ e₃ .table;
-                                  movement-table = j₃ .held _ e₄ .table;
-                                  time-table = held .time-table;
-                                  holds = hold-of-passes (networkChecks (lines text)) (left₅ ∙ verdict-passed j₅ e);
+                                  loaded = record {
+                                    counted = held .counted;
+                                    trams-start = held .trams-start;
+                                    signals-start = held .signals-start;
+                                    past-start = held .past-start;
+                                    steps-start = held .steps-start;
+                                    link-table = j₂ .held _ e₃ .table;
+                                    movement-table = j₃ .held _ e₄ .table;
+                                    time-table = held .time-table;
+                                    holds = hold-of-passes (networkChecks (lines text)) (left₅ ∙ verdict-passed j₅ e);
+                                  };
+                                  signal-table = j₁ .held _ e₂ .signal-table;
                                 };
                           }
+
+-- ---- without the signals
+pub tables-judged : {text signals links movements times : List ℕ} {stage : Stage} → Judged (networkChecks (lines text)) (LoadedWithSignals text signals links movements times) stage
+    → Judged (networkChecks (lines text)) (Loaded text links movements times) stage
+tables-judged got = record { told = got .told; held = λ reading e. got .held reading e .loaded }
 
 -- ---- the answer
 module _ {text : List ℕ} {stage : Stage} {links movements times : List ℕ} (got : Judged (networkChecks (lines text)) (Loaded text links movements times) stage) where

@@ -40,7 +40,7 @@ first-joined network before rest =
     (ap (orElse (verdict (blockChecks (tramBlock network)))) (or-else-assoc _ _ (verdict rest)) ∙ or-else-assoc _ _ (verdict rest))
 
 -- ---- the stages
-module _ {text : List ℕ} {reading : Reading} {phases₀ : List ℕ} (asked : FirstAsked text reading phases₀) where
+module _ {text : List ℕ} {reading : Reading} {phases₀ signals₀ : List ℕ} (asked : FirstAsked text reading phases₀ signals₀) where
   pub trams-asked : {trams : List ℕ} → length trams ≡ tramTableSize → TramsAsked text reading trams
   trams-asked room = record { counted = asked .counted; starts = asked .starts; trams-start = asked .trams-start; room = room }
 
@@ -50,10 +50,10 @@ module _ {text : List ℕ} {reading : Reading} {phases₀ : List ℕ} (asked : F
     trams-stop {r = r} e = rw e (judged-refused (or-else-refused _ _ r (verdict-refused j e)))
 
     module _ {atSignals : Reading} (e₁ : tracked ≡ Passed atSignals) where
-      pub signals-asked : SignalsAsked text atSignals phases₀
-      signals-asked = let held = j .held _ e₁ in record { counted = held .counted; trams-start = held .trams-start; starts = held .starts; room = asked .room }
+      pub signals-asked : SignalsAsked text atSignals phases₀ signals₀
+      signals-asked = let held = j .held _ e₁ in record { counted = held .counted; trams-start = held .trams-start; starts = held .starts; room = asked .room; signal-room = asked .signal-room; blank = asked .blank }
 
-      module _ {phases : List ℕ} {signals : Stage} (j₁ : Judged (blockChecks (signalBlock (lines text))) (SignalsHeld text phases) signals) where
+      module _ {phases table : List ℕ} {signals : Stage} (j₁ : Judged (blockChecks (signalBlock (lines text))) (SignalsHeld text phases table) signals) where
         pub signals-stop : {Held : Reading → Type 0} {r : Refusal} → signals ≡ Refused r → Judged (firstChecks (lines text)) Held signals
         unfolding verdict
         signals-stop {r = r} e = rw e (judged-refused (or-else-passes _ _ (verdict-passed j e₁) ∙ or-else-refused _ _ r (verdict-refused j₁ e)))
@@ -63,7 +63,7 @@ module _ {text : List ℕ} {reading : Reading} {phases₀ : List ℕ} (asked : F
           tram-phases-asked = phases-asked (j .held _ e₁) (j₁ .held _ e₂ .phase-table) (j₁ .held _ e₂ .reached .counted)
 
           pub first-judged : {stage : Stage} → Judged (each (atPhases .counts .trams) (phaseChecksIn trams phases (atPhases .counts))) (λ after. after ≡ atPhases) stage
-              → Judged (firstChecks (lines text)) (SignalsHeld text phases) stage
+              → Judged (firstChecks (lines text)) (SignalsHeld text phases table) stage
           unfolding verdict
           first-judged jₚ =
               record {

@@ -2,3 +2,4 @@ mod First
 mod Timeline
 mod End
 mod Chain
+pub mod Rooms

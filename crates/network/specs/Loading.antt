@@ -3,7 +3,7 @@ use Prim.Native.Nat.{ℕ, suc, _≤_, _<_}
 use mathlib.Core.Path.{_≡_}
 use mathlib.Core.List.{List}
 use lib.Dec.{eqb}
-use lib.ListN.{length}
+use lib.ListN.{length, getD}
 use Rattle.search.specs.Checks.{Checks, check, each, _then_, Hold}
 use Rattle.records.specs.Lines.{Line, lines}
 use Rattle.records.specs.Reading.{Starts}
@@ -11,8 +11,8 @@ use Rattle.model.specs.Network.{maxSignals, linkCount, stepCount, tramCount, tr
 use Rattle.model.specs.Table.{tramPhaseChecks, networkChecks}
 use Rattle.tables.specs.declared.Reading.{Reading}
 use Rattle.tables.specs.Blocks.{blockChecks, tramBlock, signalBlock, pastBlock, stepBlock}
-use Rattle.tables.specs.Fields.{linkTableSize, movementTableSize, timeTableSize}
-use Rattle.tables.specs.Tables.{Reached, CountsHold, LinkTable, MovementTable, TimeTable}
+use Rattle.tables.specs.Fields.{signalTableSize, linkTableSize, movementTableSize, timeTableSize}
+use Rattle.tables.specs.Tables.{Reached, CountsHold, SignalTable, LinkTable, MovementTable, TimeTable}
 use Rattle.network_past.specs.Past.{pastEndChecks}
 
 -- the `T` and the `G` lines, and the phases of the `T` lines
@@ -20,11 +20,13 @@ abbrev pub firstChecks : List Line → Checks
 firstChecks network = blockChecks (tramBlock network) then blockChecks (signalBlock network) then each (tramCount network) (tramPhaseChecks network)
 
 -- the text after the `N` line
-pub record FirstAsked (text : List ℕ) (reading : Reading) (phases : List ℕ) : Type 0 where
+pub record FirstAsked (text : List ℕ) (reading : Reading) (phases signals : List ℕ) : Type 0 where
   pub counted : CountsHold (lines text) (reading .counts)
   pub starts : Starts text (reading .next) (tramLine (lines text) 0)
   pub trams-start : Starts text (reading .«trams_at») (tramLine (lines text) 0)
   pub room : length phases ≡ maxSignals
+  pub signal-room : length signals ≡ signalTableSize
+  pub blank : (k : ℕ) → getD signals k 0 ≡ 0
 
 -- 1 where a line is surplus
 unfoldable pub endChecks : List Line → Checks
@@ -61,6 +63,12 @@ pub record Rooms (links movements times : List ℕ) : Type 0 where
   pub movement-room : length movements ≡ movementTableSize
   pub time-room : length times ≡ timeTableSize
 
+-- the same with room for the signals, all 0
+pub record SignalRooms (signals links movements times : List ℕ) : Type 0 where
+  pub rooms : Rooms links movements times
+  pub signal-room : length signals ≡ signalTableSize
+  pub blank : (k : ℕ) → getD signals k 0 ≡ 0
+
 -- a network that has passed: its counts, the places where its `T`, its `G`, its `H` and its `S` lines start, and its tables
 pub record Loaded (text links movements times : List ℕ) (reading : Reading) : Type 0 where
   pub counted : CountsHold (lines text) (reading .counts)
@@ -72,3 +80,8 @@ pub record Loaded (text links movements times : List ℕ) (reading : Reading) : 
   pub movement-table : MovementTable (lines text) movements
   pub time-table : TimeTable (lines text) times
   pub holds : Hold (networkChecks (lines text))
+
+-- .. and its signals before the plan
+pub record LoadedWithSignals (text signals links movements times : List ℕ) (reading : Reading) : Type 0 where
+  pub loaded : Loaded text links movements times reading
+  pub signal-table : SignalTable (lines text) signals

@@ -7,7 +7,7 @@ ghost use Rattle.model.specs.Calls.{checkNetwork};
 ghost use Rattle.model.specs.Guarantees.{NetworkPromises};
 ghost use Rattle.tables.specs.Tables.{Judged};
 ghost use Rattle.network_signals.specs.Stages.{SignalsHeld};
-ghost use Rattle.network.specs.Loading.{firstChecks, FirstAsked, endChecks, EndAsked, timelineChecks, TimelineAsked, TimelineHeld, Rooms, Loaded};
+ghost use Rattle.network.specs.Loading.{firstChecks, FirstAsked, endChecks, EndAsked, timelineChecks, TimelineAsked, TimelineHeld, Rooms, SignalRooms, Loaded, LoadedWithSignals};
 use search::Refusal;
 use search::Verdict;
 use tables::LINK_TABLE_SIZE;
@@ -15,6 +15,7 @@ use tables::MAX_LINKS;
 use tables::MAX_SIGNALS;
 use tables::MOVEMENT_TABLE_SIZE;
 use tables::Reading;
+use tables::SIGNAL_TABLE_SIZE;
 use tables::Stage;
 use tables::TIME_TABLE_SIZE;
 use tables::TRAM_TABLE_SIZE;
@@ -32,16 +33,21 @@ fn check_end(text: &[u8], reading: Reading) -> Stage
 }
 
 // The `T` and the `G` lines, then the trams' phases, which are told at their `T` lines: the table of these is needed no longer.
-fn read_trams_and_signals(text: &[u8], reading: Reading, phases: &mut [u32]) -> Stage
-    requires { ⌜ FirstAsked (now text) reading (now phases) ⌝ }
-    ensures { λ r. ⌜ Judged (firstChecks (lines (now (text .entry)))) (SignalsHeld (now (text .entry)) (now (phases .exit))) r ⌝ }
+fn read_trams_and_signals(
+    text: &[u8],
+    reading: Reading,
+    phases: &mut [u32],
+    signals: &mut [u32],
+) -> Stage
+    requires { ⌜ FirstAsked (now text) reading (now phases) (now signals) ⌝ }
+    ensures { λ r. ⌜ Judged (firstChecks (lines (now (text .entry)))) (SignalsHeld (now (text .entry)) (now (phases .exit)) (now (signals .exit))) r ⌝ }
 {
     let mut trams = [0u32; TRAM_TABLE_SIZE];
     let stage = network_trams::read_trams(text, reading, &mut trams);
     let Stage::Passed(reading) = stage else {
         return stage;
     };
-    let stage = network_signals::read_signals(text, reading, phases);
+    let stage = network_signals::read_signals(text, reading, phases, signals);
     let Stage::Passed(reading) = stage else {
         return stage;
     };
@@ -69,22 +75,24 @@ fn read_timeline(text: &[u8], reading: Reading, links: &[u32], times: &mut [u32]
     network_past::check_past(text, reading, links, times, &demands)
 }
 
-// Reads a network into tables of its links, its movements and the time of each boundary of the timeline, and judges it: refusals 1 to 6, 28 and 30.
-pub fn load_network(
+// Reads a network into tables of its signals, which is of zeros before, its links, its movements and the time of each boundary of the timeline, and judges it:
+// refusals 1 to 6, 28 and 30.
+pub fn load_with_signals(
     text: &[u8],
+    signals: &mut [u32],
     links: &mut [u32],
     movements: &mut [u32],
     times: &mut [u32],
 ) -> Stage
-    requires { ⌜ Rooms (now links) (now movements) (now times) ⌝ }
-    ensures { λ r. ⌜ Judged (networkChecks (lines (now (text .entry)))) (Loaded (now (text .entry)) (now (links .exit)) (now (movements .exit)) (now (times .exit))) r ⌝ }
+    requires { ⌜ SignalRooms (now signals) (now links) (now movements) (now times) ⌝ }
+    ensures { λ r. ⌜ Judged (networkChecks (lines (now (text .entry)))) (LoadedWithSignals (now (text .entry)) (now (signals .exit)) (now (links .exit)) (now (movements .exit)) (now (times .exit))) r ⌝ }
 {
     let stage = network_signals::read_counts(text);
     let Stage::Passed(reading) = stage else {
         return stage;
     };
     let mut phases = [0u32; MAX_SIGNALS];
-    let stage = read_trams_and_signals(text, reading, &mut phases);
+    let stage = read_trams_and_signals(text, reading, &mut phases, signals);
     let Stage::Passed(reading) = stage else {
         return stage;
     };
@@ -101,6 +109,20 @@ pub fn load_network(
         return stage;
     };
     read_timeline(text, reading, links, times)
+}
+
+// The same without the signals.
+pub fn load_network(
+    text: &[u8],
+    links: &mut [u32],
+    movements: &mut [u32],
+    times: &mut [u32],
+) -> Stage
+    requires { ⌜ Rooms (now links) (now movements) (now times) ⌝ }
+    ensures { λ r. ⌜ Judged (networkChecks (lines (now (text .entry)))) (Loaded (now (text .entry)) (now (links .exit)) (now (movements .exit)) (now (times .exit))) r ⌝ }
+{
+    let mut signals = [0u32; SIGNAL_TABLE_SIZE];
+    load_with_signals(text, &mut signals, links, movements, times)
 }
 
 // Check a network: refusals 1 to 6, 28 and 30.

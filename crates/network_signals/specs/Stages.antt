@@ -11,7 +11,7 @@ use Rattle.model.specs.Network.{maxSignals, tramLine, signalLine, linkLine, sig
 use Rattle.tables.specs.declared.Reading.{Reading}
 use Rattle.tables.specs.Fields.{signalFields, signalTableSize}
 use Rattle.tables.specs.Blocks.{blockChecks, signalBlock}
-use Rattle.tables.specs.Tables.{CountsHold, PhaseTable, Reached}
+use Rattle.tables.specs.Tables.{CountsHold, SignalTable, PhaseTable, Reached}
 use Rattle.network_signals.specs.Signals.{headFields, signalFrom}
 
 -- the numbers of one `G` line from n on are 0
@@ -33,16 +33,19 @@ pub record SignalHeld (text : List ℕ) (r : ℕ) (fields : List ℕ) (reading :
   pub few : signalFrom fields .phases ≤ 8
   pub starts : Starts text (reading .next) (signalLine (lines text) (suc r))
 
--- all `G` lines
-pub record SignalsAsked (text : List ℕ) (reading : Reading) (phases : List ℕ) : Type 0 where
+-- all `G` lines, into a table of zeros
+pub record SignalsAsked (text : List ℕ) (reading : Reading) (phases signals : List ℕ) : Type 0 where
   pub counted : CountsHold (lines text) (reading .counts)
   pub trams-start : Starts text (reading .«trams_at») (tramLine (lines text) 0)
   pub starts : Starts text (reading .next) (signalLine (lines text) 0)
   pub room : length phases ≡ maxSignals
+  pub signal-room : length signals ≡ signalTableSize
+  pub blank : (k : ℕ) → getD signals k 0 ≡ 0
 
-pub record SignalsHeld (text phases : List ℕ) (reading : Reading) : Type 0 where
+pub record SignalsHeld (text phases signals : List ℕ) (reading : Reading) : Type 0 where
   pub reached : Reached text (linkLine (lines text) 0) reading
   pub phase-table : PhaseTable (lines text) phases
+  pub signal-table : SignalTable (lines text) signals
 
 -- `G` lines that have passed
 pub record SignalsPassed (text : List ℕ) (reading : Reading) : Type 0 where

@@ -217,23 +217,24 @@ fn read_signal(text: &[u8], reading: Reading, r: usize, fields: &mut [u32]) -> S
     Stage::Passed(reading.moved_to(next))
 }
 
-// All `G` lines: the first refusal, or the number of phases of each signal and the shortest of all greatest times, 60 where all are longer: no step has
-// more seconds (refusal 6).
-pub fn read_signals(text: &[u8], reading: Reading, phases: &mut [u32]) -> Stage
-    requires { ⌜ SignalsAsked (now text) reading (now phases) ⌝ }
-    ensures { λ r. ⌜ Judged (blockChecks (signalBlock (lines (now (text .entry))))) (SignalsHeld (now (text .entry)) (now (phases .exit))) r ⌝ }
+// All `G` lines, into a table of zeros: the first refusal, or the signals, the number of phases of each, and the shortest of all greatest times, 60 where all
+// are longer: no step has more seconds (refusal 6).
+pub fn read_signals(text: &[u8], reading: Reading, phases: &mut [u32], signals: &mut [u32]) -> Stage
+    requires { ⌜ SignalsAsked (now text) reading (now phases) (now signals) ⌝ }
+    ensures { λ r. ⌜ Judged (blockChecks (signalBlock (lines (now (text .entry))))) (SignalsHeld (now (text .entry)) (now (phases .exit)) (now (signals .exit))) r ⌝ }
 {
     let counts = reading.counts;
     let mut place = reading.next;
     let mut shortest = 60;
     let mut r = 0;
     while r < counts.signals {
-        let mut fields = [0u32; SIGNAL_FIELDS];
-        let stage = read_signal(text, reading.moved_to(place), r, &mut fields);
+        let start = SIGNAL_FIELDS * r;
+        let end = start + SIGNAL_FIELDS;
+        let stage = read_signal(text, reading.moved_to(place), r, &mut signals[start..end]);
         let Stage::Passed(passed) = stage else {
             return stage;
         };
-        let signal = signal_from(&fields);
+        let signal = tables::signal_in(signals, r);
         phases[r] = signal.phases;
         shortest = shortest_time(signal, shortest);
         place = passed.next;
@@ -251,7 +252,7 @@ pub fn read_signals(text: &[u8], reading: Reading, phases: &mut [u32]) -> Stage
     })
 }
 
-// The numbers of the `G` lines into a table of zeros, once these lines have passed, so that none of them is refused here.
+// The signals again, into a table of zeros, for a second plan: the `G` lines have passed, so that none of them is refused here.
 pub fn load_signals(text: &[u8], reading: Reading, signals: &mut [u32])
     requires { ⌜ LoadAsked (now text) reading (now signals) ⌝ }
     ensures { λ _. ⌜ SignalTable (lines (now (text .entry))) (now (signals .exit)) ⌝ }

@@ -6,7 +6,7 @@ use mathlib.Core.List.{List}
 use native.Mathlib.Numerals.{add-one}
 use borrow.Author.Tests.{le-leb, lt-leb}
 use lib.Dec.{leb}
-use lib.ListN.{length}
+use lib.ListN.{length, replicate}
 use Rattle.search.specs.declared.Refusal.{Refusal}
 use Rattle.search.specs.declared.Verdict.the-variants as verdicts
 use Rattle.search.specs.Checks.{refusal, verdict}
@@ -28,10 +28,12 @@ use Rattle.model.proofs.Hold.{empty-holds}
 use Rattle.tables.specs.declared.Reading.{Reading}
 use Rattle.tables.specs.declared.Stage.{Stage}
 use Rattle.tables.specs.declared.Stage.the-variants as stages
-use Rattle.tables.specs.Tables.{Judged}
+use Rattle.tables.specs.Fields.{signalTableSize}
+use Rattle.tables.specs.Tables.{Judged, SignalTable}
 use Rattle.tables.proofs.Stages.{verdict-refused}
-use Rattle.network_signals.proofs.Passed.{signals-passed}
-use Rattle.network.specs.Loading.{Loaded}
+use Rattle.network_signals.specs.Stages.{LoadAsked}
+use Rattle.network_signals.proofs.Passed.{signals-passed, load-zeros}
+use Rattle.network.specs.Loading.{Loaded, LoadedWithSignals}
 use Rattle.plan_steps.specs.Steps.{RunAsked, RunGot}
 use Rattle.plan_check.specs.Plan.{PlanGot}
 
@@ -82,11 +84,11 @@ module _ (networkText planText links movements times old : List ℕ) (reading : 
     room : 2 * suc (stepCount net) * linkCount net ≤ length old
     room = rw needed at h
 
-    pub run-asked : RunAsked networkText planText reading links movements times old
-    run-asked =
+    pub run-asked : {signals : List ℕ} → SignalTable net signals → RunAsked networkText planText reading links movements times signals old
+    run-asked table =
         record {
           tables = record { holds = loaded .holds; counted = loaded .counted; trams-start = loaded .trams-start; link-table = loaded .link-table; movement-table = loaded .movement-table; time-table = loaded .time-table };
-          signals-passed = signals-passed (loaded .signals-start) (loaded .counted) (loaded .holds);
+          signal-table = table;
           past-start = loaded .past-start;
           steps-start = loaded .steps-start;
           room = room;
@@ -99,6 +101,14 @@ module _ (networkText planText links movements times old : List ℕ) (reading : 
           answered = got .answered ∙ ap (planAnswer net pln) (sym v) ∙ (unfold checkPlan in refl);
           written-rows = got .rows;
         }
+
+-- the signals are read again
+module _ {text links movements times : List ℕ} {reading : Reading} (loaded : Loaded text links movements times reading) where
+  pub load-asked : {signals : List ℕ} → signals ≡ replicate signalTableSize 0 → LoadAsked text reading signals
+  load-asked zeros = load-zeros (signals-passed (loaded .signals-start) (loaded .counted) (loaded .holds)) zeros
+
+  pub with-signals : {signals : List ℕ} → SignalTable (lines text) signals → LoadedWithSignals text signals links movements times reading
+  with-signals table = record { loaded = loaded; signal-table = table }
 
 -- a network's refusal
 planned : (network plan : List Line) (size : ℕ) (r : Refusal) → verdict (networkChecks network) ≡ verdicts.Refused r → verdict (planChecks network plan size) ≡ verdicts.Refused r

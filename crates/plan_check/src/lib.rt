@@ -6,17 +6,48 @@ ghost use Rattle.records.specs.Padding.{PaddingIgnored};
 ghost use Rattle.model.specs.Hold.{planOf, EmptyHolds};
 ghost use Rattle.model.specs.Calls.{checkPlan, ledgerAfter};
 ghost use Rattle.model.specs.Guarantees.{Promises};
-ghost use Rattle.network.specs.Loading.{Loaded};
+ghost use Rattle.network.specs.Loading.{Loaded, LoadedWithSignals};
 ghost use Rattle.plan_check.specs.Plan.{PlanGot};
 use model::PlanAnswer;
 use search::Refusal;
 use tables::LINK_TABLE_SIZE;
 use tables::MOVEMENT_TABLE_SIZE;
 use tables::Reading;
+use tables::SIGNAL_TABLE_SIZE;
 use tables::Stage;
 use tables::TIME_TABLE_SIZE;
 
-// Judges a plan on a network that has passed: the ledger's length, then the steps.
+// Judges a plan on a network that has passed, from its signals on: the ledger's length, then the steps.
+pub fn judge_with_signals(
+    network: &[u8],
+    plan: &[u8],
+    reading: Reading,
+    links: &[u32],
+    movements: &[u32],
+    times: &[u32],
+    signals: &mut [u32],
+    ledger: &mut [u32],
+) -> PlanAnswer
+    requires { ⌜ LoadedWithSignals (now network) (now signals) (now links) (now movements) (now times) reading ⌝ }
+    ensures { λ r. ⌜ PlanGot (now (network .entry)) (now (plan .entry)) (now (ledger .entry)) r (now (ledger .exit)) ⌝ }
+{
+    let counts = reading.counts;
+    if ledger.len() < 2 * (counts.steps + 1) * counts.links {
+        return PlanAnswer::Refused(Refusal::new(8, 0, 0));
+    }
+    plan_steps::run_steps(
+        network,
+        plan,
+        reading,
+        links,
+        movements,
+        times,
+        signals,
+        ledger,
+    )
+}
+
+// The same where the signals are not at hand: the `G` lines are read again.
 pub fn judge_plan(
     network: &[u8],
     plan: &[u8],
@@ -29,11 +60,18 @@ pub fn judge_plan(
     requires { ⌜ Loaded (now network) (now links) (now movements) (now times) reading ⌝ }
     ensures { λ r. ⌜ PlanGot (now (network .entry)) (now (plan .entry)) (now (ledger .entry)) r (now (ledger .exit)) ⌝ }
 {
-    let counts = reading.counts;
-    if ledger.len() < 2 * (counts.steps + 1) * counts.links {
-        return PlanAnswer::Refused(Refusal::new(8, 0, 0));
-    }
-    plan_steps::run_steps(network, plan, reading, links, movements, times, ledger)
+    let mut signals = [0u32; SIGNAL_TABLE_SIZE];
+    network_signals::load_signals(network, reading, &mut signals);
+    judge_with_signals(
+        network,
+        plan,
+        reading,
+        links,
+        movements,
+        times,
+        &mut signals,
+        ledger,
+    )
 }
 
 // Check a plan: refusals 1 to 6, 8 to 18, and 25 to 30. A refusal writes only row 0 and the rows of steps that had passed.
@@ -44,13 +82,27 @@ pub fn check_plan(network: &[u8], plan: &[u8], ledger: &mut [u32]) -> PlanAnswer
     ensures { λ r. ⌜ EmptyHolds (now (network .entry)) (now (plan .entry)) (now (ledger .entry)) (now (ledger .exit)) r ⌝ }
     ensures { λ r. ⌜ PaddingIgnored (now (network .entry)) (λ paddedNetwork. PaddingIgnored (now (plan .entry)) (λ paddedPlan. PlanGot paddedNetwork paddedPlan (now (ledger .entry)) r (now (ledger .exit)))) ⌝ }
 {
+    let mut signals = [0u32; SIGNAL_TABLE_SIZE];
     let mut links = [0u32; LINK_TABLE_SIZE];
     let mut movements = [0u32; MOVEMENT_TABLE_SIZE];
     let mut times = [0u32; TIME_TABLE_SIZE];
-    match network::load_network(network, &mut links, &mut movements, &mut times) {
+    match network::load_with_signals(
+        network,
+        &mut signals,
+        &mut links,
+        &mut movements,
+        &mut times,
+    ) {
         Stage::Refused(refusal) => PlanAnswer::Refused(refusal),
-        Stage::Passed(reading) => {
-            judge_plan(network, plan, reading, &links, &movements, &times, ledger)
-        }
+        Stage::Passed(reading) => judge_with_signals(
+            network,
+            plan,
+            reading,
+            &links,
+            &movements,
+            &times,
+            &mut signals,
+            ledger,
+        ),
     }
 }

@@ -21,7 +21,7 @@ use Rattle.model.specs.declared.Totals.{Totals}
 use Rattle.model.specs.declared.PlanAnswer.{PlanAnswer}
 use Rattle.model.specs.declared.PlanAnswer.the-variants as plan-answer
 use Rattle.model.specs.Sum.{sum}
-use Rattle.model.specs.Network.{maxLinks, linkCount, stepCount, pastCount, onTimeline, signal}
+use Rattle.model.specs.Network.{maxLinks, maxSteps, linkCount, stepCount, pastCount, onTimeline, signal}
 use Rattle.model.specs.Flows.{signalAt, totals}
 use Rattle.model.specs.Table.{isForm, letterP, ledgerChecks, lineChecks, planLineChecks}
 use Rattle.model.specs.Hold.{planOf}
@@ -35,9 +35,8 @@ use Rattle.tables.specs.declared.Counts.{Counts}
 use Rattle.tables.specs.declared.Reading.{Reading}
 use Rattle.tables.specs.Tables.{SignalTable}
 use Rattle.tables.proofs.Tables.{travel-time-at}
-use Rattle.tables.specs.Fields.{signalTableSize, rowSize}
+use Rattle.tables.specs.Fields.{rowSize}
 use Rattle.arrivals.proofs.Boundaries.{cursor-on}
-use Rattle.network_signals.proofs.Passed.{load-zeros}
 use Rattle.past_curves.specs.Curves.{PastAsked, PastLoaded}
 use Rattle.waiting.specs.Waiting.{FirstAsked, FirstWaits, WaitingTable}
 use Rattle.waiting.proofs.Texts.{waiting-first, outside-is}
@@ -281,24 +280,27 @@ module _ {networkText planText : List ℕ} {counts : Counts} {tramsAt steps : �
           }
 
 -- ---- all steps
-module _ {networkText planText : List ℕ} {reading : Reading} {links movements times old : List ℕ} (a : RunAsked networkText planText reading links movements times old) where
+module _ {networkText planText : List ℕ} {reading : Reading} {links movements times signals₀ old : List ℕ} (a : RunAsked networkText planText reading links movements times signals₀ old) where
   abbrev network : List Line
   network = lines networkText
 
   abbrev plan : List Line
   plan = planOf networkText planText
 
-  pub steps-asked : (signals : List ℕ) → signals ≡ replicate signalTableSize 0 → (waiting : List ℕ) → length waiting ≡ maxLinks → StepsAsked networkText planText reading (reading .counts .steps) links movements times signals waiting old
-  steps-asked signals zeros waiting size =
+  pub steps-asked : (waiting : List ℕ) → length waiting ≡ maxLinks → StepsAsked networkText planText reading (reading .counts .steps) links movements times signals₀ waiting old
+  steps-asked waiting size =
       record {
         tables = a .tables;
-        signals-asked = load-zeros (a .signals-passed) zeros;
+        signal-table = a .signal-table;
         past-start = a .past-start;
         steps-start = a .steps-start;
         few-steps = omega (arith, a .tables .counted .steps);
         waiting-size = size;
         room = rw (a .tables .counted .steps) (a .room);
       }
+
+  pub run-few : reading .counts .steps ≤ maxSteps
+  run-few = a .tables .counted .few .steps
 
   -- row n is due, and all that are due are written where the next is not
   due : (n : ℕ) → n ≤ stepCount network → ((m : ℕ) → m < n → verdict (lineChecks network plan m) ≡ Passes) → RowDue network plan (length old) n

@@ -16,7 +16,7 @@ use Rattle.model.specs.Hold.{planOf}
 use Rattle.model.specs.Calls.{planAnswer, rowsWritten, written, ledgerAfter}
 use Rattle.tables.specs.declared.Counts.{Counts}
 use Rattle.tables.specs.declared.Reading.{Reading}
-use Rattle.network_signals.specs.Stages.{SignalsPassed, LoadAsked}
+use Rattle.tables.specs.Tables.{SignalTable}
 use Rattle.waiting.specs.Waiting.{WaitingTable}
 use Rattle.step_signals.specs.Step.{SignalsAt}
 use Rattle.plan_steps.specs.declared.State.{State}
@@ -25,9 +25,9 @@ use Rattle.plan_steps.specs.State.{Tables, StateAt}
 use Rattle.plan_steps.specs.PlanLine.{PlanAt}
 
 -- what taking all steps asks ..
-pub record RunAsked (networkText planText : List ℕ) (reading : Reading) (links movements times ledger : List ℕ) : Type 0 where
+pub record RunAsked (networkText planText : List ℕ) (reading : Reading) (links movements times signals ledger : List ℕ) : Type 0 where
   pub tables : Tables networkText (reading .counts) (reading .«trams_at») links movements times
-  pub signals-passed : SignalsPassed networkText reading
+  pub signal-table : SignalTable (lines networkText) signals
   pub past-start : Starts networkText (reading .«past_at») (timelineLine (lines networkText) 0)
   pub steps-start : Starts networkText (reading .«steps_at») (stepLine (lines networkText) 0)
   pub room : 2 * suc (stepCount (lines networkText)) * linkCount (lines networkText) ≤ length ledger
@@ -41,7 +41,7 @@ pub record RunGot (networkText planText old : List ℕ) (answer : PlanAnswer) (l
 -- what taking the first steps asks: room for their rows alone
 pub record StepsAsked (networkText planText : List ℕ) (reading : Reading) (steps : ℕ) (links movements times signals waiting ledger : List ℕ) : Type 0 where
   pub tables : Tables networkText (reading .counts) (reading .«trams_at») links movements times
-  pub signals-asked : LoadAsked networkText reading signals
+  pub signal-table : SignalTable (lines networkText) signals
   pub past-start : Starts networkText (reading .«past_at») (timelineLine (lines networkText) 0)
   pub steps-start : Starts networkText (reading .«steps_at») (stepLine (lines networkText) 0)
   pub few-steps : steps ≤ stepCount (lines networkText)

@@ -17,7 +17,6 @@ use tables::MAX_LINKS;
 use tables::MAX_SIGNALS;
 use tables::ROW_SIZE;
 use tables::Reading;
-use tables::SIGNAL_TABLE_SIZE;
 use tables::STEP_SIZE;
 use tables::wide;
 
@@ -191,8 +190,8 @@ fn finish(plan: &[u8], at: usize, steps: usize, totals: Totals) -> PlanAnswer
     }
 }
 
-// Takes the first steps, so many, one after another, up to the first that is refused: row 0 is written, and the past gives what arrives before time 0. `signals`,
-// a table of zeros, and `waiting` have what the signals show and who waits after them.
+// Takes the first steps, so many, one after another, up to the first that is refused: row 0 is written, and the past gives what arrives before time 0. `signals`
+// and `waiting` have what the signals show and who waits after them.
 pub fn take_steps(
     network: &[u8],
     plan: &[u8],
@@ -224,7 +223,6 @@ pub fn take_steps(
         &mut curves,
         &mut places,
     );
-    network_signals::load_signals(network, reading, signals);
     waiting::first_waiting(links, counts.links, waiting);
     let totals = Totals {
         admitted: 0,
@@ -269,7 +267,7 @@ pub fn take_steps(
     taken
 }
 
-// Takes all steps. A plan with more lines than steps is refused after the last.
+// Takes all steps, from the signals before the plan on. A plan with more lines than steps is refused after the last.
 pub fn run_steps(
     network: &[u8],
     plan: &[u8],
@@ -277,12 +275,12 @@ pub fn run_steps(
     links: &[u32],
     movements: &[u32],
     times: &[u32],
+    signals: &mut [u32],
     ledger: &mut [u32],
 ) -> PlanAnswer
-    requires { ⌜ RunAsked (now network) (now plan) reading (now links) (now movements) (now times) (now ledger) ⌝ }
+    requires { ⌜ RunAsked (now network) (now plan) reading (now links) (now movements) (now times) (now signals) (now ledger) ⌝ }
     ensures { λ r. ⌜ RunGot (now (network .entry)) (now (plan .entry)) (now (ledger .entry)) r (now (ledger .exit)) ⌝ }
 {
-    let mut signals = [0u32; SIGNAL_TABLE_SIZE];
     let mut waiting = [0u32; MAX_LINKS];
     let steps = reading.counts.steps;
     let taken = take_steps(
@@ -293,7 +291,7 @@ pub fn run_steps(
         links,
         movements,
         times,
-        &mut signals,
+        signals,
         &mut waiting,
         ledger,
     );

@@ -11,13 +11,13 @@ new-requires : tie.Need-new-requires
 new-requires c κs = search needs
 
 returns : tie.Need-returns
-returns c = rw (c .new .ensures) (too-early _ _ _ _ _ (c .before .before .before .before .before .before .before .before .before .before .pre) (c .before .if1 .taken))
+returns c = rw (c .new .ensures) (too-early _ _ _ _ _ (c .before .before .before .before .before .before .before .before .before .before .before .pre .loaded) (c .before .if1 .taken))
 
 new-requires-2 : tie.Need-new-requires-2
 new-requires-2 c κs = search needs
 
 returns-2 : tie.Need-returns-2
-returns-2 c = rw (c .new2 .ensures) (too-late _ _ _ _ _ (c .before .before .before .before .before .before .before .before .before .before .before .before .pre) (c .before .before .before .if1 .left) (c .before .if2 .taken))
+returns-2 c = rw (c .new2 .ensures) (too-late _ _ _ _ _ (c .before .before .before .before .before .before .before .before .before .before .before .before .before .pre .loaded) (c .before .before .before .if1 .left) (c .before .if2 .taken))
 
 add-if3 : tie.Need-add-if3
 add-if3 c = search needs
@@ -27,8 +27,8 @@ mul-if3 c = search needs
 
 mul-if3-2 : tie.Need-mul-if3-2
 mul-if3-2 c =
-    let s = c .before .before .before .before .before .before .before .before .before .before .before .before in
-    let few = s .pre .counted .few in
+    let s = c .before .before .before .before .before .before .before .before .before .before .before .before .before in
+    let few = s .pre .loaded .counted .few in
     let h : 2 * (s .args .boundary + 1) ≤ 242 = omega (arith, few .steps, c .before .if2 .left) in
     omega (arith, mul-le-mul-right (s .args .reading .counts .links) h, few .links)
 
@@ -36,11 +36,11 @@ new-requires-3 : tie.Need-new-requires-3
 new-requires-3 c κs = search needs
 
 returns-3 : tie.Need-returns-3
-returns-3 c = rw (c .new3 .ensures) (ledger-short _ _ _ _ _ (c .before .before .before .before .before .before .before .before .before .before .before .before .before .before .pre) (c .before .before .before .before .before .if1 .left) (c .before .before .before .if2 .left) (c .before .if3 .taken))
+returns-3 c = rw (c .new3 .ensures) (ledger-short _ _ _ _ _ (c .before .before .before .before .before .before .before .before .before .before .before .before .before .before .before .pre .loaded) (c .before .before .before .before .before .if1 .left) (c .before .before .before .if2 .left) (c .before .if3 .taken))
 
 carry-steps-requires : tie.Need-carry-steps-requires
 carry-steps-requires c κs =
-    let s = c .before .before .before .before .before .before .before .before .before .before .before .before .before .before .before in asked _ (s .args .plan .now) _ _ (s .args .carried .now) (s .pre) (c .before .before .before .before .before .before .if1 .left) (c .before .before .before .before .if2 .left) (c .before .before .if3 .left)
+    let s = c .before .before .before .before .before .before .before .before .before .before .before .before .before .before .before .before .before in asked _ (s .args .plan .now) _ _ (s .args .carried .now) (s .pre .loaded) (c .before .before .before .before .before .before .before .if1 .left) (c .before .before .before .before .before .if2 .left) (c .before .before .before .if3 .left) (s .pre .signal-table)
 
 same-length : tie.Need-same-length
 same-length c = search needs
@@ -48,8 +48,11 @@ same-length c = search needs
 same-length-2 : tie.Need-same-length-2
 same-length-2 c = search needs
 
+same-length-3 : tie.Need-same-length-3
+same-length-3 c = search needs
+
 returns-4 : tie.Need-returns-4
-returns-4 c = c .before .before .before .before .carry-steps .ensures
+returns-4 c = c .before .before .before .before .before .before .carry-steps .ensures
 
 pub carry-from-spec : {M : Type 1} → statement M
 carry-from-spec =
@@ -67,4 +70,5 @@ carry-from-spec =
     carry-steps-requires
     same-length
     same-length-2
+    same-length-3
     returns-4)

@@ -1,5 +1,6 @@
 -- `listing::write_on_network` meets its contract. Assumes nothing.
 use Rattle.listing.proofs.Call.{signals-asked, signals-stopped, tables-asked, network-written}
+use mathlib.Core.Path.{refl}
 use borrow.Author.Needs.{needs}
 use Rattle.listing.proofs.write_on_network.Statement.{statement}
 use Rattle.listing.proofs.write_on_network.Tie as tie
@@ -10,8 +11,11 @@ moved-to-requires c κs = search needs
 slice-aggregate-read-signals : tie.Need-slice-aggregate-read-signals
 slice-aggregate-read-signals c = search needs
 
+slice-aggregate-read-signals-2 : tie.Need-slice-aggregate-read-signals-2
+slice-aggregate-read-signals-2 c = search needs
+
 read-signals-requires : tie.Need-read-signals-requires
-read-signals-requires c κs = search (signals-asked, needs)
+read-signals-requires c κs = signals-asked _ _ _ (c .before .before .before .before .before .before .before .pre) _ (c .before .before .moved-to .ensures) _ (search needs) _ refl
 
 enum-told : tie.Need-enum-told
 enum-told c = search needs
@@ -40,6 +44,7 @@ write-on-network-spec =
     (tie.spec
     moved-to-requires
     slice-aggregate-read-signals
+    slice-aggregate-read-signals-2
     read-signals-requires
     enum-told
     slice-aggregate-write-listing

@@ -31,6 +31,9 @@ enum-told-2 c = search needs
 same-length : tie.Need-same-length
 same-length c = search needs
 
+same-length-2 : tie.Need-same-length-2
+same-length-2 c = search needs
+
 returns-2 : tie.Need-returns-2
 returns-2 c = search (signals-stop, needs)
 
@@ -38,13 +41,16 @@ slice-aggregate-check-tram-phases : tie.Need-slice-aggregate-check-tram-phases
 slice-aggregate-check-tram-phases c = search needs
 
 check-tram-phases-requires : tie.Need-check-tram-phases-requires
-check-tram-phases-requires c κs = search (tram-phases-asked, needs)
+check-tram-phases-requires c κs = tram-phases-asked (c .before .before .before .before .before .before .before .before .before .before .before .before .before .before .before .before .before .before .before .before .before .pre) (c .before .before .before .before .before .before .before .before .before .before .before .before .before .before .before .before .read-trams .ensures) (c .before .before .before .before .before .before .before .before .before .before .before .before .before .stage .given .1) (c .before .before .before .before .before .before .before .before .before .read-signals .ensures) (c .before .before .before .stage2 .given .1)
 
-same-length-2 : tie.Need-same-length-2
-same-length-2 c = search needs
+same-length-3 : tie.Need-same-length-3
+same-length-3 c = search needs
+
+same-length-4 : tie.Need-same-length-4
+same-length-4 c = search needs
 
 returns-3 : tie.Need-returns-3
-returns-3 c = first-judged (c .before .before .before .before .before .before .before .before .before .before .before .before .before .before .before .before .before .before .pre) (c .before .before .before .before .before .before .before .before .before .before .before .before .before .before .read-trams .ensures) (c .before .before .before .before .before .before .before .before .before .before .before .stage .given .1) (c .before .before .before .before .before .before .before .before .read-signals .ensures) (c .before .before .before .before .stage2 .given .1) (c .check-tram-phases .ensures)
+returns-3 c = first-judged (c .before .before .before .before .before .before .before .before .before .before .before .before .before .before .before .before .before .before .before .before .before .before .pre) (c .before .before .before .before .before .before .before .before .before .before .before .before .before .before .before .before .before .read-trams .ensures) (c .before .before .before .before .before .before .before .before .before .before .before .before .before .before .stage .given .1) (c .before .before .before .before .before .before .before .before .before .before .read-signals .ensures) (c .before .before .before .before .stage2 .given .1) (c .check-tram-phases .ensures)
 
 pub read-trams-and-signals-spec : {M : Type 1} → statement M
 read-trams-and-signals-spec =
@@ -59,8 +65,10 @@ read-trams-and-signals-spec =
     enum-known-stage-2
     enum-told-2
     same-length
+    same-length-2
     returns-2
     slice-aggregate-check-tram-phases
     check-tram-phases-requires
-    same-length-2
+    same-length-3
+    same-length-4
     returns-3)

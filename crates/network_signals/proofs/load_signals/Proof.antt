@@ -34,7 +34,7 @@ part-read-signal-start : tie.Need-part-read-signal-start Inv-loop μ-loop
 part-read-signal-start c = search needs
 
 part-read-signal-end : tie.Need-part-read-signal-end Inv-loop μ-loop
-part-read-signal-end c = omega (arith, c .before .before .before .loop .inv .size, c .before .before .before .before .before .before .before .pre .on-text .counted .few .signals)
+part-read-signal-end c = omega (arith, c .before .before .before .loop .inv .table .size, c .before .before .before .before .before .before .before .pre .on-text .counted .few .signals)
 
 read-signal-requires : tie.Need-read-signal-requires Inv-loop μ-loop
 read-signal-requires c κs = search (loaded-asked, needs)

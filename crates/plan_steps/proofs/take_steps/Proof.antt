@@ -28,20 +28,17 @@ slice-aggregate-load-past-3 c = search needs
 load-past-requires : tie.Need-load-past-requires Inv-loop μ-loop
 load-past-requires c κs = past-asked (c .before .before .before .before .before .before .before .before .before .before .before .before .before .pre) _ _ _ refl (search needs) (search needs)
 
-load-signals-requires : tie.Need-load-signals-requires Inv-loop μ-loop
-load-signals-requires c κs = c .before .before .before .before .before .before .before .before .before .before .before .before .before .before .before .before .before .before .before .before .pre .signals-asked
-
 first-waiting-requires : tie.Need-first-waiting-requires Inv-loop μ-loop
-first-waiting-requires c κs = first-waiting-asked (c .before .before .before .before .before .before .before .before .before .before .before .before .before .before .before .before .before .before .before .before .before .before .before .before .pre)
+first-waiting-requires c κs = first-waiting-asked (c .before .before .before .before .before .before .before .before .before .before .before .before .before .before .before .before .before .before .before .before .pre)
 
 held-in-requires : tie.Need-held-in-requires Inv-loop μ-loop
-held-in-requires c κs = held-asked (c .before .before .before .before .before .before .before .before .before .before .before .before .before .before .before .before .before .before .before .before .before .before .before .before .before .before .before .before .pre) (c .before .before .before .before .before .before .before .before .before .before .before .before .before .before .load-past .ensures)
+held-in-requires c κs = held-asked (c .before .before .before .before .before .before .before .before .before .before .before .before .before .before .before .before .before .before .before .before .before .before .before .before .pre) (c .before .before .before .before .before .before .before .before .before .before .load-past .ensures)
 
 sum-of-requires : tie.Need-sum-of-requires Inv-loop μ-loop
-sum-of-requires c κs = sum-asked (c .before .before .before .before .before .before .before .before .before .before .before .before .before .before .before .before .before .before .before .before .before .before .before .before .before .before .before .before .before .before .pre) (c .before .before .before .before .before .before .before .before .before .before .before .before .before .before .before .before .load-past .ensures) (c .before .before .before .before .before .first-waiting .ensures)
+sum-of-requires c κs = sum-asked (c .before .before .before .before .before .before .before .before .before .before .before .before .before .before .before .before .before .before .before .before .before .before .before .before .before .before .pre) (c .before .before .before .before .before .before .before .before .before .before .before .before .load-past .ensures) (c .before .before .before .before .before .first-waiting .ensures)
 
 loop-holds : tie.Need-loop-holds Inv-loop μ-loop
-loop-holds c = running-first (c .before .before .before .before .before .before .before .before .before .before .before .before .before .before .before .before .before .before .before .before .before .before .before .before .before .before .before .before .before .before .before .pre) (c .before .before .before .before .before .before .before .before .before .before .before .before .before .before .before .before .before .load-past .ensures) (c .before .before .before .before .before .before .first-waiting .ensures) _ (c .before .before .held-in .ensures .0) _ (c .sum-of .ensures .0) _ (c .before .before .before .before .before .before .before .before .before .before .load-signals .ensures)
+loop-holds c = running-first (c .before .before .before .before .before .before .before .before .before .before .before .before .before .before .before .before .before .before .before .before .before .before .before .before .before .before .before .pre) (c .before .before .before .before .before .before .before .before .before .before .before .before .before .load-past .ensures) (c .before .before .before .before .before .before .first-waiting .ensures) _ (c .before .before .held-in .ensures .0) _ (c .sum-of .ensures .0) _ (c .before .before .before .before .before .before .before .before .before .before .before .before .before .before .before .before .before .before .before .before .before .before .before .before .before .before .before .pre .signal-table)
 
 slice-aggregate-take-step : tie.Need-slice-aggregate-take-step Inv-loop μ-loop
 slice-aggregate-take-step c = sym (c .before .before .before .before .before .loop .inv .state-at .arrivals-at .size)
@@ -68,28 +65,28 @@ enum-told-2 : tie.Need-enum-told-2 Inv-loop μ-loop
 enum-told-2 c = search needs
 
 same-length : tie.Need-same-length Inv-loop μ-loop
-same-length c = omega (arith, c .before .before .before .before .before .before .before .before .before .before .before .take-step .kept .1 .1 .1 .1 .1 .1 .1 .0, c .before .before .before .before .before .before .before .before .before .before .before .before .before .before .before .before .before .before .before .before .before .loop .inv .state-at .signals-at .size, c .before .before .before .before .before .before .before .before .before .before .before .before .before .before .before .before .before .before .before .before .before .before .before .before .before .before .before .before .before .before .before .before .before .before .before .before .before .before .before .before .before .before .before .before .before .before .before .before .before .before .before .before .before .pre .signals-asked .size)
+same-length c = omega (arith, c .before .before .before .before .before .before .before .before .before .before .before .take-step .kept .1 .1 .1 .1 .1 .1 .1 .0, c .before .before .before .before .before .before .before .before .before .before .before .before .before .before .before .before .before .before .before .before .before .loop .inv .state-at .signals-at .size, c .before .before .before .before .before .before .before .before .before .before .before .before .before .before .before .before .before .before .before .before .before .before .before .before .before .before .before .before .before .before .before .before .before .before .before .before .before .before .before .before .before .before .before .before .before .before .before .before .before .pre .signal-table .size)
 
 same-length-2 : tie.Need-same-length-2 Inv-loop μ-loop
-same-length-2 c = omega (arith, c .before .before .before .before .before .before .before .before .before .before .before .take-step .kept .1 .1 .1 .1 .1 .1 .1 .1 .1 .1 .1 .0, c .before .before .before .before .before .before .before .before .before .before .before .before .before .before .before .before .before .before .before .before .before .loop .inv .state-at .waiting-at .size, c .before .before .before .before .before .before .before .before .before .before .before .before .before .before .before .before .before .before .before .before .before .before .before .before .before .before .before .before .before .before .before .before .before .before .before .before .before .before .before .before .before .before .before .before .before .before .before .before .before .before .before .before .before .pre .waiting-size)
+same-length-2 c = omega (arith, c .before .before .before .before .before .before .before .before .before .before .before .take-step .kept .1 .1 .1 .1 .1 .1 .1 .1 .1 .1 .1 .0, c .before .before .before .before .before .before .before .before .before .before .before .before .before .before .before .before .before .before .before .before .before .loop .inv .state-at .waiting-at .size, c .before .before .before .before .before .before .before .before .before .before .before .before .before .before .before .before .before .before .before .before .before .before .before .before .before .before .before .before .before .before .before .before .before .before .before .before .before .before .before .before .before .before .before .before .before .before .before .before .before .pre .waiting-size)
 
 same-length-3 : tie.Need-same-length-3 Inv-loop μ-loop
-same-length-3 c = omega (arith, c .before .before .before .before .before .before .before .before .before .before .before .take-step .kept .1 .1 .1 .1 .1 .1 .1 .1 .1 .1 .1 .1 .0, c .before .before .before .before .before .before .before .before .before .before .before .before .before .before .before .before .before .before .before .before .before .loop .inv .long, c .before .before .before .before .before .before .before .before .before .before .before .before .before .before .before .before .before .before .before .before .before .before .before .before .before .before .before .before .before .before .before .before .before .before .before .before .before .before .before .load-past .ensures .size)
+same-length-3 c = omega (arith, c .before .before .before .before .before .before .before .before .before .before .before .take-step .kept .1 .1 .1 .1 .1 .1 .1 .1 .1 .1 .1 .1 .0, c .before .before .before .before .before .before .before .before .before .before .before .before .before .before .before .before .before .before .before .before .before .loop .inv .long, c .before .before .before .before .before .before .before .before .before .before .before .before .before .before .before .before .before .before .before .before .before .before .before .before .before .before .before .before .before .before .before .before .before .before .before .load-past .ensures .size)
 
 returns : tie.Need-returns Inv-loop μ-loop
-returns c = steps-since (c .before .before .before .before .before .before .before .before .before .before .before .before .before .before .before .before .before .before .before .before .before .before .before .before .before .before .before .before .before .before .before .before .before .before .before .before .before .before .before .before .before .before .before .before .before .before .before .before .before .before .before .before .before .pre) (c .before .before .before .before .before .before .before .before .before .before .before .before .before .before .before .before .before .before .before .before .before .before .before .before .before .before .before .before .before .before .before .before .before .before .before .before .before .before .before .load-past .ensures) (steps-stopped (c .before .before .before .before .before .before .before .before .before .before .before .before .before .before .before .before .before .before .before .before .before .loop .inv) (c .before .before .before .before .before .before .before .before .before .before .before .take-step .ensures) (omega arith) (c .enum-told2 .given .1))
+returns c = steps-since (c .before .before .before .before .before .before .before .before .before .before .before .before .before .before .before .before .before .before .before .before .before .before .before .before .before .before .before .before .before .before .before .before .before .before .before .before .before .before .before .before .before .before .before .before .before .before .before .before .before .pre) (c .before .before .before .before .before .before .before .before .before .before .before .before .before .before .before .before .before .before .before .before .before .before .before .before .before .before .before .before .before .before .before .before .before .before .before .load-past .ensures) (steps-stopped (c .before .before .before .before .before .before .before .before .before .before .before .before .before .before .before .before .before .before .before .before .before .loop .inv) (c .before .before .before .before .before .before .before .before .before .before .before .take-step .ensures) (omega arith) (c .enum-told2 .given .1))
 
 same-length-4 : tie.Need-same-length-4 Inv-loop μ-loop
-same-length-4 c = omega (arith, c .before .before .loop .inv .state-at .signals-at .size, c .before .before .before .before .before .before .before .before .before .before .before .before .before .before .before .before .before .before .before .before .before .before .before .before .before .before .before .before .before .before .before .before .before .before .pre .signals-asked .size)
+same-length-4 c = omega (arith, c .before .before .loop .inv .state-at .signals-at .size, c .before .before .before .before .before .before .before .before .before .before .before .before .before .before .before .before .before .before .before .before .before .before .before .before .before .before .before .before .before .before .pre .signal-table .size)
 
 same-length-5 : tie.Need-same-length-5 Inv-loop μ-loop
-same-length-5 c = omega (arith, c .before .before .loop .inv .state-at .waiting-at .size, c .before .before .before .before .before .before .before .before .before .before .before .before .before .before .before .before .before .before .before .before .before .before .before .before .before .before .before .before .before .before .before .before .before .before .pre .waiting-size)
+same-length-5 c = omega (arith, c .before .before .loop .inv .state-at .waiting-at .size, c .before .before .before .before .before .before .before .before .before .before .before .before .before .before .before .before .before .before .before .before .before .before .before .before .before .before .before .before .before .before .pre .waiting-size)
 
 same-length-6 : tie.Need-same-length-6 Inv-loop μ-loop
-same-length-6 c = omega (arith, c .before .before .loop .inv .long, c .before .before .before .before .before .before .before .before .before .before .before .before .before .before .before .before .before .before .before .before .load-past .ensures .size)
+same-length-6 c = omega (arith, c .before .before .loop .inv .long, c .before .before .before .before .before .before .before .before .before .before .before .before .before .before .before .before .load-past .ensures .size)
 
 returns-2 : tie.Need-returns-2 Inv-loop μ-loop
-returns-2 c = steps-since (c .before .before .before .before .before .before .before .before .before .before .before .before .before .before .before .before .before .before .before .before .before .before .before .before .before .before .before .before .before .before .before .before .before .before .pre) (c .before .before .before .before .before .before .before .before .before .before .before .before .before .before .before .before .before .before .before .before .load-past .ensures) (steps-taken (c .before .before .loop .inv) (omega arith))
+returns-2 c = steps-since (c .before .before .before .before .before .before .before .before .before .before .before .before .before .before .before .before .before .before .before .before .before .before .before .before .before .before .before .before .before .before .pre) (c .before .before .before .before .before .before .before .before .before .before .before .before .before .before .before .before .load-past .ensures) (steps-taken (c .before .before .loop .inv) (omega arith))
 
 pub take-steps-spec : {M : Type 1} → statement M
 take-steps-spec =
@@ -101,7 +98,6 @@ take-steps-spec =
     slice-aggregate-load-past-2
     slice-aggregate-load-past-3
     load-past-requires
-    load-signals-requires
     first-waiting-requires
     held-in-requires
     sum-of-requires

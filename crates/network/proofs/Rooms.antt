@@ -1,0 +1,22 @@
+-- Tables of zeros have room for a network.
+use Prim.Native.Nat.{ℕ}
+use mathlib.Core.Path.{_≡_, ap, _∙_}
+use mathlib.Core.List.{List}
+use native.Mathlib.Decide.{decLe}
+use native.Mathlib.Omega.{arith}
+use lib.ListN.{length, getD, replicate, length-replicate, getD-replicate, List·getD-eq-default}
+use Rattle.tables.specs.Fields.{signalTableSize}
+use Rattle.network.specs.Loading.{Rooms, SignalRooms}
+
+module _ {signals : List ℕ} (zeros : signals ≡ replicate signalTableSize 0) where
+  pub zeros-size : length signals ≡ signalTableSize
+  zeros-size = rw zeros (length-replicate {A = ℕ} signalTableSize 0)
+
+  pub zeros-blank : (k : ℕ) → getD signals k 0 ≡ 0
+  zeros-blank k = elim (decLe signalTableSize k) [
+    | yes h ↦ List·getD-eq-default signals 0 (omega (arith, zeros-size))
+    | no h ↦ ap (λ l. getD l k 0) zeros ∙ getD-replicate {A = ℕ} signalTableSize k 0 0 (omega arith)
+  ]
+
+  pub zero-rooms : {links movements times : List ℕ} → Rooms links movements times → SignalRooms signals links movements times
+  zero-rooms rooms = record { rooms = rooms; signal-room = zeros-size; blank = zeros-blank }
