@@ -250,7 +250,7 @@ impl Reader<'_> {
         Ok(escaped)
     }
 
-    /// `\uXXXX`, from its `u` on, or two of them that are a surrogate pair.
+    /// `\u` and four hexadecimal digits, from the `u` on, or two of them that are a surrogate pair.
     fn unicode(&mut self) -> Result<char, Wrong> {
         let start = self.at;
         let first = self.four_digits()?;
