@@ -124,7 +124,8 @@
  * the item that it names, 0 where it names none. Nothing else is reported: when number is not 0, every other member but
  * line, item and the plan of a comparison is 0. Numbers 1 to 6 and 28 name a line of the network text (30, the past as a
  * whole, names none), 9 to 18, 25 to 27, 29 and 34 a line of the plan text, 22 and 23 a line of the listing, 33 a line of
- * the sheet, 36 and 37 a line of the corridor text. docs/REFUSALS.md says what to do about each.
+ * the sheet, 36 and 37 a line of the corridor text. docs/REFUSALS.md says what to do about each;
+ * plancheck_words.h has the words of that page for a screen.
  */
 #ifndef PLANCHECK_H
 #define PLANCHECK_H
@@ -367,7 +368,8 @@ typedef struct {
     uint32_t in_transit; /* volume that has entered and has not arrived */
 } plancheck_link_result;
 
-/* Answer of a call that writes a text. 24 bytes, of which the 4 after item are padding. */
+/* Answer of a call that writes a text. 24 bytes, of which the 4 after item are padding; where size_t has 32 bits, 16
+   without padding. */
 typedef struct {
     uint32_t number; /* PLANCHECK_OK: the text is written */
     uint32_t line;
@@ -397,7 +399,8 @@ typedef struct {
     int64_t gap;    /* doubled time of the first minus that of the second: negative when the first is quicker */
 } plancheck_comparison_result;
 
-/* Answer of plancheck_split. 48 bytes, of which the 4 after item are padding. */
+/* Answer of plancheck_split. 48 bytes, of which the 4 after item are padding; where size_t has 32 bits, 28 without
+   padding. */
 typedef struct {
     uint32_t number; /* PLANCHECK_OK: the four texts are written */
     uint32_t line;
@@ -421,7 +424,18 @@ typedef struct {
 
 /*
  * The sizes that the library was built with, and where the padding is: a compiler that lays the structs out otherwise
- * stops here.
+ * stops here. In bytes, where size_t has 64 bits and where it has 32; a processor of 32 bits must align uint64_t to 8
+ * bytes, as those of Arm do:
+ *     struct                         64    32
+ *     plancheck_network_result       12    12
+ *     plancheck_counts_result        36    36
+ *     plancheck_version_result       12    12
+ *     plancheck_plan_result          48    48
+ *     plancheck_link_result          20    20
+ *     plancheck_text_result          24    16
+ *     plancheck_comparison_result    32    32
+ *     plancheck_split_result         48    28
+ *     plancheck_cells_result        288   288
  */
 #define PLANCHECK_ASSERT(name, holds) typedef char plancheck_assert_##name[(holds) ? 1 : -1]
 PLANCHECK_ASSERT(network_result, sizeof(plancheck_network_result) == 12);
@@ -431,9 +445,11 @@ PLANCHECK_ASSERT(plan_result, sizeof(plancheck_plan_result) == 48);
 PLANCHECK_ASSERT(plan_totals, offsetof(plancheck_plan_result, admitted) == 16);
 PLANCHECK_ASSERT(link_result, sizeof(plancheck_link_result) == 20);
 PLANCHECK_ASSERT(text_result, sizeof(plancheck_text_result) == (sizeof(size_t) == 8 ? 24 : 16));
+PLANCHECK_ASSERT(text_length, offsetof(plancheck_text_result, length) == (sizeof(size_t) == 8 ? 16 : 12));
 PLANCHECK_ASSERT(comparison_result, sizeof(plancheck_comparison_result) == 32);
 PLANCHECK_ASSERT(comparison_gap, offsetof(plancheck_comparison_result, gap) == 24);
 PLANCHECK_ASSERT(split_result, sizeof(plancheck_split_result) == (sizeof(size_t) == 8 ? 48 : 28));
+PLANCHECK_ASSERT(split_lengths, offsetof(plancheck_split_result, network_1) == (sizeof(size_t) == 8 ? 16 : 12));
 PLANCHECK_ASSERT(cells_result, sizeof(plancheck_cells_result) == 288);
 PLANCHECK_ASSERT(cells_flows, offsetof(plancheck_cells_result, flow_in) == 16);
 #undef PLANCHECK_ASSERT
