@@ -5,6 +5,7 @@
  * Exit status: 0 accepted, 1 refused, 2 a file cannot be read or is too long.
  */
 #include "plancheck.h"
+#include "plancheck_words.h"
 
 #include <inttypes.h>
 #include <stdio.h>
@@ -14,59 +15,19 @@ static uint8_t network[PLANCHECK_NETWORK_TEXT_MAX + 1];
 static uint8_t plan[PLANCHECK_PLAN_TEXT_MAX + 1];
 static uint32_t ledger[PLANCHECK_LEDGER_MAX];
 
-static const char bad_form[] = "a line is missing, unfinished or surplus, or has a wrong letter, a bad number or a "
-                               "wrong number of fields";
-
-/* What each refusal names, and what it means. */
-static const struct {
-    const char *text, *item, *meaning;
-} refusals[] = {
-    [PLANCHECK_NETWORK_FORM] = {"network", NULL, bad_form},
-    [PLANCHECK_NETWORK_COUNTS] = {"network", NULL, "a count is outside its limits"},
-    [PLANCHECK_SIGNAL_VALUES] = {"network", "signal", "a value of the signal is outside its limits"},
-    [PLANCHECK_LINK_VALUES] = {"network", "link", "a value of the link is outside its limits"},
-    [PLANCHECK_MOVEMENT_VALUES] = {"network", "movement",
-                                   "a value of the movement is outside its limits, the pairs of links do not rise, or "
-                                   "the link's shares do not sum to 1000"},
-    [PLANCHECK_STEP_VALUES] = {"network", "step", "the step's length or a demand is outside its limits"},
-    [PLANCHECK_LEDGER_TOO_SHORT] = {NULL, NULL, "the ledger is too short"},
-    [PLANCHECK_PLAN_FORM] = {"plan", NULL, bad_form},
-    [PLANCHECK_SIGNAL_MASK] = {"plan", "signal", "the mask shows none of the signal's phases, or several"},
-    [PLANCHECK_PHASE_ORDER] = {"plan", "signal", "the phase is neither that of the step before nor the next"},
-    [PLANCHECK_PHASE_TOO_SHORT] = {"plan", "signal", "a phase is left before its least time"},
-    [PLANCHECK_PHASE_TOO_LONG] = {"plan", "signal", "a phase shows longer than its greatest time"},
-    [PLANCHECK_CYCLE_TIME] = {"plan", "signal", "the cycle is shorter than its least or longer than its greatest time"},
-    [PLANCHECK_ABOVE_DEMAND] = {"plan", "link", "more is admitted than has come by then"},
-    [PLANCHECK_TURNING_SHARE] = {"plan", "movement", "the movement is above its share of the movements from its link"},
-    [PLANCHECK_EARLY_DEPARTURE] = {"plan", "link", "more has left than has arrived"},
-    [PLANCHECK_OVER_CAPACITY] = {"plan", "link", "the link would hold more than its capacity"},
-    [PLANCHECK_NO_SUCH_BOUNDARY] = {NULL, NULL, "there is no such boundary"},
-    [PLANCHECK_NO_SUCH_LINK] = {NULL, NULL, "there is no such link"},
-    [PLANCHECK_LEDGER_CONTRADICTION] = {NULL, NULL, "the ledger contradicts itself or the network"},
-    [PLANCHECK_ABOVE_EXIT_LIMIT] = {"plan", "link", "more is let out than the link's exit rate allows"},
-    [PLANCHECK_ABOVE_RATE] = {"plan", "movement", "more is moved than the movement's rate allows"},
-    [PLANCHECK_SHUT_LINK] = {"plan", "movement", "the movement leaves a link that its signal shuts"},
-    [PLANCHECK_TRAM_VALUES] = {"network", NULL,
-                               "the tram's signal, phase or steps do not exist, or another tram of the signal has a "
-                               "step of it"},
-    [PLANCHECK_TRAM_PHASE] = {"plan", "signal", "a tram claims the signal, and its phase is not shown"},
-    [PLANCHECK_PAST_VALUES] = {NULL, NULL,
-                               "the past is too long, a past step's length is outside its limits, or what the past "
-                               "brought to a link is more than it can have"},
-};
-
 static void print_refusal(uint32_t number, uint32_t line, uint32_t item)
 {
-    if (number >= sizeof refusals / sizeof refusals[0] || refusals[number].meaning == NULL) {
+    const plancheck_words *words = plancheck_words_of(number);
+    if (words == NULL) {
         printf("refusal %" PRIu32 ", line %" PRIu32 ", item %" PRIu32 "\n", number, line, item);
         return;
     }
     printf("refusal %" PRIu32, number);
-    if (refusals[number].text != NULL)
-        printf(", %s line %" PRIu32, refusals[number].text, line);
-    if (refusals[number].item != NULL)
-        printf(", %s %" PRIu32, refusals[number].item, item);
-    printf(": %s\n", refusals[number].meaning);
+    if (words->line != PLANCHECK_LINE_NONE)
+        printf(", line %" PRIu32 " of the %s", line, plancheck_line_word(words->line));
+    if (words->item != PLANCHECK_ITEM_NONE)
+        printf(", %s %" PRIu32, plancheck_item_word(words->item), item);
+    printf(": %s; keep the running plan, and tell %s\n", words->meaning, words->tell);
 }
 
 /* Volumes are in thousandths of a vehicle. */
