@@ -118,13 +118,13 @@ def write_inputs(path, folders, small, more):
         file.write(f"static const struct example examples[EXAMPLES] = {{\n{table}}};\n")
 
 
-def build(board, name, sources, inputs, library=LIBRARY):
-    """A program for a board; the folder of inputs holds inputs.h."""
+def build(board, name, sources, inputs, library=LIBRARY, options=()):
+    """A program for a board; the folder of inputs holds inputs.h. More options go to the compiler."""
     path = f"{os.path.dirname(library)}/{name}-{board.name}.elf"
     processor = ["-mcpu=cortex-m0", "-mthumb", "-ffunction-sections"]
     sizes = [f"-Wl,--defsym=FLASH_KB={board.flash}", f"-Wl,--defsym=RAM_KB={board.memory}"]
     linking = ["-nostartfiles", "-Wl,--gc-sections", *sizes, "-Tbox/board.ld"]
-    output_of("arm-none-eabi-gcc", *STRICT, *processor, f"-I{inputs}", "box/board.c", *sources, library, *linking, "-o", path)
+    output_of("arm-none-eabi-gcc", *STRICT, *processor, *options, f"-I{inputs}", "box/board.c", *sources, library, *linking, "-o", path)
     return path
 
 
