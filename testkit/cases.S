@@ -4,3 +4,4 @@
 testkit_cases:
     .incbin TESTKIT_FILE
 testkit_cases_end:
+    .section .note.GNU-stack, "", %progbits

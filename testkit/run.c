@@ -1,7 +1,6 @@
 /*
- * Reads the text of cases, has the library answer each, and compares. No heap, and of the C library memcmp, memcpy,
- * memset and strcmp alone. With TESTKIT_BOX defined, only the calls of a box are linked, and the cases of the others are
- * left out.
+ * Reads the text of cases, has the library answer each, and compares. No heap, and of the C library memcpy and
+ * memset alone. With TESTKIT_BOX defined, only the calls of a box are linked, and the cases of the others are left out.
  */
 #include "testkit.h"
 
@@ -30,12 +29,13 @@
 #endif
 
 enum {
-    BLOCK_ROOM = 128,    /* bytes that are read at once */
-    NAME_ROOM = 32,      /* of a case, and of a word of the text */
-    MOST_BUFFERS = 4,    /* of plancheck_split */
-    MOST_LEDGERS = 2,    /* of plancheck_compare_plans */
-    MOST_NUMBERS = 4,    /* of an answer */
-    MOST_VALUES = 80,    /* of a list of doubles: some more than the library takes */
+    BLOCK_ROOM = 128,       /* bytes that are read at once */
+    NAME_ROOM = 32,         /* of a case, and of a word of the text */
+    MOST_BUFFERS = 4,       /* of plancheck_split */
+    MOST_LEDGERS = 2,       /* of plancheck_compare_plans */
+    MOST_NUMBERS = 4,       /* of an answer */
+    MOST_LENGTH = 10000000, /* of a ledger or a buffer */
+    MOST_VALUES = 80,       /* of a list of doubles: some more than the library takes */
     DIFFERENCES_TOLD = 10
 };
 
@@ -126,6 +126,15 @@ static void expect(int byte)
         text_is_wrong = 1;
 }
 
+static int is_same(const char *word, const char *other)
+{
+    while (*word != 0 && *word == *other) {
+        word++;
+        other++;
+    }
+    return *word == *other;
+}
+
 /* A word up to a space or the end of the line, which stays. */
 static void read_word(char *word)
 {
@@ -159,6 +168,16 @@ static uint64_t read_number(int base)
     while (digit_of(peek()) < base)
         number = number * (unsigned)base + (unsigned)digit_of(next());
     return number;
+}
+
+/* A length that no sum of lengths overflows. */
+static size_t read_length(void)
+{
+    uint64_t length = read_number(10);
+    if (length <= MOST_LENGTH)
+        return (size_t)length;
+    text_is_wrong = 1;
+    return 0;
 }
 
 static void add_byte(struct text *text, int byte)
@@ -207,7 +226,7 @@ static void read_text(struct text *text)
 /* The length of a ledger, what it is filled with, and the numbers at its start. */
 static void read_ledger(void)
 {
-    size_t length = (size_t)read_number(10), start = ledger_total;
+    size_t length = read_length(), start = ledger_total;
     uint32_t fill = (uint32_t)read_number(10);
     if (ledger_count == MOST_LEDGERS) {
         text_is_wrong = 1;
@@ -229,7 +248,7 @@ static void read_ledger(void)
 /* The length of a buffer, and what each byte of it is. */
 static void read_buffer(void)
 {
-    size_t length = (size_t)read_number(10), start = buffer_total;
+    size_t length = read_length(), start = buffer_total;
     int fill = (int)read_number(10);
     if (buffer_count == MOST_BUFFERS) {
         text_is_wrong = 1;
@@ -264,7 +283,7 @@ static void read_answer(void)
     expect(' ');
     read_word(word);
     uint32_t answer = 0;
-    while (answer < ANSWERS && strcmp(word, answer_words[answer]) != 0)
+    while (answer < ANSWERS && !is_same(word, answer_words[answer]))
         answer++;
     text_is_wrong |= answer == ANSWERS;
     expected.answer = answer;
@@ -281,19 +300,19 @@ static void read_answer(void)
 /* A line of a case that is not one of a text; its line feed stays. False where there is no such line. */
 static int read_field(const char *word)
 {
-    if (strcmp(word, "ledger") == 0)
+    if (is_same(word, "ledger"))
         read_ledger();
-    else if (strcmp(word, "buffer") == 0)
+    else if (is_same(word, "buffer"))
         read_buffer();
-    else if (strcmp(word, "boundary") == 0)
+    else if (is_same(word, "boundary"))
         boundary = read_number(10);
-    else if (strcmp(word, "link") == 0)
+    else if (is_same(word, "link"))
         link_number = read_number(10);
-    else if (strcmp(word, "half") == 0)
+    else if (is_same(word, "half"))
         half = read_number(10);
-    else if (strcmp(word, "answer") == 0)
+    else if (is_same(word, "answer"))
         read_answer();
-    else if (strcmp(word, "call") == 0) {
+    else if (is_same(word, "call")) {
         expect(' ');
         read_word(call_name);
     } else
@@ -305,8 +324,8 @@ static int read_field(const char *word)
 /* Passes over a line of doubles, which only other calls use; its line feed stays. False where it is none. */
 static int read_metres(const char *word)
 {
-    if (strcmp(word, "places") != 0 && strcmp(word, "advances") != 0 && strcmp(word, "red_lines") != 0 &&
-        strcmp(word, "spacing") != 0)
+    if (!is_same(word, "places") && !is_same(word, "advances") && !is_same(word, "red_lines") &&
+        !is_same(word, "spacing"))
         return 0;
     while (peek() >= 0 && peek() != '\n')
         next();
@@ -316,13 +335,13 @@ static int read_metres(const char *word)
 /* A line of doubles; its line feed stays. False where it is none. */
 static int read_metres(const char *word)
 {
-    if (strcmp(word, "places") == 0)
+    if (is_same(word, "places"))
         read_values(&places);
-    else if (strcmp(word, "advances") == 0)
+    else if (is_same(word, "advances"))
         read_values(&advances);
-    else if (strcmp(word, "red_lines") == 0)
+    else if (is_same(word, "red_lines"))
         read_values(&red_lines);
-    else if (strcmp(word, "spacing") == 0)
+    else if (is_same(word, "spacing"))
         read_values(&spacing);
     else
         return 0;
@@ -342,13 +361,13 @@ static void read_case(void)
     expect('\n');
     while (!text_is_wrong) {
         read_word(word);
-        if (strcmp(word, "checksum") == 0)
+        if (is_same(word, "checksum"))
             break;
-        if (strcmp(word, "network") == 0)
+        if (is_same(word, "network"))
             read_text(&network);
-        else if (strcmp(word, "plan") == 0)
+        else if (is_same(word, "plan"))
             read_text(&plan);
-        else if (strcmp(word, "second") == 0)
+        else if (is_same(word, "second"))
             read_text(&second);
         else if (read_field(word) || read_metres(word))
             expect('\n');
@@ -619,8 +638,9 @@ static void tell_difference(const struct told *told, int same_answer)
 
 static void compare(struct told told)
 {
-    int same_numbers = memcmp(told.numbers, expected.numbers, sizeof told.numbers) == 0;
-    int same_answer = told.answer == expected.answer && same_numbers;
+    int same_answer = told.answer == expected.answer;
+    for (size_t k = 0; k < MOST_NUMBERS; k++)
+        same_answer &= told.numbers[k] == expected.numbers[k];
     cases_run++;
     if (same_answer && told.checksum == expected.checksum && told.rest == 0)
         return;
@@ -640,7 +660,7 @@ static int fits(const struct call *call)
 static void run_case(void)
 {
     size_t k = 0;
-    while (k < sizeof calls / sizeof calls[0] && strcmp(call_name, calls[k].name) != 0)
+    while (k < sizeof calls / sizeof calls[0] && !is_same(call_name, calls[k].name))
         k++;
     if (k == sizeof calls / sizeof calls[0]) {
         cases_of_other_calls++;
@@ -694,10 +714,10 @@ int testkit_run(void)
     read_word(word);
     uint64_t count = read_number(10);
     expect('\n');
-    text_is_wrong |= strcmp(word, "cases") != 0;
+    text_is_wrong |= !is_same(word, "cases");
     for (uint64_t k = 0; k < count && !text_is_wrong; k++) {
         read_word(word);
-        text_is_wrong |= strcmp(word, "case") != 0;
+        text_is_wrong |= !is_same(word, "case");
         read_case();
         if (!text_is_wrong)
             run_case();

@@ -1,7 +1,7 @@
 /*
- * Runs the cases on an Arm Cortex-M by semihosting, under a debugger or in qemu: words go to the host, and the cases come
- * from the host's file TESTKIT_FILE, or with TESTKIT_IN_MEMORY from memory, where cases.S puts that file. The start of
- * the board and its linker script are the board's own.
+ * Runs the cases on an Arm Cortex-M by semihosting, under a debugger or in qemu: words go to the host, and the cases
+ * come from the host's file TESTKIT_FILE, or with TESTKIT_IN_MEMORY from memory, where cases.S puts that file. The
+ * start of the board and its linker script are the board's own.
  */
 #include "testkit.h"
 
