@@ -8,9 +8,11 @@ mod compare;
 mod explain;
 mod listing;
 mod make;
+mod model;
 mod rank;
 mod report;
 mod sheet;
+mod solution;
 mod split;
 mod states;
 mod traces;
@@ -31,6 +33,8 @@ pub const ALL: &[Command] = &[
     carry::COMMAND,
     split::COMMAND,
     listing::COMMAND,
+    model::COMMAND,
+    solution::COMMAND,
     sheet::COMMAND,
     cells::COMMAND,
     traces::COMMAND,

@@ -9,7 +9,7 @@ fn usage_tells_the_commands_that_there_are() {
     assert_eq!(said.status, 0);
     for name in [
         "check", "explain", "report", "wave", "states", "rank", "batch", "compare", "carry", "split", "listing",
-        "sheet", "cells", "traces", "make",
+        "model", "solution", "sheet", "cells", "traces", "make",
     ] {
         assert!(said.out.contains(&format!("\n  {name} ")), "{name}");
     }
