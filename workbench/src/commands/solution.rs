@@ -7,7 +7,7 @@ use crate::model::Model;
 use crate::network::Network;
 use crate::solution::{self, listing, Taken};
 use crate::{show, words};
-use plancheck::{NetworkText, Text};
+use plancheck::{NetworkText, PlanText, Text};
 use std::io::Write;
 use std::path::Path;
 
@@ -35,38 +35,47 @@ fn run(arguments: &[String], out: &mut dyn Write) -> Outcome {
             return Ok(Ended::Refused);
         }
     };
-    let model = Model::new(&network);
-    let found = solution::read(&String::from_utf8_lossy(&found), &model.variables());
+    let Some(plan) = find_plan(&network, file, &found)? else {
+        return Ok(Ended::Refused);
+    };
+    let written = if parted.has("--plan") {
+        Ok(plan.to_string())
+    } else {
+        listing(&network, &plan)
+    };
+    match (written, parted.value("-o")) {
+        (Ok(written), Some(path)) => write(Path::new(path), written.as_bytes())?,
+        (Ok(written), None) => out.write_all(written.as_bytes())?,
+        (Err(faults), _) => {
+            tell_faults(&faults);
+            return Ok(Ended::Refused);
+        }
+    }
+    Ok(judged(text, &plan))
+}
+
+/// The plan that a file has; where it has none, this is told.
+fn find_plan(network: &NetworkText, file: &str, found: &[u8]) -> Result<Option<PlanText>, Problem> {
+    let model = Model::new(network);
+    let found = solution::read(&String::from_utf8_lossy(found), &model.variables());
     if let Some(line) = &found.none {
         eprintln!("workbench: {file} has no plan: {line}");
-        return Ok(Ended::Refused);
+        return Ok(None);
     }
-    let taken = Taken::new(&network, &found);
+    let taken = Taken::new(network, &found);
     if taken.count == 0 {
         return Err(Problem(format!("{file} has no variable of a listing or of the model")));
     }
     tell("passed over, no variable of a plan", &taken.foreign);
     tell("taken as the value next to it", &taken.rounded);
-    let plan = taken.plan.to_string();
-    let written = if !taken.faults.is_empty() {
-        Err(taken.faults)
-    } else if parted.has("--plan") {
-        Ok(plan.clone())
-    } else {
-        listing(&network, &taken.plan)
-    };
-    let written = match written {
-        Ok(written) => written,
-        Err(faults) => {
-            faults.iter().for_each(|fault| eprintln!("workbench: {fault}"));
-            return Ok(Ended::Refused);
-        }
-    };
-    match parted.value("-o") {
-        Some(path) => write(Path::new(path), written.as_bytes())?,
-        None => out.write_all(written.as_bytes())?,
+    tell_faults(&taken.faults);
+    Ok(taken.faults.is_empty().then_some(taken.plan))
+}
+
+fn tell_faults(faults: &[String]) {
+    for fault in faults {
+        eprintln!("workbench: {fault}");
     }
-    Ok(judged(text, plan))
 }
 
 /// Tells variables with a word on them, the first by name.
@@ -79,10 +88,10 @@ fn tell(what: &str, variables: &[String]) {
 }
 
 /// Tells what the library says of the plan.
-fn judged(network: Vec<u8>, plan: String) -> Ended {
+fn judged(network: Vec<u8>, plan: &PlanText) -> Ended {
     let texts = Texts {
         network,
-        plan: plan.into_bytes(),
+        plan: plan.to_string().into_bytes(),
     };
     match judge(&texts).answer {
         Ok(totals) => {

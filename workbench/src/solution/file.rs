@@ -1,4 +1,4 @@
-//! The values of variables in what CBC, GLPK, HiGHS, SCIP, Gurobi and lp_solve write.
+//! The values of variables in what solvers write: CBC, GLPK, `HiGHS`, SCIP, Gurobi and `lp_solve`.
 
 /// A variable with its value, as a file has it.
 pub struct Named {
@@ -45,37 +45,40 @@ pub fn read(text: &str, variables: &[&str]) -> Solution {
 
 fn read_named(text: &str) -> Solution {
     let mut solution = Solution::default();
-    let mut of_variables = true;
-    // GLPK goes on in the next line behind a long name.
-    let mut long = None;
+    let (mut of_variables, mut long) = (true, None);
     for line in text.lines() {
         let lower = line.trim().to_lowercase();
-        if VARIABLES.iter().any(|start| lower.starts_with(start)) {
+        let starts_as = |starts: &[&str]| starts.iter().any(|start| lower.starts_with(start));
+        if starts_as(&VARIABLES) {
             of_variables = true;
-        } else if OTHERS.iter().any(|start| lower.starts_with(start)) {
+        } else if starts_as(&OTHERS) {
             of_variables = false;
-        } else if lower.starts_with(['#', '\\', '/', ';']) || !of_variables {
-            continue;
-        } else if let Some(named) = long
-            .take()
-            .and_then(|name: String| assignment(&name, line.split_whitespace()))
-        {
-            solution.named.push(named);
-        } else {
-            let mut fields = line.split_whitespace().peekable();
-            let is_counted = fields.next_if(|field| field.chars().all(|sign| sign == '*')).is_some();
-            let is_counted = fields.next_if(|field| field.parse::<u32>().is_ok()).is_some() || is_counted;
-            let Some(name) = fields.next() else { continue };
-            if is_counted && fields.peek().is_none() {
-                long = Some(name.to_string());
-            } else if let Some(named) = assignment(name, fields) {
-                solution.named.push(named);
-            } else if NOTHING.iter().any(|words| lower.contains(words)) {
-                solution.none.get_or_insert_with(|| line.trim().to_string());
-            }
+        } else if of_variables && !lower.starts_with(['#', '\\', '/', ';']) {
+            solution.take(line, &mut long);
         }
     }
     solution
+}
+
+impl Solution {
+    /// Takes a line with a variable or with words. GLPK goes on in the next line behind a long name.
+    fn take(&mut self, line: &str, long: &mut Option<String>) {
+        let mut fields = line.split_whitespace().peekable();
+        if let Some(named) = long.take().and_then(|name| assignment(&name, fields.clone())) {
+            self.named.push(named);
+            return;
+        }
+        let is_marked = fields.next_if_eq(&"**").is_some();
+        let is_counted = fields.next_if(|field| field.parse::<u32>().is_ok()).is_some();
+        let Some(name) = fields.next() else { return };
+        if (is_marked || is_counted) && fields.peek().is_none() {
+            *long = Some(name.to_string());
+        } else if let Some(named) = assignment(name, fields) {
+            self.named.push(named);
+        } else if NOTHING.iter().any(|words| line.to_lowercase().contains(words)) {
+            self.none.get_or_insert_with(|| line.trim().to_string());
+        }
+    }
 }
 
 /// A name and the first of some fields that is no mark, where they are a variable and its value.

@@ -59,6 +59,12 @@ fn wrong_commands() {
         &["traces"],
         &["traces", "a", "b"],
         &["sheet", "a", "b", "c", "d"],
+        &["model"],
+        &["model", "a", "b"],
+        &["model", "a", "-o"],
+        &["solution", "a"],
+        &["solution", "a", "b", "c"],
+        &["solution", "a", "b", "--listing"],
     ] {
         let said = workbench(wrong);
         assert_eq!(said.status, 2, "{wrong:?}");

@@ -7,6 +7,7 @@ mod faults;
 mod made;
 mod pictures;
 mod reports;
+mod solvers;
 mod waves;
 mod ways;
 mod why;
