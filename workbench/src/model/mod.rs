@@ -13,7 +13,7 @@ use std::collections::HashSet;
 /// Has the value 1, so that the objective can have a constant, which not all solvers read.
 pub const ONE: &str = "one";
 /// What the names of the other variables that are no part of a plan start with.
-pub const HELPERS: [&str; 4] = ["cyc", "wait", "in", "out"];
+pub const HELPERS: [&str; 5] = ["cyc", "q", "wait", "in", "out"];
 
 /// A sum of variables with factors, and a constant.
 #[derive(Clone, Default)]

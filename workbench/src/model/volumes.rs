@@ -1,7 +1,7 @@
 //! Rules 15 to 18 and 25 to 27, and the doubled travel time: what links and movements carry.
 
-use super::{grain, grains_a_thousandth, Model, Sum};
-use plancheck::{Link, NetworkText, Volumes};
+use super::{gcd, grain, grains_a_thousandth, Model, Sum};
+use plancheck::{Link, Movement, NetworkText, Volumes};
 
 /// What a plan's volume is called, in grains of its step: the listing's name of the rate, behind a g.
 fn name(letter: char, item: usize, step: usize) -> String {
@@ -49,16 +49,21 @@ fn add_shut(model: &mut Model, network: &NetworkText, movement: usize, step: usi
     model.at_most(format!("r27_{}_{step}", movement + 1), sum, 0);
 }
 
-/// 16: a movement is at most its share of all movements from its link; in one step grains are alike.
+/// 16: no movement is above its share of all movements from its link, and the shares are the whole; so each is just its
+/// share. Whole numbers in the ratio of the shares are a whole multiple of the shares divided by their common divisor.
 fn add_share(model: &mut Model, network: &NetworkText, movement: usize, step: usize) {
     let own = &network.movements[movement];
-    let from_link = (0..network.movements.len()).filter(|&other| network.movements[other].from == own.from);
-    let others = from_link.filter(|&other| other != movement);
-    let others: Vec<Sum> = others.map(|other| Sum::of(name('m', other + 1, step))).collect();
-    if !others.is_empty() {
-        let share = i64::from(own.share);
-        let sum = Sum::default().plus(1000 - share, &Sum::of(name('m', movement + 1, step)));
-        model.at_most(format!("r16_{}_{step}", movement + 1), sum.plus_all(-share, others), 0);
+    let from_link = |other: &&Movement| other.from == own.from;
+    let shares = network.movements.iter().filter(from_link).map(|other| other.share);
+    let common = shares.fold(0, gcd);
+    if common < 1000 {
+        let multiple = format!("q_{}_{step}", own.from);
+        if network.movements[..movement].iter().filter(from_link).count() == 0 {
+            model.whole.push((multiple.clone(), None));
+        }
+        let multiple = Sum::of(multiple);
+        let sum = Sum::of(name('m', movement + 1, step)).plus(-i64::from(own.share / common), &multiple);
+        model.equal(format!("r16_{}_{step}", movement + 1), sum, 0);
     }
 }
 
@@ -144,7 +149,7 @@ impl<'a> Curves<'a> {
         let own = &self.network.steps[step - 1];
         let grain = i64::from(grain(own.length));
         let volume = |letter: char, item: usize| Sum::of(name(letter, item, step));
-        let moved = |belongs: fn(&plancheck::Movement) -> u32| {
+        let moved = |belongs: fn(&Movement) -> u32| {
             let movements = self.network.movements.iter().enumerate();
             let of_link = movements.filter(move |(_, movement)| belongs(movement) as usize == self.number);
             of_link.map(|(index, _)| volume('m', index + 1)).collect::<Vec<Sum>>()

@@ -15,7 +15,13 @@ pub struct Solution {
 }
 
 /// What solvers say where they have found nothing.
-const NOTHING: [&str; 4] = ["infeasible", "integer empty", "integer undefined", "no solution"];
+const NOTHING: [&str; 5] = [
+    "infeasible",
+    "integer empty",
+    "integer undefined",
+    "no solution",
+    "no integer solution",
+];
 /// How sections of variables start, and how others do.
 const VARIABLES: [&str; 3] = ["# columns", "no. column name", "actual values of the variables"];
 const OTHERS: [&str; 7] = [
@@ -160,6 +166,7 @@ mod tests {
         for text in [
             "Infeasible - objective value 0.0\n",
             "Integer infeasible - objective value 0.0\n",
+            "Stopped on time (no integer solution - continuous used) - objective value 7.5\n",
             "Status:     INTEGER EMPTY\n",
             "Model status\nInfeasible\n",
             "solution status: infeasible\nno solution available\n",
