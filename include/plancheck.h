@@ -95,27 +95,28 @@
  * on the arguments alone. The calls are re-entrant and may run in several threads at once, each that writes a ledger with
  * one of its own. A call always returns, after work that grows linearly with the lengths of the texts and with
  * K * (R + L + M), of a listing and a sheet too, of a split also with M * M, of a corridor with cells * demands, and of a
- * step with vehicles * red lines. Of a network with a past each link reads the H lines within its travel time once more.
+ * step with vehicles * red lines. Of a network with a past an H line within the travel times is read once more for the
+ * links that are at it in a step, at worst for each link.
  * The library needs memcpy and memset from the C library, at most.
  *
  * MEMORY
  * In bytes. The stack is that of x86-64, as painted (docs/MEASUREMENTS.md; bench/run measures it).
  *     call                          stack     lent, beside what it reads
- *     plancheck_check_network        4,976    nothing
- *     plancheck_network_counts       4,944    nothing
- *     plancheck_check_plan           6,192    the ledger: 4 * PLANCHECK_LEDGER_LEN(L, K), 23,232 at most
- *     plancheck_link_state           5,264    nothing
- *     plancheck_carry_on             6,400    the ledger: 4 * PLANCHECK_LEDGER_LEN(L, b); the buffer for the text
- *     plancheck_plan_from_listing   66,544    the buffer: PLANCHECK_WRITTEN_PLAN_MAX, 151,920, at most
- *     plancheck_compare_plans        6,432    two ledgers: each 4 * PLANCHECK_LEDGER_LEN(L, K), 23,232 at most
- *     plancheck_check_sheet          7,632    the ledger: 4 * PLANCHECK_LEDGER_LEN(L, K), 23,232 at most
- *     plancheck_plan_from_sheet      8,032    the buffer: 30,960 at most
- *     plancheck_split                7,792    four buffers: each half at most the greatest network and plan text
+ *     plancheck_check_network        5,696    nothing
+ *     plancheck_network_counts       5,696    nothing
+ *     plancheck_check_plan           6,144    the ledger: 4 * PLANCHECK_LEDGER_LEN(L, K), 23,232 at most
+ *     plancheck_link_state           5,760    nothing
+ *     plancheck_carry_on             6,416    the ledger: 4 * PLANCHECK_LEDGER_LEN(L, b); the buffer for the text
+ *     plancheck_plan_from_listing   67,200    the buffer: PLANCHECK_WRITTEN_PLAN_MAX, 151,920, at most
+ *     plancheck_compare_plans        7,440    two ledgers: each 4 * PLANCHECK_LEDGER_LEN(L, K), 23,232 at most
+ *     plancheck_check_sheet          8,640    the ledger: 4 * PLANCHECK_LEDGER_LEN(L, K), 23,232 at most
+ *     plancheck_plan_from_sheet      7,952    the buffer: 30,960 at most
+ *     plancheck_split                7,664    four buffers: each half at most the greatest network and plan text
  *     plancheck_run_cells            2,208    nothing
  *     plancheck_step_vehicles            8    nothing: the places are changed where they stand
  *     plancheck_version                  8    nothing
- * On a Cortex-M0 plancheck_check_network takes 5,524, plancheck_network_counts 5,540, plancheck_check_plan 6,716,
- * plancheck_link_state 5,860 and plancheck_carry_on 6,836 of stack (box/measure).
+ * On a Cortex-M0 plancheck_check_network takes 6,084, plancheck_network_counts 6,116, plancheck_check_plan 6,572,
+ * plancheck_link_state 6,188 and plancheck_carry_on 6,692 of stack (box/measure).
  * plancheck_plan_from_listing is for an engineer's machine, not for a box. The texts of a box are at most
  * PLANCHECK_NETWORK_TEXT_MAX and PLANCHECK_PLAN_TEXT_MAX.
  *
