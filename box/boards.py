@@ -11,9 +11,9 @@ from dataclasses import dataclass
 import generate
 
 FOLDER = "target/box"
-LIBRARY = f"{FOLDER}/libplan_check_c.a"
-NARROWED = f"{FOLDER}/narrow/libplan_check_c.a"
-TRAPPING = f"{FOLDER}/trap/libplan_check_c.a"
+LIBRARY = f"{FOLDER}/libplancheck.a"
+NARROWED = f"{FOLDER}/narrow/libplancheck.a"
+TRAPPING = f"{FOLDER}/trap/libplancheck.a"
 SOURCES = ["box/build", "box/narrow", "box/calls.c", "box/arithmetic.S", "box/fill.S"]
 STRICT = ["-std=c11", "-Wall", "-Wextra", "-Werror", "-O2", "-Iinclude", "-Ibox", "-Ibench"]
 DEBIAN = {
@@ -61,7 +61,7 @@ def archive():
     done = subprocess.run(["tools/archive"], stdout=subprocess.PIPE, text=True)
     if done.returncode != 0:
         sys.exit(1)
-    return f"{done.stdout.strip()}/libplan_check_c.a"
+    return f"{done.stdout.strip()}/libplancheck.a"
 
 
 def is_built(library):

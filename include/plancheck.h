@@ -1,5 +1,5 @@
 /*
- * plancheck.h: the plan check library (libplan_check_c.a).
+ * plancheck.h: the plan check library (libplancheck.a).
  *
  * Decides whether a traffic-signal plan may run on a network under the Queue Transmission Model, and what travel time
  * it gives. Calls: check a network, what it has, check a plan, the state of one link, and carry on from a boundary; beside
@@ -14,7 +14,7 @@
  *         report(result.number, result.line, result.item);
  *     }
  *
- * Link with libplan_check_c.a. The calls follow the System V calling convention of x86-64; structs go by value. box/build
+ * Link with libplancheck.a. The calls follow the System V calling convention of x86-64; structs go by value. box/build
  * makes the five calls of a box (plancheck_check_network, plancheck_network_counts, plancheck_check_plan,
  * plancheck_link_state and plancheck_carry_on) for a Cortex-M0 too, with the calling convention of its processor (AAPCS).
  * The toolchain doesn't support that route: the compiled module is the same, but on neither processor is code generation

@@ -1,14 +1,14 @@
-//! Links `libplan_check_c.a` from the folder that the environment variable `PLANCHECK_LIB_DIR` names, where one stands.
+//! Links `libplancheck.a` from the folder that the environment variable `PLANCHECK_LIB_DIR` names, where one stands.
 //! Without the variable nothing that has to be linked builds; documentation and `cargo check` need no archive.
 
 use std::path::{Path, PathBuf};
 use std::process::ExitCode;
 
-const ARCHIVE: &str = "libplan_check_c.a";
+const ARCHIVE: &str = "libplancheck.a";
 
 fn main() -> ExitCode {
     println!("cargo:rerun-if-env-changed=PLANCHECK_LIB_DIR");
-    println!("cargo:rustc-link-lib=static=plan_check_c");
+    println!("cargo:rustc-link-lib=static=plancheck");
     let Some(named) = std::env::var_os("PLANCHECK_LIB_DIR") else {
         println!("cargo:warning=PLANCHECK_LIB_DIR is not set: what links needs it, the folder of {ARCHIVE} (tools/archive prints it)");
         return ExitCode::SUCCESS;

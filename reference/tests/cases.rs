@@ -397,7 +397,7 @@ fn the_stored_form_can_be_read_back() {
 fn the_stored_file_is_made_from_seed_1() {
     let file = concat!(
         env!("CARGO_MANIFEST_DIR"),
-        "/../crates/conformance/data/cases.bin"
+        "/../crates/cases_plan/data/cases.bin"
     );
     let bytes = std::fs::read(file).expect("the file is there");
     assert!(

@@ -10,16 +10,16 @@ use borrow.Author.Tests.{le-leb, lt-leb, eq-eqb}
 use lib.Dec.{leb, eqb}
 use lib.ListN.{length, getD}
 use lib.Seq.{getD-take}
-use Rattle.search.specs.declared.Refusal.{Refusal}
-use Rattle.search.specs.declared.Verdict.{Verdict}
-use Rattle.search.specs.declared.Verdict.the-variants as verdicts
-use Rattle.search.specs.Checks.{refusal, verdict, orElse, checked, each, Hold}
-use Rattle.search.proofs.Laws.{passes-of-hold, hold-of-passes, or-else-passes, or-else-refused, checked-passes, checked-refused, first-stop, first-passes}
-use Rattle.records.specs.Lines.{Line, noLine, lines, number}
-use Rattle.records.specs.Padding.{PaddingIgnored}
-use Rattle.records.specs.Reading.{Starts, atEnd, over}
-use Rattle.records.proofs.Laws.{some-lines, no-lines, starts-end, end-of-none}
-use Rattle.records.proofs.Padding.{same-lines}
+use Rattle.base_search.specs.declared.Refusal.{Refusal}
+use Rattle.base_search.specs.declared.Verdict.{Verdict}
+use Rattle.base_search.specs.declared.Verdict.the-variants as verdicts
+use Rattle.base_search.specs.Checks.{refusal, verdict, orElse, checked, each, Hold}
+use Rattle.base_search.proofs.Laws.{passes-of-hold, hold-of-passes, or-else-passes, or-else-refused, checked-passes, checked-refused, first-stop, first-passes}
+use Rattle.text_reader.specs.Lines.{Line, noLine, lines, number}
+use Rattle.text_reader.specs.Padding.{PaddingIgnored}
+use Rattle.text_reader.specs.Reading.{Starts, atEnd, over}
+use Rattle.text_reader.proofs.Laws.{some-lines, no-lines, starts-end, end-of-none}
+use Rattle.text_reader.proofs.Padding.{same-lines}
 use Rattle.model.specs.Test.{_and_, within}
 use Rattle.model.specs.Network.{entry, maxLinks, linkCount, stepCount}
 use Rattle.model.specs.Flows.{offered, waits}
@@ -30,30 +30,30 @@ use Rattle.model.specs.Guarantees.{RowDue}
 use Rattle.model.proofs.Hold.{meant-lines, plan-of-text, plan-of-empty, hold-count}
 use Rattle.model.proofs.Rows.{written-none}
 use Rattle.model.proofs.Written.{refused-fails, rows-none, rows-until}
-use Rattle.tables.specs.declared.Reading.{Reading}
-use Rattle.tables.specs.declared.Stage.{Stage}
-use Rattle.tables.specs.declared.Stage.the-variants as stages
-use Rattle.tables.specs.Tables.{Judged, SignalTable}
-use Rattle.tables.proofs.Stages.{verdict-refused}
+use Rattle.network_tables.specs.declared.Reading.{Reading}
+use Rattle.network_tables.specs.declared.Stage.{Stage}
+use Rattle.network_tables.specs.declared.Stage.the-variants as stages
+use Rattle.network_tables.specs.Tables.{Judged, SignalTable}
+use Rattle.network_tables.proofs.Stages.{verdict-refused}
 use Rattle.network.specs.Loading.{Loaded}
 use Rattle.plan_steps.specs.declared.Taken.{Taken}
 use Rattle.plan_steps.specs.Steps as steps
 use Rattle.plan_steps.proofs.Runs.{lines-within}
 use Rattle.plan_steps.proofs.Ledger.{written-again}
-use Rattle.carried_text.specs.declared.CarriedAnswer.{CarriedAnswer}
-use Rattle.carried_text.specs.declared.CarriedAnswer.the-variants as carried-answers
-use Rattle.carried_text.specs.Carried.{StandsAt, CarryAsked, WrittenWhole, TextWritten}
-use Rattle.carry_model.specs.declared.CarryAnswer.{CarryAnswer}
-use Rattle.carry_model.specs.declared.CarryAnswer.the-variants.{Written, Refused}
-use Rattle.carry_model.specs.Part.{cut, carriedText}
-use Rattle.carry_model.specs.Call.{plannedOn, boundaryChecks, carryChecks, carryAnswer, carryOn, carryLedger, carryBuffer, writtenBytes}
-use Rattle.network_text.proofs.Tests.{is-within}
-use Rattle.carry_model.proofs.Theorem.{cut-steps}
-use Rattle.carry_model.proofs.Cut.{cut-judged, cut-due, due-of-cut, cut-written}
-use Rattle.carry_model.proofs.Hold.{held-first}
-use Rattle.carry_model.specs.CarriesOn.{CarriedOn}
-use Rattle.carry_model.proofs.Promises.{carried-on}
-use Rattle.carry_model.proofs.Agree.{signal-agree, waits-agree}
+use Rattle.carry_text.specs.declared.CarriedAnswer.{CarriedAnswer}
+use Rattle.carry_text.specs.declared.CarriedAnswer.the-variants as carried-answers
+use Rattle.carry_text.specs.Carried.{StandsAt, CarryAsked, WrittenWhole, TextWritten}
+use Rattle.model_carry.specs.declared.CarryAnswer.{CarryAnswer}
+use Rattle.model_carry.specs.declared.CarryAnswer.the-variants.{Written, Refused}
+use Rattle.model_carry.specs.Part.{cut, carriedText}
+use Rattle.model_carry.specs.Call.{plannedOn, boundaryChecks, carryChecks, carryAnswer, carryOn, carryLedger, carryBuffer, writtenBytes}
+use Rattle.model_text.proofs.Tests.{is-within}
+use Rattle.model_carry.proofs.Theorem.{cut-steps}
+use Rattle.model_carry.proofs.Cut.{cut-judged, cut-due, due-of-cut, cut-written}
+use Rattle.model_carry.proofs.Hold.{held-first}
+use Rattle.model_carry.specs.CarriesOn.{CarriedOn}
+use Rattle.model_carry.proofs.Promises.{carried-on}
+use Rattle.model_carry.proofs.Agree.{signal-agree, waits-agree}
 use Rattle.carry.specs.Carrying.{StepsAsked, CarryGot}
 
 pub not-true : (b : Bool) → not b ≡ true → b ≡ false

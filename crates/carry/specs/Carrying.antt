@@ -3,13 +3,13 @@ use Prim.Native.Nat.{ℕ, suc, _*_, _≤_, _<_}
 use mathlib.Core.Path.{_≡_}
 use mathlib.Core.List.{List}
 use lib.ListN.{length}
-use Rattle.records.specs.Lines.{lines}
+use Rattle.text_reader.specs.Lines.{lines}
 use Rattle.model.specs.Network.{linkCount, stepCount}
-use Rattle.tables.specs.declared.Reading.{Reading}
-use Rattle.tables.specs.Tables.{SignalTable}
+use Rattle.network_tables.specs.declared.Reading.{Reading}
+use Rattle.network_tables.specs.Tables.{SignalTable}
 use Rattle.network.specs.Loading.{Loaded}
-use Rattle.carry_model.specs.declared.CarryAnswer.{CarryAnswer}
-use Rattle.carry_model.specs.Call.{plannedOn, carryOn, carryLedger, carryBuffer}
+use Rattle.model_carry.specs.declared.CarryAnswer.{CarryAnswer}
+use Rattle.model_carry.specs.Call.{plannedOn, carryOn, carryLedger, carryBuffer}
 
 -- a boundary of the plan, and room for the rows up to it
 pub record StepsAsked (networkText : List ℕ) (b : ℕ) (reading : Reading) (links movements times signals ledger : List ℕ) : Type 0 where

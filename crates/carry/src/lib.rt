@@ -1,21 +1,21 @@
 // Carry on from a boundary (T-09): the call `carry_on`.
-ghost use Rattle.records.specs.Lines.{lines};
-ghost use Rattle.records.specs.Padding.{PaddingIgnored};
+ghost use Rattle.text_reader.specs.Lines.{lines};
+ghost use Rattle.text_reader.specs.Padding.{PaddingIgnored};
 ghost use Rattle.network.specs.Loading.{LoadedWithSignals};
-ghost use Rattle.carry_model.specs.Call.{plannedOn};
-ghost use Rattle.carry_model.specs.CarriesOn.{CarriedOn};
+ghost use Rattle.model_carry.specs.Call.{plannedOn};
+ghost use Rattle.model_carry.specs.CarriesOn.{CarriedOn};
 ghost use Rattle.carry.specs.Carrying.{StepsAsked, CarryGot};
-use carried_text::CarriedAnswer;
-use carry_model::CarryAnswer;
-use search::Refusal;
-use search::Verdict;
-use tables::LINK_TABLE_SIZE;
-use tables::MAX_LINKS;
-use tables::MOVEMENT_TABLE_SIZE;
-use tables::Reading;
-use tables::SIGNAL_TABLE_SIZE;
-use tables::Stage;
-use tables::TIME_TABLE_SIZE;
+use base_search::Refusal;
+use base_search::Verdict;
+use carry_text::CarriedAnswer;
+use model_carry::CarryAnswer;
+use network_tables::LINK_TABLE_SIZE;
+use network_tables::MAX_LINKS;
+use network_tables::MOVEMENT_TABLE_SIZE;
+use network_tables::Reading;
+use network_tables::SIGNAL_TABLE_SIZE;
+use network_tables::Stage;
+use network_tables::TIME_TABLE_SIZE;
 
 // Takes the plan's steps up to the boundary, and writes the text from there on: 9 for a line behind them, and 32 last.
 fn carry_steps(
@@ -50,10 +50,10 @@ fn carry_steps(
     if let Verdict::Refused(refusal) = verdict {
         return CarryAnswer::Refused(refusal);
     }
-    if !records::is_end(plan, taken.state.plan_at) {
+    if !text_reader::is_end(plan, taken.state.plan_at) {
         return CarryAnswer::Refused(Refusal::new(9, boundary + 1, 0));
     }
-    match carried_text::write_carried(
+    match carry_text::write_carried(
         network,
         reading,
         boundary,
@@ -135,7 +135,7 @@ pub fn carry_on(
         Stage::Refused(refusal) => CarryAnswer::Refused(refusal),
         Stage::Passed(reading) => carry_from(
             network,
-            tables::index(boundary),
+            network_tables::index(boundary),
             plan,
             reading,
             &links,

@@ -4,8 +4,8 @@ use mathlib.Core.Path.{_≡_, refl}
 use mathlib.Core.List.{List, [], _∷_, map}
 use Prim.Native.Char.{code}
 use Prim.Native.String.{String}
-use Rattle.records.specs.Field.{digit, digits, shift, decimal}
-use Rattle.records.specs.Lines.{inFront, split, letterOf}
+use Rattle.text_reader.specs.Field.{digit, digits, shift, decimal}
+use Rattle.text_reader.specs.Lines.{inFront, split, letterOf}
 use Rattle.listing_lines.specs.declared.Variable.the-variants.{Shown, Admitted, LetOut, Moved}
 use Rattle.listing_lines.specs.declared.Entry.the-variants.{Sets, Malformed}
 use Rattle.listing_lines.specs.Entry.{upTo, after, digitsOf, scaled, plus, fractionOf, rateOf, leadingZero, indexOf, both, pairOf, phaseNamed, phaseIn, volumeNamed, variableIn, variableOf, setting, entryOf, entriesOf, entries}

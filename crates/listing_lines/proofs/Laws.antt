@@ -11,8 +11,8 @@ use borrow.Author.Tests.{eq-eqb, ne-eqb, le-leb, lt-leb, lt-ltb, le-ltb, not-tru
 use lib.ListN.{length, getD, take, drop, drop-of-length-le}
 use lib.Seq.{drop-cons}
 use lib.Dec.{eqb}
-use Rattle.records.specs.Field.{digit, digits, shift, decimal}
-use Rattle.records.proofs.Numerals.{digit-bounds}
+use Rattle.text_reader.specs.Field.{digit, digits, shift, decimal}
+use Rattle.text_reader.proofs.Numerals.{digit-bounds}
 use Rattle.listing_lines.specs.declared.Digits.the-variants.{Value, NoValue}
 use Rattle.listing_lines.specs.Entry.{upTo, after, digitsOf, leadingZero, Found}
 

@@ -11,7 +11,7 @@ use borrow.Author.Tests.{eq-eqb, ne-eqb}
 use lib.ListN.{length, getD, take, drop, drop-of-length-le, length-drop}
 use lib.Seq.{drop-drop, getD-drop, take-length}
 use lib.Dec.{eqb}
-use Rattle.records.specs.Lines.{inFront, split}
+use Rattle.text_reader.specs.Lines.{inFront, split}
 use Rattle.listing_lines.specs.declared.Named.{Named}
 use Rattle.listing_lines.specs.declared.Named.the-variants.{Known, Unknown}
 use Rattle.listing_lines.specs.declared.Digits.{Digits}

@@ -10,9 +10,9 @@ use borrow.Author.Tests.{eq-eqb, ne-eqb, leb-true}
 use lib.ListN.{length, getD, take, drop, length-drop}
 use lib.Seq.{take-length, length-take-le}
 use lib.Dec.{eqb, leb}
-use Rattle.records.specs.Field.{digit, digits, shift, decimal}
-use Rattle.records.proofs.Numerals.{digit-bounds}
-use Rattle.records.specs.Lines.{letterOf}
+use Rattle.text_reader.specs.Field.{digit, digits, shift, decimal}
+use Rattle.text_reader.proofs.Numerals.{digit-bounds}
+use Rattle.text_reader.specs.Lines.{letterOf}
 use Rattle.listing_lines.specs.declared.Variable.{Variable}
 use Rattle.listing_lines.specs.declared.Variable.the-variants.{Shown, Admitted, LetOut, Moved}
 use Rattle.listing_lines.specs.declared.Entry.the-variants.{Sets, Malformed}

@@ -6,8 +6,8 @@ use mathlib.Core.List.{List, [], _∷_}
 use mathlib.Core.Bool.{Bool, cond, _&&_}
 use lib.ListN.{length, drop, getD}
 use lib.Dec.{leb, ltb, eqb}
-use Rattle.records.specs.Field.{digits, decimal}
-use Rattle.records.specs.Lines.{split, letterOf}
+use Rattle.text_reader.specs.Field.{digits, decimal}
+use Rattle.text_reader.specs.Lines.{split, letterOf}
 use Rattle.listing_lines.specs.declared.Variable.the-variants.{Shown, Admitted, LetOut, Moved}
 use Rattle.listing_lines.specs.declared.Entry.{Entry}
 use Rattle.listing_lines.specs.declared.Entry.the-variants.{Sets, Malformed}

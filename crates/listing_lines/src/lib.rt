@@ -1,7 +1,7 @@
 // One line of a solver's listing: a variable, a space and a decimal. Reads bytes; knows no network.
 ghost use mathlib.Core.Path.{_≡_};
 ghost use Prim.Native.Nat.{_+_, _-_, _*_, _^_, _≤_};
-ghost use Rattle.records.specs.Field.{digit};
+ghost use Rattle.text_reader.specs.Field.{digit};
 ghost use Rattle.listing_lines.specs.Entry.{Found, digitsOf, fractionOf, rateOf, leadingZero, indexOf, pairOf, phaseIn, variableIn, variableOf, entryOf, readAt};
 
 // A variable, by the numbers in its name, counted from 1.

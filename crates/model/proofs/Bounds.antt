@@ -11,8 +11,8 @@ use native.Mathlib.Omega.{arith}
 use native.Mathlib.Decide.{decLe}
 use lib.Dec.{eqb, ltb}
 use borrow.Author.Tests.{leb-true, ltb-true, eqb-true, eqb-false, not-true, lt-ltb, le-ltb}
-use Rattle.search.specs.Checks.{Hold}
-use Rattle.records.specs.Lines.{Line}
+use Rattle.base_search.specs.Checks.{Hold}
+use Rattle.text_reader.specs.Lines.{Line}
 use Rattle.model.specs.Sum.{sum, only}
 use Rattle.model.specs.Network.{linkCount, movementCount, stepCount, pastCount, exitRate, fromLink, toLink, rate, pastEntries, stepLength}
 use Rattle.model.specs.Flows.{offered, admitted, letOut, moved, movedInto, movedFrom, inflow, outflow, entered, left, held, vehicles, taken, waits, outside, underWay, allAdmitted, allLetOut, doubledTime}

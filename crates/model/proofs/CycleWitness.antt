@@ -4,7 +4,7 @@ use mathlib.Core.List.{List}
 use Prim.Native.Nat.{ℕ, zero, suc, _+_, _<_}
 use Prim.Native.String.{String, _++_}
 use native.Mathlib.Omega.{arith}
-use Rattle.records.specs.Lines.{Line, lines}
+use Rattle.text_reader.specs.Lines.{Line, lines}
 use Rattle.model.specs.declared.PlanAnswer.the-variants as plan-answer
 use Rattle.model.specs.Network.{stepCount}
 use Rattle.model.specs.Flows.{totals}

@@ -9,15 +9,15 @@ use native.Mathlib.Omega.{arith}
 use borrow.Author.Tests.{lt-ltb, leb-true, le-ltb}
 use lib.Dec.{ltb}
 use lib.ListN.{length, getD, List·getD-eq-default}
-use Rattle.search.specs.declared.Refusal.{Refusal}
-use Rattle.search.specs.declared.Verdict.{Verdict}
-use Rattle.search.specs.declared.Verdict.the-variants.{Passes, Refused}
-use Rattle.search.specs.Checks.{verdict}
-use Rattle.search.proofs.Laws.{or-else-refused, hold-of-passes}
-use Rattle.records.specs.Field.{largest}
-use Rattle.records.specs.Lines.{Line, lines}
-use Rattle.records.proofs.Laws.{some-lines, no-lines}
-use Rattle.record_writer.proofs.Records.{Small, text-back, lines-count, entry-back, form-back}
+use Rattle.base_search.specs.declared.Refusal.{Refusal}
+use Rattle.base_search.specs.declared.Verdict.{Verdict}
+use Rattle.base_search.specs.declared.Verdict.the-variants.{Passes, Refused}
+use Rattle.base_search.specs.Checks.{verdict}
+use Rattle.base_search.proofs.Laws.{or-else-refused, hold-of-passes}
+use Rattle.text_reader.specs.Field.{largest}
+use Rattle.text_reader.specs.Lines.{Line, lines}
+use Rattle.text_reader.proofs.Laws.{some-lines, no-lines}
+use Rattle.text_writer.proofs.Records.{Small, text-back, lines-count, entry-back, form-back}
 use Rattle.model.specs.Test.{within}
 use Rattle.model.specs.Sum.{only, list}
 use Rattle.model.specs.Network.{entry, linkCount, signalCount, movementCount, stepCount, signal, stepLength, ordinary}

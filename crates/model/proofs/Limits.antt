@@ -7,7 +7,7 @@ use native.Mathlib.Decide.{decLe}
 use native.Mathlib.Omega.{arith}
 use lib.Dec.{leb}
 use borrow.Author.Tests.{leb-true}
-use Rattle.records.specs.Lines.{Line}
+use Rattle.text_reader.specs.Lines.{Line}
 use Rattle.model.specs.Sum.{sum}
 use Rattle.model.specs.Test.{within, every}
 use Rattle.model.specs.Network.{linkCount, signalCount, movementCount, stepCount, pastCount, onTimeline, capacity, travelTime, exitRate, signalOf, standing, fromLink, toLink, rate, share, timelineLength, pastEntries, stepLength, demand, time, timelineTime}

@@ -5,13 +5,13 @@ use mathlib.Core.List.{List}
 use Prim.Native.Nat.{ℕ, suc}
 use borrow.Author.Needs.{needs}
 use lib.ListN.{length}
-use Rattle.search.specs.declared.Refusal.{Refusal}
-use Rattle.search.specs.declared.Verdict.{Verdict}
-use Rattle.search.specs.declared.Verdict.the-variants.{Passes, Refused}
-use Rattle.search.specs.Checks.{Rule, ruleAt, table}
-use Rattle.search.specs.Numbers.{isOneOf}
-use Rattle.search.proofs.Numbers.{arises, Numbered, refused-number, allOf, wider}
-use Rattle.records.specs.Lines.{Line}
+use Rattle.base_search.specs.declared.Refusal.{Refusal}
+use Rattle.base_search.specs.declared.Verdict.{Verdict}
+use Rattle.base_search.specs.declared.Verdict.the-variants.{Passes, Refused}
+use Rattle.base_search.specs.Checks.{Rule, ruleAt, table}
+use Rattle.base_search.specs.Numbers.{isOneOf}
+use Rattle.base_search.proofs.Numbers.{arises, Numbered, refused-number, allOf, wider}
+use Rattle.text_reader.specs.Lines.{Line}
 use Rattle.model.specs.declared.LinkAnswer.the-variants as link-answer
 use Rattle.model.specs.Test.{_and_, every}
 use Rattle.model.specs.Table.{countChecks, tramChecks, signalChecks, tramPhaseChecks, linkChecks, movementChecks, shareChecks, pastChecks, stepChecks, networkChecks, ledgerChecks, stepRules, lineChecks, planLineChecks, planChecks}

@@ -7,7 +7,7 @@ use Prim.Native.Nat.{ℕ, zero, suc, _+_, _-_, _≤_, _<_}
 use native.Mathlib.Nat.{eq-or-lt-of-le, le-refl}
 use native.Mathlib.Decide.{decLe}
 use native.Mathlib.Omega.{arith}
-use Rattle.records.specs.Lines.{Line}
+use Rattle.text_reader.specs.Lines.{Line}
 use Rattle.model.specs.Network.{signalCount, signal}
 use Rattle.model.specs.Guarantees.{isOrdinary, NoneBetween, Green, Greens, done, more, Red, rising, others}
 use Rattle.model.proofs.Accepted.{AcceptedPlan}

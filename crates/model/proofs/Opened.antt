@@ -1,7 +1,7 @@
 -- To unfold `opened` is to unfold every definition of the paper, for a proof by computation. Assumes nothing.
-use Rattle.search.specs.Checks.{orElse, firstFrom, checked, verdict, table}
-use Rattle.records.proofs.Opened.{opened as linesOpened}
-use Rattle.record_writer.specs.Records.{numeral, fieldText, fieldTexts, recordText, recordTexts, recordLine, recordLines}
+use Rattle.base_search.specs.Checks.{orElse, firstFrom, checked, verdict, table}
+use Rattle.text_reader.proofs.Opened.{opened as linesOpened}
+use Rattle.text_writer.specs.Records.{numeral, fieldText, fieldTexts, recordText, recordTexts, recordLine, recordLines}
 use Rattle.model.specs.Test.{_and_, _or_, within, every}
 use Rattle.model.specs.Sum.{sum, list, joined}
 use Rattle.model.specs.Network.{entry, linkCount, signalCount, movementCount, stepCount, tramCount, pastCount, onTimeline, tramLine, signalLine, linkLine, movementLine, timelineLine, stepLine, covers, tramPhase, trams, ordinary, signal, capacity, travelTime, exitRate, signalOf, phaseMask, standing, waitingAtStart, fromLink, toLink, rate, share, timelineLength, pastEntries, pastExits, stepLength, demand, time, timelineTime, stepAt, arrivalStep, elapsed}

@@ -4,8 +4,8 @@ use mathlib.Core.List.{List, [], _∷_, map}
 use Prim.Native.Nat.{ℕ, zero, suc}
 use Prim.Native.String.{String, _++_}
 use lib.ListN.{replicate}
-use Rattle.records.specs.Lines.{lines}
-use Rattle.search.specs.Checks.{refusal}
+use Rattle.text_reader.specs.Lines.{lines}
+use Rattle.base_search.specs.Checks.{refusal}
 use Rattle.model.specs.declared.LinkAnswer.{LinkAnswer}
 use Rattle.model.specs.declared.LinkAnswer.the-variants as link-answer
 use Rattle.model.specs.Calls.{linkState, ledgerAfter}

@@ -3,13 +3,13 @@ use mathlib.Core.Path.{_≡_, refl}
 use mathlib.Core.List.{List}
 use Prim.Native.Nat.{ℕ}
 use lib.ListN.{length}
-use Rattle.search.specs.declared.Refusal.{Refusal}
-use Rattle.search.specs.declared.Verdict.{Verdict}
-use Rattle.search.specs.declared.Verdict.the-variants.{Passes, Refused}
-use Rattle.search.specs.Checks.{Hold, verdict}
-use Rattle.search.proofs.Laws as laws
-use Rattle.search.proofs.Numbers.{refused-number}
-use Rattle.records.specs.Lines.{Line}
+use Rattle.base_search.specs.declared.Refusal.{Refusal}
+use Rattle.base_search.specs.declared.Verdict.{Verdict}
+use Rattle.base_search.specs.declared.Verdict.the-variants.{Passes, Refused}
+use Rattle.base_search.specs.Checks.{Hold, verdict}
+use Rattle.base_search.proofs.Laws as laws
+use Rattle.base_search.proofs.Numbers.{refused-number}
+use Rattle.text_reader.specs.Lines.{Line}
 use Rattle.model.specs.declared.Totals.{Totals}
 use Rattle.model.specs.declared.PlanAnswer.the-variants as plan-answer
 use Rattle.model.specs.Network.{stepCount}

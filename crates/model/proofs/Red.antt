@@ -8,7 +8,7 @@ use borrow.Author.Tests.{leb-true}
 use native.Mathlib.Nat.{eq-or-lt-of-le, le-refl}
 use native.Mathlib.Decide.{ℕ-discrete, decLe}
 use native.Mathlib.Omega.{arith}
-use Rattle.records.specs.Lines.{Line}
+use Rattle.text_reader.specs.Lines.{Line}
 use Rattle.model.specs.declared.Signal.{Signal}
 use Rattle.model.specs.Test.{within}
 use Rattle.model.specs.Rules.{validPhases}

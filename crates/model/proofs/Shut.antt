@@ -7,7 +7,7 @@ use Prim.Native.Nat.{ℕ, suc, _-_, _/_, _%_, _^_, _≤_, _<_}
 use native.Mathlib.Omega.{arith}
 use lib.Dec.{eqb}
 use borrow.Author.Tests.{leb-true, eqb-true}
-use Rattle.records.specs.Lines.{Line}
+use Rattle.text_reader.specs.Lines.{Line}
 use Rattle.model.specs.Network.{linkCount, signalCount, movementCount, stepCount, signal, signalOf, phaseMask, fromLink}
 use Rattle.model.specs.Signals.{opens}
 use Rattle.model.specs.Flows.{shownMask, shownIn, moved, isOpen}

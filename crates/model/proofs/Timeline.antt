@@ -4,7 +4,7 @@ use mathlib.Core.List.{List}
 use Prim.Native.Nat.{ℕ, zero, suc, _+_, _-_, _≤_, _<_}
 use native.Mathlib.Omega.{arith}
 use borrow.Author.Tests.{lt-ltb, le-ltb}
-use Rattle.records.specs.Lines.{Line}
+use Rattle.text_reader.specs.Lines.{Line}
 use Rattle.model.specs.Sum.{sum}
 use Rattle.model.specs.Network.{pastCount, onTimeline, standing, pastEntries, pastExits}
 use Rattle.model.specs.Flows.{inflow, outflow, timelineInflow, timelineOutflow, timelineEntered, timelineLeft, entered, left, held}

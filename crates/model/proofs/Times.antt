@@ -7,7 +7,7 @@ use native.Mathlib.Decide.{decLe}
 use native.Mathlib.Omega.{arith}
 use lib.Dec.{leb}
 use borrow.Author.Tests.{le-leb, lt-leb}
-use Rattle.records.specs.Lines.{Line}
+use Rattle.text_reader.specs.Lines.{Line}
 use Rattle.model.specs.Sum.{sum}
 use Rattle.model.specs.Network.{pastCount, onTimeline, timelineLength, stepLength, travelTime, time, timelineTime, stepAt, arrivalStep, elapsed}
 use Rattle.model.proofs.Sums.{sum-more, sum-split}

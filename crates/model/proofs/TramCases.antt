@@ -3,7 +3,7 @@ use mathlib.Core.Path.{_≡_, refl}
 use mathlib.Core.List.{List, [], _∷_, map}
 use Prim.Native.String.{String, _++_}
 use lib.ListN.{replicate}
-use Rattle.records.specs.Lines.{lines}
+use Rattle.text_reader.specs.Lines.{lines}
 use Rattle.model.specs.Calls.{ledgerAfter}
 use Rattle.model.specs.Report.{report}
 use Rattle.model.proofs.Opened.{opened}

@@ -5,7 +5,7 @@ use mathlib.Core.List.{List}
 use Prim.Native.Nat.{ℕ, zero, suc, _+_, _≤_, _<_}
 use native.Mathlib.Omega.{arith}
 use borrow.Author.Tests.{leb-true}
-use Rattle.records.specs.Lines.{Line}
+use Rattle.text_reader.specs.Lines.{Line}
 use Rattle.model.specs.Sum.{sum}
 use Rattle.model.specs.Network.{linkCount, waitingAtStart, demand}
 use Rattle.model.specs.Flows.{offered, allDemand, admitted, taken, waits, outside, allAdmitted}

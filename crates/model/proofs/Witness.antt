@@ -5,7 +5,7 @@ use mathlib.Core.List.{List}
 use Prim.Native.Nat.{ℕ, zero, suc, _≤_, _<_}
 use native.Mathlib.Decide.{decLe}
 use native.Mathlib.Omega.{arith}
-use Rattle.records.specs.Lines.{Line, lines}
+use Rattle.text_reader.specs.Lines.{Line, lines}
 use Rattle.model.specs.Network.{signal, stepCount}
 use Rattle.model.specs.Flows.{shownMask}
 use Rattle.model.specs.Guarantees.{Shows, isOrdinary, Green, Red}

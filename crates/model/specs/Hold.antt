@@ -4,8 +4,8 @@ use mathlib.Core.Path.{_≡_}
 use mathlib.Core.List.{List, [], _∷_}
 use lib.Dec.{ltb}
 use lib.ListN.{length}
-use Rattle.records.specs.Lines.{Line, lines}
-use Rattle.record_writer.specs.Records.{recordTexts, recordLines}
+use Rattle.text_reader.specs.Lines.{Line, lines}
+use Rattle.text_writer.specs.Records.{recordTexts, recordLines}
 use Rattle.model.specs.declared.PlanAnswer.{PlanAnswer}
 use Rattle.model.specs.Sum.{only, list}
 use Rattle.model.specs.Network.{linkCount, signalCount, movementCount, stepCount, signal}

@@ -6,7 +6,7 @@ use mathlib.Core.List.{List, [], _∷_}
 use mathlib.Core.Bool.{cond, Bool}
 use lib.Dec.{leb, eqb}
 use lib.ListN.{getD, take, drop}
-use Rattle.records.specs.Lines.{Line, noLine, number}
+use Rattle.text_reader.specs.Lines.{Line, noLine, number}
 use Rattle.model.specs.declared.Signal.{Signal}
 use Rattle.model.specs.Test.{_and_, within}
 use Rattle.model.specs.Sum.{sum, list}

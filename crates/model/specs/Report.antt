@@ -1,11 +1,11 @@
 -- What the program `plancheck` prints ("One corridor, whole"). Assumes nothing.
 use Prim.Native.Nat.{ℕ, suc}
 use mathlib.Core.List.{List, [], _∷_, _++_}
-use Rattle.search.specs.declared.Verdict.{Verdict}
-use Rattle.search.specs.declared.Verdict.the-variants.{Passes, Refused}
-use Rattle.search.specs.Checks.{_then_, verdict}
-use Rattle.records.specs.Lines.{Line, lines}
-use Rattle.record_writer.specs.Records.{recordText, recordTexts}
+use Rattle.base_search.specs.declared.Verdict.{Verdict}
+use Rattle.base_search.specs.declared.Verdict.the-variants.{Passes, Refused}
+use Rattle.base_search.specs.Checks.{_then_, verdict}
+use Rattle.text_reader.specs.Lines.{Line, lines}
+use Rattle.text_writer.specs.Records.{recordText, recordTexts}
 use Rattle.model.specs.Sum.{sum}
 use Rattle.model.specs.Network.{stepCount, time}
 use Rattle.model.specs.Flows.{vehicles, allAdmitted, allLetOut, doubledTime, row}

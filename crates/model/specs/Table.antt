@@ -5,8 +5,8 @@ use mathlib.Core.Bool.{Bool}
 use mathlib.Core.List.{List, [], _∷_}
 use lib.Dec.{leb, eqb}
 use lib.ListN.{length, getD}
-use Rattle.search.specs.Checks.{Checks, check, each, _then_, Rule, table}
-use Rattle.records.specs.Lines.{Line, noLine, isRecord, startsAs}
+use Rattle.base_search.specs.Checks.{Checks, check, each, _then_, Rule, table}
+use Rattle.text_reader.specs.Lines.{Line, noLine, isRecord, startsAs}
 use Rattle.model.specs.Network.{linkCount, signalCount, movementCount, stepCount, tramCount, pastCount, tramLine, signalLine, linkLine, movementLine, timelineLine, stepLine, signal}
 use Rattle.model.specs.Rules.{validPhases, validSignal, validCounts, validTram, validTramPhase, validLink, validMovement, lastMovement, validShares, validStep, validPast, rule10, rule11, rule12, rule13, rule14, rule15, rule16, rule17, rule18, rule25, rule26, rule27, rule29}
 

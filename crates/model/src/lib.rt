@@ -1,5 +1,5 @@
 // The types of the plan check's answers and of a signal. What they mean stands in specs/.
-use search::Refusal;
+use base_search::Refusal;
 
 // A signal (the paper's light): its `G` line, with the phase that it shows, for how many seconds, and the seconds since phase 1 last began.
 // `least` and `greatest` have phase k's times at k - 1.

@@ -3,25 +3,25 @@ use Prim.Native.Nat.{ℕ}
 use mathlib.Core.Path.{_≡_, sym, ap, _∙_}
 use mathlib.Core.List.{List}
 use lib.ListN.{length}
-use Rattle.search.specs.declared.Refusal.{Refusal}
-use Rattle.search.specs.declared.Verdict.{Verdict}
-use Rattle.search.specs.declared.Verdict.the-variants as verdicts
-use Rattle.search.specs.Checks.{Checks, each, _then_, verdict}
-use Rattle.search.proofs.Laws.{or-else-passes, or-else-refused, hold-of-passes}
-use Rattle.records.specs.Lines.{lines}
-use Rattle.records.specs.Padding.{PaddingIgnored}
-use Rattle.records.proofs.Padding.{same-lines}
+use Rattle.base_search.specs.declared.Refusal.{Refusal}
+use Rattle.base_search.specs.declared.Verdict.{Verdict}
+use Rattle.base_search.specs.declared.Verdict.the-variants as verdicts
+use Rattle.base_search.specs.Checks.{Checks, each, _then_, verdict}
+use Rattle.base_search.proofs.Laws.{or-else-passes, or-else-refused, hold-of-passes}
+use Rattle.text_reader.specs.Lines.{lines}
+use Rattle.text_reader.specs.Padding.{PaddingIgnored}
+use Rattle.text_reader.proofs.Padding.{same-lines}
 use Rattle.model.specs.Network.{maxSignals, linkCount}
 use Rattle.model.specs.Table.{countChecks, shareChecks, networkChecks}
 use Rattle.model.specs.Calls.{checkNetwork}
 use Rattle.model.specs.Guarantees.{NetworkPromises}
 use Rattle.model.proofs.Numbers.{network-promises}
-use Rattle.tables.specs.declared.Reading.{Reading}
-use Rattle.tables.specs.declared.Stage.{Stage}
-use Rattle.tables.specs.declared.Stage.the-variants.{Passed, Refused}
-use Rattle.tables.specs.Blocks.{blockChecks, linkBlock, movementBlock}
-use Rattle.tables.specs.Tables.{Judged}
-use Rattle.tables.proofs.Stages.{judged-refused, verdict-passed, verdict-refused}
+use Rattle.network_tables.specs.declared.Reading.{Reading}
+use Rattle.network_tables.specs.declared.Stage.{Stage}
+use Rattle.network_tables.specs.declared.Stage.the-variants.{Passed, Refused}
+use Rattle.network_tables.specs.Blocks.{blockChecks, linkBlock, movementBlock}
+use Rattle.network_tables.specs.Tables.{Judged}
+use Rattle.network_tables.proofs.Stages.{judged-refused, verdict-passed, verdict-refused}
 use Rattle.network_signals.specs.Counts.{CountsHeld}
 use Rattle.network_signals.specs.Stages.{SignalsHeld}
 use Rattle.network_links.specs.Movements.{shareChecksIn}

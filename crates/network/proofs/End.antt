@@ -5,22 +5,22 @@ use mathlib.Core.Bool.{Bool, true, false}
 use mathlib.Core.List.{List}
 use native.Mathlib.Omega.{arith}
 use lib.ListN.{length}
-use Rattle.search.specs.declared.Refusal.{Refusal}
-use Rattle.search.specs.declared.Verdict.the-variants.{Passes}
-use Rattle.search.specs.Checks.{refusal, Hold, verdict}
-use Rattle.search.proofs.Laws.{first-all, checked-passes, checked-refused, hold-of-passes}
-use Rattle.records.specs.Lines.{Line, lines}
-use Rattle.records.specs.Reading.{atEnd}
-use Rattle.records.proofs.Laws.{starts-end}
+use Rattle.base_search.specs.declared.Refusal.{Refusal}
+use Rattle.base_search.specs.declared.Verdict.the-variants.{Passes}
+use Rattle.base_search.specs.Checks.{refusal, Hold, verdict}
+use Rattle.base_search.proofs.Laws.{first-all, checked-passes, checked-refused, hold-of-passes}
+use Rattle.text_reader.specs.Lines.{Line, lines}
+use Rattle.text_reader.specs.Reading.{atEnd}
+use Rattle.text_reader.proofs.Laws.{starts-end}
 use Rattle.model.specs.Network.{linkCount, stepCount, onTimeline, timelineLine, stepLine}
 use Rattle.model.specs.Table.{isForm, letterS, stepChecks}
-use Rattle.tables.specs.declared.Reading.{Reading}
-use Rattle.tables.specs.declared.Stage.the-variants.{Passed, Refused}
-use Rattle.tables.specs.Places.{stepLineIn}
-use Rattle.tables.specs.Blocks.{blockChecks, stepBlock}
-use Rattle.tables.specs.Tables.{Judged}
-use Rattle.tables.proofs.Places.{record-within, step-line-is}
-use Rattle.tables.proofs.Stages.{judged-refused, judged-passed}
+use Rattle.network_tables.specs.declared.Reading.{Reading}
+use Rattle.network_tables.specs.declared.Stage.the-variants.{Passed, Refused}
+use Rattle.network_tables.specs.Places.{stepLineIn}
+use Rattle.network_tables.specs.Blocks.{blockChecks, stepBlock}
+use Rattle.network_tables.specs.Tables.{Judged}
+use Rattle.network_tables.proofs.Places.{record-within, step-line-is}
+use Rattle.network_tables.proofs.Stages.{judged-refused, judged-passed}
 use Rattle.network.specs.Loading.{endChecks, EndAsked}
 
 -- all lines of a network whose `S` lines pass are there

@@ -3,21 +3,21 @@ use Prim.Native.Nat.{ℕ}
 use mathlib.Core.Path.{_≡_, refl, sym, ap, _∙_}
 use mathlib.Core.List.{List}
 use lib.ListN.{length}
-use Rattle.search.specs.declared.Refusal.{Refusal}
-use Rattle.search.specs.declared.Verdict.{Verdict}
-use Rattle.search.specs.declared.Verdict.the-variants as verdicts
-use Rattle.search.specs.Checks.{Checks, each, orElse, _then_, verdict}
-use Rattle.search.proofs.Laws.{or-else-passes, or-else-refused}
-use Rattle.records.specs.Lines.{Line, lines}
+use Rattle.base_search.specs.declared.Refusal.{Refusal}
+use Rattle.base_search.specs.declared.Verdict.{Verdict}
+use Rattle.base_search.specs.declared.Verdict.the-variants as verdicts
+use Rattle.base_search.specs.Checks.{Checks, each, orElse, _then_, verdict}
+use Rattle.base_search.proofs.Laws.{or-else-passes, or-else-refused}
+use Rattle.text_reader.specs.Lines.{Line, lines}
 use Rattle.model.specs.Network.{tramCount}
 use Rattle.model.specs.Table.{tramPhaseChecks}
-use Rattle.tables.specs.declared.Reading.{Reading}
-use Rattle.tables.specs.declared.Stage.{Stage}
-use Rattle.tables.specs.declared.Stage.the-variants.{Passed, Refused}
-use Rattle.tables.specs.Blocks.{blockChecks, tramBlock, signalBlock}
-use Rattle.tables.specs.Fields.{tramTableSize}
-use Rattle.tables.specs.Tables.{Judged}
-use Rattle.tables.proofs.Stages.{judged-refused, verdict-passed, verdict-refused}
+use Rattle.network_tables.specs.declared.Reading.{Reading}
+use Rattle.network_tables.specs.declared.Stage.{Stage}
+use Rattle.network_tables.specs.declared.Stage.the-variants.{Passed, Refused}
+use Rattle.network_tables.specs.Blocks.{blockChecks, tramBlock, signalBlock}
+use Rattle.network_tables.specs.Fields.{tramTableSize}
+use Rattle.network_tables.specs.Tables.{Judged}
+use Rattle.network_tables.proofs.Stages.{judged-refused, verdict-passed, verdict-refused}
 use Rattle.network_signals.specs.Stages.{SignalsAsked, SignalsHeld}
 use Rattle.network_trams.specs.Trams.{phaseChecksIn, PhasesAsked}
 use Rattle.network_trams.specs.Stages.{TramsAsked, TramsHeld}

@@ -3,3 +3,4 @@ mod Timeline
 mod End
 mod Chain
 pub mod Rooms
+mod Counting

@@ -5,7 +5,7 @@ use mathlib.Core.List.{List}
 use native.Mathlib.Decide.{decLe}
 use native.Mathlib.Omega.{arith}
 use lib.ListN.{length, getD, replicate, length-replicate, getD-replicate, List·getD-eq-default}
-use Rattle.tables.specs.Fields.{signalTableSize}
+use Rattle.network_tables.specs.Fields.{signalTableSize}
 use Rattle.network.specs.Loading.{Rooms, SignalRooms}
 
 module _ {signals : List ℕ} (zeros : signals ≡ replicate signalTableSize 0) where

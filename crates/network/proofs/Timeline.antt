@@ -6,25 +6,25 @@ use mathlib.Core.List.{List}
 use native.Mathlib.Omega.{arith}
 use borrow.Author.Tests.{leb-true}
 use lib.ListN.{replicate, length-replicate, getD-replicate}
-use Rattle.search.specs.declared.Refusal.{Refusal}
-use Rattle.search.specs.declared.Verdict.the-variants as verdicts
-use Rattle.search.specs.Checks.{Hold, verdict}
-use Rattle.search.proofs.Laws.{or-else-passes, or-else-refused, hold-of-passes}
-use Rattle.records.specs.Lines.{Line, lines}
+use Rattle.base_search.specs.declared.Refusal.{Refusal}
+use Rattle.base_search.specs.declared.Verdict.the-variants as verdicts
+use Rattle.base_search.specs.Checks.{Hold, verdict}
+use Rattle.base_search.proofs.Laws.{or-else-passes, or-else-refused, hold-of-passes}
+use Rattle.text_reader.specs.Lines.{Line, lines}
 use Rattle.model.specs.Test.{within}
 use Rattle.model.specs.Network.{maxLinks, linkCount, onTimeline, capacity, standing, travelTime}
 use Rattle.model.specs.Rules.{validLink, validPast}
 use Rattle.model.specs.Table.{linkChecks, pastChecks}
 use Rattle.model.proofs.Tests.{and-left, and-right}
-use Rattle.tables.specs.declared.Reading.{Reading}
-use Rattle.tables.specs.declared.Stage.{Stage}
-use Rattle.tables.specs.declared.Stage.the-variants.{Passed, Refused}
-use Rattle.tables.specs.Blocks.{blockChecks, linkBlock, pastBlock, stepBlock}
-use Rattle.tables.specs.Tables.{Judged}
-use Rattle.tables.proofs.Stages.{judged-refused, verdict-passed, verdict-refused}
-use Rattle.arrivals.specs.Timed.{validLengths}
-use Rattle.arrivals.proofs.Timed.{timed-table}
-use Rattle.past_curves.specs.Curves.{PastForms}
+use Rattle.network_tables.specs.declared.Reading.{Reading}
+use Rattle.network_tables.specs.declared.Stage.{Stage}
+use Rattle.network_tables.specs.declared.Stage.the-variants.{Passed, Refused}
+use Rattle.network_tables.specs.Blocks.{blockChecks, linkBlock, pastBlock, stepBlock}
+use Rattle.network_tables.specs.Tables.{Judged}
+use Rattle.network_tables.proofs.Stages.{judged-refused, verdict-passed, verdict-refused}
+use Rattle.step_arrivals.specs.Timed.{validLengths}
+use Rattle.step_arrivals.proofs.Timed.{timed-table}
+use Rattle.step_past.specs.Curves.{PastForms}
 use Rattle.network_past.specs.Past.{FormsAsked, FormsHeld, pastEndChecks, EndAsked as PastEndAsked}
 use Rattle.network_steps.specs.Steps.{StepsAsked, StepsHeld}
 use Rattle.network.specs.Loading.{endChecks, EndAsked, timelineChecks, TimelineAsked, TimelineHeld}

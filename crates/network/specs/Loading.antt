@@ -4,15 +4,15 @@ use mathlib.Core.Path.{_≡_}
 use mathlib.Core.List.{List}
 use lib.Dec.{eqb}
 use lib.ListN.{length, getD}
-use Rattle.search.specs.Checks.{Checks, check, each, _then_, Hold}
-use Rattle.records.specs.Lines.{Line, lines}
-use Rattle.records.specs.Reading.{Starts}
+use Rattle.base_search.specs.Checks.{Checks, check, each, _then_, Hold}
+use Rattle.text_reader.specs.Lines.{Line, lines}
+use Rattle.text_reader.specs.Reading.{Starts}
 use Rattle.model.specs.Network.{maxSignals, linkCount, stepCount, tramCount, tramLine, signalLine, timelineLine, stepLine, capacity, standing, travelTime}
 use Rattle.model.specs.Table.{tramPhaseChecks, networkChecks}
-use Rattle.tables.specs.declared.Reading.{Reading}
-use Rattle.tables.specs.Blocks.{blockChecks, tramBlock, signalBlock, pastBlock, stepBlock}
-use Rattle.tables.specs.Fields.{signalTableSize, linkTableSize, movementTableSize, timeTableSize}
-use Rattle.tables.specs.Tables.{Reached, CountsHold, SignalTable, LinkTable, MovementTable, TimeTable}
+use Rattle.network_tables.specs.declared.Reading.{Reading}
+use Rattle.network_tables.specs.Blocks.{blockChecks, tramBlock, signalBlock, pastBlock, stepBlock}
+use Rattle.network_tables.specs.Fields.{signalTableSize, linkTableSize, movementTableSize, timeTableSize}
+use Rattle.network_tables.specs.Tables.{Reached, CountsHold, SignalTable, LinkTable, MovementTable, TimeTable}
 use Rattle.network_past.specs.Past.{pastEndChecks}
 
 -- the `T` and the `G` lines, and the phases of the `T` lines

@@ -1,31 +1,35 @@
 // Reads a whole network text into tables and judges it: refusals 1 to 6, 28 and 30.
+// The call that tells what a valid network has, by its `N` line.
 ghost use mathlib.Core.Path.{_≡_};
-ghost use Rattle.records.specs.Lines.{lines};
-ghost use Rattle.records.specs.Padding.{PaddingIgnored};
+ghost use Rattle.text_reader.specs.Lines.{lines};
+ghost use Rattle.text_reader.specs.Padding.{PaddingIgnored};
 ghost use Rattle.model.specs.Table.{networkChecks};
 ghost use Rattle.model.specs.Calls.{checkNetwork};
 ghost use Rattle.model.specs.Guarantees.{NetworkPromises};
-ghost use Rattle.tables.specs.Tables.{Judged};
+ghost use Rattle.network_tables.specs.Tables.{Judged};
 ghost use Rattle.network_signals.specs.Stages.{SignalsHeld};
 ghost use Rattle.network.specs.Loading.{firstChecks, FirstAsked, endChecks, EndAsked, timelineChecks, TimelineAsked, TimelineHeld, Rooms, SignalRooms, Loaded, LoadedWithSignals};
-use search::Refusal;
-use search::Verdict;
-use tables::LINK_TABLE_SIZE;
-use tables::MAX_LINKS;
-use tables::MAX_SIGNALS;
-use tables::MOVEMENT_TABLE_SIZE;
-use tables::Reading;
-use tables::SIGNAL_TABLE_SIZE;
-use tables::Stage;
-use tables::TIME_TABLE_SIZE;
-use tables::TRAM_TABLE_SIZE;
+ghost use Rattle.network_tables.specs.Places.{Few};
+ghost use Rattle.network.specs.Counting.{countedAnswer, countNetwork, CountPromises};
+use base_search::Refusal;
+use base_search::Verdict;
+use network_tables::Counts;
+use network_tables::LINK_TABLE_SIZE;
+use network_tables::MAX_LINKS;
+use network_tables::MAX_SIGNALS;
+use network_tables::MOVEMENT_TABLE_SIZE;
+use network_tables::Reading;
+use network_tables::SIGNAL_TABLE_SIZE;
+use network_tables::Stage;
+use network_tables::TIME_TABLE_SIZE;
+use network_tables::TRAM_TABLE_SIZE;
 
 // After the `S` lines: refusal 1 for a surplus line, told at the line after the last.
 fn check_end(text: &[u8], reading: Reading) -> Stage
     requires { ⌜ EndAsked (now text) reading ⌝ }
     ensures { λ r. ⌜ Judged (endChecks (lines (now (text .entry)))) (λ after. after ≡ reading) r ⌝ }
 {
-    if records::is_end(text, reading.next) {
+    if text_reader::is_end(text, reading.next) {
         return Stage::Passed(reading);
     }
     let counts = reading.counts;
@@ -137,5 +141,48 @@ pub fn check_network(text: &[u8]) -> Verdict
     match load_network(text, &mut links, &mut movements, &mut times) {
         Stage::Passed(_) => Verdict::Passes,
         Stage::Refused(refusal) => Verdict::Refused(refusal),
+    }
+}
+
+// How many links, signals, movements, steps, tram lines and past steps; or the network's refusal.
+pub enum CountsAnswer {
+    Counted {
+        links: u32,
+        signals: u32,
+        movements: u32,
+        steps: u32,
+        trams: u32,
+        past: u32,
+    },
+    Refused(Refusal),
+}
+
+// Counts as an answer, which they fit.
+fn counted(counts: Counts) -> CountsAnswer
+    requires { ⌜ Few counts ⌝ }
+    ensures { λ r. ⌜ r ≡ countedAnswer counts ⌝ }
+{
+    CountsAnswer::Counted {
+        links: counts.links as u32,
+        signals: counts.signals as u32,
+        movements: counts.movements as u32,
+        steps: counts.steps as u32,
+        trams: counts.trams as u32,
+        past: counts.past as u32,
+    }
+}
+
+// Counts a network that is valid: refusals 1 to 6, 28 and 30.
+pub fn count_network(text: &[u8]) -> CountsAnswer
+    ensures { λ r. ⌜ r ≡ countNetwork (lines (now (text .entry))) ⌝ }
+    ensures { λ r. ⌜ CountPromises r ⌝ }
+    ensures { λ r. ⌜ PaddingIgnored (now (text .entry)) (λ padded. r ≡ countNetwork (lines padded)) ⌝ }
+{
+    let mut links = [0u32; LINK_TABLE_SIZE];
+    let mut movements = [0u32; MOVEMENT_TABLE_SIZE];
+    let mut times = [0u32; TIME_TABLE_SIZE];
+    match load_network(text, &mut links, &mut movements, &mut times) {
+        Stage::Passed(reading) => counted(reading.counts),
+        Stage::Refused(refusal) => CountsAnswer::Refused(refusal),
     }
 }

@@ -8,26 +8,26 @@ use native.Mathlib.Omega.{arith}
 use borrow.Author.Tests.{le-leb, lt-leb, eqb-false, leb-true, ne-eqb, not-true, not-false}
 use lib.Dec.{leb, ltb, eqb}
 use lib.ListN.{getD}
-use Rattle.search.specs.declared.Refusal.{Refusal}
-use Rattle.search.specs.Checks.{refusal}
-use Rattle.records.specs.declared.LineRead.{LineRead}
-use Rattle.records.specs.declared.LineRead.the-variants.{Next, Malformed}
-use Rattle.records.specs.Lines.{Line, lines}
+use Rattle.base_search.specs.declared.Refusal.{Refusal}
+use Rattle.base_search.specs.Checks.{refusal}
+use Rattle.text_reader.specs.declared.LineRead.{LineRead}
+use Rattle.text_reader.specs.declared.LineRead.the-variants.{Next, Malformed}
+use Rattle.text_reader.specs.Lines.{Line, lines}
 use Rattle.model.specs.Test.{_and_, within}
 use Rattle.model.specs.Network.{entry, linkCount, signalCount, linkLine, signal, capacity, travelTime, exitRate, signalOf, phaseMask, standing}
 use Rattle.model.specs.Rules.{validMask, validLink}
 use Rattle.model.specs.Table.{letterQ, linkChecks}
 use Rattle.model.proofs.Phases.{bit-shifted}
-use Rattle.tables.specs.declared.Reading.{Reading}
-use Rattle.tables.specs.declared.Stage.the-variants.{Passed, Refused}
-use Rattle.tables.specs.Places.{linkLineIn}
-use Rattle.tables.specs.Fields.{linkFields, linkTableSize, capacityIn, travelTimeIn, exitRateIn, signalIn, phaseMaskIn, standingIn}
-use Rattle.tables.specs.Rows.{RowRead}
-use Rattle.tables.specs.Blocks.{blockChecks, Records, TableTo, linkBlock}
-use Rattle.tables.specs.Tables.{Judged, PhaseTable, movedTo}
-use Rattle.tables.proofs.Places.{link-line-is, movements-after-links}
-use Rattle.tables.proofs.Blocks.{passed-all, block-end, records-malformed, records-invalid, records-next, table-begin, table-room, table-rows, table-next}
-use Rattle.tables.proofs.Stages.{judged-refused, judged-passed, reached-next}
+use Rattle.network_tables.specs.declared.Reading.{Reading}
+use Rattle.network_tables.specs.declared.Stage.the-variants.{Passed, Refused}
+use Rattle.network_tables.specs.Places.{linkLineIn}
+use Rattle.network_tables.specs.Fields.{linkFields, linkTableSize, capacityIn, travelTimeIn, exitRateIn, signalIn, phaseMaskIn, standingIn}
+use Rattle.network_tables.specs.Rows.{RowRead}
+use Rattle.network_tables.specs.Blocks.{blockChecks, Records, TableTo, linkBlock}
+use Rattle.network_tables.specs.Tables.{Judged, PhaseTable, movedTo}
+use Rattle.network_tables.proofs.Places.{link-line-is, movements-after-links}
+use Rattle.network_tables.proofs.Blocks.{passed-all, block-end, records-malformed, records-invalid, records-next, table-begin, table-room, table-rows, table-next}
+use Rattle.network_tables.proofs.Stages.{judged-refused, judged-passed, reached-next}
 use Rattle.network_links.specs.Links.{validMaskIn, validLinkIn, PhasesKnown, LinkAsked}
 use Rattle.network_links.specs.Stages.{LinksAsked, LinksHeld}
 

@@ -7,29 +7,29 @@ use native.Mathlib.Numerals.{add-one}
 use native.Mathlib.Omega.{arith}
 use borrow.Author.Tests.{eq-eqb, ne-eqb, not-true, not-false}
 use lib.Dec.{leb, ltb, eqb, eqb·suc-zero}
-use Rattle.search.specs.declared.Refusal.{Refusal}
-use Rattle.search.specs.Checks.{refusal, each, checked, verdict}
-use Rattle.records.specs.declared.LineRead.{LineRead}
-use Rattle.records.specs.declared.LineRead.the-variants.{Next, Malformed}
-use Rattle.records.specs.Lines.{Line, lines}
+use Rattle.base_search.specs.declared.Refusal.{Refusal}
+use Rattle.base_search.specs.Checks.{refusal, each, checked, verdict}
+use Rattle.text_reader.specs.declared.LineRead.{LineRead}
+use Rattle.text_reader.specs.declared.LineRead.the-variants.{Next, Malformed}
+use Rattle.text_reader.specs.Lines.{Line, lines}
 use Rattle.model.specs.Test.{_and_, _or_, within}
 use Rattle.model.specs.Sum.{sum, only}
 use Rattle.model.specs.Network.{linkCount, movementCount, movementLine, fromLink, toLink, rate, share}
 use Rattle.model.specs.Rules.{pairRises, validMovement, lastMovement, validShares}
 use Rattle.model.specs.Table.{letterM, movementChecks, shareChecks}
 use Rattle.model.proofs.Sums.{sum-ext}
-use Rattle.tables.specs.declared.Counts.{Counts}
-use Rattle.tables.specs.declared.Reading.{Reading}
-use Rattle.tables.specs.declared.Stage.the-variants.{Passed, Refused}
-use Rattle.tables.specs.Places.{movementLineIn}
-use Rattle.tables.specs.Fields.{movementFields, movementTableSize, linkIn, rateIn, shareIn}
-use Rattle.tables.specs.Rows.{RowRead}
-use Rattle.tables.specs.Blocks.{blockChecks, PassedTo, Records, RowsTo, TableTo, movementBlock}
-use Rattle.tables.specs.Tables.{Judged, CountsHold, MovementTable, movedTo}
-use Rattle.tables.proofs.Tables.{from-link-at, share-at}
-use Rattle.tables.proofs.Places.{movement-line-is, past-after-movements}
-use Rattle.tables.proofs.Blocks.{passed-all, passed-stop, passed-next, block-end, records-malformed, records-invalid, records-next, table-begin, table-room, table-rows, table-next}
-use Rattle.tables.proofs.Stages.{judged-refused, judged-passed, reached-next}
+use Rattle.network_tables.specs.declared.Counts.{Counts}
+use Rattle.network_tables.specs.declared.Reading.{Reading}
+use Rattle.network_tables.specs.declared.Stage.the-variants.{Passed, Refused}
+use Rattle.network_tables.specs.Places.{movementLineIn}
+use Rattle.network_tables.specs.Fields.{movementFields, movementTableSize, linkIn, rateIn, shareIn}
+use Rattle.network_tables.specs.Rows.{RowRead}
+use Rattle.network_tables.specs.Blocks.{blockChecks, PassedTo, Records, RowsTo, TableTo, movementBlock}
+use Rattle.network_tables.specs.Tables.{Judged, CountsHold, MovementTable, movedTo}
+use Rattle.network_tables.proofs.Tables.{from-link-at, share-at}
+use Rattle.network_tables.proofs.Places.{movement-line-is, past-after-movements}
+use Rattle.network_tables.proofs.Blocks.{passed-all, passed-stop, passed-next, block-end, records-malformed, records-invalid, records-next, table-begin, table-room, table-rows, table-next}
+use Rattle.network_tables.proofs.Stages.{judged-refused, judged-passed, reached-next}
 use Rattle.network_links.specs.Movements.{pairRisesIn, validMovementIn, lastMovementIn, shareSumIn, validSharesIn, shareChecksIn, MovementsKnown}
 use Rattle.network_links.specs.Stages.{MovementsAsked, MovementsHeld, SharesAsked}
 

@@ -12,8 +12,8 @@ use lib.ListN.{getD, set, replicate, length-set, length-replicate, getD-replicat
 use lib.Seq.{getD-set-same, getD-set-other}
 use Rattle.model.specs.Network.{maxLinks}
 use Rattle.model.specs.Sum.{sum, only}
-use Rattle.tables.specs.declared.Counts.{Counts}
-use Rattle.tables.specs.Fields.{linkIn, shareIn}
+use Rattle.network_tables.specs.declared.Counts.{Counts}
+use Rattle.network_tables.specs.Fields.{linkIn, shareIn}
 use Rattle.network_links.specs.Movements.{shareSumIn, AddAsked, Added, SumsAsked, ShareSums}
 use Rattle.network_links.specs.Stages.{SharesAsked}
 

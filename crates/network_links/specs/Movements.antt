@@ -5,13 +5,13 @@ use mathlib.Core.Bool.{Bool, not, cond}
 use mathlib.Core.List.{List}
 use lib.Dec.{ltb, eqb}
 use lib.ListN.{length, getD}
-use Rattle.search.specs.Checks.{Checks, check}
+use Rattle.base_search.specs.Checks.{Checks, check}
 use Rattle.model.specs.Network.{maxLinks, maxMovements}
 use Rattle.model.specs.Test.{_and_, _or_, within}
 use Rattle.model.specs.Sum.{sum, only}
-use Rattle.tables.specs.declared.Counts.{Counts}
-use Rattle.tables.specs.Places.{movementLineIn}
-use Rattle.tables.specs.Fields.{movementTableSize, linkIn, rateIn, shareIn}
+use Rattle.network_tables.specs.declared.Counts.{Counts}
+use Rattle.network_tables.specs.Places.{movementLineIn}
+use Rattle.network_tables.specs.Fields.{movementTableSize, linkIn, rateIn, shareIn}
 
 -- 5: (from, to) of movement j is above that of the movement before
 unfoldable pub pairRisesIn : List ℕ → ℕ → Bool

@@ -3,13 +3,13 @@ use Prim.Native.Nat.{ℕ}
 use mathlib.Core.Path.{_≡_}
 use mathlib.Core.List.{List}
 use lib.ListN.{length}
-use Rattle.records.specs.Lines.{lines}
+use Rattle.text_reader.specs.Lines.{lines}
 use Rattle.model.specs.Network.{linkLine, movementLine, timelineLine}
-use Rattle.tables.specs.declared.Counts.{Counts}
-use Rattle.tables.specs.declared.Reading.{Reading}
-use Rattle.tables.specs.Places.{Few}
-use Rattle.tables.specs.Fields.{linkTableSize, movementTableSize}
-use Rattle.tables.specs.Tables.{Reached, PhaseTable, LinkTable, MovementTable}
+use Rattle.network_tables.specs.declared.Counts.{Counts}
+use Rattle.network_tables.specs.declared.Reading.{Reading}
+use Rattle.network_tables.specs.Places.{Few}
+use Rattle.network_tables.specs.Fields.{linkTableSize, movementTableSize}
+use Rattle.network_tables.specs.Tables.{Reached, PhaseTable, LinkTable, MovementTable}
 
 pub record LinksAsked (text : List ℕ) (reading : Reading) (phases links : List ℕ) : Type 0 where
   pub reached : Reached text (linkLine (lines text) 0) reading

@@ -1,20 +1,20 @@
 // The `Q` and `M` lines of a network text and the sums of the shares: refusals 1, 4 and 5.
 ghost use mathlib.Core.Path.{_≡_};
 ghost use Prim.Native.Nat.{_+_, _≤_, _<_};
-ghost use Rattle.search.specs.Checks.{each};
-ghost use Rattle.records.specs.Lines.{lines};
-ghost use Rattle.tables.specs.Tables.{Judged};
-ghost use Rattle.tables.specs.Blocks.{blockChecks, linkBlock, movementBlock};
+ghost use Rattle.base_search.specs.Checks.{each};
+ghost use Rattle.text_reader.specs.Lines.{lines};
+ghost use Rattle.network_tables.specs.Tables.{Judged};
+ghost use Rattle.network_tables.specs.Blocks.{blockChecks, linkBlock, movementBlock};
 ghost use Rattle.network_links.specs.Links.{validMaskIn, validLinkIn, PhasesKnown, LinkAsked};
 ghost use Rattle.network_links.specs.Movements.{pairRisesIn, validMovementIn, lastMovementIn, shareSumIn, validSharesIn, shareChecksIn, MovementsKnown, AddAsked, Added, SumsAsked, ShareSums};
 ghost use Rattle.network_links.specs.Stages.{LinksAsked, LinksHeld, MovementsAsked, MovementsHeld, SharesAsked};
-use records::LineRead;
-use search::Refusal;
-use tables::LINK_FIELDS;
-use tables::MAX_LINKS;
-use tables::MOVEMENT_FIELDS;
-use tables::Reading;
-use tables::Stage;
+use base_search::Refusal;
+use network_tables::LINK_FIELDS;
+use network_tables::MAX_LINKS;
+use network_tables::MOVEMENT_FIELDS;
+use network_tables::Reading;
+use network_tables::Stage;
+use text_reader::LineRead;
 
 // Refusal 4: a link without a signal has no phase; one with a signal has a phase, and none above the signal's number of phases.
 fn valid_mask(mask: u32, signal: usize, phases: &[u32]) -> bool
@@ -33,17 +33,17 @@ fn valid_link(links: &[u32], i: usize, signals: usize, phases: &[u32]) -> bool
     requires { ⌜ LinkAsked (now links) i signals (now phases) ⌝ }
     ensures { λ r. ⌜ r ≡ validLinkIn (now (links .entry)) i signals (now (phases .entry)) ⌝ }
 {
-    let signal = tables::index(tables::signal_of(links, i));
+    let signal = network_tables::index(network_tables::signal_of(links, i));
     if signals < signal {
         return false;
     }
-    let capacity = tables::capacity(links, i);
-    let travel = tables::travel_time(links, i);
+    let capacity = network_tables::capacity(links, i);
+    let travel = network_tables::travel_time(links, i);
     (capacity <= 2000000000)
         & ((1 <= travel) & (travel <= 3600))
-        & (tables::exit_rate(links, i) <= 10000)
-        & valid_mask(tables::phase_mask(links, i), signal, phases)
-        & (tables::standing(links, i) <= capacity)
+        & (network_tables::exit_rate(links, i) <= 10000)
+        & valid_mask(network_tables::phase_mask(links, i), signal, phases)
+        & (network_tables::standing(links, i) <= capacity)
 }
 
 // The `Q` lines: each line's form (refusal 1), then its values (refusal 4). Its numbers go straight into the row of its link.
@@ -57,7 +57,7 @@ pub fn read_links(text: &[u8], reading: Reading, phases: &[u32], links: &mut [u3
     while i < counts.links {
         let line = counts.link_line(i) + 1;
         let start = LINK_FIELDS * i;
-        let read = tables::read_row(text, place, b'Q', links, start, LINK_FIELDS);
+        let read = network_tables::read_row(text, place, b'Q', links, start, LINK_FIELDS);
         let LineRead::Next(next) = read else {
             return Stage::Refused(Refusal::new(1, line, 0));
         };
@@ -78,11 +78,12 @@ fn pair_rises(movements: &[u32], j: usize) -> bool
     if j == 0 {
         return true;
     }
-    let before = tables::link_of(movements, j - 1, 0);
-    let from = tables::link_of(movements, j, 0);
+    let before = network_tables::link_of(movements, j - 1, 0);
+    let from = network_tables::link_of(movements, j, 0);
     (before < from)
         | (before == from)
-            & (tables::link_of(movements, j - 1, 1) < tables::link_of(movements, j, 1))
+            & (network_tables::link_of(movements, j - 1, 1)
+                < network_tables::link_of(movements, j, 1))
 }
 
 // Refusal 5, movement `j`, by its row and the one before.
@@ -90,10 +91,10 @@ fn valid_movement(movements: &[u32], links: usize, j: usize) -> bool
     requires { ⌜ MovementsKnown (now movements) (j + 1) ⌝ }
     ensures { λ r. ⌜ r ≡ validMovementIn (now (movements .entry)) links j ⌝ }
 {
-    let from = tables::index(tables::link_of(movements, j, 0));
-    let to = tables::index(tables::link_of(movements, j, 1));
-    let rate = tables::rate(movements, j);
-    let share = tables::share(movements, j);
+    let from = network_tables::index(network_tables::link_of(movements, j, 0));
+    let to = network_tables::index(network_tables::link_of(movements, j, 1));
+    let rate = network_tables::rate(movements, j);
+    let share = network_tables::share(movements, j);
     ((1 <= from) & (from <= links))
         & ((1 <= to) & (to <= links))
         & (from != to)
@@ -113,7 +114,7 @@ pub fn read_movements(text: &[u8], reading: Reading, movements: &mut [u32]) -> S
     while j < counts.movements {
         let line = counts.movement_line(j) + 1;
         let start = MOVEMENT_FIELDS * j;
-        let read = tables::read_row(text, place, b'M', movements, start, MOVEMENT_FIELDS);
+        let read = network_tables::read_row(text, place, b'M', movements, start, MOVEMENT_FIELDS);
         let LineRead::Next(next) = read else {
             return Stage::Refused(Refusal::new(1, line, 0));
         };
@@ -134,7 +135,7 @@ fn last_movement(movements: &[u32], count: usize, link: usize) -> usize
     let mut last = 0;
     let mut j = 0;
     while j < count {
-        if tables::index(tables::link_of(movements, j, 0)) == link {
+        if network_tables::index(network_tables::link_of(movements, j, 0)) == link {
             last = j + 1;
         }
         j += 1;
@@ -154,7 +155,7 @@ fn add_share(from: usize, share: u32, sums: &mut [u64])
         return;
     }
     let link = from - 1;
-    sums[link] = sums[link] + tables::wide(share);
+    sums[link] = sums[link] + network_tables::wide(share);
 }
 
 // The sum of the shares of the movements that leave each link, in one pass.
@@ -164,8 +165,8 @@ fn add_shares(movements: &[u32], count: usize, sums: &mut [u64])
 {
     let mut j = 0;
     while j < count {
-        let from = tables::index(tables::link_of(movements, j, 0));
-        add_share(from, tables::share(movements, j), sums);
+        let from = network_tables::index(network_tables::link_of(movements, j, 0));
+        add_share(from, network_tables::share(movements, j), sums);
         j += 1;
     }
 }

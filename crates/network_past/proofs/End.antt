@@ -7,10 +7,10 @@ use native.Mathlib.Numerals.{add-one}
 use native.Mathlib.Omega.{arith}
 use borrow.Author.Tests.{leb-true, not-true, not-false}
 use lib.ListN.{length, replicate, length-replicate, getD-replicate}
-use Rattle.search.specs.declared.Refusal.{Refusal}
-use Rattle.search.specs.Checks.{refusal, verdict}
-use Rattle.search.proofs.Laws.{checked-passes, checked-refused}
-use Rattle.records.specs.Lines.{Line, lines}
+use Rattle.base_search.specs.declared.Refusal.{Refusal}
+use Rattle.base_search.specs.Checks.{refusal, verdict}
+use Rattle.base_search.proofs.Laws.{checked-passes, checked-refused}
+use Rattle.text_reader.specs.Lines.{Line, lines}
 use Rattle.model.specs.Sum.{sum}
 use Rattle.model.specs.Test.{_and_, every}
 use Rattle.model.specs.Network.{maxLinks, linkCount, pastCount, stepCount, onTimeline, timelineLength, pastEntries}
@@ -20,18 +20,18 @@ use Rattle.model.proofs.Tests.{and-left, and-right, every-at, every-same}
 use Rattle.model.proofs.Timeline.{entered-start}
 use Rattle.model.proofs.Times.{arrival-step-le}
 use Rattle.model.proofs.Flow.{arrived-entered}
-use Rattle.tables.specs.declared.Counts.{Counts}
-use Rattle.tables.specs.declared.Reading.{Reading}
-use Rattle.tables.specs.declared.Stage.the-variants.{Passed, Refused}
-use Rattle.tables.specs.Fields.{rowSize}
-use Rattle.tables.specs.Tables.{Judged, TimeTable}
-use Rattle.tables.proofs.Stages.{judged-refused, judged-passed}
-use Rattle.tables.proofs.Tables.{travel-time-at}
-use Rattle.arrivals.specs.Arrivals.{Rising}
-use Rattle.arrivals.specs.Timed.{validLengths, TimedTo}
-use Rattle.arrivals.proofs.Arrivals.{cursor-at}
-use Rattle.arrivals.proofs.Timed.{timed-table, timed-rise}
-use Rattle.past_curves.specs.Curves.{pastEntered, pastLeft, PastAsked, PastOverflows, PastLoaded}
+use Rattle.network_tables.specs.declared.Counts.{Counts}
+use Rattle.network_tables.specs.declared.Reading.{Reading}
+use Rattle.network_tables.specs.declared.Stage.the-variants.{Passed, Refused}
+use Rattle.network_tables.specs.Fields.{rowSize}
+use Rattle.network_tables.specs.Tables.{Judged, TimeTable}
+use Rattle.network_tables.proofs.Stages.{judged-refused, judged-passed}
+use Rattle.network_tables.proofs.Tables.{travel-time-at}
+use Rattle.step_arrivals.specs.Arrivals.{Rising}
+use Rattle.step_arrivals.specs.Timed.{validLengths, TimedTo}
+use Rattle.step_arrivals.proofs.Arrivals.{cursor-at}
+use Rattle.step_arrivals.proofs.Timed.{timed-table, timed-rise}
+use Rattle.step_past.specs.Curves.{pastEntered, pastLeft, PastAsked, PastOverflows, PastLoaded}
 use Rattle.network_past.specs.Past.{validPastIn, validLinksIn, LinksAsked, pastEndChecks, EndAsked}
 use Rattle.network_past.proofs.Links.{valid-is}
 

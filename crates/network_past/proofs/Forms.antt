@@ -8,29 +8,29 @@ use native.Mathlib.Omega.{arith}
 use borrow.Author.Tests.{leb-true}
 use lib.Dec.{leb}
 use lib.ListN.{length, getD, set}
-use Rattle.search.specs.declared.Refusal.{Refusal}
-use Rattle.search.specs.Checks.{refusal, verdict}
-use Rattle.search.proofs.Laws.{checked-passes, checked-refused}
-use Rattle.records.specs.declared.LineRead.{LineRead}
-use Rattle.records.specs.declared.LineRead.the-variants.{Next, Malformed}
-use Rattle.records.specs.Lines.{Line, lines}
+use Rattle.base_search.specs.declared.Refusal.{Refusal}
+use Rattle.base_search.specs.Checks.{refusal, verdict}
+use Rattle.base_search.proofs.Laws.{checked-passes, checked-refused}
+use Rattle.text_reader.specs.declared.LineRead.{LineRead}
+use Rattle.text_reader.specs.declared.LineRead.the-variants.{Next, Malformed}
+use Rattle.text_reader.specs.Lines.{Line, lines}
 use Rattle.model.specs.Test.{_and_, within, every}
 use Rattle.model.specs.Network.{linkCount, pastCount, stepCount, timelineLine, timelineLength}
 use Rattle.model.specs.Table.{letterH, pastChecks}
-use Rattle.tables.specs.declared.Reading.{Reading}
-use Rattle.tables.specs.declared.Stage.the-variants.{Passed, Refused}
-use Rattle.tables.specs.Places.{timelineLineIn}
-use Rattle.tables.specs.Fields.{pastSize}
-use Rattle.tables.specs.Rows.{RowRead}
-use Rattle.tables.specs.Blocks.{blockChecks, ReadTo, pastBlock}
-use Rattle.tables.specs.Tables.{Judged, PastNumbers}
-use Rattle.tables.proofs.Tables.{past-length-at}
-use Rattle.tables.proofs.Places.{timeline-line-is, steps-after-past}
-use Rattle.tables.proofs.Blocks.{passed-all, passed-stop, block-begin, block-end, block-next}
-use Rattle.tables.proofs.Stages.{judged-refused, judged-passed}
-use Rattle.arrivals.specs.Timed.{validLengths, TimeAsked, TimeSet, TimedTo}
-use Rattle.arrivals.proofs.Timed.{timed-none, time-ready, timed-next}
-use Rattle.past_curves.proofs.Reading.{past-numbers, past-next}
+use Rattle.network_tables.specs.declared.Reading.{Reading}
+use Rattle.network_tables.specs.declared.Stage.the-variants.{Passed, Refused}
+use Rattle.network_tables.specs.Places.{timelineLineIn}
+use Rattle.network_tables.specs.Fields.{pastSize}
+use Rattle.network_tables.specs.Rows.{RowRead}
+use Rattle.network_tables.specs.Blocks.{blockChecks, ReadTo, pastBlock}
+use Rattle.network_tables.specs.Tables.{Judged, PastNumbers}
+use Rattle.network_tables.proofs.Tables.{past-length-at}
+use Rattle.network_tables.proofs.Places.{timeline-line-is, steps-after-past}
+use Rattle.network_tables.proofs.Blocks.{passed-all, passed-stop, block-begin, block-end, block-next}
+use Rattle.network_tables.proofs.Stages.{judged-refused, judged-passed}
+use Rattle.step_arrivals.specs.Timed.{validLengths, TimeAsked, TimeSet, TimedTo}
+use Rattle.step_arrivals.proofs.Timed.{timed-none, time-ready, timed-next}
+use Rattle.step_past.proofs.Reading.{past-numbers, past-next}
 use Rattle.network_past.specs.Past.{FormsAsked, FormsHeld}
 
 -- one step more is valid

@@ -8,7 +8,7 @@ use native.Mathlib.Omega.{arith}
 use borrow.Author.Tests.{le-leb, lt-leb}
 use lib.Dec.{leb}
 use lib.ListN.{length, getD}
-use Rattle.records.specs.Lines.{Line, lines}
+use Rattle.text_reader.specs.Lines.{Line, lines}
 use Rattle.model.specs.Sum.{sum}
 use Rattle.model.specs.Test.{_and_}
 use Rattle.model.specs.Network.{linkCount, pastCount, stepCount, onTimeline, capacity, timelineLength, pastEntries, waitingAtStart, demand, arrivalStep, elapsed}
@@ -17,13 +17,13 @@ use Rattle.model.specs.Rules.{validPastOf}
 use Rattle.model.proofs.Arrived.{arrived-by-step}
 use Rattle.model.proofs.Timeline.{timeline-entered-suc, entered-start}
 use Rattle.model.proofs.Times.{arrival-step-lt, arrival-step-le}
-use Rattle.tables.specs.declared.Counts.{Counts}
-use Rattle.tables.specs.Fields.{enteredIn, leftIn, standingIn, waitingAtStartIn, travelTimeIn}
-use Rattle.tables.specs.Tables.{CountsHold, LinkTable, TimeTable}
-use Rattle.tables.proofs.Tables.{capacity-at, travel-time-at, standing-at, waiting-at-start-at}
-use Rattle.arrivals.specs.Arrivals.{secondsIn, elapsedIn, scaledIn, ArrivalTable}
-use Rattle.arrivals.proofs.Boundaries.{seconds-is, elapsed-at}
-use Rattle.past_curves.specs.Curves.{PastRow, CurvesAt}
+use Rattle.network_tables.specs.declared.Counts.{Counts}
+use Rattle.network_tables.specs.Fields.{enteredIn, leftIn, standingIn, waitingAtStartIn, travelTimeIn}
+use Rattle.network_tables.specs.Tables.{CountsHold, LinkTable, TimeTable}
+use Rattle.network_tables.proofs.Tables.{capacity-at, travel-time-at, standing-at, waiting-at-start-at}
+use Rattle.step_arrivals.specs.Arrivals.{secondsIn, elapsedIn, scaledIn, ArrivalTable}
+use Rattle.step_arrivals.proofs.Boundaries.{seconds-is, elapsed-at}
+use Rattle.step_past.specs.Curves.{PastRow, CurvesAt}
 use Rattle.network_past.specs.Past.{validPastIn, TestAsked}
 
 -- ---- the needs of `valid_past`

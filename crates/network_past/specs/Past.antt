@@ -5,20 +5,20 @@ use mathlib.Core.Bool.{Bool}
 use mathlib.Core.List.{List}
 use lib.Dec.{leb}
 use lib.ListN.{length, getD}
-use Rattle.search.specs.Checks.{Checks, check}
-use Rattle.records.specs.Lines.{Line, lines}
-use Rattle.records.specs.Reading.{Starts}
+use Rattle.base_search.specs.Checks.{Checks, check}
+use Rattle.text_reader.specs.Lines.{Line, lines}
+use Rattle.text_reader.specs.Reading.{Starts}
 use Rattle.model.specs.Sum.{sum}
 use Rattle.model.specs.Test.{_and_, every}
 use Rattle.model.specs.Network.{maxLinks, linkCount, pastCount, stepCount, timelineLine, stepLine, standing, capacity, travelTime, demand}
 use Rattle.model.specs.Rules.{validPast}
-use Rattle.tables.specs.declared.Counts.{Counts}
-use Rattle.tables.specs.declared.Reading.{Reading}
-use Rattle.tables.specs.Fields.{timeTableSize, linkTableSize, rowSize, capacityIn, travelTimeIn, standingIn, waitingAtStartIn, enteredIn, leftIn}
-use Rattle.tables.specs.Tables.{CountsHold, LinkTable, Reached}
-use Rattle.arrivals.specs.Arrivals.{secondsIn, elapsedIn, scaledIn, Rising}
-use Rattle.arrivals.specs.Timed.{validLengths, TimedTo}
-use Rattle.past_curves.specs.Curves.{PastForms}
+use Rattle.network_tables.specs.declared.Counts.{Counts}
+use Rattle.network_tables.specs.declared.Reading.{Reading}
+use Rattle.network_tables.specs.Fields.{timeTableSize, linkTableSize, rowSize, capacityIn, travelTimeIn, standingIn, waitingAtStartIn, enteredIn, leftIn}
+use Rattle.network_tables.specs.Tables.{CountsHold, LinkTable, Reached}
+use Rattle.step_arrivals.specs.Arrivals.{secondsIn, elapsedIn, scaledIn, Rising}
+use Rattle.step_arrivals.specs.Timed.{validLengths, TimedTo}
+use Rattle.step_past.specs.Curves.{PastForms}
 
 -- ---- the forms
 pub record FormsAsked (text : List ℕ) (reading : Reading) (times : List ℕ) : Type 0 where

@@ -1,19 +1,19 @@
 // The `H` lines of a network text: their form (refusal 1), and what they must keep once all lines have passed (refusal 30).
 ghost use mathlib.Core.Path.{_≡_};
-ghost use Rattle.records.specs.Lines.{lines};
-ghost use Rattle.tables.specs.Tables.{Judged};
-ghost use Rattle.tables.specs.Blocks.{blockChecks, pastBlock};
+ghost use Rattle.text_reader.specs.Lines.{lines};
+ghost use Rattle.network_tables.specs.Tables.{Judged};
+ghost use Rattle.network_tables.specs.Blocks.{blockChecks, pastBlock};
 ghost use Rattle.network_past.specs.Past.{FormsAsked, FormsHeld, validPastIn, TestAsked, validLinksIn, LinksAsked, pastEndChecks, EndAsked};
-use records::LineRead;
-use search::Refusal;
-use tables::Counts;
-use tables::MAX_LINKS;
-use tables::MAX_STEPS;
-use tables::PAST_SIZE;
-use tables::ROW_SIZE;
-use tables::Reading;
-use tables::Stage;
-use tables::wide;
+use base_search::Refusal;
+use network_tables::Counts;
+use network_tables::MAX_LINKS;
+use network_tables::MAX_STEPS;
+use network_tables::PAST_SIZE;
+use network_tables::ROW_SIZE;
+use network_tables::Reading;
+use network_tables::Stage;
+use network_tables::wide;
+use text_reader::LineRead;
 
 // The `H` lines: each line's form (refusal 1), and the times of the boundaries of the past, if its lengths are valid and all steps are few enough.
 pub fn read_past(text: &[u8], reading: Reading, times: &mut [u32]) -> Stage
@@ -28,11 +28,18 @@ pub fn read_past(text: &[u8], reading: Reading, times: &mut [u32]) -> Stage
     times[0] = 0;
     while m < counts.past {
         let line = counts.timeline_line(m) + 1;
-        let read = tables::read_row(text, place, b'H', &mut fields, 0, 1 + 2 * counts.links);
+        let read = network_tables::read_row(
+            text,
+            place,
+            b'H',
+            &mut fields,
+            0,
+            1 + 2 * counts.links,
+        );
         let LineRead::Next(next) = read else {
             return Stage::Refused(Refusal::new(1, line, 0));
         };
-        timed = arrivals::next_time(times, m, fields[0], timed);
+        timed = step_arrivals::next_time(times, m, fields[0], timed);
         place = next;
         m += 1;
     }
@@ -64,15 +71,22 @@ fn valid_past(
     ensures { λ r. ⌜ r ≡ validPastIn counts (now (links .entry)) (now (times .entry)) (now (demands .entry)) (now (row .entry)) (now (arrivals .entry)) (now (curves .entry)) i ⌝ }
 {
     let step = arrivals[i];
-    let seconds = arrivals::seconds(times, step);
-    let elapsed = arrivals::elapsed(times, step, counts.past, tables::travel_time(links, i));
-    let arrived = arrivals::scaled_arrived(curves[2 * i], curves[2 * i + 1], seconds, elapsed);
-    let entered = wide(tables::entered(row, i));
-    let left = tables::left(row, i);
-    let came = entered + wide(tables::waiting_at_start(links, i)) + wide(demands[i]);
-    let limit = 72_000_000 + 13_800_000 * counts.past as u64 + wide(tables::standing(links, i));
-    (tables::times(left, seconds) <= arrived)
-        & (entered <= wide(tables::capacity(links, i)) + wide(left))
+    let seconds = step_arrivals::seconds(times, step);
+    let elapsed = step_arrivals::elapsed(
+        times,
+        step,
+        counts.past,
+        network_tables::travel_time(links, i),
+    );
+    let arrived = step_arrivals::scaled_arrived(curves[2 * i], curves[2 * i + 1], seconds, elapsed);
+    let entered = wide(network_tables::entered(row, i));
+    let left = network_tables::left(row, i);
+    let came = entered + wide(network_tables::waiting_at_start(links, i)) + wide(demands[i]);
+    let limit = 72_000_000
+        + 13_800_000 * counts.past as u64
+        + wide(network_tables::standing(links, i));
+    (network_tables::times(left, seconds) <= arrived)
+        & (entered <= wide(network_tables::capacity(links, i)) + wide(left))
         & (came <= limit)
 }
 
@@ -118,7 +132,7 @@ pub fn check_past(
     let mut arrivals = [0usize; MAX_LINKS];
     let mut curves = [0u32; ROW_SIZE];
     let mut places = [0usize; MAX_LINKS];
-    if !past_curves::load_past(
+    if !step_past::load_past(
         text,
         reading.past_at,
         counts,

@@ -6,23 +6,23 @@ use mathlib.Core.List.{List}
 use native.Mathlib.Omega.{arith}
 use borrow.Author.Tests.{leb-true, not-true, not-false}
 use lib.ListN.{getD}
-use Rattle.search.specs.declared.Refusal.{Refusal}
-use Rattle.search.specs.Checks.{refusal}
-use Rattle.records.specs.declared.LineRead.{LineRead}
-use Rattle.records.specs.declared.LineRead.the-variants.{Next, Malformed}
-use Rattle.records.specs.Lines.{lines}
-use Rattle.records.proofs.Laws.{starts-first}
+use Rattle.base_search.specs.declared.Refusal.{Refusal}
+use Rattle.base_search.specs.Checks.{refusal}
+use Rattle.text_reader.specs.declared.LineRead.{LineRead}
+use Rattle.text_reader.specs.declared.LineRead.the-variants.{Next, Malformed}
+use Rattle.text_reader.specs.Lines.{lines}
+use Rattle.text_reader.proofs.Laws.{starts-first}
 use Rattle.model.specs.Test.{within}
 use Rattle.model.specs.Network.{entry, linkCount, signalCount, movementCount, stepCount, tramCount, pastCount, tramLine}
 use Rattle.model.specs.Rules.{validCounts}
 use Rattle.model.specs.Table.{letterN, countChecks}
 use Rattle.model.proofs.Tests.{and-left, and-right}
-use Rattle.tables.specs.declared.Counts.{Counts}
-use Rattle.tables.specs.declared.Stage.the-variants.{Passed, Refused}
-use Rattle.tables.specs.Rows.{RowRead}
-use Rattle.tables.specs.Tables.{Judged, CountsHold}
-use Rattle.tables.proofs.Blocks.{line-malformed, line-invalid, line-valid}
-use Rattle.tables.proofs.Stages.{judged-refused, judged-passed}
+use Rattle.network_tables.specs.declared.Counts.{Counts}
+use Rattle.network_tables.specs.declared.Stage.the-variants.{Passed, Refused}
+use Rattle.network_tables.specs.Rows.{RowRead}
+use Rattle.network_tables.specs.Tables.{Judged, CountsHold}
+use Rattle.network_tables.proofs.Blocks.{line-malformed, line-invalid, line-valid}
+use Rattle.network_tables.proofs.Stages.{judged-refused, judged-passed}
 use Rattle.network_signals.specs.Counts.{countFields, countsFrom, validCountsIn, CountsHeld}
 
 module _ {text old fields : List ℕ} {r : LineRead} (row : RowRead letterN countFields text 0 0 old r fields) where

@@ -9,27 +9,27 @@ use native.Mathlib.Omega.{arith}
 use borrow.Author.Tests.{leb-true, not-true, not-false}
 use lib.Dec.{leb}
 use lib.ListN.{length, getD}
-use Rattle.search.specs.declared.Refusal.{Refusal}
-use Rattle.search.specs.declared.Verdict.the-variants as verdicts
-use Rattle.search.specs.Checks.{refusal, orElse, checked, verdict}
-use Rattle.records.specs.declared.LineRead.{LineRead}
-use Rattle.records.specs.declared.LineRead.the-variants.{Next, Malformed}
-use Rattle.records.specs.Lines.{Line, lines, noLine, startsAs}
-use Rattle.records.proofs.Laws.{record-past}
+use Rattle.base_search.specs.declared.Refusal.{Refusal}
+use Rattle.base_search.specs.declared.Verdict.the-variants as verdicts
+use Rattle.base_search.specs.Checks.{refusal, orElse, checked, verdict}
+use Rattle.text_reader.specs.declared.LineRead.{LineRead}
+use Rattle.text_reader.specs.declared.LineRead.the-variants.{Next, Malformed}
+use Rattle.text_reader.specs.Lines.{Line, lines, noLine, startsAs}
+use Rattle.text_reader.proofs.Laws.{record-past}
 use Rattle.model.specs.declared.Signal.{Signal}
 use Rattle.model.specs.Test.{within}
 use Rattle.model.specs.Network.{entry, tramCount, signalLine, signal}
 use Rattle.model.specs.Rules.{validPhases, validSignal}
 use Rattle.model.specs.Table.{isForm, letterG, signalChecks}
 use Rattle.model.proofs.Tests.{and-right}
-use Rattle.tables.specs.declared.Reading.{Reading}
-use Rattle.tables.specs.declared.Stage.the-variants.{Passed, Refused}
-use Rattle.tables.specs.Places.{signalLineIn}
-use Rattle.tables.specs.Rows.{RowRead, HeadRead}
-use Rattle.tables.specs.Fields.{signalFields}
-use Rattle.tables.specs.Tables.{Judged, movedTo}
-use Rattle.tables.proofs.Places.{signal-line-is}
-use Rattle.tables.proofs.Stages.{judged-refused, judged-passed}
+use Rattle.network_tables.specs.declared.Reading.{Reading}
+use Rattle.network_tables.specs.declared.Stage.the-variants.{Passed, Refused}
+use Rattle.network_tables.specs.Places.{signalLineIn}
+use Rattle.network_tables.specs.Rows.{RowRead, HeadRead}
+use Rattle.network_tables.specs.Fields.{signalFields}
+use Rattle.network_tables.specs.Tables.{Judged, movedTo}
+use Rattle.network_tables.proofs.Places.{signal-line-is}
+use Rattle.network_tables.proofs.Stages.{judged-refused, judged-passed}
 use Rattle.network_signals.specs.Signals.{headFields, signalFrom}
 use Rattle.network_signals.specs.Stages.{SignalAsked, SignalHeld}
 use Rattle.network_signals.proofs.Values.{signal-read}

@@ -11,26 +11,26 @@ use borrow.Author.Tests.{le-leb}
 use lib.Dec.{leb}
 use lib.ListN.{length, take, drop, getD, set, length-set, List·getD-eq-default, List·getD-append}
 use lib.Seq.{getD-set-same, getD-set-other, getD-take, getD-drop}
-use Rattle.search.specs.declared.Refusal.{Refusal}
-use Rattle.search.specs.Checks.{verdict}
-use Rattle.search.proofs.Laws.{first-all}
-use Rattle.records.specs.Lines.{lines}
-use Rattle.records.specs.Reading.{Starts}
+use Rattle.base_search.specs.declared.Refusal.{Refusal}
+use Rattle.base_search.specs.Checks.{verdict}
+use Rattle.base_search.proofs.Laws.{first-all}
+use Rattle.text_reader.specs.Lines.{lines}
+use Rattle.text_reader.specs.Reading.{Starts}
 use Rattle.model.specs.declared.Signal.{Signal}
 use Rattle.model.specs.Test.{every}
 use Rattle.model.specs.Network.{maxSignals, signalCount, signalLine, signal}
 use Rattle.model.specs.Table.{signalChecks}
-use Rattle.tables.specs.declared.Reading.{Reading}
-use Rattle.tables.specs.declared.Stage.{Stage}
-use Rattle.tables.specs.declared.Stage.the-variants.{Passed, Refused}
-use Rattle.tables.specs.Blocks.{blockChecks, ReadTo, signalBlock}
-use Rattle.tables.specs.Fields.{signalFields, signalTableSize, tableSignal}
-use Rattle.tables.specs.Tables.{Judged, SignalTable, movedTo}
-use Rattle.tables.proofs.Places.{links-after-signals}
-use Rattle.tables.proofs.Rows.{part-long, part-past, part-below, part-above, part-size}
-use Rattle.tables.proofs.Signals.{numbers-same}
-use Rattle.tables.proofs.Blocks.{passed-all, passed-stop, block-begin, block-end, block-next}
-use Rattle.tables.proofs.Stages.{judged-refused, judged-passed, verdict-passed, verdict-refused}
+use Rattle.network_tables.specs.declared.Reading.{Reading}
+use Rattle.network_tables.specs.declared.Stage.{Stage}
+use Rattle.network_tables.specs.declared.Stage.the-variants.{Passed, Refused}
+use Rattle.network_tables.specs.Blocks.{blockChecks, ReadTo, signalBlock}
+use Rattle.network_tables.specs.Fields.{signalFields, signalTableSize, tableSignal}
+use Rattle.network_tables.specs.Tables.{Judged, SignalTable, movedTo}
+use Rattle.network_tables.proofs.Places.{links-after-signals}
+use Rattle.network_tables.proofs.Rows.{part-long, part-past, part-below, part-above, part-size}
+use Rattle.network_tables.proofs.Signals.{numbers-same}
+use Rattle.network_tables.proofs.Blocks.{passed-all, passed-stop, block-begin, block-end, block-next}
+use Rattle.network_tables.proofs.Stages.{judged-refused, judged-passed, verdict-passed, verdict-refused}
 use Rattle.network_signals.specs.Signals.{headFields, signalFrom, shortestTime}
 use Rattle.network_signals.specs.Stages.{Clear, SignalAsked, SignalHeld, SignalsAsked, SignalsHeld, LoadAsked}
 use Rattle.network_signals.proofs.Values.{shortest-all}

@@ -5,15 +5,15 @@ use mathlib.Core.List.{List}
 use native.Mathlib.Decide.{decLe}
 use native.Mathlib.Omega.{arith}
 use lib.ListN.{length, getD, replicate, length-replicate, getD-replicate, List·getD-eq-default}
-use Rattle.search.specs.Checks.{Hold}
-use Rattle.search.proofs.Laws.{passes-of-hold}
-use Rattle.records.specs.Lines.{lines}
-use Rattle.records.specs.Reading.{Starts}
+use Rattle.base_search.specs.Checks.{Hold}
+use Rattle.base_search.proofs.Laws.{passes-of-hold}
+use Rattle.text_reader.specs.Lines.{lines}
+use Rattle.text_reader.specs.Reading.{Starts}
 use Rattle.model.specs.Network.{signalLine}
 use Rattle.model.specs.Table.{networkChecks}
-use Rattle.tables.specs.declared.Reading.{Reading}
-use Rattle.tables.specs.Fields.{signalTableSize}
-use Rattle.tables.specs.Tables.{CountsHold}
+use Rattle.network_tables.specs.declared.Reading.{Reading}
+use Rattle.network_tables.specs.Fields.{signalTableSize}
+use Rattle.network_tables.specs.Tables.{CountsHold}
 use Rattle.network_signals.specs.Stages.{SignalsPassed, LoadAsked}
 
 pub signals-passed : {text : List ℕ} {reading : Reading} → Starts text (reading .«signals_at») (signalLine (lines text) 0) → CountsHold (lines text) (reading .counts) → Hold (networkChecks (lines text))

@@ -8,13 +8,13 @@ use native.Mathlib.Omega.{arith}
 use borrow.Author.Tests.{lt-leb, leb-true, leb-false, le-leb, ltb-true, ltb-false}
 use lib.Dec.{leb, ltb, eqb}
 use lib.ListN.{getD}
-use Rattle.records.specs.Lines.{Line}
+use Rattle.text_reader.specs.Lines.{Line}
 use Rattle.model.specs.declared.Signal.{Signal}
 use Rattle.model.specs.Test.{_and_, _or_, within, every}
 use Rattle.model.specs.Sum.{list}
 use Rattle.model.specs.Network.{entry, signalLine, signal}
 use Rattle.model.specs.Rules.{validSignal}
-use Rattle.tables.specs.Fields.{signalBy}
+use Rattle.network_tables.specs.Fields.{signalBy}
 use Rattle.network_signals.specs.Signals.{signalFrom, validTime, validTimes, lesser, shortestTime}
 
 -- the times of one phase more

@@ -6,7 +6,7 @@ use lib.Dec.{leb, ltb}
 use lib.ListN.{getD}
 use Rattle.model.specs.declared.Signal.{Signal}
 use Rattle.model.specs.Test.{_and_, within, every}
-use Rattle.tables.specs.Fields.{signalBy}
+use Rattle.network_tables.specs.Fields.{signalBy}
 
 -- how many numbers a `G` line has before those of its phases
 abbrev pub headFields : ℕ

@@ -3,15 +3,15 @@ use Prim.Native.Nat.{ℕ, suc, _≤_, _<_}
 use mathlib.Core.Path.{_≡_}
 use mathlib.Core.List.{List}
 use lib.ListN.{length, getD}
-use Rattle.search.specs.declared.Verdict.the-variants.{Passes}
-use Rattle.search.specs.Checks.{verdict}
-use Rattle.records.specs.Lines.{lines}
-use Rattle.records.specs.Reading.{Starts}
+use Rattle.base_search.specs.declared.Verdict.the-variants.{Passes}
+use Rattle.base_search.specs.Checks.{verdict}
+use Rattle.text_reader.specs.Lines.{lines}
+use Rattle.text_reader.specs.Reading.{Starts}
 use Rattle.model.specs.Network.{maxSignals, tramLine, signalLine, linkLine, signal}
-use Rattle.tables.specs.declared.Reading.{Reading}
-use Rattle.tables.specs.Fields.{signalFields, signalTableSize}
-use Rattle.tables.specs.Blocks.{blockChecks, signalBlock}
-use Rattle.tables.specs.Tables.{CountsHold, SignalTable, PhaseTable, Reached}
+use Rattle.network_tables.specs.declared.Reading.{Reading}
+use Rattle.network_tables.specs.Fields.{signalFields, signalTableSize}
+use Rattle.network_tables.specs.Blocks.{blockChecks, signalBlock}
+use Rattle.network_tables.specs.Tables.{CountsHold, SignalTable, PhaseTable, Reached}
 use Rattle.network_signals.specs.Signals.{headFields, signalFrom}
 
 -- the numbers of one `G` line from n on are 0

@@ -2,29 +2,29 @@
 ghost use mathlib.Core.Path.{_≡_};
 ghost use Prim.Native.Nat.{_≤_};
 ghost use lib.ListN.{length};
-ghost use Rattle.records.specs.Lines.{lines};
+ghost use Rattle.text_reader.specs.Lines.{lines};
 ghost use Rattle.model.specs.Test.{within};
 ghost use Rattle.model.specs.Rules.{validSignal};
 ghost use Rattle.model.specs.Table.{countChecks, signalChecks};
-ghost use Rattle.tables.specs.Fields.{signalFields};
-ghost use Rattle.tables.specs.Tables.{Judged, SignalTable};
-ghost use Rattle.tables.specs.Blocks.{blockChecks, signalBlock};
+ghost use Rattle.network_tables.specs.Fields.{signalFields};
+ghost use Rattle.network_tables.specs.Tables.{Judged, SignalTable};
+ghost use Rattle.network_tables.specs.Blocks.{blockChecks, signalBlock};
 ghost use Rattle.network_signals.specs.Counts.{countFields, countsFrom, validCountsIn, CountsHeld};
 ghost use Rattle.network_signals.specs.Signals.{signalFrom, validTime, validTimes, lesser, shortestTime};
 ghost use Rattle.network_signals.specs.Stages.{SignalAsked, SignalHeld, SignalsAsked, SignalsHeld, LoadAsked};
+use base_search::Refusal;
 use model::Signal;
-use records::LineRead;
-use search::Refusal;
-use tables::Counts;
-use tables::MAX_LINKS;
-use tables::MAX_MOVEMENTS;
-use tables::MAX_PAST;
-use tables::MAX_SIGNALS;
-use tables::MAX_STEPS;
-use tables::MAX_TRAMS;
-use tables::Reading;
-use tables::SIGNAL_FIELDS;
-use tables::Stage;
+use network_tables::Counts;
+use network_tables::MAX_LINKS;
+use network_tables::MAX_MOVEMENTS;
+use network_tables::MAX_PAST;
+use network_tables::MAX_SIGNALS;
+use network_tables::MAX_STEPS;
+use network_tables::MAX_TRAMS;
+use network_tables::Reading;
+use network_tables::SIGNAL_FIELDS;
+use network_tables::Stage;
+use text_reader::LineRead;
 
 // How many numbers an `N` line has, and a `G` line before those of its phases.
 const COUNT_FIELDS: usize = 6;
@@ -49,12 +49,12 @@ fn counts_from(fields: &[u32]) -> Counts
     ensures { λ r. ⌜ r ≡ countsFrom (now (fields .entry)) ⌝ }
 {
     Counts {
-        links: tables::index(fields[0]),
-        signals: tables::index(fields[1]),
-        movements: tables::index(fields[2]),
-        steps: tables::index(fields[3]),
-        trams: tables::index(fields[4]),
-        past: tables::index(fields[5]),
+        links: network_tables::index(fields[0]),
+        signals: network_tables::index(fields[1]),
+        movements: network_tables::index(fields[2]),
+        steps: network_tables::index(fields[3]),
+        trams: network_tables::index(fields[4]),
+        past: network_tables::index(fields[5]),
     }
 }
 
@@ -63,7 +63,7 @@ pub fn read_counts(text: &[u8]) -> Stage
     ensures { λ r. ⌜ Judged (countChecks (lines (now (text .entry)))) (CountsHeld (now (text .entry))) r ⌝ }
 {
     let mut fields = [0u32; COUNT_FIELDS];
-    let read = tables::read_row(text, 0, b'N', &mut fields, 0, COUNT_FIELDS);
+    let read = network_tables::read_row(text, 0, b'N', &mut fields, 0, COUNT_FIELDS);
     let LineRead::Next(next) = read else {
         return Stage::Refused(Refusal::new(1, 1, 0));
     };
@@ -200,14 +200,14 @@ fn read_signal(text: &[u8], reading: Reading, r: usize, fields: &mut [u32]) -> S
     let at = reading.next;
     let counts = reading.counts;
     let line = counts.signal_line(r) + 1;
-    if !tables::read_head(text, at, b'G', fields, 0, HEAD_FIELDS) {
+    if !network_tables::read_head(text, at, b'G', fields, 0, HEAD_FIELDS) {
         return Stage::Refused(Refusal::new(1, line, 0));
     }
-    let phases = tables::index(fields[2]);
+    let phases = network_tables::index(fields[2]);
     if !valid_phases(phases) {
         return Stage::Refused(Refusal::new(3, line, r + 1));
     }
-    let read = tables::read_row(text, at, b'G', fields, 0, HEAD_FIELDS + 2 * phases);
+    let read = network_tables::read_row(text, at, b'G', fields, 0, HEAD_FIELDS + 2 * phases);
     let LineRead::Next(next) = read else {
         return Stage::Refused(Refusal::new(1, line, 0));
     };
@@ -234,7 +234,7 @@ pub fn read_signals(text: &[u8], reading: Reading, phases: &mut [u32], signals: 
         let Stage::Passed(passed) = stage else {
             return stage;
         };
-        let signal = tables::signal_in(signals, r);
+        let signal = network_tables::signal_in(signals, r);
         phases[r] = signal.phases;
         shortest = shortest_time(signal, shortest);
         place = passed.next;

@@ -9,30 +9,30 @@ use native.Mathlib.Omega.{arith}
 use borrow.Author.Tests.{not-true, not-false}
 use lib.ListN.{length, getD, set, length-set}
 use lib.Seq.{getD-set-same, getD-set-other}
-use Rattle.search.specs.declared.Refusal.{Refusal}
-use Rattle.search.specs.Checks.{refusal}
-use Rattle.records.specs.declared.LineRead.{LineRead}
-use Rattle.records.specs.declared.LineRead.the-variants.{Next, Malformed}
-use Rattle.records.specs.Lines.{Line, lines}
-use Rattle.records.specs.Reading.{Starts}
+use Rattle.base_search.specs.declared.Refusal.{Refusal}
+use Rattle.base_search.specs.Checks.{refusal}
+use Rattle.text_reader.specs.declared.LineRead.{LineRead}
+use Rattle.text_reader.specs.declared.LineRead.the-variants.{Next, Malformed}
+use Rattle.text_reader.specs.Lines.{Line, lines}
+use Rattle.text_reader.specs.Reading.{Starts}
 use Rattle.model.specs.Sum.{sum}
 use Rattle.model.specs.Test.{_and_, within}
 use Rattle.model.specs.Network.{maxLinks, linkCount, pastCount, stepCount, onTimeline, timelineLine, stepLine, stepLength, timelineLength, demand}
 use Rattle.model.specs.Rules.{validStep}
 use Rattle.model.specs.Table.{isForm, letterS, stepChecks}
-use Rattle.tables.specs.declared.Reading.{Reading}
-use Rattle.tables.specs.declared.Stage.the-variants.{Passed, Refused}
-use Rattle.tables.specs.Places.{stepLineIn}
-use Rattle.tables.specs.Fields.{stepSize, lengthIn, demandIn}
-use Rattle.tables.specs.Rows.{LineHeld, RowRead}
-use Rattle.tables.specs.Blocks.{blockChecks, ReadTo, Records, stepBlock}
-use Rattle.tables.specs.Tables.{Judged, StepNumbers}
-use Rattle.tables.proofs.Tables.{step-length-at, demand-at}
-use Rattle.tables.proofs.Places.{step-line-is}
-use Rattle.tables.proofs.Blocks.{passed-all, block-begin, block-end, records-malformed, records-invalid, records-next}
-use Rattle.tables.proofs.Stages.{judged-refused, judged-passed}
-use Rattle.arrivals.specs.Timed.{TimeAsked, TimeSet, TimedTo}
-use Rattle.arrivals.proofs.Timed.{time-ready, timed-next}
+use Rattle.network_tables.specs.declared.Reading.{Reading}
+use Rattle.network_tables.specs.declared.Stage.the-variants.{Passed, Refused}
+use Rattle.network_tables.specs.Places.{stepLineIn}
+use Rattle.network_tables.specs.Fields.{stepSize, lengthIn, demandIn}
+use Rattle.network_tables.specs.Rows.{LineHeld, RowRead}
+use Rattle.network_tables.specs.Blocks.{blockChecks, ReadTo, Records, stepBlock}
+use Rattle.network_tables.specs.Tables.{Judged, StepNumbers}
+use Rattle.network_tables.proofs.Tables.{step-length-at, demand-at}
+use Rattle.network_tables.proofs.Places.{step-line-is}
+use Rattle.network_tables.proofs.Blocks.{passed-all, block-begin, block-end, records-malformed, records-invalid, records-next}
+use Rattle.network_tables.proofs.Stages.{judged-refused, judged-passed}
+use Rattle.step_arrivals.specs.Timed.{TimeAsked, TimeSet, TimedTo}
+use Rattle.step_arrivals.proofs.Timed.{time-ready, timed-next}
 use Rattle.network_steps.specs.Steps.{validStepIn, LoadAsked, Loaded, AddAsked, Added, StepsAsked, StepsHeld}
 use Rattle.network_steps.proofs.Values.{step-within, demand-few, valid-step-is}
 

@@ -9,14 +9,14 @@ use native.Mathlib.Numerals.{add-one}
 use native.Mathlib.Omega.{arith}
 use borrow.Author.Tests.{leb-true, le-leb, lt-leb}
 use lib.Dec.{leb}
-use Rattle.records.specs.Lines.{Line}
+use Rattle.text_reader.specs.Lines.{Line}
 use Rattle.model.specs.Test.{_and_, within, every}
 use Rattle.model.specs.Network.{linkCount, stepLength, demand}
 use Rattle.model.specs.Rules.{validStep}
 use Rattle.model.proofs.Tests.{and-left, and-right, every-at, every-same}
-use Rattle.tables.specs.Fields.{demandIn}
-use Rattle.tables.specs.Tables.{Shortest, StepNumbers}
-use Rattle.tables.proofs.Tables.{step-length-at, demand-at}
+use Rattle.network_tables.specs.Fields.{demandIn}
+use Rattle.network_tables.specs.Tables.{Shortest, StepNumbers}
+use Rattle.network_tables.proofs.Tables.{step-length-at, demand-at}
 use Rattle.network_steps.specs.Steps.{validDemandsIn, validStepIn}
 
 every-broken : (n : ℕ) (test : ℕ → Bool) (k : ℕ) → k < n → test k ≡ false → every n test ≡ false

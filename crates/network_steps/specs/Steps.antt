@@ -5,17 +5,17 @@ use mathlib.Core.Bool.{Bool, true}
 use mathlib.Core.List.{List}
 use lib.Dec.{leb}
 use lib.ListN.{length, getD}
-use Rattle.records.specs.Lines.{lines}
-use Rattle.records.specs.Reading.{Starts}
+use Rattle.text_reader.specs.Lines.{lines}
+use Rattle.text_reader.specs.Reading.{Starts}
 use Rattle.model.specs.Sum.{sum}
 use Rattle.model.specs.Test.{_and_, within, every}
 use Rattle.model.specs.Network.{maxLinks, linkCount, pastCount, stepCount, timelineLine, stepLine, demand}
 use Rattle.model.specs.Table.{isForm, letterS}
-use Rattle.tables.specs.declared.Reading.{Reading}
-use Rattle.tables.specs.Fields.{stepSize, lengthIn, demandIn}
-use Rattle.tables.specs.Rows.{LineHeld}
-use Rattle.tables.specs.Tables.{Reached}
-use Rattle.arrivals.specs.Timed.{validLengths, TimedTo}
+use Rattle.network_tables.specs.declared.Reading.{Reading}
+use Rattle.network_tables.specs.Fields.{stepSize, lengthIn, demandIn}
+use Rattle.network_tables.specs.Rows.{LineHeld}
+use Rattle.network_tables.specs.Tables.{Reached}
+use Rattle.step_arrivals.specs.Timed.{validLengths, TimedTo}
 
 -- 6: each demand is at most 600,000
 unfoldable pub validDemandsIn : List ℕ → ℕ → Bool

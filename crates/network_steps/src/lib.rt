@@ -2,17 +2,17 @@
 ghost use mathlib.Core.Path.{_≡_};
 ghost use Prim.Native.Nat.{_≤_};
 ghost use lib.ListN.{length};
-ghost use Rattle.records.specs.Lines.{lines};
+ghost use Rattle.text_reader.specs.Lines.{lines};
 ghost use Rattle.model.specs.Network.{maxLinks};
-ghost use Rattle.tables.specs.Fields.{stepSize};
-ghost use Rattle.tables.specs.Tables.{Judged};
-ghost use Rattle.tables.specs.Blocks.{blockChecks, stepBlock};
+ghost use Rattle.network_tables.specs.Fields.{stepSize};
+ghost use Rattle.network_tables.specs.Tables.{Judged};
+ghost use Rattle.network_tables.specs.Blocks.{blockChecks, stepBlock};
 ghost use Rattle.network_steps.specs.Steps.{validDemandsIn, validStepIn, LoadAsked, Loaded, AddAsked, Added, StepsAsked, StepsHeld};
-use records::LineRead;
-use search::Refusal;
-use tables::Reading;
-use tables::STEP_SIZE;
-use tables::Stage;
+use base_search::Refusal;
+use network_tables::Reading;
+use network_tables::STEP_SIZE;
+use network_tables::Stage;
+use text_reader::LineRead;
 
 // Refusal 6: whether each demand is at most 600,000.
 fn valid_demands(step: &[u32], links: usize) -> bool
@@ -21,7 +21,7 @@ fn valid_demands(step: &[u32], links: usize) -> bool
 {
     let mut i = 0;
     while i < links {
-        if 600_000 < tables::demand(step, i) {
+        if 600_000 < network_tables::demand(step, i) {
             return false;
         }
         i += 1;
@@ -34,7 +34,7 @@ fn valid_step(step: &[u32], links: usize, shortest: u32) -> bool
     requires { ⌜ (links ≤ maxLinks) × (length (now step) ≡ stepSize) ⌝ }
     ensures { λ r. ⌜ r ≡ validStepIn (now (step .entry)) links shortest ⌝ }
 {
-    let seconds = tables::step_length(step);
+    let seconds = network_tables::step_length(step);
     (1 <= seconds) & (seconds <= 60) & (seconds <= shortest) & valid_demands(step, links)
 }
 
@@ -43,7 +43,7 @@ pub fn load_step(text: &[u8], at: usize, links: usize, step: &mut [u32]) -> usiz
     requires { ⌜ LoadAsked (now text) at links (now step) ⌝ }
     ensures { λ r. ⌜ Loaded (now (text .entry)) at links r (now (step .exit)) ⌝ }
 {
-    match tables::read_row(text, at, b'S', step, 0, 1 + links) {
+    match network_tables::read_row(text, at, b'S', step, 0, 1 + links) {
         LineRead::Next(next) => next,
         LineRead::Malformed => at,
     }
@@ -56,7 +56,7 @@ fn add_demands(step: &[u32], links: usize, demands: &mut [u32])
 {
     let mut i = 0;
     while i < links {
-        demands[i] = demands[i] + tables::demand(step, i);
+        demands[i] = demands[i] + network_tables::demand(step, i);
         i += 1;
     }
 }
@@ -73,15 +73,15 @@ pub fn read_steps(text: &[u8], reading: Reading, times: &mut [u32], demands: &mu
     let mut n = 0;
     while n < counts.steps {
         let line = counts.step_line(n) + 1;
-        let read = tables::read_row(text, place, b'S', &mut step, 0, 1 + links);
+        let read = network_tables::read_row(text, place, b'S', &mut step, 0, 1 + links);
         let LineRead::Next(next) = read else {
             return Stage::Refused(Refusal::new(1, line, 0));
         };
         if !valid_step(&step, links, reading.shortest) {
             return Stage::Refused(Refusal::new(6, line, n + 1));
         }
-        let seconds = tables::step_length(&step);
-        arrivals::next_time(times, counts.past + n, seconds, reading.timed);
+        let seconds = network_tables::step_length(&step);
+        step_arrivals::next_time(times, counts.past + n, seconds, reading.timed);
         add_demands(&step, links, demands);
         place = next;
         n += 1;

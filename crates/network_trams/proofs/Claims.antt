@@ -11,18 +11,18 @@ use borrow.Author.Tests.{leb-true, eq-eqb, ne-eqb}
 use lib.Dec.{leb, eqb}
 use lib.ListN.{length, getD, set, take, drop, length-set, length-take, length-drop, drop-of-length-le}
 use lib.Seq.{getD-set-same, getD-set-other, getD-take, getD-drop, drop-cons}
-use Rattle.records.specs.declared.LineRead.{LineRead}
-use Rattle.records.specs.declared.LineRead.the-variants.{Next, Malformed}
-use Rattle.records.specs.Lines.{Line, lines, noLine, number}
-use Rattle.records.specs.Reading.{Starts}
+use Rattle.text_reader.specs.declared.LineRead.{LineRead}
+use Rattle.text_reader.specs.declared.LineRead.the-variants.{Next, Malformed}
+use Rattle.text_reader.specs.Lines.{Line, lines, noLine, number}
+use Rattle.text_reader.specs.Reading.{Starts}
 use Rattle.model.specs.Test.{_and_, within}
 use Rattle.model.specs.Network.{maxSignals, entry, signalCount, tramCount, tramLine, trams, covers, tramPhase}
 use Rattle.model.specs.Rules.{tramExists, tram, validTram, validTramPhase}
 use Rattle.model.specs.Table.{isForm, letterT}
 use Rattle.model.proofs.Tests.{and-left, and-right}
-use Rattle.tables.specs.Fields.{tramFields}
-use Rattle.tables.specs.Rows.{RowRead}
-use Rattle.tables.proofs.Places.{record-within}
+use Rattle.network_tables.specs.Fields.{tramFields}
+use Rattle.network_tables.specs.Rows.{RowRead}
+use Rattle.network_tables.proofs.Places.{record-within}
 use Rattle.network_trams.proofs.Tested.{tram-line-suc}
 use Rattle.network_trams.specs.Claims.{claimed, ClaimAsked, ClaimsAsked, TramPhases}
 

@@ -5,28 +5,28 @@ use mathlib.Core.Bool.{Bool, true, false, not}
 use mathlib.Core.List.{List}
 use native.Mathlib.Omega.{arith}
 use borrow.Author.Tests.{leb-true, not-true, not-false}
-use Rattle.search.specs.declared.Refusal.{Refusal}
-use Rattle.search.specs.Checks.{refusal, each, checked, verdict, Hold}
-use Rattle.search.proofs.Laws.{first-same, hold-of-passes}
-use Rattle.records.specs.declared.LineRead.{LineRead}
-use Rattle.records.specs.declared.LineRead.the-variants.{Next, Malformed}
-use Rattle.records.specs.Lines.{lines, number}
+use Rattle.base_search.specs.declared.Refusal.{Refusal}
+use Rattle.base_search.specs.Checks.{refusal, each, checked, verdict, Hold}
+use Rattle.base_search.proofs.Laws.{first-same, hold-of-passes}
+use Rattle.text_reader.specs.declared.LineRead.{LineRead}
+use Rattle.text_reader.specs.declared.LineRead.the-variants.{Next, Malformed}
+use Rattle.text_reader.specs.Lines.{lines, number}
 use Rattle.model.specs.Test.{_and_, within}
 use Rattle.model.specs.Network.{entry, signalCount, tramCount, tramLine, signal}
 use Rattle.model.specs.Rules.{tramExists, tram, validTram, validTramPhase}
 use Rattle.model.specs.Table.{letterT, tramChecks, tramPhaseChecks}
 use Rattle.model.proofs.Tests.{and-left, and-right}
-use Rattle.tables.specs.declared.Counts.{Counts}
-use Rattle.tables.specs.declared.Reading.{Reading}
-use Rattle.tables.specs.declared.Stage.the-variants.{Passed, Refused}
-use Rattle.tables.specs.Places.{tramLineIn}
-use Rattle.tables.specs.Fields.{tramFields, tramTableSize, tramIn}
-use Rattle.tables.specs.Rows.{RowRead}
-use Rattle.tables.specs.Blocks.{blockChecks, PassedTo, TableTo, tramBlock}
-use Rattle.tables.specs.Tables.{Judged, CountsHold, PhaseTable, movedTo}
-use Rattle.tables.proofs.Places.{tram-line-is, signals-after-trams}
-use Rattle.tables.proofs.Blocks.{line-malformed, line-invalid, line-valid, passed-all, passed-stop, passed-next, block-end, block-next, table-begin, table-room, table-rows, table-next}
-use Rattle.tables.proofs.Stages.{judged-refused, judged-passed}
+use Rattle.network_tables.specs.declared.Counts.{Counts}
+use Rattle.network_tables.specs.declared.Reading.{Reading}
+use Rattle.network_tables.specs.declared.Stage.the-variants.{Passed, Refused}
+use Rattle.network_tables.specs.Places.{tramLineIn}
+use Rattle.network_tables.specs.Fields.{tramFields, tramTableSize, tramIn}
+use Rattle.network_tables.specs.Rows.{RowRead}
+use Rattle.network_tables.specs.Blocks.{blockChecks, PassedTo, TableTo, tramBlock}
+use Rattle.network_tables.specs.Tables.{Judged, CountsHold, PhaseTable, movedTo}
+use Rattle.network_tables.proofs.Places.{tram-line-is, signals-after-trams}
+use Rattle.network_tables.proofs.Blocks.{line-malformed, line-invalid, line-valid, passed-all, passed-stop, passed-next, block-end, block-next, table-begin, table-room, table-rows, table-next}
+use Rattle.network_tables.proofs.Stages.{judged-refused, judged-passed}
 use Rattle.network_trams.specs.Trams.{validTramIn, validPhaseIn, phaseChecksIn, TramsKnown, PhaseAsked, PhasesAsked}
 use Rattle.network_trams.specs.Stages.{TramsAsked, TramsHeld}
 use Rattle.network_trams.proofs.Tested.{tram-line-suc, tram-valid}

@@ -7,13 +7,13 @@ use native.Mathlib.Numerals.{add-one}
 use native.Mathlib.Omega.{arith}
 use lib.Dec.{leb, ltb, eqb}
 use lib.ListN.{getD}
-use Rattle.records.specs.Lines.{Line, number}
+use Rattle.text_reader.specs.Lines.{Line, number}
 use Rattle.model.specs.Test.{_and_, _or_, within, every}
 use Rattle.model.specs.Network.{entry, signalCount, stepCount, tramLine}
 use Rattle.model.specs.Rules.{apart, tramExists, tram, validTram}
 use Rattle.model.proofs.Tests.{every-same}
-use Rattle.tables.specs.Fields.{tramFields, tramIn}
-use Rattle.tables.specs.Blocks.{RowsTo, tramBlock}
+use Rattle.network_tables.specs.Fields.{tramFields, tramIn}
+use Rattle.network_tables.specs.Blocks.{RowsTo, tramBlock}
 use Rattle.network_trams.specs.Trams.{apartIn, apartFrom, validTramIn, validPhaseIn}
 
 module _ (trams : List ℕ) where

@@ -5,12 +5,12 @@ use mathlib.Core.Bool.{true, _&&_, cond}
 use mathlib.Core.List.{List}
 use lib.Dec.{leb, eqb}
 use lib.ListN.{length, getD, set}
-use Rattle.records.specs.Lines.{Line, lines}
-use Rattle.records.specs.Reading.{Starts}
+use Rattle.text_reader.specs.Lines.{Line, lines}
+use Rattle.text_reader.specs.Reading.{Starts}
 use Rattle.model.specs.Network.{maxSignals, maxSteps, maxTrams, signalCount, tramCount, tramLine, trams, tramPhase}
 use Rattle.model.specs.Rules.{validTram, validTramPhase}
 use Rattle.model.specs.Table.{isForm, letterT}
-use Rattle.tables.specs.Fields.{tramFields}
+use Rattle.network_tables.specs.Fields.{tramFields}
 
 -- the phases asked in step n, with the claim of one more `T` line
 unfoldable pub claimed : List ℕ → ℕ → List ℕ → List ℕ

@@ -3,15 +3,15 @@ use Prim.Native.Nat.{ℕ}
 use mathlib.Core.Path.{_≡_}
 use mathlib.Core.List.{List}
 use lib.ListN.{length}
-use Rattle.search.specs.declared.Verdict.the-variants.{Passes}
-use Rattle.search.specs.Checks.{verdict}
-use Rattle.records.specs.Lines.{lines}
-use Rattle.records.specs.Reading.{Starts}
+use Rattle.base_search.specs.declared.Verdict.the-variants.{Passes}
+use Rattle.base_search.specs.Checks.{verdict}
+use Rattle.text_reader.specs.Lines.{lines}
+use Rattle.text_reader.specs.Reading.{Starts}
 use Rattle.model.specs.Network.{tramLine, signalLine}
-use Rattle.tables.specs.declared.Reading.{Reading}
-use Rattle.tables.specs.Fields.{tramTableSize}
-use Rattle.tables.specs.Blocks.{blockChecks, tramBlock}
-use Rattle.tables.specs.Tables.{CountsHold, TramTable}
+use Rattle.network_tables.specs.declared.Reading.{Reading}
+use Rattle.network_tables.specs.Fields.{tramTableSize}
+use Rattle.network_tables.specs.Blocks.{blockChecks, tramBlock}
+use Rattle.network_tables.specs.Tables.{CountsHold, TramTable}
 
 pub record TramsAsked (text : List ℕ) (reading : Reading) (trams : List ℕ) : Type 0 where
   pub counted : CountsHold (lines text) (reading .counts)

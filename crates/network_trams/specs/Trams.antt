@@ -5,12 +5,12 @@ use mathlib.Core.Bool.{Bool, not}
 use mathlib.Core.List.{List}
 use lib.Dec.{leb, ltb, eqb}
 use lib.ListN.{length, getD}
-use Rattle.search.specs.Checks.{Checks, check}
+use Rattle.base_search.specs.Checks.{Checks, check}
 use Rattle.model.specs.Network.{maxTrams}
 use Rattle.model.specs.Test.{_and_, _or_, within, every}
-use Rattle.tables.specs.declared.Counts.{Counts}
-use Rattle.tables.specs.Places.{tramLineIn}
-use Rattle.tables.specs.Fields.{tramTableSize, tramIn}
+use Rattle.network_tables.specs.declared.Counts.{Counts}
+use Rattle.network_tables.specs.Places.{tramLineIn}
+use Rattle.network_tables.specs.Fields.{tramTableSize, tramIn}
 
 -- lines j and k are not for one signal in one step
 unfoldable pub apartIn : List ℕ → ℕ → ℕ → Bool

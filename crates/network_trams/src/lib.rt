@@ -2,18 +2,18 @@
 // them is kept from step to step.
 ghost use mathlib.Core.Path.{_≡_};
 ghost use Prim.Native.Nat.{_<_};
-ghost use Rattle.records.specs.Lines.{lines};
-ghost use Rattle.search.specs.Checks.{each};
-ghost use Rattle.tables.specs.Tables.{Judged};
-ghost use Rattle.tables.specs.Blocks.{blockChecks, tramBlock};
+ghost use Rattle.text_reader.specs.Lines.{lines};
+ghost use Rattle.base_search.specs.Checks.{each};
+ghost use Rattle.network_tables.specs.Tables.{Judged};
+ghost use Rattle.network_tables.specs.Blocks.{blockChecks, tramBlock};
 ghost use Rattle.network_trams.specs.Trams.{apartIn, apartFrom, validTramIn, validPhaseIn, phaseChecksIn, TramsKnown, PhaseAsked, PhasesAsked};
 ghost use Rattle.network_trams.specs.Stages.{TramsAsked, TramsHeld};
 ghost use Rattle.network_trams.specs.Claims.{claimed, ClaimAsked, ClaimsAsked, TramPhases};
-use records::LineRead;
-use search::Refusal;
-use tables::Reading;
-use tables::Stage;
-use tables::TRAM_FIELDS;
+use base_search::Refusal;
+use network_tables::Reading;
+use network_tables::Stage;
+use network_tables::TRAM_FIELDS;
+use text_reader::LineRead;
 
 // Whether two `T` lines are not for one signal in one step.
 fn is_apart(trams: &[u32], j: usize, k: usize) -> bool
@@ -21,9 +21,9 @@ fn is_apart(trams: &[u32], j: usize, k: usize) -> bool
     requires { ⌜ TramsKnown (now trams) k ⌝ }
     ensures { λ r. ⌜ r ≡ apartIn (now (trams .entry)) j k ⌝ }
 {
-    (tables::tram(trams, j, 0) != tables::tram(trams, k, 0))
-        | (tables::tram(trams, j, 3) < tables::tram(trams, k, 2))
-        | (tables::tram(trams, k, 3) < tables::tram(trams, j, 2))
+    (network_tables::tram(trams, j, 0) != network_tables::tram(trams, k, 0))
+        | (network_tables::tram(trams, j, 3) < network_tables::tram(trams, k, 2))
+        | (network_tables::tram(trams, k, 3) < network_tables::tram(trams, j, 2))
 }
 
 // Whether `T` line `k` has no step in common with an earlier line of its signal.
@@ -45,9 +45,9 @@ fn valid_tram(trams: &[u32], signals: usize, steps: usize, k: usize) -> bool
     requires { ⌜ TramsKnown (now trams) k ⌝ }
     ensures { λ r. ⌜ r ≡ validTramIn (now (trams .entry)) signals steps k ⌝ }
 {
-    let signal = tables::index(tables::tram(trams, k, 0));
-    let first = tables::index(tables::tram(trams, k, 2));
-    let last = tables::index(tables::tram(trams, k, 3));
+    let signal = network_tables::index(network_tables::tram(trams, k, 0));
+    let first = network_tables::index(network_tables::tram(trams, k, 2));
+    let last = network_tables::index(network_tables::tram(trams, k, 3));
     ((1 <= signal) & (signal <= signals))
         & (1 <= first)
         & ((first <= last) & (last <= steps))
@@ -65,7 +65,7 @@ pub fn read_trams(text: &[u8], reading: Reading, trams: &mut [u32]) -> Stage
     while k < counts.trams {
         let line = counts.tram_line(k) + 1;
         let start = TRAM_FIELDS * k;
-        let read = tables::read_row(text, place, b'T', trams, start, TRAM_FIELDS);
+        let read = network_tables::read_row(text, place, b'T', trams, start, TRAM_FIELDS);
         let LineRead::Next(next) = read else {
             return Stage::Refused(Refusal::new(1, line, 0));
         };
@@ -83,8 +83,8 @@ fn valid_phase(trams: &[u32], phases: &[u32], k: usize) -> bool
     requires { ⌜ PhaseAsked (now trams) (now phases) k ⌝ }
     ensures { λ r. ⌜ r ≡ validPhaseIn (now (trams .entry)) (now (phases .entry)) k ⌝ }
 {
-    let signal = tables::index(tables::tram(trams, k, 0));
-    let phase = tables::tram(trams, k, 1);
+    let signal = network_tables::index(network_tables::tram(trams, k, 0));
+    let phase = network_tables::tram(trams, k, 1);
     (1 <= phase) & (phase <= phases[signal - 1])
 }
 
@@ -109,9 +109,9 @@ fn claim(tram: &[u32], n: usize, asked: &mut [u32])
     requires { ⌜ ClaimAsked (now tram) n (now asked) ⌝ }
     ensures { λ r. ⌜ now (asked .exit) ≡ claimed (now (tram .entry)) n (now (asked .entry)) ⌝ }
 {
-    let signal = tables::index(tram[0]) - 1;
-    let first = tables::index(tram[2]);
-    let last = tables::index(tram[3]);
+    let signal = network_tables::index(tram[0]) - 1;
+    let first = network_tables::index(tram[2]);
+    let last = network_tables::index(tram[3]);
     let phase = tram[1];
     if (first <= n + 1) & (n + 1 <= last) & (asked[signal] == 0) {
         asked[signal] = phase;
@@ -127,7 +127,7 @@ pub fn tram_phases(text: &[u8], at: usize, count: usize, n: usize, asked: &mut [
     let mut place = at;
     let mut k = 0;
     while k < count {
-        let read = tables::read_row(text, place, b'T', &mut fields, 0, TRAM_FIELDS);
+        let read = network_tables::read_row(text, place, b'T', &mut fields, 0, TRAM_FIELDS);
         let LineRead::Next(next) = read else {
             return;
         };

@@ -7,13 +7,13 @@ use native.Mathlib.Numerals.{add-one}
 use borrow.Author.Tests.{le-leb, lt-leb}
 use lib.Dec.{leb}
 use lib.ListN.{length, replicate}
-use Rattle.search.specs.declared.Refusal.{Refusal}
-use Rattle.search.specs.declared.Verdict.the-variants as verdicts
-use Rattle.search.specs.Checks.{refusal, verdict}
-use Rattle.search.proofs.Laws.{passes-of-hold, or-else-passes, or-else-refused, checked-passes, checked-refused}
-use Rattle.records.specs.Lines.{Line, lines}
-use Rattle.records.specs.Padding.{PaddingIgnored}
-use Rattle.records.proofs.Padding.{same-lines}
+use Rattle.base_search.specs.declared.Refusal.{Refusal}
+use Rattle.base_search.specs.declared.Verdict.the-variants as verdicts
+use Rattle.base_search.specs.Checks.{refusal, verdict}
+use Rattle.base_search.proofs.Laws.{passes-of-hold, or-else-passes, or-else-refused, checked-passes, checked-refused}
+use Rattle.text_reader.specs.Lines.{Line, lines}
+use Rattle.text_reader.specs.Padding.{PaddingIgnored}
+use Rattle.text_reader.proofs.Padding.{same-lines}
 use Rattle.model.specs.declared.PlanAnswer.{PlanAnswer}
 use Rattle.model.specs.declared.PlanAnswer.the-variants as plan-answer
 use Rattle.model.specs.Network.{linkCount, stepCount}
@@ -25,12 +25,12 @@ use Rattle.model.proofs.Rows.{written-none}
 use Rattle.model.proofs.Written.{refused-fails, rows-none}
 use Rattle.model.proofs.Promises.{promises}
 use Rattle.model.proofs.Hold.{empty-holds}
-use Rattle.tables.specs.declared.Reading.{Reading}
-use Rattle.tables.specs.declared.Stage.{Stage}
-use Rattle.tables.specs.declared.Stage.the-variants as stages
-use Rattle.tables.specs.Fields.{signalTableSize}
-use Rattle.tables.specs.Tables.{Judged, SignalTable}
-use Rattle.tables.proofs.Stages.{verdict-refused}
+use Rattle.network_tables.specs.declared.Reading.{Reading}
+use Rattle.network_tables.specs.declared.Stage.{Stage}
+use Rattle.network_tables.specs.declared.Stage.the-variants as stages
+use Rattle.network_tables.specs.Fields.{signalTableSize}
+use Rattle.network_tables.specs.Tables.{Judged, SignalTable}
+use Rattle.network_tables.proofs.Stages.{verdict-refused}
 use Rattle.network_signals.specs.Stages.{LoadAsked}
 use Rattle.network_signals.proofs.Passed.{signals-passed, load-zeros}
 use Rattle.network.specs.Loading.{Loaded, LoadedWithSignals}

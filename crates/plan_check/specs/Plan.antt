@@ -3,7 +3,7 @@ use Prim.Native.Nat.{ℕ}
 use mathlib.Core.Path.{_≡_}
 use mathlib.Core.List.{List}
 use lib.ListN.{length}
-use Rattle.records.specs.Lines.{lines}
+use Rattle.text_reader.specs.Lines.{lines}
 use Rattle.model.specs.declared.PlanAnswer.{PlanAnswer}
 use Rattle.model.specs.Hold.{planOf}
 use Rattle.model.specs.Calls.{checkPlan, ledgerAfter}

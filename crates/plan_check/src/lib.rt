@@ -1,21 +1,21 @@
 // The plan check: the call `check_plan`, and what it does once a network has passed, for other calls that judge plans.
 ghost use mathlib.Core.Path.{_≡_};
 ghost use lib.ListN.{length};
-ghost use Rattle.records.specs.Lines.{lines};
-ghost use Rattle.records.specs.Padding.{PaddingIgnored};
+ghost use Rattle.text_reader.specs.Lines.{lines};
+ghost use Rattle.text_reader.specs.Padding.{PaddingIgnored};
 ghost use Rattle.model.specs.Hold.{planOf, EmptyHolds};
 ghost use Rattle.model.specs.Calls.{checkPlan, ledgerAfter};
 ghost use Rattle.model.specs.Guarantees.{Promises};
 ghost use Rattle.network.specs.Loading.{Loaded, LoadedWithSignals};
 ghost use Rattle.plan_check.specs.Plan.{PlanGot};
+use base_search::Refusal;
 use model::PlanAnswer;
-use search::Refusal;
-use tables::LINK_TABLE_SIZE;
-use tables::MOVEMENT_TABLE_SIZE;
-use tables::Reading;
-use tables::SIGNAL_TABLE_SIZE;
-use tables::Stage;
-use tables::TIME_TABLE_SIZE;
+use network_tables::LINK_TABLE_SIZE;
+use network_tables::MOVEMENT_TABLE_SIZE;
+use network_tables::Reading;
+use network_tables::SIGNAL_TABLE_SIZE;
+use network_tables::Stage;
+use network_tables::TIME_TABLE_SIZE;
 
 // Judges a plan on a network that has passed, from its signals on: the ledger's length, then the steps.
 pub fn judge_with_signals(

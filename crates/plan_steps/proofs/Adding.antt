@@ -7,10 +7,10 @@ use native.Mathlib.Decide.{decLe}
 use native.Mathlib.Nat.{mul-le-mul-right}
 use native.Mathlib.Omega.{arith}
 use lib.ListN.{getD}
-use Rattle.search.specs.declared.Verdict.the-variants.{Passes}
-use Rattle.search.specs.Checks.{verdict, Hold}
-use Rattle.search.proofs.Laws.{hold-of-passes}
-use Rattle.records.specs.Lines.{Line}
+use Rattle.base_search.specs.declared.Verdict.the-variants.{Passes}
+use Rattle.base_search.specs.Checks.{verdict, Hold}
+use Rattle.base_search.proofs.Laws.{hold-of-passes}
+use Rattle.text_reader.specs.Lines.{Line}
 use Rattle.model.specs.declared.Totals.{Totals}
 use Rattle.model.specs.Sum.{sum}
 use Rattle.model.specs.Network.{maxSteps, linkCount, stepCount}
@@ -22,10 +22,10 @@ use Rattle.model.proofs.Accepted.{valid-network, lawful-step, LawfulStep}
 use Rattle.model.proofs.Limits.{step-limits}
 use Rattle.model.proofs.Flow.{balance-while}
 use Rattle.model.proofs.Bounds.{KeepsLimits, lawful-limits, admitted-total-small, let-out-total-small, vehicles-small, outside-small, doubled-small}
-use Rattle.tables.specs.declared.Counts.{Counts}
-use Rattle.tables.specs.Fields.{lengthIn, admittedIn, letOutIn}
-use Rattle.tables.specs.Tables.{CountsHold, PlanNumbers}
-use Rattle.waiting.specs.Waiting.{waitingIn, StepOffers}
+use Rattle.network_tables.specs.declared.Counts.{Counts}
+use Rattle.network_tables.specs.Fields.{lengthIn, admittedIn, letOutIn}
+use Rattle.network_tables.specs.Tables.{CountsHold, PlanNumbers}
+use Rattle.step_rows.specs.Waiting.{waitingIn, StepOffers}
 use Rattle.step_rows.specs.Rows.{RowHolds}
 use Rattle.step_rows.proofs.Texts.{all-admitted-is, all-let-out-is, vehicles-is}
 use Rattle.plan_steps.specs.Totals.{heldIn, totalsAfter, TotalsAsked}

@@ -6,7 +6,7 @@ use native.Mathlib.Nat.{mul-le-mul-right}
 use native.Mathlib.Omega.{arith}
 use lib.ListN.{drop}
 use lib.Seq.{drop-drop, drop-at}
-use Rattle.records.specs.Lines.{Line}
+use Rattle.text_reader.specs.Lines.{Line}
 use Rattle.model.specs.Sum.{joined}
 use Rattle.model.specs.Network.{linkCount}
 use Rattle.model.specs.Flows.{row}

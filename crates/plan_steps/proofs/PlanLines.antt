@@ -8,20 +8,20 @@ use native.Mathlib.Omega.{arith}
 use borrow.Author.Tests.{eq-eqb}
 use lib.Dec.{eqb}
 use lib.ListN.{length, getD}
-use Rattle.records.specs.declared.LineRead.{LineRead}
-use Rattle.records.specs.declared.LineRead.the-variants.{Next, Malformed}
-use Rattle.records.specs.Lines.{Line, lines}
-use Rattle.records.specs.Reading.{Starts, atEnd}
-use Rattle.records.proofs.Laws.{starts-end, end-of-none}
+use Rattle.text_reader.specs.declared.LineRead.{LineRead}
+use Rattle.text_reader.specs.declared.LineRead.the-variants.{Next, Malformed}
+use Rattle.text_reader.specs.Lines.{Line, lines}
+use Rattle.text_reader.specs.Reading.{Starts, atEnd}
+use Rattle.text_reader.proofs.Laws.{starts-end, end-of-none}
 use Rattle.model.specs.declared.Signal.{Signal}
 use Rattle.model.specs.Network.{entry, linkCount, signalCount, movementCount, stepCount, signal}
 use Rattle.model.specs.Hold.{holdLines, planOf}
 use Rattle.model.proofs.Accepted.{ValidNetwork}
 use Rattle.model.proofs.Hold.{plan-of-text, plan-of-empty, hold-mask, hold-volume, hold-form, hold-count, hold-shown}
-use Rattle.tables.specs.declared.Counts.{Counts}
-use Rattle.tables.specs.Places.{planWidth}
-use Rattle.tables.specs.Fields.{tableSignal, lineSize}
-use Rattle.tables.specs.Tables.{CountsHold, PlanNumbers}
+use Rattle.network_tables.specs.declared.Counts.{Counts}
+use Rattle.network_tables.specs.Places.{planWidth}
+use Rattle.network_tables.specs.Fields.{tableSignal, lineSize}
+use Rattle.network_tables.specs.Tables.{CountsHold, PlanNumbers}
 use Rattle.step_signals.specs.Step.{SignalsAt}
 use Rattle.plan_steps.specs.PlanLine.{LineGot}
 use Rattle.plan_steps.proofs.Verdicts.{formed}

@@ -10,13 +10,13 @@ use native.Mathlib.Omega.{arith}
 use borrow.Author.Tests.{le-leb}
 use lib.Dec.{eqb}
 use lib.ListN.{length, getD, replicate, length-replicate, getD-replicate, List·getD-eq-default}
-use Rattle.search.specs.declared.Refusal.{Refusal}
-use Rattle.search.specs.declared.Verdict.the-variants.{Passes, Refused}
-use Rattle.search.specs.Checks.{refusal, verdict, Hold}
-use Rattle.search.proofs.Laws.{hold-of-passes}
-use Rattle.records.specs.Lines.{Line, noLine, lines, isRecord}
-use Rattle.records.specs.Reading.{atEnd}
-use Rattle.records.proofs.Laws.{starts-first}
+use Rattle.base_search.specs.declared.Refusal.{Refusal}
+use Rattle.base_search.specs.declared.Verdict.the-variants.{Passes, Refused}
+use Rattle.base_search.specs.Checks.{refusal, verdict, Hold}
+use Rattle.base_search.proofs.Laws.{hold-of-passes}
+use Rattle.text_reader.specs.Lines.{Line, noLine, lines, isRecord}
+use Rattle.text_reader.specs.Reading.{atEnd}
+use Rattle.text_reader.proofs.Laws.{starts-first}
 use Rattle.model.specs.declared.Totals.{Totals}
 use Rattle.model.specs.declared.PlanAnswer.{PlanAnswer}
 use Rattle.model.specs.declared.PlanAnswer.the-variants as plan-answer
@@ -31,15 +31,15 @@ use Rattle.model.proofs.Accepted.{ValidNetwork, valid-network}
 use Rattle.model.proofs.Rows.{length-written}
 use Rattle.model.proofs.Timeline.{past-entered, start-left}
 use Rattle.model.proofs.Written.{refused-fails, due-written, rows-until}
-use Rattle.tables.specs.declared.Counts.{Counts}
-use Rattle.tables.specs.declared.Reading.{Reading}
-use Rattle.tables.specs.Tables.{SignalTable}
-use Rattle.tables.proofs.Tables.{travel-time-at}
-use Rattle.tables.specs.Fields.{rowSize}
-use Rattle.arrivals.proofs.Boundaries.{cursor-on}
-use Rattle.past_curves.specs.Curves.{PastAsked, PastLoaded}
-use Rattle.waiting.specs.Waiting.{FirstAsked, FirstWaits, WaitingTable}
-use Rattle.waiting.proofs.Texts.{waiting-first, outside-is}
+use Rattle.network_tables.specs.declared.Counts.{Counts}
+use Rattle.network_tables.specs.declared.Reading.{Reading}
+use Rattle.network_tables.specs.Tables.{SignalTable}
+use Rattle.network_tables.proofs.Tables.{travel-time-at}
+use Rattle.network_tables.specs.Fields.{rowSize}
+use Rattle.step_arrivals.proofs.Boundaries.{cursor-on}
+use Rattle.step_past.specs.Curves.{PastAsked, PastLoaded}
+use Rattle.step_rows.specs.Waiting.{FirstAsked, FirstWaits, WaitingTable}
+use Rattle.step_rows.proofs.WaitingTexts.{waiting-first, outside-is}
 use Rattle.step_signals.specs.Step.{SignalsAt}
 use Rattle.step_signals.proofs.Rules.{ready-first}
 use Rattle.step_rows.specs.Rows.{RowHolds}
@@ -52,7 +52,7 @@ use Rattle.plan_steps.proofs.Verdicts.{formed, plan-stops, plan-surplus
 use Rattle.plan_steps.proofs.PlanLines.{plan-ends}
 use Rattle.plan_steps.proofs.Ledger.{written-again}
 use Rattle.plan_steps.proofs.Adding.{outside-sum, totals-first}
-use Rattle.past_curves.proofs.Valid.{past-form, entered-at-start, past-fits, left-at-start, left-fits}
+use Rattle.step_past.proofs.Valid.{past-form, entered-at-start, past-fits, left-at-start, left-fits}
 
 -- the signals before the plan
 pub signals-first : (network plan : List Line) (signals : List ℕ) → ValidNetwork network → SignalTable network signals → SignalsAt network plan 0 signals

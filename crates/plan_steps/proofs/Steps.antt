@@ -10,13 +10,13 @@ use native.Mathlib.Decide.{decLe, decLt}
 use native.Mathlib.Omega.{arith}
 use lib.ListN.{length, getD, take, drop, replicate, length-append, length-drop, replicate, length-replicate, getD-replicate, List·getD-eq-default, length-replicate, getD-replicate}
 use lib.Seq.{length-take-le}
-use Rattle.search.specs.declared.Refusal.{Refusal}
-use Rattle.search.specs.declared.Verdict.{Verdict}
-use Rattle.search.specs.declared.Verdict.the-variants.{Passes, Refused}
-use Rattle.search.specs.Checks.{refusal, verdict, Hold}
-use Rattle.records.specs.declared.LineRead.{LineRead}
-use Rattle.records.specs.declared.LineRead.the-variants.{Next, Malformed}
-use Rattle.records.specs.Lines.{Line, lines}
+use Rattle.base_search.specs.declared.Refusal.{Refusal}
+use Rattle.base_search.specs.declared.Verdict.{Verdict}
+use Rattle.base_search.specs.declared.Verdict.the-variants.{Passes, Refused}
+use Rattle.base_search.specs.Checks.{refusal, verdict, Hold}
+use Rattle.text_reader.specs.declared.LineRead.{LineRead}
+use Rattle.text_reader.specs.declared.LineRead.the-variants.{Next, Malformed}
+use Rattle.text_reader.specs.Lines.{Line, lines}
 use Rattle.model.specs.Test.{_or_}
 use Rattle.model.specs.Signals.{phaseOf, after as signalAfter}
 use Rattle.model.specs.Network.{maxSignals, linkCount, signalCount, stepCount, tramCount, tramLine, onTimeline, stepLine, stepLength, ordinary, signal, maxSteps}
@@ -31,16 +31,16 @@ use Rattle.model.proofs.Limits.{step-limits}
 use Rattle.model.proofs.Bounds.{KeepsLimits, lawful-limits, entered-word, left-word}
 use Rattle.model.proofs.Phases.{phase-of-le}
 use Rattle.model.proofs.Shown.{same-phases}
-use Rattle.tables.specs.declared.Counts.{Counts}
-use Rattle.tables.specs.Fields.{tramFields, tableSignal, lineSize, stepSize, rowSize, lengthIn}
-use Rattle.tables.specs.Tables.{CountsHold, StepNumbers, PlanNumbers}
-use Rattle.tables.proofs.Tables.{travel-time-at, shown-mask-at}
-use Rattle.arrivals.specs.Arrivals.{ArrivalTable}
-use Rattle.past_curves.proofs.Valid.{past-form, past-fits}
-use Rattle.past_curves.specs.Curves.{NextAsked as PastNextAsked, NextGot as PastNextGot}
-use Rattle.arrivals.proofs.Boundaries.{arrival-is, cursor-ready}
-use Rattle.waiting.specs.Waiting.{AddAsked, Offers, WaitsAsked, Waits, WaitingTable, StepOffers}
-use Rattle.waiting.proofs.Texts.{add-ready, step-offers, outside-is, next-ready, waiting-next}
+use Rattle.network_tables.specs.declared.Counts.{Counts}
+use Rattle.network_tables.specs.Fields.{tramFields, tableSignal, lineSize, stepSize, rowSize, lengthIn}
+use Rattle.network_tables.specs.Tables.{CountsHold, StepNumbers, PlanNumbers}
+use Rattle.network_tables.proofs.Tables.{travel-time-at, shown-mask-at}
+use Rattle.step_arrivals.specs.Arrivals.{ArrivalTable}
+use Rattle.step_past.proofs.Valid.{past-form, past-fits}
+use Rattle.step_past.specs.Curves.{NextAsked as PastNextAsked, NextGot as PastNextGot}
+use Rattle.step_arrivals.proofs.Boundaries.{arrival-is, cursor-ready}
+use Rattle.step_rows.specs.Waiting.{AddAsked, Offers, WaitsAsked, Waits, WaitingTable, StepOffers}
+use Rattle.step_rows.proofs.WaitingTexts.{add-ready, step-offers, outside-is, next-ready, waiting-next}
 use Rattle.network_trams.specs.Claims.{ClaimsAsked, TramPhases}
 use Rattle.network_steps.specs.Steps.{LoadAsked, Loaded}
 use Rattle.network_steps.proofs.Steps.{load-ready, loaded-numbers, loaded-next}

@@ -5,11 +5,11 @@ use mathlib.Core.Bool.{Bool, true, false}
 use mathlib.Core.List.{List}
 use lib.Dec.{eqb}
 use lib.ListN.{length}
-use Rattle.search.specs.declared.Refusal.{Refusal}
-use Rattle.search.specs.declared.Verdict.the-variants.{Passes, Refused}
-use Rattle.search.specs.Checks.{refusal, verdict, table}
-use Rattle.search.proofs.Laws.{or-else-passes, or-else-refused, first-stop, first-passes, checked-passes, checked-refused}
-use Rattle.records.specs.Lines.{Line}
+use Rattle.base_search.specs.declared.Refusal.{Refusal}
+use Rattle.base_search.specs.declared.Verdict.the-variants.{Passes, Refused}
+use Rattle.base_search.specs.Checks.{refusal, verdict, table}
+use Rattle.base_search.proofs.Laws.{or-else-passes, or-else-refused, first-stop, first-passes, checked-passes, checked-refused}
+use Rattle.text_reader.specs.Lines.{Line}
 use Rattle.model.specs.Network.{linkCount, signalCount, movementCount, stepCount}
 use Rattle.model.specs.Table.{letterP, isForm, stepRules, lineChecks, planLineChecks}
 

@@ -3,14 +3,14 @@ use Prim.Native.Nat.{ℕ, _<_}
 use mathlib.Core.Path.{_≡_}
 use mathlib.Core.List.{List}
 use lib.ListN.{length}
-use Rattle.records.specs.declared.LineRead.{LineRead}
-use Rattle.records.specs.declared.LineRead.the-variants.{Next}
-use Rattle.records.specs.Reading.{Starts}
+use Rattle.text_reader.specs.declared.LineRead.{LineRead}
+use Rattle.text_reader.specs.declared.LineRead.the-variants.{Next}
+use Rattle.text_reader.specs.Reading.{Starts}
 use Rattle.model.specs.Table.{letterP}
-use Rattle.tables.specs.declared.Counts.{Counts}
-use Rattle.tables.specs.Places.{planWidth, Few}
-use Rattle.tables.specs.Fields.{signalTableSize, lineSize}
-use Rattle.tables.specs.Rows.{RowRead}
+use Rattle.network_tables.specs.declared.Counts.{Counts}
+use Rattle.network_tables.specs.Places.{planWidth, Few}
+use Rattle.network_tables.specs.Fields.{signalTableSize, lineSize}
+use Rattle.network_tables.specs.Rows.{RowRead}
 use Rattle.step_signals.specs.Ready.{AllReady}
 use Rattle.step_signals.specs.Step.{HeldMasks}
 

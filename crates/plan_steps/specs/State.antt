@@ -4,11 +4,11 @@ use mathlib.Core.Path.{_≡_}
 use mathlib.Core.Bool.{cond}
 use mathlib.Core.List.{List}
 use lib.ListN.{length}
-use Rattle.search.specs.declared.Refusal.{Refusal}
-use Rattle.search.specs.declared.Verdict.the-variants.{Passes, Refused}
-use Rattle.search.specs.Checks.{refusal, verdict, Hold}
-use Rattle.records.specs.Lines.{lines}
-use Rattle.records.specs.Reading.{Starts, atEnd}
+use Rattle.base_search.specs.declared.Refusal.{Refusal}
+use Rattle.base_search.specs.declared.Verdict.the-variants.{Passes, Refused}
+use Rattle.base_search.specs.Checks.{refusal, verdict, Hold}
+use Rattle.text_reader.specs.Lines.{lines}
+use Rattle.text_reader.specs.Reading.{Starts, atEnd}
 use Rattle.model.specs.declared.Totals.{Totals}
 use Rattle.model.specs.declared.PlanAnswer.{PlanAnswer}
 use Rattle.model.specs.declared.PlanAnswer.the-variants as plan-answer
@@ -18,11 +18,11 @@ use Rattle.model.specs.Flows.{outside, totals}
 use Rattle.model.specs.Table.{networkChecks, lineChecks}
 use Rattle.model.specs.Hold.{planOf}
 use Rattle.model.specs.Calls.{written}
-use Rattle.tables.specs.declared.Counts.{Counts}
-use Rattle.tables.specs.Tables.{CountsHold, LinkTable, MovementTable, TimeTable}
-use Rattle.arrivals.specs.Arrivals.{ArrivalTable}
-use Rattle.past_curves.specs.Curves.{CurvesAt}
-use Rattle.waiting.specs.Waiting.{waitingIn, WaitingTable}
+use Rattle.network_tables.specs.declared.Counts.{Counts}
+use Rattle.network_tables.specs.Tables.{CountsHold, LinkTable, MovementTable, TimeTable}
+use Rattle.step_arrivals.specs.Arrivals.{ArrivalTable}
+use Rattle.step_past.specs.Curves.{CurvesAt}
+use Rattle.step_rows.specs.Waiting.{waitingIn, WaitingTable}
 use Rattle.step_signals.specs.Step.{SignalsAt}
 use Rattle.plan_steps.specs.declared.State.{State}
 use Rattle.plan_steps.specs.declared.Taken.{Taken}

@@ -3,21 +3,21 @@ use Prim.Native.Nat.{ℕ, suc, _*_, _≤_, _<_}
 use mathlib.Core.Path.{_≡_}
 use mathlib.Core.List.{List}
 use lib.ListN.{length}
-use Rattle.search.specs.declared.Refusal.{Refusal}
-use Rattle.search.specs.declared.Verdict.the-variants.{Passes, Refused}
-use Rattle.search.specs.Checks.{verdict}
-use Rattle.records.specs.Lines.{lines}
-use Rattle.records.specs.Reading.{Starts}
+use Rattle.base_search.specs.declared.Refusal.{Refusal}
+use Rattle.base_search.specs.declared.Verdict.the-variants.{Passes, Refused}
+use Rattle.base_search.specs.Checks.{verdict}
+use Rattle.text_reader.specs.Lines.{lines}
+use Rattle.text_reader.specs.Reading.{Starts}
 use Rattle.model.specs.declared.PlanAnswer.{PlanAnswer}
 use Rattle.model.specs.Network.{maxLinks, linkCount, stepCount, timelineLine, stepLine}
 use Rattle.model.specs.Flows.{totals}
 use Rattle.model.specs.Table.{lineChecks, planLineChecks}
 use Rattle.model.specs.Hold.{planOf}
 use Rattle.model.specs.Calls.{planAnswer, rowsWritten, written, ledgerAfter}
-use Rattle.tables.specs.declared.Counts.{Counts}
-use Rattle.tables.specs.declared.Reading.{Reading}
-use Rattle.tables.specs.Tables.{SignalTable}
-use Rattle.waiting.specs.Waiting.{WaitingTable}
+use Rattle.network_tables.specs.declared.Counts.{Counts}
+use Rattle.network_tables.specs.declared.Reading.{Reading}
+use Rattle.network_tables.specs.Tables.{SignalTable}
+use Rattle.step_rows.specs.Waiting.{WaitingTable}
 use Rattle.step_signals.specs.Step.{SignalsAt}
 use Rattle.plan_steps.specs.declared.State.{State}
 use Rattle.plan_steps.specs.declared.Taken.{Taken}

@@ -5,9 +5,9 @@ use mathlib.Core.List.{List}
 use lib.ListN.{length}
 use Rattle.model.specs.declared.Totals.{Totals}
 use Rattle.model.specs.Sum.{sum}
-use Rattle.tables.specs.declared.Counts.{Counts}
-use Rattle.tables.specs.Places.{Few}
-use Rattle.tables.specs.Fields.{lineSize, stepSize, lengthIn, admittedIn, letOutIn, enteredIn, leftIn}
+use Rattle.network_tables.specs.declared.Counts.{Counts}
+use Rattle.network_tables.specs.Places.{Few}
+use Rattle.network_tables.specs.Fields.{lineSize, stepSize, lengthIn, admittedIn, letOutIn, enteredIn, leftIn}
 
 -- the vehicles in the network by a row
 abbrev pub heldIn : Counts → List ℕ → ℕ

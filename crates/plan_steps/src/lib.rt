@@ -6,19 +6,19 @@ ghost use Rattle.plan_steps.specs.Steps.{StepsAsked, StepsGot, RunAsked,
 ghost use Rattle.plan_steps.specs.PlanLine.{LineAsked, LineGot};
 ghost use Rattle.plan_steps.specs.Totals.{totalsAfter, TotalsAsked};
 ghost use Rattle.model.specs.Network.{maxSteps};
+use base_search::Refusal;
+use base_search::Verdict;
 use model::PlanAnswer;
 use model::Totals;
-use records::LineRead;
-use search::Refusal;
-use search::Verdict;
-use tables::Counts;
-use tables::LINE_SIZE;
-use tables::MAX_LINKS;
-use tables::MAX_SIGNALS;
-use tables::ROW_SIZE;
-use tables::Reading;
-use tables::STEP_SIZE;
-use tables::wide;
+use network_tables::Counts;
+use network_tables::LINE_SIZE;
+use network_tables::MAX_LINKS;
+use network_tables::MAX_SIGNALS;
+use network_tables::ROW_SIZE;
+use network_tables::Reading;
+use network_tables::STEP_SIZE;
+use network_tables::wide;
+use text_reader::LineRead;
 
 // The state at a boundary: where the `S` and the `P` line of the next step start, the totals so far, and how many wait outside. The signals stand in a table that
 // is lent, since a copy of them a step costs more than the rest of the step's state.
@@ -99,7 +99,7 @@ pub fn read_line(
         step_signals::hold_masks(signals, counts.signals, line);
         return LineRead::Next(at);
     }
-    tables::read_row(plan, at, b'P', line, 0, counts.plan_width())
+    network_tables::read_row(plan, at, b'P', line, 0, counts.plan_width())
 }
 
 // Takes the next step: reads its `S` and `P` lines, and what trams ask in it, judges it and, where every rule is kept, writes the row after it into the ledger.
@@ -129,7 +129,7 @@ fn take_step(
     let mut row = [0u32; ROW_SIZE];
     let n = state.boundary;
     let step_end = network_steps::load_step(network, state.step_at, counts.links, &mut step);
-    waiting::add_waiting(waiting, counts.links, &mut step);
+    step_rows::add_waiting(waiting, counts.links, &mut step);
     let read = read_line(plan, state.plan_at, signals, counts, &mut line);
     let LineRead::Next(plan_end) = read else {
         let verdict = Verdict::Refused(Refusal::new(9, n + 1, 0));
@@ -137,7 +137,7 @@ fn take_step(
     };
     step_signals::shown_phases(signals, counts.signals, &line, &mut phases);
     network_trams::tram_phases(network, trams_at, counts.trams, n, &mut asked);
-    past_curves::next_arrivals(
+    step_past::next_arrivals(
         network,
         counts,
         links,
@@ -167,7 +167,7 @@ fn take_step(
         return Taken { verdict, state };
     };
     step_rows::write_row(ledger, 2 * (n + 1) * counts.links, &row, 2 * counts.links);
-    waiting::next_waiting(&step, &line, counts, waiting);
+    step_rows::next_waiting(&step, &line, counts, waiting);
     step_signals::advance(signals, counts.signals, &phases, &asked, step[0]);
     state.step_at = step_end;
     state.plan_at = plan_end;
@@ -183,7 +183,7 @@ fn finish(plan: &[u8], at: usize, steps: usize, totals: Totals) -> PlanAnswer
     requires { ⌜ steps ≤ maxSteps ⌝ }
     ensures { λ r. ⌜ r ≡ finished (now (plan .entry)) at steps totals ⌝ }
 {
-    if records::is_end(plan, at) {
+    if text_reader::is_end(plan, at) {
         PlanAnswer::Accepted(totals)
     } else {
         PlanAnswer::Refused(Refusal::new(9, steps + 1, 0))
@@ -212,7 +212,7 @@ pub fn take_steps(
     let mut arrivals = [0usize; MAX_LINKS];
     let mut curves = [0u32; ROW_SIZE];
     let mut places = [0usize; MAX_LINKS];
-    past_curves::load_past(
+    step_past::load_past(
         network,
         reading.past_at,
         counts,
@@ -223,7 +223,7 @@ pub fn take_steps(
         &mut curves,
         &mut places,
     );
-    waiting::first_waiting(links, counts.links, waiting);
+    step_rows::first_waiting(links, counts.links, waiting);
     let totals = Totals {
         admitted: 0,
         let_out: 0,

@@ -5,10 +5,10 @@ use mathlib.Core.List.{List, _++_}
 use native.Mathlib.Omega.{arith}
 use lib.ListN.{length, take, drop, length-append}
 use lib.Seq.{length-take-le}
-use Rattle.files.specs.Read.{Within}
-use Rattle.files.specs.declared.FileRead.{FileRead}
-use Rattle.files.specs.declared.FileRead.the-variants.{Read}
-use Rattle.record_writer.specs.Writing.{putAt, Wrote}
+use Rattle.plancheck_io.specs.Read.{Within}
+use Rattle.plancheck_io.specs.declared.FileRead.{FileRead}
+use Rattle.plancheck_io.specs.declared.FileRead.the-variants.{Read}
+use Rattle.text_writer.specs.Writing.{putAt, Wrote}
 use Rattle.plancheck_files.specs.Output.{ReadInto}
 
 pub text-length : {size n : ℕ} {buffer : List ℕ} {read : FileRead} → ReadInto size buffer read → read ≡ Read n → n ≡ length (take n buffer)

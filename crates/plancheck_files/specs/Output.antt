@@ -3,9 +3,9 @@ use Prim.Native.Nat.{ℕ}
 use mathlib.Core.Path.{_≡_}
 use mathlib.Core.List.{List}
 use lib.ListN.{length, take}
-use Rattle.files.specs.Read.{Within}
-use Rattle.files.specs.declared.FileRead.{FileRead}
-use Rattle.files.specs.declared.FileRead.the-variants.{Read, NotRead}
+use Rattle.plancheck_io.specs.Read.{Within}
+use Rattle.plancheck_io.specs.declared.FileRead.{FileRead}
+use Rattle.plancheck_io.specs.declared.FileRead.the-variants.{Read, NotRead}
 use Rattle.model.specs.Report.{report, notRead}
 
 -- `L 1` where the network was not read; else `L 2` where the plan was not; else the report of the two texts, each at the start of its buffer

@@ -1,9 +1,9 @@
 // Reads the two files of a plan's check and prints what the proved library writes of them: only reading the files and writing the bytes is not proved.
 ghost use Prim.Native.Nat.{_≤_};
 ghost use lib.ListN.{length};
-ghost use Rattle.record_writer.specs.Writing.{Wrote};
+ghost use Rattle.text_writer.specs.Writing.{Wrote};
 ghost use Rattle.plancheck_files.specs.Output.{output, ReadInto};
-use files::FileRead;
+use plancheck_io::FileRead;
 
 // Writes what is to be printed of two files, of which each was read into the start of a buffer, or was not read.
 fn write_output(
@@ -35,8 +35,8 @@ pub fn run(network_path: &[u8], plan_path: &[u8]) {
     let mut network = [0u8; 16385];
     let mut plan = [0u8; 24577];
     let mut out = [0u8; 131072];
-    let network_read = files::read_file(network_path, &mut network);
-    let plan_read = files::read_file(plan_path, &mut plan);
+    let network_read = plancheck_io::read_file(network_path, &mut network);
+    let plan_read = plancheck_io::read_file(plan_path, &mut plan);
     let end = write_output(network_read, &network, plan_read, &plan, &mut out);
     io::write_all(1, &out[..end]);
 }

@@ -4,12 +4,12 @@ use mathlib.Core.Path.{_≡_}
 use mathlib.Core.List.{List, [], _∷_, _++_}
 use native.Mathlib.Omega.{arith}
 use lib.ListN.{length}
-use Rattle.search.specs.declared.Refusal.{Refusal}
-use Rattle.search.specs.Checks.{Hold}
-use Rattle.records.specs.Lines.{Line}
-use Rattle.record_writer.specs.Records.{recordText}
-use Rattle.record_writer.specs.Writing.{Wrote}
-use Rattle.record_writer.proofs.Laws.{wrote-more, wrote-length, record-most, records-most}
+use Rattle.base_search.specs.declared.Refusal.{Refusal}
+use Rattle.base_search.specs.Checks.{Hold}
+use Rattle.text_reader.specs.Lines.{Line}
+use Rattle.text_writer.specs.Records.{recordText}
+use Rattle.text_writer.specs.Writing.{Wrote}
+use Rattle.text_writer.proofs.Laws.{wrote-more, wrote-length, record-most, records-most}
 use Rattle.model.specs.declared.Totals.{Totals}
 use Rattle.model.specs.declared.PlanAnswer.{PlanAnswer}
 use Rattle.model.specs.declared.PlanAnswer.the-variants.{Accepted, Refused}

@@ -7,11 +7,11 @@ use native.Mathlib.Nat.{mul-le-mul, mul-le-mul-right}
 use native.Mathlib.Omega.{arith}
 use lib.ListN.{length, getD, take, drop, set, length-set, take-append-drop}
 use lib.Seq.{length-take-le, take-suc, take-length}
-use Rattle.record_writer.specs.Records.{recordText, recordTexts}
-use Rattle.record_writer.specs.Writing.{putAt, Wrote}
-use Rattle.record_writer.proofs.Laws.{put-take, wrote-byte, wrote-more, wrote-length, record-most}
+use Rattle.text_writer.specs.Records.{recordText, recordTexts}
+use Rattle.text_writer.specs.Writing.{putAt, Wrote}
+use Rattle.text_writer.proofs.Laws.{put-take, wrote-byte, wrote-more, wrote-length, record-most}
 use Rattle.model.specs.Network.{maxLinks}
-use Rattle.tables.specs.declared.Counts.{Counts}
+use Rattle.network_tables.specs.declared.Counts.{Counts}
 use Rattle.plancheck_report.specs.Boundaries.{ledgerNumbers, RowsAsked}
 
 -- ---- a row behind the first two numbers of a record: the first k of its numbers are there

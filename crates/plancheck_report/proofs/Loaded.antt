@@ -4,22 +4,22 @@ use mathlib.Core.Path.{_≡_, sym, ap, _∙_}
 use mathlib.Core.List.{List, _∷_}
 use native.Mathlib.Omega.{arith}
 use lib.ListN.{getD, take, drop}
-use Rattle.search.specs.declared.Refusal.{Refusal}
-use Rattle.search.specs.declared.Verdict.the-variants as verdicts
-use Rattle.search.proofs.Laws.{passes-of-hold}
-use Rattle.records.specs.Lines.{lines}
-use Rattle.record_writer.specs.Records.{recordTexts}
-use Rattle.record_writer.specs.Writing.{Wrote}
-use Rattle.record_writer.proofs.Laws.{records-same}
+use Rattle.base_search.specs.declared.Refusal.{Refusal}
+use Rattle.base_search.specs.declared.Verdict.the-variants as verdicts
+use Rattle.base_search.proofs.Laws.{passes-of-hold}
+use Rattle.text_reader.specs.Lines.{lines}
+use Rattle.text_writer.specs.Records.{recordTexts}
+use Rattle.text_writer.specs.Writing.{Wrote}
+use Rattle.text_writer.proofs.Laws.{records-same}
 use Rattle.model.specs.Network.{linkCount, stepCount, time}
 use Rattle.model.specs.Table.{networkChecks}
-use Rattle.tables.specs.declared.Reading.{Reading}
-use Rattle.tables.specs.declared.Stage.{Stage}
-use Rattle.tables.specs.declared.Stage.the-variants.{Passed, Refused}
-use Rattle.tables.specs.Tables.{Judged, stageVerdict}
+use Rattle.network_tables.specs.declared.Reading.{Reading}
+use Rattle.network_tables.specs.declared.Stage.{Stage}
+use Rattle.network_tables.specs.declared.Stage.the-variants.{Passed, Refused}
+use Rattle.network_tables.specs.Tables.{Judged, stageVerdict}
 use Rattle.network.specs.Loading.{Loaded}
-use Rattle.plan_times.specs.Times.{ShiftAsked, Shifted}
-use Rattle.plan_times.proofs.Times.{shift-asked, plan-times}
+use Rattle.step_arrivals.specs.Times.{ShiftAsked, Shifted}
+use Rattle.step_arrivals.proofs.Times.{shift-asked, plan-times}
 use Rattle.plancheck_report.specs.Boundaries.{ledgerNumbers, RowsAsked, BoundariesAsked}
 
 module _ {text : List ℕ} {result : Stage} {links movements times : List ℕ} (got : Judged (networkChecks (lines text)) (Loaded text links movements times) result) where

@@ -7,13 +7,13 @@ use native.Mathlib.Nat.{mul-le-mul}
 use native.Mathlib.Omega.{arith}
 use borrow.Author.Tests.{le-leb}
 use lib.ListN.{length}
-use Rattle.search.specs.declared.Verdict.{Verdict}
-use Rattle.search.specs.declared.Verdict.the-variants.{Passes, Refused}
-use Rattle.search.specs.Checks.{_then_, orElse, verdict, Hold}
-use Rattle.search.proofs.Laws.{or-else-passes, or-else-first, checked-passes, hold-of-passes}
-use Rattle.records.specs.Lines.{Line, lines}
-use Rattle.records.specs.Padding.{SameText}
-use Rattle.records.proofs.Padding.{same-lines}
+use Rattle.base_search.specs.declared.Verdict.{Verdict}
+use Rattle.base_search.specs.declared.Verdict.the-variants.{Passes, Refused}
+use Rattle.base_search.specs.Checks.{_then_, orElse, verdict, Hold}
+use Rattle.base_search.proofs.Laws.{or-else-passes, or-else-first, checked-passes, hold-of-passes}
+use Rattle.text_reader.specs.Lines.{Line, lines}
+use Rattle.text_reader.specs.Padding.{SameText}
+use Rattle.text_reader.proofs.Padding.{same-lines}
 use Rattle.model.specs.declared.Totals.{Totals}
 use Rattle.model.specs.declared.PlanAnswer.{PlanAnswer}
 use Rattle.model.specs.declared.PlanAnswer.the-variants.{Accepted}
@@ -27,7 +27,7 @@ use Rattle.model.proofs.Accepted.{valid-network}
 use Rattle.model.proofs.Limits.{counts}
 use Rattle.model.proofs.Rows.{length-written}
 use Rattle.model.proofs.Written.{rows-all}
-use Rattle.record_writer.specs.Writing.{Wrote}
+use Rattle.text_writer.specs.Writing.{Wrote}
 use Rattle.plancheck_report.specs.Boundaries.{ledgerSize}
 use Rattle.plancheck_report.specs.Answer.{totalsText, answerText, AnswerAsked}
 use Rattle.plancheck_report.proofs.Rows.{rows-printed}

@@ -6,9 +6,9 @@ use native.Mathlib.Nat.{mul-le-mul-right}
 use native.Mathlib.Omega.{arith}
 use lib.ListN.{length, take, drop, length-drop}
 use lib.Seq.{ext-getD, getD-take, getD-drop, length-take-le}
-use Rattle.records.specs.Lines.{Line}
-use Rattle.record_writer.specs.Records.{recordTexts}
-use Rattle.record_writer.proofs.Laws.{records-same}
+use Rattle.text_reader.specs.Lines.{Line}
+use Rattle.text_writer.specs.Records.{recordTexts}
+use Rattle.text_writer.proofs.Laws.{records-same}
 use Rattle.model.specs.Network.{linkCount, time}
 use Rattle.model.specs.Flows.{row}
 use Rattle.model.specs.Calls.{written}

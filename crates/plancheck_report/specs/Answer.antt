@@ -3,9 +3,9 @@ use Prim.Native.Nat.{ℕ, _≤_}
 use mathlib.Core.Path.{_≡_}
 use mathlib.Core.List.{List, [], _∷_, _++_}
 use lib.ListN.{length}
-use Rattle.records.specs.Lines.{Line}
-use Rattle.record_writer.specs.Records.{recordText}
-use Rattle.search.specs.declared.Refusal.{Refusal}
+use Rattle.text_reader.specs.Lines.{Line}
+use Rattle.text_writer.specs.Records.{recordText}
+use Rattle.base_search.specs.declared.Refusal.{Refusal}
 use Rattle.model.specs.declared.Totals.{Totals}
 use Rattle.model.specs.declared.PlanAnswer.{PlanAnswer}
 use Rattle.model.specs.declared.PlanAnswer.the-variants.{Accepted, Refused}

@@ -3,14 +3,14 @@ use Prim.Native.Nat.{ℕ, suc, _+_, _*_, _≤_}
 use mathlib.Core.Path.{_≡_}
 use mathlib.Core.List.{List, _∷_}
 use lib.ListN.{length, take, drop}
-use Rattle.search.specs.Checks.{Hold}
-use Rattle.records.specs.Lines.{Line}
-use Rattle.record_writer.specs.Records.{recordTexts}
+use Rattle.base_search.specs.Checks.{Hold}
+use Rattle.text_reader.specs.Lines.{Line}
+use Rattle.text_writer.specs.Records.{recordTexts}
 use Rattle.model.specs.Network.{linkCount, stepCount, time}
 use Rattle.model.specs.Table.{networkChecks}
-use Rattle.tables.specs.declared.Counts.{Counts}
-use Rattle.tables.specs.Places.{Few}
-use Rattle.tables.specs.Fields.{timeTableSize, rowSize}
+use Rattle.network_tables.specs.declared.Counts.{Counts}
+use Rattle.network_tables.specs.Places.{Few}
+use Rattle.network_tables.specs.Fields.{timeTableSize, rowSize}
 
 -- boundary n, its time, and row n of a ledger with rows of so many links
 unfoldable pub ledgerNumbers : ℕ → (ℕ → ℕ) → List ℕ → ℕ → List ℕ

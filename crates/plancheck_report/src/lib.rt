@@ -3,23 +3,23 @@ ghost use mathlib.Core.Path.{_≡_};
 ghost use mathlib.Core.List.{_∷_, _++_};
 ghost use Prim.Native.Nat.{suc, _+_, _*_, _≤_};
 ghost use lib.ListN.{length, getD};
-ghost use Rattle.records.specs.Lines.{lines};
-ghost use Rattle.records.specs.Padding.{PaddingIgnored};
-ghost use Rattle.record_writer.specs.Records.{recordText, recordTexts};
-ghost use Rattle.record_writer.specs.Writing.{putAt, Wrote};
+ghost use Rattle.text_reader.specs.Lines.{lines};
+ghost use Rattle.text_reader.specs.Padding.{PaddingIgnored};
+ghost use Rattle.text_writer.specs.Records.{recordText, recordTexts};
+ghost use Rattle.text_writer.specs.Writing.{putAt, Wrote};
 ghost use Rattle.model.specs.Report.{report, notRead};
-ghost use Rattle.tables.specs.Fields.{rowSize};
+ghost use Rattle.network_tables.specs.Fields.{rowSize};
 ghost use Rattle.plancheck_report.specs.Boundaries.{ledgerNumbers, boundaryTexts, RowsAsked, BoundariesAsked};
 ghost use Rattle.plancheck_report.specs.Answer.{totalsText, refusalText, answerText, AnswerAsked};
+use base_search::Refusal;
 use model::PlanAnswer;
 use model::Totals;
-use search::Refusal;
-use tables::Counts;
-use tables::LINK_TABLE_SIZE;
-use tables::MOVEMENT_TABLE_SIZE;
-use tables::ROW_SIZE;
-use tables::Stage;
-use tables::TIME_TABLE_SIZE;
+use network_tables::Counts;
+use network_tables::LINK_TABLE_SIZE;
+use network_tables::MOVEMENT_TABLE_SIZE;
+use network_tables::ROW_SIZE;
+use network_tables::Stage;
+use network_tables::TIME_TABLE_SIZE;
 
 // The ledger of the largest network: a row for each boundary.
 const LEDGER_SIZE: usize = TIME_TABLE_SIZE * ROW_SIZE;
@@ -31,7 +31,7 @@ fn put_row(fields: &mut [u64], row: &[u32])
 {
     let mut k: usize = 0;
     while k < row.len() {
-        fields[2 + k] = tables::wide(row[k]);
+        fields[2 + k] = network_tables::wide(row[k]);
         k += 1;
     }
 }
@@ -43,10 +43,10 @@ fn write_boundary(out: &mut [u8], at: usize, n: usize, time: u32, row: &[u32]) -
 {
     let mut fields = [0u64; 2 + ROW_SIZE];
     fields[0] = n as u64;
-    fields[1] = tables::wide(time);
+    fields[1] = network_tables::wide(time);
     put_row(&mut fields, row);
     let end = 2 + row.len();
-    record_writer::write_record(out, at, b'B', &fields[..end])
+    text_writer::write_record(out, at, b'B', &fields[..end])
 }
 
 // Writes the `B` records of boundaries 0 to K, by the counts and times of a network that has passed.
@@ -76,7 +76,7 @@ fn write_boundaries(out: &mut [u8], at: usize, network: &[u8], ledger: &[u32]) -
     match network::load_network(network, &mut links, &mut movements, &mut times) {
         Stage::Passed(reading) => {
             let counts = reading.counts;
-            plan_times::from_start(&mut times, counts.past, counts.steps);
+            step_arrivals::from_start(&mut times, counts.past, counts.steps);
             write_rows(out, at, counts, &times, ledger)
         }
         Stage::Refused(_) => at,
@@ -94,7 +94,7 @@ fn write_accepted(out: &mut [u8], network: &[u8], ledger: &[u32], totals: Totals
         totals.inside,
         totals.doubled_time,
     ];
-    let next = record_writer::write_record(out, 0, b'A', &fields);
+    let next = text_writer::write_record(out, 0, b'A', &fields);
     write_boundaries(out, next, network, ledger)
 }
 
@@ -104,11 +104,11 @@ fn write_refusal(out: &mut [u8], refusal: Refusal) -> usize
     ensures { λ r. ⌜ Wrote (refusalText refusal) 0 (now (out .entry)) (now (out .exit)) r ⌝ }
 {
     let fields = [
-        tables::wide(refusal.number),
-        tables::wide(refusal.line),
-        tables::wide(refusal.item),
+        network_tables::wide(refusal.number),
+        network_tables::wide(refusal.line),
+        network_tables::wide(refusal.item),
     ];
-    record_writer::write_record(out, 0, b'R', &fields)
+    text_writer::write_record(out, 0, b'R', &fields)
 }
 
 // Writes the answer of a plan's check; the rows of an accepted plan stand in the ledger.
@@ -139,5 +139,5 @@ pub fn write_not_read(out: &mut [u8], file: u64) -> usize
     ensures { λ r. ⌜ Wrote (notRead file) 0 (now (out .entry)) (now (out .exit)) r ⌝ }
 {
     let fields = [file];
-    record_writer::write_record(out, 0, b'L', &fields)
+    text_writer::write_record(out, 0, b'L', &fields)
 }

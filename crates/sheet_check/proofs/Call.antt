@@ -5,15 +5,15 @@ use mathlib.Core.Bool.{cond}
 use mathlib.Core.List.{List}
 use native.Mathlib.Omega.{arith}
 use lib.ListN.{length, replicate, length-replicate, getD-replicate}
-use Rattle.search.specs.declared.Refusal.{Refusal}
-use Rattle.search.specs.declared.Verdict.{Verdict}
-use Rattle.search.specs.declared.Verdict.the-variants as verdicts
-use Rattle.search.specs.Checks.{Checks, _then_, orElse, verdict, Hold}
-use Rattle.search.proofs.Laws.{or-else-passes, or-else-refused, hold-of-passes, passes-of-hold}
-use Rattle.records.specs.Lines.{Line, lines}
-use Rattle.records.specs.Padding.{PaddingIgnored}
-use Rattle.records.proofs.Padding.{same-lines}
-use Rattle.records.proofs.Laws.{starts-first}
+use Rattle.base_search.specs.declared.Refusal.{Refusal}
+use Rattle.base_search.specs.declared.Verdict.{Verdict}
+use Rattle.base_search.specs.declared.Verdict.the-variants as verdicts
+use Rattle.base_search.specs.Checks.{Checks, _then_, orElse, verdict, Hold}
+use Rattle.base_search.proofs.Laws.{or-else-passes, or-else-refused, hold-of-passes, passes-of-hold}
+use Rattle.text_reader.specs.Lines.{Line, lines}
+use Rattle.text_reader.specs.Padding.{PaddingIgnored}
+use Rattle.text_reader.proofs.Padding.{same-lines}
+use Rattle.text_reader.proofs.Laws.{starts-first}
 use Rattle.model.specs.declared.Totals.{Totals}
 use Rattle.model.specs.declared.PlanAnswer.{PlanAnswer}
 use Rattle.model.specs.declared.PlanAnswer.the-variants as plan-answer
@@ -23,12 +23,12 @@ use Rattle.model.specs.Hold.{planOf}
 use Rattle.model.specs.Calls.{planAnswer, checkPlan}
 use Rattle.model.proofs.Accepted.{valid-network}
 use Rattle.model.proofs.Promises.{passes-of-accepted, refused-of-refused}
-use Rattle.tables.specs.declared.Reading.{Reading}
-use Rattle.tables.specs.declared.Stage.{Stage}
-use Rattle.tables.specs.declared.Stage.the-variants as stages
-use Rattle.tables.specs.Fields.{signalTableSize}
-use Rattle.tables.specs.Tables.{SignalTable, Judged}
-use Rattle.tables.proofs.Stages.{verdict-refused}
+use Rattle.network_tables.specs.declared.Reading.{Reading}
+use Rattle.network_tables.specs.declared.Stage.{Stage}
+use Rattle.network_tables.specs.declared.Stage.the-variants as stages
+use Rattle.network_tables.specs.Fields.{signalTableSize}
+use Rattle.network_tables.specs.Tables.{SignalTable, Judged}
+use Rattle.network_tables.proofs.Stages.{verdict-refused}
 use Rattle.network_signals.specs.Stages.{LoadAsked}
 use Rattle.network_signals.proofs.Passed.{signals-passed, load-zeros}
 use Rattle.network.specs.Loading.{Loaded}
@@ -37,12 +37,12 @@ use Rattle.plan_check.specs.Plan.{PlanGot}
 use Rattle.sheet_lines.specs.Sheet.{sheetChecks}
 use Rattle.sheet_lines.specs.Reading.{sheetTableSize, SheetAsked, SheetRead}
 use Rattle.sheet_lines.proofs.Network.{sheet-asked, sheet-told, sheet-number}
-use Rattle.sheet_model.specs.Runs.{isTested, lastLine, found, earlier, leastLine, leastItem, passVerdict, runChecks}
-use Rattle.sheet_model.specs.Calls.{acceptChecks, keepChecks, checkSheet, rowsAfter, sheetLedger}
-use Rattle.sheet_model.specs.Promises.{SheetPromises}
-use Rattle.sheet_model.proofs.Steps.{time-zero}
-use Rattle.sheet_model.proofs.OnePass.{one-pass}
-use Rattle.sheet_model.proofs.Promises.{sheet-promises}
+use Rattle.model_sheet.specs.Runs.{isTested, lastLine, found, earlier, leastLine, leastItem, passVerdict, runChecks}
+use Rattle.model_sheet.specs.Calls.{acceptChecks, keepChecks, checkSheet, rowsAfter, sheetLedger}
+use Rattle.model_sheet.specs.Promises.{SheetPromises}
+use Rattle.model_sheet.proofs.Steps.{time-zero}
+use Rattle.model_sheet.proofs.OnePass.{one-pass}
+use Rattle.model_sheet.proofs.Promises.{sheet-promises}
 use Rattle.sheet_check.specs.declared.Watch.{Watch}
 use Rattle.sheet_check.specs.declared.Pass.{Pass}
 use Rattle.sheet_check.specs.Watch.{noWatch, watchIn, watchAt}

@@ -9,10 +9,10 @@ use native.Mathlib.Omega.{arith}
 use borrow.Author.Tests.{eqb-true}
 use lib.Dec.{leb, eqb}
 use lib.ListN.{length, getD, replicate, length-replicate, getD-replicate, List·getD-eq-default}
-use Rattle.search.specs.Checks.{Hold}
-use Rattle.records.specs.declared.LineRead.{LineRead}
-use Rattle.records.specs.declared.LineRead.the-variants.{Next, Malformed}
-use Rattle.records.specs.Lines.{Line, lines}
+use Rattle.base_search.specs.Checks.{Hold}
+use Rattle.text_reader.specs.declared.LineRead.{LineRead}
+use Rattle.text_reader.specs.declared.LineRead.the-variants.{Next, Malformed}
+use Rattle.text_reader.specs.Lines.{Line, lines}
 use Rattle.model.specs.declared.Signal.{Signal}
 use Rattle.model.specs.Test.{_and_, _or_}
 use Rattle.model.specs.Network.{maxSignals, maxSteps, signalCount, trams, tramPhase, signal, stepLength, time, ordinary}
@@ -24,11 +24,11 @@ use Rattle.model.proofs.Accepted.{ValidNetwork, valid-network, LawfulStep, lawf
 use Rattle.model.proofs.Limits.{step-limits, time-small}
 use Rattle.model.proofs.Shown.{kept, same-phases}
 use Rattle.model.proofs.Times.{time-suc}
-use Rattle.tables.specs.declared.Counts.{Counts}
-use Rattle.tables.specs.declared.Reading.{Reading}
-use Rattle.tables.specs.Fields.{tableSignal, lineSize, stepSize, lengthIn}
-use Rattle.tables.specs.Tables.{CountsHold}
-use Rattle.tables.proofs.Tables.{step-length-at, shown-mask-at}
+use Rattle.network_tables.specs.declared.Counts.{Counts}
+use Rattle.network_tables.specs.declared.Reading.{Reading}
+use Rattle.network_tables.specs.Fields.{tableSignal, lineSize, stepSize, lengthIn}
+use Rattle.network_tables.specs.Tables.{CountsHold}
+use Rattle.network_tables.proofs.Tables.{step-length-at, shown-mask-at}
 use Rattle.network_trams.specs.Claims.{ClaimsAsked, TramPhases}
 use Rattle.network_steps.specs.Steps.{LoadAsked, Loaded}
 use Rattle.network_steps.proofs.Steps.{load-ready, loaded-numbers, loaded-next}
@@ -39,8 +39,8 @@ use Rattle.plan_steps.proofs.PlanLines.{shown-at, line-bad, line-numbers, next-
 use Rattle.plan_steps.proofs.Verdicts.{formed}
 use Rattle.plan_steps.proofs.Steps.{step-form, tram-form, signals-next}
 use Rattle.sheet_lines.specs.Sheet.{duration, phasesOf}
-use Rattle.sheet_model.specs.Runs.{leaves, isTested, lastLine, keepsSheet, found}
-use Rattle.sheet_model.proofs.Checks.{two-phases}
+use Rattle.model_sheet.specs.Runs.{leaves, isTested, lastLine, keepsSheet, found}
+use Rattle.model_sheet.proofs.Checks.{two-phases}
 use Rattle.sheet_check.specs.declared.Watch.{Watch}
 use Rattle.sheet_check.specs.declared.Pass.{Pass}
 use Rattle.sheet_check.specs.Watch.{firstBroken, watchAfter, nextWatch, durationIn, WatchAsked, Watched, watchAt, WatchesAt}

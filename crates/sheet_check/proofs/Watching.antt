@@ -11,11 +11,11 @@ use borrow.Author.Count.{below-more}
 use lib.Dec.{leb, eqb}
 use lib.ListN.{length, getD, set, length-set}
 use lib.Seq.{getD-set-same, getD-set-other}
-use Rattle.search.specs.declared.Verdict.the-variants.{Passes, Refused}
+use Rattle.base_search.specs.declared.Verdict.the-variants.{Passes, Refused}
 use Rattle.model.specs.declared.Signal.{Signal}
 use Rattle.model.specs.Test.{_and_}
-use Rattle.tables.specs.Fields.{tableSignal}
-use Rattle.sheet_model.specs.Runs.{earlier, leastLine, leastItem, toldRun, passVerdict}
+use Rattle.network_tables.specs.Fields.{tableSignal}
+use Rattle.model_sheet.specs.Runs.{earlier, leastLine, leastItem, toldRun, passVerdict}
 use Rattle.sheet_check.specs.declared.Watch.{Watch}
 use Rattle.sheet_check.specs.Watch.{noWatch, watchIn, firstBroken, watchAfter, nextWatch, durationIn, DurationAsked, WatchAsked, Watched}
 

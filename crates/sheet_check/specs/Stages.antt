@@ -3,20 +3,20 @@ use Prim.Native.Nat.{ℕ, _+_, _*_, _≤_, _<_}
 use mathlib.Core.Path.{_≡_}
 use mathlib.Core.List.{List}
 use lib.ListN.{length, getD}
-use Rattle.search.specs.declared.Verdict.{Verdict}
-use Rattle.search.specs.Checks.{verdict, Hold}
-use Rattle.records.specs.Lines.{Line, lines}
-use Rattle.records.specs.Reading.{Starts}
+use Rattle.base_search.specs.declared.Verdict.{Verdict}
+use Rattle.base_search.specs.Checks.{verdict, Hold}
+use Rattle.text_reader.specs.Lines.{Line, lines}
+use Rattle.text_reader.specs.Reading.{Starts}
 use Rattle.model.specs.Network.{maxSignals, entry, signalCount, stepCount, tramLine, stepLine, time}
 use Rattle.model.specs.Table.{networkChecks, lineChecks}
 use Rattle.model.specs.Hold.{planOf}
-use Rattle.tables.specs.declared.Reading.{Reading}
-use Rattle.tables.specs.Tables.{CountsHold}
+use Rattle.network_tables.specs.declared.Reading.{Reading}
+use Rattle.network_tables.specs.Tables.{CountsHold}
 use Rattle.plan_steps.specs.PlanLine.{PlanAt}
 use Rattle.step_signals.specs.Step.{SignalsAt}
 use Rattle.sheet_lines.specs.Sheet.{phasesOf}
 use Rattle.sheet_lines.specs.Reading.{sheetFields, sheetTableSize}
-use Rattle.sheet_model.specs.Runs.{runChecks}
+use Rattle.model_sheet.specs.Runs.{runChecks}
 use Rattle.sheet_check.specs.declared.Pass.{Pass}
 use Rattle.sheet_check.specs.Watch.{WatchesAt}
 

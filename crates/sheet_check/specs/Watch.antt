@@ -5,13 +5,13 @@ use mathlib.Core.Bool.{false, cond, not}
 use mathlib.Core.List.{List}
 use lib.Dec.{leb, eqb}
 use lib.ListN.{length, getD}
-use Rattle.records.specs.Lines.{Line}
+use Rattle.text_reader.specs.Lines.{Line}
 use Rattle.model.specs.declared.Signal.{Signal}
 use Rattle.model.specs.Test.{_and_}
 use Rattle.model.specs.Network.{maxSignals, signalCount}
-use Rattle.tables.specs.Fields.{signalTableSize, tableSignal}
+use Rattle.network_tables.specs.Fields.{signalTableSize, tableSignal}
 use Rattle.sheet_lines.specs.Reading.{sheetFields, sheetTableSize}
-use Rattle.sheet_model.specs.Runs.{isTested, lastLine, found}
+use Rattle.model_sheet.specs.Runs.{isTested, lastLine, found}
 use Rattle.step_signals.specs.Ready.{ReadyIn, AllReady}
 use Rattle.sheet_check.specs.declared.Watch.{Watch}
 

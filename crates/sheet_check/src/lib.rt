@@ -4,32 +4,32 @@ ghost use mathlib.Core.Path.{_≡_};
 ghost use mathlib.Core.Bool.{cond};
 ghost use Prim.Native.Nat.{_<_, _≤_};
 ghost use lib.ListN.{length};
-ghost use Rattle.records.specs.Lines.{lines};
-ghost use Rattle.records.specs.Padding.{PaddingIgnored};
+ghost use Rattle.text_reader.specs.Lines.{lines};
+ghost use Rattle.text_reader.specs.Padding.{PaddingIgnored};
 ghost use Rattle.model.specs.Hold.{planOf};
 ghost use Rattle.model.specs.Network.{maxSignals};
-ghost use Rattle.tables.specs.Fields.{signalTableSize, tableSignal};
-ghost use Rattle.tables.specs.Tables.{SignalTable};
+ghost use Rattle.network_tables.specs.Fields.{signalTableSize, tableSignal};
+ghost use Rattle.network_tables.specs.Tables.{SignalTable};
 ghost use Rattle.network.specs.Loading.{Loaded};
-ghost use Rattle.sheet_model.specs.Runs.{earlier, passVerdict};
-ghost use Rattle.sheet_model.specs.Promises.{SheetPromises};
+ghost use Rattle.model_sheet.specs.Runs.{earlier, passVerdict};
+ghost use Rattle.model_sheet.specs.Promises.{SheetPromises};
 ghost use Rattle.sheet_check.specs.Watch.{watchIn, firstBroken, watchAfter, nextWatch, durationIn, DurationAsked, WatchAsked, Watched};
 ghost use Rattle.sheet_check.specs.Stages.{PassAsked, StepAsked, StepGot, PassGot};
+use base_search::Refusal;
+use base_search::Verdict;
 use model::PlanAnswer;
-use records::LineRead;
-use search::Refusal;
-use search::Verdict;
+use network_tables::LINE_SIZE;
+use network_tables::LINK_TABLE_SIZE;
+use network_tables::MAX_SIGNALS;
+use network_tables::MOVEMENT_TABLE_SIZE;
+use network_tables::Reading;
+use network_tables::SIGNAL_TABLE_SIZE;
+use network_tables::STEP_SIZE;
+use network_tables::Stage;
+use network_tables::TIME_TABLE_SIZE;
 use sheet_lines::SHEET_FIELDS;
 use sheet_lines::SHEET_TABLE_SIZE;
-use tables::LINE_SIZE;
-use tables::LINK_TABLE_SIZE;
-use tables::MAX_SIGNALS;
-use tables::MOVEMENT_TABLE_SIZE;
-use tables::Reading;
-use tables::SIGNAL_TABLE_SIZE;
-use tables::STEP_SIZE;
-use tables::Stage;
-use tables::TIME_TABLE_SIZE;
+use text_reader::LineRead;
 
 // What is watched of a signal: whether the run that it shows is to be tested, the line of its last ordinary step, and the line of its first broken run, 0 for
 // none.
@@ -75,16 +75,16 @@ fn watch_after(
     requires { ⌜ (i < maxSignals) × (length (now signals) ≡ signalTableSize) ⌝ }
     ensures { λ r. ⌜ r ≡ watchAfter watch (tableSignal (now (signals .entry)) i) phase line time duration ⌝ }
 {
-    if phase == tables::shown_phase(signals, i) {
+    if phase == network_tables::shown_phase(signals, i) {
         return Watch {
             tested: watch.tested,
             line,
             broken: watch.broken,
         };
     }
-    let broken = first_broken(watch, tables::shown_for(signals, i), duration);
+    let broken = first_broken(watch, network_tables::shown_for(signals, i), duration);
     Watch {
-        tested: tables::greatest_cycle(signals, i) <= time,
+        tested: network_tables::greatest_cycle(signals, i) <= time,
         line,
         broken,
     }
@@ -116,7 +116,7 @@ fn duration_of(table: &[u32], signals: &[u32], i: usize) -> u32
     requires { ⌜ DurationAsked (now table) (now signals) i ⌝ }
     ensures { λ r. ⌜ r ≡ durationIn (now (table .entry)) i (tableSignal (now (signals .entry)) i) ⌝ }
 {
-    let place = step_signals::place_of(tables::shown_phase(signals, i));
+    let place = step_signals::place_of(network_tables::shown_phase(signals, i));
     table[SHEET_FIELDS * i + place]
 }
 

@@ -10,15 +10,15 @@ use native.Mathlib.Omega.{arith}
 use borrow.Author.Tests.{leb-true, not-true, not-false}
 use lib.Dec.{leb, ltb, eqb}
 use lib.ListN.{length, getD}
-use Rattle.search.specs.declared.Refusal.{Refusal}
-use Rattle.search.specs.declared.Verdict.the-variants.{Passes, Refused}
-use Rattle.search.specs.Checks.{refusal, Checks, orElse, checked, verdict}
-use Rattle.search.proofs.Laws.{or-else-passes, or-else-refused}
-use Rattle.records.specs.declared.LineRead.{LineRead}
-use Rattle.records.specs.declared.LineRead.the-variants.{Next, Malformed}
-use Rattle.records.specs.Lines.{lines}
-use Rattle.records.specs.Reading.{Starts, atEnd}
-use Rattle.records.proofs.Laws.{starts-first, starts-end}
+use Rattle.base_search.specs.declared.Refusal.{Refusal}
+use Rattle.base_search.specs.declared.Verdict.the-variants.{Passes, Refused}
+use Rattle.base_search.specs.Checks.{refusal, Checks, orElse, checked, verdict}
+use Rattle.base_search.proofs.Laws.{or-else-passes, or-else-refused}
+use Rattle.text_reader.specs.declared.LineRead.{LineRead}
+use Rattle.text_reader.specs.declared.LineRead.the-variants.{Next, Malformed}
+use Rattle.text_reader.specs.Lines.{lines}
+use Rattle.text_reader.specs.Reading.{Starts, atEnd}
+use Rattle.text_reader.proofs.Laws.{starts-first, starts-end}
 use Rattle.model.specs.declared.Signal.{Signal}
 use Rattle.model.specs.Test.{_and_, within, every}
 use Rattle.model.specs.Sum.{sum}
@@ -26,11 +26,11 @@ use Rattle.model.specs.Network.{entry}
 use Rattle.model.specs.Table.{isForm}
 use Rattle.model.proofs.Tests.{and-right, every-at, every-same}
 use Rattle.model.proofs.Sums.{sum-ext}
-use Rattle.tables.specs.Fields.{tableSignal}
-use Rattle.tables.specs.Rows.{RowRead}
-use Rattle.tables.specs.Blocks.{PassedTo}
-use Rattle.tables.proofs.Places.{record-within}
-use Rattle.tables.proofs.Blocks.{passed-none, passed-all, passed-stop, passed-next}
+use Rattle.network_tables.specs.Fields.{tableSignal}
+use Rattle.network_tables.specs.Rows.{RowRead}
+use Rattle.network_tables.specs.Blocks.{PassedTo}
+use Rattle.network_tables.proofs.Places.{record-within}
+use Rattle.network_tables.proofs.Blocks.{passed-none, passed-all, passed-stop, passed-next}
 use Rattle.step_signals.specs.Ready.{Ready}
 use Rattle.sheet_lines.specs.Sheet.{letterF, validDurations, validOffset, validNumbers, sheetLineChecks, signalsChecks}
 use Rattle.sheet_lines.specs.Reading.{numberIn, NumbersAsked, SheetAsked, SheetRows, SheetRead}

@@ -5,16 +5,16 @@ use mathlib.Core.List.{List}
 use native.Mathlib.Omega.{arith}
 use lib.Dec.{eqb}
 use lib.ListN.{length, getD}
-use Rattle.search.specs.declared.Verdict.{Verdict}
-use Rattle.search.specs.declared.Verdict.the-variants.{Passes}
-use Rattle.search.specs.Checks.{orElse, checked, verdict}
-use Rattle.search.proofs.Laws.{first-same}
-use Rattle.records.specs.Lines.{Line, lines}
+use Rattle.base_search.specs.declared.Verdict.{Verdict}
+use Rattle.base_search.specs.declared.Verdict.the-variants.{Passes}
+use Rattle.base_search.specs.Checks.{orElse, checked, verdict}
+use Rattle.base_search.proofs.Laws.{first-same}
+use Rattle.text_reader.specs.Lines.{Line, lines}
 use Rattle.model.specs.declared.Signal.{Signal}
 use Rattle.model.specs.Network.{maxSignals, entry, signalCount, signal}
 use Rattle.model.specs.Table.{isForm}
 use Rattle.model.proofs.Accepted.{ValidNetwork}
-use Rattle.tables.specs.Tables.{SignalTable}
+use Rattle.network_tables.specs.Tables.{SignalTable}
 use Rattle.step_signals.proofs.Rules.{ready-first}
 use Rattle.sheet_lines.specs.Sheet.{letterF, phasesOf, validNumbers, sheetLineChecks, signalsChecks, sheetChecks}
 use Rattle.sheet_lines.specs.Reading.{sheetFields, sheetTableSize, SheetAsked, SheetRead}

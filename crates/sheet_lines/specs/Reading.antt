@@ -3,12 +3,12 @@ use Prim.Native.Nat.{ℕ, _+_, _*_, _≤_, _<_}
 use mathlib.Core.Path.{_≡_}
 use mathlib.Core.List.{List}
 use lib.ListN.{length, getD}
-use Rattle.search.specs.declared.Verdict.{Verdict}
-use Rattle.search.specs.declared.Verdict.the-variants.{Passes}
-use Rattle.search.specs.Checks.{verdict}
-use Rattle.records.specs.Lines.{Line, lines}
+use Rattle.base_search.specs.declared.Verdict.{Verdict}
+use Rattle.base_search.specs.declared.Verdict.the-variants.{Passes}
+use Rattle.base_search.specs.Checks.{verdict}
+use Rattle.text_reader.specs.Lines.{Line, lines}
 use Rattle.model.specs.Network.{maxSignals, entry}
-use Rattle.tables.specs.Fields.{signalTableSize, tableSignal}
+use Rattle.network_tables.specs.Fields.{signalTableSize, tableSignal}
 use Rattle.step_signals.specs.Ready.{ReadyIn, AllReady}
 use Rattle.sheet_lines.specs.Sheet.{signalsChecks}
 

@@ -5,8 +5,8 @@ use mathlib.Core.Bool.{Bool, true}
 use mathlib.Core.List.{List}
 use lib.Dec.{ltb, eqb}
 use lib.ListN.{length, getD}
-use Rattle.search.specs.Checks.{Checks, check, each, _then_}
-use Rattle.records.specs.Lines.{Line}
+use Rattle.base_search.specs.Checks.{Checks, check, each, _then_}
+use Rattle.text_reader.specs.Lines.{Line}
 use Rattle.model.specs.declared.Signal.{Signal}
 use Rattle.model.specs.Test.{_and_, within, every}
 use Rattle.model.specs.Sum.{sum}

@@ -1,13 +1,13 @@
 // The lines of a fixed-time sheet (T-10), read into a table: refusal 33.
 ghost use mathlib.Core.Path.{_≡_};
 ghost use Rattle.model.specs.Test.{within};
-ghost use Rattle.tables.specs.Fields.{tableSignal};
+ghost use Rattle.network_tables.specs.Fields.{tableSignal};
 ghost use Rattle.sheet_lines.specs.Sheet.{validNumbers};
 ghost use Rattle.sheet_lines.specs.Reading.{numberIn, NumbersAsked, SheetAsked, SheetRead};
-use records::LineRead;
-use search::Refusal;
-use search::Verdict;
-use tables::MAX_SIGNALS;
+use base_search::Refusal;
+use base_search::Verdict;
+use network_tables::MAX_SIGNALS;
+use text_reader::LineRead;
 
 // How many numbers a line has at most: eight durations and an offset.
 pub const SHEET_FIELDS: usize = 9;
@@ -28,13 +28,13 @@ fn valid_numbers(table: &[u32], start: usize, signals: &[u32], r: usize, offsets
     requires { ⌜ NumbersAsked (now table) start (now signals) r offsets ⌝ }
     ensures { λ b. ⌜ b ≡ validNumbers offsets (tableSignal (now (signals .entry)) r) (numberIn (now (table .entry)) start) ⌝ }
 {
-    let phases = tables::phase_count(signals, r) as usize;
+    let phases = network_tables::phase_count(signals, r) as usize;
     let mut sum: u32 = 0;
     let mut k = 0;
     while k < phases {
         let duration = table[start + k];
-        let least = tables::least_time(signals, r, k);
-        let greatest = tables::greatest_time(signals, r, k);
+        let least = network_tables::least_time(signals, r, k);
+        let greatest = network_tables::greatest_time(signals, r, k);
         if !is_within(duration, least, greatest) {
             return false;
         }
@@ -62,8 +62,8 @@ pub fn read_sheet(
     let mut r = 0;
     while r < count {
         let start = SHEET_FIELDS * r;
-        let width = tables::phase_count(signals, r) as usize + offsets;
-        let read = tables::read_row(text, place, b'F', table, start, width);
+        let width = network_tables::phase_count(signals, r) as usize + offsets;
+        let read = network_tables::read_row(text, place, b'F', table, start, width);
         let LineRead::Next(next) = read else {
             return Verdict::Refused(Refusal::new(33, r + 1, 0));
         };
@@ -73,7 +73,7 @@ pub fn read_sheet(
         place = next;
         r += 1;
     }
-    if records::is_end(text, place) {
+    if text_reader::is_end(text, place) {
         return Verdict::Passes;
     }
     Verdict::Refused(Refusal::new(33, count + 1, 0))

@@ -9,15 +9,15 @@ use native.Mathlib.Omega.{arith}
 use borrow.Author.Tests.{le-ltb}
 use lib.Dec.{leb, ltb}
 use lib.ListN.{length, replicate}
-use Rattle.search.specs.declared.Refusal.{Refusal}
-use Rattle.search.specs.declared.Verdict.{Verdict}
-use Rattle.search.specs.declared.Verdict.the-variants as verdicts
-use Rattle.search.specs.Checks.{orElse, checked, verdict, Hold}
-use Rattle.search.proofs.Laws.{first-same, or-else-passes, or-else-refused, hold-of-passes, passes-of-hold}
-use Rattle.records.specs.Lines.{Line, lines}
-use Rattle.records.specs.Padding.{PaddingIgnored}
-use Rattle.records.proofs.Padding.{same-lines}
-use Rattle.record_writer.proofs.Laws.{records-same}
+use Rattle.base_search.specs.declared.Refusal.{Refusal}
+use Rattle.base_search.specs.declared.Verdict.{Verdict}
+use Rattle.base_search.specs.declared.Verdict.the-variants as verdicts
+use Rattle.base_search.specs.Checks.{orElse, checked, verdict, Hold}
+use Rattle.base_search.proofs.Laws.{first-same, or-else-passes, or-else-refused, hold-of-passes, passes-of-hold}
+use Rattle.text_reader.specs.Lines.{Line, lines}
+use Rattle.text_reader.specs.Padding.{PaddingIgnored}
+use Rattle.text_reader.proofs.Padding.{same-lines}
+use Rattle.text_writer.proofs.Laws.{records-same}
 use Rattle.model.specs.Test.{_and_}
 use Rattle.model.specs.Sum.{sum, only, list}
 use Rattle.model.specs.Network.{entry, linkCount, signalCount, movementCount, stepCount, tramCount, tramLine, signal, stepLength, time}
@@ -26,31 +26,31 @@ use Rattle.model.proofs.Tests.{every-same}
 use Rattle.model.proofs.Sums.{sum-ext}
 use Rattle.model.proofs.Times.{time-suc}
 use Rattle.model.proofs.Accepted.{ValidNetwork, valid-network}
-use Rattle.tables.specs.declared.Counts.{Counts}
-use Rattle.tables.specs.declared.Reading.{Reading}
-use Rattle.tables.specs.declared.Stage.{Stage}
-use Rattle.tables.specs.declared.Stage.the-variants as stages
-use Rattle.tables.specs.Places.{planWidth, Few}
-use Rattle.tables.specs.Fields.{tramFields, signalTableSize, tableSignal}
-use Rattle.tables.specs.Tables.{SignalTable, Judged}
-use Rattle.tables.proofs.Stages.{verdict-refused}
+use Rattle.network_tables.specs.declared.Counts.{Counts}
+use Rattle.network_tables.specs.declared.Reading.{Reading}
+use Rattle.network_tables.specs.declared.Stage.{Stage}
+use Rattle.network_tables.specs.declared.Stage.the-variants as stages
+use Rattle.network_tables.specs.Places.{planWidth, Few}
+use Rattle.network_tables.specs.Fields.{tramFields, signalTableSize, tableSignal}
+use Rattle.network_tables.specs.Tables.{SignalTable, Judged}
+use Rattle.network_tables.proofs.Stages.{verdict-refused}
 use Rattle.network_signals.specs.Stages.{LoadAsked}
 use Rattle.network_signals.proofs.Passed.{signals-passed, load-zeros}
 use Rattle.network.specs.Loading.{Loaded}
-use Rattle.plan_times.specs.Times.{ShiftAsked, Shifted}
-use Rattle.plan_times.proofs.Times.{shift-asked, plan-times}
+use Rattle.step_arrivals.specs.Times.{ShiftAsked, Shifted}
+use Rattle.step_arrivals.proofs.Times.{shift-asked, plan-times}
 use Rattle.sheet_lines.specs.Sheet.{phasesOf, sheetChecks}
 use Rattle.sheet_lines.specs.Reading.{sheetTableSize, numberIn, SheetAsked, SheetRead}
 use Rattle.sheet_lines.proofs.Network.{sheet-asked, sheet-told, sheet-number}
-use Rattle.sheet_model.specs.declared.SheetAnswer.{SheetAnswer}
-use Rattle.sheet_model.specs.declared.SheetAnswer.the-variants.{Refused}
-use Rattle.sheet_model.specs.Cycle.{placeAt, phaseFrom, phaseAt, fitsAt, hasNoTram, sheetPhase, canWrite, boundaryChecks, sheetNumbers, sheetText, writeChecks}
-use Rattle.sheet_model.specs.Calls.{writtenAnswer, planFromSheet, writtenBytes, bufferAfter}
-use Rattle.sheet_model.specs.Promises.{WritePromises}
-use Rattle.sheet_model.proofs.Cycle.{phase-most}
-use Rattle.sheet_model.proofs.Steps.{time-zero}
-use Rattle.sheet_model.proofs.Checks.{two-phases, duration-some, offset-short}
-use Rattle.sheet_model.proofs.Promises.{write-promises}
+use Rattle.model_sheet.specs.declared.SheetAnswer.{SheetAnswer}
+use Rattle.model_sheet.specs.declared.SheetAnswer.the-variants.{Refused}
+use Rattle.model_sheet.specs.Cycle.{placeAt, phaseFrom, phaseAt, fitsAt, hasNoTram, sheetPhase, canWrite, boundaryChecks, sheetNumbers, sheetText, writeChecks}
+use Rattle.model_sheet.specs.Calls.{writtenAnswer, planFromSheet, writtenBytes, bufferAfter}
+use Rattle.model_sheet.specs.Promises.{WritePromises}
+use Rattle.model_sheet.proofs.Cycle.{phase-most}
+use Rattle.model_sheet.proofs.Steps.{time-zero}
+use Rattle.model_sheet.proofs.Checks.{two-phases, duration-some, offset-short}
+use Rattle.model_sheet.proofs.Promises.{write-promises}
 use Rattle.sheet_writer.specs.Tables.{CycleLine, LineAsked, timeIn, secondsIn, fitsIn, canWriteIn, boundaryChecksIn, phaseIn, numbersIn, textIn, cycleText, MasksAsked}
 use Rattle.sheet_writer.specs.Stages.{CyclesAsked, MasksGot, roomVerdict, Told, CyclesWritten, NetworkAsked, SheetWritten}
 

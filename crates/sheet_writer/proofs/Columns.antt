@@ -12,24 +12,24 @@ use lib.Dec.{eqb}
 use lib.ListN.{length, getD, set, length-set}
 use lib.Seq.{getD-set-same, getD-set-other}
 use lib.Pow.{pow-lt}
-use Rattle.search.specs.declared.Refusal.{Refusal}
-use Rattle.search.specs.declared.Verdict.the-variants.{Passes, Refused}
-use Rattle.search.specs.Checks.{refusal, Checks, check, checked, verdict}
-use Rattle.records.specs.declared.LineRead.{LineRead}
-use Rattle.records.specs.declared.LineRead.the-variants.{Next, Malformed}
-use Rattle.records.specs.Lines.{Line, lines}
-use Rattle.records.specs.Reading.{Starts}
+use Rattle.base_search.specs.declared.Refusal.{Refusal}
+use Rattle.base_search.specs.declared.Verdict.the-variants.{Passes, Refused}
+use Rattle.base_search.specs.Checks.{refusal, Checks, check, checked, verdict}
+use Rattle.text_reader.specs.declared.LineRead.{LineRead}
+use Rattle.text_reader.specs.declared.LineRead.the-variants.{Next, Malformed}
+use Rattle.text_reader.specs.Lines.{Line, lines}
+use Rattle.text_reader.specs.Reading.{Starts}
 use Rattle.model.specs.Test.{_and_, every}
 use Rattle.model.specs.Network.{maxSignals, entry, tramCount, tramLine}
 use Rattle.model.specs.Table.{letterT}
-use Rattle.tables.specs.declared.Reading.{Reading}
-use Rattle.tables.specs.Fields.{tramFields, tableSignal}
-use Rattle.tables.specs.Rows.{RowRead}
-use Rattle.tables.specs.Blocks.{PassedTo}
-use Rattle.tables.proofs.Blocks.{passed-none, passed-all, passed-stop, passed-next}
+use Rattle.network_tables.specs.declared.Reading.{Reading}
+use Rattle.network_tables.specs.Fields.{tramFields, tableSignal}
+use Rattle.network_tables.specs.Rows.{RowRead}
+use Rattle.network_tables.specs.Blocks.{PassedTo}
+use Rattle.network_tables.proofs.Blocks.{passed-none, passed-all, passed-stop, passed-next}
 use Rattle.sheet_lines.specs.Reading.{numberIn}
-use Rattle.sheet_model.specs.Cycle.{phaseAt, fitsAt, hasNoTram}
-use Rattle.sheet_model.proofs.Tests.{every-not}
+use Rattle.model_sheet.specs.Cycle.{phaseAt, fitsAt, hasNoTram}
+use Rattle.model_sheet.proofs.Tests.{every-not}
 use Rattle.sheet_writer.specs.declared.Run.{Run}
 use Rattle.sheet_writer.specs.Tables.{RunAt, NextAsked, NextRun, timeIn, secondsIn, maskTableSize, fitsIn, ColumnAsked, Column, ColumnGot, canWriteIn, boundaryChecksIn, phaseIn, MasksHeld}
 use Rattle.sheet_writer.specs.Stages.{TramsAsked, CyclesAsked, MasksGot}

@@ -10,8 +10,8 @@ use borrow.Author.Tests.{le-leb, lt-leb, eq-eqb, ne-eqb}
 use lib.Dec.{leb}
 use Rattle.model.specs.Sum.{sum}
 use Rattle.model.specs.Signals.{phaseAfter}
-use Rattle.sheet_model.specs.Cycle.{placeAt, phaseFrom, phaseAt, fitsAt}
-use Rattle.sheet_model.proofs.Cycle.{end-zero, end-suc, phase-is, shows, goes-on, changes}
+use Rattle.model_sheet.specs.Cycle.{placeAt, phaseFrom, phaseAt, fitsAt}
+use Rattle.model_sheet.proofs.Cycle.{end-zero, end-suc, phase-is, shows, goes-on, changes}
 use Rattle.sheet_writer.specs.declared.Run.{Run}
 use Rattle.sheet_writer.specs.Tables.{CycleLine, RunAt, NextRun}
 

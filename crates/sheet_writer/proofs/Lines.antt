@@ -7,20 +7,20 @@ use borrow.Author.Tests.{le-leb, lt-leb, lt-ltb, le-ltb}
 use lib.Dec.{ltb}
 use lib.ListN.{length, getD, take}
 use lib.Seq.{take-at, length-take-le}
-use Rattle.search.specs.declared.Refusal.{Refusal}
-use Rattle.search.specs.Checks.{refusal, checked}
-use Rattle.records.specs.Reading.{over}
-use Rattle.record_writer.specs.Records.{recordText, recordTexts}
-use Rattle.record_writer.specs.Writing.{putAt, Wrote}
-use Rattle.record_writer.proofs.Laws.{record-most}
+use Rattle.base_search.specs.declared.Refusal.{Refusal}
+use Rattle.base_search.specs.Checks.{refusal, checked}
+use Rattle.text_reader.specs.Reading.{over}
+use Rattle.text_writer.specs.Records.{recordText, recordTexts}
+use Rattle.text_writer.specs.Writing.{putAt, Wrote}
+use Rattle.text_writer.proofs.Laws.{record-most}
 use Rattle.model.specs.Sum.{only}
 use Rattle.model.specs.Table.{letterP}
 use Rattle.model.proofs.Sums.{list-length}
-use Rattle.tables.specs.declared.Counts.{Counts}
-use Rattle.tables.specs.Places.{planWidth}
-use Rattle.tables.specs.Fields.{lineSize}
-use Rattle.sheet_model.specs.declared.SheetAnswer.the-variants.{Written, Refused}
-use Rattle.sheet_model.specs.Calls.{writtenAnswer, writtenBytes}
+use Rattle.network_tables.specs.declared.Counts.{Counts}
+use Rattle.network_tables.specs.Places.{planWidth}
+use Rattle.network_tables.specs.Fields.{lineSize}
+use Rattle.model_sheet.specs.declared.SheetAnswer.the-variants.{Written, Refused}
+use Rattle.model_sheet.specs.Calls.{writtenAnswer, writtenBytes}
 use Rattle.sheet_writer.specs.Tables.{numbersIn, lineIn, textIn, MasksAsked, NumberAsked, FillAsked, WriteAsked, TextAsked}
 use Rattle.sheet_writer.specs.Stages.{roomVerdict, Told}
 use Rattle.sheet_writer.proofs.Texts.{NumbersTo, numbers-none, numbers-all, LengthTo, length-more, length-all, TextTo, text-room, text-more, text-all}

@@ -8,10 +8,10 @@ use native.Mathlib.Omega.{arith}
 use lib.ListN.{length, getD, set, length-set, length-append, drop}
 use lib.Seq.{drop-cons, set-at, append-snoc}
 use mathlib.Core.List.{[], _∷_, _++_}
-use Rattle.records.specs.Reading.{over}
-use Rattle.record_writer.specs.Records.{recordText, recordTexts}
-use Rattle.record_writer.specs.Writing.{putAt, Wrote}
-use Rattle.record_writer.proofs.Laws.{wrote-more}
+use Rattle.text_reader.specs.Reading.{over}
+use Rattle.text_writer.specs.Records.{recordText, recordTexts}
+use Rattle.text_writer.specs.Writing.{putAt, Wrote}
+use Rattle.text_writer.proofs.Laws.{wrote-more}
 use Rattle.model.specs.Sum.{list}
 use Rattle.model.proofs.Sums.{list-length}
 

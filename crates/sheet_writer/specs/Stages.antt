@@ -5,24 +5,24 @@ use mathlib.Core.Bool.{true}
 use mathlib.Core.List.{List}
 use lib.Dec.{leb}
 use lib.ListN.{length}
-use Rattle.search.specs.declared.Verdict.{Verdict}
-use Rattle.search.specs.declared.Verdict.the-variants as verdicts
-use Rattle.search.specs.Checks.{orElse, checked, verdict, Hold}
-use Rattle.records.specs.Lines.{Line, lines}
-use Rattle.records.specs.Reading.{Starts}
+use Rattle.base_search.specs.declared.Verdict.{Verdict}
+use Rattle.base_search.specs.declared.Verdict.the-variants as verdicts
+use Rattle.base_search.specs.Checks.{orElse, checked, verdict, Hold}
+use Rattle.text_reader.specs.Lines.{Line, lines}
+use Rattle.text_reader.specs.Reading.{Starts}
 use Rattle.model.specs.Network.{tramCount, tramLine, signalLine}
 use Rattle.model.specs.Table.{isForm, letterT, networkChecks}
-use Rattle.tables.specs.declared.Counts.{Counts}
-use Rattle.tables.specs.declared.Reading.{Reading}
-use Rattle.tables.specs.Places.{Few}
-use Rattle.tables.specs.Fields.{tramFields, signalTableSize, tableSignal}
-use Rattle.tables.specs.Tables.{CountsHold}
-use Rattle.plan_times.specs.Times.{PlanTimes}
+use Rattle.network_tables.specs.declared.Counts.{Counts}
+use Rattle.network_tables.specs.declared.Reading.{Reading}
+use Rattle.network_tables.specs.Places.{Few}
+use Rattle.network_tables.specs.Fields.{tramFields, signalTableSize, tableSignal}
+use Rattle.network_tables.specs.Tables.{CountsHold}
+use Rattle.step_arrivals.specs.Times.{PlanTimes}
 use Rattle.sheet_lines.specs.Sheet.{sheetChecks}
 use Rattle.sheet_lines.specs.Reading.{sheetFields}
-use Rattle.sheet_model.specs.declared.SheetAnswer.{SheetAnswer}
-use Rattle.sheet_model.specs.Cycle.{boundaryChecks, sheetText}
-use Rattle.sheet_model.specs.Calls.{writtenAnswer, writtenBytes}
+use Rattle.model_sheet.specs.declared.SheetAnswer.{SheetAnswer}
+use Rattle.model_sheet.specs.Cycle.{boundaryChecks, sheetText}
+use Rattle.model_sheet.specs.Calls.{writtenAnswer, writtenBytes}
 use Rattle.sheet_writer.specs.Tables.{LineAsked, TimesAsked, boundaryChecksIn, cycleText, MasksHeld, maskTableSize}
 
 -- the `T` lines of a network that has passed

@@ -7,18 +7,18 @@ use mathlib.Core.Logic.{_≢_}
 use mathlib.Core.List.{List}
 use lib.Dec.{ltb}
 use lib.ListN.{length, getD}
-use Rattle.search.specs.Checks.{Checks, check, each}
-use Rattle.records.specs.Lines.{Line}
-use Rattle.record_writer.specs.Records.{recordText, recordTexts}
+use Rattle.base_search.specs.Checks.{Checks, check, each}
+use Rattle.text_reader.specs.Lines.{Line}
+use Rattle.text_writer.specs.Records.{recordText, recordTexts}
 use Rattle.model.specs.Test.{_and_, every}
 use Rattle.model.specs.Sum.{sum, only, list}
 use Rattle.model.specs.Network.{maxSignals, maxSteps}
 use Rattle.model.specs.Table.{letterP}
-use Rattle.tables.specs.declared.Counts.{Counts}
-use Rattle.tables.specs.Places.{planWidth, Few}
-use Rattle.tables.specs.Fields.{timeTableSize, lineSize, tableSignal}
+use Rattle.network_tables.specs.declared.Counts.{Counts}
+use Rattle.network_tables.specs.Places.{planWidth, Few}
+use Rattle.network_tables.specs.Fields.{timeTableSize, lineSize, tableSignal}
 use Rattle.sheet_lines.specs.Reading.{sheetFields, numberIn}
-use Rattle.sheet_model.specs.Cycle.{placeAt, phaseAt, fitsAt, hasNoTram}
+use Rattle.model_sheet.specs.Cycle.{placeAt, phaseAt, fitsAt, hasNoTram}
 use Rattle.sheet_writer.specs.declared.Run.{Run}
 
 -- ---- one signal

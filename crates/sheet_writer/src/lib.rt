@@ -4,34 +4,34 @@ ghost use mathlib.Core.Path.{_≡_};
 ghost use Prim.Native.Nat.{_+_, _*_, _≤_};
 ghost use lib.Dec.{ltb};
 ghost use lib.ListN.{length, getD};
-ghost use Rattle.records.specs.Lines.{lines};
-ghost use Rattle.records.specs.Padding.{PaddingIgnored};
-ghost use Rattle.records.specs.Reading.{over};
-ghost use Rattle.record_writer.specs.Writing.{Wrote};
+ghost use Rattle.text_reader.specs.Lines.{lines};
+ghost use Rattle.text_reader.specs.Padding.{PaddingIgnored};
+ghost use Rattle.text_reader.specs.Reading.{over};
+ghost use Rattle.text_writer.specs.Writing.{Wrote};
 ghost use Rattle.model.specs.Sum.{only};
 ghost use Rattle.model.specs.Signals.{phaseAfter};
 ghost use Rattle.sheet_lines.specs.Reading.{numberIn};
-ghost use Rattle.sheet_model.specs.Cycle.{hasNoTram};
-ghost use Rattle.sheet_model.specs.Promises.{WritePromises};
+ghost use Rattle.model_sheet.specs.Cycle.{hasNoTram};
+ghost use Rattle.model_sheet.specs.Promises.{WritePromises};
 ghost use Rattle.sheet_writer.specs.Tables.{LineAsked, RunAt, NextAsked, NextRun, secondsIn, TimesAsked, ColumnAsked, ColumnGot, numbersIn, lineIn, textIn, MasksAsked, NumberAsked, FillAsked, WriteAsked, TextAsked};
 ghost use Rattle.sheet_writer.specs.Stages.{TramsAsked, CyclesAsked, MasksGot, roomVerdict, Told, CyclesWritten, NetworkAsked, SheetWritten};
-use records::LineRead;
-use search::Refusal;
-use search::Verdict;
+use base_search::Refusal;
+use base_search::Verdict;
+use model_sheet::SheetAnswer;
+use network_tables::Counts;
+use network_tables::LINE_SIZE;
+use network_tables::LINK_TABLE_SIZE;
+use network_tables::MAX_SIGNALS;
+use network_tables::MAX_STEPS;
+use network_tables::MOVEMENT_TABLE_SIZE;
+use network_tables::Reading;
+use network_tables::SIGNAL_TABLE_SIZE;
+use network_tables::Stage;
+use network_tables::TIME_TABLE_SIZE;
+use network_tables::TRAM_FIELDS;
 use sheet_lines::SHEET_FIELDS;
 use sheet_lines::SHEET_TABLE_SIZE;
-use sheet_model::SheetAnswer;
-use tables::Counts;
-use tables::LINE_SIZE;
-use tables::LINK_TABLE_SIZE;
-use tables::MAX_SIGNALS;
-use tables::MAX_STEPS;
-use tables::MOVEMENT_TABLE_SIZE;
-use tables::Reading;
-use tables::SIGNAL_TABLE_SIZE;
-use tables::Stage;
-use tables::TIME_TABLE_SIZE;
-use tables::TRAM_FIELDS;
+use text_reader::LineRead;
 
 // The masks of all steps, eight a step; a mask of eight phases fits a byte.
 const MASK_TABLE_SIZE: usize = MAX_SIGNALS * MAX_STEPS;
@@ -131,11 +131,11 @@ fn has_no_tram(network: &[u8], at: usize, count: usize, r: usize) -> bool
     let mut place = at;
     let mut k = 0;
     while k < count {
-        let read = tables::read_row(network, place, b'T', &mut fields, 0, TRAM_FIELDS);
+        let read = network_tables::read_row(network, place, b'T', &mut fields, 0, TRAM_FIELDS);
         let LineRead::Next(next) = read else {
             return true;
         };
-        if tables::index(fields[0]) == r + 1 {
+        if network_tables::index(fields[0]) == r + 1 {
             return false;
         }
         place = next;
@@ -160,7 +160,7 @@ fn fill_masks(
     let counts = reading.counts;
     let mut r = 0;
     while r < counts.signals {
-        let phases = tables::phase_count(signals, r);
+        let phases = network_tables::phase_count(signals, r);
         let start = SHEET_FIELDS * r;
         if !has_no_tram(network, reading.trams_at, counts.trams, r) {
             return Verdict::Refused(Refusal::new(35, 0, r + 1));
@@ -212,7 +212,7 @@ fn line_length(masks: &[u8], counts: Counts, n: usize) -> usize
     let mut fields = [0u64; LINE_SIZE];
     fill_numbers(masks, counts, n, &mut fields);
     let end = counts.plan_width();
-    record_writer::record_length(&fields[..end])
+    text_writer::record_length(&fields[..end])
 }
 
 // Writes the `P` line of step `n`.
@@ -223,7 +223,7 @@ fn write_line(masks: &[u8], counts: Counts, n: usize, out: &mut [u8], at: usize)
     let mut fields = [0u64; LINE_SIZE];
     fill_numbers(masks, counts, n, &mut fields);
     let end = counts.plan_width();
-    record_writer::write_record(out, at, b'P', &fields[..end])
+    text_writer::write_record(out, at, b'P', &fields[..end])
 }
 
 // How long the plan text is.
@@ -316,7 +316,7 @@ pub fn plan_from_sheet(network: &[u8], sheet: &[u8], out: &mut [u8]) -> SheetAns
     match network::load_network(network, &mut links, &mut movements, &mut times) {
         Stage::Passed(reading) => {
             let counts = reading.counts;
-            plan_times::from_start(&mut times, counts.past, counts.steps);
+            step_arrivals::from_start(&mut times, counts.past, counts.steps);
             write_on_network(network, reading, sheet, &times, out)
         }
         Stage::Refused(refusal) => SheetAnswer::Refused(refusal),

@@ -6,40 +6,40 @@ use mathlib.Core.List.{List, []}
 use native.Mathlib.Omega.{arith}
 use borrow.Author.Tests.{not-true, not-false}
 use lib.ListN.{replicate, length-replicate}
-use Rattle.search.specs.declared.Refusal.{Refusal}
-use Rattle.search.specs.declared.Verdict.{Verdict}
-use Rattle.search.specs.declared.Verdict.the-variants as verdicts
-use Rattle.search.specs.Checks.{refusal, orElse, checked, verdict, Hold}
-use Rattle.search.proofs.Laws.{or-else-passes, or-else-refused, checked-passes, checked-refused, passes-of-hold, hold-of-passes}
-use Rattle.records.specs.Lines.{Line, lines}
-use Rattle.records.specs.Padding.{PaddingIgnored}
-use Rattle.records.proofs.Padding.{same-lines}
+use Rattle.base_search.specs.declared.Refusal.{Refusal}
+use Rattle.base_search.specs.declared.Verdict.{Verdict}
+use Rattle.base_search.specs.declared.Verdict.the-variants as verdicts
+use Rattle.base_search.specs.Checks.{refusal, orElse, checked, verdict, Hold}
+use Rattle.base_search.proofs.Laws.{or-else-passes, or-else-refused, checked-passes, checked-refused, passes-of-hold, hold-of-passes}
+use Rattle.text_reader.specs.Lines.{Line, lines}
+use Rattle.text_reader.specs.Padding.{PaddingIgnored}
+use Rattle.text_reader.proofs.Padding.{same-lines}
 use Rattle.model.specs.Network.{maxSignals, linkCount}
 use Rattle.model.specs.Table.{networkChecks}
 use Rattle.model.specs.Hold.{planOf}
 use Rattle.model.proofs.Tests.{and-right}
 use Rattle.model.proofs.Accepted.{valid-network}
 use Rattle.model.proofs.Limits.{link-limits}
-use Rattle.tables.specs.declared.Reading.{Reading}
-use Rattle.tables.specs.declared.Stage.{Stage}
-use Rattle.tables.specs.declared.Stage.the-variants as stages
-use Rattle.tables.specs.Fields.{signalTableSize, signalIn}
-use Rattle.tables.specs.Tables.{SignalTable, Judged}
-use Rattle.tables.proofs.Stages.{verdict-refused}
-use Rattle.tables.proofs.Tables.{signal-of-at}
+use Rattle.network_tables.specs.declared.Reading.{Reading}
+use Rattle.network_tables.specs.declared.Stage.{Stage}
+use Rattle.network_tables.specs.declared.Stage.the-variants as stages
+use Rattle.network_tables.specs.Fields.{signalTableSize, signalIn}
+use Rattle.network_tables.specs.Tables.{SignalTable, Judged}
+use Rattle.network_tables.proofs.Stages.{verdict-refused}
+use Rattle.network_tables.proofs.Tables.{signal-of-at}
 use Rattle.network.specs.Loading.{Loaded}
 use Rattle.network_signals.specs.Stages.{LoadAsked}
 use Rattle.network_signals.proofs.Passed.{signals-passed, load-zeros}
 use Rattle.plan_steps.proofs.Runs.{signals-first}
-use Rattle.half_tables.specs.Tables.{halfSize, HalfTable}
-use Rattle.half_tables.specs.Halves.{HalvesAsked, HalvesNumbered}
-use Rattle.half_tables.proofs.Halves.{zeros-at}
-use Rattle.split_model.specs.declared.SplitAnswer.{SplitAnswer}
-use Rattle.split_model.specs.declared.SplitAnswer.the-variants.{Refused}
-use Rattle.split_model.specs.Halves.{firstHalf, secondHalf}
-use Rattle.split_model.specs.Call.{inSet, formChecks, partChecks, lengths, splitChecks, splitAnswer, splitNetwork, bufferAfter}
-use Rattle.split_model.specs.Splits.{Buffers, roomOf, buffersAfter, SplitInTwo}
-use Rattle.split_model.proofs.Promises.{split-in-two}
+use Rattle.split_tables.specs.Tables.{halfSize, HalfTable}
+use Rattle.split_tables.specs.Halves.{HalvesAsked, HalvesNumbered}
+use Rattle.split_tables.proofs.Halves.{zeros-at}
+use Rattle.model_split.specs.declared.SplitAnswer.{SplitAnswer}
+use Rattle.model_split.specs.declared.SplitAnswer.the-variants.{Refused}
+use Rattle.model_split.specs.Halves.{firstHalf, secondHalf}
+use Rattle.model_split.specs.Call.{inSet, formChecks, partChecks, lengths, splitChecks, splitAnswer, splitNetwork, bufferAfter}
+use Rattle.model_split.specs.Splits.{Buffers, roomOf, buffersAfter, SplitInTwo}
+use Rattle.model_split.proofs.Promises.{split-in-two}
 use Rattle.split_checks.specs.Tables.{PartsAsked}
 use Rattle.split_checks.specs.Network.{SplitAsked, SplitTold, PartsTold}
 use Rattle.split_checks.specs.Plan.{FormAsked, FormTold}

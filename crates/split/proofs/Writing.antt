@@ -8,21 +8,21 @@ use native.Mathlib.Omega.{arith}
 use borrow.Author.Tests.{not-true, not-false, leb-true}
 use lib.Dec.{leb}
 use lib.ListN.{length}
-use Rattle.search.specs.declared.Refusal.{Refusal}
-use Rattle.search.specs.Checks.{refusal}
-use Rattle.records.specs.Lines.{Line, lines}
-use Rattle.records.specs.Reading.{over}
+use Rattle.base_search.specs.declared.Refusal.{Refusal}
+use Rattle.base_search.specs.Checks.{refusal}
+use Rattle.text_reader.specs.Lines.{Line, lines}
+use Rattle.text_reader.specs.Reading.{over}
 use Rattle.model.specs.Test.{_and_}
 use Rattle.model.specs.Hold.{planOf}
 use Rattle.model.proofs.Tests.{and-left, and-right}
-use Rattle.tables.specs.declared.Reading.{Reading}
-use Rattle.text_lines.specs.Put.{PutWhole}
-use Rattle.split_model.specs.declared.Lengths.{Lengths}
-use Rattle.split_model.specs.declared.SplitAnswer.the-variants.{Written, Refused}
-use Rattle.split_model.specs.Halves.{Half, firstHalf, secondHalf}
-use Rattle.split_model.specs.Call.{inSet, networkText₁, planText₁, networkText₂, planText₂, lengths}
-use Rattle.split_model.specs.Splits.{Buffers, roomOf}
-use Rattle.split_model.proofs.Tests.{not-both}
+use Rattle.network_tables.specs.declared.Reading.{Reading}
+use Rattle.network_writer.specs.Put.{PutWhole}
+use Rattle.model_split.specs.declared.Lengths.{Lengths}
+use Rattle.model_split.specs.declared.SplitAnswer.the-variants.{Written, Refused}
+use Rattle.model_split.specs.Halves.{Half, firstHalf, secondHalf}
+use Rattle.model_split.specs.Call.{inSet, networkText₁, planText₁, networkText₂, planText₂, lengths}
+use Rattle.model_split.specs.Splits.{Buffers, roomOf}
+use Rattle.model_split.proofs.Tests.{not-both}
 use Rattle.split_text.specs.Halves.{OneHalf, PlanAsked, PlanPut, NetworkAsked, NetworkPut}
 use Rattle.split.specs.declared.HalfLengths.{HalfLengths}
 use Rattle.split.specs.Splitting.{buffers, HalfPut, BothHalves, WriteAsked, Measured, fits, HalvesWritten}

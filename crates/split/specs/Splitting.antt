@@ -5,24 +5,24 @@ use mathlib.Core.Bool.{Bool, true, false}
 use mathlib.Core.List.{List}
 use lib.Dec.{leb}
 use lib.ListN.{length}
-use Rattle.search.specs.declared.Verdict.{Verdict}
-use Rattle.search.specs.Checks.{refusal, verdict, Hold}
-use Rattle.records.specs.Lines.{Line, lines}
-use Rattle.records.specs.Reading.{Starts, over}
+use Rattle.base_search.specs.declared.Verdict.{Verdict}
+use Rattle.base_search.specs.Checks.{refusal, verdict, Hold}
+use Rattle.text_reader.specs.Lines.{Line, lines}
+use Rattle.text_reader.specs.Reading.{Starts, over}
 use Rattle.model.specs.Test.{_and_}
 use Rattle.model.specs.Network.{linkCount, tramLine, signalLine, stepLine}
 use Rattle.model.specs.Table.{networkChecks}
 use Rattle.model.specs.Hold.{planOf}
-use Rattle.tables.specs.declared.Reading.{Reading}
-use Rattle.tables.specs.Tables.{CountsHold, LinkTable, MovementTable, SignalTable}
-use Rattle.text_lines.specs.Put.{PutWhole}
-use Rattle.split_model.specs.declared.Lengths.{Lengths}
-use Rattle.split_model.specs.declared.SplitAnswer.{SplitAnswer}
-use Rattle.split_model.specs.declared.SplitAnswer.the-variants.{Written, Refused}
-use Rattle.split_model.specs.Halves.{Half, firstHalf, secondHalf, halfNetworkText, halfPlanText}
-use Rattle.split_model.specs.Call.{inSet, canSplit, partsSignals, partChecks, networkText₁, planText₁, networkText₂, planText₂, lengths, splitNetwork}
-use Rattle.split_model.specs.Splits.{Texts, Buffers, roomOf, buffersAfter}
-use Rattle.half_tables.specs.Tables.{halfSize, HalfTable}
+use Rattle.network_tables.specs.declared.Reading.{Reading}
+use Rattle.network_tables.specs.Tables.{CountsHold, LinkTable, MovementTable, SignalTable}
+use Rattle.network_writer.specs.Put.{PutWhole}
+use Rattle.model_split.specs.declared.Lengths.{Lengths}
+use Rattle.model_split.specs.declared.SplitAnswer.{SplitAnswer}
+use Rattle.model_split.specs.declared.SplitAnswer.the-variants.{Written, Refused}
+use Rattle.model_split.specs.Halves.{Half, firstHalf, secondHalf, halfNetworkText, halfPlanText}
+use Rattle.model_split.specs.Call.{inSet, canSplit, partsSignals, partChecks, networkText₁, planText₁, networkText₂, planText₂, lengths, splitNetwork}
+use Rattle.model_split.specs.Splits.{Texts, Buffers, roomOf, buffersAfter}
+use Rattle.split_tables.specs.Tables.{halfSize, HalfTable}
 use Rattle.split_text.specs.Halves.{OneHalf, Held}
 use Rattle.split.specs.declared.HalfLengths.{HalfLengths}
 

@@ -1,20 +1,20 @@
 // Two boxes, one corridor (T-14): the call `split`.
 ghost use mathlib.Core.Path.{_≡_};
-ghost use Rattle.records.specs.Padding.{PaddingIgnored};
-ghost use Rattle.split_model.specs.Splits.{SplitInTwo};
+ghost use Rattle.text_reader.specs.Padding.{PaddingIgnored};
+ghost use Rattle.model_split.specs.Splits.{SplitInTwo};
 ghost use Rattle.split_text.specs.Halves.{NetworkAsked};
 ghost use Rattle.split.specs.Splitting.{texts, buffers, HalfPut, Passed, JudgeAsked, HalvesJudged, WriteAsked, Measured, fits, HalvesWritten, SplitGot};
-use half_tables::HALF_SIZE;
-use search::Refusal;
-use search::Verdict;
-use split_model::Lengths;
-use split_model::SplitAnswer;
-use tables::LINK_TABLE_SIZE;
-use tables::MOVEMENT_TABLE_SIZE;
-use tables::Reading;
-use tables::SIGNAL_TABLE_SIZE;
-use tables::Stage;
-use tables::TIME_TABLE_SIZE;
+use base_search::Refusal;
+use base_search::Verdict;
+use model_split::Lengths;
+use model_split::SplitAnswer;
+use network_tables::LINK_TABLE_SIZE;
+use network_tables::MOVEMENT_TABLE_SIZE;
+use network_tables::Reading;
+use network_tables::SIGNAL_TABLE_SIZE;
+use network_tables::Stage;
+use network_tables::TIME_TABLE_SIZE;
+use split_tables::HALF_SIZE;
 
 // How long the network and the plan of one half are.
 struct HalfLengths {
@@ -218,7 +218,7 @@ fn split_loaded(
 {
     let mut first = [0u32; HALF_SIZE];
     let mut second = [0u32; HALF_SIZE];
-    let above = half_tables::number_halves(
+    let above = split_tables::number_halves(
         first_half,
         reading.counts,
         links,

@@ -7,23 +7,23 @@ use native.Mathlib.Numerals.{add-one}
 use native.Mathlib.Omega.{arith}
 use lib.Dec.{eqb}
 use lib.ListN.{length}
-use Rattle.search.specs.Checks.{Hold}
-use Rattle.records.specs.Lines.{Line, lines}
-use Rattle.records.specs.Reading.{Starts}
+use Rattle.base_search.specs.Checks.{Hold}
+use Rattle.text_reader.specs.Lines.{Line, lines}
+use Rattle.text_reader.specs.Reading.{Starts}
 use Rattle.model.specs.Test.{_or_, every}
 use Rattle.model.specs.Network.{linkCount, movementCount, stepCount, stepLine, fromLink, toLink}
 use Rattle.model.specs.Table.{networkChecks}
 use Rattle.model.proofs.Tests.{every-same}
 use Rattle.model.proofs.Accepted.{ValidNetwork, valid-network}
 use Rattle.model.proofs.Limits.{movement-limits}
-use Rattle.tables.specs.declared.Counts.{Counts}
-use Rattle.tables.specs.Fields.{stepSize, linkIn, demandIn}
-use Rattle.tables.specs.Tables.{CountsHold, MovementTable, StepNumbers}
-use Rattle.tables.proofs.Tables.{from-link-at, to-link-at, demand-at}
+use Rattle.network_tables.specs.declared.Counts.{Counts}
+use Rattle.network_tables.specs.Fields.{stepSize, linkIn, demandIn}
+use Rattle.network_tables.specs.Tables.{CountsHold, MovementTable, StepNumbers}
+use Rattle.network_tables.proofs.Tables.{from-link-at, to-link-at, demand-at}
 use Rattle.network_steps.specs.Steps.{LoadAsked, Loaded}
 use Rattle.network_steps.proofs.Steps.{load-ready, loaded-numbers, loaded-next}
 use Rattle.plan_steps.proofs.Steps.{step-form}
-use Rattle.half_tables.specs.Tables.{halfSize, MovementsAsked}
+use Rattle.split_tables.specs.Tables.{halfSize, MovementsAsked}
 use Rattle.split_checks.specs.Tables.{crossesIn, demandFreeIn}
 use Rattle.split_checks.specs.Network.{StepsAsked, stepFree}
 use Rattle.split_checks.proofs.Tests.{test-fails, test-holds, all-tested}

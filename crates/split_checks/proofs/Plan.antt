@@ -10,27 +10,27 @@ use borrow.Author.Count.{below-more}
 use borrow.Author.Tests.{not-true, not-false}
 use lib.Dec.{eqb}
 use lib.ListN.{length, getD, replicate, length-replicate, List·getD-eq-default}
-use Rattle.search.specs.declared.Refusal.{Refusal}
-use Rattle.search.specs.declared.Verdict.the-variants.{Passes, Refused}
-use Rattle.search.specs.Checks.{refusal, checked, verdict}
-use Rattle.search.proofs.Laws.{or-else-passes, or-else-refused, first-stop, first-passes, checked-passes, checked-refused}
-use Rattle.records.specs.declared.LineRead.{LineRead}
-use Rattle.records.specs.declared.LineRead.the-variants.{Next, Malformed}
-use Rattle.records.specs.Lines.{noLine, lines, isRecord}
-use Rattle.records.specs.Reading.{atEnd}
-use Rattle.records.proofs.Laws.{starts-first}
+use Rattle.base_search.specs.declared.Refusal.{Refusal}
+use Rattle.base_search.specs.declared.Verdict.the-variants.{Passes, Refused}
+use Rattle.base_search.specs.Checks.{refusal, checked, verdict}
+use Rattle.base_search.proofs.Laws.{or-else-passes, or-else-refused, first-stop, first-passes, checked-passes, checked-refused}
+use Rattle.text_reader.specs.declared.LineRead.{LineRead}
+use Rattle.text_reader.specs.declared.LineRead.the-variants.{Next, Malformed}
+use Rattle.text_reader.specs.Lines.{noLine, lines, isRecord}
+use Rattle.text_reader.specs.Reading.{atEnd}
+use Rattle.text_reader.proofs.Laws.{starts-first}
 use Rattle.model.specs.declared.Signal.{Signal}
 use Rattle.model.specs.Network.{stepCount}
 use Rattle.model.specs.Table.{isForm, letterP}
 use Rattle.model.specs.Hold.{planOf}
 use Rattle.model.proofs.Accepted.{valid-network}
-use Rattle.tables.specs.declared.Counts.{Counts}
-use Rattle.tables.specs.Fields.{lineSize}
+use Rattle.network_tables.specs.declared.Counts.{Counts}
+use Rattle.network_tables.specs.Fields.{lineSize}
 use Rattle.plan_steps.specs.PlanLine.{LineAsked, LineGot}
 use Rattle.plan_steps.proofs.PlanLines.{line-bad, line-good, plan-ends}
-use Rattle.half_tables.proofs.Halves.{zeros-at}
-use Rattle.split_model.specs.Call.{formChecks}
-use Rattle.split_model.proofs.Tests.{not-both}
+use Rattle.split_tables.proofs.Halves.{zeros-at}
+use Rattle.model_split.specs.Call.{formChecks}
+use Rattle.model_split.proofs.Tests.{not-both}
 use Rattle.split_checks.specs.Plan.{FormAsked, OnNetwork, isFormed, LineForm, FormsTo, FormTold}
 
 -- ---- `line_form`

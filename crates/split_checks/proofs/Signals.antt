@@ -13,12 +13,12 @@ use Rattle.model.specs.Network.{maxSignals, linkCount, signalOf}
 use Rattle.model.proofs.Tests.{every-same}
 use Rattle.model.proofs.Accepted.{valid-network}
 use Rattle.model.proofs.Limits.{link-limits}
-use Rattle.tables.specs.Fields.{signalIn}
-use Rattle.tables.proofs.Tables.{signal-of-at}
-use Rattle.split_model.specs.Halves.{inSecond, firstHalf}
-use Rattle.split_model.specs.Call.{inSet, partsSignals}
-use Rattle.half_tables.specs.Tables.{halfSize, isIn}
-use Rattle.half_tables.proofs.Tables.{link-in, signal-in}
+use Rattle.network_tables.specs.Fields.{signalIn}
+use Rattle.network_tables.proofs.Tables.{signal-of-at}
+use Rattle.model_split.specs.Halves.{inSecond, firstHalf}
+use Rattle.model_split.specs.Call.{inSet, partsSignals}
+use Rattle.split_tables.specs.Tables.{halfSize, isIn}
+use Rattle.split_tables.proofs.Tables.{link-in, signal-in}
 use Rattle.split_checks.specs.Tables.{ownSignalBy, ownSignalIn, PartsAsked}
 use Rattle.split_checks.specs.Network.{PartsTold}
 

@@ -8,21 +8,21 @@ use native.Mathlib.Nat.{div-lt-iff-lt-mul, div-eq-of-lt}
 use native.Mathlib.Omega.{arith}
 use borrow.Author.Tests.{lt-ltb, le-ltb, eq-eqb, ne-eqb}
 use lib.Dec.{leb, ltb, eqb}
-use Rattle.search.specs.Checks.{Hold}
-use Rattle.records.specs.Lines.{Line, lines}
+use Rattle.base_search.specs.Checks.{Hold}
+use Rattle.text_reader.specs.Lines.{Line, lines}
 use Rattle.model.specs.Test.{_and_, _or_, every}
 use Rattle.model.specs.Network.{linkCount, movementCount, stepCount, pastCount, exitRate, signalOf, waitingAtStart, fromLink, toLink, demand}
 use Rattle.model.specs.Table.{networkChecks}
 use Rattle.model.proofs.Tests.{every-same}
-use Rattle.tables.specs.declared.Reading.{Reading}
-use Rattle.tables.specs.Tables.{LinkTable, MovementTable}
-use Rattle.tables.proofs.Tables.{exit-rate-at, signal-of-at, waiting-at-start-at, from-link-at, to-link-at}
-use Rattle.split_model.specs.Numbering.{rank}
-use Rattle.split_model.specs.Halves.{Half, crosses, firstHalf, secondHalf}
-use Rattle.split_model.specs.Call.{inSet, rightKind, canSplit}
-use Rattle.half_tables.specs.Tables.{isIn, HalfTable}
-use Rattle.half_tables.proofs.Tables.{one-crosses, link-in}
-use Rattle.half_tables.proofs.Halves.{rank-ext}
+use Rattle.network_tables.specs.declared.Reading.{Reading}
+use Rattle.network_tables.specs.Tables.{LinkTable, MovementTable}
+use Rattle.network_tables.proofs.Tables.{exit-rate-at, signal-of-at, waiting-at-start-at, from-link-at, to-link-at}
+use Rattle.model_split.specs.Numbering.{rank}
+use Rattle.model_split.specs.Halves.{Half, crosses, firstHalf, secondHalf}
+use Rattle.model_split.specs.Call.{inSet, rightKind, canSplit}
+use Rattle.split_tables.specs.Tables.{isIn, HalfTable}
+use Rattle.split_tables.proofs.Tables.{one-crosses, link-in}
+use Rattle.split_tables.proofs.Halves.{rank-ext}
 use Rattle.split_checks.specs.Tables.{noneWaitIn, crossesIn, standsApartIn, rightKindIn, demandFreeIn, KindAsked}
 use Rattle.split_checks.specs.Network.{StepsAsked, stepFree, SplitAsked, SplitTold}
 use Rattle.split_checks.proofs.Tests.{steps-apart, tests-both, some-is, regrouped, excused, grouped}

@@ -9,8 +9,8 @@ use borrow.Author.Tests.{not-true, not-false, le-leb, ne-eqb}
 use lib.Dec.{leb, eqb}
 use Rattle.model.specs.Test.{_and_, _or_, every}
 use Rattle.model.proofs.Tests.{and-left, and-right, or-cases, every-at}
-use Rattle.network_text.proofs.Tests.{and-both, every-of}
-use Rattle.split_model.proofs.Tests.{either-way, not-both, true-not, or-left, or-right}
+use Rattle.model_text.proofs.Tests.{and-both, every-of}
+use Rattle.model_split.proofs.Tests.{either-way, not-both, true-not, or-left, or-right}
 
 -- two tests that hold together are equal
 pub same-test : (a b : Bool) → (a ≡ true → b ≡ true) → (b ≡ true → a ≡ true) → a ≡ b

@@ -5,18 +5,18 @@ use mathlib.Core.Bool.{Bool}
 use mathlib.Core.List.{List}
 use lib.Dec.{ltb}
 use lib.ListN.{length}
-use Rattle.search.specs.Checks.{Hold}
-use Rattle.records.specs.Lines.{Line, lines}
-use Rattle.records.specs.Reading.{Starts}
+use Rattle.base_search.specs.Checks.{Hold}
+use Rattle.text_reader.specs.Lines.{Line, lines}
+use Rattle.text_reader.specs.Reading.{Starts}
 use Rattle.model.specs.Test.{_and_, every}
 use Rattle.model.specs.Network.{linkCount, movementCount, stepLine, demand}
 use Rattle.model.specs.Table.{networkChecks}
-use Rattle.tables.specs.declared.Counts.{Counts}
-use Rattle.tables.specs.declared.Reading.{Reading}
-use Rattle.tables.specs.Tables.{CountsHold, LinkTable, MovementTable}
-use Rattle.split_model.specs.Halves.{firstHalf, secondHalf}
-use Rattle.split_model.specs.Call.{inSet, canSplit, partsSignals}
-use Rattle.half_tables.specs.Tables.{halfSize, HalfTable}
+use Rattle.network_tables.specs.declared.Counts.{Counts}
+use Rattle.network_tables.specs.declared.Reading.{Reading}
+use Rattle.network_tables.specs.Tables.{CountsHold, LinkTable, MovementTable}
+use Rattle.model_split.specs.Halves.{firstHalf, secondHalf}
+use Rattle.model_split.specs.Call.{inSet, canSplit, partsSignals}
+use Rattle.split_tables.specs.Tables.{halfSize, HalfTable}
 use Rattle.split_checks.specs.Tables.{demandFreeIn}
 
 -- the `S` lines of a network that has passed start at a place

@@ -4,21 +4,21 @@ use mathlib.Core.Path.{_≡_}
 use mathlib.Core.Bool.{Bool, true, false}
 use mathlib.Core.List.{List}
 use lib.ListN.{length}
-use Rattle.search.specs.declared.Verdict.{Verdict}
-use Rattle.search.specs.Checks.{verdict, Hold}
-use Rattle.records.specs.declared.LineRead.{LineRead}
-use Rattle.records.specs.declared.LineRead.the-variants.{Next, Malformed}
-use Rattle.records.specs.Lines.{lines}
+use Rattle.base_search.specs.declared.Verdict.{Verdict}
+use Rattle.base_search.specs.Checks.{verdict, Hold}
+use Rattle.text_reader.specs.declared.LineRead.{LineRead}
+use Rattle.text_reader.specs.declared.LineRead.the-variants.{Next, Malformed}
+use Rattle.text_reader.specs.Lines.{lines}
 use Rattle.model.specs.Network.{linkCount, signalCount, movementCount, stepCount}
 use Rattle.model.specs.Table.{isForm, letterP, networkChecks}
 use Rattle.model.specs.Hold.{planOf}
-use Rattle.tables.specs.declared.Counts.{Counts}
-use Rattle.tables.specs.Places.{Few}
-use Rattle.tables.specs.Fields.{signalTableSize}
-use Rattle.tables.specs.Tables.{CountsHold, SignalTable}
+use Rattle.network_tables.specs.declared.Counts.{Counts}
+use Rattle.network_tables.specs.Places.{Few}
+use Rattle.network_tables.specs.Fields.{signalTableSize}
+use Rattle.network_tables.specs.Tables.{CountsHold, SignalTable}
 use Rattle.plan_steps.specs.PlanLine.{PlanAt}
 use Rattle.step_signals.specs.Ready.{AllReady}
-use Rattle.split_model.specs.Call.{formChecks}
+use Rattle.model_split.specs.Call.{formChecks}
 
 pub record FormAsked (signals : List ℕ) (counts : Counts) : Type 0 where
   pub few : Few counts

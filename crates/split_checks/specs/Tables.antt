@@ -7,8 +7,8 @@ use lib.Dec.{eqb}
 use lib.ListN.{length, getD}
 use Rattle.model.specs.Test.{_and_, _or_, every}
 use Rattle.model.specs.Network.{maxLinks, maxSignals, maxMovements}
-use Rattle.tables.specs.Fields.{linkTableSize, movementTableSize, waitingAtStartIn, exitRateIn, signalIn, linkIn}
-use Rattle.half_tables.specs.Tables.{signalsAt, halfSize, isIn, linksIn, MovementsAsked}
+use Rattle.network_tables.specs.Fields.{linkTableSize, movementTableSize, waitingAtStartIn, exitRateIn, signalIn, linkIn}
+use Rattle.split_tables.specs.Tables.{signalsAt, halfSize, isIn, linksIn, MovementsAsked}
 
 -- nobody waits at link i
 abbrev pub noneWaitIn : List ℕ → ℕ → Bool

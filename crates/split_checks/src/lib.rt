@@ -2,22 +2,22 @@
 ghost use mathlib.Core.Path.{_≡_};
 ghost use Prim.Native.Nat.{_-_, _≤_, _<_};
 ghost use lib.ListN.{length};
-ghost use Rattle.records.specs.Lines.{lines};
+ghost use Rattle.text_reader.specs.Lines.{lines};
 ghost use Rattle.model.specs.Test.{every};
 ghost use Rattle.model.specs.Network.{maxLinks, maxSignals, stepCount};
-ghost use Rattle.tables.specs.Fields.{linkTableSize, stepSize, linkIn, demandIn};
-ghost use Rattle.half_tables.specs.Tables.{halfSize, MovementsAsked};
+ghost use Rattle.network_tables.specs.Fields.{linkTableSize, stepSize, linkIn, demandIn};
+ghost use Rattle.split_tables.specs.Tables.{halfSize, MovementsAsked};
 ghost use Rattle.split_checks.specs.Tables.{noneWaitIn, standsApartIn, rightKindIn, demandFreeIn, ownSignalBy, PlaceAsked, KindAsked, PartsAsked};
 ghost use Rattle.split_checks.specs.Network.{StepsAsked, stepFree, SplitAsked, SplitTold, PartsTold};
 ghost use Rattle.split_checks.specs.Plan.{FormAsked, LineForm, FormTold};
-use half_tables::SIGNALS_AT;
-use records::LineRead;
-use search::Refusal;
-use search::Verdict;
-use tables::Counts;
-use tables::LINE_SIZE;
-use tables::Reading;
-use tables::STEP_SIZE;
+use base_search::Refusal;
+use base_search::Verdict;
+use network_tables::Counts;
+use network_tables::LINE_SIZE;
+use network_tables::Reading;
+use network_tables::STEP_SIZE;
+use split_tables::SIGNALS_AT;
+use text_reader::LineRead;
 
 // Whether nobody waits at the entries.
 fn nobody_waits(links: &[u32], count: usize) -> bool
@@ -26,7 +26,7 @@ fn nobody_waits(links: &[u32], count: usize) -> bool
 {
     let mut i = 0;
     while i < count {
-        if tables::waiting_at_start(links, i) != 0 {
+        if network_tables::waiting_at_start(links, i) != 0 {
             return false;
         }
         i += 1;
@@ -39,7 +39,7 @@ fn link_place(movements: &[u32], j: usize, side: usize) -> usize
     requires { ⌜ PlaceAsked (now movements) j side ⌝ }
     ensures { λ r. ⌜ (r ≡ linkIn (now (movements .entry)) side j - 1) × (r < maxLinks) ⌝ }
 {
-    tables::index(tables::link_of(movements, j, side)) - 1
+    network_tables::index(network_tables::link_of(movements, j, side)) - 1
 }
 
 // Whether movement k is j itself, or neither leaves the link that border movement j leaves nor is a border movement into the link that j enters.
@@ -47,10 +47,12 @@ fn stands_apart(movements: &[u32], half: &[u32], count: usize, j: usize, k: usiz
     requires { ⌜ MovementsAsked (now movements) (now half) count × (j < count) × (k < count) ⌝ }
     ensures { λ r. ⌜ r ≡ standsApartIn (now (movements .entry)) (now (half .entry)) j k ⌝ }
 {
-    let other = half_tables::links_in(movements, half, k) != 1;
+    let other = split_tables::links_in(movements, half, k) != 1;
     (k == j)
-        | (tables::link_of(movements, k, 0) != tables::link_of(movements, j, 0))
-            & (other | (tables::link_of(movements, k, 1) != tables::link_of(movements, j, 1)))
+        | (network_tables::link_of(movements, k, 0) != network_tables::link_of(movements, j, 0))
+            & (other
+                | (network_tables::link_of(movements, k, 1)
+                    != network_tables::link_of(movements, j, 1)))
 }
 
 // Whether all movements stand apart from border movement j.
@@ -73,12 +75,12 @@ fn right_kind(links: &[u32], movements: &[u32], half: &[u32], count: usize, j: u
     requires { ⌜ KindAsked (now links) (now movements) (now half) count × (j < count) ⌝ }
     ensures { λ r. ⌜ r ≡ rightKindIn (now (links .entry)) (now (movements .entry)) (now (half .entry)) count j ⌝ }
 {
-    if half_tables::links_in(movements, half, j) != 1 {
+    if split_tables::links_in(movements, half, j) != 1 {
         return true;
     }
     let from = link_place(movements, j, 0);
-    (tables::signal_of(links, from) == 0)
-        & (tables::exit_rate(links, from) == 0)
+    (network_tables::signal_of(links, from) == 0)
+        & (network_tables::exit_rate(links, from) == 0)
         & stands_alone(movements, half, count, j)
 }
 
@@ -103,7 +105,7 @@ fn demand_free(step: &[u32], movements: &[u32], half: &[u32], count: usize, j: u
     ensures { λ r. ⌜ r ≡ demandFreeIn (demandIn (now (step .entry))) (now (movements .entry)) (now (half .entry)) j ⌝ }
 {
     let to = link_place(movements, j, 1);
-    (half_tables::links_in(movements, half, j) != 1) | (tables::demand(step, to) == 0)
+    (split_tables::links_in(movements, half, j) != 1) | (network_tables::demand(step, to) == 0)
 }
 
 // Whether all movements are, in one step.
@@ -156,8 +158,8 @@ pub fn can_split(
     (above == 0)
         & (counts.past == 0)
         & nobody_waits(links, counts.links)
-        & (half_tables::count_in(first, 0, counts.links) != 0)
-        & (half_tables::count_in(second, 0, counts.links) != 0)
+        & (split_tables::count_in(first, 0, counts.links) != 0)
+        & (split_tables::count_in(second, 0, counts.links) != 0)
         & right_kinds(links, movements, first, counts.movements)
         & steps_free(network, reading.steps_at, counts, movements, first)
 }
@@ -180,7 +182,7 @@ pub fn parts_signals(links: &[u32], half: &[u32], count: usize) -> bool
 {
     let mut i = 0;
     while i < count {
-        let signal = tables::index(tables::signal_of(links, i));
+        let signal = network_tables::index(network_tables::signal_of(links, i));
         if !own_signal(half, half[i], signal) {
             return false;
         }
@@ -213,7 +215,7 @@ pub fn plan_form(plan: &[u8], signals: &[u32], counts: Counts) -> Verdict
         at = next;
         n += 1;
     }
-    if !records::is_end(plan, at) {
+    if !text_reader::is_end(plan, at) {
         return Verdict::Refused(Refusal::new(9, counts.steps + 1, 0));
     }
     Verdict::Passes

@@ -4,20 +4,20 @@ use mathlib.Core.Path.{_≡_, refl, ap}
 use mathlib.Core.List.{List}
 use native.Mathlib.Omega.{arith}
 use lib.ListN.{length, getD}
-use Rattle.records.specs.declared.LineRead.{LineRead}
-use Rattle.records.specs.declared.LineRead.the-variants.{Next, Malformed}
-use Rattle.records.specs.Lines.{lines}
+use Rattle.text_reader.specs.declared.LineRead.{LineRead}
+use Rattle.text_reader.specs.declared.LineRead.the-variants.{Next, Malformed}
+use Rattle.text_reader.specs.Lines.{lines}
 use Rattle.model.specs.declared.Signal.{Signal}
 use Rattle.model.specs.Network.{signalCount, stepCount, signal}
 use Rattle.model.specs.Hold.{planOf}
 use Rattle.model.proofs.Accepted.{ValidNetwork, valid-network}
-use Rattle.tables.specs.declared.Counts.{Counts}
-use Rattle.tables.specs.Fields.{tableSignal, lineSize}
-use Rattle.tables.specs.Tables.{PlanNumbers}
+use Rattle.network_tables.specs.declared.Counts.{Counts}
+use Rattle.network_tables.specs.Fields.{tableSignal, lineSize}
+use Rattle.network_tables.specs.Tables.{PlanNumbers}
 use Rattle.plan_steps.specs.PlanLine.{PlanAt, LineAsked, LineGot}
 use Rattle.plan_steps.proofs.PlanLines.{line-bad, line-numbers, next-starts}
 use Rattle.plan_steps.proofs.Runs.{signals-first}
-use Rattle.split_model.proofs.Tests.{not-both}
+use Rattle.model_split.proofs.Tests.{not-both}
 use Rattle.split_text.specs.Halves.{Held, PlanLineRead}
 
 -- ---- `read_plan`

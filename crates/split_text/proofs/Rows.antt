@@ -5,34 +5,34 @@ use mathlib.Core.Bool.{Bool}
 use mathlib.Core.List.{List, [], _∷_}
 use native.Mathlib.Omega.{arith}
 use lib.ListN.{length, getD, set, take, replicate, length-replicate}
-use Rattle.records.specs.Lines.{Line, lines}
-use Rattle.records.specs.Reading.{over}
-use Rattle.record_writer.specs.Records.{recordText}
+use Rattle.text_reader.specs.Lines.{Line, lines}
+use Rattle.text_reader.specs.Reading.{over}
+use Rattle.text_writer.specs.Records.{recordText}
 use Rattle.model.specs.Network.{maxLinks, movementCount, onTimeline, timelineLine, stepLine}
 use Rattle.model.specs.Table.{letterP, letterS}
 use Rattle.model.specs.Hold.{planOf}
 use Rattle.model.proofs.Accepted.{ValidNetwork, valid-network}
 use Rattle.model.proofs.Limits.{movement-limits}
-use Rattle.tables.specs.declared.Counts.{Counts}
-use Rattle.tables.specs.Fields.{stepSize, lineSize, linkIn}
-use Rattle.tables.specs.Tables.{StepNumbers}
-use Rattle.tables.proofs.Tables.{from-link-at, to-link-at}
-use Rattle.text_lines.specs.declared.Places.{Places}
-use Rattle.text_lines.specs.Put.{Put}
-use Rattle.text_lines.specs.Reading.{ReadAgain}
-use Rattle.text_lines.proofs.Filling.{over-next, front-is}
-use Rattle.text_lines.proofs.Put.{part-size}
+use Rattle.network_tables.specs.declared.Counts.{Counts}
+use Rattle.network_tables.specs.Fields.{stepSize, lineSize, linkIn}
+use Rattle.network_tables.specs.Tables.{StepNumbers}
+use Rattle.network_tables.proofs.Tables.{from-link-at, to-link-at}
+use Rattle.network_writer.specs.declared.Places.{Places}
+use Rattle.network_writer.specs.Put.{Put}
+use Rattle.network_writer.specs.Reading.{ReadAgain}
+use Rattle.network_writer.proofs.Filling.{over-next, front-is}
+use Rattle.network_writer.proofs.Put.{part-size}
 use Rattle.plan_steps.proofs.Steps.{step-form}
-use Rattle.split_model.specs.Numbering.{picked}
-use Rattle.split_model.specs.Halves.{inField}
-use Rattle.split_model.specs.Call.{inSet}
-use Rattle.split_model.proofs.Numbering.{rank-le, picked-length}
-use Rattle.split_model.proofs.Fits.{demand-small, texts-small}
-use Rattle.half_tables.specs.Tables.{signalsAt, movementsAt, halfSize, isIn, MovementsAsked}
-use Rattle.half_tables.proofs.Halves.{zeros-at}
-use Rattle.half_rows.specs.Border.{BorderAsked, Bordered}
-use Rattle.half_rows.specs.Filling.{Filled, FillAsked, SumsAsked}
-use Rattle.half_rows.proofs.Filling.{fills-more}
+use Rattle.model_split.specs.Numbering.{picked}
+use Rattle.model_split.specs.Halves.{inField}
+use Rattle.model_split.specs.Call.{inSet}
+use Rattle.model_split.proofs.Numbering.{rank-le, picked-length}
+use Rattle.model_split.proofs.Fits.{demand-small, texts-small}
+use Rattle.split_tables.specs.Tables.{signalsAt, movementsAt, halfSize, isIn, MovementsAsked}
+use Rattle.split_tables.proofs.Halves.{zeros-at}
+use Rattle.split_lines.specs.Border.{BorderAsked, Bordered}
+use Rattle.split_lines.specs.Filling.{Filled, FillAsked, SumsAsked}
+use Rattle.split_lines.proofs.Filling.{fills-more}
 use Rattle.split_text.specs.declared.StepPlaces.{StepPlaces}
 use Rattle.split_text.specs.Halves.{Held, PlanLineRead, StepPut, LinePut}
 use Rattle.split_text.proofs.Reading.{line-read}

@@ -9,9 +9,9 @@ use native.Mathlib.Omega.{arith}
 use borrow.Author.Tests.{eq-eqb, ne-eqb}
 use lib.Dec.{eqb}
 use lib.ListN.{getD}
-use Rattle.search.specs.Checks.{Hold}
-use Rattle.records.specs.Field.{largest}
-use Rattle.records.specs.Lines.{Line, number}
+use Rattle.base_search.specs.Checks.{Hold}
+use Rattle.text_reader.specs.Field.{largest}
+use Rattle.text_reader.specs.Lines.{Line, number}
 use Rattle.model.specs.Test.{_and_}
 use Rattle.model.specs.Sum.{sum, only}
 use Rattle.model.specs.Network.{entry, linkCount, signalCount, movementCount, tramCount, tramLine, signalOf, exitRate, fromLink, toLink, rate, stepLength, demand}
@@ -22,22 +22,22 @@ use Rattle.model.proofs.Tests.{and-left, and-right}
 use Rattle.model.proofs.Sums.{sum-ext}
 use Rattle.model.proofs.Accepted.{ValidNetwork, valid-network}
 use Rattle.model.proofs.Limits.{counts, link-limits, movement-limits}
-use Rattle.tables.specs.Fields.{linkIn}
-use Rattle.tables.specs.Tables.{LinkTable, MovementTable, StepNumbers, PlanNumbers}
-use Rattle.tables.proofs.Tables.{capacity-at, travel-time-at, exit-rate-at, signal-of-at, phase-mask-at, standing-at, waiting-at-start-at, from-link-at, to-link-at, rate-at, share-at, step-length-at, demand-at, shown-mask-at, admitted-at, let-out-at, moved-at}
-use Rattle.network_text.proofs.Formed.{Formed, formed-of-holds}
-use Rattle.split_model.specs.Numbering.{rank, picked}
-use Rattle.split_model.specs.Halves.{Half, inField, linkNumber, signalNumber, inside, follows, tramNumbers, movementNumbers, crosses, crossingInto, crossingFrom, borderRate, borderIn, borderOut, firstHalf, secondHalf, linkNumbers, stepNumbers, planNumbers}
-use Rattle.split_model.specs.Call.{inSet}
-use Rattle.split_model.proofs.Same.{Apart, in-field}
-use Rattle.split_model.proofs.Border.{Splittable, splittable, first-apart, second-apart}
-use Rattle.split_model.proofs.HalfValid.{exit-small}
-use Rattle.split_model.proofs.Trams.{signal-there}
-use Rattle.half_tables.specs.Tables.{signalsAt, movementsAt, isIn, linksIn, HalfTable}
-use Rattle.half_tables.proofs.Tables.{one-crosses, link-in, signal-in, movement-in}
-use Rattle.half_rows.specs.Border.{borderSum, Bordered}
-use Rattle.half_lines.specs.Rows.{signalNumberIn, tramIn, tramRow, linkRow, movementRow}
-use Rattle.half_lines.proofs.Picked.{picked-same}
+use Rattle.network_tables.specs.Fields.{linkIn}
+use Rattle.network_tables.specs.Tables.{LinkTable, MovementTable, StepNumbers, PlanNumbers}
+use Rattle.network_tables.proofs.Tables.{capacity-at, travel-time-at, exit-rate-at, signal-of-at, phase-mask-at, standing-at, waiting-at-start-at, from-link-at, to-link-at, rate-at, share-at, step-length-at, demand-at, shown-mask-at, admitted-at, let-out-at, moved-at}
+use Rattle.model_text.proofs.Formed.{Formed, formed-of-holds}
+use Rattle.model_split.specs.Numbering.{rank, picked}
+use Rattle.model_split.specs.Halves.{Half, inField, linkNumber, signalNumber, inside, follows, tramNumbers, movementNumbers, crosses, crossingInto, crossingFrom, borderRate, borderIn, borderOut, firstHalf, secondHalf, linkNumbers, stepNumbers, planNumbers}
+use Rattle.model_split.specs.Call.{inSet}
+use Rattle.model_split.proofs.Same.{Apart, in-field}
+use Rattle.model_split.proofs.Border.{Splittable, splittable, first-apart, second-apart}
+use Rattle.model_split.proofs.HalfValid.{exit-small}
+use Rattle.model_split.proofs.Trams.{signal-there}
+use Rattle.split_tables.specs.Tables.{signalsAt, movementsAt, isIn, linksIn, HalfTable}
+use Rattle.split_tables.proofs.Tables.{one-crosses, link-in, signal-in, movement-in}
+use Rattle.split_lines.specs.Border.{borderSum, Bordered}
+use Rattle.split_lines.specs.Rows.{signalNumberIn, tramIn, tramRow, linkRow, movementRow}
+use Rattle.split_lines.proofs.Picked.{picked-same}
 use Rattle.split_text.specs.Halves.{OneHalf}
 
 module _ {network : List Line} (holds : Hold (networkChecks network)) {set : ℕ} {h : Half} {half : List ℕ} (one : OneHalf network set h half) where

@@ -5,21 +5,21 @@ use mathlib.Core.List.{List}
 use native.Mathlib.Numerals.{add-one}
 use native.Mathlib.Omega.{arith}
 use lib.ListN.{length}
-use Rattle.records.specs.Lines.{lines}
-use Rattle.records.specs.Reading.{Starts}
-use Rattle.records.proofs.Laws.{starts-first}
-use Rattle.record_writer.specs.Records.{recordTexts}
+use Rattle.text_reader.specs.Lines.{lines}
+use Rattle.text_reader.specs.Reading.{Starts}
+use Rattle.text_reader.proofs.Laws.{starts-first}
+use Rattle.text_writer.specs.Records.{recordTexts}
 use Rattle.model.specs.Network.{stepCount, stepLine}
 use Rattle.model.specs.Table.{letterS, letterP}
 use Rattle.model.specs.Hold.{planOf}
-use Rattle.tables.specs.declared.Counts.{Counts}
-use Rattle.text_lines.specs.declared.Places.{Places}
-use Rattle.text_lines.specs.Put.{Put}
-use Rattle.text_lines.proofs.Put.{lines-none, lines-more}
-use Rattle.text_lines.proofs.Texts.{put-first}
+use Rattle.network_tables.specs.declared.Counts.{Counts}
+use Rattle.network_writer.specs.declared.Places.{Places}
+use Rattle.network_writer.specs.Put.{Put}
+use Rattle.network_writer.proofs.Put.{lines-none, lines-more}
+use Rattle.network_writer.proofs.Texts.{put-first}
 use Rattle.plan_steps.specs.PlanLine.{PlanAt}
-use Rattle.split_model.specs.Halves.{Half, stepNumbers, planNumbers, halfPlanText}
-use Rattle.split_model.specs.Call.{inSet}
+use Rattle.model_split.specs.Halves.{Half, stepNumbers, planNumbers, halfPlanText}
+use Rattle.model_split.specs.Call.{inSet}
 use Rattle.split_text.specs.declared.StepPlaces.{StepPlaces}
 use Rattle.split_text.specs.Halves.{OneHalf, Held, StepAsked, StepPut, StepsAsked, StepsPut, PlanAsked, PlanLineAsked, LinePut, PlanPut}
 

@@ -5,9 +5,9 @@ use mathlib.Core.List.{List, _++_}
 use native.Mathlib.Omega.{arith}
 use borrow.Author.Tests.{leb-true}
 use lib.ListN.{length}
-use Rattle.records.specs.Lines.{Line, lines}
-use Rattle.records.specs.Reading.{over}
-use Rattle.record_writer.specs.Records.{recordText, recordTexts}
+use Rattle.text_reader.specs.Lines.{Line, lines}
+use Rattle.text_reader.specs.Reading.{over}
+use Rattle.text_writer.specs.Records.{recordText, recordTexts}
 use Rattle.model.specs.Test.{within}
 use Rattle.model.specs.Network.{maxLinks, maxSignals, maxTrams, linkCount, signalCount, movementCount, tramCount}
 use Rattle.model.specs.Rules.{validPhases}
@@ -16,26 +16,26 @@ use Rattle.model.specs.Hold.{planOf}
 use Rattle.model.proofs.Tests.{and-right}
 use Rattle.model.proofs.Accepted.{ValidNetwork, valid-network}
 use Rattle.model.proofs.Limits.{link-limits}
-use Rattle.tables.specs.declared.Counts.{Counts}
-use Rattle.tables.specs.declared.Reading.{Reading}
-use Rattle.tables.specs.Places.{Few}
-use Rattle.tables.proofs.Tables.{signal-of-at}
-use Rattle.text_lines.specs.Put.{longest, Put, Early}
-use Rattle.text_lines.specs.Texts.{lineTexts}
-use Rattle.text_lines.proofs.Put.{puts-more}
-use Rattle.text_lines.proofs.Texts.{put-first}
-use Rattle.network_text.specs.NetworkText.{countNumbers, networkText}
-use Rattle.network_text.proofs.Formed.{Formed, formed-of-holds}
-use Rattle.split_model.specs.Numbering.{rank, picked}
-use Rattle.split_model.specs.Halves.{Half, inside, follows, tramNumbers, signalNumbers, movementNumbers, linkNumbers, stepNumbers, halfNumbers, halfNetworkText}
-use Rattle.split_model.specs.Call.{inSet}
-use Rattle.split_model.proofs.Numbering.{picked-length}
-use Rattle.half_tables.specs.Tables.{signalsAt, movementsAt, isIn}
-use Rattle.half_tables.proofs.Tables.{link-in, signal-in, movement-in}
-use Rattle.half_tables.proofs.Halves.{rank-ext}
-use Rattle.half_rows.specs.Border.{Bordered}
-use Rattle.half_lines.specs.Rows.{countRow, tramIn, tramRow, signalRow, linkRow, movementRow, TramsAsked, SignalsAsked, LinksAsked, MovementsAsked}
-use Rattle.half_lines.proofs.Picked.{picked-same, picked-texts}
+use Rattle.network_tables.specs.declared.Counts.{Counts}
+use Rattle.network_tables.specs.declared.Reading.{Reading}
+use Rattle.network_tables.specs.Places.{Few}
+use Rattle.network_tables.proofs.Tables.{signal-of-at}
+use Rattle.network_writer.specs.Put.{longest, Put, Early}
+use Rattle.network_writer.specs.Texts.{lineTexts}
+use Rattle.network_writer.proofs.Put.{puts-more}
+use Rattle.network_writer.proofs.Texts.{put-first}
+use Rattle.model_text.specs.NetworkText.{countNumbers, networkText}
+use Rattle.model_text.proofs.Formed.{Formed, formed-of-holds}
+use Rattle.model_split.specs.Numbering.{rank, picked}
+use Rattle.model_split.specs.Halves.{Half, inside, follows, tramNumbers, signalNumbers, movementNumbers, linkNumbers, stepNumbers, halfNumbers, halfNetworkText}
+use Rattle.model_split.specs.Call.{inSet}
+use Rattle.model_split.proofs.Numbering.{picked-length}
+use Rattle.split_tables.specs.Tables.{signalsAt, movementsAt, isIn}
+use Rattle.split_tables.proofs.Tables.{link-in, signal-in, movement-in}
+use Rattle.split_tables.proofs.Halves.{rank-ext}
+use Rattle.split_lines.specs.Border.{Bordered}
+use Rattle.split_lines.specs.Rows.{countRow, tramIn, tramRow, signalRow, linkRow, movementRow, TramsAsked, SignalsAsked, LinksAsked, MovementsAsked}
+use Rattle.split_lines.proofs.Picked.{picked-same, picked-texts}
 use Rattle.split_text.specs.Halves.{OneHalf, StepsAsked, StepsPut, NetworkAsked, NetworkPut}
 use Rattle.split_text.proofs.Same.{named-signal, tram-follows, tram-same, movement-same, link-same}
 use Rattle.split_text.proofs.Rows.{ends-asked, sums-asked}

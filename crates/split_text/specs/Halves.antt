@@ -4,24 +4,24 @@ use mathlib.Core.Path.{_≡_}
 use mathlib.Core.Bool.{true}
 use mathlib.Core.Logic.{_⊎_}
 use mathlib.Core.List.{List}
-use Rattle.search.specs.Checks.{Hold}
-use Rattle.records.specs.declared.LineRead.{LineRead}
-use Rattle.records.specs.declared.LineRead.the-variants.{Next}
-use Rattle.records.specs.Lines.{Line, lines}
-use Rattle.records.specs.Reading.{Starts}
-use Rattle.record_writer.specs.Records.{recordText, recordTexts}
+use Rattle.base_search.specs.Checks.{Hold}
+use Rattle.text_reader.specs.declared.LineRead.{LineRead}
+use Rattle.text_reader.specs.declared.LineRead.the-variants.{Next}
+use Rattle.text_reader.specs.Lines.{Line, lines}
+use Rattle.text_reader.specs.Reading.{Starts}
+use Rattle.text_writer.specs.Records.{recordText, recordTexts}
 use Rattle.model.specs.Network.{linkCount, signalCount, movementCount, stepCount, tramLine, signalLine, stepLine}
 use Rattle.model.specs.Table.{isForm, letterP, letterS, networkChecks}
 use Rattle.model.specs.Hold.{planOf}
-use Rattle.tables.specs.declared.Counts.{Counts}
-use Rattle.tables.specs.declared.Reading.{Reading}
-use Rattle.tables.specs.Tables.{CountsHold, LinkTable, MovementTable, SignalTable}
-use Rattle.text_lines.specs.declared.Places.{Places}
-use Rattle.text_lines.specs.Put.{Put, PutWhole, Early}
+use Rattle.network_tables.specs.declared.Counts.{Counts}
+use Rattle.network_tables.specs.declared.Reading.{Reading}
+use Rattle.network_tables.specs.Tables.{CountsHold, LinkTable, MovementTable, SignalTable}
+use Rattle.network_writer.specs.declared.Places.{Places}
+use Rattle.network_writer.specs.Put.{Put, PutWhole, Early}
 use Rattle.plan_steps.specs.PlanLine.{PlanAt, LineGot}
-use Rattle.split_model.specs.Halves.{Half, firstHalf, secondHalf, stepNumbers, planNumbers, halfNetworkText, halfPlanText}
-use Rattle.split_model.specs.Call.{inSet, canSplit, partsSignals}
-use Rattle.half_tables.specs.Tables.{HalfTable}
+use Rattle.model_split.specs.Halves.{Half, firstHalf, secondHalf, stepNumbers, planNumbers, halfNetworkText, halfPlanText}
+use Rattle.model_split.specs.Call.{inSet, canSplit, partsSignals}
+use Rattle.split_tables.specs.Tables.{HalfTable}
 use Rattle.split_text.specs.declared.StepPlaces.{StepPlaces}
 
 -- one of the two halves of a network that can be split, by its table

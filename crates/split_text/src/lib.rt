@@ -2,15 +2,15 @@
 // text would end is told in any case.
 ghost use Rattle.plan_steps.specs.PlanLine.{LineAsked};
 ghost use Rattle.split_text.specs.Halves.{PlanLineRead, StepAsked, StepPut, StepsAsked, StepsPut, PlanAsked, PlanLineAsked, LinePut, PlanPut, NetworkAsked, NetworkPut};
-use half_tables::MOVEMENTS_AT;
-use half_tables::SIGNALS_AT;
-use records::LineRead;
-use tables::Counts;
-use tables::LINE_SIZE;
-use tables::MAX_LINKS;
-use tables::Reading;
-use tables::STEP_SIZE;
-use text_lines::Places;
+use network_tables::Counts;
+use network_tables::LINE_SIZE;
+use network_tables::MAX_LINKS;
+use network_tables::Reading;
+use network_tables::STEP_SIZE;
+use network_writer::Places;
+use split_tables::MOVEMENTS_AT;
+use split_tables::SIGNALS_AT;
+use text_reader::LineRead;
 
 // Where the next `S` line and the next `P` line are read, and where the next line is put.
 pub struct StepPlaces {
@@ -48,10 +48,10 @@ fn put_step(
     let mut line = [0u32; LINE_SIZE];
     let mut into = [0u64; MAX_LINKS];
     let mut row = [0u32; STEP_SIZE];
-    let next = text_lines::read_again(network, places.step, b'S', &mut step, 1 + counts.links);
+    let next = network_writer::read_again(network, places.step, b'S', &mut step, 1 + counts.links);
     let after = read_plan(plan, places.plan, signals, counts, &mut line);
     let moved = counts.signals + 2 * counts.links;
-    half_rows::add_border(
+    split_lines::add_border(
         movements,
         half,
         counts.movements,
@@ -62,8 +62,8 @@ fn put_step(
         &mut into,
     );
     row[0] = step[0];
-    let width = half_rows::fill_sums(&step, 1, &into, half, counts.links, &mut row, 1);
-    let at = text_lines::put_line(b'S', &row[..width], out, places.at);
+    let width = split_lines::fill_sums(&step, 1, &into, half, counts.links, &mut row, 1);
+    let at = network_writer::put_line(b'S', &row[..width], out, places.at);
     StepPlaces {
         step: next,
         plan: after,
@@ -92,7 +92,7 @@ fn put_plan_line(
     let admitted = counts.signals;
     let let_out = counts.signals + counts.links;
     let moved = counts.signals + 2 * counts.links;
-    half_rows::add_border(
+    split_lines::add_border(
         movements,
         half,
         counts.movements,
@@ -102,7 +102,7 @@ fn put_plan_line(
         1,
         &mut into,
     );
-    half_rows::add_border(
+    split_lines::add_border(
         movements,
         half,
         counts.movements,
@@ -112,10 +112,10 @@ fn put_plan_line(
         1,
         &mut from,
     );
-    let end = half_rows::fill_kept(&line, 0, half, SIGNALS_AT, counts.signals, &mut row, 0);
-    let end = half_rows::fill_sums(&line, admitted, &into, half, counts.links, &mut row, end);
-    let end = half_rows::fill_sums(&line, let_out, &from, half, counts.links, &mut row, end);
-    let end = half_rows::fill_kept(
+    let end = split_lines::fill_kept(&line, 0, half, SIGNALS_AT, counts.signals, &mut row, 0);
+    let end = split_lines::fill_sums(&line, admitted, &into, half, counts.links, &mut row, end);
+    let end = split_lines::fill_sums(&line, let_out, &from, half, counts.links, &mut row, end);
+    let end = split_lines::fill_kept(
         &line,
         moved,
         half,
@@ -124,7 +124,7 @@ fn put_plan_line(
         &mut row,
         end,
     );
-    let at = text_lines::put_line(b'P', &row[..end], out, places.at);
+    let at = network_writer::put_line(b'P', &row[..end], out, places.at);
     Places { line: next, at }
 }
 
@@ -193,7 +193,7 @@ pub fn put_network(
 {
     let counts = reading.counts;
     let mut rates = [0u64; MAX_LINKS];
-    half_rows::add_border(
+    split_lines::add_border(
         movements,
         half,
         counts.movements,
@@ -203,10 +203,10 @@ pub fn put_network(
         4,
         &mut rates,
     );
-    let trams = half_lines::count_trams(network, reading.trams_at, counts.trams, half);
-    let end = half_lines::put_counts(counts, trams, half, out);
-    let end = half_lines::put_trams(network, reading.trams_at, counts.trams, half, out, end);
-    let end = half_lines::put_signals(
+    let trams = split_lines::count_trams(network, reading.trams_at, counts.trams, half);
+    let end = split_lines::put_counts(counts, trams, half, out);
+    let end = split_lines::put_trams(network, reading.trams_at, counts.trams, half, out, end);
+    let end = split_lines::put_signals(
         network,
         reading.signals_at,
         signals,
@@ -215,8 +215,8 @@ pub fn put_network(
         out,
         end,
     );
-    let end = half_lines::put_links(links, &rates, counts.links, half, out, end);
-    let end = half_lines::put_movements(movements, counts.movements, half, out, end);
+    let end = split_lines::put_links(links, &rates, counts.links, half, out, end);
+    let end = split_lines::put_movements(movements, counts.movements, half, out, end);
     put_steps(
         network,
         reading.steps_at,

@@ -6,9 +6,9 @@ use mathlib.Core.List.{List, _++_}
 use native.Mathlib.Omega.{arith}
 use lib.ListN.{length}
 use lib.Seq.{drop-at}
-use Rattle.search.specs.declared.Verdict.{Verdict}
-use Rattle.tables.specs.declared.Counts.{Counts}
-use Rattle.tables.specs.Fields.{lengthIn}
+use Rattle.base_search.specs.declared.Verdict.{Verdict}
+use Rattle.network_tables.specs.declared.Counts.{Counts}
+use Rattle.network_tables.specs.Fields.{lengthIn}
 use Rattle.step_signals.specs.Step.{SignalRulesKept}
 use Rattle.step_limits.specs.Limits.{LimitsKept}
 use Rattle.step_rows.specs.Rows.{nextRow}

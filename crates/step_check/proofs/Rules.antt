@@ -8,14 +8,14 @@ use native.Mathlib.Omega.{arith}
 use borrow.Author.Tests.{lt-ltb, le-ltb}
 use lib.Dec.{ltb}
 use lib.ListN.{length, getD}
-use Rattle.search.specs.declared.Verdict.the-variants.{Passes}
-use Rattle.search.specs.Checks.{ruleAt, rulesFrom, verdict, table}
-use Rattle.search.proofs.Laws.{passes-of-hold}
-use Rattle.search.proofs.Table.{RulesKept, AllKept, kept-hold, rule-is, rules-length}
+use Rattle.base_search.specs.declared.Verdict.the-variants.{Passes}
+use Rattle.base_search.specs.Checks.{ruleAt, rulesFrom, verdict, table}
+use Rattle.base_search.proofs.Laws.{passes-of-hold}
+use Rattle.base_search.proofs.Table.{RulesKept, AllKept, kept-hold, rule-is, rules-length}
 use Rattle.model.specs.Network.{maxMovements}
-use Rattle.tables.specs.declared.Counts.{Counts}
-use Rattle.tables.specs.Places.{Few}
-use Rattle.tables.specs.Fields.{lengthIn}
+use Rattle.network_tables.specs.declared.Counts.{Counts}
+use Rattle.network_tables.specs.Places.{Few}
+use Rattle.network_tables.specs.Fields.{lengthIn}
 use Rattle.step_signals.specs.Step.{signalRuleHolds, SignalRulesKept}
 use Rattle.step_limits.specs.Limits.{limitItems, limitRuleHolds, LimitsKept}
 use Rattle.step_sums.specs.Sums.{sumItems, sumRuleHolds, SumsKept}

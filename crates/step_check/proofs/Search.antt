@@ -7,11 +7,11 @@ use native.Mathlib.Decide.{decLe, ℕ-discrete}
 use native.Mathlib.Omega.{arith}
 use lib.ListN.{length}
 use lib.Seq.{drop-at}
-use Rattle.search.specs.declared.Verdict.{Verdict}
-use Rattle.search.specs.declared.Verdict.the-variants.{Passes, Refused}
-use Rattle.search.specs.Checks.{refusal, verdict, table}
-use Rattle.search.proofs.Table.{RulesKept, ItemsKept, items-none, items-more, rules-more, items-broken, rules-all}
-use Rattle.tables.specs.declared.Counts.{Counts}
+use Rattle.base_search.specs.declared.Verdict.{Verdict}
+use Rattle.base_search.specs.declared.Verdict.the-variants.{Passes, Refused}
+use Rattle.base_search.specs.Checks.{refusal, verdict, table}
+use Rattle.base_search.proofs.Table.{RulesKept, ItemsKept, items-none, items-more, rules-more, items-broken, rules-all}
+use Rattle.network_tables.specs.declared.Counts.{Counts}
 use Rattle.step_rows.specs.Rows.{nextRow, Fits}
 use Rattle.step_rows.proofs.Next.{length-next}
 use Rattle.step_check.specs.Step.{ruleNumber, ruleItems, madeRow, FormedFor, ruleHolds, RuleTables, stepRulesIn, JudgeAsked, Judged}

@@ -2,18 +2,18 @@
 use Prim.Native.Nat.{ℕ, suc, _<_}
 use mathlib.Core.Path.{_≡_, refl}
 use mathlib.Core.List.{List}
-use Rattle.search.specs.Checks.{Hold, rulesFrom, verdict, table}
-use Rattle.search.proofs.Table.{SameRules, same-table}
-use Rattle.records.specs.Lines.{Line, lines}
+use Rattle.base_search.specs.Checks.{Hold, rulesFrom, verdict, table}
+use Rattle.base_search.proofs.Table.{SameRules, same-table}
+use Rattle.text_reader.specs.Lines.{Line, lines}
 use Rattle.model.specs.Network.{stepCount}
 use Rattle.model.specs.Table.{networkChecks, stepRules}
 use Rattle.model.specs.Calls.{written}
 use Rattle.model.proofs.Accepted.{ValidNetwork, valid-network}
-use Rattle.tables.specs.declared.Counts.{Counts}
-use Rattle.tables.specs.Tables.{CountsHold, LinkTable, MovementTable, TimeTable, PlanNumbers}
-use Rattle.arrivals.specs.Arrivals.{ArrivalTable}
-use Rattle.past_curves.specs.Curves.{CurvesAt}
-use Rattle.waiting.specs.Waiting.{StepOffers}
+use Rattle.network_tables.specs.declared.Counts.{Counts}
+use Rattle.network_tables.specs.Tables.{CountsHold, LinkTable, MovementTable, TimeTable, PlanNumbers}
+use Rattle.step_arrivals.specs.Arrivals.{ArrivalTable}
+use Rattle.step_past.specs.Curves.{CurvesAt}
+use Rattle.step_rows.specs.Waiting.{StepOffers}
 use Rattle.step_signals.specs.Step.{ShownTable, AskedTable, SignalsAt}
 use Rattle.step_signals.proofs.Texts.{rule10-is, rule11-is, rule12-is, rule13-is, rule14-is, rule29-is}
 use Rattle.step_rows.specs.Rows.{RowHolds}

@@ -5,12 +5,12 @@ use mathlib.Core.Bool.{Bool, true, cond}
 use mathlib.Core.List.{List, [], _∷_, _++_}
 use lib.Dec.{ltb}
 use lib.ListN.{length, getD, take, drop}
-use Rattle.search.specs.declared.Verdict.{Verdict}
-use Rattle.search.specs.declared.Verdict.the-variants.{Passes}
-use Rattle.search.specs.Checks.{Rule, rulesFrom, verdict, table}
+use Rattle.base_search.specs.declared.Verdict.{Verdict}
+use Rattle.base_search.specs.declared.Verdict.the-variants.{Passes}
+use Rattle.base_search.specs.Checks.{Rule, rulesFrom, verdict, table}
 use Rattle.model.specs.Network.{maxSteps}
-use Rattle.tables.specs.declared.Counts.{Counts}
-use Rattle.tables.specs.Fields.{lengthIn}
+use Rattle.network_tables.specs.declared.Counts.{Counts}
+use Rattle.network_tables.specs.Fields.{lengthIn}
 use Rattle.step_signals.specs.Step.{signalRuleHolds, SignalTables}
 use Rattle.step_rows.specs.Rows.{nextRow, Fits}
 use Rattle.step_limits.specs.Limits.{limitRuleHolds, LimitsKept, LineTables}

@@ -7,9 +7,9 @@ ghost use lib.ListN.{length};
 ghost use Rattle.model.specs.Network.{maxSteps};
 ghost use Rattle.step_rows.specs.Rows.{Fits};
 ghost use Rattle.step_check.specs.Step.{ruleNumber, ruleItems, rowFrom, FormedFor, ruleHolds, RuleTables, JudgeAsked, Judged, PassGot};
-use search::Refusal;
-use search::Verdict;
-use tables::Counts;
+use base_search::Refusal;
+use base_search::Verdict;
+use network_tables::Counts;
 
 // The number of rule k of the thirteen.
 fn rule_number(k: usize) -> u32

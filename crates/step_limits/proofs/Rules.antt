@@ -4,7 +4,7 @@ use mathlib.Core.Path.{_≡_, sym}
 use mathlib.Core.Bool.{true}
 use mathlib.Core.List.{List, [], _∷_}
 use lib.ListN.{List·getD-eq-default}
-use Rattle.tables.specs.declared.Counts.{Counts}
+use Rattle.network_tables.specs.declared.Counts.{Counts}
 use Rattle.step_limits.specs.Limits.{admitsOffer, letsOutRate, movesRate, movesOpen, limitRuleHolds}
 
 module _ (counts : Counts) (line step links movements phases : List ℕ) where

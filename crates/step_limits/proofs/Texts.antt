@@ -8,7 +8,7 @@ use native.Mathlib.Omega.{arith}
 use borrow.Author.Tests.{leb-true, eq-eqb}
 use lib.Dec.{leb}
 use lib.ListN.{getD}
-use Rattle.records.specs.Lines.{Line}
+use Rattle.text_reader.specs.Lines.{Line}
 use Rattle.model.specs.Test.{_or_, within}
 use Rattle.model.specs.Network.{linkCount, signalCount, movementCount, stepCount, signal, signalOf, fromLink}
 use Rattle.model.specs.Flows.{shownIn, shownMask, isOpen}
@@ -18,11 +18,11 @@ use Rattle.model.proofs.Phases.{phase-of-le}
 use Rattle.model.proofs.Accepted.{ValidNetwork}
 use Rattle.model.proofs.Bounds.{KeepsLimits}
 use Rattle.model.proofs.Limits.{link-limits, movement-limits, step-limits}
-use Rattle.tables.specs.declared.Counts.{Counts}
-use Rattle.tables.specs.Tables.{CountsHold, LinkTable, MovementTable, PlanNumbers}
-use Rattle.tables.proofs.Tables.{exit-rate-at, signal-of-at, phase-mask-at, from-link-at, rate-at}
-use Rattle.waiting.specs.Waiting.{StepOffers}
-use Rattle.waiting.proofs.Texts.{offer-is}
+use Rattle.network_tables.specs.declared.Counts.{Counts}
+use Rattle.network_tables.specs.Tables.{CountsHold, LinkTable, MovementTable, PlanNumbers}
+use Rattle.network_tables.proofs.Tables.{exit-rate-at, signal-of-at, phase-mask-at, from-link-at, rate-at}
+use Rattle.step_rows.specs.Waiting.{StepOffers}
+use Rattle.step_rows.proofs.WaitingTexts.{offer-is}
 use Rattle.step_signals.specs.Step.{ShownTable}
 use Rattle.step_rows.proofs.Texts.{movements-named, let-out-is, moved-is}
 use Rattle.step_limits.specs.Limits.{admitsOffer, letsOutRate, isOpenIn, movesRate, movesOpen, limitRuleHolds, LimitsKept, LineTables}

@@ -9,8 +9,8 @@ use lib.Dec.{leb, eqb}
 use lib.ListN.{getD}
 use Rattle.model.specs.Test.{_or_}
 use Rattle.model.specs.Signals.{opens}
-use Rattle.tables.specs.declared.Counts.{Counts}
-use Rattle.tables.specs.Fields.{signalIn, phaseMaskIn, linkIn, rateIn, lengthIn, movedIn}
+use Rattle.network_tables.specs.declared.Counts.{Counts}
+use Rattle.network_tables.specs.Fields.{signalIn, phaseMaskIn, linkIn, rateIn, lengthIn, movedIn}
 use Rattle.step_limits.specs.Limits.{isOpenIn, movesRate, movesOpen, MovementKept}
 
 -- a link without a signal, and one with a signal

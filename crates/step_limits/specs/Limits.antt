@@ -9,10 +9,10 @@ use lib.ListN.{length, getD}
 use Rattle.model.specs.Test.{_or_}
 use Rattle.model.specs.Network.{maxSignals}
 use Rattle.model.specs.Signals.{opens}
-use Rattle.tables.specs.declared.Counts.{Counts}
-use Rattle.tables.specs.Places.{Few}
-use Rattle.tables.specs.Fields.{linkTableSize, stepSize, lineSize, exitRateIn, signalIn, phaseMaskIn, linkIn, rateIn, lengthIn, admittedIn, letOutIn, movedIn}
-use Rattle.waiting.specs.Waiting.{offerIn}
+use Rattle.network_tables.specs.declared.Counts.{Counts}
+use Rattle.network_tables.specs.Places.{Few}
+use Rattle.network_tables.specs.Fields.{linkTableSize, stepSize, lineSize, exitRateIn, signalIn, phaseMaskIn, linkIn, rateIn, lengthIn, admittedIn, letOutIn, movedIn}
+use Rattle.step_rows.specs.Waiting.{offerIn}
 use Rattle.step_rows.specs.Rows.{Named}
 
 -- 15, link i: admitted is at most who is at its entry

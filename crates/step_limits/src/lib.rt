@@ -5,18 +5,18 @@ ghost use lib.Dec.{leb};
 ghost use lib.ListN.{length, getD};
 ghost use mathlib.Core.Bool.{true};
 ghost use Rattle.model.specs.Network.{maxLinks, maxSignals};
-ghost use Rattle.tables.specs.Places.{Few};
-ghost use Rattle.tables.specs.Fields.{linkTableSize, movementTableSize, stepSize, lineSize, signalIn, rateIn, lengthIn};
+ghost use Rattle.network_tables.specs.Places.{Few};
+ghost use Rattle.network_tables.specs.Fields.{linkTableSize, movementTableSize, stepSize, lineSize, signalIn, rateIn, lengthIn};
 ghost use Rattle.step_limits.specs.Limits.{admitsOffer, letsOutRate, isOpenIn, movesRate, movesOpen, limitItems, limitRuleHolds, LinkLimitsKept, MovementKept, MovementLimitsKept, LimitsKept, LinkTables, OpenTables, LineTables};
-use tables::Counts;
-use tables::admitted;
-use tables::exit_rate;
-use tables::index;
-use tables::let_out;
-use tables::moved;
-use tables::phase_mask;
-use tables::rate;
-use tables::signal_of;
+use network_tables::Counts;
+use network_tables::admitted;
+use network_tables::exit_rate;
+use network_tables::index;
+use network_tables::let_out;
+use network_tables::moved;
+use network_tables::phase_mask;
+use network_tables::rate;
+use network_tables::signal_of;
 
 // A volume is at most what a rate lets through in so many seconds: both are small enough for 32 bits.
 fn within_rate(volume: u32, rate: u32, seconds: u32) -> bool

@@ -6,7 +6,7 @@ use native.Mathlib.Decide.{decLe, ℕ-discrete}
 use native.Mathlib.Omega.{arith}
 use lib.ListN.{length, getD, take, drop, List·getD-append}
 use lib.Seq.{getD-drop, getD-take, getD-append-add, ext-getD}
-use Rattle.records.specs.Lines.{Line}
+use Rattle.text_reader.specs.Lines.{Line}
 use Rattle.model.specs.Sum.{joined}
 use Rattle.model.specs.Network.{linkCount}
 use Rattle.model.specs.Flows.{entered, left, rowOf, row}

@@ -10,12 +10,12 @@ use borrow.Author.Tests.{eqb-true, eqb-false, eq-eqb, ne-eqb}
 use lib.Dec.{eqb}
 use lib.ListN.{length, getD, set, length-set}
 use lib.Seq.{getD-set-same, getD-set-other}
-use Rattle.tables.specs.declared.Counts.{Counts}
+use Rattle.network_tables.specs.declared.Counts.{Counts}
 use Rattle.model.specs.Sum.{sum, only}
 use Rattle.model.proofs.Sums.{sum-more}
 use Rattle.step_rows.specs.Rows.{movedBy, Added, Room}
 use Rattle.step_rows.proofs.Sums.{sum-none, sum-next}
-use Rattle.tables.specs.Fields.{linkIn, rowSize, movedIn}
+use Rattle.network_tables.specs.Fields.{linkIn, rowSize, movedIn}
 
 same-or-not : (a b : ℕ) → (a ≡ b) ⊎ (a ≡ b → ⊥)
 same-or-not a b = by (eqb a b) refl

@@ -6,13 +6,13 @@ use native.Mathlib.Omega.{arith}
 use lib.Dec.{eqb}
 use lib.ListN.{length, getD, take}
 use lib.Seq.{take-at}
-use Rattle.records.specs.Lines.{Line}
-use Rattle.tables.specs.declared.Counts.{Counts}
+use Rattle.text_reader.specs.Lines.{Line}
+use Rattle.network_tables.specs.declared.Counts.{Counts}
 use Rattle.model.specs.Sum.{sum, only}
 use Rattle.model.specs.Network.{linkCount, movementCount}
 use Rattle.model.specs.Flows.{admitted, letOut, moved, movedInto, movedFrom, inflow, outflow, entered, left, row, held, vehicles, allAdmitted, allLetOut}
-use Rattle.tables.specs.Tables.{CountsHold, MovementTable, PlanNumbers}
-use Rattle.tables.proofs.Tables.{from-link-at, to-link-at, admitted-at, let-out-at, moved-at}
+use Rattle.network_tables.specs.Tables.{CountsHold, MovementTable, PlanNumbers}
+use Rattle.network_tables.proofs.Tables.{from-link-at, to-link-at, admitted-at, let-out-at, moved-at}
 use Rattle.model.proofs.Sums.{sum-ext}
 use Rattle.model.proofs.Accepted.{ValidNetwork}
 use Rattle.model.proofs.Limits.{movement-limits}
@@ -21,7 +21,7 @@ use Rattle.step_rows.specs.Rows.{movedBy, nextEntered, nextLeft, nextRow
 use Rattle.step_rows.proofs.Lists.{pairs-ext}
 use Rattle.step_rows.proofs.Next.{length-next}
 use Rattle.step_rows.proofs.Ledger.{row-pairs, row-holds}
-use Rattle.tables.specs.Fields.{letOutIn, admittedIn, movedIn, rowSize}
+use Rattle.network_tables.specs.Fields.{letOutIn, admittedIn, movedIn, rowSize}
 
 module _ {network : List Line} {counts : Counts} (counted : CountsHold network counts) where
   -- the links that a valid network's movements name

@@ -6,8 +6,8 @@ use native.Mathlib.Omega.{arith}
 use lib.ListN.{getD, drop, set}
 use lib.Seq.{set-getD}
 use Rattle.model.specs.Sum.{sum}
-use Rattle.tables.specs.declared.Counts.{Counts}
-use Rattle.tables.specs.Fields.{admittedIn, letOutIn, enteredIn, leftIn}
+use Rattle.network_tables.specs.declared.Counts.{Counts}
+use Rattle.network_tables.specs.Fields.{admittedIn, letOutIn, enteredIn, leftIn}
 use Rattle.step_rows.specs.Rows.{pairs, baseEntered, baseLeft, Base}
 use Rattle.step_rows.proofs.Lists.{begun-turn}
 use Rattle.step_rows.proofs.Sums.{sum-next}

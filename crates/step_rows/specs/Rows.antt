@@ -5,13 +5,13 @@ use mathlib.Core.List.{List, [], _∷_, _++_}
 use Prim.Native.Nat.{ℕ, zero, suc, _+_, _*_, _≤_, _<_}
 use lib.Dec.{eqb}
 use lib.ListN.{length, getD}
-use Rattle.records.specs.Lines.{Line}
+use Rattle.text_reader.specs.Lines.{Line}
 use Rattle.model.specs.Sum.{sum, only}
 use Rattle.model.specs.Network.{linkCount}
 use Rattle.model.specs.Flows.{entered, left}
-use Rattle.tables.specs.declared.Counts.{Counts}
-use Rattle.tables.specs.Places.{Few}
-use Rattle.tables.specs.Fields.{lineSize, movementTableSize, rowSize, linkIn, admittedIn, letOutIn, movedIn, enteredIn, leftIn}
+use Rattle.network_tables.specs.declared.Counts.{Counts}
+use Rattle.network_tables.specs.Places.{Few}
+use Rattle.network_tables.specs.Fields.{lineSize, movementTableSize, rowSize, linkIn, admittedIn, letOutIn, movedIn, enteredIn, leftIn}
 
 -- what the first m movements take from link i (side 0), or bring into it (side 1): a movement is from, to, rate, share
 abbrev pub movedBy : Counts → List ℕ → List ℕ → ℕ → ℕ → ℕ → ℕ

@@ -1,22 +1,24 @@
 // The row of the ledger after a step, its writing through a part of the lent ledger, and the sums that go into the totals.
+// The vehicles that wait at the entries: on each link who waited at the start, and the demand of the steps so far, that was not admitted. The table of those who wait has one number a link.
 ghost use mathlib.Core.Path.{_≡_};
 ghost use mathlib.Core.List.{_++_};
 ghost use Prim.Native.Nat.{_+_, _*_, _-_, _<_, _≤_};
 ghost use lib.ListN.{length, getD, set, take, drop};
 ghost use Rattle.model.specs.Network.{maxLinks, maxMovements};
 ghost use Rattle.model.specs.Sum.{sum};
-ghost use Rattle.tables.specs.Places.{Few};
-ghost use Rattle.tables.specs.Fields.{movementTableSize, linkIn, enteredIn, leftIn};
+ghost use Rattle.network_tables.specs.Places.{Few};
+ghost use Rattle.network_tables.specs.Fields.{movementTableSize, linkIn, enteredIn, leftIn};
 ghost use Rattle.step_rows.specs.Rows.{pairs, baseEntered, baseLeft, nextRow, Named, Base, Fits, Added, Room};
-use tables::Counts;
-use tables::admitted;
-use tables::entered;
-use tables::index;
-use tables::left;
-use tables::let_out;
-use tables::link_of;
-use tables::moved;
-use tables::wide;
+ghost use Rattle.step_rows.specs.Waiting.{FirstAsked, FirstWaits, AddAsked, Offers, WaitsAsked, Waits};
+use network_tables::Counts;
+use network_tables::admitted;
+use network_tables::entered;
+use network_tables::index;
+use network_tables::left;
+use network_tables::let_out;
+use network_tables::link_of;
+use network_tables::moved;
+use network_tables::wide;
 
 // The link, from 0, that movement j leaves (side 0) or enters (side 1).
 fn link_index(movements: &[u32], j: usize, side: usize) -> usize
@@ -140,4 +142,40 @@ pub fn held_in(row: &[u32], links: usize) -> u64
         i += 1;
     }
     total
+}
+
+// Who waits at the start, as the `Q` lines have it.
+pub fn first_waiting(links: &[u32], count: usize, waiting: &mut [u32])
+    requires { ⌜ FirstAsked (now links) count (now waiting) ⌝ }
+    ensures { λ _. ⌜ FirstWaits (now (links .entry)) count (now (waiting .exit)) ⌝ }
+{
+    let mut i: usize = 0;
+    while i < count {
+        waiting[i] = network_tables::waiting_at_start(links, i);
+        i += 1;
+    }
+}
+
+// Who is at the entries in a step: the numbers of its `S` line, with those who wait added to each link's demand.
+pub fn add_waiting(waiting: &[u32], links: usize, step: &mut [u32])
+    requires { ⌜ AddAsked links (now waiting) (now step) ⌝ }
+    ensures { λ _. ⌜ Offers links (now (waiting .entry)) (now (step .entry)) (now (step .exit)) ⌝ }
+{
+    let mut i: usize = 0;
+    while i < links {
+        step[1 + i] = step[1 + i] + waiting[i];
+        i += 1;
+    }
+}
+
+// Who waits after a step that is kept: who was at the entry in the step and was not admitted.
+pub fn next_waiting(step: &[u32], line: &[u32], counts: Counts, waiting: &mut [u32])
+    requires { ⌜ WaitsAsked counts (now step) (now line) (now waiting) ⌝ }
+    ensures { λ _. ⌜ Waits counts (now (step .entry)) (now (line .entry)) (counts .links) (now (waiting .exit)) ⌝ }
+{
+    let mut i: usize = 0;
+    while i < counts.links {
+        waiting[i] = step[1 + i] - admitted(line, counts, i);
+        i += 1;
+    }
 }

@@ -14,7 +14,7 @@ use Rattle.model.specs.Test.{_and_, _or_, within}
 use Rattle.model.specs.Signals.{greatestTime, beginsCycle, shownForAfter, clockAfter, keepsGreatestTime, keepsCycle, after}
 use Rattle.model.specs.Rules.{validPhases, validSignal}
 use Rattle.model.proofs.Tests.{and-left, and-right, every-at}
-use Rattle.tables.specs.Fields.{tableSignal}
+use Rattle.network_tables.specs.Fields.{tableSignal}
 use Rattle.step_signals.specs.Ready.{Ready}
 use Rattle.step_signals.specs.Step.{signalTests, signalTest, keepsAll, goesOn, signalRuleHolds, SignalRulesKept}
 

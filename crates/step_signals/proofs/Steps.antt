@@ -8,8 +8,8 @@ use lib.ListN.{length, getD, set, length-set}
 use lib.Seq.{getD-set-same, getD-set-other}
 use borrow.Author.Count.{below-more}
 use borrow.Author.Tests.{ne-eqb}
-use Rattle.tables.specs.Fields.{signalTableSize, tableSignal}
-use Rattle.tables.specs.Tables.{showing, SignalLaid}
+use Rattle.network_tables.specs.Fields.{signalTableSize, tableSignal}
+use Rattle.network_tables.specs.Tables.{showing, SignalLaid}
 use Rattle.model.specs.declared.Signal.{Signal}
 use Rattle.model.specs.Signals.{phaseOf, after}
 use Rattle.step_signals.specs.Step.{ShownPhases, HeldMasks, stepped, Advanced}

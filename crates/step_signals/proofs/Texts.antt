@@ -2,7 +2,7 @@
 use Prim.Native.Nat.{ℕ, _<_}
 use mathlib.Core.Path.{_≡_}
 use mathlib.Core.List.{List}
-use Rattle.records.specs.Lines.{Line}
+use Rattle.text_reader.specs.Lines.{Line}
 use Rattle.model.specs.Network.{signalCount, stepLength, ordinary}
 use Rattle.model.specs.Rules.{rule10, rule11, rule12, rule13, rule14, rule29}
 use Rattle.step_signals.specs.Step.{signalTest, signalRuleHolds, ShownTable, AskedTable, SignalsAt}

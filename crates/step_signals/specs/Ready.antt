@@ -5,7 +5,7 @@ use mathlib.Core.List.{List}
 use lib.ListN.{length, getD}
 use Rattle.model.specs.declared.Signal.{Signal}
 use Rattle.model.specs.Network.{maxSignals}
-use Rattle.tables.specs.Fields.{signalTableSize, tableSignal}
+use Rattle.network_tables.specs.Fields.{signalTableSize, tableSignal}
 
 -- what the network's check ensures of a signal before the plan, and rules 10, 13 and 14 after each step
 pub record Ready (s : Signal) : Type 0 where

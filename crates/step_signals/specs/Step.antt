@@ -5,12 +5,12 @@ use mathlib.Core.Bool.{Bool, true, not, cond}
 use mathlib.Core.List.{List, [], _∷_}
 use lib.Dec.{leb, eqb}
 use lib.ListN.{length, getD}
-use Rattle.records.specs.Lines.{Line}
+use Rattle.text_reader.specs.Lines.{Line}
 use Rattle.model.specs.declared.Signal.{Signal}
 use Rattle.model.specs.Test.{_and_, _or_}
 use Rattle.model.specs.Network.{maxSignals, signalCount, trams, tramPhase}
 use Rattle.model.specs.Flows.{shownIn, signalAt}
-use Rattle.tables.specs.Fields.{signalTableSize, tableSignal}
+use Rattle.network_tables.specs.Fields.{signalTableSize, tableSignal}
 use Rattle.model.specs.Signals.{phaseOf, greatestTime, showsOnePhase, keepsOrder, keepsLeastTime, keepsGreatestTime, keepsCycle, after}
 use Rattle.step_signals.specs.Ready.{AllReady}
 

@@ -7,8 +7,8 @@ ghost use Prim.Native.Nat.{_-_, _^_, _≤_, _<_};
 ghost use lib.ListN.{length};
 ghost use Rattle.model.specs.Network.{maxSignals};
 ghost use Rattle.model.specs.Signals.{phaseOf, opens, leastTime, greatestTime, nextPhase, beginsCycle, shownForAfter, clockAfter, keepsOrder, keepsLeastTime, keepsGreatestTime, keepsCycle, after};
-ghost use Rattle.tables.specs.Fields.{signalTableSize, tableSignal};
-ghost use Rattle.tables.specs.Tables.{SignalLaid};
+ghost use Rattle.network_tables.specs.Fields.{signalTableSize, tableSignal};
+ghost use Rattle.network_tables.specs.Tables.{SignalLaid};
 ghost use Rattle.step_signals.specs.Ready.{Ready, ReadyIn, AllReady};
 ghost use Rattle.step_signals.specs.Step.{signalTest, keepsAll, goesOn, signalRuleHolds, SignalRulesKept, SignalTables, ShownPhases, HeldMasks, stepped, AdvanceAsked, Advanced};
 use model::Signal;
@@ -167,8 +167,8 @@ fn step_on(signals: &mut [u32], r: usize, phase: u32, asked: u32, seconds: u32)
     ensures { λ _. ⌜ SignalLaid (now (signals .entry)) r (stepped (tableSignal (now (signals .entry)) r) phase asked seconds) (now (signals .exit)) ⌝ }
 {
     if asked == 0 {
-        let next = after(tables::signal_in(signals, r), phase, seconds);
-        tables::show(signals, r, phase, next.shown_for, next.cycle_clock);
+        let next = after(network_tables::signal_in(signals, r), phase, seconds);
+        network_tables::show(signals, r, phase, next.shown_for, next.cycle_clock);
     }
 }
 
@@ -206,7 +206,7 @@ pub fn signal_rule(
 {
     signal_test(
         k,
-        tables::signal_in(signals, r),
+        network_tables::signal_in(signals, r),
         phases[r],
         asked[r],
         seconds,
@@ -242,8 +242,8 @@ fn goes_on(signals: &[u32], r: usize, phase: u32, asked: u32, seconds: u32) -> b
     requires { ⌜ seconds ≤ 60 ⌝ }
     ensures { λ b. ⌜ b ≡ goesOn (tableSignal (now (signals .entry)) r) phase asked seconds ⌝ }
 {
-    let signal = tables::signal_in(signals, r);
-    let greatest = tables::greatest_time(signals, r, place_of(phase));
+    let signal = network_tables::signal_in(signals, r);
+    let greatest = network_tables::greatest_time(signals, r, place_of(phase));
     let goes = (1 <= phase) & (phase == signal.shown) & (asked == 0);
     let in_time = signal.shown_for + seconds <= greatest;
     goes & in_time & (signal.cycle_clock + seconds <= signal.greatest_cycle)
@@ -259,9 +259,9 @@ fn signal_keeps(signals: &[u32], r: usize, phase: u32, asked: u32, seconds: u32)
     if goes_on(signals, r, phase, asked, seconds) {
         return true;
     }
-    let signal = tables::signal_in(signals, r);
-    let least = tables::least_time(signals, r, place_of(signal.shown));
-    let greatest = tables::greatest_time(signals, r, place_of(phase));
+    let signal = network_tables::signal_in(signals, r);
+    let least = network_tables::least_time(signals, r, place_of(signal.shown));
+    let greatest = network_tables::greatest_time(signals, r, place_of(phase));
     keeps_all(signal, least, greatest, phase, asked, seconds)
 }
 
@@ -290,7 +290,7 @@ pub fn shown_phases(signals: &[u32], count: usize, masks: &[u32], phases: &mut [
     ensures { λ r. ⌜ ShownPhases (now (signals .entry)) count (now (masks .entry)) (now (phases .entry)) (now (phases .exit)) ⌝ }
 {
     for i in 0..count {
-        phases[i] = phase_of(masks[i], tables::phase_count(signals, i));
+        phases[i] = phase_of(masks[i], network_tables::phase_count(signals, i));
     }
 }
 
@@ -301,7 +301,7 @@ pub fn hold_masks(signals: &[u32], count: usize, line: &mut [u32])
     ensures { λ _. ⌜ HeldMasks (now (signals .entry)) count (now (line .entry)) (now (line .exit)) ⌝ }
 {
     for i in 0..count {
-        line[i] = mask_of(tables::shown_phase(signals, i));
+        line[i] = mask_of(network_tables::shown_phase(signals, i));
     }
 }
 

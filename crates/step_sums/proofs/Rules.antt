@@ -4,7 +4,7 @@ use mathlib.Core.Path.{_≡_, sym}
 use mathlib.Core.Bool.{true}
 use mathlib.Core.List.{List, [], _∷_}
 use lib.ListN.{List·getD-eq-default}
-use Rattle.tables.specs.declared.Counts.{Counts}
+use Rattle.network_tables.specs.declared.Counts.{Counts}
 use Rattle.step_sums.specs.Sums.{keepsShare, leavesArrived, fitsCapacity, sumRuleHolds}
 
 module _ (counts : Counts) (line links movements previous row ledger times arrivals curves : List ℕ) (boundary : ℕ) where

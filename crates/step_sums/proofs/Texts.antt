@@ -8,8 +8,8 @@ use native.Mathlib.Omega.{arith}
 use borrow.Author.Tests.{lt-ltb, le-ltb, eq-eqb, ne-eqb}
 use lib.Dec.{leb}
 use lib.ListN.{length}
-use Rattle.search.specs.Checks.{Hold}
-use Rattle.records.specs.Lines.{Line, lines}
+use Rattle.base_search.specs.Checks.{Hold}
+use Rattle.text_reader.specs.Lines.{Line, lines}
 use Rattle.model.specs.Network.{linkCount, movementCount, stepCount, onTimeline, travelTime, arrivalStep, elapsed}
 use Rattle.model.specs.Flows.{movedFrom, timelineEntered, timelineInflow, entered, left}
 use Rattle.model.specs.Rules.{rule16, rule17, rule18}
@@ -21,13 +21,13 @@ use Rattle.model.proofs.Timeline.{timeline-entered-suc, past-entered}
 use Rattle.model.proofs.Limits.{first-lasts}
 use Rattle.model.proofs.Arrived.{arrived-by-step}
 use Rattle.model.proofs.Accepted.{ValidNetwork, valid-network}
-use Rattle.tables.specs.declared.Counts.{Counts}
-use Rattle.tables.specs.Fields.{linkIn, rowSize, enteredAt}
-use Rattle.tables.specs.Tables.{CountsHold, LinkTable, MovementTable, TimeTable, PlanNumbers}
-use Rattle.tables.proofs.Tables.{capacity-at, travel-time-at, from-link-at, share-at}
-use Rattle.arrivals.specs.Arrivals.{elapsedIn, ArrivalTable}
-use Rattle.arrivals.proofs.Boundaries.{times-rise, seconds-is, elapsed-at}
-use Rattle.past_curves.specs.Curves.{curveIn, CurveTo, CurvesAt}
+use Rattle.network_tables.specs.declared.Counts.{Counts}
+use Rattle.network_tables.specs.Fields.{linkIn, rowSize, enteredAt}
+use Rattle.network_tables.specs.Tables.{CountsHold, LinkTable, MovementTable, TimeTable, PlanNumbers}
+use Rattle.network_tables.proofs.Tables.{capacity-at, travel-time-at, from-link-at, share-at}
+use Rattle.step_arrivals.specs.Arrivals.{elapsedIn, ArrivalTable}
+use Rattle.step_arrivals.proofs.Boundaries.{times-rise, seconds-is, elapsed-at}
+use Rattle.step_past.specs.Curves.{curveIn, CurveTo, CurvesAt}
 use Rattle.step_rows.specs.Rows.{nextRow, RowHolds}
 use Rattle.step_rows.proofs.Next.{next-left-at}
 use Rattle.step_rows.proofs.Texts.{movements-named, moved-is, moved-from-is}

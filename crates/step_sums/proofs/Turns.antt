@@ -10,9 +10,9 @@ use native.Mathlib.Omega.{arith}
 use borrow.Author.Tests.{le-leb, lt-leb, lt-ltb, le-ltb, eq-eqb, ne-eqb}
 use lib.Dec.{leb}
 use lib.ListN.{getD}
-use Rattle.tables.specs.declared.Counts.{Counts}
-use Rattle.tables.specs.Fields.{travelTimeIn, linkIn, shareIn, letOutIn, movedIn, enteredIn, leftIn, enteredAt, RowHeld}
-use Rattle.arrivals.specs.Arrivals.{secondsIn, elapsedIn, Rising}
+use Rattle.network_tables.specs.declared.Counts.{Counts}
+use Rattle.network_tables.specs.Fields.{travelTimeIn, linkIn, shareIn, letOutIn, movedIn, enteredIn, leftIn, enteredAt, RowHeld}
+use Rattle.step_arrivals.specs.Arrivals.{secondsIn, elapsedIn, Rising}
 use Rattle.step_rows.specs.Rows.{movedBy, nextLeft}
 use Rattle.step_sums.specs.Sums.{keepsShare, enteredBefore, enteredAfter, leavesArrived, ShareTables, ArrivalRows}
 

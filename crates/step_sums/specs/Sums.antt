@@ -7,10 +7,10 @@ use Prim.Native.Nat.{ℕ, _+_, _*_, _-_, _≤_, _<_}
 use lib.Dec.{leb, ltb, eqb}
 use lib.ListN.{length, getD}
 use Rattle.model.specs.Network.{maxLinks, maxSteps, maxPast}
-use Rattle.tables.specs.declared.Counts.{Counts}
-use Rattle.tables.specs.Places.{Few}
-use Rattle.tables.specs.Fields.{linkTableSize, lineSize, rowSize, capacityIn, travelTimeIn, linkIn, shareIn, movedIn, enteredIn, leftIn, enteredAt}
-use Rattle.arrivals.specs.Arrivals.{secondsIn, elapsedIn, scaledIn, Rising}
+use Rattle.network_tables.specs.declared.Counts.{Counts}
+use Rattle.network_tables.specs.Places.{Few}
+use Rattle.network_tables.specs.Fields.{linkTableSize, lineSize, rowSize, capacityIn, travelTimeIn, linkIn, shareIn, movedIn, enteredIn, leftIn, enteredAt}
+use Rattle.step_arrivals.specs.Arrivals.{secondsIn, elapsedIn, scaledIn, Rising}
 use Rattle.step_rows.specs.Rows.{movedBy, nextLeft, Named}
 
 -- 16, movement j: 1000 × the movement is at most its share × the sum of all movements from its link

@@ -4,19 +4,19 @@ ghost use Prim.Native.Nat.{_+_, _*_, _<_, _≤_};
 ghost use lib.ListN.{length};
 ghost use mathlib.Core.Bool.{true};
 ghost use Rattle.model.specs.Network.{maxLinks};
-ghost use Rattle.tables.specs.Places.{Few};
-ghost use Rattle.tables.specs.Fields.{linkTableSize, lineSize, rowSize, letOutIn, leftIn};
+ghost use Rattle.network_tables.specs.Places.{Few};
+ghost use Rattle.network_tables.specs.Fields.{linkTableSize, lineSize, rowSize, letOutIn, leftIn};
 ghost use Rattle.step_sums.specs.Sums.{keepsShare, enteredBefore, enteredAfter, leavesArrived, fitsCapacity, sumItems, sumRuleHolds, SharesKept, LinkSumsKept, SumsKept, ShareTables, ArrivalRows, ArrivalTables, SumTables};
-use tables::Counts;
-use tables::capacity;
-use tables::entered;
-use tables::entered_at;
-use tables::left;
-use tables::let_out;
-use tables::moved;
-use tables::share;
-use tables::travel_time;
-use tables::wide;
+use network_tables::Counts;
+use network_tables::capacity;
+use network_tables::entered;
+use network_tables::entered_at;
+use network_tables::left;
+use network_tables::let_out;
+use network_tables::moved;
+use network_tables::share;
+use network_tables::travel_time;
+use network_tables::wide;
 
 // The sum of all movements from link i: what has left it in the step, without what was let out.
 fn moved_from(line: &[u32], previous: &[u32], row: &[u32], counts: Counts, i: usize) -> u32
@@ -48,7 +48,7 @@ fn keeps_share(
     }
     let from = step_rows::from_link(movements, counts, j);
     let all = moved_from(line, previous, row, counts, from);
-    tables::times(1000, volume) <= tables::times(share(movements, j), all)
+    network_tables::times(1000, volume) <= network_tables::times(share(movements, j), all)
 }
 
 // Entered of link i at the start of a step of the timeline: a past one's as its curve has it, a later one's as the ledger has it.
@@ -120,9 +120,15 @@ fn leaves_arrived(
         return true;
     }
     let end = entered_after(row, ledger, curves, counts, boundary, step, i);
-    let seconds = arrivals::seconds(times, step);
-    let elapsed = arrivals::elapsed(times, step, counts.past + boundary, travel_time(links, i));
-    tables::times(left, seconds) <= arrivals::scaled_arrived(start, end, seconds, elapsed)
+    let seconds = step_arrivals::seconds(times, step);
+    let elapsed = step_arrivals::elapsed(
+        times,
+        step,
+        counts.past + boundary,
+        travel_time(links, i),
+    );
+    network_tables::times(left, seconds)
+        <= step_arrivals::scaled_arrived(start, end, seconds, elapsed)
 }
 
 // Rule 18, link i: entered − left before the step is at most capacity, said without the difference.

@@ -6,20 +6,20 @@ use native.Mathlib.Decide.{decLe}
 use native.Mathlib.Omega.{arith}
 use borrow.Author.Tests.{eqb-true}
 use lib.ListN.{length}
-use Rattle.search.specs.Checks.{Hold}
-use Rattle.search.proofs.Laws.{hold-of-passes}
-use Rattle.records.specs.Lines.{Line, lines}
-use Rattle.records.proofs.Lengths.{takes-none, takes-run, takes-all}
+use Rattle.base_search.specs.Checks.{Hold}
+use Rattle.base_search.proofs.Laws.{hold-of-passes}
+use Rattle.text_reader.specs.Lines.{Line, lines}
+use Rattle.text_reader.proofs.Lengths.{takes-none, takes-run, takes-all}
 use Rattle.model.specs.Network.{linkCount, signalCount, movementCount, stepCount}
 use Rattle.model.specs.Table.{letterP, isForm, lineChecks, planLineChecks, planChecks}
 use Rattle.model.specs.Hold.{planOf}
 use Rattle.model.proofs.Accepted.{valid-network}
 use Rattle.model.proofs.Limits.{Counts, counts}
 use Rattle.model.proofs.Hold.{plan-of-text}
-use Rattle.carry_model.specs.Part.{carriedText}
-use Rattle.carry_model.proofs.CarriesOn.{carries-on}
-use Rattle.listing.specs.Listing as listing
-use Rattle.sheet_model.specs.Cycle as sheet
+use Rattle.model_carry.specs.Part.{carriedText}
+use Rattle.model_carry.proofs.CarriesOn.{carries-on}
+use Rattle.listing_call.specs.Listing as listing
+use Rattle.model_sheet.specs.Cycle as sheet
 use Rattle.text_lengths.specs.Lengths.{planTextMost, Lengths}
 use Rattle.text_lengths.proofs.Network.{network-most}
 use Rattle.text_lengths.proofs.Written.{listing-most, sheet-most}

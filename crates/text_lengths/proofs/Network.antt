@@ -7,9 +7,9 @@ use native.Mathlib.Decide.{decLe}
 use native.Mathlib.Omega.{arith}
 use borrow.Author.Tests.{leb-true}
 use lib.ListN.{length}
-use Rattle.search.specs.Checks.{Hold}
-use Rattle.records.specs.Lines.{Line, lines}
-use Rattle.records.proofs.Lengths.{takes-none, takes-more, takes-run, takes-all}
+use Rattle.base_search.specs.Checks.{Hold}
+use Rattle.text_reader.specs.Lines.{Line, lines}
+use Rattle.text_reader.proofs.Lengths.{takes-none, takes-more, takes-run, takes-all}
 use Rattle.model.specs.Test.{_and_}
 use Rattle.model.specs.Network.{linkCount, signalCount, movementCount, stepCount, tramCount, pastCount, onTimeline, tramLine, signalLine, linkLine, movementLine, timelineLine, stepLine, signal}
 use Rattle.model.specs.Rules.{validCounts}
@@ -17,8 +17,8 @@ use Rattle.model.specs.Table.{networkChecks, letterN, letterT, letterG, letterQ
 use Rattle.model.proofs.Tests.{and-left, and-right}
 use Rattle.model.proofs.Accepted.{ValidNetwork, valid-network}
 use Rattle.model.proofs.Limits.{counts}
-use Rattle.network_text.proofs.Formed.{Formed, formed-of-holds}
-use Rattle.sheet_model.proofs.Checks.{two-phases}
+use Rattle.model_text.proofs.Formed.{Formed, formed-of-holds}
+use Rattle.model_sheet.proofs.Checks.{two-phases}
 use Rattle.text_lengths.specs.Lengths.{networkTextMost}
 use Rattle.text_lengths.proofs.Trams.{few-trams}
 

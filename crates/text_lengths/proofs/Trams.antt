@@ -7,7 +7,7 @@ use mathlib.Core.List.{List}
 use native.Mathlib.Omega.{arith}
 use borrow.Author.Tests.{leb-true, ltb-true, eqb-true, eq-eqb}
 use lib.Dec.{eqb, ltb}
-use Rattle.records.specs.Lines.{Line, number}
+use Rattle.text_reader.specs.Lines.{Line, number}
 use Rattle.model.specs.Test.{_and_, _or_, within}
 use Rattle.model.specs.Sum.{sum, only}
 use Rattle.model.specs.Network.{signalCount, stepCount, tramCount}

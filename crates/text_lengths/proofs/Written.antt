@@ -10,11 +10,11 @@ use borrow.Author.Tests.{lt-ltb, le-ltb}
 use lib.Dec.{ltb}
 use lib.ListN.{length, getD, length-append, List·getD-eq-default}
 use lib.Seq.{getD-append-add}
-use Rattle.search.specs.Checks.{Hold}
-use Rattle.records.specs.Lines.{Line}
-use Rattle.record_writer.specs.Records.{recordText}
-use Rattle.record_writer.proofs.Laws.{record-is, records-most}
-use Rattle.record_writer.proofs.Lengths.{fields-most, fields-both}
+use Rattle.base_search.specs.Checks.{Hold}
+use Rattle.text_reader.specs.Lines.{Line}
+use Rattle.text_writer.specs.Records.{recordText}
+use Rattle.text_writer.proofs.Laws.{record-is, records-most}
+use Rattle.text_writer.proofs.Lengths.{fields-most, fields-both}
 use Rattle.model.specs.Sum.{only, list}
 use Rattle.model.specs.Network.{entry, linkCount, signalCount, movementCount, stepCount, signal, time}
 use Rattle.model.specs.Table.{networkChecks, letterP}
@@ -24,12 +24,12 @@ use Rattle.model.proofs.Limits.{Counts, counts}
 use Rattle.listing_lines.specs.declared.Variable.{Variable}
 use Rattle.listing_lines.specs.declared.Variable.the-variants.{Admitted, LetOut, Moved}
 use Rattle.listing_lines.specs.declared.Entry.{Entry}
-use Rattle.listing.specs.Listing.{listingChecks, maskOf, volumeOf, planNumbers, planText}
-use Rattle.listing.proofs.ReadBack.{mask-small, numbers-small}
+use Rattle.listing_call.specs.Listing.{listingChecks, maskOf, volumeOf, planNumbers, planText}
+use Rattle.listing_call.proofs.ReadBack.{mask-small, numbers-small}
 use Rattle.sheet_lines.specs.Sheet.{phasesOf}
-use Rattle.sheet_model.specs.Cycle.{sheetPhase, phaseAt, cyclePlace, sheetNumbers, sheetText}
-use Rattle.sheet_model.proofs.Cycle.{phase-most}
-use Rattle.sheet_model.proofs.Checks.{two-phases}
+use Rattle.model_sheet.specs.Cycle.{sheetPhase, phaseAt, cyclePlace, sheetNumbers, sheetText}
+use Rattle.model_sheet.proofs.Cycle.{phase-most}
+use Rattle.model_sheet.proofs.Checks.{two-phases}
 use Rattle.text_lengths.specs.Lengths.{writtenPlanMost, sheetPlanMost}
 
 list-below : (n : ℕ) (f : ℕ → ℕ) (m : ℕ) → 0 < m → ((k : ℕ) → k < n → f k < m) → (k : ℕ) → getD (list n f) k 0 < m

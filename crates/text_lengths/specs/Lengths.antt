@@ -4,16 +4,16 @@ use Prim.Native.Nat.{ℕ, _≤_}
 use mathlib.Core.Path.{_≡_}
 use mathlib.Core.List.{List}
 use lib.ListN.{length}
-use Rattle.search.specs.declared.Verdict.the-variants.{Passes}
-use Rattle.search.specs.Checks.{verdict}
-use Rattle.records.specs.Lines.{Line, lines}
+use Rattle.base_search.specs.declared.Verdict.the-variants.{Passes}
+use Rattle.base_search.specs.Checks.{verdict}
+use Rattle.text_reader.specs.Lines.{Line, lines}
 use Rattle.model.specs.Table.{networkChecks, planChecks}
 use Rattle.model.specs.Hold.{planOf}
-use Rattle.carry_model.specs.Part.{carriedText}
-use Rattle.carry_model.specs.Call.{carryChecks}
+use Rattle.model_carry.specs.Part.{carriedText}
+use Rattle.model_carry.specs.Call.{carryChecks}
 use Rattle.listing_lines.specs.declared.Entry.{Entry}
-use Rattle.listing.specs.Listing as listing
-use Rattle.sheet_model.specs.Cycle as sheet
+use Rattle.listing_call.specs.Listing as listing
+use Rattle.model_sheet.specs.Cycle as sheet
 
 -- PLANCHECK_NETWORK_TEXT_MAX, PLANCHECK_PLAN_TEXT_MAX and PLANCHECK_WRITTEN_PLAN_MAX; and, shorter than the last, a plan for a sheet
 abbrev pub networkTextMost : ℕ

@@ -8,12 +8,12 @@ use lib.Dec.{leb}
 use lib.ListN.{length}
 use lib.Ieee.{Float}
 use Prim.Native.Nat.{ℕ}
-use Rattle.search.specs.declared.Verdict.{Verdict}
-use Rattle.search.specs.declared.Verdict.the-variants.{Passes, Refused}
-use Rattle.search.specs.Checks.{refusal, verdict, checked, orElse}
-use Rattle.search.specs.Numbers.{isOneOf, CanArise}
-use Rattle.lists.specs.Indexed.{list}
-use Rattle.lists.proofs.Tests.{and-right, zero-one}
+use Rattle.base_search.specs.declared.Verdict.{Verdict}
+use Rattle.base_search.specs.declared.Verdict.the-variants.{Passes, Refused}
+use Rattle.base_search.specs.Checks.{refusal, verdict, checked, orElse}
+use Rattle.base_search.specs.Numbers.{isOneOf, CanArise}
+use Rattle.base_laws.specs.Indexed.{list}
+use Rattle.base_laws.proofs.Tests.{and-right, zero-one}
 use Rattle.traces.specs.Step.{placeAfter}
 use Rattle.traces.specs.Call.{vehiclesNumbers, validCounts, validValues, stepChecks, stepVehicles, placesBy, placesAfter}
 use Rattle.traces.specs.Guarantees.{StepKeeps}

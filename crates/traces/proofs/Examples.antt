@@ -5,10 +5,10 @@ use mathlib.Core.Bool.{false}
 use mathlib.Core.List.{List, [], _∷_}
 use lib.IntN.{pos}
 use lib.Ieee.{Float, nan, inf, binary64, ofInt, ofBits, neg, lt, le, add, sub}
-use Rattle.search.specs.declared.Verdict.{Verdict}
-use Rattle.search.specs.declared.Verdict.the-variants.{Passes, Refused}
-use Rattle.search.specs.Checks.{refusal, verdict, checked, orElse}
-use Rattle.lists.specs.Indexed.{list, every}
+use Rattle.base_search.specs.declared.Verdict.{Verdict}
+use Rattle.base_search.specs.declared.Verdict.the-variants.{Passes, Refused}
+use Rattle.base_search.specs.Checks.{refusal, verdict, checked, orElse}
+use Rattle.base_laws.specs.Indexed.{list, every}
 use Rattle.traces.specs.Step.{nearer, cutTo, lineFor, cutToLines, targetOf, furthest, moved, leaderOf, placeAfter}
 use Rattle.traces.specs.Call.{million, validPlace, validDistance, validCounts, validValues, stepChecks, stepVehicles, placesBy, placesAfter}
 

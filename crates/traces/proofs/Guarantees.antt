@@ -9,10 +9,10 @@ use lib.Dec.{leb}
 use lib.ListN.{length, getD}
 use lib.Ieee.{Float, nan, binary64, add, sub, round, isNan}
 use lib.Ieee.Scale.{finite}
-use Rattle.lists.specs.Indexed.{list, every}
-use Rattle.lists.proofs.Tests.{and-left, and-right}
-use Rattle.lists.proofs.Laws.{length-list, get-list, every-at}
-use Rattle.floats.proofs.Sums.{finite-real, sub-real, add-finite}
+use Rattle.base_laws.specs.Indexed.{list, every}
+use Rattle.base_laws.proofs.Tests.{and-left, and-right}
+use Rattle.base_laws.proofs.Laws.{length-list, get-list, every-at}
+use Rattle.base_floats.proofs.Sums.{finite-real, sub-real, add-finite}
 use Rattle.traces.specs.Step.{placeAfter, leaderOf}
 use Rattle.traces.specs.Call.{validPlace, validDistance, validCounts, validValues}
 use Rattle.traces.specs.Guarantees.{Keeps}

@@ -13,8 +13,8 @@ use Rattle.traces.specs.declared.Vehicle.{Vehicle}
 use Rattle.traces.specs.declared.Obstacle.{Obstacle}
 use Rattle.traces.specs.declared.Obstacle.the-variants.{OpenRoad, LeaderPlace, RedLine}
 use Rattle.traces.specs.Step.{nearer, cutTo, lineFor, cutToLines, targetOf, furthest, moved}
-use Rattle.floats.proofs.Sums.{between}
-use Rattle.floats.proofs.Order.{float-le-trans, float-lt-le, float-total, float-le-refl, float-lt-self}
+use Rattle.base_floats.proofs.Sums.{between}
+use Rattle.base_floats.proofs.Order.{float-le-trans, float-lt-le, float-total, float-le-refl, float-lt-self}
 
 -- the nearer of a target and a stop, neither a NaN
 record Nearer (target stop near : Float) : Type 0 where

@@ -7,8 +7,8 @@ use native.Mathlib.Numerals.{add-one}
 use native.Mathlib.Omega.{arith}
 use lib.ListN.{length, getD, set, length-set}
 use lib.Ieee.{Float, nan, binary64, add, sub, lt, le}
-use Rattle.lists.specs.Indexed.{list, filled}
-use Rattle.lists.proofs.Laws.{filled-none, filled-past, filled-more, filled-all}
+use Rattle.base_laws.specs.Indexed.{list, filled}
+use Rattle.base_laws.proofs.Laws.{filled-none, filled-past, filled-more, filled-all}
 use Rattle.traces.specs.declared.Vehicle.{Vehicle}
 use Rattle.traces.specs.declared.Obstacle.{Obstacle}
 use Rattle.traces.specs.declared.Obstacle.the-variants.{OpenRoad, LeaderPlace, RedLine}

@@ -4,10 +4,10 @@ use mathlib.Core.Bool.{Bool, true, false, _&&_}
 use mathlib.Core.List.{List}
 use lib.Ieee.{Float, nan, inf, fin, neg, le, ofInt}
 use lib.Ieee.Scale.{finite}
-use Rattle.lists.specs.Indexed.{every}
-use Rattle.lists.proofs.Tests.{no-truth, and-left, and-right}
-use Rattle.floats.proofs.Order.{under}
-use Rattle.floats.proofs.Sums.{Within, size-within}
+use Rattle.base_laws.specs.Indexed.{every}
+use Rattle.base_laws.proofs.Tests.{no-truth, and-left, and-right}
+use Rattle.base_floats.proofs.Order.{under}
+use Rattle.base_floats.proofs.Sums.{Within, size-within}
 use Rattle.traces.specs.Call.{million, validPlace, validDistance, validValues}
 
 -- a NaN and an infinity fail one of the two comparisons

@@ -7,10 +7,10 @@ use lib.ListN.{length}
 use lib.IntN.{pos}
 use lib.Ieee.{Float, binary64, neg, lt, le, ofInt}
 use lib.Ieee.Scale.{finite}
-use Rattle.search.specs.declared.Verdict.{Verdict}
-use Rattle.search.specs.declared.Verdict.the-variants.{Passes, Refused}
-use Rattle.search.specs.Checks.{Checks, check, _then_, verdict}
-use Rattle.lists.specs.Indexed.{list, every}
+use Rattle.base_search.specs.declared.Verdict.{Verdict}
+use Rattle.base_search.specs.declared.Verdict.the-variants.{Passes, Refused}
+use Rattle.base_search.specs.Checks.{Checks, check, _then_, verdict}
+use Rattle.base_laws.specs.Indexed.{list, every}
 use Rattle.traces.specs.Step.{placeAfter}
 
 -- a million metres

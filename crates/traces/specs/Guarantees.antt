@@ -6,10 +6,10 @@ use mathlib.Core.List.{List}
 use lib.ListN.{length, getD}
 use lib.Ieee.{Float, nan, binary64, add, sub, lt, le}
 use lib.Ieee.Scale.{finite}
-use Rattle.search.specs.declared.Refusal.{Refusal}
-use Rattle.search.specs.declared.Verdict.{Verdict}
-use Rattle.search.specs.declared.Verdict.the-variants.{Passes, Refused}
-use Rattle.search.specs.Numbers.{CanArise}
+use Rattle.base_search.specs.declared.Refusal.{Refusal}
+use Rattle.base_search.specs.declared.Verdict.{Verdict}
+use Rattle.base_search.specs.declared.Verdict.the-variants.{Passes, Refused}
+use Rattle.base_search.specs.Numbers.{CanArise}
 use Rattle.traces.specs.Call.{vehiclesNumbers}
 
 pub record Keeps (places advances lines : List Float) (spacing : Float) (after : List Float) : Type 0 where

@@ -1,13 +1,13 @@
 // Time-distance traces: vehicles along a street, in metres as 64-bit floats. `step_vehicles` moves them by one step. Each sum and difference is rounded once.
 ghost use mathlib.Core.Path.{_≡_};
 ghost use lib.ListN.{length};
-ghost use Rattle.search.specs.Checks.{refusal};
-ghost use Rattle.lists.specs.Indexed.{list, every};
+ghost use Rattle.base_search.specs.Checks.{refusal};
+ghost use Rattle.base_laws.specs.Indexed.{list, every};
 ghost use Rattle.traces.specs.Step.{nearer, cutTo, lineFor, moved, placeAfter};
 ghost use Rattle.traces.specs.Call.{validPlace, validDistance, validCounts, validValues, stepVehicles, placesAfter};
 ghost use Rattle.traces.specs.Guarantees.{StepKeeps};
-use search::Refusal;
-use search::Verdict;
+use base_search::Refusal;
+use base_search::Verdict;
 
 // A vehicle: its place before the step, and how far it would advance.
 pub struct Vehicle {

@@ -1,5 +1,5 @@
 -- `listing_lines::is_digit` meets its contract. Assumes nothing.
-use Rattle.records.specs.Field.{digit}
+use Rattle.text_reader.specs.Field.{digit}
 use borrow.Author.Tests.{le-leb, lt-leb}
 use Rattle.listing_lines.proofs.is_digit.Statement.{statement}
 use Rattle.listing_lines.proofs.is_digit.Tie as tie

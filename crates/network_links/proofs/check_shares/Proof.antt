@@ -2,8 +2,8 @@
 use Prim.Native.Nat.{_-_}
 use mathlib.Core.Path.{refl}
 use borrow.Author.Needs.{needs}
-use Rattle.tables.specs.Blocks.{PassedTo}
-use Rattle.tables.proofs.Blocks.{passed-none}
+use Rattle.network_tables.specs.Blocks.{PassedTo}
+use Rattle.network_tables.proofs.Blocks.{passed-none}
 use Rattle.network_links.specs.Movements.{shareChecksIn}
 use Rattle.network_links.proofs.Movements.{shares-broken, shares-next, shares-done}
 use Rattle.network_links.proofs.Shares.{sums-asked, sum-at}

@@ -1,9 +1,9 @@
 -- `network_links::read_links` meets its contract. Assumes nothing.
 use Prim.Native.Nat.{_-_}
 use borrow.Author.Needs.{needs}
-use Rattle.records.specs.Lines.{lines}
-use Rattle.tables.specs.Fields.{linkFields, linkTableSize}
-use Rattle.tables.specs.Blocks.{TableTo, linkBlock}
+use Rattle.text_reader.specs.Lines.{lines}
+use Rattle.network_tables.specs.Fields.{linkFields, linkTableSize}
+use Rattle.network_tables.specs.Blocks.{TableTo, linkBlock}
 use Rattle.network_links.proofs.Links.{links-begin, links-malformed, link-asked, links-invalid, links-next, links-done}
 use Rattle.network_links.proofs.read_links.Statement.{statement}
 use Rattle.network_links.proofs.read_links.Tie as tie

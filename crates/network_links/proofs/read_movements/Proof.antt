@@ -1,9 +1,9 @@
 -- `network_links::read_movements` meets its contract. Assumes nothing.
 use Prim.Native.Nat.{_-_}
 use borrow.Author.Needs.{needs}
-use Rattle.records.specs.Lines.{lines}
-use Rattle.tables.specs.Fields.{movementFields, movementTableSize}
-use Rattle.tables.specs.Blocks.{TableTo, movementBlock}
+use Rattle.text_reader.specs.Lines.{lines}
+use Rattle.network_tables.specs.Fields.{movementFields, movementTableSize}
+use Rattle.network_tables.specs.Blocks.{TableTo, movementBlock}
 use Rattle.network_links.proofs.Movements.{movements-begin, movements-malformed, movement-asked, movements-invalid, movements-next, movements-done}
 use Rattle.network_links.proofs.read_movements.Statement.{statement}
 use Rattle.network_links.proofs.read_movements.Tie as tie

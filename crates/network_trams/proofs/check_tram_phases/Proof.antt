@@ -1,8 +1,8 @@
 -- `network_trams::check_tram_phases` meets its contract. Assumes nothing.
 use Prim.Native.Nat.{_-_}
 use borrow.Author.Needs.{needs}
-use Rattle.tables.specs.Blocks.{PassedTo}
-use Rattle.tables.proofs.Blocks.{passed-none}
+use Rattle.network_tables.specs.Blocks.{PassedTo}
+use Rattle.network_tables.proofs.Blocks.{passed-none}
 use Rattle.network_trams.specs.Trams.{phaseChecksIn}
 use Rattle.network_trams.proofs.Lines.{phase-asked, phases-broken, phases-next, phases-done}
 use Rattle.network_trams.proofs.check_tram_phases.Statement.{statement}

@@ -1,9 +1,9 @@
 -- `network_trams::read_trams` meets its contract. Assumes nothing.
 use Prim.Native.Nat.{_-_}
 use borrow.Author.Needs.{needs}
-use Rattle.records.specs.Lines.{lines}
-use Rattle.tables.specs.Fields.{tramFields, tramTableSize}
-use Rattle.tables.specs.Blocks.{TableTo, tramBlock}
+use Rattle.text_reader.specs.Lines.{lines}
+use Rattle.network_tables.specs.Fields.{tramFields, tramTableSize}
+use Rattle.network_tables.specs.Blocks.{TableTo, tramBlock}
 use Rattle.network_trams.proofs.Lines.{trams-begin, trams-malformed, tram-known, trams-invalid, trams-next, trams-done}
 use Rattle.network_trams.proofs.read_trams.Statement.{statement}
 use Rattle.network_trams.proofs.read_trams.Tie as tie

@@ -3,7 +3,7 @@ use Prim.Native.Nat.{_-_}
 use mathlib.Core.Path.{_≡_}
 use lib.ListN.{length}
 use borrow.Author.Needs.{needs}
-use Rattle.tables.specs.Fields.{tramFields}
+use Rattle.network_tables.specs.Fields.{tramFields}
 use Rattle.network_trams.proofs.Claims.{ClaimsTo, claims-begin, claims-never, fields-size, claim-asked, claims-next, claims-done}
 use Rattle.network_trams.proofs.tram_phases.Statement.{statement}
 use Rattle.network_trams.proofs.tram_phases.Tie as tie

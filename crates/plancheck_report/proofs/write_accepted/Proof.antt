@@ -1,6 +1,6 @@
 -- `plancheck_report::write_accepted` meets its contract: the `B` records stand behind the `A` record. Assumes nothing.
 use Rattle.plancheck_report.proofs.Answer.{boundaries-asked, accepted-wrote}
-use Rattle.record_writer.proofs.Laws.{record-fits}
+use Rattle.text_writer.proofs.Laws.{record-fits}
 use borrow.Author.Needs.{needs}
 use Rattle.plancheck_report.proofs.write_accepted.Statement.{statement}
 use Rattle.plancheck_report.proofs.write_accepted.Tie as tie

@@ -1,5 +1,5 @@
 -- `plancheck_report::write_answer` meets its contract, answer by answer. Assumes nothing.
-use Rattle.records.specs.Lines.{lines}
+use Rattle.text_reader.specs.Lines.{lines}
 use Rattle.plancheck_report.proofs.Answer.{accepted-told, refused-told}
 use borrow.Author.Needs.{needs}
 use Rattle.plancheck_report.proofs.write_answer.Statement.{statement}

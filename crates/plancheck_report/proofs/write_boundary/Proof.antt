@@ -3,7 +3,7 @@ use mathlib.Core.Path.{ap}
 use lib.ListN.{length}
 use native.Mathlib.Omega.{arith}
 use Rattle.plancheck_report.proofs.Boundaries.{fields-read}
-use Rattle.record_writer.proofs.Laws.{record-fits}
+use Rattle.text_writer.proofs.Laws.{record-fits}
 use borrow.Author.Needs.{needs}
 use Rattle.plancheck_report.proofs.write_boundary.Statement.{statement}
 use Rattle.plancheck_report.proofs.write_boundary.Tie as tie

@@ -1,6 +1,6 @@
 -- `plancheck_report::write_not_read` meets its contract. Assumes nothing.
 use Rattle.model.specs.Report.{notRead}
-use Rattle.record_writer.proofs.Laws.{record-fits}
+use Rattle.text_writer.proofs.Laws.{record-fits}
 use borrow.Author.Needs.{needs}
 use Rattle.plancheck_report.proofs.write_not_read.Statement.{statement}
 use Rattle.plancheck_report.proofs.write_not_read.Tie as tie

@@ -1,6 +1,6 @@
 -- `plancheck_report::write_refusal` meets its contract. Assumes nothing.
 use Rattle.plancheck_report.proofs.Answer.{refusal-wrote}
-use Rattle.record_writer.proofs.Laws.{record-fits}
+use Rattle.text_writer.proofs.Laws.{record-fits}
 use borrow.Author.Needs.{needs}
 use Rattle.plancheck_report.proofs.write_refusal.Statement.{statement}
 use Rattle.plancheck_report.proofs.write_refusal.Tie as tie

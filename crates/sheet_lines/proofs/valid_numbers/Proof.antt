@@ -2,7 +2,7 @@
 use Prim.Native.Nat.{_-_}
 use mathlib.Core.Path.{_≡_, refl}
 use native.Mathlib.Omega.{arith}
-use Rattle.tables.specs.Fields.{tableSignal}
+use Rattle.network_tables.specs.Fields.{tableSignal}
 use Rattle.sheet_lines.specs.Reading.{numberIn}
 use Rattle.sheet_lines.proofs.Lines.{Summed, summed-none, summed-fits, summed-more, summed-broken, summed-kept, summed-offset}
 use borrow.Author.Needs.{needs}

@@ -3,7 +3,7 @@ use Prim.Native.Nat.{_+_, _*_, _-_}
 use lib.Dec.{ltb}
 use lib.ListN.{getD}
 use Rattle.model.specs.Sum.{only}
-use Rattle.tables.specs.Places.{planWidth}
+use Rattle.network_tables.specs.Places.{planWidth}
 use Rattle.sheet_writer.proofs.Texts.{NumbersTo, numbers-more}
 use Rattle.sheet_writer.proofs.Lines.{filling-none, filling-all}
 use native.Mathlib.Omega.{arith}

@@ -2,7 +2,7 @@
 use Prim.Native.Nat.{_-_}
 use mathlib.Core.Path.{_≡_}
 use lib.ListN.{length}
-use Rattle.tables.specs.Fields.{tramFields}
+use Rattle.network_tables.specs.Fields.{tramFields}
 use Rattle.sheet_writer.proofs.Columns.{TramsTo, trams-none, trams-never, trams-hit, trams-next, trams-all}
 use borrow.Author.Needs.{needs}
 use Rattle.sheet_writer.proofs.has_no_tram.Statement.{statement}

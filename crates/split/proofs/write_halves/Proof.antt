@@ -1,5 +1,5 @@
 -- `split::write_halves` meets its contract. Assumes nothing.
-use Rattle.split_model.specs.Splits.{roomOf}
+use Rattle.model_split.specs.Splits.{roomOf}
 use Rattle.split.specs.Splitting.{buffers}
 use Rattle.split.proofs.Writing.{first-asked, second-asked, too-short, all-written}
 use borrow.Author.Needs.{needs}

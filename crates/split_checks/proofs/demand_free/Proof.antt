@@ -1,5 +1,5 @@
 -- `split_checks::demand_free` meets its contract. Assumes nothing.
-use Rattle.half_tables.proofs.Tables.{movement-asked}
+use Rattle.split_tables.proofs.Tables.{movement-asked}
 use Rattle.split_checks.proofs.Tables.{place-asked, free-told}
 use borrow.Author.Needs.{needs}
 use Rattle.split_checks.proofs.demand_free.Statement.{statement}

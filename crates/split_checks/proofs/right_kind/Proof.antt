@@ -1,5 +1,5 @@
 -- `split_checks::right_kind` meets its contract. Assumes nothing.
-use Rattle.half_tables.proofs.Tables.{movement-asked}
+use Rattle.split_tables.proofs.Tables.{movement-asked}
 use Rattle.split_checks.proofs.Tables.{place-asked, inside-kind, border-kind}
 use borrow.Author.Needs.{needs}
 use Rattle.split_checks.proofs.right_kind.Statement.{statement}

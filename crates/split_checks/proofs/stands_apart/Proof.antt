@@ -1,5 +1,5 @@
 -- `split_checks::stands_apart` meets its contract. Assumes nothing.
-use Rattle.half_tables.proofs.Tables.{movement-asked}
+use Rattle.split_tables.proofs.Tables.{movement-asked}
 use Rattle.split_checks.proofs.Tables.{apart-told}
 use borrow.Author.Needs.{needs}
 use Rattle.split_checks.proofs.stands_apart.Statement.{statement}

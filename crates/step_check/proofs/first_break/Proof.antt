@@ -2,8 +2,8 @@
 use Prim.Native.Nat.{_-_, _≤_}
 use mathlib.Core.Path.{_≡_, refl}
 use native.Mathlib.Omega.{arith}
-use Rattle.search.specs.declared.Verdict.the-variants.{Passes}
-use Rattle.search.proofs.Table.{RulesKept, ItemsKept, rules-none}
+use Rattle.base_search.specs.declared.Verdict.the-variants.{Passes}
+use Rattle.base_search.proofs.Table.{RulesKept, ItemsKept, rules-none}
 use Rattle.step_check.specs.Step.{stepRulesIn}
 use Rattle.step_check.proofs.Rules.{few-items}
 use Rattle.step_check.proofs.Search.{RowBefore, row-first, row-turn, row-next, fits-at, tables-at, items-first, item-kept, rule-kept, broken-here, none-broken}

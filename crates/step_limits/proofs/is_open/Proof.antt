@@ -4,7 +4,7 @@ use Prim.Native.Nat.{_-_}
 use native.Mathlib.Omega.{arith}
 use lib.ListN.{getD}
 use Rattle.model.specs.Signals.{opens}
-use Rattle.tables.specs.Fields.{signalIn}
+use Rattle.network_tables.specs.Fields.{signalIn}
 use Rattle.step_limits.proofs.Turns.{open-free, open-shown}
 use borrow.Author.Needs.{needs}
 use Rattle.step_limits.proofs.is_open.Statement.{statement}

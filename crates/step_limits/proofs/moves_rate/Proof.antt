@@ -2,7 +2,7 @@
 use mathlib.Core.Path.{_∙_, ap₂}
 use Prim.Native.Nat.{_*_}
 use lib.Dec.{leb}
-use Rattle.tables.specs.Fields.{lengthIn}
+use Rattle.network_tables.specs.Fields.{lengthIn}
 use Rattle.step_limits.specs.Limits.{movesRate}
 use borrow.Author.Needs.{needs}
 use Rattle.step_limits.proofs.moves_rate.Statement.{statement}

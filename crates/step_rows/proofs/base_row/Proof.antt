@@ -4,7 +4,7 @@ use mathlib.Core.Path.{_≡_}
 use Prim.Native.Nat.{_*_, _-_, _≤_}
 use native.Mathlib.Omega.{arith}
 use lib.ListN.{length, drop, length-set}
-use Rattle.tables.specs.Fields.{rowSize}
+use Rattle.network_tables.specs.Fields.{rowSize}
 use Rattle.step_rows.specs.Rows.{pairs, baseEntered, baseLeft}
 use Rattle.step_rows.proofs.Lists.{begun-none}
 use Rattle.step_rows.proofs.Turns.{base-entered-fits, base-left-fits, base-turn}

@@ -2,7 +2,7 @@
 use mathlib.Core.Path.{_∙_, ap₂}
 use Prim.Native.Nat.{_+_}
 use lib.Dec.{leb}
-use Rattle.tables.specs.Fields.{capacityIn, enteredIn, leftIn}
+use Rattle.network_tables.specs.Fields.{capacityIn, enteredIn, leftIn}
 use Rattle.step_sums.specs.Sums.{fitsCapacity}
 use Rattle.step_sums.proofs.Turns.{leb-over}
 use borrow.Author.Needs.{needs}

@@ -2,8 +2,8 @@
 use Prim.Native.Nat.{_≤_, _-_}
 use mathlib.Core.Path.{_≡_, refl}
 use lib.ListN.{length, drop}
-use Rattle.lists.specs.Indexed.{every}
-use Rattle.lists.proofs.Laws.{every-fails, every-goes-on, every-done}
+use Rattle.base_laws.specs.Indexed.{every}
+use Rattle.base_laws.proofs.Laws.{every-fails, every-goes-on, every-done}
 use Rattle.traces.specs.Call.{validDistance}
 use borrow.Author.Needs.{needs}
 use Rattle.traces.proofs.valid_distances.Statement.{statement}

@@ -1,4 +1,0 @@
-pub mod Arrivals
-pub mod Timed
-pub mod Boundaries
-pub mod Cursors

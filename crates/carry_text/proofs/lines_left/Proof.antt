@@ -1,0 +1,17 @@
+-- `carry_text::lines_left` meets its contract. Assumes nothing.
+use Rattle.carry_text.proofs.Trams.{one-left, none-left}
+use borrow.Author.Needs.{needs}
+use Rattle.carry_text.proofs.lines_left.Statement.{statement}
+use Rattle.carry_text.proofs.lines_left.Tie as tie
+
+shared-slice-read-if1 : tie.Need-shared-slice-read-if1
+shared-slice-read-if1 c = search needs
+
+returns : tie.Need-returns
+returns c = search (one-left, needs)
+
+returns-2 : tie.Need-returns-2
+returns-2 c = search (none-left, needs)
+
+pub lines-left-spec : {M : Type 1} → statement M
+lines-left-spec = tie.close (tie.spec shared-slice-read-if1 returns returns-2)

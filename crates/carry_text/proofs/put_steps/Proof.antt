@@ -1,0 +1,84 @@
+-- `carry_text::put_steps` meets its contract. Assumes nothing.
+use native.Mathlib.Omega.{arith}
+use Rattle.carry_text.proofs.Reading.{StepsTo, steps-none, volumes-asked, steps-part, steps-asked, steps-next, steps-all}
+use Prim.Native.Nat.{_-_}
+use borrow.Author.Needs.{needs}
+use Rattle.carry_text.proofs.put_steps.Statement.{statement}
+use Rattle.carry_text.proofs.put_steps.Tie as tie
+
+abbrev Inv-loop : tie.InvT-loop
+Inv-loop text from ledger links boundary out₀ at row₀ width line₀ end₀ n₀ out row line end n = StepsTo text from ledger links boundary at out₀ row line out end n
+
+abbrev μ-loop : tie.MeasureT-loop
+μ-loop text from ledger links boundary out₀ at row₀ width line₀ end₀ n₀ out row line end n = boundary - n
+
+mul-width : tie.Need-mul-width Inv-loop μ-loop
+mul-width c = search needs
+
+add-width : tie.Need-add-width Inv-loop μ-loop
+add-width c = search needs
+
+loop-holds : tie.Need-loop-holds Inv-loop μ-loop
+loop-holds c = search (steps-none, needs)
+
+slice-aggregate-read-again : tie.Need-slice-aggregate-read-again Inv-loop μ-loop
+slice-aggregate-read-again c = search needs
+
+add-read-again : tie.Need-add-read-again Inv-loop μ-loop
+add-read-again c = search needs
+
+read-again-requires : tie.Need-read-again-requires Inv-loop μ-loop
+read-again-requires c κs = search needs
+
+slice-aggregate-fill-volumes : tie.Need-slice-aggregate-fill-volumes Inv-loop μ-loop
+slice-aggregate-fill-volumes c = search needs
+
+fill-volumes-requires : tie.Need-fill-volumes-requires Inv-loop μ-loop
+fill-volumes-requires c κs = volumes-asked (c .before .before .before .before .before .loop .inv) (c .before .before .before .before .before .before .before .before .before .pre .0) (omega arith) (c .before .before .read-again .ensures)
+
+array-share-prefix-row : tie.Need-array-share-prefix-row Inv-loop μ-loop
+array-share-prefix-row c = search needs
+
+slice-aggregate-put-line : tie.Need-slice-aggregate-put-line Inv-loop μ-loop
+slice-aggregate-put-line c = search (steps-part, needs)
+
+put-line-requires : tie.Need-put-line-requires Inv-loop μ-loop
+put-line-requires c κs = steps-asked (c .before .before .before .before .before .before .before .before .before .loop .inv) (c .before .before .before .before .before .before .before .before .before .before .before .before .before .pre .0) (omega arith) (c .before .before .before .before .before .before .read-again .ensures) (c .before .before .before .fill-volumes .ensures) (c .before .before .before .before .before .before .before .before .before .before .before .before .before .pre .1)
+
+add-n : tie.Need-add-n Inv-loop μ-loop
+add-n c = search needs
+
+loop-less : tie.Need-loop-less Inv-loop μ-loop
+loop-less c = search needs
+
+loop-again : tie.Need-loop-again Inv-loop μ-loop
+loop-again c = search (steps-next, needs)
+
+same-length : tie.Need-same-length Inv-loop μ-loop
+same-length c = search needs
+
+returns : tie.Need-returns Inv-loop μ-loop
+returns c = search steps-all
+
+pub put-steps-spec : {M : Type 1} → statement M
+put-steps-spec =
+    tie.close
+    (tie.spec
+    Inv-loop
+    μ-loop
+    mul-width
+    add-width
+    loop-holds
+    slice-aggregate-read-again
+    add-read-again
+    read-again-requires
+    slice-aggregate-fill-volumes
+    fill-volumes-requires
+    array-share-prefix-row
+    slice-aggregate-put-line
+    put-line-requires
+    add-n
+    loop-less
+    loop-again
+    same-length
+    returns)

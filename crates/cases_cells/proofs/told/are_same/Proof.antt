@@ -1,0 +1,69 @@
+-- `cases_cells::told::are_same` meets its contract. Assumes nothing.
+use Prim.Native.Nat.{_-_, _≤_}
+use mathlib.Core.Path.{_≡_, refl, ap}
+use native.Mathlib.Omega.{arith}
+use lib.Dec.{eqb}
+use Rattle.cases_files.specs.Below.{allBelow}
+use Rattle.cases_files.proofs.Laws.{all-below-next}
+use Rattle.cases_cells.specs.Told.{sameVolume, sameVolumes}
+use borrow.Author.Needs.{needs}
+use Rattle.cases_cells.proofs.told.are_same.Statement.{statement}
+use Rattle.cases_cells.proofs.told.are_same.Tie as tie
+
+abbrev Inv-loop : tie.InvT-loop
+Inv-loop volumes told same₀ i₀ same i = (i ≤ 64) × (same ≡ allBelow (sameVolume volumes told) i)
+
+abbrev μ-loop : tie.MeasureT-loop
+μ-loop volumes told same₀ i₀ same i = 64 - i
+
+loop-holds : tie.Need-loop-holds Inv-loop μ-loop
+unfolding allBelow
+loop-holds c = (search needs, refl)
+
+mul-same : tie.Need-mul-same Inv-loop μ-loop
+mul-same c = search needs
+
+element-copy-out-same : tie.Need-element-copy-out-same Inv-loop μ-loop
+element-copy-out-same c = search needs
+
+mul-number-at : tie.Need-mul-number-at Inv-loop μ-loop
+mul-number-at c = search needs
+
+add-number-at : tie.Need-add-number-at Inv-loop μ-loop
+add-number-at c = search needs
+
+number-at-requires : tie.Need-number-at-requires Inv-loop μ-loop
+number-at-requires c κs = search needs
+
+add-i : tie.Need-add-i Inv-loop μ-loop
+add-i c = search needs
+
+loop-less : tie.Need-loop-less Inv-loop μ-loop
+loop-less c = search needs
+
+loop-again : tie.Need-loop-again Inv-loop μ-loop
+loop-again c = (search needs, all-below-next _ _ (c .before .before .before .before .loop .inv .1) (ap (eqb _) (c .number-at .ensures)))
+
+returns : tie.Need-returns Inv-loop μ-loop
+unfolding sameVolumes
+returns c =
+    let l = c .before .loop in
+    let e : l .i ≡ 64 = omega arith in
+    rw e at (l .inv .1)
+
+pub are-same-spec : {M : Type 1} → statement M
+are-same-spec =
+    tie.close
+    (tie.spec
+    Inv-loop
+    μ-loop
+    loop-holds
+    mul-same
+    element-copy-out-same
+    mul-number-at
+    add-number-at
+    number-at-requires
+    add-i
+    loop-less
+    loop-again
+    returns)

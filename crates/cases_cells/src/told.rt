@@ -1,0 +1,82 @@
+// The answer of a run in the stored form, which is described in reference/src/cases/corridor_file.rs.
+ghost use mathlib.Core.Path.{_≡_};
+ghost use Rattle.cases_cells.specs.Told.{numbersOf, numbersTold, sameNumbers, sameVolumes};
+use cases_files::numbers::long_number_at;
+use cases_files::numbers::number_at;
+use cells_call::CellsAnswer;
+
+// Number, line and item of a refusal, or number of cells, flow in and flow out; 0 where there is none.
+pub struct Numbers {
+    pub number: u32,
+    pub line: u32,
+    pub item: u32,
+    pub cells: u32,
+    pub flow_in: u64,
+    pub flow_out: u64,
+}
+
+// The numbers of what the library answers.
+pub fn numbers_of(answer: CellsAnswer) -> Numbers
+    ensures { λ r. ⌜ r ≡ numbersOf answer ⌝ }
+{
+    match answer {
+        CellsAnswer::Ran {
+            cells,
+            flow_in,
+            flow_out,
+        } => Numbers {
+            number: 0,
+            line: 0,
+            item: 0,
+            cells,
+            flow_in,
+            flow_out,
+        },
+        CellsAnswer::Refused(refusal) => Numbers {
+            number: refusal.number,
+            line: refusal.line,
+            item: refusal.item,
+            cells: 0,
+            flow_in: 0,
+            flow_out: 0,
+        },
+    }
+}
+
+// The numbers that were stored, of the 288 bytes that a case ends with.
+pub fn numbers_told(told: &[u8; 288]) -> Numbers
+    ensures { λ r. ⌜ r ≡ numbersTold (now (told .entry)) ⌝ }
+{
+    Numbers {
+        number: number_at(told, 0),
+        line: number_at(told, 4),
+        item: number_at(told, 8),
+        cells: number_at(told, 12),
+        flow_in: long_number_at(told, 16),
+        flow_out: long_number_at(told, 24),
+    }
+}
+
+pub fn is_same(one: Numbers, other: Numbers) -> bool
+    ensures { λ r. ⌜ r ≡ sameNumbers one other ⌝ }
+{
+    (one.number == other.number)
+        & (one.line == other.line)
+        & (one.item == other.item)
+        & (one.cells == other.cells)
+        & (one.flow_in == other.flow_in)
+        & (one.flow_out == other.flow_out)
+}
+
+// Whether every volume is the one that was stored.
+pub fn are_same(volumes: &[u32; 64], told: &[u8; 288]) -> bool
+    ensures { λ r. ⌜ r ≡ sameVolumes (now (volumes .entry)) (now (told .entry)) ⌝ }
+{
+    let mut same = true;
+    let mut i = 0;
+    while i < 64 {
+        same = same & (volumes[i] == number_at(told, 32 + i * 4));
+        i += 1;
+    }
+    same
+}

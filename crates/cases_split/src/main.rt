@@ -1,0 +1,24 @@
+// Splits stored networks and plans by `split`, and compares each answer and every byte of the four buffers with those of another implementation. Prints each
+// case that differs, how many cases each file has, how many agreed, by refusal number, and how many differ. The two cases of wrong_answer.bin have a wrong
+// answer on purpose: they must be told as different.
+mod compare;
+mod counts;
+mod told;
+
+use crate::counts::COUNTERS;
+use cases_files::tally;
+
+// Compares the cases of a file, and prints how many it has.
+fn compare_file(path: &[u8], counts: &mut [u64; COUNTERS]) {
+    let file = os::open_read(path);
+    let answer = compare::run_file(file, counts);
+    libc::close(file);
+    tally::print_file(path, answer);
+}
+
+fn main() {
+    let mut counts = [0u64; COUNTERS];
+    compare_file(b"cases.bin", &mut counts);
+    compare_file(b"wrong_answer.bin", &mut counts);
+    counts::print_counts(&counts);
+}

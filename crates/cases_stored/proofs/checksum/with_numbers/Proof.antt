@@ -1,0 +1,56 @@
+-- `cases_stored::checksum::with_numbers` meets its contract. Assumes nothing.
+use mathlib.Core.Path.{refl}
+use Prim.Native.Nat.{_-_, _≤_}
+use lib.ListN.{length}
+use Rattle.cases_stored.specs.Checksum.{withNumber}
+use Rattle.cases_stored.proofs.Laws.{Summed, summed-next, summed-all}
+use borrow.Author.Needs.{needs}
+use Rattle.cases_stored.proofs.checksum.with_numbers.Statement.{statement}
+use Rattle.cases_stored.proofs.checksum.with_numbers.Tie as tie
+
+abbrev Inv-loop : tie.InvT-loop
+Inv-loop start numbers sum₀ i₀ sum i = (i ≤ length numbers) × Summed withNumber start numbers sum i
+
+abbrev μ-loop : tie.MeasureT-loop
+μ-loop start numbers sum₀ i₀ sum i = length numbers - i
+
+loop-holds : tie.Need-loop-holds Inv-loop μ-loop
+loop-holds c = (search needs, refl)
+
+mul-with-number : tie.Need-mul-with-number Inv-loop μ-loop
+mul-with-number c = search needs
+
+shared-slice-read-with-number : tie.Need-shared-slice-read-with-number Inv-loop μ-loop
+shared-slice-read-with-number c = search needs
+
+with-number-requires : tie.Need-with-number-requires Inv-loop μ-loop
+with-number-requires c κs = search needs
+
+add-i : tie.Need-add-i Inv-loop μ-loop
+add-i c = search needs
+
+loop-less : tie.Need-loop-less Inv-loop μ-loop
+loop-less c = search needs
+
+loop-again : tie.Need-loop-again Inv-loop μ-loop
+loop-again c =
+    let l = c .before .before .before .loop in
+    (search needs, summed-next withNumber _ _ (l .sum) (l .i) _ (search needs) (l .inv .1) (c .with-number .ensures))
+
+returns : tie.Need-returns Inv-loop μ-loop
+returns c = summed-all withNumber _ _ _ (c .before .loop .i) (search needs) (c .before .loop .inv .1)
+
+pub with-numbers-spec : {M : Type 1} → statement M
+with-numbers-spec =
+    tie.close
+    (tie.spec
+    Inv-loop
+    μ-loop
+    loop-holds
+    mul-with-number
+    shared-slice-read-with-number
+    with-number-requires
+    add-i
+    loop-less
+    loop-again
+    returns)

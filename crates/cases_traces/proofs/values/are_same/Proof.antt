@@ -1,0 +1,68 @@
+-- `cases_traces::values::are_same` meets its contract. Assumes nothing.
+use Prim.Native.Nat.{_-_, _≤_}
+use mathlib.Core.Path.{_≡_, refl}
+use native.Mathlib.Omega.{arith}
+use lib.ListN.{length}
+use Rattle.cases_files.specs.Below.{allBelow}
+use Rattle.cases_files.proofs.Laws.{all-below-next}
+use Rattle.cases_traces.specs.Values.{sameAt}
+use Rattle.cases_traces.proofs.Laws.{same-all}
+use borrow.Author.Needs.{needs}
+use Rattle.cases_traces.proofs.values.are_same.Statement.{statement}
+use Rattle.cases_traces.proofs.values.are_same.Tie as tie
+
+abbrev Inv-loop : tie.InvT-loop
+Inv-loop values told same₀ i₀ same i = (i ≤ length values) × (same ≡ allBelow (sameAt values told) i)
+
+abbrev μ-loop : tie.MeasureT-loop
+μ-loop values told same₀ i₀ same i = length values - i
+
+loop-holds : tie.Need-loop-holds Inv-loop μ-loop
+unfolding allBelow
+loop-holds c = (search needs, refl)
+
+mul-is-same : tie.Need-mul-is-same Inv-loop μ-loop
+mul-is-same c = search needs
+
+shared-slice-read-is-same : tie.Need-shared-slice-read-is-same Inv-loop μ-loop
+shared-slice-read-is-same c = search needs
+
+mul-is-same-2 : tie.Need-mul-is-same-2 Inv-loop μ-loop
+mul-is-same-2 c = search needs
+
+shared-slice-read-is-same-2 : tie.Need-shared-slice-read-is-same-2 Inv-loop μ-loop
+shared-slice-read-is-same-2 c = search needs
+
+is-same-requires : tie.Need-is-same-requires Inv-loop μ-loop
+is-same-requires c κs = search needs
+
+add-i : tie.Need-add-i Inv-loop μ-loop
+add-i c = search needs
+
+loop-less : tie.Need-loop-less Inv-loop μ-loop
+loop-less c = search needs
+
+loop-again : tie.Need-loop-again Inv-loop μ-loop
+loop-again c = (search needs, all-below-next _ _ (c .before .before .before .before .loop .inv .1) (c .is-same .ensures))
+
+returns : tie.Need-returns Inv-loop μ-loop
+returns c =
+    let l = c .before .loop in
+    same-all _ _ (l .i) (l .inv .0) (omega arith) (l .inv .1)
+
+pub are-same-spec : {M : Type 1} → statement M
+are-same-spec =
+    tie.close
+    (tie.spec
+    Inv-loop
+    μ-loop
+    loop-holds
+    mul-is-same
+    shared-slice-read-is-same
+    mul-is-same-2
+    shared-slice-read-is-same-2
+    is-same-requires
+    add-i
+    loop-less
+    loop-again
+    returns)

@@ -1,2 +1,0 @@
-pub mod Picked
-pub mod Lines

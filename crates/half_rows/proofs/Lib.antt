@@ -1,2 +1,0 @@
-mod Border
-pub mod Filling

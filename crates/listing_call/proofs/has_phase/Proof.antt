@@ -1,0 +1,43 @@
+-- `listing_call::has_phase` meets its contract. Assumes nothing.
+use native.Mathlib.Omega.{arith}
+use Rattle.listing_call.proofs.Turns.{phase-none, within-some, phase-is}
+use borrow.Author.Needs.{needs}
+use Rattle.listing_call.proofs.has_phase.Statement.{statement}
+use Rattle.listing_call.proofs.has_phase.Tie as tie
+
+is-within-requires : tie.Need-is-within-requires
+is-within-requires c κs = search needs
+
+returns : tie.Need-returns
+returns c = search phase-none
+
+sub-index : tie.Need-sub-index
+sub-index c = omega (arith, within-some _ _ _ (c .before .is-within .ensures) (c .if1 .left))
+
+mul-index : tie.Need-mul-index
+mul-index c = omega (arith, within-some _ _ _ (c .before .is-within .ensures) (c .if1 .left))
+
+shared-slice-read-index : tie.Need-shared-slice-read-index
+shared-slice-read-index c = omega (arith, within-some _ _ _ (c .before .before .is-within .ensures) (c .before .if1 .left))
+
+index-requires : tie.Need-index-requires
+index-requires c κs = search needs
+
+is-within-requires-2 : tie.Need-is-within-requires-2
+is-within-requires-2 c κs = search needs
+
+returns-2 : tie.Need-returns-2
+returns-2 c = search phase-is
+
+pub has-phase-spec : {M : Type 1} → statement M
+has-phase-spec =
+    tie.close
+    (tie.spec
+    is-within-requires
+    returns
+    sub-index
+    mul-index
+    shared-slice-read-index
+    index-requires
+    is-within-requires-2
+    returns-2)

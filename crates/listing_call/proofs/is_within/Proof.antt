@@ -1,0 +1,11 @@
+-- `listing_call::is_within` meets its contract. Assumes nothing.
+use Rattle.model.specs.Test.{_and_, within}
+use Rattle.listing_call.proofs.is_within.Statement.{statement}
+use Rattle.listing_call.proofs.is_within.Tie as tie
+
+returns : tie.Need-returns
+unfolding within _and_
+returns c = cc
+
+pub is-within-spec : {M : Type 1} → statement M
+is-within-spec = tie.close (tie.spec returns)

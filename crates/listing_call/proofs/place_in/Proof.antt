@@ -1,0 +1,34 @@
+-- `listing_call::place_in` meets its contract. Assumes nothing.
+use native.Mathlib.Omega.{arith}
+use Rattle.listing_call.proofs.Turns.{place-none, place-at, within-some}
+use borrow.Author.Needs.{needs}
+use Rattle.listing_call.proofs.place_in.Statement.{statement}
+use Rattle.listing_call.proofs.place_in.Tie as tie
+
+is-within-requires : tie.Need-is-within-requires
+is-within-requires c κs = search needs
+
+returns : tie.Need-returns
+returns c = search place-none
+
+sub-n : tie.Need-sub-n
+sub-n c = omega (arith, within-some _ _ _ (c .before .is-within .ensures) (c .if1 .left))
+
+mul-t8 : tie.Need-mul-t8
+mul-t8 c = omega (arith, within-some _ _ _ (c .before .is-within .ensures) (c .if1 .left))
+
+add-t9 : tie.Need-add-t9
+add-t9 c = omega (arith, within-some _ _ _ (c .before .is-within .ensures) (c .if1 .left))
+
+mul-t10 : tie.Need-mul-t10
+mul-t10 c = omega (arith, within-some _ _ _ (c .before .is-within .ensures) (c .if1 .left))
+
+add-t11 : tie.Need-add-t11
+add-t11 c = omega (arith, within-some _ _ _ (c .before .is-within .ensures) (c .if1 .left))
+
+returns-2 : tie.Need-returns-2
+returns-2 c = search place-at
+
+pub place-in-spec : {M : Type 1} → statement M
+place-in-spec =
+    tie.close (tie.spec is-within-requires returns sub-n mul-t8 add-t9 mul-t10 add-t11 returns-2)

@@ -1,0 +1,18 @@
+-- `network_tables::row_start` meets its contract: the product fits, since both factors are small. Assumes nothing.
+use borrow.Author.Needs.{needs}
+use native.Mathlib.Nat.{mul-le-mul-right}
+use native.Mathlib.Omega.{arith}
+use Rattle.network_tables.proofs.row_start.Statement.{statement}
+use Rattle.network_tables.proofs.row_start.Tie as tie
+
+mul-result : tie.Need-mul-result
+mul-result c = search needs
+
+mul-result-2 : tie.Need-mul-result-2
+mul-result-2 c = omega (arith, mul-le-mul-right (c .args .count) (c .pre .0))
+
+returns : tie.Need-returns
+returns c = search needs
+
+pub row-start-spec : {M : Type 1} → statement M
+row-start-spec = tie.close (tie.spec mul-result mul-result-2 returns)

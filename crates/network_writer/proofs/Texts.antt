@@ -1,0 +1,31 @@
+-- Lines of one letter by a list of their numbers, and a text at the beginning of a buffer. Assumes nothing.
+use Prim.Native.Nat.{ℕ, zero, suc, _+_}
+use mathlib.Core.Path.{_≡_, refl, sym, ap, _∙_}
+use mathlib.Core.List.{List, [], _∷_, _++_, append-assoc, append-nil}
+use native.Mathlib.Omega.{arith}
+use lib.ListN.{length, getD}
+use Rattle.text_reader.specs.Reading.{over}
+use Rattle.text_writer.specs.Records.{recordText, recordTexts}
+use Rattle.text_writer.specs.Writing.{putAt}
+use Rattle.network_writer.specs.Texts.{lineTexts}
+
+texts-first : (letter n : ℕ) (f : ℕ → List ℕ) → recordTexts letter (suc n) f ≡ recordText letter (f 0) ++ recordTexts letter n (λ k. f (suc k))
+unfolding recordTexts
+texts-first letter zero f = sym (append-nil _)
+texts-first letter (suc n) f = ap (λ (xs : List ℕ). xs ++ recordText letter (f (suc n))) (texts-first letter n f) ∙ append-assoc (recordText letter (f 0)) (recordTexts letter n (λ k. f (suc k))) (recordText letter (f (suc n)))
+
+-- lines by a list of their numbers
+pub texts-of-list : (letter : ℕ) (ts : List (List ℕ)) → lineTexts letter ts ≡ recordTexts letter (length ts) (λ k. getD ts k [])
+unfolding lineTexts
+texts-of-list letter [] = unfold recordTexts in refl
+texts-of-list letter (t ∷ ts) = ap (λ (xs : List ℕ). recordText letter t ++ xs) (texts-of-list letter ts) ∙ sym (texts-first letter (length ts) (λ k. getD (t ∷ ts) k []))
+
+pub texts-more : (letter : ℕ) (a b : List (List ℕ)) → lineTexts letter (a ++ b) ≡ lineTexts letter a ++ lineTexts letter b
+unfolding lineTexts
+texts-more letter [] b = refl
+texts-more letter (t ∷ a) b = ap (λ (x : List ℕ). recordText letter t ++ x) (texts-more letter a b) ∙ sym (append-assoc (recordText letter t) (lineTexts letter a) (lineTexts letter b))
+
+-- a text at the beginning of a buffer
+pub put-first : (text old : List ℕ) → putAt 0 text old ≡ over text old
+unfolding putAt over
+put-first text old = let z : 0 + length text ≡ length text = omega arith in rw z refl

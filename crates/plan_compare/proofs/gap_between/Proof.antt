@@ -1,0 +1,22 @@
+-- `plan_compare::gap_between` meets its contract. Assumes nothing.
+use mathlib.Core.Path.{_∙_}
+use mir.Facts.{toZ-ofZ}
+use Rattle.plan_compare.proofs.Gap.{gap-formed, gap-fits}
+use borrow.Author.Needs.{needs}
+use Rattle.plan_compare.proofs.gap_between.Statement.{statement}
+use Rattle.plan_compare.proofs.gap_between.Tie as tie
+
+cast-result : tie.Need-cast-result
+cast-result c = search needs
+
+cast-result-2 : tie.Need-cast-result-2
+cast-result-2 c = search needs
+
+sub-result : tie.Need-sub-result
+sub-result c = gap-fits _ _ (c .pre .0) (c .pre .1)
+
+returns : tie.Need-returns
+returns c = toZ-ofZ (gap-fits _ _ (c .pre .0) (c .pre .1)) ∙ gap-formed _ _ (c .pre .0) (c .pre .1)
+
+pub gap-between-spec : {M : Type 1} → statement M
+gap-between-spec = tie.close (tie.spec cast-result cast-result-2 sub-result returns)

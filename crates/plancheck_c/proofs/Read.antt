@@ -1,0 +1,98 @@
+-- What holds of an answer holds of the answer that its result is read as, since no refusal has the number 0.
+use Prim.Native.Nat.{ℕ}
+use mathlib.Core.Path.{_≡_, refl, sym, subst}
+use mathlib.Core.Bool.{false}
+use mathlib.Core.List.{List}
+use native.Mathlib.Omega.{arith}
+use borrow.Author.Tests.{ne-eqb}
+use lib.Dec.{eqb}
+use Rattle.base_search.specs.declared.Refusal.{Refusal}
+use Rattle.base_search.specs.declared.Verdict.{Verdict}
+use Rattle.base_search.specs.declared.Verdict.the-variants.{Passes, Refused}
+use Rattle.base_search.specs.Numbers.{CanArise}
+use Rattle.model.specs.declared.PlanAnswer.{PlanAnswer}
+use Rattle.model.specs.declared.PlanAnswer.the-variants as plan-answer
+use Rattle.listing_call.specs.declared.ListingAnswer.{ListingAnswer}
+use Rattle.listing_call.specs.declared.ListingAnswer.the-variants as listing-answer
+use Rattle.model_carry.specs.declared.CarryAnswer.{CarryAnswer}
+use Rattle.model_carry.specs.declared.CarryAnswer.the-variants as carry-answer
+use Rattle.model_sheet.specs.declared.SheetAnswer.{SheetAnswer}
+use Rattle.model_sheet.specs.declared.SheetAnswer.the-variants as sheet-answer
+use Rattle.plan_compare.specs.declared.Order.the-variants.{Ahead, Behind, Equal, Crossing}
+use Rattle.plan_compare.specs.declared.ComparisonAnswer.{ComparisonAnswer}
+use Rattle.plan_compare.specs.declared.ComparisonAnswer.the-variants as comparison-answer
+use Rattle.model_split.specs.declared.SplitAnswer.{SplitAnswer}
+use Rattle.model_split.specs.declared.SplitAnswer.the-variants as split-answer
+use Rattle.cells_call.specs.declared.CellsAnswer.{CellsAnswer}
+use Rattle.cells_call.specs.declared.CellsAnswer.the-variants as cells-answer
+use Rattle.plancheck_c.specs.declared.NetworkResult.{NetworkResult}
+use Rattle.plancheck_c.specs.declared.PlanResult.{PlanResult}
+use Rattle.plancheck_c.specs.declared.TextResult.{TextResult}
+use Rattle.plancheck_c.specs.declared.ComparisonResult.{ComparisonResult}
+use Rattle.plancheck_c.specs.declared.SplitResult.{SplitResult}
+use Rattle.plancheck_c.specs.Results.{verdictResult, verdictOf, planResult, planAnswerOf, listingResult, listingAnswerOf, carryResult, carryAnswerOf, sheetResult, sheetAnswerOf, comparisonResult, comparisonAnswerOf, splitResult, splitAnswerOf, cellsResult, cellsAnswerOf}
+
+module _ {numbers : List ℕ} where
+  not-zero : (r : Refusal) → CanArise numbers (r .number) → eqb (r .number) 0 ≡ false
+  not-zero r a = ne-eqb (r .number) 0 (λ e. omega (arith, a .not-0))
+
+  verdict-back : (a : Verdict) → ((q : Refusal) → a ≡ Refused q → CanArise numbers (q .number)) → verdictOf (verdictResult a) ≡ a
+  verdict-back Passes h = refl
+  verdict-back (Refused r) h = rw (not-zero r (h r refl))
+
+  pub of-verdict : (P : Verdict → Type 0) (a : Verdict) (r : NetworkResult) → r ≡ verdictResult a → ((q : Refusal) → a ≡ Refused q → CanArise numbers (q .number)) → P a → P (verdictOf r)
+  of-verdict P a r e h p = rw e (subst P (sym (verdict-back a h)) p)
+
+  plan-back : (a : PlanAnswer) → ((q : Refusal) → a ≡ plan-answer.Refused q → CanArise numbers (q .number)) → planAnswerOf (planResult a) ≡ a
+  plan-back (plan-answer.Accepted t) h = refl
+  plan-back (plan-answer.Refused r) h = rw (not-zero r (h r refl))
+
+  pub of-plan : (P : PlanAnswer → Type 0) (a : PlanAnswer) (r : PlanResult) → r ≡ planResult a → ((q : Refusal) → a ≡ plan-answer.Refused q → CanArise numbers (q .number)) → P a → P (planAnswerOf r)
+  of-plan P a r e h p = rw e (subst P (sym (plan-back a h)) p)
+
+  sheet-back : (a : SheetAnswer) → ((q : Refusal) → a ≡ sheet-answer.Refused q → CanArise numbers (q .number)) → sheetAnswerOf (sheetResult a) ≡ a
+  sheet-back (sheet-answer.Written end) h = refl
+  sheet-back (sheet-answer.Refused r) h = rw (not-zero r (h r refl))
+
+  pub of-sheet : (P : SheetAnswer → Type 0) (a : SheetAnswer) (r : TextResult) → r ≡ sheetResult a → ((q : Refusal) → a ≡ sheet-answer.Refused q → CanArise numbers (q .number)) → P a → P (sheetAnswerOf r)
+  of-sheet P a r e h p = rw e (subst P (sym (sheet-back a h)) p)
+
+  listing-back : (a : ListingAnswer) → ((q : Refusal) → a ≡ listing-answer.Refused q → CanArise numbers (q .number)) → listingAnswerOf (listingResult a) ≡ a
+  listing-back (listing-answer.Written end) h = refl
+  listing-back (listing-answer.Refused r) h = rw (not-zero r (h r refl))
+
+  pub of-listing : (P : ListingAnswer → Type 0) (a : ListingAnswer) (r : TextResult) → r ≡ listingResult a → ((q : Refusal) → a ≡ listing-answer.Refused q → CanArise numbers (q .number)) → P a → P (listingAnswerOf r)
+  of-listing P a r e h p = rw e (subst P (sym (listing-back a h)) p)
+
+  carry-back : (a : CarryAnswer) → ((q : Refusal) → a ≡ carry-answer.Refused q → CanArise numbers (q .number)) → carryAnswerOf (carryResult a) ≡ a
+  carry-back (carry-answer.Written end) h = refl
+  carry-back (carry-answer.Refused r) h = rw (not-zero r (h r refl))
+
+  pub of-carry : (P : CarryAnswer → Type 0) (a : CarryAnswer) (r : TextResult) → r ≡ carryResult a → ((q : Refusal) → a ≡ carry-answer.Refused q → CanArise numbers (q .number)) → P a → P (carryAnswerOf r)
+  of-carry P a r e h p = rw e (subst P (sym (carry-back a h)) p)
+
+  split-back : (a : SplitAnswer) → ((q : Refusal) → a ≡ split-answer.Refused q → CanArise numbers (q .number)) → splitAnswerOf (splitResult a) ≡ a
+  split-back (split-answer.Written end) h = refl
+  split-back (split-answer.Refused r) h = rw (not-zero r (h r refl))
+
+  pub of-split : (P : SplitAnswer → Type 0) (a : SplitAnswer) (r : SplitResult) → r ≡ splitResult a → ((q : Refusal) → a ≡ split-answer.Refused q → CanArise numbers (q .number)) → P a → P (splitAnswerOf r)
+  of-split P a r e h p = rw e (subst P (sym (split-back a h)) p)
+
+  comparison-back : (a : ComparisonAnswer) → ((plan : ℕ) (q : Refusal) → a ≡ comparison-answer.Refused plan q → CanArise numbers (q .number)) → comparisonAnswerOf (comparisonResult a) ≡ a
+  comparison-back (comparison-answer.Compared Ahead gap) h = refl
+  comparison-back (comparison-answer.Compared Behind gap) h = refl
+  comparison-back (comparison-answer.Compared Equal gap) h = refl
+  comparison-back (comparison-answer.Compared Crossing gap) h = refl
+  comparison-back (comparison-answer.Refused plan r) h = rw (not-zero r (h plan r refl))
+
+  pub of-comparison : (P : ComparisonAnswer → Type 0) (a : ComparisonAnswer) (r : ComparisonResult) → r ≡ comparisonResult a
+      → ((plan : ℕ) (q : Refusal) → a ≡ comparison-answer.Refused plan q → CanArise numbers (q .number)) → P a → P (comparisonAnswerOf r)
+  of-comparison P a r e h p = rw e (subst P (sym (comparison-back a h)) p)
+
+  cells-back : (a : CellsAnswer) (volumes : List ℕ) → ((q : Refusal) → a ≡ cells-answer.Refused q → CanArise numbers (q .number)) → cellsAnswerOf (cellsResult a volumes) ≡ a
+  cells-back (cells-answer.Ran cells entered left) volumes h = refl
+  cells-back (cells-answer.Refused r) volumes h = rw (not-zero r (h r refl))
+
+  pub of-cells : (P : CellsAnswer → Type 0) (a : CellsAnswer) (volumes : List ℕ) → ((q : Refusal) → a ≡ cells-answer.Refused q → CanArise numbers (q .number)) → P a
+      → P (cellsAnswerOf (cellsResult a volumes))
+  of-cells P a volumes h p = subst P (sym (cells-back a volumes h)) p

@@ -1,0 +1,22 @@
+-- `plancheck_c::plancheck_check_network` meets its contract. Assumes nothing.
+use mathlib.Core.Path.{ap, _∙_}
+use Rattle.plancheck_c.specs.Results.{verdictResult}
+use Rattle.plancheck_c.proofs.Numbers.{network-tells}
+use borrow.Author.Needs.{needs}
+use Rattle.plancheck_c.proofs.plancheck_check_network.Statement.{statement}
+use Rattle.plancheck_c.proofs.plancheck_check_network.Tie as tie
+
+check-network-requires : tie.Need-check-network-requires
+check-network-requires c κs = search needs
+
+verdict-result-requires : tie.Need-verdict-result-requires
+verdict-result-requires c κs = search needs
+
+returns : tie.Need-returns
+returns c =
+    let got = c .before .check-network .ensures in
+    let told = c .verdict-result .ensures ∙ ap verdictResult (got .0) in
+    (told, (network-tells _ told, λ padded same. c .verdict-result .ensures ∙ ap verdictResult (got .1 .1 padded same)))
+
+pub plancheck-check-network-spec : {M : Type 1} → statement M
+plancheck-check-network-spec = tie.close (tie.spec check-network-requires verdict-result-requires returns)

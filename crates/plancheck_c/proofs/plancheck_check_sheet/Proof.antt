@@ -1,0 +1,46 @@
+-- `plancheck_c::plancheck_check_sheet` meets its contract. Assumes nothing.
+use Prim.Native.Nat.{ℕ}
+use mathlib.Core.List.{List}
+use mathlib.Core.Path.{_≡_, ap, _∙_}
+use Rattle.model.specs.declared.PlanAnswer.{PlanAnswer}
+use Rattle.model_sheet.specs.Promises.{SheetPromises}
+use Rattle.plancheck_c.specs.Results.{planResult, planAnswerOf}
+use Rattle.plancheck_c.proofs.Numbers.{sheet-tells}
+use Rattle.plancheck_c.proofs.Read.{of-plan}
+use Rattle.plancheck_c.specs.declared.PlanResult.{PlanResult}
+use Rattle.text_reader.specs.Lines.{Line}
+use borrow.Author.Needs.{needs}
+use Rattle.plancheck_c.proofs.plancheck_check_sheet.Statement.{statement}
+use Rattle.plancheck_c.proofs.plancheck_check_sheet.Tie as tie
+
+-- what is promised of an answer is promised of the answer that its result is read as
+module _ (a : PlanAnswer) (r : PlanResult) (is : r ≡ planResult a) where
+  promised : {network sheet plan : List Line} {before after : List ℕ} → SheetPromises network sheet plan before after a → SheetPromises network sheet plan before after (planAnswerOf r)
+  promised {network} {sheet} {plan} {before} {after} g = of-plan (λ (x : PlanAnswer). SheetPromises network sheet plan before after x) a r is (g .refused-number) g
+
+check-sheet-requires : tie.Need-check-sheet-requires
+check-sheet-requires c κs = search needs
+
+plan-result-requires : tie.Need-plan-result-requires
+plan-result-requires c κs = search needs
+
+same-length : tie.Need-same-length
+same-length c = search needs
+
+returns : tie.Need-returns
+returns c =
+    let e = c .before .before .before .check-sheet .ensures in
+    let is = c .plan-result .ensures in
+    let told = is ∙ ap planResult (e .0 .told) in (
+      told,
+      (
+        promised _ _ is (e .0),
+        (
+          sheet-tells _ _ _ _ told,
+          λ paddedNetwork n paddedPlan p paddedSheet s. promised _ _ is (e .1 paddedNetwork n paddedPlan p paddedSheet s),
+        ),
+      ),
+    )
+
+pub plancheck-check-sheet-spec : {M : Type 1} → statement M
+plancheck-check-sheet-spec = tie.close (tie.spec check-sheet-requires plan-result-requires same-length returns)

@@ -1,0 +1,110 @@
+-- `plancheck_c::plancheck_split` meets its contract. Assumes nothing.
+use Prim.Native.Nat.{ℕ}
+use mathlib.Core.List.{List}
+use mathlib.Core.Path.{_≡_, sym, ap, _∙_}
+use Rattle.model_split.specs.declared.SplitAnswer.{SplitAnswer}
+use Rattle.model_split.specs.Splits.{Texts, Buffers, SplitInTwo}
+use Rattle.split.specs.Splitting.{SplitGot}
+use Rattle.plancheck_c.specs.Results.{splitResult, splitAnswerOf}
+use Rattle.plancheck_c.proofs.Numbers.{split-tells}
+use Rattle.plancheck_c.proofs.Read.{of-split}
+use Rattle.plancheck_c.specs.declared.SplitResult.{SplitResult}
+use Rattle.base_search.specs.declared.Refusal.{Refusal}
+use Rattle.base_search.specs.Numbers.{CanArise}
+use Rattle.model_split.specs.declared.SplitAnswer.the-variants as split-answer
+use Rattle.model_split.specs.Call.{splitNumbers}
+use borrow.Author.Needs.{needs}
+use Rattle.plancheck_c.proofs.plancheck_split.Statement.{statement}
+use Rattle.plancheck_c.proofs.plancheck_split.Tie as tie
+
+-- what is promised of an answer is promised of the answer that its result is read as
+module _ (a : SplitAnswer) (r : SplitResult) (is : r ≡ splitResult a) {set : ℕ} {before after : Buffers} where
+  promised : {whole : Texts} → SplitInTwo whole set before after a → SplitInTwo whole set before after (splitAnswerOf r)
+  promised {whole} g = of-split (λ (x : SplitAnswer). SplitInTwo whole set before after x) a r is (g .refused-number) g
+
+  got : {network plan : List ℕ} → ((q : Refusal) → a ≡ split-answer.Refused q → CanArise splitNumbers (q .number)) → SplitGot network plan set before after a
+      → SplitGot network plan set before after (splitAnswerOf r)
+  got {network} {plan} h g = of-split (λ (x : SplitAnswer). SplitGot network plan set before after x) a r is h g
+
+split-requires : tie.Need-split-requires
+split-requires c κs = search needs
+
+enum-known-lengths : tie.Need-enum-known-lengths
+enum-known-lengths c = search needs
+
+enum-known-r : tie.Need-enum-known-r
+enum-known-r c = search needs
+
+same-length : tie.Need-same-length
+same-length c = search needs
+
+same-length-2 : tie.Need-same-length-2
+same-length-2 c = search needs
+
+same-length-3 : tie.Need-same-length-3
+same-length-3 c = search needs
+
+same-length-4 : tie.Need-same-length-4
+same-length-4 c = search needs
+
+returns : tie.Need-returns
+returns c =
+    let e = c .before .before .before .before .before .before .before .before .before .before .before .split .ensures in
+    let is = sym (ap splitResult (c .before .lengths .given .1)) in
+    let told = is ∙ ap splitResult (e .0 .told) in
+    let numbers = e .0 .refused-number in (
+      told,
+      (
+        promised _ _ is (e .0),
+        (
+          split-tells _ _ _ _ told,
+          λ paddedNetwork n paddedPlan p. got _ _ is numbers (e .1 paddedNetwork n paddedPlan p),
+        ),
+      ),
+    )
+
+same-length-5 : tie.Need-same-length-5
+same-length-5 c = search needs
+
+same-length-6 : tie.Need-same-length-6
+same-length-6 c = search needs
+
+same-length-7 : tie.Need-same-length-7
+same-length-7 c = search needs
+
+same-length-8 : tie.Need-same-length-8
+same-length-8 c = search needs
+
+returns-2 : tie.Need-returns-2
+returns-2 c =
+    let e = c .before .before .before .before .before .before .before .before .before .before .before .split .ensures in
+    let is = sym (ap splitResult (c .before .r .given .1)) in
+    let told = is ∙ ap splitResult (e .0 .told) in
+    let numbers = e .0 .refused-number in (
+      told,
+      (
+        promised _ _ is (e .0),
+        (
+          split-tells _ _ _ _ told,
+          λ paddedNetwork n paddedPlan p. got _ _ is numbers (e .1 paddedNetwork n paddedPlan p),
+        ),
+      ),
+    )
+
+pub plancheck-split-spec : {M : Type 1} → statement M
+plancheck-split-spec =
+    tie.close
+    (tie.spec
+    split-requires
+    enum-known-lengths
+    enum-known-r
+    same-length
+    same-length-2
+    same-length-3
+    same-length-4
+    returns
+    same-length-5
+    same-length-6
+    same-length-7
+    same-length-8
+    returns-2)

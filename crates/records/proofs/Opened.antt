@@ -1,7 +1,0 @@
--- To unfold `opened` is to unfold every definition of a text's lines, for a proof by computation. Assumes nothing.
-use Rattle.records.specs.Field.{digit, digits, shift, decimal, isNumeral, fieldOf}
-use Rattle.records.specs.Lines.{inFront, split, letterOf, lineOf, linesOf, lines, isNumber, allNumbers, isRecord, startsAs, numberOf, number}
-
-unfoldable pub opened : Unit {0}
-unfolding digit digits shift decimal isNumeral fieldOf inFront split letterOf lineOf linesOf lines isNumber allNumbers isRecord startsAs numberOf number
-opened = tt

@@ -1,0 +1,59 @@
+-- `split_tables::mark_movements` meets its contract. Assumes nothing.
+use Prim.Native.Nat.{_-_}
+use native.Mathlib.Omega.{arith}
+use Rattle.split_tables.proofs.Tables.{movement-asked}
+use Rattle.split_tables.proofs.Marks.{MarkedTo, marked-none, marked-next, marked-all}
+use borrow.Author.Needs.{needs}
+use Rattle.split_tables.proofs.mark_movements.Statement.{statement}
+use Rattle.split_tables.proofs.mark_movements.Tie as tie
+
+abbrev Inv-loop : tie.InvT-loop
+Inv-loop movements half count marks₀ j₀ marks j =
+    MarkedTo movements half count marks₀ marks j
+
+abbrev μ-loop : tie.MeasureT-loop
+μ-loop movements half count marks₀ j₀ marks j =
+    count - j
+
+loop-holds : tie.Need-loop-holds Inv-loop μ-loop
+loop-holds c = marked-none
+
+links-in-requires : tie.Need-links-in-requires Inv-loop μ-loop
+links-in-requires c κs = movement-asked (c .before .before .before .before .before .pre .0) (omega arith)
+
+mul-marks : tie.Need-mul-marks Inv-loop μ-loop
+mul-marks c = search needs
+
+slice-write-marks : tie.Need-slice-write-marks Inv-loop μ-loop
+slice-write-marks c = omega (arith, c .before .before .loop .inv .size, c .before .before .before .before .before .before .pre .1)
+
+add-j : tie.Need-add-j Inv-loop μ-loop
+add-j c = search needs
+
+loop-less : tie.Need-loop-less Inv-loop μ-loop
+loop-less c = search needs
+
+loop-again : tie.Need-loop-again Inv-loop μ-loop
+loop-again c = marked-next (c .before .before .loop .inv) (c .before .before .before .before .before .before .pre .1) (omega arith) (c .links-in .ensures)
+
+same-length : tie.Need-same-length Inv-loop μ-loop
+same-length c = omega (arith, c .before .loop .inv .size)
+
+returns : tie.Need-returns Inv-loop μ-loop
+returns c = marked-all (c .before .loop .inv) (omega arith)
+
+pub mark-movements-spec : {M : Type 1} → statement M
+mark-movements-spec =
+    tie.close
+    (tie.spec
+    Inv-loop
+    μ-loop
+    loop-holds
+    links-in-requires
+    mul-marks
+    slice-write-marks
+    add-j
+    loop-less
+    loop-again
+    same-length
+    returns)

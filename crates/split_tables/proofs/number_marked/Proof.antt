@@ -1,0 +1,71 @@
+-- `split_tables::number_marked` meets its contract. Assumes nothing.
+use Prim.Native.Nat.{_-_}
+use mathlib.Core.Logic.{⊎-elim}
+use native.Mathlib.Omega.{arith}
+use Rattle.split_tables.proofs.Marks.{NumberedTo, numbered-none, last-small, place-within, numbered-more, numbered-other, numbered-all}
+use borrow.Author.Needs.{needs}
+use Rattle.split_tables.proofs.number_marked.Statement.{statement}
+use Rattle.split_tables.proofs.number_marked.Tie as tie
+
+abbrev Inv-loop : tie.InvT-loop
+Inv-loop marks mark count half₀ start last₀ k₀ half last k =
+    NumberedTo marks mark count start half₀ half last k
+
+abbrev μ-loop : tie.MeasureT-loop
+μ-loop marks mark count half₀ start last₀ k₀ half last k =
+    count - k
+
+loop-holds : tie.Need-loop-holds Inv-loop μ-loop
+loop-holds c = numbered-none (c .pre)
+
+mul-if1 : tie.Need-mul-if1 Inv-loop μ-loop
+mul-if1 c = search needs
+
+shared-slice-read-if1 : tie.Need-shared-slice-read-if1 Inv-loop μ-loop
+shared-slice-read-if1 c = omega (arith, c .before .before .before .pre .few)
+
+add-last : tie.Need-add-last Inv-loop μ-loop
+add-last c = omega (arith, last-small (c .before .before .before .before .pre) (c .before .before .before .loop .inv), c .before .before .before .before .pre .room)
+
+add-half : tie.Need-add-half Inv-loop μ-loop
+add-half c = omega (arith, c .before .before .before .before .pre .room)
+
+mul-half : tie.Need-mul-half Inv-loop μ-loop
+mul-half c = search needs
+
+slice-write-half : tie.Need-slice-write-half Inv-loop μ-loop
+slice-write-half c = place-within (c .before .before .before .before .pre) (c .before .before .before .loop .inv) (omega arith)
+
+add-k : tie.Need-add-k Inv-loop μ-loop
+add-k c = omega (arith, c .before .before .before .before .pre .room)
+
+loop-less : tie.Need-loop-less Inv-loop μ-loop
+loop-less c = search needs
+
+loop-again : tie.Need-loop-again Inv-loop μ-loop
+loop-again c = ⊎-elim (λ w. rw (w .1, w .2) (numbered-more (c .before .before .before .before .pre) (c .before .before .before .loop .inv) (omega arith) (w .0 .taken))) (λ w. rw (w .1, w .2) (numbered-other (c .before .before .before .before .pre) (c .before .before .before .loop .inv) (omega arith) (w .0 .left))) (c .if1 .came)
+
+same-length : tie.Need-same-length Inv-loop μ-loop
+same-length c = omega (arith, c .before .loop .inv .size)
+
+returns : tie.Need-returns Inv-loop μ-loop
+returns c = numbered-all (c .before .before .pre) (c .before .loop .inv) (omega arith)
+
+pub number-marked-spec : {M : Type 1} → statement M
+number-marked-spec =
+    tie.close
+    (tie.spec
+    Inv-loop
+    μ-loop
+    loop-holds
+    mul-if1
+    shared-slice-read-if1
+    add-last
+    add-half
+    mul-half
+    slice-write-half
+    add-k
+    loop-less
+    loop-again
+    same-length
+    returns)

@@ -1,0 +1,59 @@
+-- `step_past::keep_curves` meets its contract. The invariant: the curves of the first i links are kept. Assumes nothing.
+use Prim.Native.Nat.{_-_}
+use Rattle.step_past.proofs.Keeping.{KeepingTo, keep-begin, keep-asked, keep-next, keep-done}
+use borrow.Author.Needs.{needs}
+use Rattle.step_past.proofs.keep_curves.Statement.{statement}
+use Rattle.step_past.proofs.keep_curves.Tie as tie
+
+abbrev Inv-loop : tie.InvT-loop
+Inv-loop fields row arrivals links m next curves₀ places₀ i₀ curves places i = KeepingTo fields row arrivals links m next curves₀ places₀ curves places i
+
+abbrev μ-loop : tie.MeasureT-loop
+μ-loop fields row arrivals links m next curves₀ places₀ i₀ curves places i = links - i
+
+loop-holds : tie.Need-loop-holds Inv-loop μ-loop
+loop-holds c = search keep-begin
+
+mul-keep-curve : tie.Need-mul-keep-curve Inv-loop μ-loop
+mul-keep-curve c = search needs
+
+shared-slice-read-keep-curve : tie.Need-shared-slice-read-keep-curve Inv-loop μ-loop
+shared-slice-read-keep-curve c = search needs
+
+keep-curve-requires : tie.Need-keep-curve-requires Inv-loop μ-loop
+keep-curve-requires c κs = search keep-asked
+
+add-i : tie.Need-add-i Inv-loop μ-loop
+add-i c = search needs
+
+loop-less : tie.Need-loop-less Inv-loop μ-loop
+loop-less c = search needs
+
+loop-again : tie.Need-loop-again Inv-loop μ-loop
+loop-again c = search (keep-next, needs)
+
+same-length : tie.Need-same-length Inv-loop μ-loop
+same-length c = search needs
+
+same-length-2 : tie.Need-same-length-2 Inv-loop μ-loop
+same-length-2 c = search needs
+
+returns : tie.Need-returns Inv-loop μ-loop
+returns c = search keep-done
+
+pub keep-curves-spec : {M : Type 1} → statement M
+keep-curves-spec =
+    tie.close
+    (tie.spec
+    Inv-loop
+    μ-loop
+    loop-holds
+    mul-keep-curve
+    shared-slice-read-keep-curve
+    keep-curve-requires
+    add-i
+    loop-less
+    loop-again
+    same-length
+    same-length-2
+    returns)

@@ -1,0 +1,55 @@
+-- `step_past::move_links` meets its contract. The invariant: the links before i are moved on by the line.
+use Prim.Native.Nat.{_-_}
+use borrow.Author.Needs.{needs}
+use Rattle.step_past.proofs.Moving.{MovingTo, moving-begin, link-asked, moving-next, moving-done}
+use Rattle.step_past.proofs.move_links.Statement.{statement}
+use Rattle.step_past.proofs.move_links.Tie as tie
+
+abbrev Inv-loop : tie.InvT-loop
+Inv-loop fields counts links line first arrivals₀ curves₀ places₀ i₀ arrivals curves places i = MovingTo fields counts links line first arrivals₀ curves₀ places₀ arrivals curves places i
+
+abbrev μ-loop : tie.MeasureT-loop
+μ-loop fields counts links line first arrivals₀ curves₀ places₀ i₀ arrivals curves places i = counts .links - i
+
+loop-holds : tie.Need-loop-holds Inv-loop μ-loop
+loop-holds c = search (moving-begin, needs)
+
+move-link-requires : tie.Need-move-link-requires Inv-loop μ-loop
+move-link-requires c κs = search (link-asked, needs)
+
+add-i : tie.Need-add-i Inv-loop μ-loop
+add-i c = search needs
+
+loop-less : tie.Need-loop-less Inv-loop μ-loop
+loop-less c = search needs
+
+loop-again : tie.Need-loop-again Inv-loop μ-loop
+loop-again c = search (moving-next, needs)
+
+same-length : tie.Need-same-length Inv-loop μ-loop
+same-length c = search needs
+
+same-length-2 : tie.Need-same-length-2 Inv-loop μ-loop
+same-length-2 c = search needs
+
+same-length-3 : tie.Need-same-length-3 Inv-loop μ-loop
+same-length-3 c = search needs
+
+returns : tie.Need-returns Inv-loop μ-loop
+returns c = search (moving-done, needs)
+
+pub move-links-spec : {M : Type 1} → statement M
+move-links-spec =
+    tie.close
+    (tie.spec
+    Inv-loop
+    μ-loop
+    loop-holds
+    move-link-requires
+    add-i
+    loop-less
+    loop-again
+    same-length
+    same-length-2
+    same-length-3
+    returns)

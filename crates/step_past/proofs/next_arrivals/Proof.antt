@@ -1,0 +1,55 @@
+-- `step_past::next_arrivals` meets its contract. The invariant: the first i links are moved on. Assumes nothing.
+use Prim.Native.Nat.{_-_}
+use Rattle.step_past.proofs.Moving.{MovedTo, moved-none, move-asked, moved-more, moved-all}
+use borrow.Author.Needs.{needs}
+use Rattle.step_past.proofs.next_arrivals.Statement.{statement}
+use Rattle.step_past.proofs.next_arrivals.Tie as tie
+
+abbrev Inv-loop : tie.InvT-loop
+Inv-loop text counts links times at arrivals₀ curves₀ places₀ i₀ arrivals curves places i = MovedTo text counts links times at arrivals curves places i
+
+abbrev μ-loop : tie.MeasureT-loop
+μ-loop text counts links times at arrivals₀ curves₀ places₀ i₀ arrivals curves places i = counts .links - i
+
+loop-holds : tie.Need-loop-holds Inv-loop μ-loop
+loop-holds c = search moved-none
+
+move-on-requires : tie.Need-move-on-requires Inv-loop μ-loop
+move-on-requires c κs = search move-asked
+
+add-i : tie.Need-add-i Inv-loop μ-loop
+add-i c = search needs
+
+loop-less : tie.Need-loop-less Inv-loop μ-loop
+loop-less c = search needs
+
+loop-again : tie.Need-loop-again Inv-loop μ-loop
+loop-again c = search (moved-more, needs)
+
+same-length : tie.Need-same-length Inv-loop μ-loop
+same-length c = search needs
+
+same-length-2 : tie.Need-same-length-2 Inv-loop μ-loop
+same-length-2 c = search needs
+
+same-length-3 : tie.Need-same-length-3 Inv-loop μ-loop
+same-length-3 c = search needs
+
+returns : tie.Need-returns Inv-loop μ-loop
+returns c = search moved-all
+
+pub next-arrivals-spec : {M : Type 1} → statement M
+next-arrivals-spec =
+    tie.close
+    (tie.spec
+    Inv-loop
+    μ-loop
+    loop-holds
+    move-on-requires
+    add-i
+    loop-less
+    loop-again
+    same-length
+    same-length-2
+    same-length-3
+    returns)

@@ -1,0 +1,55 @@
+-- `step_rows::first_waiting` meets its contract. The invariant: who waits at the first i entries is told. Assumes nothing.
+use Prim.Native.Nat.{_-_}
+use Rattle.step_rows.proofs.WaitingTurns.{FirstTo, first-begin, first-more, first-all}
+use borrow.Author.Needs.{needs}
+use Rattle.step_rows.proofs.first_waiting.Statement.{statement}
+use Rattle.step_rows.proofs.first_waiting.Tie as tie
+
+abbrev Inv-loop : tie.InvT-loop
+Inv-loop links count waiting₀ i₀ waiting i = FirstTo links count waiting i
+
+abbrev μ-loop : tie.MeasureT-loop
+μ-loop links count waiting₀ i₀ waiting i = count - i
+
+loop-holds : tie.Need-loop-holds Inv-loop μ-loop
+loop-holds c = search first-begin
+
+waiting-at-start-requires : tie.Need-waiting-at-start-requires Inv-loop μ-loop
+waiting-at-start-requires c κs = search needs
+
+mul-waiting : tie.Need-mul-waiting Inv-loop μ-loop
+mul-waiting c = search needs
+
+slice-write-waiting : tie.Need-slice-write-waiting Inv-loop μ-loop
+slice-write-waiting c = search needs
+
+add-i : tie.Need-add-i Inv-loop μ-loop
+add-i c = search needs
+
+loop-less : tie.Need-loop-less Inv-loop μ-loop
+loop-less c = search needs
+
+loop-again : tie.Need-loop-again Inv-loop μ-loop
+loop-again c = search (first-more, needs)
+
+same-length : tie.Need-same-length Inv-loop μ-loop
+same-length c = search needs
+
+returns : tie.Need-returns Inv-loop μ-loop
+returns c = search first-all
+
+pub first-waiting-spec : {M : Type 1} → statement M
+first-waiting-spec =
+    tie.close
+    (tie.spec
+    Inv-loop
+    μ-loop
+    loop-holds
+    waiting-at-start-requires
+    mul-waiting
+    slice-write-waiting
+    add-i
+    loop-less
+    loop-again
+    same-length
+    returns)

@@ -1,0 +1,29 @@
+use Rattle.text_writer.proofs.Laws.{Counted, counted-first, counted-more, counted-all}
+use borrow.Author.Needs.{needs}
+use Rattle.text_writer.proofs.digit_count.Statement.{statement}
+use Rattle.text_writer.proofs.digit_count.Tie as tie
+
+abbrev Inv-loop : tie.InvT-loop
+Inv-loop value count₀ rest₀ count rest = Counted value rest count
+
+abbrev μ-loop : tie.MeasureT-loop
+μ-loop value count₀ rest₀ count rest = rest
+
+loop-holds : tie.Need-loop-holds Inv-loop μ-loop
+loop-holds c = search counted-first
+
+add-count : tie.Need-add-count Inv-loop μ-loop
+add-count c = search needs
+
+loop-less : tie.Need-loop-less Inv-loop μ-loop
+loop-less c = search needs
+
+loop-again : tie.Need-loop-again Inv-loop μ-loop
+loop-again c = search counted-more
+
+returns : tie.Need-returns Inv-loop μ-loop
+returns c = search counted-all
+
+pub digit-count-spec : {M : Type 1} → statement M
+digit-count-spec =
+    tie.close (tie.spec Inv-loop μ-loop loop-holds add-count loop-less loop-again returns)
