@@ -7,23 +7,11 @@ use Rattle.carry.proofs.Carrying.{too-early, too-late, ledger-short, as
 use Rattle.carry.proofs.carry_from.Statement.{statement}
 use Rattle.carry.proofs.carry_from.Tie as tie
 
-new-requires : tie.Need-new-requires
-new-requires c κs = search needs
-
 returns : tie.Need-returns
 returns c = rw (c .new .ensures) (too-early _ _ _ _ _ (c .before .before .before .before .before .before .before .before .before .before .before .pre .loaded) (c .before .if1 .taken))
 
-new-requires-2 : tie.Need-new-requires-2
-new-requires-2 c κs = search needs
-
 returns-2 : tie.Need-returns-2
 returns-2 c = rw (c .new2 .ensures) (too-late _ _ _ _ _ (c .before .before .before .before .before .before .before .before .before .before .before .before .before .pre .loaded) (c .before .before .before .if1 .left) (c .before .if2 .taken))
-
-add-if3 : tie.Need-add-if3
-add-if3 c = search needs
-
-mul-if3 : tie.Need-mul-if3
-mul-if3 c = search needs
 
 mul-if3-2 : tie.Need-mul-if3-2
 mul-if3-2 c =
@@ -32,24 +20,12 @@ mul-if3-2 c =
     let h : 2 * (s .args .boundary + 1) ≤ 242 = omega (arith, few .steps, c .before .if2 .left) in
     omega (arith, mul-le-mul-right (s .args .reading .counts .links) h, few .links)
 
-new-requires-3 : tie.Need-new-requires-3
-new-requires-3 c κs = search needs
-
 returns-3 : tie.Need-returns-3
 returns-3 c = rw (c .new3 .ensures) (ledger-short _ _ _ _ _ (c .before .before .before .before .before .before .before .before .before .before .before .before .before .before .before .pre .loaded) (c .before .before .before .before .before .if1 .left) (c .before .before .before .if2 .left) (c .before .if3 .taken))
 
 carry-steps-requires : tie.Need-carry-steps-requires
 carry-steps-requires c κs =
     let s = c .before .before .before .before .before .before .before .before .before .before .before .before .before .before .before .before .before in asked _ (s .args .plan .now) _ _ (s .args .carried .now) (s .pre .loaded) (c .before .before .before .before .before .before .before .if1 .left) (c .before .before .before .before .before .if2 .left) (c .before .before .before .if3 .left) (s .pre .signal-table)
-
-same-length : tie.Need-same-length
-same-length c = search needs
-
-same-length-2 : tie.Need-same-length-2
-same-length-2 c = search needs
-
-same-length-3 : tie.Need-same-length-3
-same-length-3 c = search needs
 
 returns-4 : tie.Need-returns-4
 returns-4 c = c .before .before .before .before .before .before .carry-steps .ensures
@@ -58,17 +34,17 @@ pub carry-from-spec : {M : Type 1} → statement M
 carry-from-spec =
     tie.close
     (tie.spec
-    new-requires
+    (λ c κs. search needs)
     returns
-    new-requires-2
+    (λ c κs. search needs)
     returns-2
-    add-if3
-    mul-if3
+    (λ c. search needs)
+    (λ c. search needs)
     mul-if3-2
-    new-requires-3
+    (λ c κs. search needs)
     returns-3
     carry-steps-requires
-    same-length
-    same-length-2
-    same-length-3
+    (λ c. search needs)
+    (λ c. search needs)
+    (λ c. search needs)
     returns-4)

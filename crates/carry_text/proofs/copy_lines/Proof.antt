@@ -15,32 +15,14 @@ abbrev μ-loop : tie.MeasureT-loop
 loop-holds : tie.Need-loop-holds Inv-loop μ-loop
 loop-holds c = search (copied-none, needs)
 
-slice-aggregate-read-again : tie.Need-slice-aggregate-read-again Inv-loop μ-loop
-slice-aggregate-read-again c = search needs
-
-read-again-requires : tie.Need-read-again-requires Inv-loop μ-loop
-read-again-requires c κs = search needs
-
-array-share-prefix-row : tie.Need-array-share-prefix-row Inv-loop μ-loop
-array-share-prefix-row c = search needs
-
 slice-aggregate-put-line : tie.Need-slice-aggregate-put-line Inv-loop μ-loop
 slice-aggregate-put-line c = copied-part (c .before .before .before .before .before .loop .inv) (c .before .before .before .before .before .before .before .before .pre .0) (omega arith) (c .before .before .read-again .ensures)
 
 put-line-requires : tie.Need-put-line-requires Inv-loop μ-loop
 put-line-requires c κs = copied-asked (c .before .before .before .before .before .before .loop .inv) (c .before .before .before .before .before .before .before .before .before .pre .0) (omega arith) (c .before .before .before .read-again .ensures) (c .before .before .before .before .before .before .before .before .before .pre .1)
 
-add-k : tie.Need-add-k Inv-loop μ-loop
-add-k c = search needs
-
-loop-less : tie.Need-loop-less Inv-loop μ-loop
-loop-less c = search needs
-
 loop-again : tie.Need-loop-again Inv-loop μ-loop
 loop-again c = search (copied-next, needs)
-
-same-length : tie.Need-same-length Inv-loop μ-loop
-same-length c = search needs
 
 returns : tie.Need-returns Inv-loop μ-loop
 returns c = search copied-all
@@ -52,13 +34,13 @@ copy-lines-spec =
     Inv-loop
     μ-loop
     loop-holds
-    slice-aggregate-read-again
-    read-again-requires
-    array-share-prefix-row
+    (λ c. search needs)
+    (λ c κs. search needs)
+    (λ c. search needs)
     slice-aggregate-put-line
     put-line-requires
-    add-k
-    loop-less
+    (λ c. search needs)
+    (λ c. search needs)
     loop-again
-    same-length
+    (λ c. search needs)
     returns)

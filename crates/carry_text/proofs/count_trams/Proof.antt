@@ -14,29 +14,8 @@ abbrev μ-loop : tie.MeasureT-loop
 loop-holds : tie.Need-loop-holds Inv-loop μ-loop
 loop-holds c = search (counted-none, needs)
 
-slice-aggregate-read-again : tie.Need-slice-aggregate-read-again Inv-loop μ-loop
-slice-aggregate-read-again c = search needs
-
-read-again-requires : tie.Need-read-again-requires Inv-loop μ-loop
-read-again-requires c κs = search needs
-
-slice-aggregate-lines-left : tie.Need-slice-aggregate-lines-left Inv-loop μ-loop
-slice-aggregate-lines-left c = search needs
-
-cast-lines-left : tie.Need-cast-lines-left Inv-loop μ-loop
-cast-lines-left c = search needs
-
 lines-left-requires : tie.Need-lines-left-requires Inv-loop μ-loop
 lines-left-requires c κs = search (tram-size, needs)
-
-add-left : tie.Need-add-left Inv-loop μ-loop
-add-left c = search needs
-
-add-k : tie.Need-add-k Inv-loop μ-loop
-add-k c = search needs
-
-loop-less : tie.Need-loop-less Inv-loop μ-loop
-loop-less c = search needs
 
 loop-again : tie.Need-loop-again Inv-loop μ-loop
 loop-again c = search (counted-next, needs)
@@ -51,13 +30,13 @@ count-trams-spec =
     Inv-loop
     μ-loop
     loop-holds
-    slice-aggregate-read-again
-    read-again-requires
-    slice-aggregate-lines-left
-    cast-lines-left
+    (λ c. search needs)
+    (λ c κs. search needs)
+    (λ c. search needs)
+    (λ c. search needs)
     lines-left-requires
-    add-left
-    add-k
-    loop-less
+    (λ c. search needs)
+    (λ c. search needs)
+    (λ c. search needs)
     loop-again
     returns)

@@ -21,29 +21,11 @@ entered-at-requires c κs = search (held-before, needs)
 left-at-requires : tie.Need-left-at-requires Inv-loop μ-loop
 left-at-requires c κs = search (held-before, needs)
 
-add-entered-at : tie.Need-add-entered-at Inv-loop μ-loop
-add-entered-at c = search needs
-
 entered-at-requires-2 : tie.Need-entered-at-requires-2 Inv-loop μ-loop
 entered-at-requires-2 c κs = search (held-after, needs)
 
 sub-row : tie.Need-sub-row Inv-loop μ-loop
 sub-row c = search (entered-rises, needs)
-
-mul-row : tie.Need-mul-row Inv-loop μ-loop
-mul-row c = search needs
-
-add-row : tie.Need-add-row Inv-loop μ-loop
-add-row c = search needs
-
-mul-row-2 : tie.Need-mul-row-2 Inv-loop μ-loop
-mul-row-2 c = search needs
-
-slice-write-row : tie.Need-slice-write-row Inv-loop μ-loop
-slice-write-row c = search needs
-
-add-left-at : tie.Need-add-left-at Inv-loop μ-loop
-add-left-at c = search needs
 
 left-at-requires-2 : tie.Need-left-at-requires-2 Inv-loop μ-loop
 left-at-requires-2 c κs = search (held-after, needs)
@@ -51,29 +33,11 @@ left-at-requires-2 c κs = search (held-after, needs)
 sub-row-2 : tie.Need-sub-row-2 Inv-loop μ-loop
 sub-row-2 c = search (left-rises, needs)
 
-mul-row-3 : tie.Need-mul-row-3 Inv-loop μ-loop
-mul-row-3 c = search needs
-
-add-row-2 : tie.Need-add-row-2 Inv-loop μ-loop
-add-row-2 c = search needs
-
-mul-row-4 : tie.Need-mul-row-4 Inv-loop μ-loop
-mul-row-4 c = search needs
-
 slice-write-row-2 : tie.Need-slice-write-row-2 Inv-loop μ-loop
 slice-write-row-2 c = simp length-set (search needs)
 
-add-i : tie.Need-add-i Inv-loop μ-loop
-add-i c = search needs
-
-loop-less : tie.Need-loop-less Inv-loop μ-loop
-loop-less c = search needs
-
 loop-again : tie.Need-loop-again Inv-loop μ-loop
 loop-again c = search (volumes-next, needs)
-
-same-length : tie.Need-same-length Inv-loop μ-loop
-same-length c = search needs
 
 returns : tie.Need-returns Inv-loop μ-loop
 returns c = search (volumes-all, needs)
@@ -87,22 +51,22 @@ fill-volumes-spec =
     loop-holds
     entered-at-requires
     left-at-requires
-    add-entered-at
+    (λ c. search needs)
     entered-at-requires-2
     sub-row
-    mul-row
-    add-row
-    mul-row-2
-    slice-write-row
-    add-left-at
+    (λ c. search needs)
+    (λ c. search needs)
+    (λ c. search needs)
+    (λ c. search needs)
+    (λ c. search needs)
     left-at-requires-2
     sub-row-2
-    mul-row-3
-    add-row-2
-    mul-row-4
+    (λ c. search needs)
+    (λ c. search needs)
+    (λ c. search needs)
     slice-write-row-2
-    add-i
-    loop-less
+    (λ c. search needs)
+    (λ c. search needs)
     loop-again
-    same-length
+    (λ c. search needs)
     returns)

@@ -4,9 +4,6 @@ use borrow.Author.Needs.{needs}
 use Rattle.carry_text.proofs.lines_left.Statement.{statement}
 use Rattle.carry_text.proofs.lines_left.Tie as tie
 
-shared-slice-read-if1 : tie.Need-shared-slice-read-if1
-shared-slice-read-if1 c = search needs
-
 returns : tie.Need-returns
 returns c = search (one-left, needs)
 
@@ -14,4 +11,4 @@ returns-2 : tie.Need-returns-2
 returns-2 c = search (none-left, needs)
 
 pub lines-left-spec : {M : Type 1} → statement M
-lines-left-spec = tie.close (tie.spec shared-slice-read-if1 returns returns-2)
+lines-left-spec = tie.close (tie.spec (λ c. search needs) returns returns-2)

@@ -27,9 +27,6 @@ mul-start c = omega (arith, c .before .before .before .before .pre .few)
 phase-count-requires : tie.Need-phase-count-requires Inv-loop μ-loop
 phase-count-requires c κs = (omega (arith, c .before .before .before .before .pre .few), c .before .before .before .before .pre .size)
 
-index-requires : tie.Need-index-requires Inv-loop μ-loop
-index-requires c κs = search needs
-
 mul-stop : tie.Need-mul-stop Inv-loop μ-loop
 mul-stop c = omega (arith, signal-few (c .before .before .before .before .before .before .pre) (c .before .before .before .loop .inv) (omega arith) (c .before .phase-count .ensures) (c .index .ensures .0))
 
@@ -42,12 +39,6 @@ add-stop-2 c = omega (arith, signal-few (c .before .before .before .before .befo
 mul-put-line : tie.Need-mul-put-line Inv-loop μ-loop
 mul-put-line c = omega (arith, signal-few (c .before .before .before .before .before .before .pre) (c .before .before .before .loop .inv) (omega arith) (c .before .phase-count .ensures) (c .index .ensures .0), c .before .before .before .before .before .before .pre .few)
 
-sub-put-line : tie.Need-sub-put-line Inv-loop μ-loop
-sub-put-line c = search needs
-
-part-put-line-start : tie.Need-part-put-line-start Inv-loop μ-loop
-part-put-line-start c = search needs
-
 part-put-line-end : tie.Need-part-put-line-end Inv-loop μ-loop
 part-put-line-end c = omega (arith, signal-few (c .before .before .before .before .before .before .pre) (c .before .before .before .loop .inv) (omega arith) (c .before .phase-count .ensures) (c .index .ensures .0), signal-within (c .before .before .before .before .before .before .pre) (c .before .before .before .loop .inv) (omega arith) (c .before .phase-count .ensures) (c .index .ensures .0))
 
@@ -57,14 +48,8 @@ put-line-requires c κs = signal-early (c .before .before .before .before .befor
 add-k : tie.Need-add-k Inv-loop μ-loop
 add-k c = omega (arith, c .before .before .before .before .before .before .before .before .before .before .before .pre .few)
 
-loop-less : tie.Need-loop-less Inv-loop μ-loop
-loop-less c = search needs
-
 loop-again : tie.Need-loop-again Inv-loop μ-loop
 loop-again c = signals-next (c .before .before .before .before .before .before .before .before .before .before .before .pre) (c .before .before .before .before .before .before .before .before .loop .inv) (omega arith) (c .before .before .before .before .before .before .phase-count .ensures) (c .before .before .before .before .before .index .ensures .0) (c .before .before .put-line .ensures)
-
-same-length : tie.Need-same-length Inv-loop μ-loop
-same-length c = search needs
 
 returns : tie.Need-returns Inv-loop μ-loop
 returns c = rows-all (c .before .loop .inv) (omega arith)
@@ -78,17 +63,17 @@ put-signals-spec =
     loop-holds
     mul-start
     phase-count-requires
-    index-requires
+    (λ c κs. search needs)
     mul-stop
     add-stop
     add-stop-2
     mul-put-line
-    sub-put-line
-    part-put-line-start
+    (λ c. search needs)
+    (λ c. search needs)
     part-put-line-end
     put-line-requires
     add-k
-    loop-less
+    (λ c. search needs)
     loop-again
-    same-length
+    (λ c. search needs)
     returns)

@@ -12,32 +12,11 @@ Inv-loop text from ledger links boundary out₀ at row₀ width line₀ end₀ n
 abbrev μ-loop : tie.MeasureT-loop
 μ-loop text from ledger links boundary out₀ at row₀ width line₀ end₀ n₀ out row line end n = boundary - n
 
-mul-width : tie.Need-mul-width Inv-loop μ-loop
-mul-width c = search needs
-
-add-width : tie.Need-add-width Inv-loop μ-loop
-add-width c = search needs
-
 loop-holds : tie.Need-loop-holds Inv-loop μ-loop
 loop-holds c = search (steps-none, needs)
 
-slice-aggregate-read-again : tie.Need-slice-aggregate-read-again Inv-loop μ-loop
-slice-aggregate-read-again c = search needs
-
-add-read-again : tie.Need-add-read-again Inv-loop μ-loop
-add-read-again c = search needs
-
-read-again-requires : tie.Need-read-again-requires Inv-loop μ-loop
-read-again-requires c κs = search needs
-
-slice-aggregate-fill-volumes : tie.Need-slice-aggregate-fill-volumes Inv-loop μ-loop
-slice-aggregate-fill-volumes c = search needs
-
 fill-volumes-requires : tie.Need-fill-volumes-requires Inv-loop μ-loop
 fill-volumes-requires c κs = volumes-asked (c .before .before .before .before .before .loop .inv) (c .before .before .before .before .before .before .before .before .before .pre .0) (omega arith) (c .before .before .read-again .ensures)
-
-array-share-prefix-row : tie.Need-array-share-prefix-row Inv-loop μ-loop
-array-share-prefix-row c = search needs
 
 slice-aggregate-put-line : tie.Need-slice-aggregate-put-line Inv-loop μ-loop
 slice-aggregate-put-line c = search (steps-part, needs)
@@ -45,17 +24,8 @@ slice-aggregate-put-line c = search (steps-part, needs)
 put-line-requires : tie.Need-put-line-requires Inv-loop μ-loop
 put-line-requires c κs = steps-asked (c .before .before .before .before .before .before .before .before .before .loop .inv) (c .before .before .before .before .before .before .before .before .before .before .before .before .before .pre .0) (omega arith) (c .before .before .before .before .before .before .read-again .ensures) (c .before .before .before .fill-volumes .ensures) (c .before .before .before .before .before .before .before .before .before .before .before .before .before .pre .1)
 
-add-n : tie.Need-add-n Inv-loop μ-loop
-add-n c = search needs
-
-loop-less : tie.Need-loop-less Inv-loop μ-loop
-loop-less c = search needs
-
 loop-again : tie.Need-loop-again Inv-loop μ-loop
 loop-again c = search (steps-next, needs)
-
-same-length : tie.Need-same-length Inv-loop μ-loop
-same-length c = search needs
 
 returns : tie.Need-returns Inv-loop μ-loop
 returns c = search steps-all
@@ -66,19 +36,19 @@ put-steps-spec =
     (tie.spec
     Inv-loop
     μ-loop
-    mul-width
-    add-width
+    (λ c. search needs)
+    (λ c. search needs)
     loop-holds
-    slice-aggregate-read-again
-    add-read-again
-    read-again-requires
-    slice-aggregate-fill-volumes
+    (λ c. search needs)
+    (λ c. search needs)
+    (λ c κs. search needs)
+    (λ c. search needs)
     fill-volumes-requires
-    array-share-prefix-row
+    (λ c. search needs)
     slice-aggregate-put-line
     put-line-requires
-    add-n
-    loop-less
+    (λ c. search needs)
+    (λ c. search needs)
     loop-again
-    same-length
+    (λ c. search needs)
     returns)

@@ -14,32 +14,11 @@ abbrev μ-loop : tie.MeasureT-loop
 loop-holds : tie.Need-loop-holds Inv-loop μ-loop
 loop-holds c = search (trams-none, needs)
 
-slice-aggregate-read-again : tie.Need-slice-aggregate-read-again Inv-loop μ-loop
-slice-aggregate-read-again c = search needs
-
-read-again-requires : tie.Need-read-again-requires Inv-loop μ-loop
-read-again-requires c κs = search needs
-
-slice-aggregate-put-tram : tie.Need-slice-aggregate-put-tram Inv-loop μ-loop
-slice-aggregate-put-tram c = search needs
-
-cast-put-tram : tie.Need-cast-put-tram Inv-loop μ-loop
-cast-put-tram c = search needs
-
 put-tram-requires : tie.Need-put-tram-requires Inv-loop μ-loop
 put-tram-requires c κs = search (tram-size, tram-early, needs)
 
-add-k : tie.Need-add-k Inv-loop μ-loop
-add-k c = search needs
-
-loop-less : tie.Need-loop-less Inv-loop μ-loop
-loop-less c = search needs
-
 loop-again : tie.Need-loop-again Inv-loop μ-loop
 loop-again c = search (trams-next, needs)
-
-same-length : tie.Need-same-length Inv-loop μ-loop
-same-length c = search needs
 
 returns : tie.Need-returns Inv-loop μ-loop
 returns c = search trams-all
@@ -51,13 +30,13 @@ put-trams-spec =
     Inv-loop
     μ-loop
     loop-holds
-    slice-aggregate-read-again
-    read-again-requires
-    slice-aggregate-put-tram
-    cast-put-tram
+    (λ c. search needs)
+    (λ c κs. search needs)
+    (λ c. search needs)
+    (λ c. search needs)
     put-tram-requires
-    add-k
-    loop-less
+    (λ c. search needs)
+    (λ c. search needs)
     loop-again
-    same-length
+    (λ c. search needs)
     returns)

@@ -5,20 +5,8 @@ use borrow.Author.Needs.{needs}
 use Rattle.carry_text.proofs.write_carried.Statement.{statement}
 use Rattle.carry_text.proofs.write_carried.Tie as tie
 
-slice-aggregate-put-network : tie.Need-slice-aggregate-put-network
-slice-aggregate-put-network c = search needs
-
-put-network-requires : tie.Need-put-network-requires
-put-network-requires c κs = search needs
-
 returns : tie.Need-returns
 returns c = short-written (c .before .before .before .before .before .before .before .before .before .before .before .args .network .now) (c .before .before .before .before .before .before .before .before .before .before .before .args .out .now) (c .before .before .put-network .ensures) (omega arith)
-
-put-network-requires-2 : tie.Need-put-network-requires-2
-put-network-requires-2 c κs = search needs
-
-same-length : tie.Need-same-length
-same-length c = search needs
 
 returns-2 : tie.Need-returns-2
 returns-2 c = whole-written (c .before .before .before .before .before .before .before .before .before .before .before .before .before .before .before .args .network .now) (c .before .before .before .before .before .before .put-network .ensures) (c .before .before .put-network2 .ensures) (omega arith)
@@ -27,9 +15,9 @@ pub write-carried-spec : {M : Type 1} → statement M
 write-carried-spec =
     tie.close
     (tie.spec
-    slice-aggregate-put-network
-    put-network-requires
+    (λ c. search needs)
+    (λ c κs. search needs)
     returns
-    put-network-requires-2
-    same-length
+    (λ c κs. search needs)
+    (λ c. search needs)
     returns-2)

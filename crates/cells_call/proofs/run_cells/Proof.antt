@@ -5,33 +5,6 @@ use borrow.Author.Needs.{needs}
 use Rattle.cells_call.proofs.run_cells.Statement.{statement}
 use Rattle.cells_call.proofs.run_cells.Tie as tie
 
-slice-aggregate-load-corridor : tie.Need-slice-aggregate-load-corridor
-slice-aggregate-load-corridor c = search needs
-
-slice-aggregate-load-corridor-2 : tie.Need-slice-aggregate-load-corridor-2
-slice-aggregate-load-corridor-2 c = search needs
-
-slice-aggregate-load-corridor-3 : tie.Need-slice-aggregate-load-corridor-3
-slice-aggregate-load-corridor-3 c = search needs
-
-slice-aggregate-load-corridor-4 : tie.Need-slice-aggregate-load-corridor-4
-slice-aggregate-load-corridor-4 c = search needs
-
-slice-aggregate-load-corridor-5 : tie.Need-slice-aggregate-load-corridor-5
-slice-aggregate-load-corridor-5 c = search needs
-
-load-corridor-requires : tie.Need-load-corridor-requires
-load-corridor-requires c κs = search needs
-
-enum-known-number : tie.Need-enum-known-number
-enum-known-number c = search needs
-
-refused-requires : tie.Need-refused-requires
-refused-requires c κs = search needs
-
-enum-known-cells : tie.Need-enum-known-cells
-enum-known-cells c = search needs
-
 array-share-prefix-flow-limits : tie.Need-array-share-prefix-flow-limits
 array-share-prefix-flow-limits c = search (cells-fit, steps-fit, needs)
 
@@ -79,15 +52,15 @@ pub run-cells-spec : {M : Type 1} → statement M
 run-cells-spec =
     tie.close
     (tie.spec
-    slice-aggregate-load-corridor
-    slice-aggregate-load-corridor-2
-    slice-aggregate-load-corridor-3
-    slice-aggregate-load-corridor-4
-    slice-aggregate-load-corridor-5
-    load-corridor-requires
-    enum-known-number
-    refused-requires
-    enum-known-cells
+    (λ c. search needs)
+    (λ c. search needs)
+    (λ c. search needs)
+    (λ c. search needs)
+    (λ c. search needs)
+    (λ c κs. search needs)
+    (λ c. search needs)
+    (λ c κs. search needs)
+    (λ c. search needs)
     array-share-prefix-flow-limits
     slice-aggregate-run-steps
     array-share-prefix-holding-limits

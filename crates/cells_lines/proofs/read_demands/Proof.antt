@@ -14,68 +14,17 @@ abbrev μ-loop : tie.MeasureT-loop
 loop-holds : tie.Need-loop-holds Inv-loop μ-loop
 loop-holds c = search (demands-none, needs)
 
-is-end-requires : tie.Need-is-end-requires Inv-loop μ-loop
-is-end-requires c κs = search needs
-
-add-line : tie.Need-add-line Inv-loop μ-loop
-add-line c = search needs
-
-add-line-2 : tie.Need-add-line-2 Inv-loop μ-loop
-add-line-2 c = search needs
-
-cast-line : tie.Need-cast-line Inv-loop μ-loop
-cast-line c = search needs
-
-same-length : tie.Need-same-length Inv-loop μ-loop
-same-length c = search needs
-
 returns : tie.Need-returns Inv-loop μ-loop
 returns c = search (demands-too-many, needs)
-
-volume-at-requires : tie.Need-volume-at-requires Inv-loop μ-loop
-volume-at-requires c κs = search needs
-
-enum-told : tie.Need-enum-told Inv-loop μ-loop
-enum-told c = search needs
-
-same-length-2 : tie.Need-same-length-2 Inv-loop μ-loop
-same-length-2 c = search needs
 
 returns-2 : tie.Need-returns-2 Inv-loop μ-loop
 returns-2 c = search (demands-malformed, needs)
 
-enum-known-volume : tie.Need-enum-known-volume Inv-loop μ-loop
-enum-known-volume c = search needs
-
-mul-demands : tie.Need-mul-demands Inv-loop μ-loop
-mul-demands c = search needs
-
-slice-write-demands : tie.Need-slice-write-demands Inv-loop μ-loop
-slice-write-demands c = search needs
-
-add-k : tie.Need-add-k Inv-loop μ-loop
-add-k c = search needs
-
-loop-less : tie.Need-loop-less Inv-loop μ-loop
-loop-less c = search needs
-
 loop-again : tie.Need-loop-again Inv-loop μ-loop
 loop-again c = search (demands-more, needs)
 
-add-line-3 : tie.Need-add-line-3 Inv-loop μ-loop
-add-line-3 c = search needs
-
-cast-line-2 : tie.Need-cast-line-2 Inv-loop μ-loop
-cast-line-2 c = search needs
-
-same-length-3 : tie.Need-same-length-3 Inv-loop μ-loop
-same-length-3 c = search needs
-
 returns-3 : tie.Need-returns-3 Inv-loop μ-loop
 returns-3 c = search (demands-empty, needs)
-
-same-length-4 : tie.Need-same-length-4 Inv-loop μ-loop
-same-length-4 c = search needs
 
 returns-4 : tie.Need-returns-4 Inv-loop μ-loop
 returns-4 c = search (demands-all, needs)
@@ -87,25 +36,25 @@ read-demands-spec =
     Inv-loop
     μ-loop
     loop-holds
-    is-end-requires
-    add-line
-    add-line-2
-    cast-line
-    same-length
+    (λ c κs. search needs)
+    (λ c. search needs)
+    (λ c. search needs)
+    (λ c. search needs)
+    (λ c. search needs)
     returns
-    volume-at-requires
-    enum-told
-    same-length-2
+    (λ c κs. search needs)
+    (λ c. search needs)
+    (λ c. search needs)
     returns-2
-    enum-known-volume
-    mul-demands
-    slice-write-demands
-    add-k
-    loop-less
+    (λ c. search needs)
+    (λ c. search needs)
+    (λ c. search needs)
+    (λ c. search needs)
+    (λ c. search needs)
     loop-again
-    add-line-3
-    cast-line-2
-    same-length-3
+    (λ c. search needs)
+    (λ c. search needs)
+    (λ c. search needs)
     returns-3
-    same-length-4
+    (λ c. search needs)
     returns-4)

@@ -4,20 +4,8 @@ use borrow.Author.Needs.{needs}
 use Rattle.cells_steps.proofs.flow_from.Statement.{statement}
 use Rattle.cells_steps.proofs.flow_from.Tie as tie
 
-add-next : tie.Need-add-next
-add-next c = search needs
-
-mul-ahead : tie.Need-mul-ahead
-mul-ahead c = search needs
-
-shared-slice-read-ahead : tie.Need-shared-slice-read-ahead
-shared-slice-read-ahead c = search needs
-
 flow-into-requires : tie.Need-flow-into-requires
 flow-into-requires c κs = search (is-held, is-slow, needs)
-
-lesser-of-requires : tie.Need-lesser-of-requires
-lesser-of-requires c κs = search needs
 
 returns : tie.Need-returns
 returns c = search (flows-on, flows-less, needs)
@@ -29,10 +17,10 @@ pub flow-from-spec : {M : Type 1} → statement M
 flow-from-spec =
     tie.close
     (tie.spec
-    add-next
-    mul-ahead
-    shared-slice-read-ahead
+    (λ c. search needs)
+    (λ c. search needs)
+    (λ c. search needs)
     flow-into-requires
-    lesser-of-requires
+    (λ c κs. search needs)
     returns
     returns-2)

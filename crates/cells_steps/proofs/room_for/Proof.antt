@@ -6,20 +6,11 @@ use borrow.Author.Needs.{needs}
 use Rattle.cells_steps.proofs.room_for.Statement.{statement}
 use Rattle.cells_steps.proofs.room_for.Tie as tie
 
-sub-result : tie.Need-sub-result
-sub-result c = search needs
-
-cast-result : tie.Need-cast-result
-cast-result c = search needs
-
 mul-result : tie.Need-mul-result
 mul-result c = omega (arith, scaled (c .args .ratio) (c .args .holding - c .args .volume) (search needs))
 
 cast-result-2 : tie.Need-cast-result-2
 cast-result-2 c = omega (arith, scaled (c .args .ratio) (c .args .holding - c .args .volume) (search needs))
 
-returns : tie.Need-returns
-returns c = search needs
-
 pub room-for-spec : {M : Type 1} → statement M
-room-for-spec = tie.close (tie.spec sub-result cast-result mul-result cast-result-2 returns)
+room-for-spec = tie.close (tie.spec (λ c. search needs) (λ c. search needs) mul-result cast-result-2 (λ c. search needs))

@@ -18,38 +18,11 @@ abbrev μ-loop : tie.MeasureT-loop
 loop-holds : tie.Need-loop-holds Inv-loop μ-loop
 loop-holds c = search (running-none, needs)
 
-mul-demand : tie.Need-mul-demand Inv-loop μ-loop
-mul-demand c = search needs
-
-shared-slice-read-demand : tie.Need-shared-slice-read-demand Inv-loop μ-loop
-shared-slice-read-demand c = search needs
-
 step-cells-requires : tie.Need-step-cells-requires Inv-loop μ-loop
 step-cells-requires c κs = search (running-ready, needs)
 
-wide-requires : tie.Need-wide-requires Inv-loop μ-loop
-wide-requires c κs = search needs
-
-add-flow-in : tie.Need-add-flow-in Inv-loop μ-loop
-add-flow-in c = search needs
-
-wide-requires-2 : tie.Need-wide-requires-2 Inv-loop μ-loop
-wide-requires-2 c κs = search needs
-
-add-flow-out : tie.Need-add-flow-out Inv-loop μ-loop
-add-flow-out c = search needs
-
-add-t : tie.Need-add-t Inv-loop μ-loop
-add-t c = search needs
-
-loop-less : tie.Need-loop-less Inv-loop μ-loop
-loop-less c = search needs
-
 loop-again : tie.Need-loop-again Inv-loop μ-loop
 loop-again c = search (running-more, needs)
-
-same-length : tie.Need-same-length Inv-loop μ-loop
-same-length c = search needs
 
 returns : tie.Need-returns Inv-loop μ-loop
 returns c = search (running-done, needs)
@@ -61,15 +34,15 @@ run-steps-spec =
     Inv-loop
     μ-loop
     loop-holds
-    mul-demand
-    shared-slice-read-demand
+    (λ c. search needs)
+    (λ c. search needs)
     step-cells-requires
-    wide-requires
-    add-flow-in
-    wide-requires-2
-    add-flow-out
-    add-t
-    loop-less
+    (λ c κs. search needs)
+    (λ c. search needs)
+    (λ c κs. search needs)
+    (λ c. search needs)
+    (λ c. search needs)
+    (λ c. search needs)
     loop-again
-    same-length
+    (λ c. search needs)
     returns)

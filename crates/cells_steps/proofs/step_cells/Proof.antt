@@ -15,47 +15,17 @@ abbrev μ-loop : tie.MeasureT-loop
 μ-loop flow-limits holding-limits wave-ratios exit demand volumes₀ start first entering₀ i₀ volumes entering i =
     length volumes₀ - i
 
-slice-read-start : tie.Need-slice-read-start Inv-loop μ-loop
-slice-read-start c = search needs
-
 flow-into-requires : tie.Need-flow-into-requires Inv-loop μ-loop
 flow-into-requires c κs = search (is-held, is-slow, needs)
 
 loop-holds : tie.Need-loop-holds Inv-loop μ-loop
 loop-holds c = search (going-none, needs)
 
-mul-before : tie.Need-mul-before Inv-loop μ-loop
-mul-before c = search needs
-
-slice-read-before : tie.Need-slice-read-before Inv-loop μ-loop
-slice-read-before c = search needs
-
 add-filled : tie.Need-add-filled Inv-loop μ-loop
 add-filled c = search (going-fits, needs)
 
-flow-from-requires : tie.Need-flow-from-requires Inv-loop μ-loop
-flow-from-requires c κs = search needs
-
-sub-volumes : tie.Need-sub-volumes Inv-loop μ-loop
-sub-volumes c = search needs
-
-mul-volumes : tie.Need-mul-volumes Inv-loop μ-loop
-mul-volumes c = search needs
-
-slice-write-volumes : tie.Need-slice-write-volumes Inv-loop μ-loop
-slice-write-volumes c = search needs
-
-add-i : tie.Need-add-i Inv-loop μ-loop
-add-i c = search needs
-
-loop-less : tie.Need-loop-less Inv-loop μ-loop
-loop-less c = search needs
-
 loop-again : tie.Need-loop-again Inv-loop μ-loop
 loop-again c = search (going-more, needs)
-
-same-length : tie.Need-same-length Inv-loop μ-loop
-same-length c = search needs
 
 returns : tie.Need-returns Inv-loop μ-loop
 returns c = search (going-done, needs)
@@ -66,18 +36,18 @@ step-cells-spec =
     (tie.spec
     Inv-loop
     μ-loop
-    slice-read-start
+    (λ c. search needs)
     flow-into-requires
     loop-holds
-    mul-before
-    slice-read-before
+    (λ c. search needs)
+    (λ c. search needs)
     add-filled
-    flow-from-requires
-    sub-volumes
-    mul-volumes
-    slice-write-volumes
-    add-i
-    loop-less
+    (λ c κs. search needs)
+    (λ c. search needs)
+    (λ c. search needs)
+    (λ c. search needs)
+    (λ c. search needs)
+    (λ c. search needs)
     loop-again
-    same-length
+    (λ c. search needs)
     returns)

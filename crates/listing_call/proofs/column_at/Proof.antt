@@ -7,24 +7,15 @@ use Rattle.listing_call.proofs.column_at.Tie as tie
 returns : tie.Need-returns
 returns c = search column-mask
 
-add-result : tie.Need-add-result
-add-result c = search needs
-
 returns-2 : tie.Need-returns-2
 returns-2 c = search column-admitted
 
-add-result-2 : tie.Need-add-result-2
-add-result-2 c = search needs
-
 returns-3 : tie.Need-returns-3
 returns-3 c = search column-let-out
-
-add-result-3 : tie.Need-add-result-3
-add-result-3 c = search needs
 
 returns-4 : tie.Need-returns-4
 returns-4 c = search column-moved
 
 pub column-at-spec : {M : Type 1} → statement M
 column-at-spec =
-    tie.close (tie.spec returns add-result returns-2 add-result-2 returns-3 add-result-3 returns-4)
+    tie.close (tie.spec returns (λ c. search needs) returns-2 (λ c. search needs) returns-3 (λ c. search needs) returns-4)

@@ -12,14 +12,8 @@ Inv-loop numbers counts n fields₀ width k₀ fields k = Filling numbers counts
 abbrev μ-loop : tie.MeasureT-loop
 μ-loop numbers counts n fields₀ width k₀ fields k = width - k
 
-plan-width-requires : tie.Need-plan-width-requires Inv-loop μ-loop
-plan-width-requires c κs = search needs
-
 loop-holds : tie.Need-loop-holds Inv-loop μ-loop
 loop-holds c = search filling-none
-
-mul-wide : tie.Need-mul-wide Inv-loop μ-loop
-mul-wide c = search needs
 
 column-at-requires : tie.Need-column-at-requires Inv-loop μ-loop
 column-at-requires c κs = search filling-asked
@@ -33,26 +27,8 @@ mul-wide-2 c = omega (arith, number-inside _ _ _ _ (c .before .before .before .b
 shared-slice-read-wide : tie.Need-shared-slice-read-wide Inv-loop μ-loop
 shared-slice-read-wide c = omega (arith, number-inside _ _ _ _ (c .before .before .before .before .before .before .before .pre) _ (c .before .before .before .loop .k) _ (c .before .before .before .before .plan-width .ensures) (omega arith) (c .before .column-at .ensures), c .before .before .before .before .before .before .before .pre .kept .number-room)
 
-wide-requires : tie.Need-wide-requires Inv-loop μ-loop
-wide-requires c κs = search needs
-
-mul-fields : tie.Need-mul-fields Inv-loop μ-loop
-mul-fields c = search needs
-
-slice-write-fields : tie.Need-slice-write-fields Inv-loop μ-loop
-slice-write-fields c = search needs
-
-add-k : tie.Need-add-k Inv-loop μ-loop
-add-k c = search needs
-
-loop-less : tie.Need-loop-less Inv-loop μ-loop
-loop-less c = search needs
-
 loop-again : tie.Need-loop-again Inv-loop μ-loop
 loop-again c = search filling-more
-
-same-length : tie.Need-same-length Inv-loop μ-loop
-same-length c = search needs
 
 returns : tie.Need-returns Inv-loop μ-loop
 returns c = search filling-all
@@ -63,18 +39,18 @@ fill-numbers-spec =
     (tie.spec
     Inv-loop
     μ-loop
-    plan-width-requires
+    (λ c κs. search needs)
     loop-holds
-    mul-wide
+    (λ c. search needs)
     column-at-requires
     add-wide
     mul-wide-2
     shared-slice-read-wide
-    wide-requires
-    mul-fields
-    slice-write-fields
-    add-k
-    loop-less
+    (λ c κs. search needs)
+    (λ c. search needs)
+    (λ c. search needs)
+    (λ c. search needs)
+    (λ c. search needs)
     loop-again
-    same-length
+    (λ c. search needs)
     returns)

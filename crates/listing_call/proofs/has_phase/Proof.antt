@@ -5,9 +5,6 @@ use borrow.Author.Needs.{needs}
 use Rattle.listing_call.proofs.has_phase.Statement.{statement}
 use Rattle.listing_call.proofs.has_phase.Tie as tie
 
-is-within-requires : tie.Need-is-within-requires
-is-within-requires c κs = search needs
-
 returns : tie.Need-returns
 returns c = search phase-none
 
@@ -20,12 +17,6 @@ mul-index c = omega (arith, within-some _ _ _ (c .before .is-within .ensures) (c
 shared-slice-read-index : tie.Need-shared-slice-read-index
 shared-slice-read-index c = omega (arith, within-some _ _ _ (c .before .before .is-within .ensures) (c .before .if1 .left))
 
-index-requires : tie.Need-index-requires
-index-requires c κs = search needs
-
-is-within-requires-2 : tie.Need-is-within-requires-2
-is-within-requires-2 c κs = search needs
-
 returns-2 : tie.Need-returns-2
 returns-2 c = search phase-is
 
@@ -33,11 +24,11 @@ pub has-phase-spec : {M : Type 1} → statement M
 has-phase-spec =
     tie.close
     (tie.spec
-    is-within-requires
+    (λ c κs. search needs)
     returns
     sub-index
     mul-index
     shared-slice-read-index
-    index-requires
-    is-within-requires-2
+    (λ c κs. search needs)
+    (λ c κs. search needs)
     returns-2)

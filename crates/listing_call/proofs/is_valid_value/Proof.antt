@@ -4,18 +4,6 @@ use borrow.Author.Needs.{needs}
 use Rattle.listing_call.proofs.is_valid_value.Statement.{statement}
 use Rattle.listing_call.proofs.is_valid_value.Tie as tie
 
-enum-told : tie.Need-enum-told
-enum-told c = search needs
-
-enum-told-2 : tie.Need-enum-told-2
-enum-told-2 c = search needs
-
-enum-told-3 : tie.Need-enum-told-3
-enum-told-3 c = search needs
-
-enum-told-4 : tie.Need-enum-told-4
-enum-told-4 c = search needs
-
 returns : tie.Need-returns
 returns c = search valid-shown
 
@@ -31,4 +19,4 @@ returns-4 c = search valid-moved
 pub is-valid-value-spec : {M : Type 1} → statement M
 is-valid-value-spec =
     tie.close
-    (tie.spec enum-told enum-told-2 enum-told-3 enum-told-4 returns returns-2 returns-3 returns-4)
+    (tie.spec (λ c. search needs) (λ c. search needs) (λ c. search needs) (λ c. search needs) returns returns-2 returns-3 returns-4)

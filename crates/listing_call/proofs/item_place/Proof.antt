@@ -5,9 +5,6 @@ use borrow.Author.Needs.{needs}
 use Rattle.listing_call.proofs.item_place.Statement.{statement}
 use Rattle.listing_call.proofs.item_place.Tie as tie
 
-is-within-requires : tie.Need-is-within-requires
-is-within-requires c κs = search needs
-
 returns : tie.Need-returns
 returns c = search item-none
 
@@ -26,4 +23,4 @@ returns-2 c = search item-is
 pub item-place-spec : {M : Type 1} → statement M
 item-place-spec =
     tie.close
-    (tie.spec is-within-requires returns add-place-in add-place-in-2 place-in-requires returns-2)
+    (tie.spec (λ c κs. search needs) returns add-place-in add-place-in-2 place-in-requires returns-2)

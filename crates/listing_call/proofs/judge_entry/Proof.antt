@@ -4,20 +4,8 @@ use borrow.Author.Needs.{needs}
 use Rattle.listing_call.proofs.judge_entry.Statement.{statement}
 use Rattle.listing_call.proofs.judge_entry.Tie as tie
 
-place-of-requires : tie.Need-place-of-requires
-place-of-requires c κs = search needs
-
-enum-known-step : tie.Need-enum-known-step
-enum-known-step c = search needs
-
-enum-told : tie.Need-enum-told
-enum-told c = search needs
-
 returns : tie.Need-returns
 returns c = search judge-none
-
-is-valid-value-requires : tie.Need-is-valid-value-requires
-is-valid-value-requires c κs = search needs
 
 returns-2 : tie.Need-returns-2
 returns-2 c = search judge-value
@@ -34,12 +22,6 @@ seconds-in-requires c κs = search judge-seconds
 number-of-requires : tie.Need-number-of-requires
 number-of-requires c κs = (search needs, search judge-short)
 
-enum-known-x : tie.Need-enum-known-x
-enum-known-x c = search needs
-
-enum-told-2 : tie.Need-enum-told-2
-enum-told-2 c = search needs
-
 returns-4 : tie.Need-returns-4
 returns-4 c = search judge-whole
 
@@ -50,17 +32,17 @@ pub judge-entry-spec : {M : Type 1} → statement M
 judge-entry-spec =
     tie.close
     (tie.spec
-    place-of-requires
-    enum-known-step
-    enum-told
+    (λ c κs. search needs)
+    (λ c. search needs)
+    (λ c. search needs)
     returns
-    is-valid-value-requires
+    (λ c κs. search needs)
     returns-2
     is-set-requires
     returns-3
     seconds-in-requires
     number-of-requires
-    enum-known-x
-    enum-told-2
+    (λ c. search needs)
+    (λ c. search needs)
     returns-4
     returns-5)

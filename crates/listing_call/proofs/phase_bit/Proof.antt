@@ -5,9 +5,6 @@ use borrow.Author.Needs.{needs}
 use Rattle.listing_call.proofs.phase_bit.Statement.{statement}
 use Rattle.listing_call.proofs.phase_bit.Tie as tie
 
-is-within-requires : tie.Need-is-within-requires
-is-within-requires c κs = search needs
-
 returns : tie.Need-returns
 returns c = search phase-bit-none
 
@@ -17,12 +14,9 @@ sub-power c = omega (arith, within-some _ _ _ (c .before .is-within .ensures) (c
 power-requires : tie.Need-power-requires
 power-requires c κs = omega (arith, within-some _ _ _ (c .before .is-within .ensures) (c .if1 .left))
 
-cast-result : tie.Need-cast-result
-cast-result c = search needs
-
 returns-2 : tie.Need-returns-2
 returns-2 c = search phase-bit-is
 
 pub phase-bit-spec : {M : Type 1} → statement M
 phase-bit-spec =
-    tie.close (tie.spec is-within-requires returns sub-power power-requires cast-result returns-2)
+    tie.close (tie.spec (λ c κs. search needs) returns sub-power power-requires (λ c. search needs) returns-2)

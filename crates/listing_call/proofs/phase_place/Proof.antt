@@ -5,9 +5,6 @@ use borrow.Author.Needs.{needs}
 use Rattle.listing_call.proofs.phase_place.Statement.{statement}
 use Rattle.listing_call.proofs.phase_place.Tie as tie
 
-has-phase-requires : tie.Need-has-phase-requires
-has-phase-requires c κs = search needs
-
 returns : tie.Need-returns
 returns c = search phase-place-none
 
@@ -36,7 +33,7 @@ pub phase-place-spec : {M : Type 1} → statement M
 phase-place-spec =
     tie.close
     (tie.spec
-    has-phase-requires
+    (λ c κs. search needs)
     returns
     sub-place-in
     mul-place-in

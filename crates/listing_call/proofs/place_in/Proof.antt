@@ -5,9 +5,6 @@ use borrow.Author.Needs.{needs}
 use Rattle.listing_call.proofs.place_in.Statement.{statement}
 use Rattle.listing_call.proofs.place_in.Tie as tie
 
-is-within-requires : tie.Need-is-within-requires
-is-within-requires c κs = search needs
-
 returns : tie.Need-returns
 returns c = search place-none
 
@@ -31,4 +28,4 @@ returns-2 c = search place-at
 
 pub place-in-spec : {M : Type 1} → statement M
 place-in-spec =
-    tie.close (tie.spec is-within-requires returns sub-n mul-t8 add-t9 mul-t10 add-t11 returns-2)
+    tie.close (tie.spec (λ c κs. search needs) returns sub-n mul-t8 add-t9 mul-t10 add-t11 returns-2)

@@ -16,35 +16,11 @@ abbrev μ-loop : tie.MeasureT-loop
 loop-holds : tie.Need-loop-holds Inv-loop μ-loop
 loop-holds c = search reading-none
 
-entry-at-requires : tie.Need-entry-at-requires Inv-loop μ-loop
-entry-at-requires c κs = search needs
-
-enum-known-variable : tie.Need-enum-known-variable Inv-loop μ-loop
-enum-known-variable c = search needs
-
-enum-told : tie.Need-enum-told Inv-loop μ-loop
-enum-told c = search needs
-
-add-new : tie.Need-add-new Inv-loop μ-loop
-add-new c = search needs
-
-new-requires : tie.Need-new-requires Inv-loop μ-loop
-new-requires c κs = search needs
-
-same-length : tie.Need-same-length Inv-loop μ-loop
-same-length c = search needs
-
-same-length-2 : tie.Need-same-length-2 Inv-loop μ-loop
-same-length-2 c = search needs
-
 returns : tie.Need-returns Inv-loop μ-loop
 returns c = search reading-bad
 
 judge-entry-requires : tie.Need-judge-entry-requires Inv-loop μ-loop
 judge-entry-requires c κs = search reading-asked
-
-enum-known-bit : tie.Need-enum-known-bit Inv-loop μ-loop
-enum-known-bit c = search needs
 
 mul-numbers : tie.Need-mul-numbers Inv-loop μ-loop
 mul-numbers c = omega (arith, store-place _ _ _ _ _ _ (c .before .before .before .before .before .before .before .before .before .before .before .before .before .before .before .before .pre .tables) _ (c .before .before .before .judge-entry .ensures) _ _ _ (c .before .bit .given .1), c .before .before .before .before .before .before .before .before .before .before .loop .inv .number-length)
@@ -61,38 +37,14 @@ slice-write-numbers c = omega (arith, store-place _ _ _ _ _ _ (c .before .before
 set-bit-requires : tie.Need-set-bit-requires Inv-loop μ-loop
 set-bit-requires c κs = store-bit _ _ _ _ _ _ (c .before .before .before .before .before .before .before .before .before .before .before .before .before .before .before .before .before .before .pre .tables) _ (c .before .before .before .before .before .judge-entry .ensures) _ _ _ (c .before .before .before .bit .given .1) (c .before .before .before .before .before .before .before .before .before .before .before .before .loop .inv .seen-length)
 
-enum-known-number : tie.Need-enum-known-number Inv-loop μ-loop
-enum-known-number c = search needs
-
-add-new-2 : tie.Need-add-new-2 Inv-loop μ-loop
-add-new-2 c = search needs
-
-new-requires-2 : tie.Need-new-requires-2 Inv-loop μ-loop
-new-requires-2 c κs = search needs
-
-same-length-3 : tie.Need-same-length-3 Inv-loop μ-loop
-same-length-3 c = search needs
-
-same-length-4 : tie.Need-same-length-4 Inv-loop μ-loop
-same-length-4 c = search needs
-
 returns-2 : tie.Need-returns-2 Inv-loop μ-loop
 returns-2 c = search reading-stop
-
-add-i : tie.Need-add-i Inv-loop μ-loop
-add-i c = search needs
 
 loop-less : tie.Need-loop-less Inv-loop μ-loop
 loop-less c = omega (arith, line-forward _ _ _ (c .before .before .before .before .before .before .before .before .before .before .before .before .before .entry-at .ensures) _ _ _ (c .before .before .before .before .before .before .before .before .before .before .before .variable .given .1) _ (c .before .before .before .before .before .before .before .before .before .before .before .before .before .before .before .loop .inv .starts))
 
 loop-again : tie.Need-loop-again Inv-loop μ-loop
 loop-again c = search reading-more
-
-same-length-5 : tie.Need-same-length-5 Inv-loop μ-loop
-same-length-5 c = search needs
-
-same-length-6 : tie.Need-same-length-6 Inv-loop μ-loop
-same-length-6 c = search needs
 
 returns-3 : tie.Need-returns-3 Inv-loop μ-loop
 returns-3 c = search reading-done
@@ -104,30 +56,30 @@ read-listing-spec =
     Inv-loop
     μ-loop
     loop-holds
-    entry-at-requires
-    enum-known-variable
-    enum-told
-    add-new
-    new-requires
-    same-length
-    same-length-2
+    (λ c κs. search needs)
+    (λ c. search needs)
+    (λ c. search needs)
+    (λ c. search needs)
+    (λ c κs. search needs)
+    (λ c. search needs)
+    (λ c. search needs)
     returns
     judge-entry-requires
-    enum-known-bit
+    (λ c. search needs)
     mul-numbers
     slice-read-numbers
     add-numbers
     slice-write-numbers
     set-bit-requires
-    enum-known-number
-    add-new-2
-    new-requires-2
-    same-length-3
-    same-length-4
+    (λ c. search needs)
+    (λ c. search needs)
+    (λ c κs. search needs)
+    (λ c. search needs)
+    (λ c. search needs)
     returns-2
-    add-i
+    (λ c. search needs)
     loop-less
     loop-again
-    same-length-5
-    same-length-6
+    (λ c. search needs)
+    (λ c. search needs)
     returns-3)

@@ -14,11 +14,8 @@ returns c = search volume-broken
 returns-2 : tie.Need-returns-2
 returns-2 c = search volume-big
 
-cast-t7 : tie.Need-cast-t7
-cast-t7 c = search needs
-
 returns-3 : tie.Need-returns-3
 returns-3 c = search volume-whole
 
 pub volume-of-spec : {M : Type 1} → statement M
-volume-of-spec = tie.close (tie.spec mul-product returns returns-2 cast-t7 returns-3)
+volume-of-spec = tie.close (tie.spec mul-product returns returns-2 (λ c. search needs) returns-3)

@@ -21,23 +21,11 @@ returns-2 c = search digits-long
 loop-holds : tie.Need-loop-holds Inv-loop μ-loop
 loop-holds c = search said-none
 
-shared-slice-read-b : tie.Need-shared-slice-read-b Inv-loop μ-loop
-shared-slice-read-b c = search needs
-
-is-digit-requires : tie.Need-is-digit-requires Inv-loop μ-loop
-is-digit-requires c κs = search needs
-
 returns-3 : tie.Need-returns-3 Inv-loop μ-loop
 returns-3 c = search said-not
 
 shifted-requires : tie.Need-shifted-requires Inv-loop μ-loop
 shifted-requires c κs = (search said-small, search digit-low)
-
-add-i : tie.Need-add-i Inv-loop μ-loop
-add-i c = search needs
-
-loop-less : tie.Need-loop-less Inv-loop μ-loop
-loop-less c = search needs
 
 loop-again : tie.Need-loop-again Inv-loop μ-loop
 loop-again c = search said-more
@@ -54,11 +42,11 @@ digits-of-spec =
     returns
     returns-2
     loop-holds
-    shared-slice-read-b
-    is-digit-requires
+    (λ c. search needs)
+    (λ c κs. search needs)
     returns-3
     shifted-requires
-    add-i
-    loop-less
+    (λ c. search needs)
+    (λ c. search needs)
     loop-again
     returns-4)

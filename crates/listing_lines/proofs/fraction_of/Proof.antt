@@ -5,20 +5,8 @@ use borrow.Author.Needs.{needs}
 use Rattle.listing_lines.proofs.fraction_of.Statement.{statement}
 use Rattle.listing_lines.proofs.fraction_of.Tie as tie
 
-digits-of-requires : tie.Need-digits-of-requires
-digits-of-requires c κs = search needs
-
-enum-known-value : tie.Need-enum-known-value
-enum-known-value c = search needs
-
-scale-requires : tie.Need-scale-requires
-scale-requires c κs = search needs
-
 mul-t7 : tie.Need-mul-t7
 mul-t7 c = omega (arith, fraction-fits _ _ (c .before .before .before .before .digits-of .ensures) _ _ (c .before .before .value .given .1) (c .scale .ensures))
-
-enum-told : tie.Need-enum-told
-enum-told c = search needs
 
 returns : tie.Need-returns
 returns c = search fraction-is
@@ -30,10 +18,10 @@ pub fraction-of-spec : {M : Type 1} → statement M
 fraction-of-spec =
     tie.close
     (tie.spec
-    digits-of-requires
-    enum-known-value
-    scale-requires
+    (λ c κs. search needs)
+    (λ c. search needs)
+    (λ c κs. search needs)
     mul-t7
-    enum-told
+    (λ c. search needs)
     returns
     returns-2)

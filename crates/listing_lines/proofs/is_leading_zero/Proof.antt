@@ -7,11 +7,8 @@ use Rattle.listing_lines.proofs.is_leading_zero.Tie as tie
 returns : tie.Need-returns
 returns c = search zero-short
 
-shared-slice-read-result : tie.Need-shared-slice-read-result
-shared-slice-read-result c = search needs
-
 returns-2 : tie.Need-returns-2
 returns-2 c = search zero-first
 
 pub is-leading-zero-spec : {M : Type 1} → statement M
-is-leading-zero-spec = tie.close (tie.spec returns shared-slice-read-result returns-2)
+is-leading-zero-spec = tie.close (tie.spec returns (λ c. search needs) returns-2)

@@ -4,20 +4,8 @@ use borrow.Author.Needs.{needs}
 use Rattle.listing_lines.proofs.variable_in.Statement.{statement}
 use Rattle.listing_lines.proofs.variable_in.Tie as tie
 
-phase-in-requires : tie.Need-phase-in-requires
-phase-in-requires c κs = search needs
-
 returns : tie.Need-returns
 returns c = search in-phase
-
-pair-of-requires : tie.Need-pair-of-requires
-pair-of-requires c κs = search needs
-
-enum-known-first : tie.Need-enum-known-first
-enum-known-first c = search needs
-
-enum-told : tie.Need-enum-told
-enum-told c = search needs
 
 returns-2 : tie.Need-returns-2
 returns-2 c = search in-bad
@@ -38,11 +26,11 @@ pub variable-in-spec : {M : Type 1} → statement M
 variable-in-spec =
     tie.close
     (tie.spec
-    phase-in-requires
+    (λ c κs. search needs)
     returns
-    pair-of-requires
-    enum-known-first
-    enum-told
+    (λ c κs. search needs)
+    (λ c. search needs)
+    (λ c. search needs)
     returns-2
     returns-3
     returns-4

@@ -4,23 +4,11 @@ use Rattle.network.proofs.Chain.{counts-stop, signals-asked, signals-st
 use Rattle.network.proofs.load_with_signals.Statement.{statement}
 use Rattle.network.proofs.load_with_signals.Tie as tie
 
-read-counts-requires : tie.Need-read-counts-requires
-read-counts-requires c κs = search needs
-
-enum-known-stage : tie.Need-enum-known-stage
-enum-known-stage c = search needs
-
-enum-told : tie.Need-enum-told
-enum-told c = search needs
-
 returns : tie.Need-returns
 returns c =
     let r1 = c .before .before in
     let s = r1 .before .before .before .before .before .before in
     counts-stop (s .pre) (r1 .read-counts .ensures) (c .enum-told .given .1)
-
-slice-aggregate-read-trams-and-signals : tie.Need-slice-aggregate-read-trams-and-signals
-slice-aggregate-read-trams-and-signals c = search needs
 
 read-trams-and-signals-requires : tie.Need-read-trams-and-signals-requires
 read-trams-and-signals-requires c κs =
@@ -28,12 +16,6 @@ read-trams-and-signals-requires c κs =
     let r1 = p1 .before .before in
     let s = r1 .before .before .before .before .before .before in
     signals-asked (s .pre) (r1 .read-counts .ensures) (p1 .stage .given .1) (search needs)
-
-enum-known-stage-2 : tie.Need-enum-known-stage-2
-enum-known-stage-2 c = search needs
-
-enum-told-2 : tie.Need-enum-told-2
-enum-told-2 c = search needs
 
 same-length : tie.Need-same-length
 same-length c = c .before .before .before .before .before .read-trams-and-signals .kept .1 .1 .1 .0
@@ -46,9 +28,6 @@ returns-2 c =
     let s = r1 .before .before .before .before .before .before in
     signals-stop (s .pre) (r1 .read-counts .ensures) (p1 .stage .given .1) (r2 .read-trams-and-signals .ensures) (c .enum-told2 .given .1)
 
-slice-aggregate-read-links : tie.Need-slice-aggregate-read-links
-slice-aggregate-read-links c = search needs
-
 read-links-requires : tie.Need-read-links-requires
 read-links-requires c κs =
     let p2 = c .before .before .before in
@@ -58,17 +37,8 @@ read-links-requires c κs =
     let s = r1 .before .before .before .before .before .before in
     links-asked (s .pre) (r1 .read-counts .ensures) (p1 .stage .given .1) (r2 .read-trams-and-signals .ensures) (p2 .stage2 .given .1)
 
-enum-known-stage-3 : tie.Need-enum-known-stage-3
-enum-known-stage-3 c = search needs
-
-enum-told-3 : tie.Need-enum-told-3
-enum-told-3 c = search needs
-
 same-length-2 : tie.Need-same-length-2
 same-length-2 c = c .before .before .before .before .before .before .before .before .before .before .before .before .before .read-trams-and-signals .kept .1 .1 .1 .0
-
-same-length-3 : tie.Need-same-length-3
-same-length-3 c = search needs
 
 returns-3 : tie.Need-returns-3
 returns-3 c =
@@ -91,20 +61,8 @@ read-movements-requires c κs =
     let s = r1 .before .before .before .before .before .before in
     movements-asked (s .pre) (r1 .read-counts .ensures) (p1 .stage .given .1) (r2 .read-trams-and-signals .ensures) (p2 .stage2 .given .1) (r3 .read-links .ensures) (p3 .stage3 .given .1)
 
-enum-known-stage-4 : tie.Need-enum-known-stage-4
-enum-known-stage-4 c = search needs
-
-enum-told-4 : tie.Need-enum-told-4
-enum-told-4 c = search needs
-
 same-length-4 : tie.Need-same-length-4
 same-length-4 c = c .before .before .before .before .before .before .before .before .before .before .before .before .before .before .before .before .before .before .before .before .read-trams-and-signals .kept .1 .1 .1 .0
-
-same-length-5 : tie.Need-same-length-5
-same-length-5 c = search needs
-
-same-length-6 : tie.Need-same-length-6
-same-length-6 c = search needs
 
 returns-4 : tie.Need-returns-4
 returns-4 c =
@@ -131,20 +89,8 @@ check-shares-requires c κs =
     let s = r1 .before .before .before .before .before .before in
     shares-ready (s .pre) (r1 .read-counts .ensures) (p1 .stage .given .1) (r2 .read-trams-and-signals .ensures) (p2 .stage2 .given .1) (r3 .read-links .ensures) (p3 .stage3 .given .1) (r4 .read-movements .ensures) (p4 .stage4 .given .1)
 
-enum-known-stage-5 : tie.Need-enum-known-stage-5
-enum-known-stage-5 c = search needs
-
-enum-told-5 : tie.Need-enum-told-5
-enum-told-5 c = search needs
-
 same-length-7 : tie.Need-same-length-7
 same-length-7 c = c .before .before .before .before .before .before .before .before .before .before .before .before .before .before .before .before .before .before .before .before .before .before .before .before .before .read-trams-and-signals .kept .1 .1 .1 .0
-
-same-length-8 : tie.Need-same-length-8
-same-length-8 c = search needs
-
-same-length-9 : tie.Need-same-length-9
-same-length-9 c = search needs
 
 returns-5 : tie.Need-returns-5
 returns-5 c =
@@ -181,12 +127,6 @@ same-length-10 c = c .before .before .before .before .before .before .before .be
 same-length-11 : tie.Need-same-length-11
 same-length-11 c = c .before .before .before .before .before .before .before .before .before .before .before .before .before .before .before .before .before .before .before .before .before .before .read-links .kept .1 .1 .1 .0
 
-same-length-12 : tie.Need-same-length-12
-same-length-12 c = search needs
-
-same-length-13 : tie.Need-same-length-13
-same-length-13 c = search needs
-
 returns-6 : tie.Need-returns-6
 returns-6 c =
     let r6 = c .before .before in
@@ -207,40 +147,40 @@ pub load-with-signals-spec : {M : Type 1} → statement M
 load-with-signals-spec =
     tie.close
     (tie.spec
-    read-counts-requires
-    enum-known-stage
-    enum-told
+    (λ c κs. search needs)
+    (λ c. search needs)
+    (λ c. search needs)
     returns
-    slice-aggregate-read-trams-and-signals
+    (λ c. search needs)
     read-trams-and-signals-requires
-    enum-known-stage-2
-    enum-told-2
+    (λ c. search needs)
+    (λ c. search needs)
     same-length
     returns-2
-    slice-aggregate-read-links
+    (λ c. search needs)
     read-links-requires
-    enum-known-stage-3
-    enum-told-3
+    (λ c. search needs)
+    (λ c. search needs)
     same-length-2
-    same-length-3
+    (λ c. search needs)
     returns-3
     read-movements-requires
-    enum-known-stage-4
-    enum-told-4
+    (λ c. search needs)
+    (λ c. search needs)
     same-length-4
-    same-length-5
-    same-length-6
+    (λ c. search needs)
+    (λ c. search needs)
     returns-4
     check-shares-requires
-    enum-known-stage-5
-    enum-told-5
+    (λ c. search needs)
+    (λ c. search needs)
     same-length-7
-    same-length-8
-    same-length-9
+    (λ c. search needs)
+    (λ c. search needs)
     returns-5
     read-timeline-requires
     same-length-10
     same-length-11
-    same-length-12
-    same-length-13
+    (λ c. search needs)
+    (λ c. search needs)
     returns-6)

@@ -8,32 +8,11 @@ use Rattle.network.proofs.read_timeline.Tie as tie
 read-past-requires : tie.Need-read-past-requires
 read-past-requires c κs = search (forms-asked, needs)
 
-enum-known-stage : tie.Need-enum-known-stage
-enum-known-stage c = search needs
-
-enum-told : tie.Need-enum-told
-enum-told c = search needs
-
-same-length : tie.Need-same-length
-same-length c = search needs
-
 returns : tie.Need-returns
 returns c = forms-stop (c .before .before .before .before .before .before .before .before .before .pre) (c .before .before .before .before .read-past .ensures) (c .enum-told .given .1)
 
-slice-aggregate-read-steps : tie.Need-slice-aggregate-read-steps
-slice-aggregate-read-steps c = search needs
-
 read-steps-requires : tie.Need-read-steps-requires
 read-steps-requires c κs = steps-asked (c .before .before .before .before .before .before .before .before .before .before .before .before .pre) (c .before .before .before .before .before .before .before .read-past .ensures) (c .before .before .before .stage .given .1) (search needs)
-
-enum-known-stage-2 : tie.Need-enum-known-stage-2
-enum-known-stage-2 c = search needs
-
-enum-told-2 : tie.Need-enum-told-2
-enum-told-2 c = search needs
-
-same-length-2 : tie.Need-same-length-2
-same-length-2 c = search needs
 
 returns-2 : tie.Need-returns-2
 returns-2 c = steps-stop (c .before .before .before .before .before .before .before .before .before .before .before .before .before .before .before .before .before .before .pre) (c .before .before .before .before .before .before .before .before .before .before .before .before .before .read-past .ensures) (c .before .before .before .before .before .before .before .before .before .stage .given .1) (c .before .before .before .before .before .read-steps .ensures) (c .enum-told2 .given .1)
@@ -41,20 +20,8 @@ returns-2 c = steps-stop (c .before .before .before .before .before .before .bef
 check-end-requires : tie.Need-check-end-requires
 check-end-requires c κs = end-asked (c .before .before .before .before .before .before .before .before .before .before .before .before .before .before .before .before .before .before .before .pre) (c .before .before .before .before .before .before .before .before .before .before .before .before .before .before .read-past .ensures) (c .before .before .before .before .before .before .before .before .before .before .stage .given .1) (c .before .before .before .before .before .before .read-steps .ensures) (c .before .stage2 .given .1)
 
-enum-known-stage-3 : tie.Need-enum-known-stage-3
-enum-known-stage-3 c = search needs
-
-enum-told-3 : tie.Need-enum-told-3
-enum-told-3 c = search needs
-
-same-length-3 : tie.Need-same-length-3
-same-length-3 c = search needs
-
 returns-3 : tie.Need-returns-3
 returns-3 c = end-stop (c .before .before .before .before .before .before .before .before .before .before .before .before .before .before .before .before .before .before .before .before .before .before .pre) (c .before .before .before .before .before .before .before .before .before .before .before .before .before .before .before .before .before .read-past .ensures) (c .before .before .before .before .before .before .before .before .before .before .before .before .before .stage .given .1) (c .before .before .before .before .before .before .before .before .before .read-steps .ensures) (c .before .before .before .before .stage2 .given .1) (c .before .before .check-end .ensures) (c .enum-told3 .given .1)
-
-slice-aggregate-check-past : tie.Need-slice-aggregate-check-past
-slice-aggregate-check-past c = search needs
 
 check-past-requires : tie.Need-check-past-requires
 check-past-requires c κs = past-asked (c .before .before .before .before .before .before .before .before .before .before .before .before .before .before .before .before .before .before .before .before .before .before .before .before .before .pre) (c .before .before .before .before .before .before .before .before .before .before .before .before .before .before .before .before .before .before .before .before .read-past .ensures) (c .before .before .before .before .before .before .before .before .before .before .before .before .before .before .before .before .stage .given .1) (c .before .before .before .before .before .before .before .before .before .before .before .before .read-steps .ensures) (c .before .before .before .before .before .before .before .stage2 .given .1) (c .before .before .before .before .before .check-end .ensures) (c .before .before .before .stage3 .given .1)
@@ -70,22 +37,22 @@ read-timeline-spec =
     tie.close
     (tie.spec
     read-past-requires
-    enum-known-stage
-    enum-told
-    same-length
+    (λ c. search needs)
+    (λ c. search needs)
+    (λ c. search needs)
     returns
-    slice-aggregate-read-steps
+    (λ c. search needs)
     read-steps-requires
-    enum-known-stage-2
-    enum-told-2
-    same-length-2
+    (λ c. search needs)
+    (λ c. search needs)
+    (λ c. search needs)
     returns-2
     check-end-requires
-    enum-known-stage-3
-    enum-told-3
-    same-length-3
+    (λ c. search needs)
+    (λ c. search needs)
+    (λ c. search needs)
     returns-3
-    slice-aggregate-check-past
+    (λ c. search needs)
     check-past-requires
     same-length-4
     returns-4)

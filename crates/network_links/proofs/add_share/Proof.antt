@@ -10,29 +10,8 @@ returns c = search (share-first, needs)
 returns-2 : tie.Need-returns-2
 returns-2 c = search (share-past, needs)
 
-sub-link : tie.Need-sub-link
-sub-link c = search needs
-
-mul-sums : tie.Need-mul-sums
-mul-sums c = search needs
-
-slice-read-sums : tie.Need-slice-read-sums
-slice-read-sums c = search needs
-
-wide-requires : tie.Need-wide-requires
-wide-requires c κs = search needs
-
 add-sums : tie.Need-add-sums
 add-sums c = let h = share-fits {from = c .before .before .before .before .before .args .from} (c .before .before .before .before .before .pre) (search needs) (search needs) in search needs
-
-mul-sums-2 : tie.Need-mul-sums-2
-mul-sums-2 c = search needs
-
-slice-write-sums : tie.Need-slice-write-sums
-slice-write-sums c = search needs
-
-same-length : tie.Need-same-length
-same-length c = search needs
 
 returns-3 : tie.Need-returns-3
 returns-3 c = search (share-own, needs)
@@ -43,12 +22,12 @@ add-share-spec =
     (tie.spec
     returns
     returns-2
-    sub-link
-    mul-sums
-    slice-read-sums
-    wide-requires
+    (λ c. search needs)
+    (λ c. search needs)
+    (λ c. search needs)
+    (λ c κs. search needs)
     add-sums
-    mul-sums-2
-    slice-write-sums
-    same-length
+    (λ c. search needs)
+    (λ c. search needs)
+    (λ c. search needs)
     returns-3)

@@ -14,29 +14,11 @@ abbrev μ-loop : tie.MeasureT-loop
 loop-holds : tie.Need-loop-holds Inv-loop μ-loop
 loop-holds c = search (sums-begin, needs)
 
-link-of-requires : tie.Need-link-of-requires Inv-loop μ-loop
-link-of-requires c κs = search needs
-
-index-requires : tie.Need-index-requires Inv-loop μ-loop
-index-requires c κs = search needs
-
-share-requires : tie.Need-share-requires Inv-loop μ-loop
-share-requires c κs = search needs
-
 add-share-requires : tie.Need-add-share-requires Inv-loop μ-loop
 add-share-requires c κs = search (add-asked, needs)
 
-add-j : tie.Need-add-j Inv-loop μ-loop
-add-j c = search needs
-
-loop-less : tie.Need-loop-less Inv-loop μ-loop
-loop-less c = search needs
-
 loop-again : tie.Need-loop-again Inv-loop μ-loop
 loop-again c = sums-next (c .before .before .before .before .before .before .before .before .before .before .before .pre) (c .before .before .before .before .before .before .before .before .loop .inv) (search needs) (search needs) (c .before .before .before .before .before .before .link-of .ensures) (c .before .before .before .before .before .index .ensures .0) (c .before .before .before .before .share .ensures) (c .before .before .add-share .ensures)
-
-same-length : tie.Need-same-length Inv-loop μ-loop
-same-length c = search needs
 
 returns : tie.Need-returns Inv-loop μ-loop
 returns c = search (sums-done, needs)
@@ -48,12 +30,12 @@ add-shares-spec =
     Inv-loop
     μ-loop
     loop-holds
-    link-of-requires
-    index-requires
-    share-requires
+    (λ c κs. search needs)
+    (λ c κs. search needs)
+    (λ c κs. search needs)
     add-share-requires
-    add-j
-    loop-less
+    (λ c. search needs)
+    (λ c. search needs)
     loop-again
-    same-length
+    (λ c. search needs)
     returns)

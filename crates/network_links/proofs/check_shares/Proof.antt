@@ -16,47 +16,17 @@ Inv-loop movements reading counts count sums i₀ i = PassedTo (reading .counts 
 abbrev μ-loop : tie.MeasureT-loop
 μ-loop movements reading counts count sums i₀ i = counts .links - i
 
-slice-aggregate-add-shares : tie.Need-slice-aggregate-add-shares Inv-loop μ-loop
-slice-aggregate-add-shares c = search needs
-
 add-shares-requires : tie.Need-add-shares-requires Inv-loop μ-loop
 add-shares-requires c κs = sums-asked (c .before .before .before .pre) refl
 
 loop-holds : tie.Need-loop-holds Inv-loop μ-loop
 loop-holds c = search (passed-none, needs)
 
-add-valid-shares : tie.Need-add-valid-shares Inv-loop μ-loop
-add-valid-shares c = search needs
-
-mul-valid-shares : tie.Need-mul-valid-shares Inv-loop μ-loop
-mul-valid-shares c = search needs
-
-array-read-valid-shares : tie.Need-array-read-valid-shares Inv-loop μ-loop
-array-read-valid-shares c = search needs
-
 valid-shares-requires : tie.Need-valid-shares-requires Inv-loop μ-loop
 valid-shares-requires c κs = (search needs, sum-at (c .before .before .before .before .before .before .before .before .pre) (c .before .before .before .before .add-shares .ensures) (c .before .before .loop .i) (search needs))
 
-add-last-movement : tie.Need-add-last-movement Inv-loop μ-loop
-add-last-movement c = search needs
-
-last-movement-requires : tie.Need-last-movement-requires Inv-loop μ-loop
-last-movement-requires c κs = search needs
-
-movement-line-requires : tie.Need-movement-line-requires Inv-loop μ-loop
-movement-line-requires c κs = search needs
-
-new-requires : tie.Need-new-requires Inv-loop μ-loop
-new-requires c κs = search needs
-
 returns : tie.Need-returns Inv-loop μ-loop
 returns c = search (shares-broken, needs)
-
-add-i : tie.Need-add-i Inv-loop μ-loop
-add-i c = search needs
-
-loop-less : tie.Need-loop-less Inv-loop μ-loop
-loop-less c = search needs
 
 loop-again : tie.Need-loop-again Inv-loop μ-loop
 loop-again c = shares-next (c .before .before .before .before .before .before .before .before .before .before .args .movements .now) (c .before .before .before .before .before .before .before .before .before .before .args .reading) (c .before .before .before .before .loop .inv) (search needs) (c .before .valid-shares .ensures) (c .if2 .left)
@@ -70,19 +40,19 @@ check-shares-spec =
     (tie.spec
     Inv-loop
     μ-loop
-    slice-aggregate-add-shares
+    (λ c. search needs)
     add-shares-requires
     loop-holds
-    add-valid-shares
-    mul-valid-shares
-    array-read-valid-shares
+    (λ c. search needs)
+    (λ c. search needs)
+    (λ c. search needs)
     valid-shares-requires
-    add-last-movement
-    last-movement-requires
-    movement-line-requires
-    new-requires
+    (λ c. search needs)
+    (λ c κs. search needs)
+    (λ c κs. search needs)
+    (λ c κs. search needs)
     returns
-    add-i
-    loop-less
+    (λ c. search needs)
+    (λ c. search needs)
     loop-again
     returns-2)

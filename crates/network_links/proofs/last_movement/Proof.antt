@@ -18,21 +18,6 @@ loop-holds : tie.Need-loop-holds Inv-loop μ-loop
 unfolding lastMovementIn
 loop-holds c = (search needs, refl, search needs)
 
-link-of-requires : tie.Need-link-of-requires Inv-loop μ-loop
-link-of-requires c κs = search needs
-
-index-requires : tie.Need-index-requires Inv-loop μ-loop
-index-requires c κs = search needs
-
-add-last : tie.Need-add-last Inv-loop μ-loop
-add-last c = search needs
-
-add-j : tie.Need-add-j Inv-loop μ-loop
-add-j c = search needs
-
-loop-less : tie.Need-loop-less Inv-loop μ-loop
-loop-less c = search needs
-
 loop-again : tie.Need-loop-again Inv-loop μ-loop
 loop-again c = ⊎-elim (λ w. search (last-here, needs)) (λ w. search (last-other, needs)) (c .if1 .came)
 
@@ -46,10 +31,10 @@ last-movement-spec =
     Inv-loop
     μ-loop
     loop-holds
-    link-of-requires
-    index-requires
-    add-last
-    add-j
-    loop-less
+    (λ c κs. search needs)
+    (λ c κs. search needs)
+    (λ c. search needs)
+    (λ c. search needs)
+    (λ c. search needs)
     loop-again
     returns)

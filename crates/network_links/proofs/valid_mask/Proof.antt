@@ -9,15 +9,6 @@ use Rattle.network_links.proofs.valid_mask.Tie as tie
 returns : tie.Need-returns
 returns c = search (mask-none, needs)
 
-sub-last : tie.Need-sub-last
-sub-last c = search needs
-
-mul-result : tie.Need-mul-result
-mul-result c = search needs
-
-shared-slice-read-result : tie.Need-shared-slice-read-result
-shared-slice-read-result c = search needs
-
 shl-result : tie.Need-shl-result
 shl-result c = omega (arith, c .before .before .pre .few (c .before .before .args .signal - 1) (omega arith))
 
@@ -26,4 +17,4 @@ returns-2 c = search (mask-some, needs)
 
 pub valid-mask-spec : {M : Type 1} → statement M
 valid-mask-spec =
-    tie.close (tie.spec returns sub-last mul-result shared-slice-read-result shl-result returns-2)
+    tie.close (tie.spec returns (λ c. search needs) (λ c. search needs) (λ c. search needs) shl-result returns-2)

@@ -7,11 +7,8 @@ use Rattle.network_links.proofs.valid_shares.Tie as tie
 returns : tie.Need-returns
 returns c = search (shares-whole, needs)
 
-last-movement-requires : tie.Need-last-movement-requires
-last-movement-requires c κs = search needs
-
 returns-2 : tie.Need-returns-2
 returns-2 c = search (shares-short, needs)
 
 pub valid-shares-spec : {M : Type 1} → statement M
-valid-shares-spec = tie.close (tie.spec returns last-movement-requires returns-2)
+valid-shares-spec = tie.close (tie.spec returns (λ c κs. search needs) returns-2)

@@ -4,38 +4,14 @@ use borrow.Author.Needs.{needs}
 use Rattle.network_past.proofs.check_past.Statement.{statement}
 use Rattle.network_past.proofs.check_past.Tie as tie
 
-new-requires : tie.Need-new-requires
-new-requires c κs = search needs
-
 returns : tie.Need-returns
 returns c = untimed (c .before .before .before .before .before .before .before .pre) (c .if1 .taken) (c .before .before .new .ensures)
-
-slice-aggregate-load-past : tie.Need-slice-aggregate-load-past
-slice-aggregate-load-past c = search needs
-
-slice-aggregate-load-past-2 : tie.Need-slice-aggregate-load-past-2
-slice-aggregate-load-past-2 c = search needs
-
-slice-aggregate-load-past-3 : tie.Need-slice-aggregate-load-past-3
-slice-aggregate-load-past-3 c = search needs
-
-slice-aggregate-load-past-4 : tie.Need-slice-aggregate-load-past-4
-slice-aggregate-load-past-4 c = search needs
 
 load-past-requires : tie.Need-load-past-requires
 load-past-requires c κs = past-asked (c .before .before .before .before .before .before .before .before .before .before .before .before .pre) (c .before .before .before .before .before .if1 .left) (search needs) (search needs) (search needs) (search needs)
 
 returns-2 : tie.Need-returns-2
 returns-2 c = overflow (c .before .before .before .before .before .before .before .before .before .before .before .before .before .before .before .before .before .before .pre) (c .before .before .before .before .before .before .before .before .before .before .before .if1 .left) (c .before .before .before .before .before .load-past .ensures) (c .if2 .taken) (c .before .before .before .before .before .before .before .before .before .before .before .before .before .new .ensures)
-
-slice-aggregate-valid-links : tie.Need-slice-aggregate-valid-links
-slice-aggregate-valid-links c = search needs
-
-slice-aggregate-valid-links-2 : tie.Need-slice-aggregate-valid-links-2
-slice-aggregate-valid-links-2 c = search needs
-
-slice-aggregate-valid-links-3 : tie.Need-slice-aggregate-valid-links-3
-slice-aggregate-valid-links-3 c = search needs
 
 valid-links-requires : tie.Need-valid-links-requires
 valid-links-requires c κs = links-asked (c .before .before .before .before .before .before .before .before .before .before .before .before .before .before .before .before .before .before .before .before .before .pre) (c .before .before .before .before .before .before .before .before .before .before .before .before .before .before .if1 .left) (c .before .before .before .before .before .before .before .before .load-past .ensures) (c .before .before .before .if2 .left) (search needs) (c .before .before .before .before .before .before .before .before .before .before .before .before .before .before .before .before .before .before .before .before .before .pre .demand-size)
@@ -50,17 +26,17 @@ pub check-past-spec : {M : Type 1} → statement M
 check-past-spec =
     tie.close
     (tie.spec
-    new-requires
+    (λ c κs. search needs)
     returns
-    slice-aggregate-load-past
-    slice-aggregate-load-past-2
-    slice-aggregate-load-past-3
-    slice-aggregate-load-past-4
+    (λ c. search needs)
+    (λ c. search needs)
+    (λ c. search needs)
+    (λ c. search needs)
     load-past-requires
     returns-2
-    slice-aggregate-valid-links
-    slice-aggregate-valid-links-2
-    slice-aggregate-valid-links-3
+    (λ c. search needs)
+    (λ c. search needs)
+    (λ c. search needs)
     valid-links-requires
     returns-3
     returns-4)

@@ -17,15 +17,6 @@ abbrev μ-loop : tie.MeasureT-loop
 loop-holds : tie.Need-loop-holds Inv-loop μ-loop
 loop-holds c = search (links-none, needs)
 
-valid-past-requires : tie.Need-valid-past-requires Inv-loop μ-loop
-valid-past-requires c κs = search needs
-
-add-i : tie.Need-add-i Inv-loop μ-loop
-add-i c = search needs
-
-loop-less : tie.Need-loop-less Inv-loop μ-loop
-loop-less c = search needs
-
 loop-again : tie.Need-loop-again Inv-loop μ-loop
 unfolding _and_
 loop-again c = search (links-more, needs)
@@ -36,4 +27,4 @@ returns c = search (links-all, needs)
 pub valid-links-spec : {M : Type 1} → statement M
 valid-links-spec =
     tie.close
-    (tie.spec Inv-loop μ-loop loop-holds valid-past-requires add-i loop-less loop-again returns)
+    (tie.spec Inv-loop μ-loop loop-holds (λ c κs. search needs) (λ c. search needs) (λ c. search needs) loop-again returns)

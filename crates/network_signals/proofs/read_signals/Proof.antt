@@ -21,35 +21,11 @@ mul-start c = omega (arith, c .if1 .taken, c .before .before .before .before .be
 add-end : tie.Need-add-end Inv-loop μ-loop
 add-end c = omega (arith, c .if1 .taken, c .before .before .before .before .before .before .before .pre .counted .few .signals)
 
-moved-to-requires : tie.Need-moved-to-requires Inv-loop μ-loop
-moved-to-requires c κs = search needs
-
-mul-read-signal : tie.Need-mul-read-signal Inv-loop μ-loop
-mul-read-signal c = search needs
-
-sub-read-signal : tie.Need-sub-read-signal Inv-loop μ-loop
-sub-read-signal c = search needs
-
-part-read-signal-start : tie.Need-part-read-signal-start Inv-loop μ-loop
-part-read-signal-start c = search needs
-
 part-read-signal-end : tie.Need-part-read-signal-end Inv-loop μ-loop
 part-read-signal-end c = omega (arith, c .before .if1 .taken, c .before .before .before .loop .inv .table .size, c .before .before .before .before .before .before .before .before .pre .counted .few .signals)
 
 read-signal-requires : tie.Need-read-signal-requires Inv-loop μ-loop
 read-signal-requires c κs = signal-asked (c .before .before .before .before .before .before .before .before .before .pre) (c .before .before .before .before .loop .inv) (c .before .before .if1 .taken) (c .before .moved-to .ensures)
-
-enum-known-stage : tie.Need-enum-known-stage Inv-loop μ-loop
-enum-known-stage c = search needs
-
-enum-told : tie.Need-enum-told Inv-loop μ-loop
-enum-told c = search needs
-
-same-length : tie.Need-same-length Inv-loop μ-loop
-same-length c = search needs
-
-same-length-2 : tie.Need-same-length-2 Inv-loop μ-loop
-same-length-2 c = search needs
 
 returns : tie.Need-returns Inv-loop μ-loop
 returns c = signals-stop (c .before .before .before .before .before .before .before .before .before .before .before .before .before .before .pre) (c .before .before .before .before .before .before .before .before .before .loop .inv) (c .before .before .before .before .before .before .before .if1 .taken) (c .before .before .before .before .read-signal .ensures) (c .enum-told .given .1)
@@ -69,17 +45,8 @@ shortest-time-requires c κs = signal-few (c .before .before .before .before .be
 add-r : tie.Need-add-r Inv-loop μ-loop
 add-r c = omega (arith, c .before .before .before .before .before .before .before .before .before .before .before .if1 .taken, c .before .before .before .before .before .before .before .before .before .before .before .before .before .before .before .before .before .before .pre .counted .few .signals)
 
-loop-less : tie.Need-loop-less Inv-loop μ-loop
-loop-less c = search needs
-
 loop-again : tie.Need-loop-again Inv-loop μ-loop
 loop-again c = signals-next (c .before .before .before .before .before .before .before .before .before .before .before .before .before .before .before .before .before .before .pre) (c .before .before .before .before .before .before .before .before .before .before .before .before .before .loop .inv) (c .before .before .before .before .before .before .before .before .before .before .before .if1 .taken) (c .before .before .before .before .before .before .before .before .read-signal .ensures) (c .before .before .before .before .before .before .before .before .read-signal .kept .1 .1 .1 .0) (c .before .before .before .before .stage .given .1) (c .before .signal-in .ensures) (c .shortest-time .ensures)
-
-same-length-3 : tie.Need-same-length-3 Inv-loop μ-loop
-same-length-3 c = search needs
-
-same-length-4 : tie.Need-same-length-4 Inv-loop μ-loop
-same-length-4 c = search needs
 
 returns-2 : tie.Need-returns-2 Inv-loop μ-loop
 returns-2 c = signals-done (c .before .before .before .before .before .before .before .pre) (c .before .before .loop .inv) (c .if1 .left)
@@ -93,24 +60,24 @@ read-signals-spec =
     loop-holds
     mul-start
     add-end
-    moved-to-requires
-    mul-read-signal
-    sub-read-signal
-    part-read-signal-start
+    (λ c κs. search needs)
+    (λ c. search needs)
+    (λ c. search needs)
+    (λ c. search needs)
     part-read-signal-end
     read-signal-requires
-    enum-known-stage
-    enum-told
-    same-length
-    same-length-2
+    (λ c. search needs)
+    (λ c. search needs)
+    (λ c. search needs)
+    (λ c. search needs)
     returns
     signal-in-requires
     mul-phases
     slice-write-phases
     shortest-time-requires
     add-r
-    loop-less
+    (λ c. search needs)
     loop-again
-    same-length-3
-    same-length-4
+    (λ c. search needs)
+    (λ c. search needs)
     returns-2)

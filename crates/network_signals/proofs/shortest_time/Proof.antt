@@ -15,27 +15,9 @@ Inv-loop so-far signal shortest₀ k₀ phases shortest k = (k ≤ phases) × (p
 abbrev μ-loop : tie.MeasureT-loop
 μ-loop so-far signal shortest₀ k₀ phases shortest k = phases - k
 
-cast-phases : tie.Need-cast-phases Inv-loop μ-loop
-cast-phases c = search needs
-
 loop-holds : tie.Need-loop-holds Inv-loop μ-loop
 unfolding shortestTime
 loop-holds c = (search needs, refl, refl)
-
-mul-lesser-of : tie.Need-mul-lesser-of Inv-loop μ-loop
-mul-lesser-of c = search needs
-
-element-copy-out-lesser-of : tie.Need-element-copy-out-lesser-of Inv-loop μ-loop
-element-copy-out-lesser-of c = search needs
-
-lesser-of-requires : tie.Need-lesser-of-requires Inv-loop μ-loop
-lesser-of-requires c κs = search needs
-
-add-k : tie.Need-add-k Inv-loop μ-loop
-add-k c = search needs
-
-loop-less : tie.Need-loop-less Inv-loop μ-loop
-loop-less c = search needs
 
 loop-again : tie.Need-loop-again Inv-loop μ-loop
 loop-again c =
@@ -54,12 +36,12 @@ shortest-time-spec =
     (tie.spec
     Inv-loop
     μ-loop
-    cast-phases
+    (λ c. search needs)
     loop-holds
-    mul-lesser-of
-    element-copy-out-lesser-of
-    lesser-of-requires
-    add-k
-    loop-less
+    (λ c. search needs)
+    (λ c. search needs)
+    (λ c κs. search needs)
+    (λ c. search needs)
+    (λ c. search needs)
     loop-again
     returns)

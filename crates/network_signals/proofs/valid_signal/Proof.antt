@@ -12,21 +12,6 @@ returns c = sym (shown-below (c .before .args .t1) (c .if1 .taken))
 returns-2 : tie.Need-returns-2
 returns-2 c = sym (shown-above (c .before .before .args .t1) (c .if2 .taken))
 
-cast-at : tie.Need-cast-at
-cast-at c = search needs
-
-sub-at : tie.Need-sub-at
-sub-at c = search needs
-
-valid-times-requires : tie.Need-valid-times-requires
-valid-times-requires c κs = search needs
-
-mul-result : tie.Need-mul-result
-mul-result c = search needs
-
-element-copy-out-result : tie.Need-element-copy-out-result
-element-copy-out-result c = search needs
-
 returns-3 : tie.Need-returns-3
 returns-3 c =
     let s = c .before .before .before .before .args .t1 in
@@ -38,9 +23,9 @@ valid-signal-spec =
     (tie.spec
     returns
     returns-2
-    cast-at
-    sub-at
-    valid-times-requires
-    mul-result
-    element-copy-out-result
+    (λ c. search needs)
+    (λ c. search needs)
+    (λ c κs. search needs)
+    (λ c. search needs)
+    (λ c. search needs)
     returns-3)

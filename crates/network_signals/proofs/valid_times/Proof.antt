@@ -15,33 +15,9 @@ Inv-loop signal valid₀ k₀ phases valid k = (k ≤ phases) × (phases ≡ sig
 abbrev μ-loop : tie.MeasureT-loop
 μ-loop signal valid₀ k₀ phases valid k = phases - k
 
-cast-phases : tie.Need-cast-phases Inv-loop μ-loop
-cast-phases c = search needs
-
 loop-holds : tie.Need-loop-holds Inv-loop μ-loop
 unfolding every
 loop-holds c = (search needs, refl, refl)
-
-mul-valid-time : tie.Need-mul-valid-time Inv-loop μ-loop
-mul-valid-time c = search needs
-
-element-copy-out-valid-time : tie.Need-element-copy-out-valid-time Inv-loop μ-loop
-element-copy-out-valid-time c = search needs
-
-mul-valid-time-2 : tie.Need-mul-valid-time-2 Inv-loop μ-loop
-mul-valid-time-2 c = search needs
-
-element-copy-out-valid-time-2 : tie.Need-element-copy-out-valid-time-2 Inv-loop μ-loop
-element-copy-out-valid-time-2 c = search needs
-
-valid-time-requires : tie.Need-valid-time-requires Inv-loop μ-loop
-valid-time-requires c κs = search needs
-
-add-k : tie.Need-add-k Inv-loop μ-loop
-add-k c = search needs
-
-loop-less : tie.Need-loop-less Inv-loop μ-loop
-loop-less c = search needs
 
 loop-again : tie.Need-loop-again Inv-loop μ-loop
 loop-again c =
@@ -60,14 +36,14 @@ valid-times-spec =
     (tie.spec
     Inv-loop
     μ-loop
-    cast-phases
+    (λ c. search needs)
     loop-holds
-    mul-valid-time
-    element-copy-out-valid-time
-    mul-valid-time-2
-    element-copy-out-valid-time-2
-    valid-time-requires
-    add-k
-    loop-less
+    (λ c. search needs)
+    (λ c. search needs)
+    (λ c. search needs)
+    (λ c. search needs)
+    (λ c κs. search needs)
+    (λ c. search needs)
+    (λ c. search needs)
     loop-again
     returns)

@@ -14,35 +14,11 @@ abbrev μ-loop : tie.MeasureT-loop
 loop-holds : tie.Need-loop-holds Inv-loop μ-loop
 loop-holds c = search (add-begin, needs)
 
-mul-demands : tie.Need-mul-demands Inv-loop μ-loop
-mul-demands c = search needs
-
-slice-read-demands : tie.Need-slice-read-demands Inv-loop μ-loop
-slice-read-demands c = search needs
-
-demand-requires : tie.Need-demand-requires Inv-loop μ-loop
-demand-requires c κs = search needs
-
 add-demands : tie.Need-add-demands Inv-loop μ-loop
 add-demands c = search (add-fits, needs)
 
-mul-demands-2 : tie.Need-mul-demands-2 Inv-loop μ-loop
-mul-demands-2 c = search needs
-
-slice-write-demands : tie.Need-slice-write-demands Inv-loop μ-loop
-slice-write-demands c = search needs
-
-add-i : tie.Need-add-i Inv-loop μ-loop
-add-i c = search needs
-
-loop-less : tie.Need-loop-less Inv-loop μ-loop
-loop-less c = search needs
-
 loop-again : tie.Need-loop-again Inv-loop μ-loop
 loop-again c = search (add-next, needs)
-
-same-length : tie.Need-same-length Inv-loop μ-loop
-same-length c = search needs
 
 returns : tie.Need-returns Inv-loop μ-loop
 returns c = search (add-done, needs)
@@ -54,14 +30,14 @@ add-demands-spec =
     Inv-loop
     μ-loop
     loop-holds
-    mul-demands
-    slice-read-demands
-    demand-requires
+    (λ c. search needs)
+    (λ c. search needs)
+    (λ c κs. search needs)
     add-demands
-    mul-demands-2
-    slice-write-demands
-    add-i
-    loop-less
+    (λ c. search needs)
+    (λ c. search needs)
+    (λ c. search needs)
+    (λ c. search needs)
     loop-again
-    same-length
+    (λ c. search needs)
     returns)

@@ -4,26 +4,8 @@ use Rattle.network_steps.proofs.Steps.{load-next, load-never}
 use Rattle.network_steps.proofs.load_step.Statement.{statement}
 use Rattle.network_steps.proofs.load_step.Tie as tie
 
-add-read-row : tie.Need-add-read-row
-add-read-row c = search needs
-
-read-row-requires : tie.Need-read-row-requires
-read-row-requires c κs = search needs
-
-enum-known-next : tie.Need-enum-known-next
-enum-known-next c = search needs
-
-enum-told : tie.Need-enum-told
-enum-told c = search needs
-
-same-length : tie.Need-same-length
-same-length c = search needs
-
 returns : tie.Need-returns
 returns c = search (load-next, needs)
-
-same-length-2 : tie.Need-same-length-2
-same-length-2 c = search needs
 
 returns-2 : tie.Need-returns-2
 returns-2 c = search (load-never, needs)
@@ -32,11 +14,11 @@ pub load-step-spec : {M : Type 1} → statement M
 load-step-spec =
     tie.close
     (tie.spec
-    add-read-row
-    read-row-requires
-    enum-known-next
-    enum-told
-    same-length
+    (λ c. search needs)
+    (λ c κs. search needs)
+    (λ c. search needs)
+    (λ c. search needs)
+    (λ c. search needs)
     returns
-    same-length-2
+    (λ c. search needs)
     returns-2)

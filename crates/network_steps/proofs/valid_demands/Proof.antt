@@ -17,17 +17,8 @@ abbrev μ-loop : tie.MeasureT-loop
 loop-holds : tie.Need-loop-holds Inv-loop μ-loop
 loop-holds c = search (demands-none, needs)
 
-demand-requires : tie.Need-demand-requires Inv-loop μ-loop
-demand-requires c κs = search needs
-
 returns : tie.Need-returns Inv-loop μ-loop
 returns c = search (demands-broken, needs)
-
-add-i : tie.Need-add-i Inv-loop μ-loop
-add-i c = search needs
-
-loop-less : tie.Need-loop-less Inv-loop μ-loop
-loop-less c = search needs
 
 loop-again : tie.Need-loop-again Inv-loop μ-loop
 loop-again c = search (demands-on, needs)
@@ -42,9 +33,9 @@ valid-demands-spec =
     Inv-loop
     μ-loop
     loop-holds
-    demand-requires
+    (λ c κs. search needs)
     returns
-    add-i
-    loop-less
+    (λ c. search needs)
+    (λ c. search needs)
     loop-again
     returns-2)

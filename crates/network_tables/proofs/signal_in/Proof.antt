@@ -4,15 +4,9 @@ use borrow.Author.Needs.{needs}
 use Rattle.network_tables.proofs.signal_in.Statement.{statement}
 use Rattle.network_tables.proofs.signal_in.Tie as tie
 
-mul-signal-from : tie.Need-mul-signal-from
-mul-signal-from c = search needs
-
-signal-from-requires : tie.Need-signal-from-requires
-signal-from-requires c κs = search needs
-
 returns : tie.Need-returns
 unfolding tableSignal
 returns c = search needs
 
 pub signal-in-spec : {M : Type 1} → statement M
-signal-in-spec = tie.close (tie.spec mul-signal-from signal-from-requires returns)
+signal-in-spec = tie.close (tie.spec (λ c. search needs) (λ c κs. search needs) returns)

@@ -4,12 +4,6 @@ use Rattle.network_tables.proofs.Product.{below}
 use Rattle.network_tables.proofs.times.Statement.{statement}
 use Rattle.network_tables.proofs.times.Tie as tie
 
-wide-requires : tie.Need-wide-requires
-wide-requires c κs = search needs
-
-wide-requires-2 : tie.Need-wide-requires-2
-wide-requires-2 c κs = search needs
-
 mul-result : tie.Need-mul-result
 mul-result c = record { fits = below 32 (c .before .wide .ensures .1) (c .wide2 .ensures .1) }
 
@@ -17,4 +11,4 @@ returns : tie.Need-returns
 returns c = rw (c .before .wide .ensures .0, c .wide2 .ensures .0)
 
 pub times-spec : {M : Type 1} → statement M
-times-spec = tie.close (tie.spec wide-requires wide-requires-2 mul-result returns)
+times-spec = tie.close (tie.spec (λ c κs. search needs) (λ c κs. search needs) mul-result returns)

@@ -20,23 +20,8 @@ loop-holds c = search (passed-none, needs)
 valid-phase-requires : tie.Need-valid-phase-requires Inv-loop μ-loop
 valid-phase-requires c κs = search (phase-asked, needs)
 
-tram-line-requires : tie.Need-tram-line-requires Inv-loop μ-loop
-tram-line-requires c κs = search needs
-
-add-new : tie.Need-add-new Inv-loop μ-loop
-add-new c = search needs
-
-new-requires : tie.Need-new-requires Inv-loop μ-loop
-new-requires c κs = search needs
-
 returns : tie.Need-returns Inv-loop μ-loop
 returns c = search (phases-broken, needs)
-
-add-k : tie.Need-add-k Inv-loop μ-loop
-add-k c = search needs
-
-loop-less : tie.Need-loop-less Inv-loop μ-loop
-loop-less c = search needs
 
 loop-again : tie.Need-loop-again Inv-loop μ-loop
 loop-again c = search (phases-next, needs)
@@ -52,11 +37,11 @@ check-tram-phases-spec =
     μ-loop
     loop-holds
     valid-phase-requires
-    tram-line-requires
-    add-new
-    new-requires
+    (λ c κs. search needs)
+    (λ c. search needs)
+    (λ c κs. search needs)
     returns
-    add-k
-    loop-less
+    (λ c. search needs)
+    (λ c. search needs)
     loop-again
     returns-2)

@@ -17,41 +17,14 @@ abbrev μ-loop : tie.MeasureT-loop
 loop-holds : tie.Need-loop-holds Inv-loop μ-loop
 loop-holds c = search (claims-begin, needs)
 
-slice-aggregate-read-row : tie.Need-slice-aggregate-read-row Inv-loop μ-loop
-slice-aggregate-read-row c = search needs
-
-read-row-requires : tie.Need-read-row-requires Inv-loop μ-loop
-read-row-requires c κs = search needs
-
-enum-known-read : tie.Need-enum-known-read Inv-loop μ-loop
-enum-known-read c = search needs
-
-enum-told : tie.Need-enum-told Inv-loop μ-loop
-enum-told c = search needs
-
-same-length : tie.Need-same-length Inv-loop μ-loop
-same-length c = search needs
-
 returns : tie.Need-returns Inv-loop μ-loop
 returns c = search (claims-never, needs)
-
-slice-aggregate-claim : tie.Need-slice-aggregate-claim Inv-loop μ-loop
-slice-aggregate-claim c = search needs
 
 claim-requires : tie.Need-claim-requires Inv-loop μ-loop
 claim-requires c κs = search (claim-asked, needs)
 
-add-k : tie.Need-add-k Inv-loop μ-loop
-add-k c = search needs
-
-loop-less : tie.Need-loop-less Inv-loop μ-loop
-loop-less c = search needs
-
 loop-again : tie.Need-loop-again Inv-loop μ-loop
 loop-again c = search (claims-next, fields-size, needs)
-
-same-length-2 : tie.Need-same-length-2 Inv-loop μ-loop
-same-length-2 c = search needs
 
 returns-2 : tie.Need-returns-2 Inv-loop μ-loop
 returns-2 c = search (claims-done, needs)
@@ -63,16 +36,16 @@ tram-phases-spec =
     Inv-loop
     μ-loop
     loop-holds
-    slice-aggregate-read-row
-    read-row-requires
-    enum-known-read
-    enum-told
-    same-length
+    (λ c. search needs)
+    (λ c κs. search needs)
+    (λ c. search needs)
+    (λ c. search needs)
+    (λ c. search needs)
     returns
-    slice-aggregate-claim
+    (λ c. search needs)
     claim-requires
-    add-k
-    loop-less
+    (λ c. search needs)
+    (λ c. search needs)
     loop-again
-    same-length-2
+    (λ c. search needs)
     returns-2)

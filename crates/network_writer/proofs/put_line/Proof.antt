@@ -5,15 +5,6 @@ use borrow.Author.Needs.{needs}
 use Rattle.network_writer.proofs.put_line.Statement.{statement}
 use Rattle.network_writer.proofs.put_line.Tie as tie
 
-slice-aggregate-widen : tie.Need-slice-aggregate-widen
-slice-aggregate-widen c = search needs
-
-widen-requires : tie.Need-widen-requires
-widen-requires c κs = search needs
-
-array-share-prefix-numbers : tie.Need-array-share-prefix-numbers
-array-share-prefix-numbers c = search needs
-
 slice-aggregate-record-length : tie.Need-slice-aggregate-record-length
 slice-aggregate-record-length c = search (row-size, needs)
 
@@ -26,17 +17,11 @@ add-end c = omega (arith, line-counted _ _ _ (c .before .before .before .widen .
 returns : tie.Need-returns
 returns c = search (line-short, needs)
 
-array-share-prefix-numbers-2 : tie.Need-array-share-prefix-numbers-2
-array-share-prefix-numbers-2 c = search needs
-
 slice-aggregate-write-record : tie.Need-slice-aggregate-write-record
 slice-aggregate-write-record c = search (row-size, needs)
 
 write-record-requires : tie.Need-write-record-requires
 write-record-requires c κs = search (line-room, needs)
-
-same-length : tie.Need-same-length
-same-length c = search needs
 
 returns-2 : tie.Need-returns-2
 returns-2 c = search (line-wrote, needs)
@@ -45,15 +30,15 @@ pub put-line-spec : {M : Type 1} → statement M
 put-line-spec =
     tie.close
     (tie.spec
-    slice-aggregate-widen
-    widen-requires
-    array-share-prefix-numbers
+    (λ c. search needs)
+    (λ c κs. search needs)
+    (λ c. search needs)
     slice-aggregate-record-length
     record-length-requires
     add-end
     returns
-    array-share-prefix-numbers-2
+    (λ c. search needs)
     slice-aggregate-write-record
     write-record-requires
-    same-length
+    (λ c. search needs)
     returns-2)

@@ -5,20 +5,11 @@ use Rattle.plan_check.proofs.Plans.{load-asked, with-signals}
 use Rattle.plan_check.proofs.judge_plan.Statement.{statement}
 use Rattle.plan_check.proofs.judge_plan.Tie as tie
 
-slice-aggregate-load-signals : tie.Need-slice-aggregate-load-signals
-slice-aggregate-load-signals c = search needs
-
 load-signals-requires : tie.Need-load-signals-requires
 load-signals-requires c κs = load-asked (c .before .before .before .before .before .before .before .pre) refl
 
-slice-aggregate-judge-with-signals : tie.Need-slice-aggregate-judge-with-signals
-slice-aggregate-judge-with-signals c = search needs
-
 judge-with-signals-requires : tie.Need-judge-with-signals-requires
 judge-with-signals-requires c κs = with-signals (c .before .before .before .before .before .before .before .before .before .before .before .pre) (c .before .before .before .load-signals .ensures)
-
-same-length : tie.Need-same-length
-same-length c = search needs
 
 returns : tie.Need-returns
 returns c = c .before .before .before .judge-with-signals .ensures
@@ -27,9 +18,9 @@ pub judge-plan-spec : {M : Type 1} → statement M
 judge-plan-spec =
     tie.close
     (tie.spec
-    slice-aggregate-load-signals
+    (λ c. search needs)
     load-signals-requires
-    slice-aggregate-judge-with-signals
+    (λ c. search needs)
     judge-with-signals-requires
-    same-length
+    (λ c. search needs)
     returns)

@@ -7,12 +7,6 @@ use borrow.Author.Needs.{needs}
 use Rattle.plan_check.proofs.judge_with_signals.Statement.{statement}
 use Rattle.plan_check.proofs.judge_with_signals.Tie as tie
 
-add-if1 : tie.Need-add-if1
-add-if1 c = search needs
-
-mul-if1 : tie.Need-mul-if1
-mul-if1 c = search needs
-
 mul-if1-2 : tie.Need-mul-if1-2
 mul-if1-2 c =
     let s = c .before .before .before .before .before .before .before .before .before .before in
@@ -20,20 +14,11 @@ mul-if1-2 c =
     let h : 2 * (s .args .reading .counts .steps + 1) ≤ 242 = omega (arith, few .steps) in
     omega (arith, mul-le-mul-right (s .args .reading .counts .links) h, few .links)
 
-new-requires : tie.Need-new-requires
-new-requires c κs = search needs
-
 returns : tie.Need-returns
 returns c = let s = c .before .before .before .before .before .before .before .before .before .before .before .before in rw (c .new .ensures) (plan-short _ (s .args .plan .now) _ _ _ (s .args .ledger .now) _ (s .pre .loaded) (c .before .if1 .taken))
 
 run-steps-requires : tie.Need-run-steps-requires
 run-steps-requires c κs = let s = c .before .before .before .before .before .before .before .before .before .before .before .before .before in run-asked _ (s .args .plan .now) _ _ _ (s .args .ledger .now) _ (s .pre .loaded) (c .before .before .if1 .left) (s .pre .signal-table)
-
-same-length : tie.Need-same-length
-same-length c = search needs
-
-same-length-2 : tie.Need-same-length-2
-same-length-2 c = search needs
 
 returns-2 : tie.Need-returns-2
 returns-2 c = let s = c .before .before .before .before .before .before .before .before .before .before .before .before .before .before .before .before .before .before in plan-run _ (s .args .plan .now) _ _ _ (s .args .ledger .now) _ (s .pre .loaded) (c .before .before .before .before .before .before .before .if1 .left) (c .before .before .before .before .run-steps .ensures)
@@ -42,12 +27,12 @@ pub judge-with-signals-spec : {M : Type 1} → statement M
 judge-with-signals-spec =
     tie.close
     (tie.spec
-    add-if1
-    mul-if1
+    (λ c. search needs)
+    (λ c. search needs)
     mul-if1-2
-    new-requires
+    (λ c κs. search needs)
     returns
     run-steps-requires
-    same-length
-    same-length-2
+    (λ c. search needs)
+    (λ c. search needs)
     returns-2)

@@ -4,29 +4,8 @@ use Rattle.plan_compare.proofs.Call.{first-refused, second-refused, tex
 use Rattle.plan_compare.proofs.compare_on_network.Statement.{statement}
 use Rattle.plan_compare.proofs.compare_on_network.Tie as tie
 
-judge-plan-requires : tie.Need-judge-plan-requires
-judge-plan-requires c κs = search needs
-
-enum-known-judged : tie.Need-enum-known-judged
-enum-known-judged c = search needs
-
-enum-known-judged-2 : tie.Need-enum-known-judged-2
-enum-known-judged-2 c = search needs
-
-same-length : tie.Need-same-length
-same-length c = search needs
-
 returns : tie.Need-returns
 returns c = first-refused _ _ _ _ _ (c .before .before .before .before .before .before .before .before .before .before .before .before .before .before .before .pre .holds) (c .before .before .before .before .before .judge-plan .ensures) (c .before .judged2 .given .1)
-
-judge-plan-requires-2 : tie.Need-judge-plan-requires-2
-judge-plan-requires-2 c κs = search needs
-
-enum-known-refusal : tie.Need-enum-known-refusal
-enum-known-refusal c = search needs
-
-enum-known-totals : tie.Need-enum-known-totals
-enum-known-totals c = search needs
 
 order-of-texts-requires : tie.Need-order-of-texts-requires
 order-of-texts-requires c κs =
@@ -38,22 +17,10 @@ gap-between-requires c κs =
     let f = c .before .before .before .before .before .before .before .before .before .before .before .before .before in
     time-words _ _ _ _ _ (f .before .before .before .before .before .before .before .before .before .before .pre .holds) (f .judge-plan .ensures) (c .before .before .before .before .before .before .before .before .before .judged .given .1) (c .before .before .before .before .before .before .judge-plan2 .ensures) (c .before .before .totals .given .1)
 
-same-length-2 : tie.Need-same-length-2
-same-length-2 c = search needs
-
-same-length-3 : tie.Need-same-length-3
-same-length-3 c = search needs
-
 returns-2 : tie.Need-returns-2
 returns-2 c =
     let f = c .before .before .before .before .before .before .before .before .before .before .before .before in
     second-refused _ _ _ _ _ (f .before .before .before .before .before .before .before .before .before .before .pre .holds) (f .judge-plan .ensures) (c .before .before .before .before .before .before .before .before .judged .given .1) (c .before .before .before .before .before .judge-plan2 .ensures) (c .before .refusal .given .1)
-
-same-length-4 : tie.Need-same-length-4
-same-length-4 c = search needs
-
-same-length-5 : tie.Need-same-length-5
-same-length-5 c = search needs
 
 returns-3 : tie.Need-returns-3
 returns-3 c =
@@ -65,19 +32,19 @@ pub compare-on-network-spec : {M : Type 1} → statement M
 compare-on-network-spec =
     tie.close
     (tie.spec
-    judge-plan-requires
-    enum-known-judged
-    enum-known-judged-2
-    same-length
+    (λ c κs. search needs)
+    (λ c. search needs)
+    (λ c. search needs)
+    (λ c. search needs)
     returns
-    judge-plan-requires-2
-    enum-known-refusal
-    enum-known-totals
+    (λ c κs. search needs)
+    (λ c. search needs)
+    (λ c. search needs)
     order-of-texts-requires
     gap-between-requires
-    same-length-2
-    same-length-3
+    (λ c. search needs)
+    (λ c. search needs)
     returns-2
-    same-length-4
-    same-length-5
+    (λ c. search needs)
+    (λ c. search needs)
     returns-3)

@@ -31,9 +31,6 @@ loop-less c = omega arith
 loop-again : tie.Need-loop-again Inv-loop μ-loop
 loop-again c = read-next (c .before .before .before .before .before .before .before .before .before .loop .inv) (c .before .before .before .before .before .before .if1 .taken) (c .before .before .before .before .before .next-boundary .ensures) (c .before .before .before .before .next-boundary2 .ensures)
 
-order-by-requires : tie.Need-order-by-requires Inv-loop μ-loop
-order-by-requires c κs = search needs
-
 returns : tie.Need-returns Inv-loop μ-loop
 returns c = c .order-by .ensures ∙ read-all (c .before .before .before .before .loop .inv) (c .before .if1 .left)
 
@@ -48,5 +45,5 @@ order-of-texts-spec =
     next-boundary-requires-2
     loop-less
     loop-again
-    order-by-requires
+    (λ c κs. search needs)
     returns)

@@ -5,12 +5,6 @@ use borrow.Author.Needs.{needs}
 use Rattle.plan_link_state.proofs.arrival_by.Statement.{statement}
 use Rattle.plan_link_state.proofs.arrival_by.Tie as tie
 
-travel-time-requires : tie.Need-travel-time-requires
-travel-time-requires c κs = search needs
-
-add-at : tie.Need-add-at
-add-at c = search needs
-
 arrival-step-requires : tie.Need-arrival-step-requires
 arrival-step-requires c κs = cursor-first (c .before .before .before .before .before .before .before .pre) _ (c .before .before .travel-time .ensures)
 
@@ -34,8 +28,8 @@ pub arrival-by-spec : {M : Type 1} → statement M
 arrival-by-spec =
     tie.close
     (tie.spec
-    travel-time-requires
-    add-at
+    (λ c κs. search needs)
+    (λ c. search needs)
     arrival-step-requires
     entered-over-requires
     seconds-requires

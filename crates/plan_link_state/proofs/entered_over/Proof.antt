@@ -5,35 +5,14 @@ use borrow.Author.Needs.{needs}
 use Rattle.plan_link_state.proofs.entered_over.Statement.{statement}
 use Rattle.plan_link_state.proofs.entered_over.Tie as tie
 
-add-if1 : tie.Need-add-if1
-add-if1 c = search needs
-
-mul-if1 : tie.Need-mul-if1
-mul-if1 c = search needs
-
 shared-slice-read-if1 : tie.Need-shared-slice-read-if1
 shared-slice-read-if1 c = let h = times-room (c .before .before .before .before .before .before .pre .asked) .0 in search needs
-
-mul-if1-2 : tie.Need-mul-if1-2
-mul-if1-2 c = search needs
-
-shared-slice-read-if1-2 : tie.Need-shared-slice-read-if1-2
-shared-slice-read-if1-2 c = search needs
 
 sub-if1 : tie.Need-sub-if1
 sub-if1 c = since-fits (c .before .before .before .before .before .before .before .pre .asked)
 
-travel-time-requires : tie.Need-travel-time-requires
-travel-time-requires c κs = search needs
-
-standing-requires : tie.Need-standing-requires
-standing-requires c κs = search needs
-
 returns : tie.Need-returns
 returns c = no-past (c .before .before .before .before .before .before .before .before .before .before .before .pre) (c .before .before .before .travel-time .ensures) (c .before .before .if1 .taken) (c .before .standing .ensures) (c .if2 .taken)
-
-add-read-on : tie.Need-add-read-on
-add-read-on c = search needs
 
 read-on-requires : tie.Need-read-on-requires
 read-on-requires c κs = read-asked (c .before .before .before .before .before .before .before .before .before .before .before .pre) (c .before .before .before .travel-time .ensures) (c .before .before .if1 .taken) (c .before .standing .ensures) (c .if2 .left)
@@ -60,16 +39,16 @@ pub entered-over-spec : {M : Type 1} → statement M
 entered-over-spec =
     tie.close
     (tie.spec
-    add-if1
-    mul-if1
+    (λ c. search needs)
+    (λ c. search needs)
     shared-slice-read-if1
-    mul-if1-2
-    shared-slice-read-if1-2
+    (λ c. search needs)
+    (λ c. search needs)
     sub-if1
-    travel-time-requires
-    standing-requires
+    (λ c κs. search needs)
+    (λ c κs. search needs)
     returns
-    add-read-on
+    (λ c. search needs)
     read-on-requires
     returns-2
     sub-row

@@ -4,32 +4,14 @@ use borrow.Author.Needs.{needs}
 use Rattle.plan_link_state.proofs.state_by.Statement.{statement}
 use Rattle.plan_link_state.proofs.state_by.Tie as tie
 
-add-row-start : tie.Need-add-row-start
-add-row-start c = search needs
-
-row-start-requires : tie.Need-row-start-requires
-row-start-requires c κs = search needs
-
-refused-requires : tie.Need-refused-requires
-refused-requires c κs = search needs
-
 returns : tie.Need-returns
 returns c = short-told (c .before .before .before .before .before .before .before .before .pre) (c .before .before .before .before .before .before .before .before .args .ledger .now) (c .before .before .before .before .before .before .before .before .args .boundary) (c .before .before .before .before .before .before .before .before .args .link) (c .before .before .row-start .ensures) (c .before .if1 .taken) (c .refused .ensures)
-
-refused-requires-2 : tie.Need-refused-requires-2
-refused-requires-2 c κs = search needs
 
 returns-2 : tie.Need-returns-2
 returns-2 c = past-told (c .before .before .before .before .before .before .before .before .before .pre) (c .before .before .before .before .before .before .before .before .before .args .ledger .now) (c .before .before .before .before .before .before .before .before .before .args .boundary) (c .before .before .before .before .before .before .before .before .before .args .link) (c .before .before .before .row-start .ensures) (c .before .before .if1 .left) (c .before .if2 .taken) (c .refused2 .ensures)
 
-refused-requires-3 : tie.Need-refused-requires-3
-refused-requires-3 c κs = search needs
-
 returns-3 : tie.Need-returns-3
 returns-3 c = below-told (c .before .before .before .before .before .before .before .before .before .before .pre) (c .before .before .before .before .before .before .before .before .before .before .args .ledger .now) (c .before .before .before .before .before .before .before .before .before .before .args .boundary) (c .before .before .before .before .before .before .before .before .before .before .args .link) (c .before .before .before .before .row-start .ensures) (c .before .before .before .if1 .left) (c .before .before .if2 .left) (c .before .if3 .taken) (c .refused3 .ensures)
-
-refused-requires-4 : tie.Need-refused-requires-4
-refused-requires-4 c κs = search needs
 
 returns-4 : tie.Need-returns-4
 returns-4 c = above-told (c .before .before .before .before .before .before .before .before .before .before .before .pre) (c .before .before .before .before .before .before .before .before .before .before .before .args .ledger .now) (c .before .before .before .before .before .before .before .before .before .before .before .args .boundary) (c .before .before .before .before .before .before .before .before .before .before .before .args .link) (c .before .before .before .before .before .row-start .ensures) (c .before .before .before .before .if1 .left) (c .before .before .before .if2 .left) (c .before .before .if3 .left) (c .before .if4 .taken) (c .refused4 .ensures)
@@ -53,15 +35,15 @@ pub state-by-spec : {M : Type 1} → statement M
 state-by-spec =
     tie.close
     (tie.spec
-    add-row-start
-    row-start-requires
-    refused-requires
+    (λ c. search needs)
+    (λ c κs. search needs)
+    (λ c κs. search needs)
     returns
-    refused-requires-2
+    (λ c κs. search needs)
     returns-2
-    refused-requires-3
+    (λ c κs. search needs)
     returns-3
-    refused-requires-4
+    (λ c κs. search needs)
     returns-4
     entered-at-requires
     left-at-requires

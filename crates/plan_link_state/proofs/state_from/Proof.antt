@@ -5,35 +5,14 @@ use Rattle.plan_link_state.proofs.Ledger.{falls-inside, left-above, arr
 use Rattle.plan_link_state.proofs.state_from.Statement.{statement}
 use Rattle.plan_link_state.proofs.state_from.Tie as tie
 
-refused-requires : tie.Need-refused-requires
-refused-requires c κs = search needs
-
 returns : tie.Need-returns
 returns c = falls-inside _ _ _ (c .before .if1 .taken) (c .refused .ensures)
-
-times-requires : tie.Need-times-requires
-times-requires c κs = search needs
-
-refused-requires-2 : tie.Need-refused-requires-2
-refused-requires-2 c κs = search needs
 
 returns-2 : tie.Need-returns-2
 returns-2 c = left-above _ _ _ (c .before .before .before .if1 .left) (c .before .before .times .ensures) (c .before .if2 .taken) (c .refused2 .ensures)
 
-times-requires-2 : tie.Need-times-requires-2
-times-requires-2 c κs = search needs
-
-refused-requires-3 : tie.Need-refused-requires-3
-refused-requires-3 c κs = search needs
-
 returns-3 : tie.Need-returns-3
 returns-3 c = arrived-above _ _ _ (c .before .before .before .before .before .if1 .left) (c .before .before .before .before .times .ensures) (c .before .before .before .if2 .left) (c .before .before .times2 .ensures) (c .before .if3 .taken) (c .refused3 .ensures)
-
-wide-requires : tie.Need-wide-requires
-wide-requires c κs = search needs
-
-div-arrived : tie.Need-div-arrived
-div-arrived c = search needs
 
 cast-arrived : tie.Need-cast-arrived
 cast-arrived c =
@@ -57,16 +36,16 @@ pub state-from-spec : {M : Type 1} → statement M
 state-from-spec =
     tie.close
     (tie.spec
-    refused-requires
+    (λ c κs. search needs)
     returns
-    times-requires
-    refused-requires-2
+    (λ c κs. search needs)
+    (λ c κs. search needs)
     returns-2
-    times-requires-2
-    refused-requires-3
+    (λ c κs. search needs)
+    (λ c κs. search needs)
     returns-3
-    wide-requires
-    div-arrived
+    (λ c κs. search needs)
+    (λ c. search needs)
     cast-arrived
     sub-t10
     sub-t11

@@ -5,14 +5,8 @@ use borrow.Author.Needs.{needs}
 use Rattle.plan_steps.proofs.next_state.Statement.{statement}
 use Rattle.plan_steps.proofs.next_state.Tie as tie
 
-sum-of-requires : tie.Need-sum-of-requires
-sum-of-requires c κs = search needs
-
 add-step-requires : tie.Need-add-step-requires
 add-step-requires c κs = let a = c .before .before .before .before .args in rw (outside-sum (a .counts .links) (a .waiting .now) (c .sum-of .ensures .0)) (c .before .before .before .before .pre .totals-asked)
-
-add-t8 : tie.Need-add-t8
-add-t8 c = search needs
 
 returns : tie.Need-returns
 returns c = let a = c .before .before .before .before .before .before .args in record { boundary = refl; step-place = refl; plan-place = refl; totals = c .before .add-step .ensures; outside = outside-sum (a .counts .links) (a .waiting .now) (c .before .before .sum-of .ensures .0) }
@@ -21,7 +15,7 @@ pub next-state-spec : {M : Type 1} → statement M
 next-state-spec =
     tie.close
     (tie.spec
-    sum-of-requires
+    (λ c κs. search needs)
     add-step-requires
-    add-t8
+    (λ c. search needs)
     returns)

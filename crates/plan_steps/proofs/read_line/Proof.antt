@@ -6,23 +6,8 @@ use borrow.Author.Needs.{needs}
 use Rattle.plan_steps.proofs.read_line.Statement.{statement}
 use Rattle.plan_steps.proofs.read_line.Tie as tie
 
-hold-masks-requires : tie.Need-hold-masks-requires
-hold-masks-requires c κs = search needs
-
-same-length : tie.Need-same-length
-same-length c = search needs
-
 returns : tie.Need-returns
 returns c = record { size = c .before .before .hold-masks .ensures .size; read = λ h. absurd (omega arith); next = λ e. refl; held = λ e. c .before .before .hold-masks .ensures }
-
-plan-width-requires : tie.Need-plan-width-requires
-plan-width-requires c κs = search needs
-
-read-row-requires : tie.Need-read-row-requires
-read-row-requires c κs = search needs
-
-same-length-2 : tie.Need-same-length-2
-same-length-2 c = search needs
 
 returns-2 : tie.Need-returns-2
 returns-2 c = record { size = c .before .before .read-row .ensures .size; read = λ h. rw (c .before .before .before .plan-width .ensures) at (c .before .before .read-row .ensures); next = λ e. absurd (omega arith); held = λ e. absurd (omega arith) }
@@ -31,10 +16,10 @@ pub read-line-spec : {M : Type 1} → statement M
 read-line-spec =
     tie.close
     (tie.spec
-    hold-masks-requires
-    same-length
+    (λ c κs. search needs)
+    (λ c. search needs)
     returns
-    plan-width-requires
-    read-row-requires
-    same-length-2
+    (λ c κs. search needs)
+    (λ c κs. search needs)
+    (λ c. search needs)
     returns-2)

@@ -16,15 +16,6 @@ abbrev μ-loop : tie.MeasureT-loop
 μ-loop network plan steps links movements times signals₀ waiting₀ ledger₀ counts trams-at arrivals₀ curves₀ places₀ taken₀ signals waiting ledger arrivals curves places taken =
     steps - taken .state .boundary
 
-slice-aggregate-load-past : tie.Need-slice-aggregate-load-past Inv-loop μ-loop
-slice-aggregate-load-past c = search needs
-
-slice-aggregate-load-past-2 : tie.Need-slice-aggregate-load-past-2 Inv-loop μ-loop
-slice-aggregate-load-past-2 c = search needs
-
-slice-aggregate-load-past-3 : tie.Need-slice-aggregate-load-past-3 Inv-loop μ-loop
-slice-aggregate-load-past-3 c = search needs
-
 load-past-requires : tie.Need-load-past-requires Inv-loop μ-loop
 load-past-requires c κs = past-asked (c .before .before .before .before .before .before .before .before .before .before .before .before .before .pre) _ _ _ refl (search needs) (search needs)
 
@@ -52,17 +43,11 @@ slice-aggregate-take-step-3 c = sym (c .before .before .before .before .before .
 take-step-requires : tie.Need-take-step-requires Inv-loop μ-loop
 take-step-requires c κs = running-asked (c .before .before .before .before .before .before .before .before .before .loop .inv) (omega arith)
 
-enum-told : tie.Need-enum-told Inv-loop μ-loop
-enum-told c = search needs
-
 loop-less : tie.Need-loop-less Inv-loop μ-loop
 loop-less c = running-less (c .before .before .before .before .before .before .before .before .before .before .before .before .before .before .before .before .before .before .before .before .before .loop .inv) (c .before .before .before .before .before .before .before .before .before .before .before .take-step .ensures) (omega arith) (c .enum-told .given .1)
 
 loop-again : tie.Need-loop-again Inv-loop μ-loop
 loop-again c = running-next (c .before .before .before .before .before .before .before .before .before .before .before .before .before .before .before .before .before .before .before .before .before .loop .inv) (c .before .before .before .before .before .before .before .before .before .before .before .take-step .ensures) (omega arith) (c .enum-told .given .1)
-
-enum-told-2 : tie.Need-enum-told-2 Inv-loop μ-loop
-enum-told-2 c = search needs
 
 same-length : tie.Need-same-length Inv-loop μ-loop
 same-length c = omega (arith, c .before .before .before .before .before .before .before .before .before .before .before .take-step .kept .1 .1 .1 .1 .1 .1 .1 .0, c .before .before .before .before .before .before .before .before .before .before .before .before .before .before .before .before .before .before .before .before .before .loop .inv .state-at .signals-at .size, c .before .before .before .before .before .before .before .before .before .before .before .before .before .before .before .before .before .before .before .before .before .before .before .before .before .before .before .before .before .before .before .before .before .before .before .before .before .before .before .before .before .before .before .before .before .before .before .before .before .pre .signal-table .size)
@@ -94,9 +79,9 @@ take-steps-spec =
     (tie.spec
     Inv-loop
     μ-loop
-    slice-aggregate-load-past
-    slice-aggregate-load-past-2
-    slice-aggregate-load-past-3
+    (λ c. search needs)
+    (λ c. search needs)
+    (λ c. search needs)
     load-past-requires
     first-waiting-requires
     held-in-requires
@@ -106,10 +91,10 @@ take-steps-spec =
     slice-aggregate-take-step-2
     slice-aggregate-take-step-3
     take-step-requires
-    enum-told
+    (λ c. search needs)
     loop-less
     loop-again
-    enum-told-2
+    (λ c. search needs)
     same-length
     same-length-2
     same-length-3

@@ -6,12 +6,6 @@ use borrow.Author.Needs.{needs}
 use Rattle.plan_steps.proofs.travel_time.Statement.{statement}
 use Rattle.plan_steps.proofs.travel_time.Tie as tie
 
-wide-requires : tie.Need-wide-requires
-wide-requires c κs = search needs
-
-add-result : tie.Need-add-result
-add-result c = search needs
-
 mul-result : tie.Need-mul-result
 mul-result c =
     let s = c .before in
@@ -26,4 +20,4 @@ returns c =
     rw e (refl, omega (arith, mul-le-mul-right (s .args .start + s .args .end) h, s .pre))
 
 pub travel-time-spec : {M : Type 1} → statement M
-travel-time-spec = tie.close (tie.spec wide-requires add-result mul-result returns)
+travel-time-spec = tie.close (tie.spec (λ c κs. search needs) (λ c. search needs) mul-result returns)

@@ -27,27 +27,6 @@ module _ (a : CarryAnswer) (r : TextResult) (is : r ≡ carryResult a) {b : ℕ}
       → CarryGot network plan b ledger ledgerAfter buffer bufferAfter (carryAnswerOf r)
   got {network} {plan} h g = of-carry (λ (x : CarryAnswer). CarryGot network plan b ledger ledgerAfter buffer bufferAfter x) a r is h g
 
-carry-on-requires : tie.Need-carry-on-requires
-carry-on-requires c κs = search needs
-
-enum-known-length : tie.Need-enum-known-length
-enum-known-length c = search needs
-
-written-text-requires : tie.Need-written-text-requires
-written-text-requires c κs = search needs
-
-enum-known-refusal : tie.Need-enum-known-refusal
-enum-known-refusal c = search needs
-
-refused-text-requires : tie.Need-refused-text-requires
-refused-text-requires c κs = search needs
-
-same-length : tie.Need-same-length
-same-length c = search needs
-
-same-length-2 : tie.Need-same-length-2
-same-length-2 c = search needs
-
 returns : tie.Need-returns
 returns c =
     let e = c .before .before .before .before .before .before .before .before .carry-on .ensures in
@@ -63,12 +42,6 @@ returns c =
         ),
       ),
     )
-
-same-length-3 : tie.Need-same-length-3
-same-length-3 c = search needs
-
-same-length-4 : tie.Need-same-length-4
-same-length-4 c = search needs
 
 returns-2 : tie.Need-returns-2
 returns-2 c =
@@ -90,14 +63,14 @@ pub plancheck-carry-on-spec : {M : Type 1} → statement M
 plancheck-carry-on-spec =
     tie.close
     (tie.spec
-    carry-on-requires
-    enum-known-length
-    written-text-requires
-    enum-known-refusal
-    refused-text-requires
-    same-length
-    same-length-2
+    (λ c κs. search needs)
+    (λ c. search needs)
+    (λ c κs. search needs)
+    (λ c. search needs)
+    (λ c κs. search needs)
+    (λ c. search needs)
+    (λ c. search needs)
     returns
-    same-length-3
-    same-length-4
+    (λ c. search needs)
+    (λ c. search needs)
     returns-2)

@@ -6,12 +6,6 @@ use borrow.Author.Needs.{needs}
 use Rattle.plancheck_c.proofs.plancheck_check_network.Statement.{statement}
 use Rattle.plancheck_c.proofs.plancheck_check_network.Tie as tie
 
-check-network-requires : tie.Need-check-network-requires
-check-network-requires c κs = search needs
-
-verdict-result-requires : tie.Need-verdict-result-requires
-verdict-result-requires c κs = search needs
-
 returns : tie.Need-returns
 returns c =
     let got = c .before .check-network .ensures in
@@ -19,4 +13,4 @@ returns c =
     (told, (network-tells _ told, λ padded same. c .verdict-result .ensures ∙ ap verdictResult (got .1 .1 padded same)))
 
 pub plancheck-check-network-spec : {M : Type 1} → statement M
-plancheck-check-network-spec = tie.close (tie.spec check-network-requires verdict-result-requires returns)
+plancheck-check-network-spec = tie.close (tie.spec (λ c κs. search needs) (λ c κs. search needs) returns)

@@ -25,15 +25,6 @@ module _ (a : PlanAnswer) (r : PlanResult) (is : r ≡ planResult a) {before aft
   empty : {network plan : List ℕ} → ((q : Refusal) → a ≡ plan-answer.Refused q → CanArise planNumbers (q .number)) → EmptyHolds network plan before after a → EmptyHolds network plan before after (planAnswerOf r)
   empty {network} {plan} h g = of-plan (λ (x : PlanAnswer). EmptyHolds network plan before after x) a r is h g
 
-check-plan-requires : tie.Need-check-plan-requires
-check-plan-requires c κs = search needs
-
-plan-result-requires : tie.Need-plan-result-requires
-plan-result-requires c κs = search needs
-
-same-length : tie.Need-same-length
-same-length c = search needs
-
 returns : tie.Need-returns
 returns c =
     let e = c .before .before .before .check-plan .ensures in
@@ -57,4 +48,4 @@ returns c =
     )
 
 pub plancheck-check-plan-spec : {M : Type 1} → statement M
-plancheck-check-plan-spec = tie.close (tie.spec check-plan-requires plan-result-requires same-length returns)
+plancheck-check-plan-spec = tie.close (tie.spec (λ c κs. search needs) (λ c κs. search needs) (λ c. search needs) returns)

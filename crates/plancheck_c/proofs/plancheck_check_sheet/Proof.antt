@@ -18,15 +18,6 @@ module _ (a : PlanAnswer) (r : PlanResult) (is : r ≡ planResult a) where
   promised : {network sheet plan : List Line} {before after : List ℕ} → SheetPromises network sheet plan before after a → SheetPromises network sheet plan before after (planAnswerOf r)
   promised {network} {sheet} {plan} {before} {after} g = of-plan (λ (x : PlanAnswer). SheetPromises network sheet plan before after x) a r is (g .refused-number) g
 
-check-sheet-requires : tie.Need-check-sheet-requires
-check-sheet-requires c κs = search needs
-
-plan-result-requires : tie.Need-plan-result-requires
-plan-result-requires c κs = search needs
-
-same-length : tie.Need-same-length
-same-length c = search needs
-
 returns : tie.Need-returns
 returns c =
     let e = c .before .before .before .check-sheet .ensures in
@@ -43,4 +34,4 @@ returns c =
     )
 
 pub plancheck-check-sheet-spec : {M : Type 1} → statement M
-plancheck-check-sheet-spec = tie.close (tie.spec check-sheet-requires plan-result-requires same-length returns)
+plancheck-check-sheet-spec = tie.close (tie.spec (λ c κs. search needs) (λ c κs. search needs) (λ c. search needs) returns)

@@ -36,24 +36,6 @@ module _ (a : ComparisonAnswer) (r : ComparisonResult) (is : r ≡ comparisonRes
   got {network} {first} {second} {firstOld} {secondOld} {firstNew} {secondNew} g =
       of-comparison (λ (x : ComparisonAnswer). ComparisonGot network first second firstOld secondOld x firstNew secondNew) a r is (g .promised .refused-number) g
 
-compare-plans-requires : tie.Need-compare-plans-requires
-compare-plans-requires c κs = search needs
-
-enum-known-order : tie.Need-enum-known-order
-enum-known-order c = search needs
-
-order-number-requires : tie.Need-order-number-requires
-order-number-requires c κs = search needs
-
-enum-known-plan : tie.Need-enum-known-plan
-enum-known-plan c = search needs
-
-same-length : tie.Need-same-length
-same-length c = search needs
-
-same-length-2 : tie.Need-same-length-2
-same-length-2 c = search needs
-
 returns : tie.Need-returns
 returns c =
     let e = c .before .before .before .before .before .before .before .before .compare-plans .ensures in
@@ -77,12 +59,6 @@ returns c =
         ),
       ),
     )
-
-same-length-3 : tie.Need-same-length-3
-same-length-3 c = search needs
-
-same-length-4 : tie.Need-same-length-4
-same-length-4 c = search needs
 
 returns-2 : tie.Need-returns-2
 returns-2 c =
@@ -110,13 +86,13 @@ pub plancheck-compare-plans-spec : {M : Type 1} → statement M
 plancheck-compare-plans-spec =
     tie.close
     (tie.spec
-    compare-plans-requires
-    enum-known-order
-    order-number-requires
-    enum-known-plan
-    same-length
-    same-length-2
+    (λ c κs. search needs)
+    (λ c. search needs)
+    (λ c κs. search needs)
+    (λ c. search needs)
+    (λ c. search needs)
+    (λ c. search needs)
     returns
-    same-length-3
-    same-length-4
+    (λ c. search needs)
+    (λ c. search needs)
     returns-2)

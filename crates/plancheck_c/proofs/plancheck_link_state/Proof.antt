@@ -6,15 +6,6 @@ use borrow.Author.Needs.{needs}
 use Rattle.plancheck_c.proofs.plancheck_link_state.Statement.{statement}
 use Rattle.plancheck_c.proofs.plancheck_link_state.Tie as tie
 
-link-state-requires : tie.Need-link-state-requires
-link-state-requires c κs = search needs
-
-enum-known-queued : tie.Need-enum-known-queued
-enum-known-queued c = search needs
-
-enum-known-r : tie.Need-enum-known-r
-enum-known-r c = search needs
-
 returns : tie.Need-returns
 returns c =
     let got = c .before .before .before .link-state .ensures in
@@ -31,4 +22,4 @@ returns-2 c =
 
 pub plancheck-link-state-spec : {M : Type 1} → statement M
 plancheck-link-state-spec =
-    tie.close (tie.spec link-state-requires enum-known-queued enum-known-r returns returns-2)
+    tie.close (tie.spec (λ c κs. search needs) (λ c. search needs) (λ c. search needs) returns returns-2)

@@ -6,15 +6,6 @@ use borrow.Author.Needs.{needs}
 use Rattle.plancheck_c.proofs.plancheck_network_counts.Statement.{statement}
 use Rattle.plancheck_c.proofs.plancheck_network_counts.Tie as tie
 
-count-network-requires : tie.Need-count-network-requires
-count-network-requires c κs = search needs
-
-enum-known-links : tie.Need-enum-known-links
-enum-known-links c = search needs
-
-enum-known-r : tie.Need-enum-known-r
-enum-known-r c = search needs
-
 returns : tie.Need-returns
 returns c =
     let got = c .before .before .before .count-network .ensures in
@@ -31,4 +22,4 @@ returns-2 c =
 
 pub plancheck-network-counts-spec : {M : Type 1} → statement M
 plancheck-network-counts-spec =
-    tie.close (tie.spec count-network-requires enum-known-links enum-known-r returns returns-2)
+    tie.close (tie.spec (λ c κs. search needs) (λ c. search needs) (λ c. search needs) returns returns-2)

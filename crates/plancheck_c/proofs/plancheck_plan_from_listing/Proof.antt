@@ -41,24 +41,6 @@ module _ (a : ListingAnswer) (r : TextResult) (is : r ≡ listingResult a) {netw
       tells-by (writeChecks network listing (length old)) listingNumbers (λ q v. g .refused-number q (g .told ∙ refused network listing _ q v))
       (ap (λ (x : TextResult). x .number) (is ∙ ap listingResult (g .told)) ∙ number network listing _)
 
-plan-from-listing-requires : tie.Need-plan-from-listing-requires
-plan-from-listing-requires c κs = search needs
-
-enum-known-length : tie.Need-enum-known-length
-enum-known-length c = search needs
-
-written-text-requires : tie.Need-written-text-requires
-written-text-requires c κs = search needs
-
-enum-known-refusal : tie.Need-enum-known-refusal
-enum-known-refusal c = search needs
-
-refused-text-requires : tie.Need-refused-text-requires
-refused-text-requires c κs = search needs
-
-same-length : tie.Need-same-length
-same-length c = search needs
-
 returns : tie.Need-returns
 returns c =
     let e = c .before .before .before .before .before .before .plan-from-listing .ensures in
@@ -73,9 +55,6 @@ returns c =
         ),
       ),
     )
-
-same-length-2 : tie.Need-same-length-2
-same-length-2 c = search needs
 
 returns-2 : tie.Need-returns-2
 returns-2 c =
@@ -96,12 +75,12 @@ pub plancheck-plan-from-listing-spec : {M : Type 1} → statement M
 plancheck-plan-from-listing-spec =
     tie.close
     (tie.spec
-    plan-from-listing-requires
-    enum-known-length
-    written-text-requires
-    enum-known-refusal
-    refused-text-requires
-    same-length
+    (λ c κs. search needs)
+    (λ c. search needs)
+    (λ c κs. search needs)
+    (λ c. search needs)
+    (λ c κs. search needs)
+    (λ c. search needs)
     returns
-    same-length-2
+    (λ c. search needs)
     returns-2)

@@ -18,24 +18,6 @@ module _ (a : SheetAnswer) (r : TextResult) (is : r ≡ sheetResult a) where
   promised : {network sheet : List Line} {old new : List ℕ} → WritePromises network sheet old a new → WritePromises network sheet old (sheetAnswerOf r) new
   promised {network} {sheet} {old} {new} g = of-sheet (λ (x : SheetAnswer). WritePromises network sheet old x new) a r is (g .refused-number) g
 
-plan-from-sheet-requires : tie.Need-plan-from-sheet-requires
-plan-from-sheet-requires c κs = search needs
-
-enum-known-length : tie.Need-enum-known-length
-enum-known-length c = search needs
-
-written-text-requires : tie.Need-written-text-requires
-written-text-requires c κs = search needs
-
-enum-known-refusal : tie.Need-enum-known-refusal
-enum-known-refusal c = search needs
-
-refused-text-requires : tie.Need-refused-text-requires
-refused-text-requires c κs = search needs
-
-same-length : tie.Need-same-length
-same-length c = search needs
-
 returns : tie.Need-returns
 returns c =
     let e = c .before .before .before .before .before .before .plan-from-sheet .ensures in
@@ -50,9 +32,6 @@ returns c =
         ),
       ),
     )
-
-same-length-2 : tie.Need-same-length-2
-same-length-2 c = search needs
 
 returns-2 : tie.Need-returns-2
 returns-2 c =
@@ -73,12 +52,12 @@ pub plancheck-plan-from-sheet-spec : {M : Type 1} → statement M
 plancheck-plan-from-sheet-spec =
     tie.close
     (tie.spec
-    plan-from-sheet-requires
-    enum-known-length
-    written-text-requires
-    enum-known-refusal
-    refused-text-requires
-    same-length
+    (λ c κs. search needs)
+    (λ c. search needs)
+    (λ c κs. search needs)
+    (λ c. search needs)
+    (λ c κs. search needs)
+    (λ c. search needs)
     returns
-    same-length-2
+    (λ c. search needs)
     returns-2)

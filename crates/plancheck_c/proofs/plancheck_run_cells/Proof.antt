@@ -16,15 +16,6 @@ use Rattle.plancheck_c.proofs.plancheck_run_cells.Tie as tie
 kept : {text : List Line} (a : CellsAnswer) (volumes : List ℕ) → RunKeeps text a volumes → RunKeeps text (cellsAnswerOf (cellsResult a volumes)) volumes
 kept {text} a volumes k = of-cells (λ (x : CellsAnswer). RunKeeps text x volumes) a volumes (k .refused-number) k
 
-run-cells-requires : tie.Need-run-cells-requires
-run-cells-requires c κs = search needs
-
-enum-known-answer : tie.Need-enum-known-answer
-enum-known-answer c = search needs
-
-enum-known-answer-2 : tie.Need-enum-known-answer-2
-enum-known-answer-2 c = search needs
-
 returns : tie.Need-returns
 returns c =
     let e = c .before .before .before .before .run-cells .ensures in
@@ -57,4 +48,4 @@ returns-2 c =
 
 pub plancheck-run-cells-spec : {M : Type 1} → statement M
 plancheck-run-cells-spec =
-    tie.close (tie.spec run-cells-requires enum-known-answer enum-known-answer-2 returns returns-2)
+    tie.close (tie.spec (λ c κs. search needs) (λ c. search needs) (λ c. search needs) returns returns-2)

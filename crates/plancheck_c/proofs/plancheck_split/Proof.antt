@@ -26,27 +26,6 @@ module _ (a : SplitAnswer) (r : SplitResult) (is : r ≡ splitResult a) {set : �
       → SplitGot network plan set before after (splitAnswerOf r)
   got {network} {plan} h g = of-split (λ (x : SplitAnswer). SplitGot network plan set before after x) a r is h g
 
-split-requires : tie.Need-split-requires
-split-requires c κs = search needs
-
-enum-known-lengths : tie.Need-enum-known-lengths
-enum-known-lengths c = search needs
-
-enum-known-r : tie.Need-enum-known-r
-enum-known-r c = search needs
-
-same-length : tie.Need-same-length
-same-length c = search needs
-
-same-length-2 : tie.Need-same-length-2
-same-length-2 c = search needs
-
-same-length-3 : tie.Need-same-length-3
-same-length-3 c = search needs
-
-same-length-4 : tie.Need-same-length-4
-same-length-4 c = search needs
-
 returns : tie.Need-returns
 returns c =
     let e = c .before .before .before .before .before .before .before .before .before .before .before .split .ensures in
@@ -62,18 +41,6 @@ returns c =
         ),
       ),
     )
-
-same-length-5 : tie.Need-same-length-5
-same-length-5 c = search needs
-
-same-length-6 : tie.Need-same-length-6
-same-length-6 c = search needs
-
-same-length-7 : tie.Need-same-length-7
-same-length-7 c = search needs
-
-same-length-8 : tie.Need-same-length-8
-same-length-8 c = search needs
 
 returns-2 : tie.Need-returns-2
 returns-2 c =
@@ -95,16 +62,16 @@ pub plancheck-split-spec : {M : Type 1} → statement M
 plancheck-split-spec =
     tie.close
     (tie.spec
-    split-requires
-    enum-known-lengths
-    enum-known-r
-    same-length
-    same-length-2
-    same-length-3
-    same-length-4
+    (λ c κs. search needs)
+    (λ c. search needs)
+    (λ c. search needs)
+    (λ c. search needs)
+    (λ c. search needs)
+    (λ c. search needs)
+    (λ c. search needs)
     returns
-    same-length-5
-    same-length-6
-    same-length-7
-    same-length-8
+    (λ c. search needs)
+    (λ c. search needs)
+    (λ c. search needs)
+    (λ c. search needs)
     returns-2)

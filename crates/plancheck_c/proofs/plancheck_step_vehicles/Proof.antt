@@ -17,15 +17,6 @@ module _ (v : Verdict) (r : NetworkResult) (is : r ≡ verdictResult v) where
   kept : {places advances lines after : List Float} {spacing : Float} → StepKeeps places advances lines spacing v after → StepKeeps places advances lines spacing (verdictOf r) after
   kept {places} {advances} {lines} {after} {spacing} k = of-verdict (λ (x : Verdict). StepKeeps places advances lines spacing x after) v r is (k .refused-number) k
 
-step-vehicles-requires : tie.Need-step-vehicles-requires
-step-vehicles-requires c κs = search needs
-
-verdict-result-requires : tie.Need-verdict-result-requires
-verdict-result-requires c κs = search needs
-
-same-length : tie.Need-same-length
-same-length c = search needs
-
 returns : tie.Need-returns
 returns c =
     let e = c .before .before .before .step-vehicles .ensures in
@@ -34,4 +25,4 @@ returns c =
     (told, (e .1 .0, (kept _ _ is (e .1 .1), vehicles-tells _ _ _ _ told)))
 
 pub plancheck-step-vehicles-spec : {M : Type 1} → statement M
-plancheck-step-vehicles-spec = tie.close (tie.spec step-vehicles-requires verdict-result-requires same-length returns)
+plancheck-step-vehicles-spec = tie.close (tie.spec (λ c κs. search needs) (λ c κs. search needs) (λ c. search needs) returns)

@@ -5,12 +5,6 @@ use borrow.Author.Needs.{needs}
 use Rattle.plancheck_c.proofs.verdict_result.Statement.{statement}
 use Rattle.plancheck_c.proofs.verdict_result.Tie as tie
 
-enum-told : tie.Need-enum-told
-enum-told c = search needs
-
-enum-known-verdict : tie.Need-enum-known-verdict
-enum-known-verdict c = search needs
-
 returns : tie.Need-returns
 returns c = sym (ap verdictResult (c .enum-told .given .1))
 
@@ -18,4 +12,4 @@ returns-2 : tie.Need-returns-2
 returns-2 c = sym (ap verdictResult (c .before .verdict .given .1))
 
 pub verdict-result-spec : {M : Type 1} → statement M
-verdict-result-spec = tie.close (tie.spec enum-told enum-known-verdict returns returns-2)
+verdict-result-spec = tie.close (tie.spec (λ c. search needs) (λ c. search needs) returns returns-2)

@@ -14,27 +14,9 @@ Inv-loop file buffer₀ done₀ buffer done = (length buffer ≡ length buffer�
 abbrev μ-loop : tie.MeasureT-loop
 μ-loop file buffer₀ done₀ buffer done = length buffer - done
 
-loop-holds : tie.Need-loop-holds Inv-loop μ-loop
-loop-holds c = search needs
-
-read-more-requires : tie.Need-read-more-requires Inv-loop μ-loop
-read-more-requires c κs = search needs
-
-enum-told : tie.Need-enum-told Inv-loop μ-loop
-enum-told c = search needs
-
-same-length : tie.Need-same-length Inv-loop μ-loop
-same-length c = search needs
-
 returns : tie.Need-returns Inv-loop μ-loop
 unfolding Within
 returns c = tt
-
-enum-known-count : tie.Need-enum-known-count Inv-loop μ-loop
-enum-known-count c = search needs
-
-same-length-2 : tie.Need-same-length-2 Inv-loop μ-loop
-same-length-2 c = search needs
 
 returns-2 : tie.Need-returns-2 Inv-loop μ-loop
 unfolding Within
@@ -46,17 +28,11 @@ add-done c =
     let h = came-fits _ _ _ _ (r .read-more .ensures) (c .before .before .count .given .1) in
     omega arith
 
-loop-less : tie.Need-loop-less Inv-loop μ-loop
-loop-less c = search needs
-
 loop-again : tie.Need-loop-again Inv-loop μ-loop
 loop-again c =
     let r = c .before .before .before .before .before .before in
     let h = came-fits _ _ _ _ (r .read-more .ensures) (c .before .before .count .given .1) in
     search needs
-
-same-length-3 : tie.Need-same-length-3 Inv-loop μ-loop
-same-length-3 c = search needs
 
 returns-3 : tie.Need-returns-3 Inv-loop μ-loop
 unfolding Within
@@ -68,16 +44,16 @@ read-open-spec =
     (tie.spec
     Inv-loop
     μ-loop
-    loop-holds
-    read-more-requires
-    enum-told
-    same-length
+    (λ c. search needs)
+    (λ c κs. search needs)
+    (λ c. search needs)
+    (λ c. search needs)
     returns
-    enum-known-count
-    same-length-2
+    (λ c. search needs)
+    (λ c. search needs)
     returns-2
     add-done
-    loop-less
+    (λ c. search needs)
     loop-again
-    same-length-3
+    (λ c. search needs)
     returns-3)

@@ -5,17 +5,11 @@ use borrow.Author.Needs.{needs}
 use Rattle.plancheck_report.proofs.write_accepted.Statement.{statement}
 use Rattle.plancheck_report.proofs.write_accepted.Tie as tie
 
-slice-aggregate-write-record : tie.Need-slice-aggregate-write-record
-slice-aggregate-write-record c = search needs
-
 write-record-requires : tie.Need-write-record-requires
 write-record-requires c κs = record-fits _ _ _ _ (search needs)
 
 write-boundaries-requires : tie.Need-write-boundaries-requires
 write-boundaries-requires c κs = boundaries-asked (c .before .before .before .before .before .before .before .before .before .pre) (c .before .before .before .before .before .before .before .before .before .args .totals) (c .before .before .before .write-record .ensures)
-
-same-length : tie.Need-same-length
-same-length c = search needs
 
 returns : tie.Need-returns
 returns c = accepted-wrote (c .before .before .before .before .before .before .before .before .before .before .before .before .pre) (c .before .before .before .before .before .before .before .before .before .before .before .before .args .totals) (c .before .before .before .before .before .before .write-record .ensures) (c .before .before .write-boundaries .ensures)
@@ -24,8 +18,8 @@ pub write-accepted-spec : {M : Type 1} → statement M
 write-accepted-spec =
     tie.close
     (tie.spec
-    slice-aggregate-write-record
+    (λ c. search needs)
     write-record-requires
     write-boundaries-requires
-    same-length
+    (λ c. search needs)
     returns)

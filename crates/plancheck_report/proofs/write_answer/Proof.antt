@@ -5,26 +5,11 @@ use borrow.Author.Needs.{needs}
 use Rattle.plancheck_report.proofs.write_answer.Statement.{statement}
 use Rattle.plancheck_report.proofs.write_answer.Tie as tie
 
-enum-known-answer : tie.Need-enum-known-answer
-enum-known-answer c = search needs
-
 write-accepted-requires : tie.Need-write-accepted-requires
 write-accepted-requires c κs = c .before .before .before .before .before .before .before .pre .accepted _ (c .before .before .answer .given .1)
 
-enum-known-answer-2 : tie.Need-enum-known-answer-2
-enum-known-answer-2 c = search needs
-
-write-refusal-requires : tie.Need-write-refusal-requires
-write-refusal-requires c κs = search needs
-
-same-length : tie.Need-same-length
-same-length c = search needs
-
 returns : tie.Need-returns
 returns c = accepted-told (lines (c .before .before .before .before .before .before .before .before .before .before .args .network .now)) (c .before .before .before .before .before .before .before .before .before .before .args .ledger .now) (c .before .before .before .before .before .answer .given .1) (c .before .before .write-accepted .ensures)
-
-same-length-2 : tie.Need-same-length-2
-same-length-2 c = search needs
 
 returns-2 : tie.Need-returns-2
 returns-2 c = refused-told (lines (c .before .before .before .before .before .before .before .before .before .before .args .network .now)) (c .before .before .before .before .before .before .before .before .before .before .args .ledger .now) (c .before .before .before .before .before .answer2 .given .1) (c .before .before .write-refusal .ensures)
@@ -33,11 +18,11 @@ pub write-answer-spec : {M : Type 1} → statement M
 write-answer-spec =
     tie.close
     (tie.spec
-    enum-known-answer
+    (λ c. search needs)
     write-accepted-requires
-    enum-known-answer-2
-    write-refusal-requires
-    same-length
+    (λ c. search needs)
+    (λ c κs. search needs)
+    (λ c. search needs)
     returns
-    same-length-2
+    (λ c. search needs)
     returns-2)

@@ -8,27 +8,6 @@ use borrow.Author.Needs.{needs}
 use Rattle.plancheck_report.proofs.write_boundary.Statement.{statement}
 use Rattle.plancheck_report.proofs.write_boundary.Tie as tie
 
-array-write-fields : tie.Need-array-write-fields
-array-write-fields c = search needs
-
-wide-requires : tie.Need-wide-requires
-wide-requires c κs = search needs
-
-array-write-fields-2 : tie.Need-array-write-fields-2
-array-write-fields-2 c = search needs
-
-slice-aggregate-put-row : tie.Need-slice-aggregate-put-row
-slice-aggregate-put-row c = search needs
-
-put-row-requires : tie.Need-put-row-requires
-put-row-requires c κs = search needs
-
-add-end : tie.Need-add-end
-add-end c = search needs
-
-array-share-prefix-fields : tie.Need-array-share-prefix-fields
-array-share-prefix-fields c = search needs
-
 slice-aggregate-write-record : tie.Need-slice-aggregate-write-record
 slice-aggregate-write-record c =
     let b = c .before .before .before in
@@ -43,9 +22,6 @@ write-record-requires c κs =
     let f = fields-read (s .args .n) (b .before .before .wide .result) (s .args .time) (s .args .row .now) _ (b .put-row .last .0) (omega arith) (b .before .before .wide .ensures .0) (b .put-row .ensures) in
     record-fits _ _ _ _ (omega (arith, ap length f))
 
-same-length : tie.Need-same-length
-same-length c = search needs
-
 returns : tie.Need-returns
 returns c =
     let w = c .before .before in
@@ -58,14 +34,14 @@ pub write-boundary-spec : {M : Type 1} → statement M
 write-boundary-spec =
     tie.close
     (tie.spec
-    array-write-fields
-    wide-requires
-    array-write-fields-2
-    slice-aggregate-put-row
-    put-row-requires
-    add-end
-    array-share-prefix-fields
+    (λ c. search needs)
+    (λ c κs. search needs)
+    (λ c. search needs)
+    (λ c. search needs)
+    (λ c κs. search needs)
+    (λ c. search needs)
+    (λ c. search needs)
     slice-aggregate-write-record
     write-record-requires
-    same-length
+    (λ c. search needs)
     returns)

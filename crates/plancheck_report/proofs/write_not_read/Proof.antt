@@ -5,14 +5,8 @@ use borrow.Author.Needs.{needs}
 use Rattle.plancheck_report.proofs.write_not_read.Statement.{statement}
 use Rattle.plancheck_report.proofs.write_not_read.Tie as tie
 
-slice-aggregate-write-record : tie.Need-slice-aggregate-write-record
-slice-aggregate-write-record c = search needs
-
 write-record-requires : tie.Need-write-record-requires
 write-record-requires c κs = record-fits _ _ _ _ (search needs)
-
-same-length : tie.Need-same-length
-same-length c = search needs
 
 returns : tie.Need-returns
 unfolding notRead
@@ -20,4 +14,4 @@ returns c = c .before .before .write-record .ensures
 
 pub write-not-read-spec : {M : Type 1} → statement M
 write-not-read-spec =
-    tie.close (tie.spec slice-aggregate-write-record write-record-requires same-length returns)
+    tie.close (tie.spec (λ c. search needs) write-record-requires (λ c. search needs) returns)

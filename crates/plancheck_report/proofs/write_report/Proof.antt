@@ -7,23 +7,11 @@ use Rattle.plancheck_report.proofs.Report.{answer-asked, report-wrote, 
 use Rattle.plancheck_report.proofs.write_report.Statement.{statement}
 use Rattle.plancheck_report.proofs.write_report.Tie as tie
 
-slice-aggregate-check-plan : tie.Need-slice-aggregate-check-plan
-slice-aggregate-check-plan c = search needs
-
-check-plan-requires : tie.Need-check-plan-requires
-check-plan-requires c κs = search needs
-
-slice-aggregate-write-answer : tie.Need-slice-aggregate-write-answer
-slice-aggregate-write-answer c = search needs
-
 write-answer-requires : tie.Need-write-answer-requires
 write-answer-requires c κs =
     let p = c .before .before .before in
     let s = p .before .before .before .before .before in
     answer-asked (s .args .network .now) (s .args .plan .now) (replicate ledgerSize 0) (length-replicate {A = ℕ} ledgerSize 0) (p .check-plan .ensures .0) (p .check-plan .ensures .1 .0) (s .pre)
-
-same-length : tie.Need-same-length
-same-length c = search needs
 
 returns : tie.Need-returns
 returns c =
@@ -37,9 +25,9 @@ pub write-report-spec : {M : Type 1} → statement M
 write-report-spec =
     tie.close
     (tie.spec
-    slice-aggregate-check-plan
-    check-plan-requires
-    slice-aggregate-write-answer
+    (λ c. search needs)
+    (λ c κs. search needs)
+    (λ c. search needs)
     write-answer-requires
-    same-length
+    (λ c. search needs)
     returns)

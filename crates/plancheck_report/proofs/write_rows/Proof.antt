@@ -15,50 +15,20 @@ abbrev μ-loop : tie.MeasureT-loop
 loop-holds : tie.Need-loop-holds Inv-loop μ-loop
 loop-holds c = search rows-first
 
-mul-start : tie.Need-mul-start Inv-loop μ-loop
-mul-start c = search needs
-
 mul-start-2 : tie.Need-mul-start-2 Inv-loop μ-loop
 mul-start-2 c = omega (arith, start-small (c .before .before .before .before .before .before .before .pre) (c .before .before .before .loop .n) (omega arith))
-
-mul-end : tie.Need-mul-end Inv-loop μ-loop
-mul-end c = search needs
 
 add-end : tie.Need-add-end Inv-loop μ-loop
 add-end c = omega (arith, start-small (c .before .before .before .before .before .before .before .before .pre) (c .before .before .before .before .loop .n) (omega arith))
 
-mul-write-boundary : tie.Need-mul-write-boundary Inv-loop μ-loop
-mul-write-boundary c = search needs
-
-shared-slice-read-write-boundary : tie.Need-shared-slice-read-write-boundary Inv-loop μ-loop
-shared-slice-read-write-boundary c = search needs
-
 mul-write-boundary-2 : tie.Need-mul-write-boundary-2 Inv-loop μ-loop
 mul-write-boundary-2 c = omega (arith, start-small (c .before .before .before .before .before .before .before .before .before .before .pre) (c .before .before .before .before .before .before .loop .n) (omega arith))
-
-sub-write-boundary : tie.Need-sub-write-boundary Inv-loop μ-loop
-sub-write-boundary c = search needs
-
-part-write-boundary-start : tie.Need-part-write-boundary-start Inv-loop μ-loop
-part-write-boundary-start c = search needs
 
 part-write-boundary-end : tie.Need-part-write-boundary-end Inv-loop μ-loop
 part-write-boundary-end c = omega (arith, row-within (c .before .before .before .before .before .before .before .before .before .before .pre) (c .before .before .before .before .before .before .loop .n) (omega arith))
 
-write-boundary-requires : tie.Need-write-boundary-requires Inv-loop μ-loop
-write-boundary-requires c κs = search needs
-
-add-n : tie.Need-add-n Inv-loop μ-loop
-add-n c = search needs
-
-loop-less : tie.Need-loop-less Inv-loop μ-loop
-loop-less c = search needs
-
 loop-again : tie.Need-loop-again Inv-loop μ-loop
 loop-again c = rows-again (c .before .before .before .before .before .before .before .before .before .before .before .before .before .before .pre) (c .before .before .before .before .before .before .before .before .before .before .loop .n) (omega arith) (c .before .before .before .before .before .before .before .before .before .before .loop .inv) (c .before .before .write-boundary .ensures)
-
-same-length : tie.Need-same-length Inv-loop μ-loop
-same-length c = search needs
 
 returns : tie.Need-returns Inv-loop μ-loop
 returns c = rows-all (c .before .before .before .before .before .before .pre) (omega arith) (c .before .before .loop .inv)
@@ -70,19 +40,19 @@ write-rows-spec =
     Inv-loop
     μ-loop
     loop-holds
-    mul-start
+    (λ c. search needs)
     mul-start-2
-    mul-end
+    (λ c. search needs)
     add-end
-    mul-write-boundary
-    shared-slice-read-write-boundary
+    (λ c. search needs)
+    (λ c. search needs)
     mul-write-boundary-2
-    sub-write-boundary
-    part-write-boundary-start
+    (λ c. search needs)
+    (λ c. search needs)
     part-write-boundary-end
-    write-boundary-requires
-    add-n
-    loop-less
+    (λ c κs. search needs)
+    (λ c. search needs)
+    (λ c. search needs)
     loop-again
-    same-length
+    (λ c. search needs)
     returns)

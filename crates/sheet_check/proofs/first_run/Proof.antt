@@ -16,33 +16,6 @@ abbrev μ-loop : tie.MeasureT-loop
 loop-holds : tie.Need-loop-holds Inv-loop μ-loop
 loop-holds c = search (found-none, needs)
 
-mul-broken : tie.Need-mul-broken Inv-loop μ-loop
-mul-broken c = search needs
-
-element-copy-out-broken : tie.Need-element-copy-out-broken Inv-loop μ-loop
-element-copy-out-broken c = search needs
-
-is-earlier-requires : tie.Need-is-earlier-requires Inv-loop μ-loop
-is-earlier-requires c κs = search needs
-
-choose-requires : tie.Need-choose-requires Inv-loop μ-loop
-choose-requires c κs = search needs
-
-add-choose : tie.Need-add-choose Inv-loop μ-loop
-add-choose c = search needs
-
-cast-choose : tie.Need-cast-choose Inv-loop μ-loop
-cast-choose c = search needs
-
-choose-requires-2 : tie.Need-choose-requires-2 Inv-loop μ-loop
-choose-requires-2 c κs = search needs
-
-add-i : tie.Need-add-i Inv-loop μ-loop
-add-i c = search needs
-
-loop-less : tie.Need-loop-less Inv-loop μ-loop
-loop-less c = search needs
-
 loop-again : tie.Need-loop-again Inv-loop μ-loop
 loop-again c = found-more (c .before .before .before .before .loop .inv) (omega arith) (c .before .before .is-earlier .ensures) (c .before .choose .ensures) (c .choose2 .ensures)
 
@@ -59,15 +32,15 @@ first-run-spec =
     Inv-loop
     μ-loop
     loop-holds
-    mul-broken
-    element-copy-out-broken
-    is-earlier-requires
-    choose-requires
-    add-choose
-    cast-choose
-    choose-requires-2
-    add-i
-    loop-less
+    (λ c. search needs)
+    (λ c. search needs)
+    (λ c κs. search needs)
+    (λ c κs. search needs)
+    (λ c. search needs)
+    (λ c. search needs)
+    (λ c κs. search needs)
+    (λ c. search needs)
+    (λ c. search needs)
     loop-again
     returns
     returns-2)

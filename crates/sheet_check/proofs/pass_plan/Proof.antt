@@ -27,9 +27,6 @@ loop-again c = passing-next (c .before .before .before .before .before .before .
 first-run-requires : tie.Need-first-run-requires Inv-loop μ-loop
 first-run-requires c κs = signals-few (c .before .before .before .before .before .before .before .before .before .before .pre .0) (c .before .before .before .before .loop .inv)
 
-same-length : tie.Need-same-length Inv-loop μ-loop
-same-length c = search needs
-
 returns : tie.Need-returns Inv-loop μ-loop
 returns c = passing-all (c .before .before .before .before .before .before .before .before .before .before .before .pre .0) (c .before .before .before .before .before .loop .inv) (omega arith) (c .first-run .ensures)
 
@@ -44,5 +41,5 @@ pass-plan-spec =
     loop-less
     loop-again
     first-run-requires
-    same-length
+    (λ c. search needs)
     returns)

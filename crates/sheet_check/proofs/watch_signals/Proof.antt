@@ -20,39 +20,6 @@ loop-holds c = (search needs, watched-none _ _ _ _ _ _ _ (search needs))
 duration-of-requires : tie.Need-duration-of-requires Inv-loop μ-loop
 duration-of-requires c κs = duration-asked (c .before .before .before .before .before .before .pre) (omega arith)
 
-mul-next-watch : tie.Need-mul-next-watch Inv-loop μ-loop
-mul-next-watch c = search needs
-
-array-copy-out-next-watch : tie.Need-array-copy-out-next-watch Inv-loop μ-loop
-array-copy-out-next-watch c = search needs
-
-mul-next-watch-2 : tie.Need-mul-next-watch-2 Inv-loop μ-loop
-mul-next-watch-2 c = search needs
-
-shared-slice-read-next-watch : tie.Need-shared-slice-read-next-watch Inv-loop μ-loop
-shared-slice-read-next-watch c = search needs
-
-mul-next-watch-3 : tie.Need-mul-next-watch-3 Inv-loop μ-loop
-mul-next-watch-3 c = search needs
-
-shared-slice-read-next-watch-2 : tie.Need-shared-slice-read-next-watch-2 Inv-loop μ-loop
-shared-slice-read-next-watch-2 c = search needs
-
-next-watch-requires : tie.Need-next-watch-requires Inv-loop μ-loop
-next-watch-requires c κs = search needs
-
-mul-watches : tie.Need-mul-watches Inv-loop μ-loop
-mul-watches c = search needs
-
-array-set-from-watches : tie.Need-array-set-from-watches Inv-loop μ-loop
-array-set-from-watches c = search needs
-
-add-i : tie.Need-add-i Inv-loop μ-loop
-add-i c = search needs
-
-loop-less : tie.Need-loop-less Inv-loop μ-loop
-loop-less c = search needs
-
 loop-again : tie.Need-loop-again Inv-loop μ-loop
 loop-again c =
     let w = c .before .before .before .before .before .before .loop in
@@ -73,16 +40,16 @@ watch-signals-spec =
     μ-loop
     loop-holds
     duration-of-requires
-    mul-next-watch
-    array-copy-out-next-watch
-    mul-next-watch-2
-    shared-slice-read-next-watch
-    mul-next-watch-3
-    shared-slice-read-next-watch-2
-    next-watch-requires
-    mul-watches
-    array-set-from-watches
-    add-i
-    loop-less
+    (λ c. search needs)
+    (λ c. search needs)
+    (λ c. search needs)
+    (λ c. search needs)
+    (λ c. search needs)
+    (λ c. search needs)
+    (λ c κs. search needs)
+    (λ c. search needs)
+    (λ c. search needs)
+    (λ c. search needs)
+    (λ c. search needs)
     loop-again
     returns)

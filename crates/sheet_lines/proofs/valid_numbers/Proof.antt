@@ -15,32 +15,8 @@ Inv-loop table start signals r offsets phases sum₀ k₀ sum k = (phases ≡ ta
 abbrev μ-loop : tie.MeasureT-loop
 μ-loop table start signals r offsets phases sum₀ k₀ sum k = phases - k
 
-phase-count-requires : tie.Need-phase-count-requires Inv-loop μ-loop
-phase-count-requires c κs = search needs
-
-cast-phases : tie.Need-cast-phases Inv-loop μ-loop
-cast-phases c = search needs
-
 loop-holds : tie.Need-loop-holds Inv-loop μ-loop
 loop-holds c = search (summed-none, needs)
-
-add-duration : tie.Need-add-duration Inv-loop μ-loop
-add-duration c = search needs
-
-mul-duration : tie.Need-mul-duration Inv-loop μ-loop
-mul-duration c = search needs
-
-shared-slice-read-duration : tie.Need-shared-slice-read-duration Inv-loop μ-loop
-shared-slice-read-duration c = search needs
-
-least-time-requires : tie.Need-least-time-requires Inv-loop μ-loop
-least-time-requires c κs = search needs
-
-greatest-time-requires : tie.Need-greatest-time-requires Inv-loop μ-loop
-greatest-time-requires c κs = search needs
-
-is-within-requires : tie.Need-is-within-requires Inv-loop μ-loop
-is-within-requires c κs = search needs
 
 returns : tie.Need-returns Inv-loop μ-loop
 returns c = summed-broken (c .before .before .before .before .before .before .loop .inv .1) (omega (arith, c .before .before .before .before .before .before .loop .inv .0)) (c .before .before .before .least-time .ensures) (c .before .before .greatest-time .ensures) (c .before .is-within .ensures) (c .if1 .taken) _
@@ -48,26 +24,11 @@ returns c = summed-broken (c .before .before .before .before .before .before .lo
 add-sum : tie.Need-add-sum Inv-loop μ-loop
 add-sum c = let fits = summed-fits (c .before .before .before .before .before .before .loop .inv .1) (omega (arith, c .before .before .before .before .before .before .loop .inv .0)) (c .before .before .before .least-time .ensures) (c .before .before .greatest-time .ensures) (c .before .is-within .ensures) (c .before .before .before .before .before .before .before .before .before .before .pre .ready-in .ready) (c .if1 .left) refl in search needs
 
-add-k : tie.Need-add-k Inv-loop μ-loop
-add-k c = search needs
-
-loop-less : tie.Need-loop-less Inv-loop μ-loop
-loop-less c = search needs
-
 loop-again : tie.Need-loop-again Inv-loop μ-loop
 loop-again c = (c .before .before .before .before .before .before .loop .inv .0, summed-more (c .before .before .before .before .before .before .loop .inv .1) (omega (arith, c .before .before .before .before .before .before .loop .inv .0)) (c .before .before .before .least-time .ensures) (c .before .before .greatest-time .ensures) (c .before .is-within .ensures) (c .before .before .before .before .before .before .before .before .before .before .pre .ready-in .ready) (c .if1 .left) refl)
 
 returns-2 : tie.Need-returns-2 Inv-loop μ-loop
 returns-2 c = summed-kept (c .before .before .loop .inv .1) (omega (arith, c .before .before .loop .inv .0)) (c .if2 .taken)
-
-add-result : tie.Need-add-result Inv-loop μ-loop
-add-result c = search needs
-
-mul-result : tie.Need-mul-result Inv-loop μ-loop
-mul-result c = search needs
-
-shared-slice-read-result : tie.Need-shared-slice-read-result Inv-loop μ-loop
-shared-slice-read-result c = search needs
 
 returns-3 : tie.Need-returns-3 Inv-loop μ-loop
 returns-3 c = summed-offset (c .before .before .before .loop .inv .1) (omega (arith, c .before .before .before .loop .inv .0)) (c .before .if2 .left) (rw (c .before .before .before .loop .inv .0) refl)
@@ -78,22 +39,22 @@ valid-numbers-spec =
     (tie.spec
     Inv-loop
     μ-loop
-    phase-count-requires
-    cast-phases
+    (λ c κs. search needs)
+    (λ c. search needs)
     loop-holds
-    add-duration
-    mul-duration
-    shared-slice-read-duration
-    least-time-requires
-    greatest-time-requires
-    is-within-requires
+    (λ c. search needs)
+    (λ c. search needs)
+    (λ c. search needs)
+    (λ c κs. search needs)
+    (λ c κs. search needs)
+    (λ c κs. search needs)
     returns
     add-sum
-    add-k
-    loop-less
+    (λ c. search needs)
+    (λ c. search needs)
     loop-again
     returns-2
-    add-result
-    mul-result
-    shared-slice-read-result
+    (λ c. search needs)
+    (λ c. search needs)
+    (λ c. search needs)
     returns-3)

@@ -12,17 +12,8 @@ Inv-loop table start phases times steps r masks₀ run₀ n₀ masks run n = Col
 abbrev μ-loop : tie.MeasureT-loop
 μ-loop table start phases times steps r masks₀ run₀ n₀ masks run n = steps - n
 
-first-run-requires : tie.Need-first-run-requires Inv-loop μ-loop
-first-run-requires c κs = search needs
-
 loop-holds : tie.Need-loop-holds Inv-loop μ-loop
 loop-holds c = search (column-none, needs)
-
-seconds-in-requires : tie.Need-seconds-in-requires Inv-loop μ-loop
-seconds-in-requires c κs = search needs
-
-same-length : tie.Need-same-length Inv-loop μ-loop
-same-length c = search needs
 
 returns : tie.Need-returns Inv-loop μ-loop
 returns c = search (column-broken, needs)
@@ -33,29 +24,14 @@ mask-of-requires c κs = search (phase-few, needs)
 cast-masks : tie.Need-cast-masks Inv-loop μ-loop
 cast-masks c = search (bit-byte, needs)
 
-mul-masks : tie.Need-mul-masks Inv-loop μ-loop
-mul-masks c = search needs
-
-add-masks : tie.Need-add-masks Inv-loop μ-loop
-add-masks c = search needs
-
 slice-write-masks : tie.Need-slice-write-masks Inv-loop μ-loop
 slice-write-masks c = search (place-inside, needs)
 
 next-run-requires : tie.Need-next-run-requires Inv-loop μ-loop
 next-run-requires c κs = search (column-asked, needs)
 
-add-n : tie.Need-add-n Inv-loop μ-loop
-add-n c = search needs
-
-loop-less : tie.Need-loop-less Inv-loop μ-loop
-loop-less c = search needs
-
 loop-again : tie.Need-loop-again Inv-loop μ-loop
 loop-again c = search (column-more, needs)
-
-same-length-2 : tie.Need-same-length-2 Inv-loop μ-loop
-same-length-2 c = search needs
 
 returns-2 : tie.Need-returns-2 Inv-loop μ-loop
 returns-2 c = search (column-all, needs)
@@ -66,19 +42,19 @@ fill-column-spec =
     (tie.spec
     Inv-loop
     μ-loop
-    first-run-requires
+    (λ c κs. search needs)
     loop-holds
-    seconds-in-requires
-    same-length
+    (λ c κs. search needs)
+    (λ c. search needs)
     returns
     mask-of-requires
     cast-masks
-    mul-masks
-    add-masks
+    (λ c. search needs)
+    (λ c. search needs)
     slice-write-masks
     next-run-requires
-    add-n
-    loop-less
+    (λ c. search needs)
+    (λ c. search needs)
     loop-again
-    same-length-2
+    (λ c. search needs)
     returns-2)

@@ -16,53 +16,17 @@ abbrev μ-loop : tie.MeasureT-loop
 loop-holds : tie.Need-loop-holds Inv-loop μ-loop
 loop-holds c = search (masks-none, needs)
 
-phase-count-requires : tie.Need-phase-count-requires Inv-loop μ-loop
-phase-count-requires c κs = search needs
-
-mul-start : tie.Need-mul-start Inv-loop μ-loop
-mul-start c = search needs
-
-has-no-tram-requires : tie.Need-has-no-tram-requires Inv-loop μ-loop
-has-no-tram-requires c κs = search needs
-
-add-new : tie.Need-add-new Inv-loop μ-loop
-add-new c = search needs
-
-new-requires : tie.Need-new-requires Inv-loop μ-loop
-new-requires c κs = search needs
-
-same-length : tie.Need-same-length Inv-loop μ-loop
-same-length c = search needs
-
 returns : tie.Need-returns Inv-loop μ-loop
 returns c = search (masks-tram, needs)
 
 fill-column-requires : tie.Need-fill-column-requires Inv-loop μ-loop
 fill-column-requires c κs = column-wanted (c .before .before .before .before .before .before .before .before .before .before .before .before .before .pre .0) (c .before .before .before .before .before .before .loop .inv) (omega arith) (c .before .before .before .phase-count .ensures)
 
-add-new-2 : tie.Need-add-new-2 Inv-loop μ-loop
-add-new-2 c = search needs
-
-new-requires-2 : tie.Need-new-requires-2 Inv-loop μ-loop
-new-requires-2 c κs = search needs
-
-same-length-2 : tie.Need-same-length-2 Inv-loop μ-loop
-same-length-2 c = search needs
-
 returns-2 : tie.Need-returns-2 Inv-loop μ-loop
 returns-2 c = masks-off (c .before .before .before .before .before .before .before .before .before .before .before .before .before .before .before .before .before .before .pre .0) (c .before .before .before .before .before .before .before .before .before .before .before .loop .inv) (omega arith) (c .before .before .before .before .before .before .before .has-no-tram .ensures) (c .before .before .before .before .before .before .if2 .left) (c .before .before .before .before .before .before .before .before .phase-count .ensures) (c .before .before .before .before .fill-column .ensures) (c .before .if3 .taken) (c .new2 .ensures)
 
-add-r : tie.Need-add-r Inv-loop μ-loop
-add-r c = search needs
-
-loop-less : tie.Need-loop-less Inv-loop μ-loop
-loop-less c = search needs
-
 loop-again : tie.Need-loop-again Inv-loop μ-loop
 loop-again c = masks-next (c .before .before .before .before .before .before .before .before .before .before .before .before .before .before .before .before .before .pre .0) (c .before .before .before .before .before .before .before .before .before .before .loop .inv) (omega arith) (c .before .before .before .before .before .before .has-no-tram .ensures) (c .before .before .before .before .before .if2 .left) (c .before .before .before .before .before .before .before .phase-count .ensures) (c .before .before .before .fill-column .ensures) (c .if3 .left)
-
-same-length-3 : tie.Need-same-length-3 Inv-loop μ-loop
-same-length-3 c = search needs
 
 returns-3 : tie.Need-returns-3 Inv-loop μ-loop
 returns-3 c = search (masks-all, needs)
@@ -74,20 +38,20 @@ fill-masks-spec =
     Inv-loop
     μ-loop
     loop-holds
-    phase-count-requires
-    mul-start
-    has-no-tram-requires
-    add-new
-    new-requires
-    same-length
+    (λ c κs. search needs)
+    (λ c. search needs)
+    (λ c κs. search needs)
+    (λ c. search needs)
+    (λ c κs. search needs)
+    (λ c. search needs)
     returns
     fill-column-requires
-    add-new-2
-    new-requires-2
-    same-length-2
+    (λ c. search needs)
+    (λ c κs. search needs)
+    (λ c. search needs)
     returns-2
-    add-r
-    loop-less
+    (λ c. search needs)
+    (λ c. search needs)
     loop-again
-    same-length-3
+    (λ c. search needs)
     returns-3)

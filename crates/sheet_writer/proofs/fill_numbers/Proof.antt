@@ -17,32 +17,11 @@ Inv-loop masks counts n fields₀ width k₀ fields k = NumbersTo (planWidth cou
 abbrev μ-loop : tie.MeasureT-loop
 μ-loop masks counts n fields₀ width k₀ fields k = width - k
 
-plan-width-requires : tie.Need-plan-width-requires Inv-loop μ-loop
-plan-width-requires c κs = search needs
-
 loop-holds : tie.Need-loop-holds Inv-loop μ-loop
 loop-holds c = search (filling-none, needs)
 
-number-at-requires : tie.Need-number-at-requires Inv-loop μ-loop
-number-at-requires c κs = search needs
-
-mul-fields : tie.Need-mul-fields Inv-loop μ-loop
-mul-fields c = search needs
-
-slice-write-fields : tie.Need-slice-write-fields Inv-loop μ-loop
-slice-write-fields c = search needs
-
-add-k : tie.Need-add-k Inv-loop μ-loop
-add-k c = search needs
-
-loop-less : tie.Need-loop-less Inv-loop μ-loop
-loop-less c = search needs
-
 loop-again : tie.Need-loop-again Inv-loop μ-loop
 loop-again c = numbers-more (c .before .before .loop .inv) (omega arith) (c .number-at .ensures)
-
-same-length : tie.Need-same-length Inv-loop μ-loop
-same-length c = search needs
 
 returns : tie.Need-returns Inv-loop μ-loop
 returns c = search (filling-all, needs)
@@ -53,13 +32,13 @@ fill-numbers-spec =
     (tie.spec
     Inv-loop
     μ-loop
-    plan-width-requires
+    (λ c κs. search needs)
     loop-holds
-    number-at-requires
-    mul-fields
-    slice-write-fields
-    add-k
-    loop-less
+    (λ c κs. search needs)
+    (λ c. search needs)
+    (λ c. search needs)
+    (λ c. search needs)
+    (λ c. search needs)
     loop-again
-    same-length
+    (λ c. search needs)
     returns)

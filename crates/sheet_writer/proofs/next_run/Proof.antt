@@ -5,23 +5,8 @@ use borrow.Author.Needs.{needs}
 use Rattle.sheet_writer.proofs.next_run.Statement.{statement}
 use Rattle.sheet_writer.proofs.next_run.Tie as tie
 
-sub-t9 : tie.Need-sub-t9
-sub-t9 c = search needs
-
 returns : tie.Need-returns
 returns c = search (next-on, needs)
-
-phase-after-requires : tie.Need-phase-after-requires
-phase-after-requires c κs = search needs
-
-place-of-requires : tie.Need-place-of-requires
-place-of-requires c κs = search needs
-
-add-t10 : tie.Need-add-t10
-add-t10 c = search needs
-
-mul-t11 : tie.Need-mul-t11
-mul-t11 c = search needs
 
 shared-slice-read-t13 : tie.Need-shared-slice-read-t13
 shared-slice-read-t13 c =
@@ -41,11 +26,11 @@ pub next-run-spec : {M : Type 1} → statement M
 next-run-spec =
     tie.close
     (tie.spec
-    sub-t9
+    (λ c. search needs)
     returns
-    phase-after-requires
-    place-of-requires
-    add-t10
-    mul-t11
+    (λ c κs. search needs)
+    (λ c κs. search needs)
+    (λ c. search needs)
+    (λ c. search needs)
     shared-slice-read-t13
     returns-2)

@@ -4,17 +4,8 @@ use borrow.Author.Needs.{needs}
 use Rattle.sheet_writer.proofs.number_at.Statement.{statement}
 use Rattle.sheet_writer.proofs.number_at.Tie as tie
 
-mul-wide : tie.Need-mul-wide
-mul-wide c = search needs
-
-add-wide : tie.Need-add-wide
-add-wide c = search needs
-
 shared-slice-read-wide : tie.Need-shared-slice-read-wide
 shared-slice-read-wide c = search (mask-inside, needs)
-
-wide-requires : tie.Need-wide-requires
-wide-requires c κs = search needs
 
 returns : tie.Need-returns
 returns c = search (number-mask, needs)
@@ -24,4 +15,4 @@ returns-2 c = search (number-volume, needs)
 
 pub number-at-spec : {M : Type 1} → statement M
 number-at-spec =
-    tie.close (tie.spec mul-wide add-wide shared-slice-read-wide wide-requires returns returns-2)
+    tie.close (tie.spec (λ c. search needs) (λ c. search needs) shared-slice-read-wide (λ c κs. search needs) returns returns-2)

@@ -4,26 +4,8 @@ use borrow.Author.Needs.{needs}
 use Rattle.sheet_writer.proofs.write_cycles.Statement.{statement}
 use Rattle.sheet_writer.proofs.write_cycles.Tie as tie
 
-slice-aggregate-fill-masks : tie.Need-slice-aggregate-fill-masks
-slice-aggregate-fill-masks c = search needs
-
-fill-masks-requires : tie.Need-fill-masks-requires
-fill-masks-requires c κs = search needs
-
-enum-told : tie.Need-enum-told
-enum-told c = search needs
-
-slice-aggregate-write-masks : tie.Need-slice-aggregate-write-masks
-slice-aggregate-write-masks c = search needs
-
 write-masks-requires : tie.Need-write-masks-requires
 write-masks-requires c κs = search (masks-asked, needs)
-
-enum-known-refusal : tie.Need-enum-known-refusal
-enum-known-refusal c = search needs
-
-same-length : tie.Need-same-length
-same-length c = search needs
 
 returns : tie.Need-returns
 returns c = search (cycles-written, needs)
@@ -35,12 +17,12 @@ pub write-cycles-spec : {M : Type 1} → statement M
 write-cycles-spec =
     tie.close
     (tie.spec
-    slice-aggregate-fill-masks
-    fill-masks-requires
-    enum-told
-    slice-aggregate-write-masks
+    (λ c. search needs)
+    (λ c κs. search needs)
+    (λ c. search needs)
+    (λ c. search needs)
     write-masks-requires
-    enum-known-refusal
-    same-length
+    (λ c. search needs)
+    (λ c. search needs)
     returns
     returns-2)

@@ -4,20 +4,11 @@ use borrow.Author.Needs.{needs}
 use Rattle.sheet_writer.proofs.write_masks.Statement.{statement}
 use Rattle.sheet_writer.proofs.write_masks.Tie as tie
 
-plan-length-requires : tie.Need-plan-length-requires
-plan-length-requires c κs = search needs
-
-new-requires : tie.Need-new-requires
-new-requires c κs = search needs
-
 returns : tie.Need-returns
 returns c = search (text-short, needs)
 
 write-lines-requires : tie.Need-write-lines-requires
 write-lines-requires c κs = search (text-asked, needs)
-
-same-length : tie.Need-same-length
-same-length c = search needs
 
 returns-2 : tie.Need-returns-2
 returns-2 c = search (text-wrote, needs)
@@ -25,4 +16,4 @@ returns-2 c = search (text-wrote, needs)
 pub write-masks-spec : {M : Type 1} → statement M
 write-masks-spec =
     tie.close
-    (tie.spec plan-length-requires new-requires returns write-lines-requires same-length returns-2)
+    (tie.spec (λ c κs. search needs) (λ c κs. search needs) returns write-lines-requires (λ c. search needs) returns-2)

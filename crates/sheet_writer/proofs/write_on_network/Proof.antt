@@ -5,38 +5,14 @@ use borrow.Author.Needs.{needs}
 use Rattle.sheet_writer.proofs.write_on_network.Statement.{statement}
 use Rattle.sheet_writer.proofs.write_on_network.Tie as tie
 
-slice-aggregate-load-signals : tie.Need-slice-aggregate-load-signals
-slice-aggregate-load-signals c = search needs
-
 load-signals-requires : tie.Need-load-signals-requires
 load-signals-requires c κs = load-asked (c .before .before .before .before .before .before .pre) refl
-
-slice-aggregate-read-sheet : tie.Need-slice-aggregate-read-sheet
-slice-aggregate-read-sheet c = search needs
-
-slice-aggregate-read-sheet-2 : tie.Need-slice-aggregate-read-sheet-2
-slice-aggregate-read-sheet-2 c = search needs
 
 read-sheet-requires : tie.Need-read-sheet-requires
 read-sheet-requires c κs = cycle-asked (c .before .before .before .before .before .before .before .before .before .before .pre) (c .before .before .before .load-signals .ensures) (search needs)
 
-enum-told : tie.Need-enum-told
-enum-told c = search needs
-
-slice-aggregate-write-cycles : tie.Need-slice-aggregate-write-cycles
-slice-aggregate-write-cycles c = search needs
-
-slice-aggregate-write-cycles-2 : tie.Need-slice-aggregate-write-cycles-2
-slice-aggregate-write-cycles-2 c = search needs
-
 write-cycles-requires : tie.Need-write-cycles-requires
 write-cycles-requires c κs = cycles-asked (c .before .before .before .before .before .before .before .before .before .before .before .before .before .before .before .before .before .pre) (c .before .before .before .before .before .before .before .before .before .before .load-signals .ensures) (c .before .before .before .before .before .before .read-sheet .ensures) (c .before .before .before .enum-told .given .1)
-
-enum-known-refusal : tie.Need-enum-known-refusal
-enum-known-refusal c = search needs
-
-same-length : tie.Need-same-length
-same-length c = search needs
 
 returns : tie.Need-returns
 returns c = sheet-written (c .before .before .before .before .before .before .before .before .before .before .before .before .before .before .before .before .before .before .before .before .pre) (c .before .before .before .before .before .before .before .before .before .before .before .before .before .load-signals .ensures) (c .before .before .before .before .before .before .before .before .before .read-sheet .ensures) (c .before .before .before .before .before .before .enum-told .given .1) (c .before .before .write-cycles .ensures)
@@ -48,16 +24,16 @@ pub write-on-network-spec : {M : Type 1} → statement M
 write-on-network-spec =
     tie.close
     (tie.spec
-    slice-aggregate-load-signals
+    (λ c. search needs)
     load-signals-requires
-    slice-aggregate-read-sheet
-    slice-aggregate-read-sheet-2
+    (λ c. search needs)
+    (λ c. search needs)
     read-sheet-requires
-    enum-told
-    slice-aggregate-write-cycles
-    slice-aggregate-write-cycles-2
+    (λ c. search needs)
+    (λ c. search needs)
+    (λ c. search needs)
     write-cycles-requires
-    enum-known-refusal
-    same-length
+    (λ c. search needs)
+    (λ c. search needs)
     returns
     returns-2)

@@ -10,14 +10,8 @@ can-split-requires c κs = search (split-asked, needs)
 parts-signals-requires : tie.Need-parts-signals-requires
 parts-signals-requires c κs = search (parts-asked, needs)
 
-new-requires : tie.Need-new-requires
-new-requires c κs = search needs
-
 returns : tie.Need-returns
 returns c = search (no-split, needs)
-
-new-requires-2 : tie.Need-new-requires-2
-new-requires-2 c κs = search needs
 
 returns-2 : tie.Need-returns-2
 returns-2 c = search (no-parts, needs)
@@ -34,9 +28,9 @@ judge-halves-spec =
     (tie.spec
     can-split-requires
     parts-signals-requires
-    new-requires
+    (λ c κs. search needs)
     returns
-    new-requires-2
+    (λ c κs. search needs)
     returns-2
     plan-form-requires
     returns-3)

@@ -4,21 +4,12 @@ use borrow.Author.Needs.{needs}
 use Rattle.split.proofs.put_half.Statement.{statement}
 use Rattle.split.proofs.put_half.Tie as tie
 
-put-network-requires : tie.Need-put-network-requires
-put-network-requires c κs = search needs
-
 put-plan-requires : tie.Need-put-plan-requires
 put-plan-requires c κs = plan-asked (c .before .before .before .before .before .before .before .before .before .before .before .before .before .pre)
-
-same-length : tie.Need-same-length
-same-length c = search needs
-
-same-length-2 : tie.Need-same-length-2
-same-length-2 c = search needs
 
 returns : tie.Need-returns
 returns c = half-put (c .before .before .before .before .before .before .before .before .before .before .before .before .before .before .before .before .pre) (c .before .before .before .before .before .before .put-network .ensures) (c .before .before .put-plan .ensures)
 
 pub put-half-spec : {M : Type 1} → statement M
 put-half-spec =
-    tie.close (tie.spec put-network-requires put-plan-requires same-length same-length-2 returns)
+    tie.close (tie.spec (λ c κs. search needs) put-plan-requires (λ c. search needs) (λ c. search needs) returns)

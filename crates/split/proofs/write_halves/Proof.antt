@@ -6,15 +6,6 @@ use borrow.Author.Needs.{needs}
 use Rattle.split.proofs.write_halves.Statement.{statement}
 use Rattle.split.proofs.write_halves.Tie as tie
 
-measure-requires : tie.Need-measure-requires
-measure-requires c κs = search needs
-
-has-room-requires : tie.Need-has-room-requires
-has-room-requires c κs = search needs
-
-new-requires : tie.Need-new-requires
-new-requires c κs = search needs
-
 returns : tie.Need-returns
 unfolding roomOf
 returns c = let a = c .before .before .before .before .before .before .before .before .before .before .before .before .before .before .before .args in too-short _ _ (c .before .before .before .measure .ensures) (buffers (a .network-1 .now) (a .plan-1 .now) (a .network-2 .now) (a .plan-2 .now)) (c .before .before .has-room .ensures) (c .before .if1 .taken) (c .new .ensures)
@@ -25,18 +16,6 @@ put-half-requires c κs = first-asked (c .before .before .before .before .before
 put-half-requires-2 : tie.Need-put-half-requires-2
 put-half-requires-2 c κs = second-asked (c .before .before .before .before .before .before .before .before .before .before .before .before .before .before .before .before .before .before .before .before .before .before .before .pre)
 
-same-length : tie.Need-same-length
-same-length c = search needs
-
-same-length-2 : tie.Need-same-length-2
-same-length-2 c = search needs
-
-same-length-3 : tie.Need-same-length-3
-same-length-3 c = search needs
-
-same-length-4 : tie.Need-same-length-4
-same-length-4 c = search needs
-
 returns-2 : tie.Need-returns-2
 unfolding roomOf
 returns-2 c = all-written _ _ (c .before .before .before .before .before .before .before .before .before .before .before .put-half .ensures) (c .before .before .before .before .put-half2 .ensures) (c .before .before .before .before .before .before .before .before .before .before .before .before .before .before .before .before .measure .ensures) (c .before .before .before .before .before .before .before .before .before .before .before .before .before .before .before .has-room .ensures) (c .before .before .before .before .before .before .before .before .before .before .before .before .before .before .if1 .left)
@@ -45,14 +24,14 @@ pub write-halves-spec : {M : Type 1} → statement M
 write-halves-spec =
     tie.close
     (tie.spec
-    measure-requires
-    has-room-requires
-    new-requires
+    (λ c κs. search needs)
+    (λ c κs. search needs)
+    (λ c κs. search needs)
     returns
     put-half-requires
     put-half-requires-2
-    same-length
-    same-length-2
-    same-length-3
-    same-length-4
+    (λ c. search needs)
+    (λ c. search needs)
+    (λ c. search needs)
+    (λ c. search needs)
     returns-2)

@@ -4,15 +4,6 @@ use borrow.Author.Needs.{needs}
 use Rattle.split_checks.proofs.can_split.Statement.{statement}
 use Rattle.split_checks.proofs.can_split.Tie as tie
 
-nobody-waits-requires : tie.Need-nobody-waits-requires
-nobody-waits-requires c κs = search needs
-
-count-in-requires : tie.Need-count-in-requires
-count-in-requires c κs = search needs
-
-count-in-requires-2 : tie.Need-count-in-requires-2
-count-in-requires-2 c κs = search needs
-
 right-kinds-requires : tie.Need-right-kinds-requires
 right-kinds-requires c κs = search (kinds-asked, needs)
 
@@ -26,9 +17,9 @@ pub can-split-spec : {M : Type 1} → statement M
 can-split-spec =
     tie.close
     (tie.spec
-    nobody-waits-requires
-    count-in-requires
-    count-in-requires-2
+    (λ c κs. search needs)
+    (λ c κs. search needs)
+    (λ c κs. search needs)
     right-kinds-requires
     steps-free-requires
     returns)

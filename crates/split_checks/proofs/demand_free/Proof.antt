@@ -11,12 +11,9 @@ link-place-requires c κs = search (place-asked, needs)
 links-in-requires : tie.Need-links-in-requires
 links-in-requires c κs = search (movement-asked, needs)
 
-demand-requires : tie.Need-demand-requires
-demand-requires c κs = search needs
-
 returns : tie.Need-returns
 returns c = search (free-told, needs)
 
 pub demand-free-spec : {M : Type 1} → statement M
 demand-free-spec =
-    tie.close (tie.spec link-place-requires links-in-requires demand-requires returns)
+    tie.close (tie.spec link-place-requires links-in-requires (λ c κs. search needs) returns)

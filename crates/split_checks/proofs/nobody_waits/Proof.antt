@@ -19,17 +19,8 @@ abbrev μ-loop : tie.MeasureT-loop
 loop-holds : tie.Need-loop-holds Inv-loop μ-loop
 loop-holds c = search (none-tested, needs)
 
-waiting-at-start-requires : tie.Need-waiting-at-start-requires Inv-loop μ-loop
-waiting-at-start-requires c κs = search needs
-
 returns : tie.Need-returns Inv-loop μ-loop
 returns c = search (waits-fail, needs)
-
-add-i : tie.Need-add-i Inv-loop μ-loop
-add-i c = search needs
-
-loop-less : tie.Need-loop-less Inv-loop μ-loop
-loop-less c = search needs
 
 loop-again : tie.Need-loop-again Inv-loop μ-loop
 loop-again c = search (waits-next, needs)
@@ -44,9 +35,9 @@ nobody-waits-spec =
     Inv-loop
     μ-loop
     loop-holds
-    waiting-at-start-requires
+    (λ c κs. search needs)
     returns
-    add-i
-    loop-less
+    (λ c. search needs)
+    (λ c. search needs)
     loop-again
     returns-2)

@@ -20,29 +20,11 @@ abbrev μ-loop : tie.MeasureT-loop
 loop-holds : tie.Need-loop-holds Inv-loop μ-loop
 loop-holds c = search (none-tested, needs)
 
-signal-of-requires : tie.Need-signal-of-requires Inv-loop μ-loop
-signal-of-requires c κs = search needs
-
-index-requires : tie.Need-index-requires Inv-loop μ-loop
-index-requires c κs = search needs
-
-mul-own-signal : tie.Need-mul-own-signal Inv-loop μ-loop
-mul-own-signal c = search needs
-
-shared-slice-read-own-signal : tie.Need-shared-slice-read-own-signal Inv-loop μ-loop
-shared-slice-read-own-signal c = search needs
-
 own-signal-requires : tie.Need-own-signal-requires Inv-loop μ-loop
 own-signal-requires c κs = own-asked (c .before .before .before .before .before .before .before .pre) (omega arith) (c .before .before .signal-of .ensures) (c .before .index .ensures .0)
 
 returns : tie.Need-returns Inv-loop μ-loop
 returns c = parts-told _ _ _ (search (test-fails, own-at, needs))
-
-add-i : tie.Need-add-i Inv-loop μ-loop
-add-i c = search needs
-
-loop-less : tie.Need-loop-less Inv-loop μ-loop
-loop-less c = search needs
 
 loop-again : tie.Need-loop-again Inv-loop μ-loop
 loop-again c = search (test-holds, own-at, needs)
@@ -57,13 +39,13 @@ parts-signals-spec =
     Inv-loop
     μ-loop
     loop-holds
-    signal-of-requires
-    index-requires
-    mul-own-signal
-    shared-slice-read-own-signal
+    (λ c κs. search needs)
+    (λ c κs. search needs)
+    (λ c. search needs)
+    (λ c. search needs)
     own-signal-requires
     returns
-    add-i
-    loop-less
+    (λ c. search needs)
+    (λ c. search needs)
     loop-again
     returns-2)

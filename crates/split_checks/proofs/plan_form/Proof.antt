@@ -15,41 +15,11 @@ abbrev μ-loop : tie.MeasureT-loop
 loop-holds : tie.Need-loop-holds Inv-loop μ-loop
 loop-holds c = search (forms-none, needs)
 
-line-form-requires : tie.Need-line-form-requires Inv-loop μ-loop
-line-form-requires c κs = search needs
-
-enum-known-read : tie.Need-enum-known-read Inv-loop μ-loop
-enum-known-read c = search needs
-
-enum-told : tie.Need-enum-told Inv-loop μ-loop
-enum-told c = search needs
-
-add-new : tie.Need-add-new Inv-loop μ-loop
-add-new c = search needs
-
-new-requires : tie.Need-new-requires Inv-loop μ-loop
-new-requires c κs = search needs
-
 returns : tie.Need-returns Inv-loop μ-loop
 returns c = search (forms-stop, needs)
 
-add-n : tie.Need-add-n Inv-loop μ-loop
-add-n c = search needs
-
-loop-less : tie.Need-loop-less Inv-loop μ-loop
-loop-less c = search needs
-
 loop-again : tie.Need-loop-again Inv-loop μ-loop
 loop-again c = search (forms-next, needs)
-
-is-end-requires : tie.Need-is-end-requires Inv-loop μ-loop
-is-end-requires c κs = search needs
-
-add-new-2 : tie.Need-add-new-2 Inv-loop μ-loop
-add-new-2 c = search needs
-
-new-requires-2 : tie.Need-new-requires-2 Inv-loop μ-loop
-new-requires-2 c κs = search needs
 
 returns-2 : tie.Need-returns-2 Inv-loop μ-loop
 returns-2 c = search (forms-more, needs)
@@ -64,17 +34,17 @@ plan-form-spec =
     Inv-loop
     μ-loop
     loop-holds
-    line-form-requires
-    enum-known-read
-    enum-told
-    add-new
-    new-requires
+    (λ c κs. search needs)
+    (λ c. search needs)
+    (λ c. search needs)
+    (λ c. search needs)
+    (λ c κs. search needs)
     returns
-    add-n
-    loop-less
+    (λ c. search needs)
+    (λ c. search needs)
     loop-again
-    is-end-requires
-    add-new-2
-    new-requires-2
+    (λ c κs. search needs)
+    (λ c. search needs)
+    (λ c κs. search needs)
     returns-2
     returns-3)

@@ -14,15 +14,6 @@ returns c = search (inside-kind, needs)
 link-place-requires : tie.Need-link-place-requires
 link-place-requires c κs = search (place-asked, needs)
 
-signal-of-requires : tie.Need-signal-of-requires
-signal-of-requires c κs = search needs
-
-exit-rate-requires : tie.Need-exit-rate-requires
-exit-rate-requires c κs = search needs
-
-stands-alone-requires : tie.Need-stands-alone-requires
-stands-alone-requires c κs = search needs
-
 returns-2 : tie.Need-returns-2
 returns-2 c = search (border-kind, needs)
 
@@ -33,7 +24,7 @@ right-kind-spec =
     links-in-requires
     returns
     link-place-requires
-    signal-of-requires
-    exit-rate-requires
-    stands-alone-requires
+    (λ c κs. search needs)
+    (λ c κs. search needs)
+    (λ c κs. search needs)
     returns-2)

@@ -18,17 +18,8 @@ abbrev μ-loop : tie.MeasureT-loop
 loop-holds : tie.Need-loop-holds Inv-loop μ-loop
 loop-holds c = search (none-tested, needs)
 
-right-kind-requires : tie.Need-right-kind-requires Inv-loop μ-loop
-right-kind-requires c κs = search needs
-
 returns : tie.Need-returns Inv-loop μ-loop
 returns c = search (test-fails, needs)
-
-add-j : tie.Need-add-j Inv-loop μ-loop
-add-j c = search needs
-
-loop-less : tie.Need-loop-less Inv-loop μ-loop
-loop-less c = search needs
 
 loop-again : tie.Need-loop-again Inv-loop μ-loop
 loop-again c = search (test-holds, needs)
@@ -43,9 +34,9 @@ right-kinds-spec =
     Inv-loop
     μ-loop
     loop-holds
-    right-kind-requires
+    (λ c κs. search needs)
     returns
-    add-j
-    loop-less
+    (λ c. search needs)
+    (λ c. search needs)
     loop-again
     returns-2)

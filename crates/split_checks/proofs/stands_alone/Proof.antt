@@ -18,17 +18,8 @@ abbrev μ-loop : tie.MeasureT-loop
 loop-holds : tie.Need-loop-holds Inv-loop μ-loop
 loop-holds c = search (none-tested, needs)
 
-stands-apart-requires : tie.Need-stands-apart-requires Inv-loop μ-loop
-stands-apart-requires c κs = search needs
-
 returns : tie.Need-returns Inv-loop μ-loop
 returns c = search (test-fails, needs)
-
-add-k : tie.Need-add-k Inv-loop μ-loop
-add-k c = search needs
-
-loop-less : tie.Need-loop-less Inv-loop μ-loop
-loop-less c = search needs
 
 loop-again : tie.Need-loop-again Inv-loop μ-loop
 loop-again c = search (test-holds, needs)
@@ -43,9 +34,9 @@ stands-alone-spec =
     Inv-loop
     μ-loop
     loop-holds
-    stands-apart-requires
+    (λ c κs. search needs)
     returns
-    add-k
-    loop-less
+    (λ c. search needs)
+    (λ c. search needs)
     loop-again
     returns-2)

@@ -8,18 +8,6 @@ use Rattle.split_checks.proofs.stands_apart.Tie as tie
 links-in-requires : tie.Need-links-in-requires
 links-in-requires c κs = search (movement-asked, needs)
 
-link-of-requires : tie.Need-link-of-requires
-link-of-requires c κs = search needs
-
-link-of-requires-2 : tie.Need-link-of-requires-2
-link-of-requires-2 c κs = search needs
-
-link-of-requires-3 : tie.Need-link-of-requires-3
-link-of-requires-3 c κs = search needs
-
-link-of-requires-4 : tie.Need-link-of-requires-4
-link-of-requires-4 c κs = search needs
-
 returns : tie.Need-returns
 returns c = search (apart-told, needs)
 
@@ -28,8 +16,8 @@ stands-apart-spec =
     tie.close
     (tie.spec
     links-in-requires
-    link-of-requires
-    link-of-requires-2
-    link-of-requires-3
-    link-of-requires-4
+    (λ c κs. search needs)
+    (λ c κs. search needs)
+    (λ c κs. search needs)
+    (λ c κs. search needs)
     returns)

@@ -19,17 +19,8 @@ abbrev μ-loop : tie.MeasureT-loop
 loop-holds : tie.Need-loop-holds Inv-loop μ-loop
 loop-holds c = search (none-tested, needs)
 
-demand-free-requires : tie.Need-demand-free-requires Inv-loop μ-loop
-demand-free-requires c κs = search needs
-
 returns : tie.Need-returns Inv-loop μ-loop
 returns c = search (test-fails, needs)
-
-add-j : tie.Need-add-j Inv-loop μ-loop
-add-j c = search needs
-
-loop-less : tie.Need-loop-less Inv-loop μ-loop
-loop-less c = search needs
 
 loop-again : tie.Need-loop-again Inv-loop μ-loop
 loop-again c = search (test-holds, needs)
@@ -44,9 +35,9 @@ step-free-spec =
     Inv-loop
     μ-loop
     loop-holds
-    demand-free-requires
+    (λ c κs. search needs)
     returns
-    add-j
-    loop-less
+    (λ c. search needs)
+    (λ c. search needs)
     loop-again
     returns-2)

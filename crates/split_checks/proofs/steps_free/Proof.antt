@@ -14,26 +14,14 @@ abbrev μ-loop : tie.MeasureT-loop
 loop-holds : tie.Need-loop-holds Inv-loop μ-loop
 loop-holds c = search (steps-none, needs)
 
-slice-aggregate-load-step : tie.Need-slice-aggregate-load-step Inv-loop μ-loop
-slice-aggregate-load-step c = search needs
-
 load-step-requires : tie.Need-load-step-requires Inv-loop μ-loop
 load-step-requires c κs = search (load-asked, needs)
-
-slice-aggregate-step-free : tie.Need-slice-aggregate-step-free Inv-loop μ-loop
-slice-aggregate-step-free c = search needs
 
 step-free-requires : tie.Need-step-free-requires Inv-loop μ-loop
 step-free-requires c κs = search (free-asked, needs)
 
 returns : tie.Need-returns Inv-loop μ-loop
 returns c = search (steps-fail, needs)
-
-add-n : tie.Need-add-n Inv-loop μ-loop
-add-n c = search needs
-
-loop-less : tie.Need-loop-less Inv-loop μ-loop
-loop-less c = search needs
 
 loop-again : tie.Need-loop-again Inv-loop μ-loop
 loop-again c = steps-next (c .before .before .before .before .before .before .before .before .before .before .before .before .pre) (c .before .before .before .before .before .before .before .before .loop .inv) (c .before .before .before .before .before .before .if1 .taken) (c .before .before .before .before .load-step .ensures) (c .before .step-free .ensures) (c .if2 .left)
@@ -48,12 +36,12 @@ steps-free-spec =
     Inv-loop
     μ-loop
     loop-holds
-    slice-aggregate-load-step
+    (λ c. search needs)
     load-step-requires
-    slice-aggregate-step-free
+    (λ c. search needs)
     step-free-requires
     returns
-    add-n
-    loop-less
+    (λ c. search needs)
+    (λ c. search needs)
     loop-again
     returns-2)

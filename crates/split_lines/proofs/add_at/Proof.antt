@@ -11,14 +11,8 @@ returns c = (added-not _ _ _ _ (c .if1 .taken), search needs)
 sub-sums : tie.Need-sub-sums
 sub-sums c = omega (arith, c .before .before .pre)
 
-mul-sums : tie.Need-mul-sums
-mul-sums c = search needs
-
 slice-read-sums : tie.Need-slice-read-sums
 slice-read-sums c = omega (arith, c .before .before .before .pre)
-
-wide-requires : tie.Need-wide-requires
-wide-requires c κs = search needs
 
 add-sums : tie.Need-add-sums
 add-sums c = omega (arith, c .before .before .before .before .pre, c .wide .ensures)
@@ -26,14 +20,8 @@ add-sums c = omega (arith, c .before .before .before .before .pre, c .wide .ensu
 sub-sums-2 : tie.Need-sub-sums-2
 sub-sums-2 c = omega (arith, c .before .before .before .before .pre)
 
-mul-sums-2 : tie.Need-mul-sums-2
-mul-sums-2 c = search needs
-
 slice-write-sums : tie.Need-slice-write-sums
 slice-write-sums c = omega (arith, c .before .before .before .before .pre)
-
-same-length : tie.Need-same-length
-same-length c = search needs
 
 returns-2 : tie.Need-returns-2
 returns-2 c = (added-one _ _ _ _ (omega arith) (c .wide .ensures .0), omega (arith, c .wide .ensures))
@@ -44,12 +32,12 @@ add-at-spec =
     (tie.spec
     returns
     sub-sums
-    mul-sums
+    (λ c. search needs)
     slice-read-sums
-    wide-requires
+    (λ c κs. search needs)
     add-sums
     sub-sums-2
-    mul-sums-2
+    (λ c. search needs)
     slice-write-sums
-    same-length
+    (λ c. search needs)
     returns-2)

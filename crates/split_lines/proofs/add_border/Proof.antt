@@ -23,9 +23,6 @@ links-in-requires c κs = border-movement (c .before .before .before .before .be
 link-of-requires : tie.Need-link-of-requires Inv-loop μ-loop
 link-of-requires c κs = (omega (arith, c .before .before .before .before .before .before .before .pre .movements-asked .few), c .before .before .before .before .before .before .before .pre .either, c .before .before .before .before .before .before .before .pre .movements-asked .size)
 
-index-requires : tie.Need-index-requires Inv-loop μ-loop
-index-requires c κs = search needs
-
 mul-add-at : tie.Need-mul-add-at Inv-loop μ-loop
 mul-add-at c = omega (arith, c .before .before .before .before .before .before .before .before .before .pre .within (c .before .before .before .before .loop .j) (omega arith), c .before .before .before .before .before .before .before .before .before .pre .few)
 
@@ -43,9 +40,6 @@ add-at-requires c κs = border-room (c .before .before .before .before .before .
 
 add-j : tie.Need-add-j Inv-loop μ-loop
 add-j c = omega (arith, c .before .before .before .before .before .before .before .before .before .before .before .before .before .before .pre .movements-asked .few)
-
-loop-less : tie.Need-loop-less Inv-loop μ-loop
-loop-less c = search needs
 
 loop-again : tie.Need-loop-again Inv-loop μ-loop
 loop-again c = border-next (c .before .before .before .before .before .before .before .before .before .before .before .before .before .before .pre) (c .before .before .before .before .before .before .before .before .before .loop .inv) (omega arith) (c .before .before .before .before .before .before .link-of .ensures) (c .before .before .before .before .before .index .ensures .0) (c .before .before .before .before .before .before .before .links-in .ensures) (c .before .before .add-at .ensures)
@@ -65,14 +59,14 @@ add-border-spec =
     loop-holds
     links-in-requires
     link-of-requires
-    index-requires
+    (λ c κs. search needs)
     mul-add-at
     add-add-at
     mul-add-at-2
     shared-slice-read-add-at
     add-at-requires
     add-j
-    loop-less
+    (λ c. search needs)
     loop-again
     same-length
     returns)

@@ -22,17 +22,11 @@ loop-holds c = filled-none
 add-fill-one : tie.Need-add-fill-one Inv-loop μ-loop
 add-fill-one c = omega (arith, c .before .before .before .before .before .pre .half-room)
 
-mul-fill-one : tie.Need-mul-fill-one Inv-loop μ-loop
-mul-fill-one c = search needs
-
 shared-slice-read-fill-one : tie.Need-shared-slice-read-fill-one Inv-loop μ-loop
 shared-slice-read-fill-one c = omega (arith, c .before .before .before .before .before .before .pre .half-room, c .before .before .before .before .before .before .pre .half-size)
 
 add-fill-one-2 : tie.Need-add-fill-one-2 Inv-loop μ-loop
 add-fill-one-2 c = omega (arith, c .before .before .before .before .before .before .pre .within, c .before .before .before .before .before .before .pre .few)
-
-mul-fill-one-2 : tie.Need-mul-fill-one-2 Inv-loop μ-loop
-mul-fill-one-2 c = search needs
 
 shared-slice-read-fill-one-2 : tie.Need-shared-slice-read-fill-one-2 Inv-loop μ-loop
 shared-slice-read-fill-one-2 c = omega (arith, c .before .before .before .before .before .before .before .pre .within)
@@ -42,9 +36,6 @@ fill-one-requires c κs = (omega (arith, filled-end (c .before .before .before .
 
 add-k : tie.Need-add-k Inv-loop μ-loop
 add-k c = omega (arith, c .before .before .before .before .before .before .before .before .before .before .before .pre .half-room)
-
-loop-less : tie.Need-loop-less Inv-loop μ-loop
-loop-less c = search needs
 
 loop-again : tie.Need-loop-again Inv-loop μ-loop
 loop-again c = filled-next (c .before .before .before .before .before .before .before .loop .inv) (omega arith) (unfold isIn in (c .before .before .fill-one .ensures))
@@ -63,14 +54,14 @@ fill-kept-spec =
     μ-loop
     loop-holds
     add-fill-one
-    mul-fill-one
+    (λ c. search needs)
     shared-slice-read-fill-one
     add-fill-one-2
-    mul-fill-one-2
+    (λ c. search needs)
     shared-slice-read-fill-one-2
     fill-one-requires
     add-k
-    loop-less
+    (λ c. search needs)
     loop-again
     same-length
     returns)

@@ -23,17 +23,8 @@ loop-holds c = filled-none
 add-wide : tie.Need-add-wide Inv-loop μ-loop
 add-wide c = omega (arith, c .before .before .before .before .before .before .pre .0 .within, c .before .before .before .before .before .before .pre .0 .few)
 
-mul-wide : tie.Need-mul-wide Inv-loop μ-loop
-mul-wide c = search needs
-
 shared-slice-read-wide : tie.Need-shared-slice-read-wide Inv-loop μ-loop
 shared-slice-read-wide c = omega (arith, c .before .before .before .before .before .before .before .pre .0 .within)
-
-wide-requires : tie.Need-wide-requires Inv-loop μ-loop
-wide-requires c κs = search needs
-
-mul-sum : tie.Need-mul-sum Inv-loop μ-loop
-mul-sum c = search needs
 
 shared-slice-read-sum : tie.Need-shared-slice-read-sum Inv-loop μ-loop
 shared-slice-read-sum c = omega (arith, c .before .before .before .before .before .before .before .before .before .pre .1 .size)
@@ -41,23 +32,14 @@ shared-slice-read-sum c = omega (arith, c .before .before .before .before .befor
 add-sum : tie.Need-add-sum Inv-loop μ-loop
 add-sum c = omega (arith, c .before .wide .ensures, c .before .before .before .before .before .before .before .before .before .pre .1 .small (c .before .before .before .before .loop .i) (omega arith))
 
-mul-fill-one : tie.Need-mul-fill-one Inv-loop μ-loop
-mul-fill-one c = search needs
-
 shared-slice-read-fill-one : tie.Need-shared-slice-read-fill-one Inv-loop μ-loop
 shared-slice-read-fill-one c = omega (arith, c .before .before .before .before .before .before .before .before .before .before .pre .0 .half-room, c .before .before .before .before .before .before .before .before .before .before .pre .0 .half-size)
-
-in-field-requires : tie.Need-in-field-requires Inv-loop μ-loop
-in-field-requires c κs = search needs
 
 fill-one-requires : tie.Need-fill-one-requires Inv-loop μ-loop
 fill-one-requires c κs = (omega (arith, filled-end (c .before .before .before .before .before .before .before .loop .inv), c .before .before .before .before .before .before .before .loop .inv .filled .size, c .before .before .before .before .before .before .before .before .before .before .before .before .pre .0 .room), omega (arith, c .before .before .before .before .before .before .before .loop .inv .filled .size, c .before .before .before .before .before .before .before .before .before .before .before .before .pre .0 .row-few))
 
 add-i : tie.Need-add-i Inv-loop μ-loop
 add-i c = omega (arith, c .before .before .before .before .before .before .before .before .before .before .before .before .before .before .before .pre .0 .half-room)
-
-loop-less : tie.Need-loop-less Inv-loop μ-loop
-loop-less c = search needs
 
 loop-again : tie.Need-loop-again Inv-loop μ-loop
 loop-again c = filled-next (c .before .before .before .before .before .before .before .before .before .before .loop .inv) (omega arith) (unfold isIn in (rw (c .before .before .before .before .in-field .ensures, c .before .before .before .before .before .before .before .wide .ensures .0) at (c .before .before .fill-one .ensures)))
@@ -76,18 +58,18 @@ fill-sums-spec =
     μ-loop
     loop-holds
     add-wide
-    mul-wide
+    (λ c. search needs)
     shared-slice-read-wide
-    wide-requires
-    mul-sum
+    (λ c κs. search needs)
+    (λ c. search needs)
     shared-slice-read-sum
     add-sum
-    mul-fill-one
+    (λ c. search needs)
     shared-slice-read-fill-one
-    in-field-requires
+    (λ c κs. search needs)
     fill-one-requires
     add-i
-    loop-less
+    (λ c. search needs)
     loop-again
     same-length
     returns)

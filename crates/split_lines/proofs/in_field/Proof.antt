@@ -7,9 +7,6 @@ use Rattle.split_lines.proofs.in_field.Tie as tie
 returns : tie.Need-returns
 returns c = search (field-cut, needs)
 
-cast-result : tie.Need-cast-result
-cast-result c = search needs
-
 returns-2 : tie.Need-returns-2
 returns-2 c = search (field-same, needs)
 
@@ -18,5 +15,5 @@ in-field-spec =
     tie.close
     (tie.spec
     returns
-    cast-result
+    (λ c. search needs)
     returns-2)

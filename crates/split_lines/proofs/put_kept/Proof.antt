@@ -7,14 +7,8 @@ use Rattle.split_lines.proofs.put_kept.Tie as tie
 returns : tie.Need-returns
 returns c = search (kept-none, needs)
 
-put-line-requires : tie.Need-put-line-requires
-put-line-requires c κs = search needs
-
-same-length : tie.Need-same-length
-same-length c = search needs
-
 returns-2 : tie.Need-returns-2
 returns-2 c = search (kept-one, needs)
 
 pub put-kept-spec : {M : Type 1} → statement M
-put-kept-spec = tie.close (tie.spec returns put-line-requires same-length returns-2)
+put-kept-spec = tie.close (tie.spec returns (λ c κs. search needs) (λ c. search needs) returns-2)

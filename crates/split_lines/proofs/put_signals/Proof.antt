@@ -16,32 +16,8 @@ abbrev μ-loop : tie.MeasureT-loop
 loop-holds : tie.Need-loop-holds Inv-loop μ-loop
 loop-holds c = search (signals-none, needs)
 
-phase-count-requires : tie.Need-phase-count-requires Inv-loop μ-loop
-phase-count-requires c κs = search needs
-
-index-requires : tie.Need-index-requires Inv-loop μ-loop
-index-requires c κs = search needs
-
-mul-width : tie.Need-mul-width Inv-loop μ-loop
-mul-width c = search needs
-
-add-width : tie.Need-add-width Inv-loop μ-loop
-add-width c = search needs
-
-slice-aggregate-read-again : tie.Need-slice-aggregate-read-again Inv-loop μ-loop
-slice-aggregate-read-again c = search needs
-
 read-again-requires : tie.Need-read-again-requires Inv-loop μ-loop
 read-again-requires c κs = omega (arith, width-small (c .before .before .before .before .before .before .before .before .before .pre) (omega arith) (c .before .before .phase-count .ensures) (c .before .index .ensures .0), c .before .before .before .before .loop .inv .size)
-
-add-put-kept : tie.Need-add-put-kept Inv-loop μ-loop
-add-put-kept c = search needs
-
-mul-put-kept : tie.Need-mul-put-kept Inv-loop μ-loop
-mul-put-kept c = search needs
-
-shared-slice-read-put-kept : tie.Need-shared-slice-read-put-kept Inv-loop μ-loop
-shared-slice-read-put-kept c = search needs
 
 array-share-prefix-row : tie.Need-array-share-prefix-row Inv-loop μ-loop
 array-share-prefix-row c = omega (arith, width-small (c .before .before .before .before .before .before .before .before .before .before .before .before .pre) (omega arith) (c .before .before .before .before .before .phase-count .ensures) (c .before .before .before .before .index .ensures .0))
@@ -52,17 +28,8 @@ slice-aggregate-put-kept c = search (signal-part, needs)
 put-kept-requires : tie.Need-put-kept-requires Inv-loop μ-loop
 put-kept-requires c κs = signal-early (c .before .before .before .before .before .before .before .before .before .before .before .before .before .before .pre) (omega arith) (c .before .before .before .before .before .before .before .phase-count .ensures) (c .before .before .before .before .before .before .index .ensures .0) (c .before .before .before .before .before .before .before .before .before .loop .inv) (c .before .before .before .before .read-again .ensures)
 
-add-k : tie.Need-add-k Inv-loop μ-loop
-add-k c = search needs
-
-loop-less : tie.Need-loop-less Inv-loop μ-loop
-loop-less c = search needs
-
 loop-again : tie.Need-loop-again Inv-loop μ-loop
 loop-again c = search (signals-next, needs)
-
-same-length : tie.Need-same-length Inv-loop μ-loop
-same-length c = search needs
 
 returns : tie.Need-returns Inv-loop μ-loop
 returns c = picks-all (c .before .loop .inv .picks) (omega arith)
@@ -74,20 +41,20 @@ put-signals-spec =
     Inv-loop
     μ-loop
     loop-holds
-    phase-count-requires
-    index-requires
-    mul-width
-    add-width
-    slice-aggregate-read-again
+    (λ c κs. search needs)
+    (λ c κs. search needs)
+    (λ c. search needs)
+    (λ c. search needs)
+    (λ c. search needs)
     read-again-requires
-    add-put-kept
-    mul-put-kept
-    shared-slice-read-put-kept
+    (λ c. search needs)
+    (λ c. search needs)
+    (λ c. search needs)
     array-share-prefix-row
     slice-aggregate-put-kept
     put-kept-requires
-    add-k
-    loop-less
+    (λ c. search needs)
+    (λ c. search needs)
     loop-again
-    same-length
+    (λ c. search needs)
     returns)

@@ -17,29 +17,8 @@ abbrev μ-loop : tie.MeasureT-loop
 loop-holds : tie.Need-loop-holds Inv-loop μ-loop
 loop-holds c = counted-none
 
-add-one-if : tie.Need-add-one-if Inv-loop μ-loop
-add-one-if c = search needs
-
-mul-one-if : tie.Need-mul-one-if Inv-loop μ-loop
-mul-one-if c = search needs
-
-shared-slice-read-one-if : tie.Need-shared-slice-read-one-if Inv-loop μ-loop
-shared-slice-read-one-if c = search needs
-
-one-if-requires : tie.Need-one-if-requires Inv-loop μ-loop
-one-if-requires c κs = search needs
-
-index-requires : tie.Need-index-requires Inv-loop μ-loop
-index-requires c κs = search needs
-
 add-found : tie.Need-add-found Inv-loop μ-loop
 add-found c = omega (arith, counted-small (c .before .before .before .before .loop .inv), c .before .one-if .ensures .1, c .index .ensures .0, c .before .before .before .before .before .before .pre)
-
-add-k : tie.Need-add-k Inv-loop μ-loop
-add-k c = search needs
-
-loop-less : tie.Need-loop-less Inv-loop μ-loop
-loop-less c = search needs
 
 loop-again : tie.Need-loop-again Inv-loop μ-loop
 loop-again c = counted-next (c .before .before .before .before .loop .inv) (omega arith) (c .before .one-if .ensures .0) (c .index .ensures .0)
@@ -54,13 +33,13 @@ count-in-spec =
     Inv-loop
     μ-loop
     loop-holds
-    add-one-if
-    mul-one-if
-    shared-slice-read-one-if
-    one-if-requires
-    index-requires
+    (λ c. search needs)
+    (λ c. search needs)
+    (λ c. search needs)
+    (λ c κs. search needs)
+    (λ c κs. search needs)
     add-found
-    add-k
-    loop-less
+    (λ c. search needs)
+    (λ c. search needs)
     loop-again
     returns)

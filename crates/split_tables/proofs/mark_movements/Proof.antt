@@ -21,17 +21,8 @@ loop-holds c = marked-none
 links-in-requires : tie.Need-links-in-requires Inv-loop μ-loop
 links-in-requires c κs = movement-asked (c .before .before .before .before .before .pre .0) (omega arith)
 
-mul-marks : tie.Need-mul-marks Inv-loop μ-loop
-mul-marks c = search needs
-
 slice-write-marks : tie.Need-slice-write-marks Inv-loop μ-loop
 slice-write-marks c = omega (arith, c .before .before .loop .inv .size, c .before .before .before .before .before .before .pre .1)
-
-add-j : tie.Need-add-j Inv-loop μ-loop
-add-j c = search needs
-
-loop-less : tie.Need-loop-less Inv-loop μ-loop
-loop-less c = search needs
 
 loop-again : tie.Need-loop-again Inv-loop μ-loop
 loop-again c = marked-next (c .before .before .loop .inv) (c .before .before .before .before .before .before .pre .1) (omega arith) (c .links-in .ensures)
@@ -50,10 +41,10 @@ mark-movements-spec =
     μ-loop
     loop-holds
     links-in-requires
-    mul-marks
+    (λ c. search needs)
     slice-write-marks
-    add-j
-    loop-less
+    (λ c. search needs)
+    (λ c. search needs)
     loop-again
     same-length
     returns)

@@ -14,14 +14,8 @@ returns-2 c = signal-none _ _ _ (omega arith) (c .if2 .taken)
 sub-marks : tie.Need-sub-marks
 sub-marks c = omega arith
 
-mul-marks : tie.Need-mul-marks
-mul-marks c = search needs
-
 slice-write-marks : tie.Need-slice-write-marks
 slice-write-marks c = omega (arith, c .before .before .pre)
-
-same-length : tie.Need-same-length
-same-length c = search needs
 
 returns-3 : tie.Need-returns-3
 returns-3 c = signal-marked _ _ _ (omega arith) (c .if2 .left)
@@ -33,7 +27,7 @@ mark-signal-spec =
     returns
     returns-2
     sub-marks
-    mul-marks
+    (λ c. search needs)
     slice-write-marks
-    same-length
+    (λ c. search needs)
     returns-3)

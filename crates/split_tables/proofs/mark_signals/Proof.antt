@@ -17,32 +17,11 @@ abbrev μ-loop : tie.MeasureT-loop
 loop-holds : tie.Need-loop-holds Inv-loop μ-loop
 loop-holds c = signals-none (c .before .before .before .pre)
 
-signal-of-requires : tie.Need-signal-of-requires Inv-loop μ-loop
-signal-of-requires c κs = search needs
-
-index-requires : tie.Need-index-requires Inv-loop μ-loop
-index-requires c κs = search needs
-
-mul-mark-signal : tie.Need-mul-mark-signal Inv-loop μ-loop
-mul-mark-signal c = search needs
-
-shared-slice-read-mark-signal : tie.Need-shared-slice-read-mark-signal Inv-loop μ-loop
-shared-slice-read-mark-signal c = search needs
-
 mark-signal-requires : tie.Need-mark-signal-requires Inv-loop μ-loop
 mark-signal-requires c κs = signal-room (c .before .before .before .before .before .before .before .before .before .pre) (c .before .before .before .before .before .loop .inv) (omega arith) (c .before .before .before .signal-of .ensures) (c .before .before .index .ensures .0)
 
-add-i : tie.Need-add-i Inv-loop μ-loop
-add-i c = search needs
-
-loop-less : tie.Need-loop-less Inv-loop μ-loop
-loop-less c = search needs
-
 loop-again : tie.Need-loop-again Inv-loop μ-loop
 loop-again c = signals-next (c .before .before .before .before .before .before .before .before .before .before .before .before .pre) (c .before .before .before .before .before .before .before .before .loop .inv) (omega arith) (c .before .before .before .before .before .before .signal-of .ensures) (c .before .before .before .before .before .index .ensures .0) (c .before .before .mark-signal .ensures)
-
-same-length : tie.Need-same-length Inv-loop μ-loop
-same-length c = search needs
 
 returns : tie.Need-returns Inv-loop μ-loop
 returns c = signals-all (c .before .before .before .before .before .pre) (c .before .loop .inv) (omega arith)
@@ -54,13 +33,13 @@ mark-signals-spec =
     Inv-loop
     μ-loop
     loop-holds
-    signal-of-requires
-    index-requires
-    mul-mark-signal
-    shared-slice-read-mark-signal
+    (λ c κs. search needs)
+    (λ c κs. search needs)
+    (λ c. search needs)
+    (λ c. search needs)
     mark-signal-requires
-    add-i
-    loop-less
+    (λ c. search needs)
+    (λ c. search needs)
     loop-again
-    same-length
+    (λ c. search needs)
     returns)

@@ -18,9 +18,6 @@ abbrev μ-loop : tie.MeasureT-loop
 loop-holds : tie.Need-loop-holds Inv-loop μ-loop
 loop-holds c = numbered-none (c .pre)
 
-mul-if1 : tie.Need-mul-if1 Inv-loop μ-loop
-mul-if1 c = search needs
-
 shared-slice-read-if1 : tie.Need-shared-slice-read-if1 Inv-loop μ-loop
 shared-slice-read-if1 c = omega (arith, c .before .before .before .pre .few)
 
@@ -30,17 +27,11 @@ add-last c = omega (arith, last-small (c .before .before .before .before .pre) (
 add-half : tie.Need-add-half Inv-loop μ-loop
 add-half c = omega (arith, c .before .before .before .before .pre .room)
 
-mul-half : tie.Need-mul-half Inv-loop μ-loop
-mul-half c = search needs
-
 slice-write-half : tie.Need-slice-write-half Inv-loop μ-loop
 slice-write-half c = place-within (c .before .before .before .before .pre) (c .before .before .before .loop .inv) (omega arith)
 
 add-k : tie.Need-add-k Inv-loop μ-loop
 add-k c = omega (arith, c .before .before .before .before .pre .room)
-
-loop-less : tie.Need-loop-less Inv-loop μ-loop
-loop-less c = search needs
 
 loop-again : tie.Need-loop-again Inv-loop μ-loop
 loop-again c = ⊎-elim (λ w. rw (w .1, w .2) (numbered-more (c .before .before .before .before .pre) (c .before .before .before .loop .inv) (omega arith) (w .0 .taken))) (λ w. rw (w .1, w .2) (numbered-other (c .before .before .before .before .pre) (c .before .before .before .loop .inv) (omega arith) (w .0 .left))) (c .if1 .came)
@@ -58,14 +49,14 @@ number-marked-spec =
     Inv-loop
     μ-loop
     loop-holds
-    mul-if1
+    (λ c. search needs)
     shared-slice-read-if1
     add-last
     add-half
-    mul-half
+    (λ c. search needs)
     slice-write-half
     add-k
-    loop-less
+    (λ c. search needs)
     loop-again
     same-length
     returns)

@@ -6,26 +6,17 @@ use borrow.Author.Needs.{needs}
 use Rattle.split_text.proofs.put_network.Statement.{statement}
 use Rattle.split_text.proofs.put_network.Tie as tie
 
-slice-aggregate-add-border : tie.Need-slice-aggregate-add-border
-slice-aggregate-add-border c = search needs
-
 add-border-requires : tie.Need-add-border-requires
 add-border-requires c κs = rates-asked (c .before .before .before .before .before .before .before .before .before .pre .held) (c .before .before .before .before .before .before .before .before .before .pre .one .table .size) refl
 
 count-trams-requires : tie.Need-count-trams-requires
 count-trams-requires c κs = trams-asked (c .before .before .before .before .before .before .before .before .before .before .before .pre)
 
-put-counts-requires : tie.Need-put-counts-requires
-put-counts-requires c κs = search needs
-
 put-trams-requires : tie.Need-put-trams-requires
 put-trams-requires c κs = trams-ready (c .before .before .before .before .before .before .before .before .before .before .before .before .before .before .before .before .before .pre) (c .before .before .before .put-counts .ensures)
 
 put-signals-requires : tie.Need-put-signals-requires
 put-signals-requires c κs = signals-ready (c .before .before .before .before .before .before .before .before .before .before .before .before .before .before .before .before .before .before .before .before .before .pre) (c .before .before .before .before .before .before .before .put-counts .ensures) (c .before .before .before .put-trams .ensures)
-
-slice-aggregate-put-links : tie.Need-slice-aggregate-put-links
-slice-aggregate-put-links c = search needs
 
 put-links-requires : tie.Need-put-links-requires
 put-links-requires c κs = links-ready (c .before .before .before .before .before .before .before .before .before .before .before .before .before .before .before .before .before .before .before .before .before .before .before .before .before .before .pre) (c .before .before .before .before .before .before .before .before .before .before .before .before .put-counts .ensures) (c .before .before .before .before .before .before .before .before .put-trams .ensures) (c .before .before .before .before .put-signals .ensures) (c .before .before .before .before .before .before .before .before .before .before .before .before .before .before .before .before .add-border .ensures)
@@ -36,9 +27,6 @@ put-movements-requires c κs = movements-ready (c .before .before .before .befor
 put-steps-requires : tie.Need-put-steps-requires
 put-steps-requires c κs = steps-ready (c .before .before .before .before .before .before .before .before .before .before .before .before .before .before .before .before .before .before .before .before .before .before .before .before .before .before .before .before .before .before .before .before .before .before .pre) (c .before .before .before .before .before .before .before .before .before .before .before .before .before .before .before .before .before .before .before .before .put-counts .ensures) (c .before .before .before .before .before .before .before .before .before .before .before .before .before .before .before .before .put-trams .ensures) (c .before .before .before .before .before .before .before .before .before .before .before .before .put-signals .ensures) (c .before .before .before .before .before .before .before .put-links .ensures) (c .before .before .before .put-movements .ensures)
 
-same-length : tie.Need-same-length
-same-length c = search needs
-
 returns : tie.Need-returns
 returns c = all-put (c .before .before .before .before .before .before .before .before .before .before .before .before .before .before .before .before .before .before .before .before .before .before .before .before .before .before .before .before .before .before .before .before .before .before .before .before .before .pre) (c .before .before .before .before .before .before .before .before .before .before .before .before .before .before .before .before .before .before .before .before .before .before .before .before .before .before .before .add-border .ensures) (c .before .before .before .before .before .before .before .before .before .before .before .before .before .before .before .before .before .before .before .before .before .before .before .before .before .count-trams .ensures .0) (c .before .before .before .before .before .before .before .before .before .before .before .before .before .before .before .before .before .before .before .before .before .before .before .put-counts .ensures) (c .before .before .before .before .before .before .before .before .before .before .before .before .before .before .before .before .before .before .before .put-trams .ensures) (c .before .before .before .before .before .before .before .before .before .before .before .before .before .before .before .put-signals .ensures) (c .before .before .before .before .before .before .before .before .before .before .put-links .ensures) (c .before .before .before .before .before .before .put-movements .ensures) (c .before .before .put-steps .ensures)
 
@@ -46,15 +34,15 @@ pub put-network-spec : {M : Type 1} → statement M
 put-network-spec =
     tie.close
     (tie.spec
-    slice-aggregate-add-border
+    (λ c. search needs)
     add-border-requires
     count-trams-requires
-    put-counts-requires
+    (λ c κs. search needs)
     put-trams-requires
     put-signals-requires
-    slice-aggregate-put-links
+    (λ c. search needs)
     put-links-requires
     put-movements-requires
     put-steps-requires
-    same-length
+    (λ c. search needs)
     returns)

@@ -17,12 +17,6 @@ loop-holds c = search plan-none
 put-plan-line-requires : tie.Need-put-plan-line-requires Inv-loop μ-loop
 put-plan-line-requires c κs = search (plan-line-asked, needs)
 
-add-n : tie.Need-add-n Inv-loop μ-loop
-add-n c = search needs
-
-loop-less : tie.Need-loop-less Inv-loop μ-loop
-loop-less c = search needs
-
 loop-again : tie.Need-loop-again Inv-loop μ-loop
 loop-again c = search (plan-next, needs)
 
@@ -40,8 +34,8 @@ put-plan-spec =
     μ-loop
     loop-holds
     put-plan-line-requires
-    add-n
-    loop-less
+    (λ c. search needs)
+    (λ c. search needs)
     loop-again
     same-length
     returns)

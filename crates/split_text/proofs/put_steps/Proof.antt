@@ -17,12 +17,6 @@ loop-holds c = search steps-none
 put-step-requires : tie.Need-put-step-requires Inv-loop μ-loop
 put-step-requires c κs = search (step-asked, needs)
 
-add-n : tie.Need-add-n Inv-loop μ-loop
-add-n c = search needs
-
-loop-less : tie.Need-loop-less Inv-loop μ-loop
-loop-less c = search needs
-
 loop-again : tie.Need-loop-again Inv-loop μ-loop
 loop-again c = search (steps-next, needs)
 
@@ -40,8 +34,8 @@ put-steps-spec =
     μ-loop
     loop-holds
     put-step-requires
-    add-n
-    loop-less
+    (λ c. search needs)
+    (λ c. search needs)
     loop-again
     same-length
     returns)

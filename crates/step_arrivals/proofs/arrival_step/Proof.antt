@@ -14,33 +14,6 @@ Inv-loop times from boundary travel latest m₀ m = (latest ≡ getD times bound
 abbrev μ-loop : tie.MeasureT-loop
 μ-loop times from boundary travel latest m₀ m = length times - m
 
-mul-minus : tie.Need-mul-minus Inv-loop μ-loop
-mul-minus c = search needs
-
-shared-slice-read-minus : tie.Need-shared-slice-read-minus Inv-loop μ-loop
-shared-slice-read-minus c = search needs
-
-minus-requires : tie.Need-minus-requires Inv-loop μ-loop
-minus-requires c κs = search needs
-
-loop-holds : tie.Need-loop-holds Inv-loop μ-loop
-loop-holds c = search needs
-
-add-if1 : tie.Need-add-if1 Inv-loop μ-loop
-add-if1 c = search needs
-
-mul-if1 : tie.Need-mul-if1 Inv-loop μ-loop
-mul-if1 c = search needs
-
-shared-slice-read-if1 : tie.Need-shared-slice-read-if1 Inv-loop μ-loop
-shared-slice-read-if1 c = search needs
-
-add-m : tie.Need-add-m Inv-loop μ-loop
-add-m c = search needs
-
-loop-less : tie.Need-loop-less Inv-loop μ-loop
-loop-less c = search needs
-
 loop-again : tie.Need-loop-again Inv-loop μ-loop
 loop-again c = search (arrival-on, needs)
 
@@ -53,14 +26,14 @@ arrival-step-spec =
     (tie.spec
     Inv-loop
     μ-loop
-    mul-minus
-    shared-slice-read-minus
-    minus-requires
-    loop-holds
-    add-if1
-    mul-if1
-    shared-slice-read-if1
-    add-m
-    loop-less
+    (λ c. search needs)
+    (λ c. search needs)
+    (λ c κs. search needs)
+    (λ c. search needs)
+    (λ c. search needs)
+    (λ c. search needs)
+    (λ c. search needs)
+    (λ c. search needs)
+    (λ c. search needs)
     loop-again
     returns)

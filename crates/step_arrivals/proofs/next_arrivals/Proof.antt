@@ -14,35 +14,11 @@ abbrev μ-loop : tie.MeasureT-loop
 loop-holds : tie.Need-loop-holds Inv-loop μ-loop
 loop-holds c = search moving-first
 
-travel-time-requires : tie.Need-travel-time-requires Inv-loop μ-loop
-travel-time-requires c κs = search needs
-
-mul-arrival-step : tie.Need-mul-arrival-step Inv-loop μ-loop
-mul-arrival-step c = search needs
-
-slice-read-arrival-step : tie.Need-slice-read-arrival-step Inv-loop μ-loop
-slice-read-arrival-step c = search needs
-
 arrival-step-requires : tie.Need-arrival-step-requires Inv-loop μ-loop
 arrival-step-requires c κs = search moving-cursor
 
-mul-arrivals : tie.Need-mul-arrivals Inv-loop μ-loop
-mul-arrivals c = search needs
-
-slice-write-arrivals : tie.Need-slice-write-arrivals Inv-loop μ-loop
-slice-write-arrivals c = search needs
-
-add-i : tie.Need-add-i Inv-loop μ-loop
-add-i c = search needs
-
-loop-less : tie.Need-loop-less Inv-loop μ-loop
-loop-less c = search needs
-
 loop-again : tie.Need-loop-again Inv-loop μ-loop
 loop-again c = search moving-more
-
-same-length : tie.Need-same-length Inv-loop μ-loop
-same-length c = search needs
 
 returns : tie.Need-returns Inv-loop μ-loop
 returns c = search moving-all
@@ -54,14 +30,14 @@ next-arrivals-spec =
     Inv-loop
     μ-loop
     loop-holds
-    travel-time-requires
-    mul-arrival-step
-    slice-read-arrival-step
+    (λ c κs. search needs)
+    (λ c. search needs)
+    (λ c. search needs)
     arrival-step-requires
-    mul-arrivals
-    slice-write-arrivals
-    add-i
-    loop-less
+    (λ c. search needs)
+    (λ c. search needs)
+    (λ c. search needs)
+    (λ c. search needs)
     loop-again
-    same-length
+    (λ c. search needs)
     returns)

@@ -26,9 +26,6 @@ mul-times-2 c = let h = time-room (c .before .before .pre) (c .before .before .a
 slice-write-times : tie.Need-slice-write-times
 slice-write-times c = let h = time-room (c .before .before .pre) (c .before .before .args .seconds) (c .before .if1 .taken) in search needs
 
-same-length : tie.Need-same-length
-same-length c = search needs
-
 returns : tie.Need-returns
 unfolding _and_ within
 returns c = search needs
@@ -47,6 +44,6 @@ next-time-spec =
     add-times-2
     mul-times-2
     slice-write-times
-    same-length
+    (λ c. search needs)
     returns
     returns-2)

@@ -31,43 +31,22 @@ judge-holds c = (omega arith, refl, row-first, rules-none _)
 form-row-for-requires : tie.Need-form-row-for-requires Inv-loop μ-loop Inv-judge μ-judge
 form-row-for-requires c κs = let o = c .before .before .judge .inv in fits-at _ _ _ _ _ _ _ _ _ _ _ _ _ _ _ (c .before .before .before .before .before .before .before .before .before .before .before .before .before .before .before .before .pre) (o .3) (o .2)
 
-rule-items-requires : tie.Need-rule-items-requires Inv-loop μ-loop Inv-judge μ-judge
-rule-items-requires c κs = search needs
-
 loop-holds : tie.Need-loop-holds Inv-loop μ-loop Inv-judge μ-judge
 loop-holds c = let o = c .before .before .before .before .before .before .judge .inv in (omega arith, o .1, items-first _ _ _ _ _ _ _ _ _ _ _ _ _ _ _ (c .before .before .before .before .before .before .before .before .before .before .before .before .before .before .before .before .before .before .before .before .pre) (o .3) (row-turn (c .before .before .before .before .before .before .judge .inv .2) (c .before .before .before .form-row-for .ensures) (c .before .before .before .form-row-for .kept .1 .1 .1 .1 .1 .0)))
 
 rule-holds-requires : tie.Need-rule-holds-requires Inv-loop μ-loop Inv-judge μ-judge
 rule-holds-requires c κs = let o = c .before .before .before .before .before .before .before .before .before .judge .inv in (tables-at _ _ _ _ _ _ _ _ _ _ _ _ _ _ _ (c .before .before .before .before .before .before .before .before .before .before .before .before .before .before .before .before .before .before .before .before .before .before .before .pre) (o .3) (row-turn (c .before .before .before .before .before .before .before .before .before .judge .inv .2) (c .before .before .before .before .before .before .form-row-for .ensures) (c .before .before .before .before .before .before .form-row-for .kept .1 .1 .1 .1 .1 .0)), (omega arith, omega (arith, c .before .before .before .rule-items .ensures)))
 
-rule-number-requires : tie.Need-rule-number-requires Inv-loop μ-loop Inv-judge μ-judge
-rule-number-requires c κs = search needs
-
 cast-t29 : tie.Need-cast-t29 Inv-loop μ-loop Inv-judge μ-judge
 cast-t29 c = let h = c .before .before .before .before .before .before .before .before .before .before .before .before .before .before .before .before .before .before .before .before .before .before .before .before .before .before .pre .few-steps in search needs
 
-add-t30 : tie.Need-add-t30 Inv-loop μ-loop Inv-judge μ-judge
-add-t30 c = search needs
-
 cast-t31 : tie.Need-cast-t31 Inv-loop μ-loop Inv-judge μ-judge
 cast-t31 c = let few = few-items (c .before .before .before .before .before .before .before .before .before .before .before .before .before .before .before .before .before .before .before .before .before .before .before .before .before .before .args .counts) (c .before .before .before .before .before .before .before .before .before .before .before .before .before .before .before .before .before .before .before .before .before .before .before .before .before .before .pre .line-tables .tables .few) (c .before .before .before .before .before .before .before .before .before .before .before .before .judge .k) in let e = c .before .before .before .before .before .before .rule-items .ensures in search needs
-
-add-item : tie.Need-add-item Inv-loop μ-loop Inv-judge μ-judge
-add-item c = search needs
-
-loop-less : tie.Need-loop-less Inv-loop μ-loop Inv-judge μ-judge
-loop-less c = search needs
 
 loop-again : tie.Need-loop-again Inv-loop μ-loop Inv-judge μ-judge
 loop-again c =
     let w = c .before .before .before .before .loop .inv in
     (omega arith, w .1, item-kept _ _ _ _ _ _ _ _ _ _ _ _ _ _ _ (row-turn (c .before .before .before .before .before .before .before .before .before .before .before .judge .inv .2) (c .before .before .before .before .before .before .before .before .form-row-for .ensures) (c .before .before .before .before .before .before .before .before .form-row-for .kept .1 .1 .1 .1 .1 .0)) (omega arith) (w .2) (c .before .rule-holds .ensures) (c .if1 .left))
-
-add-k : tie.Need-add-k Inv-loop μ-loop Inv-judge μ-judge
-add-k c = search needs
-
-judge-less : tie.Need-judge-less Inv-loop μ-loop Inv-judge μ-judge
-judge-less c = search needs
 
 judge-again : tie.Need-judge-again Inv-loop μ-loop Inv-judge μ-judge
 judge-again c =
@@ -99,18 +78,18 @@ first-break-spec =
     μ-judge
     judge-holds
     form-row-for-requires
-    rule-items-requires
+    (λ c κs. search needs)
     loop-holds
     rule-holds-requires
-    rule-number-requires
+    (λ c κs. search needs)
     cast-t29
-    add-t30
+    (λ c. search needs)
     cast-t31
-    add-item
-    loop-less
+    (λ c. search needs)
+    (λ c. search needs)
     loop-again
-    add-k
-    judge-less
+    (λ c. search needs)
+    (λ c. search needs)
     judge-again
     same-length
     returns

@@ -7,9 +7,6 @@ use Rattle.step_check.proofs.form_row_for.Tie as tie
 next-row-requires : tie.Need-next-row-requires
 next-row-requires c κs = c .before .before .before .before .before .before .pre (c .before .if1 .taken)
 
-same-length : tie.Need-same-length
-same-length c = search needs
-
 returns : tie.Need-returns
 returns c = record { formed = λ e. c .before .before .next-row .ensures; kept = λ d. absurd (d (c .before .before .before .before .if1 .taken)) }
 
@@ -17,4 +14,4 @@ returns-2 : tie.Need-returns-2
 returns-2 c = record { formed = λ e. absurd (c .if1 .left e); kept = λ d. refl }
 
 pub form-row-for-spec : {M : Type 1} → statement M
-form-row-for-spec = tie.close (tie.spec next-row-requires same-length returns returns-2)
+form-row-for-spec = tie.close (tie.spec next-row-requires (λ c. search needs) returns returns-2)

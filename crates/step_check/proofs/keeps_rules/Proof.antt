@@ -5,17 +5,8 @@ use borrow.Author.Needs.{needs}
 use Rattle.step_check.proofs.keeps_rules.Statement.{statement}
 use Rattle.step_check.proofs.keeps_rules.Tie as tie
 
-shared-slice-read-keeps-signal-rules : tie.Need-shared-slice-read-keeps-signal-rules
-shared-slice-read-keeps-signal-rules c = search needs
-
-keeps-signal-rules-requires : tie.Need-keeps-signal-rules-requires
-keeps-signal-rules-requires c κs = search needs
-
 returns : tie.Need-returns
 returns c = pass-stops _ _ _ _ _ _ _ _ _ _ _ _ _ _ _
-
-keeps-limits-requires : tie.Need-keeps-limits-requires
-keeps-limits-requires c κs = search needs
 
 returns-2 : tie.Need-returns-2
 returns-2 c = pass-stops _ _ _ _ _ _ _ _ _ _ _ _ _ _ _
@@ -26,9 +17,6 @@ next-row-requires c κs = c .before .before .before .before .before .before .bef
 keeps-sums-requires : tie.Need-keeps-sums-requires
 keeps-sums-requires c κs = rw (c .before .before .before .next-row .ensures) (c .before .before .before .before .before .before .before .before .before .before .before .before .before .before .before .before .before .before .before .before .before .before .before .pre .sums (c .before .before .before .before .before .before .keeps-limits .ensures (not-false _ (c .before .before .before .before .before .if2 .left))))
 
-same-length : tie.Need-same-length
-same-length c = search needs
-
 returns-3 : tie.Need-returns-3
 returns-3 c =
     pass-ends _ _ _ _ _ _ _ _ _ _ _ _ _ _ _ (c .before .before .before .before .next-row .ensures) (c .before .before .before .before .next-row .kept .1 .1 .1 .1 .0) (c .before .before .before .before .before .before .before .before .before .keeps-signal-rules .ensures (not-false _ (c .before .before .before .before .before .before .before .before .if1 .left)))
@@ -38,12 +26,12 @@ pub keeps-rules-spec : {M : Type 1} → statement M
 keeps-rules-spec =
     tie.close
     (tie.spec
-    shared-slice-read-keeps-signal-rules
-    keeps-signal-rules-requires
+    (λ c. search needs)
+    (λ c κs. search needs)
     returns
-    keeps-limits-requires
+    (λ c κs. search needs)
     returns-2
     next-row-requires
     keeps-sums-requires
-    same-length
+    (λ c. search needs)
     returns-3)

@@ -5,9 +5,6 @@ use borrow.Author.Needs.{needs}
 use Rattle.step_check.proofs.rule_holds.Statement.{statement}
 use Rattle.step_check.proofs.rule_holds.Tie as tie
 
-shared-slice-read-signal-rule : tie.Need-shared-slice-read-signal-rule
-shared-slice-read-signal-rule c = search needs
-
 signal-rule-requires : tie.Need-signal-rule-requires
 signal-rule-requires c κs = let s = c .before .before .before .before .before .before .before .before .before .before .before .before .before .before .before in (s .pre .0 .signal-tables, omega (arith, s .pre .1, items-signal (s .args .counts) (s .args .k) (c .before .if1 .taken)))
 
@@ -30,7 +27,7 @@ pub rule-holds-spec : {M : Type 1} → statement M
 rule-holds-spec =
     tie.close
     (tie.spec
-    shared-slice-read-signal-rule
+    (λ c. search needs)
     signal-rule-requires
     returns
     limit-rule-requires

@@ -10,26 +10,8 @@ use borrow.Author.Needs.{needs}
 use Rattle.step_limits.proofs.is_open.Statement.{statement}
 use Rattle.step_limits.proofs.is_open.Tie as tie
 
-signal-of-requires : tie.Need-signal-of-requires
-signal-of-requires c κs = search needs
-
-index-requires : tie.Need-index-requires
-index-requires c κs = search needs
-
 returns : tie.Need-returns
 returns c = open-free _ _ _ (sym (c .before .index .ensures .0 ∙ c .before .before .signal-of .ensures) ∙ c .if1 .taken)
-
-phase-mask-requires : tie.Need-phase-mask-requires
-phase-mask-requires c κs = search needs
-
-sub-opens : tie.Need-sub-opens
-sub-opens c = search needs
-
-mul-opens : tie.Need-mul-opens
-mul-opens c = search needs
-
-shared-slice-read-opens : tie.Need-shared-slice-read-opens
-shared-slice-read-opens c = search needs
 
 opens-requires : tie.Need-opens-requires
 opens-requires c κs =
@@ -47,12 +29,12 @@ pub is-open-spec : {M : Type 1} → statement M
 is-open-spec =
     tie.close
     (tie.spec
-    signal-of-requires
-    index-requires
+    (λ c κs. search needs)
+    (λ c κs. search needs)
     returns
-    phase-mask-requires
-    sub-opens
-    mul-opens
-    shared-slice-read-opens
+    (λ c κs. search needs)
+    (λ c. search needs)
+    (λ c. search needs)
+    (λ c. search needs)
     opens-requires
     returns-2)

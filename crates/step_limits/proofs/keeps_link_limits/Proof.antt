@@ -18,23 +18,11 @@ abbrev μ-loop : tie.MeasureT-loop
 loop-holds : tie.Need-loop-holds Inv-loop μ-loop
 loop-holds c = (omega arith, λ i l. absurd (omega arith))
 
-admits-offer-requires : tie.Need-admits-offer-requires Inv-loop μ-loop
-admits-offer-requires c κs = search needs
-
 returns : tie.Need-returns Inv-loop μ-loop
 returns c = λ e. let z : _≡_ {A = ℕ} 0 1 = cc in absurd (omega arith)
 
-lets-out-rate-requires : tie.Need-lets-out-rate-requires Inv-loop μ-loop
-lets-out-rate-requires c κs = search needs
-
 returns-2 : tie.Need-returns-2 Inv-loop μ-loop
 returns-2 c = λ e. let z : _≡_ {A = ℕ} 0 1 = cc in absurd (omega arith)
-
-add-i : tie.Need-add-i Inv-loop μ-loop
-add-i c = search needs
-
-loop-less : tie.Need-loop-less Inv-loop μ-loop
-loop-less c = search needs
 
 loop-again : tie.Need-loop-again Inv-loop μ-loop
 loop-again c =
@@ -54,11 +42,11 @@ keeps-link-limits-spec =
     Inv-loop
     μ-loop
     loop-holds
-    admits-offer-requires
+    (λ c κs. search needs)
     returns
-    lets-out-rate-requires
+    (λ c κs. search needs)
     returns-2
-    add-i
-    loop-less
+    (λ c. search needs)
+    (λ c. search needs)
     loop-again
     returns-3)

@@ -8,15 +8,6 @@ use borrow.Author.Needs.{needs}
 use Rattle.step_limits.proofs.lets_out_rate.Statement.{statement}
 use Rattle.step_limits.proofs.lets_out_rate.Tie as tie
 
-let-out-requires : tie.Need-let-out-requires
-let-out-requires c κs = search needs
-
-exit-rate-requires : tie.Need-exit-rate-requires
-exit-rate-requires c κs = search needs
-
-shared-slice-read-within-rate : tie.Need-shared-slice-read-within-rate
-shared-slice-read-within-rate c = search needs
-
 within-rate-requires : tie.Need-within-rate-requires
 within-rate-requires c κs =
     let s = c .before .before .before .before .before .before in
@@ -32,8 +23,8 @@ pub lets-out-rate-spec : {M : Type 1} → statement M
 lets-out-rate-spec =
     tie.close
     (tie.spec
-    let-out-requires
-    exit-rate-requires
-    shared-slice-read-within-rate
+    (λ c κs. search needs)
+    (λ c κs. search needs)
+    (λ c. search needs)
     within-rate-requires
     returns)

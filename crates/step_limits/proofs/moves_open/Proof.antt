@@ -5,14 +5,8 @@ use borrow.Author.Needs.{needs}
 use Rattle.step_limits.proofs.moves_open.Statement.{statement}
 use Rattle.step_limits.proofs.moves_open.Tie as tie
 
-moved-requires : tie.Need-moved-requires
-moved-requires c κs = search needs
-
 returns : tie.Need-returns
 returns c = nothing-moves _ _ _ _ _ _ (c .before .moved .ensures) (c .if1 .taken)
-
-from-link-requires : tie.Need-from-link-requires
-from-link-requires c κs = search needs
 
 is-open-requires : tie.Need-is-open-requires
 is-open-requires c κs = let asked = c .before .before .before .before .before .before .before .pre .0 in let from = c .from-link in let last = asked .signal-last (from .result) (from .ensures .1) in let few = asked .few in (search needs, λ r l. asked .phase-last r (omega arith))
@@ -24,8 +18,8 @@ pub moves-open-spec : {M : Type 1} → statement M
 moves-open-spec =
     tie.close
     (tie.spec
-    moved-requires
+    (λ c κs. search needs)
     returns
-    from-link-requires
+    (λ c κs. search needs)
     is-open-requires
     returns-2)

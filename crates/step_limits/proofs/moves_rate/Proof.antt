@@ -8,18 +8,6 @@ use borrow.Author.Needs.{needs}
 use Rattle.step_limits.proofs.moves_rate.Statement.{statement}
 use Rattle.step_limits.proofs.moves_rate.Tie as tie
 
-moved-requires : tie.Need-moved-requires
-moved-requires c κs = search needs
-
-rate-requires : tie.Need-rate-requires
-rate-requires c κs = search needs
-
-shared-slice-read-within-rate : tie.Need-shared-slice-read-within-rate
-shared-slice-read-within-rate c = search needs
-
-within-rate-requires : tie.Need-within-rate-requires
-within-rate-requires c κs = search needs
-
 returns : tie.Need-returns
 unfolding movesRate
 returns c =
@@ -29,8 +17,8 @@ pub moves-rate-spec : {M : Type 1} → statement M
 moves-rate-spec =
     tie.close
     (tie.spec
-    moved-requires
-    rate-requires
-    shared-slice-read-within-rate
-    within-rate-requires
+    (λ c κs. search needs)
+    (λ c κs. search needs)
+    (λ c. search needs)
+    (λ c κs. search needs)
     returns)

@@ -7,17 +7,8 @@ use borrow.Author.Needs.{needs}
 use Rattle.step_limits.proofs.moves_within.Statement.{statement}
 use Rattle.step_limits.proofs.moves_within.Tie as tie
 
-moved-requires : tie.Need-moved-requires
-moved-requires c κs = search needs
-
 returns : tie.Need-returns
 returns c = λ t. still-keeps _ _ _ _ _ _ (c .before .moved .ensures) _ (c .if1 .taken)
-
-rate-requires : tie.Need-rate-requires
-rate-requires c κs = search needs
-
-shared-slice-read-within-rate : tie.Need-shared-slice-read-within-rate
-shared-slice-read-within-rate c = search needs
 
 within-rate-requires : tie.Need-within-rate-requires
 within-rate-requires c κs =
@@ -27,9 +18,6 @@ within-rate-requires c κs =
 
 returns-2 : tie.Need-returns-2
 returns-2 c = λ e. let z : _≡_ {A = ℕ} 0 1 = cc in absurd (omega arith)
-
-from-link-requires : tie.Need-from-link-requires
-from-link-requires c κs = search needs
 
 is-open-requires : tie.Need-is-open-requires
 is-open-requires c κs =
@@ -46,12 +34,12 @@ pub moves-within-spec : {M : Type 1} → statement M
 moves-within-spec =
     tie.close
     (tie.spec
-    moved-requires
+    (λ c κs. search needs)
     returns
-    rate-requires
-    shared-slice-read-within-rate
+    (λ c κs. search needs)
+    (λ c. search needs)
     within-rate-requires
     returns-2
-    from-link-requires
+    (λ c κs. search needs)
     is-open-requires
     returns-3)

@@ -8,8 +8,5 @@ use Rattle.step_limits.proofs.within_rate.Tie as tie
 mul-result : tie.Need-mul-result
 mul-result c = omega (arith, mul-le-mul-right (c .args .seconds) (c .pre .0))
 
-returns : tie.Need-returns
-returns c = search needs
-
 pub within-rate-spec : {M : Type 1} → statement M
-within-rate-spec = tie.close (tie.spec mul-result returns)
+within-rate-spec = tie.close (tie.spec mul-result (λ c. search needs))

@@ -14,29 +14,11 @@ abbrev μ-loop : tie.MeasureT-loop
 loop-holds : tie.Need-loop-holds Inv-loop μ-loop
 loop-holds c = search keep-begin
 
-mul-keep-curve : tie.Need-mul-keep-curve Inv-loop μ-loop
-mul-keep-curve c = search needs
-
-shared-slice-read-keep-curve : tie.Need-shared-slice-read-keep-curve Inv-loop μ-loop
-shared-slice-read-keep-curve c = search needs
-
 keep-curve-requires : tie.Need-keep-curve-requires Inv-loop μ-loop
 keep-curve-requires c κs = search keep-asked
 
-add-i : tie.Need-add-i Inv-loop μ-loop
-add-i c = search needs
-
-loop-less : tie.Need-loop-less Inv-loop μ-loop
-loop-less c = search needs
-
 loop-again : tie.Need-loop-again Inv-loop μ-loop
 loop-again c = search (keep-next, needs)
-
-same-length : tie.Need-same-length Inv-loop μ-loop
-same-length c = search needs
-
-same-length-2 : tie.Need-same-length-2 Inv-loop μ-loop
-same-length-2 c = search needs
 
 returns : tie.Need-returns Inv-loop μ-loop
 returns c = search keep-done
@@ -48,12 +30,12 @@ keep-curves-spec =
     Inv-loop
     μ-loop
     loop-holds
-    mul-keep-curve
-    shared-slice-read-keep-curve
+    (λ c. search needs)
+    (λ c. search needs)
     keep-curve-requires
-    add-i
-    loop-less
+    (λ c. search needs)
+    (λ c. search needs)
     loop-again
-    same-length
-    same-length-2
+    (λ c. search needs)
+    (λ c. search needs)
     returns)

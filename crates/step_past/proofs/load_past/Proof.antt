@@ -21,30 +21,6 @@ next-arrivals-requires c κs = search arrivals-asked
 loop-holds : tie.Need-loop-holds Inv-loop μ-loop
 loop-holds c = search (past-begin, needs)
 
-slice-aggregate-read-row : tie.Need-slice-aggregate-read-row Inv-loop μ-loop
-slice-aggregate-read-row c = search needs
-
-mul-read-row : tie.Need-mul-read-row Inv-loop μ-loop
-mul-read-row c = search needs
-
-add-read-row : tie.Need-add-read-row Inv-loop μ-loop
-add-read-row c = search needs
-
-read-row-requires : tie.Need-read-row-requires Inv-loop μ-loop
-read-row-requires c κs = search needs
-
-enum-known-read : tie.Need-enum-known-read Inv-loop μ-loop
-enum-known-read c = search needs
-
-enum-told : tie.Need-enum-told Inv-loop μ-loop
-enum-told c = search needs
-
-same-length : tie.Need-same-length Inv-loop μ-loop
-same-length c = search needs
-
-same-length-2 : tie.Need-same-length-2 Inv-loop μ-loop
-same-length-2 c = search needs
-
 same-length-3 : tie.Need-same-length-3 Inv-loop μ-loop
 same-length-3 c = omega (arith, c .before .before .before .before .before .before .before .before .loop .inv .rooms .curve-size, c .before .before .before .before .before .before .before .before .before .before .before .before .before .before .before .before .before .before .before .before .before .before .before .before .pre .rooms .curve-size)
 
@@ -54,20 +30,11 @@ same-length-4 c = omega (arith, c .before .before .before .before .before .befor
 returns : tie.Need-returns Inv-loop μ-loop
 returns c = search (past-malformed, needs)
 
-slice-aggregate-add-numbers : tie.Need-slice-aggregate-add-numbers Inv-loop μ-loop
-slice-aggregate-add-numbers c = search needs
-
 mul-add-numbers : tie.Need-mul-add-numbers Inv-loop μ-loop
 mul-add-numbers c = let h = c .before .before .before .before .before .before .before .before .before .before .before .before .before .before .before .before .before .before .before .before .before .before .before .before .before .before .before .pre .counted .few .links in search needs
 
 add-numbers-requires : tie.Need-add-numbers-requires Inv-loop μ-loop
 add-numbers-requires c κs = sums-asked (c .before .before .before .before .before .before .before .before .before .before .before .before .before .before .before .before .before .before .before .before .before .before .before .before .before .before .before .before .pre) (c .before .before .before .before .before .before .before .before .before .before .before .before .before .before .before .before .before .before .before .start-row .ensures) (c .before .before .before .before .before .before .before .before .before .before .before .before .before .before .before .next-arrivals .ensures) (c .before .before .before .before .before .before .before .before .before .before .before .before .loop .inv) (search needs) (c .before .before .before .before .before .before .before .read-row .ensures)
-
-same-length-5 : tie.Need-same-length-5 Inv-loop μ-loop
-same-length-5 c = search needs
-
-same-length-6 : tie.Need-same-length-6 Inv-loop μ-loop
-same-length-6 c = search needs
 
 same-length-7 : tie.Need-same-length-7 Inv-loop μ-loop
 same-length-7 c = omega (arith, c .before .before .before .before .before .before .before .before .before .before .before .before .before .before .before .before .loop .inv .rooms .curve-size, c .before .before .before .before .before .before .before .before .before .before .before .before .before .before .before .before .before .before .before .before .before .before .before .before .before .before .before .before .before .before .before .before .pre .rooms .curve-size)
@@ -78,32 +45,11 @@ same-length-8 c = omega (arith, c .before .before .before .before .before .befor
 returns-2 : tie.Need-returns-2 Inv-loop μ-loop
 returns-2 c = past-over (c .before .before .before .before .before .before .before .before .before .before .before .before .before .before .before .before .before .before .before .before .before .before .before .before .before .before .before .before .before .before .before .before .pre) (c .before .before .before .before .before .before .before .before .before .before .before .before .before .before .before .before .before .before .before .before .before .before .before .start-row .ensures) (c .before .before .before .before .before .before .before .before .before .before .before .before .before .before .before .before .before .before .before .next-arrivals .ensures) (c .before .before .before .before .before .before .before .before .before .before .before .before .before .before .before .before .loop .inv) (search needs) (c .before .before .before .before .before .before .before .before .before .before .before .read-row .ensures) (c .before .before .before .before .before .before .before .before .read .given .1) (c .before .before .before .add-numbers .ensures) (c .if2 .taken)
 
-slice-aggregate-keep-curves : tie.Need-slice-aggregate-keep-curves Inv-loop μ-loop
-slice-aggregate-keep-curves c = search needs
-
 keep-curves-requires : tie.Need-keep-curves-requires Inv-loop μ-loop
 keep-curves-requires c κs = keep-asked (c .before .before .before .before .before .before .before .before .before .before .before .before .before .before .before .before .before .before .before .before .before .before .before .before .before .before .before .before .before .before .before .before .before .before .before .before .before .pre) (c .before .before .before .before .before .before .before .before .before .before .before .before .before .before .before .before .before .before .before .before .before .before .before .before .before .before .before .before .start-row .ensures) (c .before .before .before .before .before .before .before .before .before .before .before .before .before .before .before .before .before .before .before .before .before .before .before .before .next-arrivals .ensures) (c .before .before .before .before .before .before .before .before .before .before .before .before .before .before .before .before .before .before .before .before .before .loop .inv) (search needs) (c .before .before .before .before .before .before .before .before .before .before .before .before .before .before .before .before .read-row .ensures) (c .before .before .before .before .before .before .before .before .before .before .before .before .before .read .given .1) (c .before .before .before .before .before .before .before .before .add-numbers .ensures) (c .before .before .before .before .before .if2 .left)
 
-add-m : tie.Need-add-m Inv-loop μ-loop
-add-m c = search needs
-
-loop-less : tie.Need-loop-less Inv-loop μ-loop
-loop-less c = search needs
-
 loop-again : tie.Need-loop-again Inv-loop μ-loop
 loop-again c = past-next-line (c .before .before .before .before .before .before .before .before .before .before .before .before .before .before .before .before .before .before .before .before .before .before .before .before .before .before .before .before .before .before .before .before .before .before .before .before .before .before .before .before .before .before .pre) (c .before .before .before .before .before .before .before .before .before .before .before .before .before .before .before .before .before .before .before .before .before .before .before .before .before .before .before .before .before .before .before .before .before .start-row .ensures) (c .before .before .before .before .before .before .before .before .before .before .before .before .before .before .before .before .before .before .before .before .before .before .before .before .before .before .before .before .before .next-arrivals .ensures) (c .before .before .before .before .before .before .before .before .before .before .before .before .before .before .before .before .before .before .before .before .before .before .before .before .before .before .loop .inv) (search needs) (c .before .before .before .before .before .before .before .before .before .before .before .before .before .before .before .before .before .before .before .before .before .read-row .ensures) (c .before .before .before .before .before .before .before .before .before .before .before .before .before .before .before .before .before .before .read .given .1) (c .before .before .before .before .before .before .before .before .before .before .before .before .before .add-numbers .ensures) (c .before .before .before .before .before .before .before .before .before .before .if2 .left) (c .before .before .before .before .keep-curves .ensures)
-
-same-length-9 : tie.Need-same-length-9 Inv-loop μ-loop
-same-length-9 c = search needs
-
-same-length-10 : tie.Need-same-length-10 Inv-loop μ-loop
-same-length-10 c = search needs
-
-same-length-11 : tie.Need-same-length-11 Inv-loop μ-loop
-same-length-11 c = search needs
-
-same-length-12 : tie.Need-same-length-12 Inv-loop μ-loop
-same-length-12 c = search needs
 
 returns-3 : tie.Need-returns-3 Inv-loop μ-loop
 returns-3 c = search (past-done, needs)
@@ -117,32 +63,32 @@ load-past-spec =
     start-row-requires
     next-arrivals-requires
     loop-holds
-    slice-aggregate-read-row
-    mul-read-row
-    add-read-row
-    read-row-requires
-    enum-known-read
-    enum-told
-    same-length
-    same-length-2
+    (λ c. search needs)
+    (λ c. search needs)
+    (λ c. search needs)
+    (λ c κs. search needs)
+    (λ c. search needs)
+    (λ c. search needs)
+    (λ c. search needs)
+    (λ c. search needs)
     same-length-3
     same-length-4
     returns
-    slice-aggregate-add-numbers
+    (λ c. search needs)
     mul-add-numbers
     add-numbers-requires
-    same-length-5
-    same-length-6
+    (λ c. search needs)
+    (λ c. search needs)
     same-length-7
     same-length-8
     returns-2
-    slice-aggregate-keep-curves
+    (λ c. search needs)
     keep-curves-requires
-    add-m
-    loop-less
+    (λ c. search needs)
+    (λ c. search needs)
     loop-again
-    same-length-9
-    same-length-10
-    same-length-11
-    same-length-12
+    (λ c. search needs)
+    (λ c. search needs)
+    (λ c. search needs)
+    (λ c. search needs)
     returns-3)

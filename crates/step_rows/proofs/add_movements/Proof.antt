@@ -17,9 +17,6 @@ abbrev μ-loop : tie.MeasureT-loop
 loop-holds : tie.Need-loop-holds Inv-loop μ-loop
 loop-holds c = (search needs, search added-none)
 
-moved-requires : tie.Need-moved-requires Inv-loop μ-loop
-moved-requires c κs = search needs
-
 link-index-requires : tie.Need-link-index-requires Inv-loop μ-loop
 link-index-requires c κs =
     let asked = c .before .before .before .before .before .before .before .pre in
@@ -60,19 +57,10 @@ add-at-requires-2 c κs =
     let l = c .before .before .before .before .before .before .before .before .before .before .loop in
     room-second (c .before .before .before .before .before .before .before .before .before .before .before .before .before .before .pre) (omega arith) (l .inv .1) _ _ _ (c .before .before .before .before .before .before .link-index .ensures) (c .before .before .before .before .before .link-index2 .ensures) (c .before .before .before .before .before .before .before .moved .ensures) _ (c .before .before .before .add-at .ensures)
 
-add-j : tie.Need-add-j Inv-loop μ-loop
-add-j c = search needs
-
-loop-less : tie.Need-loop-less Inv-loop μ-loop
-loop-less c = search needs
-
 loop-again : tie.Need-loop-again Inv-loop μ-loop
 loop-again c =
     let l = c .before .before .before .before .before .before .before .before .before .before .before .before .before .loop in
     (search needs, added-turn (c .before .before .before .before .before .before .before .before .before .before .before .before .before .before .before .before .before .pre) (omega arith) (l .inv .1) _ _ _ (c .before .before .before .before .before .before .before .before .before .link-index .ensures) (c .before .before .before .before .before .before .before .before .link-index2 .ensures) (c .before .before .before .before .before .before .before .before .before .before .moved .ensures) _ (c .before .before .before .before .before .before .add-at .ensures) _ (c .before .before .add-at2 .ensures))
-
-same-length : tie.Need-same-length Inv-loop μ-loop
-same-length c = search needs
 
 returns : tie.Need-returns Inv-loop μ-loop
 returns c =
@@ -87,7 +75,7 @@ add-movements-spec =
     Inv-loop
     μ-loop
     loop-holds
-    moved-requires
+    (λ c κs. search needs)
     link-index-requires
     mul-to
     link-index-requires-2
@@ -95,8 +83,8 @@ add-movements-spec =
     add-from
     add-at-requires
     add-at-requires-2
-    add-j
-    loop-less
+    (λ c. search needs)
+    (λ c. search needs)
     loop-again
-    same-length
+    (λ c. search needs)
     returns)

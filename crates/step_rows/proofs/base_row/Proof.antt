@@ -22,56 +22,17 @@ abbrev μ-loop : tie.MeasureT-loop
 loop-holds : tie.Need-loop-holds Inv-loop μ-loop
 loop-holds c = (search needs, begun-none _ _ _ 0, search needs)
 
-entered-requires : tie.Need-entered-requires Inv-loop μ-loop
-entered-requires c κs = search needs
-
-admitted-requires : tie.Need-admitted-requires Inv-loop μ-loop
-admitted-requires c κs = search needs
-
 add-row : tie.Need-add-row Inv-loop μ-loop
 add-row c = record { fits = search base-entered-fits }
-
-mul-row : tie.Need-mul-row Inv-loop μ-loop
-mul-row c = search needs
-
-mul-row-2 : tie.Need-mul-row-2 Inv-loop μ-loop
-mul-row-2 c = search needs
-
-slice-write-row : tie.Need-slice-write-row Inv-loop μ-loop
-slice-write-row c = search needs
-
-left-requires : tie.Need-left-requires Inv-loop μ-loop
-left-requires c κs = search needs
-
-let-out-requires : tie.Need-let-out-requires Inv-loop μ-loop
-let-out-requires c κs = search needs
 
 add-row-2 : tie.Need-add-row-2 Inv-loop μ-loop
 add-row-2 c = record { fits = search base-left-fits }
 
-mul-row-3 : tie.Need-mul-row-3 Inv-loop μ-loop
-mul-row-3 c = search needs
-
-add-row-3 : tie.Need-add-row-3 Inv-loop μ-loop
-add-row-3 c = search needs
-
-mul-row-4 : tie.Need-mul-row-4 Inv-loop μ-loop
-mul-row-4 c = search needs
-
 slice-write-row-2 : tie.Need-slice-write-row-2 Inv-loop μ-loop
 slice-write-row-2 c = rw length-set (search needs)
 
-add-i : tie.Need-add-i Inv-loop μ-loop
-add-i c = search needs
-
-loop-less : tie.Need-loop-less Inv-loop μ-loop
-loop-less c = search needs
-
 loop-again : tie.Need-loop-again Inv-loop μ-loop
 loop-again c = (search needs, search base-turn, simp length-set (search needs))
-
-same-length : tie.Need-same-length Inv-loop μ-loop
-same-length c = search needs
 
 returns : tie.Need-returns Inv-loop μ-loop
 returns c =
@@ -86,21 +47,21 @@ base-row-spec =
     Inv-loop
     μ-loop
     loop-holds
-    entered-requires
-    admitted-requires
+    (λ c κs. search needs)
+    (λ c κs. search needs)
     add-row
-    mul-row
-    mul-row-2
-    slice-write-row
-    left-requires
-    let-out-requires
+    (λ c. search needs)
+    (λ c. search needs)
+    (λ c. search needs)
+    (λ c κs. search needs)
+    (λ c κs. search needs)
     add-row-2
-    mul-row-3
-    add-row-3
-    mul-row-4
+    (λ c. search needs)
+    (λ c. search needs)
+    (λ c. search needs)
     slice-write-row-2
-    add-i
-    loop-less
+    (λ c. search needs)
+    (λ c. search needs)
     loop-again
-    same-length
+    (λ c. search needs)
     returns)

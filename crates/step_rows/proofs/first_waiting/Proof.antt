@@ -14,26 +14,8 @@ abbrev μ-loop : tie.MeasureT-loop
 loop-holds : tie.Need-loop-holds Inv-loop μ-loop
 loop-holds c = search first-begin
 
-waiting-at-start-requires : tie.Need-waiting-at-start-requires Inv-loop μ-loop
-waiting-at-start-requires c κs = search needs
-
-mul-waiting : tie.Need-mul-waiting Inv-loop μ-loop
-mul-waiting c = search needs
-
-slice-write-waiting : tie.Need-slice-write-waiting Inv-loop μ-loop
-slice-write-waiting c = search needs
-
-add-i : tie.Need-add-i Inv-loop μ-loop
-add-i c = search needs
-
-loop-less : tie.Need-loop-less Inv-loop μ-loop
-loop-less c = search needs
-
 loop-again : tie.Need-loop-again Inv-loop μ-loop
 loop-again c = search (first-more, needs)
-
-same-length : tie.Need-same-length Inv-loop μ-loop
-same-length c = search needs
 
 returns : tie.Need-returns Inv-loop μ-loop
 returns c = search first-all
@@ -45,11 +27,11 @@ first-waiting-spec =
     Inv-loop
     μ-loop
     loop-holds
-    waiting-at-start-requires
-    mul-waiting
-    slice-write-waiting
-    add-i
-    loop-less
+    (λ c κs. search needs)
+    (λ c. search needs)
+    (λ c. search needs)
+    (λ c. search needs)
+    (λ c. search needs)
     loop-again
-    same-length
+    (λ c. search needs)
     returns)

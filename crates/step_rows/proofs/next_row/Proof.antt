@@ -10,11 +10,8 @@ base-row-requires c κs = next-base _ _ _ _ _ (c .before .before .before .before
 add-movements-requires : tie.Need-add-movements-requires
 add-movements-requires c κs = next-room _ _ _ _ _ (c .before .before .before .before .before .before .before .before .before .pre) _ (c .before .before .before .base-row .ensures)
 
-same-length : tie.Need-same-length
-same-length c = search needs
-
 returns : tie.Need-returns
 returns c = next-is _ _ _ _ _ (c .before .before .before .before .before .before .before .before .before .before .before .before .pre) _ (c .before .before .before .before .before .before .base-row .ensures) _ (c .before .before .add-movements .ensures)
 
 pub next-row-spec : {M : Type 1} → statement M
-next-row-spec = tie.close (tie.spec base-row-requires add-movements-requires same-length returns)
+next-row-spec = tie.close (tie.spec base-row-requires add-movements-requires (λ c. search needs) returns)

@@ -14,38 +14,11 @@ abbrev μ-loop : tie.MeasureT-loop
 loop-holds : tie.Need-loop-holds Inv-loop μ-loop
 loop-holds c = search keeping-first
 
-add-waiting : tie.Need-add-waiting Inv-loop μ-loop
-add-waiting c = search needs
-
-mul-waiting : tie.Need-mul-waiting Inv-loop μ-loop
-mul-waiting c = search needs
-
-shared-slice-read-waiting : tie.Need-shared-slice-read-waiting Inv-loop μ-loop
-shared-slice-read-waiting c = search needs
-
-admitted-requires : tie.Need-admitted-requires Inv-loop μ-loop
-admitted-requires c κs = search needs
-
 sub-waiting : tie.Need-sub-waiting Inv-loop μ-loop
 sub-waiting c = search keeping-enough
 
-mul-waiting-2 : tie.Need-mul-waiting-2 Inv-loop μ-loop
-mul-waiting-2 c = search needs
-
-slice-write-waiting : tie.Need-slice-write-waiting Inv-loop μ-loop
-slice-write-waiting c = search needs
-
-add-i : tie.Need-add-i Inv-loop μ-loop
-add-i c = search needs
-
-loop-less : tie.Need-loop-less Inv-loop μ-loop
-loop-less c = search needs
-
 loop-again : tie.Need-loop-again Inv-loop μ-loop
 loop-again c = search keeping-more
-
-same-length : tie.Need-same-length Inv-loop μ-loop
-same-length c = search needs
 
 returns : tie.Need-returns Inv-loop μ-loop
 returns c = search keeping-all
@@ -57,15 +30,15 @@ next-waiting-spec =
     Inv-loop
     μ-loop
     loop-holds
-    add-waiting
-    mul-waiting
-    shared-slice-read-waiting
-    admitted-requires
+    (λ c. search needs)
+    (λ c. search needs)
+    (λ c. search needs)
+    (λ c κs. search needs)
     sub-waiting
-    mul-waiting-2
-    slice-write-waiting
-    add-i
-    loop-less
+    (λ c. search needs)
+    (λ c. search needs)
+    (λ c. search needs)
+    (λ c. search needs)
     loop-again
-    same-length
+    (λ c. search needs)
     returns)

@@ -18,32 +18,11 @@ abbrev μ-loop : tie.MeasureT-loop
 loop-holds : tie.Need-loop-holds Inv-loop μ-loop
 loop-holds c = (search needs, advanced-none _ _ _ _ (search needs))
 
-mul-step-on : tie.Need-mul-step-on Inv-loop μ-loop
-mul-step-on c = search needs
-
-shared-slice-read-step-on : tie.Need-shared-slice-read-step-on Inv-loop μ-loop
-shared-slice-read-step-on c = search needs
-
-mul-step-on-2 : tie.Need-mul-step-on-2 Inv-loop μ-loop
-mul-step-on-2 c = search needs
-
-shared-slice-read-step-on-2 : tie.Need-shared-slice-read-step-on-2 Inv-loop μ-loop
-shared-slice-read-step-on-2 c = search needs
-
 step-on-requires : tie.Need-step-on-requires Inv-loop μ-loop
 step-on-requires c κs = let w = c .before .before .before .before .loop in let start = c .before .before .before .before .before .before .before .before .pre in (record { size = w .inv .1 .size; few = omega (arith, start .few); ready = rw (w .inv .1 .kept (w .i) (le-refl _)) (start .ready (w .i) (omega arith)) }, start .short)
 
-add-i : tie.Need-add-i Inv-loop μ-loop
-add-i c = search needs
-
-loop-less : tie.Need-loop-less Inv-loop μ-loop
-loop-less c = search needs
-
 loop-again : tie.Need-loop-again Inv-loop μ-loop
 loop-again c = let w = c .before .before .before .before .before .before .before .loop in (search needs, advanced-more _ _ _ _ (w .i) (w .signals) _ (w .inv .1) (c .before .before .step-on .ensures))
-
-same-length : tie.Need-same-length Inv-loop μ-loop
-same-length c = search needs
 
 returns : tie.Need-returns Inv-loop μ-loop
 returns c = let w = c .before .loop in let e : w .i ≡ c .before .before .before .before .before .args .count = omega arith in rw e at (w .inv .1)
@@ -55,13 +34,13 @@ advance-spec =
     Inv-loop
     μ-loop
     loop-holds
-    mul-step-on
-    shared-slice-read-step-on
-    mul-step-on-2
-    shared-slice-read-step-on-2
+    (λ c. search needs)
+    (λ c. search needs)
+    (λ c. search needs)
+    (λ c. search needs)
     step-on-requires
-    add-i
-    loop-less
+    (λ c. search needs)
+    (λ c. search needs)
     loop-again
-    same-length
+    (λ c. search needs)
     returns)

@@ -3,14 +3,8 @@ use borrow.Author.Needs.{needs}
 use Rattle.step_signals.proofs.after.Statement.{statement}
 use Rattle.step_signals.proofs.after.Tie as tie
 
-shown-for-after-requires : tie.Need-shown-for-after-requires
-shown-for-after-requires c κs = search needs
-
-clock-after-requires : tie.Need-clock-after-requires
-clock-after-requires c κs = search needs
-
 returns : tie.Need-returns
 returns c = rw (c .clock-after .ensures, c .before .shown-for-after .ensures)
 
 pub after-spec : {M : Type 1} → statement M
-after-spec = tie.close (tie.spec shown-for-after-requires clock-after-requires returns)
+after-spec = tie.close (tie.spec (λ c κs. search needs) (λ c κs. search needs) returns)

@@ -6,15 +6,6 @@ use borrow.Author.Needs.{needs}
 use Rattle.step_signals.proofs.goes_on.Statement.{statement}
 use Rattle.step_signals.proofs.goes_on.Tie as tie
 
-signal-in-requires : tie.Need-signal-in-requires
-signal-in-requires c κs = search needs
-
-place-of-requires : tie.Need-place-of-requires
-place-of-requires c κs = search needs
-
-greatest-time-requires : tie.Need-greatest-time-requires
-greatest-time-requires c κs = search needs
-
 add-in-time : tie.Need-add-in-time
 add-in-time c = rw (c .before .before .before .before .signal-in .ensures) (let ready = c .before .before .before .before .before .before .pre .0 .ready in search needs)
 
@@ -29,9 +20,9 @@ pub goes-on-spec : {M : Type 1} → statement M
 goes-on-spec =
     tie.close
     (tie.spec
-    signal-in-requires
-    place-of-requires
-    greatest-time-requires
+    (λ c κs. search needs)
+    (λ c κs. search needs)
+    (λ c κs. search needs)
     add-in-time
     add-result
     returns)

@@ -17,29 +17,11 @@ abbrev μ-loop : tie.MeasureT-loop
 loop-holds : tie.Need-loop-holds Inv-loop μ-loop
 loop-holds c = (search needs, held-none _ _)
 
-shown-phase-requires : tie.Need-shown-phase-requires Inv-loop μ-loop
-shown-phase-requires c κs = search needs
-
 mask-of-requires : tie.Need-mask-of-requires Inv-loop μ-loop
 mask-of-requires c κs = omega (arith, c .shown-phase .ensures, c .before .before .before .before .before .pre .1 (c .before .before .loop .i) (omega arith) .shows-phase, c .before .before .before .before .before .pre .1 (c .before .before .loop .i) (omega arith) .few-phases)
 
-mul-line : tie.Need-mul-line Inv-loop μ-loop
-mul-line c = search needs
-
-slice-write-line : tie.Need-slice-write-line Inv-loop μ-loop
-slice-write-line c = search needs
-
-add-i : tie.Need-add-i Inv-loop μ-loop
-add-i c = search needs
-
-loop-less : tie.Need-loop-less Inv-loop μ-loop
-loop-less c = search needs
-
 loop-again : tie.Need-loop-again Inv-loop μ-loop
 loop-again c = let w = c .before .before .before .loop in (search needs, held-more _ _ (w .i) (w .line) (c .mask-of .result) (omega arith) (w .inv .1) (rw (c .before .shown-phase .ensures) at (c .mask-of .ensures)))
-
-same-length : tie.Need-same-length Inv-loop μ-loop
-same-length c = search needs
 
 returns : tie.Need-returns Inv-loop μ-loop
 returns c = let w = c .before .loop in let e : w .i ≡ c .before .before .before .before .args .count = omega arith in rw e at (w .inv .1)
@@ -51,12 +33,12 @@ hold-masks-spec =
     Inv-loop
     μ-loop
     loop-holds
-    shown-phase-requires
+    (λ c κs. search needs)
     mask-of-requires
-    mul-line
-    slice-write-line
-    add-i
-    loop-less
+    (λ c. search needs)
+    (λ c. search needs)
+    (λ c. search needs)
+    (λ c. search needs)
     loop-again
-    same-length
+    (λ c. search needs)
     returns)

@@ -5,15 +5,6 @@ use borrow.Author.Needs.{needs}
 use Rattle.step_signals.proofs.keeps_all.Statement.{statement}
 use Rattle.step_signals.proofs.keeps_all.Tie as tie
 
-shown-for-after-requires : tie.Need-shown-for-after-requires
-shown-for-after-requires c κs = search needs
-
-keeps-order-requires : tie.Need-keeps-order-requires
-keeps-order-requires c κs = search needs
-
-keeps-cycle-requires : tie.Need-keeps-cycle-requires
-keeps-cycle-requires c κs = search needs
-
 returns : tie.Need-returns
 unfolding keepsAll _and_ _or_
 returns c =
@@ -24,7 +15,7 @@ pub keeps-all-spec : {M : Type 1} → statement M
 keeps-all-spec =
     tie.close
     (tie.spec
-    shown-for-after-requires
-    keeps-order-requires
-    keeps-cycle-requires
+    (λ c κs. search needs)
+    (λ c κs. search needs)
+    (λ c κs. search needs)
     returns)

@@ -3,18 +3,6 @@ use borrow.Author.Needs.{needs}
 use Rattle.step_signals.proofs.keeps_greatest_time.Statement.{statement}
 use Rattle.step_signals.proofs.keeps_greatest_time.Tie as tie
 
-place-of-requires : tie.Need-place-of-requires
-place-of-requires c κs = search needs
-
-shown-for-after-requires : tie.Need-shown-for-after-requires
-shown-for-after-requires c κs = search needs
-
-mul-result : tie.Need-mul-result
-mul-result c = search needs
-
-element-copy-out-result : tie.Need-element-copy-out-result
-element-copy-out-result c = search needs
-
 returns : tie.Need-returns
 returns c = rw (c .before .shown-for-after .ensures, c .before .before .place-of .ensures)
 
@@ -22,8 +10,8 @@ pub keeps-greatest-time-spec : {M : Type 1} → statement M
 keeps-greatest-time-spec =
     tie.close
     (tie.spec
-    place-of-requires
-    shown-for-after-requires
-    mul-result
-    element-copy-out-result
+    (λ c κs. search needs)
+    (λ c κs. search needs)
+    (λ c. search needs)
+    (λ c. search needs)
     returns)

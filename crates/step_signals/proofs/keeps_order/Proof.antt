@@ -3,11 +3,8 @@ use borrow.Author.Needs.{needs}
 use Rattle.step_signals.proofs.keeps_order.Statement.{statement}
 use Rattle.step_signals.proofs.keeps_order.Tie as tie
 
-next-phase-requires : tie.Need-next-phase-requires
-next-phase-requires c κs = search needs
-
 returns : tie.Need-returns
 returns c = rw (c .next-phase .ensures)
 
 pub keeps-order-spec : {M : Type 1} → statement M
-keeps-order-spec = tie.close (tie.spec next-phase-requires returns)
+keeps-order-spec = tie.close (tie.spec (λ c κs. search needs) returns)

@@ -17,18 +17,6 @@ abbrev μ-loop : tie.MeasureT-loop
 loop-holds : tie.Need-loop-holds Inv-loop μ-loop
 loop-holds c = (omega arith, λ r l. absurd (omega arith))
 
-mul-signal-keeps : tie.Need-mul-signal-keeps Inv-loop μ-loop
-mul-signal-keeps c = search needs
-
-shared-slice-read-signal-keeps : tie.Need-shared-slice-read-signal-keeps Inv-loop μ-loop
-shared-slice-read-signal-keeps c = search needs
-
-mul-signal-keeps-2 : tie.Need-mul-signal-keeps-2 Inv-loop μ-loop
-mul-signal-keeps-2 c = search needs
-
-shared-slice-read-signal-keeps-2 : tie.Need-shared-slice-read-signal-keeps-2 Inv-loop μ-loop
-shared-slice-read-signal-keeps-2 c = search needs
-
 signal-keeps-requires : tie.Need-signal-keeps-requires Inv-loop μ-loop
 signal-keeps-requires c κs =
     let i = c .before .before .before .loop .r in
@@ -37,12 +25,6 @@ signal-keeps-requires c κs =
 
 returns : tie.Need-returns Inv-loop μ-loop
 returns c = λ e. let z : _≡_ {A = ℕ} 0 1 = cc in absurd (omega arith)
-
-add-r : tie.Need-add-r Inv-loop μ-loop
-add-r c = search needs
-
-loop-less : tie.Need-loop-less Inv-loop μ-loop
-loop-less c = search needs
 
 loop-again : tie.Need-loop-again Inv-loop μ-loop
 loop-again c =
@@ -62,13 +44,13 @@ keeps-signal-rules-spec =
     Inv-loop
     μ-loop
     loop-holds
-    mul-signal-keeps
-    shared-slice-read-signal-keeps
-    mul-signal-keeps-2
-    shared-slice-read-signal-keeps-2
+    (λ c. search needs)
+    (λ c. search needs)
+    (λ c. search needs)
+    (λ c. search needs)
     signal-keeps-requires
     returns
-    add-r
-    loop-less
+    (λ c. search needs)
+    (λ c. search needs)
     loop-again
     returns-2)

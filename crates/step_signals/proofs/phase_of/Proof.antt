@@ -4,9 +4,6 @@ use borrow.Author.Needs.{needs}
 use Rattle.step_signals.proofs.phase_of.Statement.{statement}
 use Rattle.step_signals.proofs.phase_of.Tie as tie
 
-add-result : tie.Need-add-result
-add-result c = search needs
-
 returns : tie.Need-returns
 returns c = phase-one 32 _ _ (c .before .before .fits .mask .fits) (c .before .if1 .taken) (c .if2 .taken)
 
@@ -17,4 +14,4 @@ returns-3 : tie.Need-returns-3
 returns-3 c = phase-many _ _ (c .if1 .left)
 
 pub phase-of-spec : {M : Type 1} → statement M
-phase-of-spec = tie.close (tie.spec add-result returns returns-2 returns-3)
+phase-of-spec = tie.close (tie.spec (λ c. search needs) returns returns-2 returns-3)

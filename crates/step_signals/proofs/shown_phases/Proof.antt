@@ -17,35 +17,8 @@ abbrev μ-loop : tie.MeasureT-loop
 loop-holds : tie.Need-loop-holds Inv-loop μ-loop
 loop-holds c = (search needs, shown-none _ _ _ (search needs))
 
-mul-phase-of : tie.Need-mul-phase-of Inv-loop μ-loop
-mul-phase-of c = search needs
-
-shared-slice-read-phase-of : tie.Need-shared-slice-read-phase-of Inv-loop μ-loop
-shared-slice-read-phase-of c = search needs
-
-phase-count-requires : tie.Need-phase-count-requires Inv-loop μ-loop
-phase-count-requires c κs = search needs
-
-phase-of-requires : tie.Need-phase-of-requires Inv-loop μ-loop
-phase-of-requires c κs = search needs
-
-mul-phases : tie.Need-mul-phases Inv-loop μ-loop
-mul-phases c = search needs
-
-slice-write-phases : tie.Need-slice-write-phases Inv-loop μ-loop
-slice-write-phases c = search needs
-
-add-i : tie.Need-add-i Inv-loop μ-loop
-add-i c = search needs
-
-loop-less : tie.Need-loop-less Inv-loop μ-loop
-loop-less c = search needs
-
 loop-again : tie.Need-loop-again Inv-loop μ-loop
 loop-again c = let w = c .before .before .before .before .loop in (search needs, shown-more _ _ _ (w .i) (w .phases) (c .phase-of .result) (omega arith) (w .inv .1) (rw (c .before .phase-count .ensures) at (c .phase-of .ensures)))
-
-same-length : tie.Need-same-length Inv-loop μ-loop
-same-length c = search needs
 
 returns : tie.Need-returns Inv-loop μ-loop
 returns c = let w = c .before .loop in let e : w .i ≡ c .before .before .before .before .before .args .count = omega arith in rw e at (w .inv .1)
@@ -57,14 +30,14 @@ shown-phases-spec =
     Inv-loop
     μ-loop
     loop-holds
-    mul-phase-of
-    shared-slice-read-phase-of
-    phase-count-requires
-    phase-of-requires
-    mul-phases
-    slice-write-phases
-    add-i
-    loop-less
+    (λ c. search needs)
+    (λ c. search needs)
+    (λ c κs. search needs)
+    (λ c κs. search needs)
+    (λ c. search needs)
+    (λ c. search needs)
+    (λ c. search needs)
+    (λ c. search needs)
     loop-again
-    same-length
+    (λ c. search needs)
     returns)

@@ -5,26 +5,14 @@ use borrow.Author.Needs.{needs}
 use Rattle.step_signals.proofs.signal_keeps.Statement.{statement}
 use Rattle.step_signals.proofs.signal_keeps.Tie as tie
 
-goes-on-requires : tie.Need-goes-on-requires
-goes-on-requires c κs = search needs
-
 returns : tie.Need-returns
 returns c = sym (goes-keeps _ _ _ _ (sym (c .before .goes-on .ensures) ∙ c .if1 .taken))
-
-signal-in-requires : tie.Need-signal-in-requires
-signal-in-requires c κs = search needs
-
-place-of-requires : tie.Need-place-of-requires
-place-of-requires c κs = search needs
 
 least-time-requires : tie.Need-least-time-requires
 least-time-requires c κs =
     let shown = c .place-of .ensures in
     let ready = rw (← c .before .signal-in .ensures) at (c .before .before .before .before .before .pre .0 .ready) in
     search needs
-
-place-of-requires-2 : tie.Need-place-of-requires-2
-place-of-requires-2 c κs = search needs
 
 greatest-time-requires : tie.Need-greatest-time-requires
 greatest-time-requires c κs = let phase = c .place-of2 .ensures in search needs
@@ -42,4 +30,4 @@ returns-2 c = rw (c .keeps-all .ensures, c .before .before .before .before .befo
 
 pub signal-keeps-spec : {M : Type 1} → statement M
 signal-keeps-spec =
-    tie.close (tie.spec goes-on-requires returns signal-in-requires place-of-requires least-time-requires place-of-requires-2 greatest-time-requires keeps-all-requires returns-2)
+    tie.close (tie.spec (λ c κs. search needs) returns (λ c κs. search needs) (λ c κs. search needs) least-time-requires (λ c κs. search needs) greatest-time-requires keeps-all-requires returns-2)

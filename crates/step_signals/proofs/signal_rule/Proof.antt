@@ -5,21 +5,6 @@ use borrow.Author.Needs.{needs}
 use Rattle.step_signals.proofs.signal_rule.Statement.{statement}
 use Rattle.step_signals.proofs.signal_rule.Tie as tie
 
-signal-in-requires : tie.Need-signal-in-requires
-signal-in-requires c κs = search needs
-
-mul-signal-test : tie.Need-mul-signal-test
-mul-signal-test c = search needs
-
-shared-slice-read-signal-test : tie.Need-shared-slice-read-signal-test
-shared-slice-read-signal-test c = search needs
-
-mul-signal-test-2 : tie.Need-mul-signal-test-2
-mul-signal-test-2 c = search needs
-
-shared-slice-read-signal-test-2 : tie.Need-shared-slice-read-signal-test-2
-shared-slice-read-signal-test-2 c = search needs
-
 signal-test-requires : tie.Need-signal-test-requires
 signal-test-requires c κs =
     let s = c .before .before .before .before .before .before in
@@ -34,10 +19,10 @@ pub signal-rule-spec : {M : Type 1} → statement M
 signal-rule-spec =
     tie.close
     (tie.spec
-    signal-in-requires
-    mul-signal-test
-    shared-slice-read-signal-test
-    mul-signal-test-2
-    shared-slice-read-signal-test-2
+    (λ c κs. search needs)
+    (λ c. search needs)
+    (λ c. search needs)
+    (λ c. search needs)
+    (λ c. search needs)
     signal-test-requires
     returns)

@@ -7,18 +7,6 @@ use borrow.Author.Needs.{needs}
 use Rattle.step_signals.proofs.signal_test.Statement.{statement}
 use Rattle.step_signals.proofs.signal_test.Tie as tie
 
-keeps-order-requires : tie.Need-keeps-order-requires
-keeps-order-requires c κs = search needs
-
-keeps-least-time-requires : tie.Need-keeps-least-time-requires
-keeps-least-time-requires c κs = search needs
-
-keeps-greatest-time-requires : tie.Need-keeps-greatest-time-requires
-keeps-greatest-time-requires c κs = search needs
-
-keeps-cycle-requires : tie.Need-keeps-cycle-requires
-keeps-cycle-requires c κs = search needs
-
 returns : tie.Need-returns
 unfolding signalTest
 returns c = rw (c .match .keys1)
@@ -50,10 +38,10 @@ pub signal-test-spec : {M : Type 1} → statement M
 signal-test-spec =
     tie.close
     (tie.spec
-    keeps-order-requires
-    keeps-least-time-requires
-    keeps-greatest-time-requires
-    keeps-cycle-requires
+    (λ c κs. search needs)
+    (λ c κs. search needs)
+    (λ c κs. search needs)
+    (λ c κs. search needs)
     returns
     returns-2
     returns-3

@@ -4,17 +4,8 @@ use borrow.Author.Needs.{needs}
 use Rattle.step_signals.proofs.step_on.Statement.{statement}
 use Rattle.step_signals.proofs.step_on.Tie as tie
 
-signal-in-requires : tie.Need-signal-in-requires
-signal-in-requires c κs = search needs
-
 after-requires : tie.Need-after-requires
 after-requires c κs = (rw (c .signal-in .ensures) (c .before .before .before .before .pre .0 .ready), c .before .before .before .before .pre .1)
-
-show-requires : tie.Need-show-requires
-show-requires c κs = search needs
-
-same-length : tie.Need-same-length
-same-length c = search needs
 
 returns : tie.Need-returns
 returns c = search (signal-on, needs)
@@ -25,4 +16,4 @@ returns-2 c = search (signal-still, needs)
 pub step-on-spec : {M : Type 1} → statement M
 step-on-spec =
     tie.close
-    (tie.spec signal-in-requires after-requires show-requires same-length returns returns-2)
+    (tie.spec (λ c κs. search needs) after-requires (λ c κs. search needs) (λ c. search needs) returns returns-2)

@@ -4,26 +4,8 @@ use borrow.Author.Needs.{needs}
 use Rattle.step_sums.proofs.entered_after.Statement.{statement}
 use Rattle.step_sums.proofs.entered_after.Tie as tie
 
-mul-result : tie.Need-mul-result
-mul-result c = search needs
-
-add-result : tie.Need-add-result
-add-result c = search needs
-
-mul-result-2 : tie.Need-mul-result-2
-mul-result-2 c = search needs
-
-shared-slice-read-result : tie.Need-shared-slice-read-result
-shared-slice-read-result c = search needs
-
 returns : tie.Need-returns
 returns c = search (after-past, needs)
-
-add-after : tie.Need-add-after
-add-after c = search needs
-
-entered-requires : tie.Need-entered-requires
-entered-requires c κs = search needs
 
 returns-2 : tie.Need-returns-2
 returns-2 c = search (after-last, needs)
@@ -38,13 +20,13 @@ pub entered-after-spec : {M : Type 1} → statement M
 entered-after-spec =
     tie.close
     (tie.spec
-    mul-result
-    add-result
-    mul-result-2
-    shared-slice-read-result
+    (λ c. search needs)
+    (λ c. search needs)
+    (λ c. search needs)
+    (λ c. search needs)
     returns
-    add-after
-    entered-requires
+    (λ c. search needs)
+    (λ c κs. search needs)
     returns-2
     entered-at-requires
     returns-3)

@@ -4,15 +4,6 @@ use borrow.Author.Needs.{needs}
 use Rattle.step_sums.proofs.entered_before.Statement.{statement}
 use Rattle.step_sums.proofs.entered_before.Tie as tie
 
-mul-result : tie.Need-mul-result
-mul-result c = search needs
-
-mul-result-2 : tie.Need-mul-result-2
-mul-result-2 c = search needs
-
-shared-slice-read-result : tie.Need-shared-slice-read-result
-shared-slice-read-result c = search needs
-
 returns : tie.Need-returns
 returns c = search (before-past, needs)
 
@@ -26,9 +17,9 @@ pub entered-before-spec : {M : Type 1} → statement M
 entered-before-spec =
     tie.close
     (tie.spec
-    mul-result
-    mul-result-2
-    shared-slice-read-result
+    (λ c. search needs)
+    (λ c. search needs)
+    (λ c. search needs)
     returns
     entered-at-requires
     returns-2)

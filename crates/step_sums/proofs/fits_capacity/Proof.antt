@@ -9,27 +9,6 @@ use borrow.Author.Needs.{needs}
 use Rattle.step_sums.proofs.fits_capacity.Statement.{statement}
 use Rattle.step_sums.proofs.fits_capacity.Tie as tie
 
-entered-requires : tie.Need-entered-requires
-entered-requires c κs = search needs
-
-wide-requires : tie.Need-wide-requires
-wide-requires c κs = search needs
-
-capacity-requires : tie.Need-capacity-requires
-capacity-requires c κs = search needs
-
-wide-requires-2 : tie.Need-wide-requires-2
-wide-requires-2 c κs = search needs
-
-left-requires : tie.Need-left-requires
-left-requires c κs = search needs
-
-wide-requires-3 : tie.Need-wide-requires-3
-wide-requires-3 c κs = search needs
-
-add-result : tie.Need-add-result
-add-result c = search needs
-
 returns : tie.Need-returns
 unfolding fitsCapacity
 returns c =
@@ -41,11 +20,11 @@ pub fits-capacity-spec : {M : Type 1} → statement M
 fits-capacity-spec =
     tie.close
     (tie.spec
-    entered-requires
-    wide-requires
-    capacity-requires
-    wide-requires-2
-    left-requires
-    wide-requires-3
-    add-result
+    (λ c κs. search needs)
+    (λ c κs. search needs)
+    (λ c κs. search needs)
+    (λ c κs. search needs)
+    (λ c κs. search needs)
+    (λ c κs. search needs)
+    (λ c. search needs)
     returns)

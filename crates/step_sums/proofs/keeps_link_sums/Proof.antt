@@ -18,23 +18,11 @@ abbrev μ-loop : tie.MeasureT-loop
 loop-holds : tie.Need-loop-holds Inv-loop μ-loop
 loop-holds c = (omega arith, λ i l. absurd (omega arith))
 
-fits-capacity-requires : tie.Need-fits-capacity-requires Inv-loop μ-loop
-fits-capacity-requires c κs = search needs
-
 returns : tie.Need-returns Inv-loop μ-loop
 returns c = λ e. let z : _≡_ {A = ℕ} 0 1 = cc in absurd (omega arith)
 
-leaves-arrived-requires : tie.Need-leaves-arrived-requires Inv-loop μ-loop
-leaves-arrived-requires c κs = search needs
-
 returns-2 : tie.Need-returns-2 Inv-loop μ-loop
 returns-2 c = λ e. let z : _≡_ {A = ℕ} 0 1 = cc in absurd (omega arith)
-
-add-i : tie.Need-add-i Inv-loop μ-loop
-add-i c = search needs
-
-loop-less : tie.Need-loop-less Inv-loop μ-loop
-loop-less c = search needs
 
 loop-again : tie.Need-loop-again Inv-loop μ-loop
 loop-again c =
@@ -54,11 +42,11 @@ keeps-link-sums-spec =
     Inv-loop
     μ-loop
     loop-holds
-    fits-capacity-requires
+    (λ c κs. search needs)
     returns
-    leaves-arrived-requires
+    (λ c κs. search needs)
     returns-2
-    add-i
-    loop-less
+    (λ c. search needs)
+    (λ c. search needs)
     loop-again
     returns-3)

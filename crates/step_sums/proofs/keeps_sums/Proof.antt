@@ -13,12 +13,9 @@ keeps-link-sums-requires c κs = let asked = c .before .before .before .before .
 returns : tie.Need-returns
 returns c = λ e. let z : _≡_ {A = ℕ} 0 1 = cc in absurd (omega arith)
 
-keeps-shares-requires : tie.Need-keeps-shares-requires
-keeps-shares-requires c κs = search needs
-
 returns-2 : tie.Need-returns-2
 returns-2 c = λ t. record { of-movements = c .keeps-shares .ensures t; of-links = c .before .before .keeps-link-sums .ensures (not-false _ (c .before .if1 .left)) }
 
 pub keeps-sums-spec : {M : Type 1} → statement M
 keeps-sums-spec =
-    tie.close (tie.spec keeps-link-sums-requires returns keeps-shares-requires returns-2)
+    tie.close (tie.spec keeps-link-sums-requires returns (λ c κs. search needs) returns-2)

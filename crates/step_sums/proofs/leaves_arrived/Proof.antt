@@ -5,17 +5,8 @@ use borrow.Author.Needs.{needs}
 use Rattle.step_sums.proofs.leaves_arrived.Statement.{statement}
 use Rattle.step_sums.proofs.leaves_arrived.Tie as tie
 
-mul-step : tie.Need-mul-step
-mul-step c = search needs
-
-shared-slice-read-step : tie.Need-shared-slice-read-step
-shared-slice-read-step c = search needs
-
 entered-before-requires : tie.Need-entered-before-requires
 entered-before-requires c κs = (c .before .before .before .before .before .before .before .pre .0 .held, (c .before .before .before .before .before .before .before .pre .0 .before (c .before .before .before .before .before .before .before .args .i) (c .before .before .before .before .before .before .before .pre .1), c .before .before .before .before .before .before .before .pre .1))
-
-left-requires : tie.Need-left-requires
-left-requires c κs = search needs
 
 returns : tie.Need-returns
 returns c = arrived-before _ _ _ _ _ _ _ _ _ (c .before .left .ensures) (c .before .before .entered-before .ensures) (c .if1 .taken)
@@ -26,17 +17,8 @@ entered-after-requires c κs = (c .before .before .before .before .before .befor
 seconds-requires : tie.Need-seconds-requires
 seconds-requires c κs = let h = c .before .before .before .before .before .before .before .before .before .before .before .pre .0 .before (c .before .before .before .before .before .before .before .before .before .before .before .args .i) (c .before .before .before .before .before .before .before .before .before .before .before .pre .1) in search needs
 
-add-elapsed : tie.Need-add-elapsed
-add-elapsed c = search needs
-
-travel-time-requires : tie.Need-travel-time-requires
-travel-time-requires c κs = search needs
-
 elapsed-requires : tie.Need-elapsed-requires
 elapsed-requires c κs = let h = c .before .before .before .before .before .before .before .before .before .before .before .before .before .before .pre .0 .before (c .before .before .before .before .before .before .before .before .before .before .before .before .before .before .args .i) (c .before .before .before .before .before .before .before .before .before .before .before .before .before .before .pre .1) in search needs
-
-times-requires : tie.Need-times-requires
-times-requires c κs = search needs
 
 scaled-arrived-requires : tie.Need-scaled-arrived-requires
 scaled-arrived-requires c κs = let h = c .before .before .before .before .before .before .before .before .before .before .before .before .before .before .before .before .pre .0 .before (c .before .before .before .before .before .before .before .before .before .before .before .before .before .before .before .before .args .i) (c .before .before .before .before .before .before .before .before .before .before .before .before .before .before .before .before .pre .1) in (seconds-small (c .before .before .before .before .before .before .before .before .before .before .before .before .before .before .before .before .pre .0 .rising) _ h (c .before .before .before .before .seconds .ensures), elapsed-small (c .before .before .before .before .before .before .before .before .before .before .before .before .before .before .before .before .pre .0 .rising) _ _ (c .before .elapsed .ensures))
@@ -49,16 +31,16 @@ pub leaves-arrived-spec : {M : Type 1} → statement M
 leaves-arrived-spec =
     tie.close
     (tie.spec
-    mul-step
-    shared-slice-read-step
+    (λ c. search needs)
+    (λ c. search needs)
     entered-before-requires
-    left-requires
+    (λ c κs. search needs)
     returns
     entered-after-requires
     seconds-requires
-    add-elapsed
-    travel-time-requires
+    (λ c. search needs)
+    (λ c κs. search needs)
     elapsed-requires
-    times-requires
+    (λ c κs. search needs)
     scaled-arrived-requires
     returns-2)

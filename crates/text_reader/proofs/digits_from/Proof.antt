@@ -15,26 +15,11 @@ abbrev μ-loop : tie.MeasureT-loop
 loop-holds : tie.Need-loop-holds Inv-loop μ-loop
 loop-holds c = search (saying-none, needs)
 
-shared-slice-read-is-separator : tie.Need-shared-slice-read-is-separator Inv-loop μ-loop
-shared-slice-read-is-separator c = search needs
-
-is-separator-requires : tie.Need-is-separator-requires Inv-loop μ-loop
-is-separator-requires c κs = search needs
-
 returns : tie.Need-returns Inv-loop μ-loop
 returns c = search rest-stop
 
 returns-2 : tie.Need-returns-2 Inv-loop μ-loop
 returns-2 c = search rest-full
-
-shared-slice-read-wide : tie.Need-shared-slice-read-wide Inv-loop μ-loop
-shared-slice-read-wide c = search needs
-
-wide-requires : tie.Need-wide-requires Inv-loop μ-loop
-wide-requires c κs = search needs
-
-is-digit-requires : tie.Need-is-digit-requires Inv-loop μ-loop
-is-digit-requires c κs = search needs
 
 returns-3 : tie.Need-returns-3 Inv-loop μ-loop
 returns-3 c = search rest-not
@@ -47,15 +32,6 @@ returns-4 c = search rest-big
 
 shifted-requires : tie.Need-shifted-requires Inv-loop μ-loop
 shifted-requires c κs = (search digit-low, has-room _ _ (c .before .has-room .ensures) (c .if4 .left))
-
-sub-more : tie.Need-sub-more Inv-loop μ-loop
-sub-more c = search needs
-
-add-i : tie.Need-add-i Inv-loop μ-loop
-add-i c = search needs
-
-loop-less : tie.Need-loop-less Inv-loop μ-loop
-loop-less c = search needs
 
 loop-again : tie.Need-loop-again Inv-loop μ-loop
 loop-again c =
@@ -72,19 +48,19 @@ digits-from-spec =
     Inv-loop
     μ-loop
     loop-holds
-    shared-slice-read-is-separator
-    is-separator-requires
+    (λ c. search needs)
+    (λ c κs. search needs)
     returns
     returns-2
-    shared-slice-read-wide
-    wide-requires
-    is-digit-requires
+    (λ c. search needs)
+    (λ c κs. search needs)
+    (λ c κs. search needs)
     returns-3
     has-room-requires
     returns-4
     shifted-requires
-    sub-more
-    add-i
-    loop-less
+    (λ c. search needs)
+    (λ c. search needs)
+    (λ c. search needs)
     loop-again
     returns-5)

@@ -7,15 +7,9 @@ use Rattle.text_reader.proofs.ends_at.Tie as tie
 returns : tie.Need-returns
 returns c = search ends-past
 
-shared-slice-read-is-separator : tie.Need-shared-slice-read-is-separator
-shared-slice-read-is-separator c = search needs
-
-is-separator-requires : tie.Need-is-separator-requires
-is-separator-requires c κs = search needs
-
 returns-2 : tie.Need-returns-2
 returns-2 c = search ends-test
 
 pub ends-at-spec : {M : Type 1} → statement M
 ends-at-spec =
-    tie.close (tie.spec returns shared-slice-read-is-separator is-separator-requires returns-2)
+    tie.close (tie.spec returns (λ c. search needs) (λ c κs. search needs) returns-2)

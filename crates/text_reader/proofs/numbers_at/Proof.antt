@@ -6,38 +6,23 @@ use Rattle.text_reader.proofs.Sentinel.{sentinel-tab, sentinel-last, se
 use Rattle.text_reader.proofs.numbers_at.Statement.{statement}
 use Rattle.text_reader.proofs.numbers_at.Tie as tie
 
-starts-with-requires : tie.Need-starts-with-requires
-starts-with-requires c κs = search needs
-
 returns : tie.Need-returns
 returns c = search (as-other, needs)
 
 add-end : tie.Need-add-end
 add-end c = omega (arith, starts-within _ _ _ _ (c .before .starts-with .ensures) (c .if1 .left))
 
-tab-before-sentinel-requires : tie.Need-tab-before-sentinel-requires
-tab-before-sentinel-requires c κs = search needs
-
 sentinel-numbers-at-requires : tie.Need-sentinel-numbers-at-requires
 sentinel-numbers-at-requires c κs = (search sentinel-stops, (search sentinel-tab, search sentinel-last))
 
-same-length : tie.Need-same-length
-same-length c = search needs
-
 returns-2 : tie.Need-returns-2
 returns-2 c = search (as-sentinel, needs)
-
-ends-at-requires : tie.Need-ends-at-requires
-ends-at-requires c κs = search needs
 
 returns-3 : tie.Need-returns-3
 returns-3 c = search (as-long, needs)
 
 guarded-numbers-at-requires : tie.Need-guarded-numbers-at-requires
 guarded-numbers-at-requires c κs = search as-stops
-
-same-length-2 : tie.Need-same-length-2
-same-length-2 c = search needs
 
 returns-4 : tie.Need-returns-4
 returns-4 c = search (as-guarded, needs)
@@ -46,15 +31,15 @@ pub numbers-at-spec : {M : Type 1} → statement M
 numbers-at-spec =
     tie.close
     (tie.spec
-    starts-with-requires
+    (λ c κs. search needs)
     returns
     add-end
-    tab-before-sentinel-requires
+    (λ c κs. search needs)
     sentinel-numbers-at-requires
-    same-length
+    (λ c. search needs)
     returns-2
-    ends-at-requires
+    (λ c κs. search needs)
     returns-3
     guarded-numbers-at-requires
-    same-length-2
+    (λ c. search needs)
     returns-4)

@@ -11,9 +11,6 @@ add-start c = let a = c .before .args in omega (arith, tab-goes-on (a .text .now
 sentinel-digits-from-requires : tie.Need-sentinel-digits-from-requires
 sentinel-digits-from-requires c κs = (search tab-goes-on, search needs)
 
-enum-known-value : tie.Need-enum-known-value
-enum-known-value c = search needs
-
 returns : tie.Need-returns
 returns c = search ends-empty
 
@@ -29,9 +26,6 @@ shared-slice-read-if3 c = search (ends-within, needs)
 returns-3 : tie.Need-returns-3
 returns-3 c = search ends-feed
 
-enum-told : tie.Need-enum-told
-enum-told c = search needs
-
 returns-4 : tie.Need-returns-4
 returns-4 c = search (ends-other, ends-absent)
 
@@ -44,12 +38,12 @@ sentinel-tabbed-at-spec =
     (tie.spec
     add-start
     sentinel-digits-from-requires
-    enum-known-value
+    (λ c. search needs)
     returns
     shared-slice-read-if2
     returns-2
     shared-slice-read-if3
     returns-3
-    enum-told
+    (λ c. search needs)
     returns-4
     returns-5)

@@ -7,17 +7,11 @@ use Rattle.text_reader.proofs.starts_with.Tie as tie
 returns : tie.Need-returns
 returns c = search starts-past
 
-is-separator-requires : tie.Need-is-separator-requires
-is-separator-requires c κs = search needs
-
 returns-2 : tie.Need-returns-2
 returns-2 c = search starts-separator
-
-shared-slice-read-result : tie.Need-shared-slice-read-result
-shared-slice-read-result c = search needs
 
 returns-3 : tie.Need-returns-3
 returns-3 c = search starts-test
 
 pub starts-with-spec : {M : Type 1} → statement M
-starts-with-spec = tie.close (tie.spec returns is-separator-requires returns-2 shared-slice-read-result returns-3)
+starts-with-spec = tie.close (tie.spec returns (λ c κs. search needs) returns-2 (λ c. search needs) returns-3)

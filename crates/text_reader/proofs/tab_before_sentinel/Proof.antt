@@ -7,15 +7,6 @@ use Rattle.text_reader.proofs.tab_before_sentinel.Tie as tie
 returns : tie.Need-returns
 returns c = search sentinel-past
 
-shared-slice-read-if2 : tie.Need-shared-slice-read-if2
-shared-slice-read-if2 c = search needs
-
-sub-result : tie.Need-sub-result
-sub-result c = search needs
-
-shared-slice-read-result : tie.Need-shared-slice-read-result
-shared-slice-read-result c = search needs
-
 returns-2 : tie.Need-returns-2
 returns-2 c = search sentinel-test
 
@@ -23,4 +14,4 @@ returns-3 : tie.Need-returns-3
 returns-3 c = search sentinel-other
 
 pub tab-before-sentinel-spec : {M : Type 1} → statement M
-tab-before-sentinel-spec = tie.close (tie.spec returns shared-slice-read-if2 sub-result shared-slice-read-result returns-2 returns-3)
+tab-before-sentinel-spec = tie.close (tie.spec returns (λ c. search needs) (λ c. search needs) (λ c. search needs) returns-2 returns-3)

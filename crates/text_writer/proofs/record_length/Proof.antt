@@ -15,26 +15,11 @@ abbrev μ-loop : tie.MeasureT-loop
 loop-holds : tie.Need-loop-holds Inv-loop μ-loop
 loop-holds c = search measured-none
 
-mul-digit-count : tie.Need-mul-digit-count Inv-loop μ-loop
-mul-digit-count c = search needs
-
-shared-slice-read-digit-count : tie.Need-shared-slice-read-digit-count Inv-loop μ-loop
-shared-slice-read-digit-count c = search needs
-
-digit-count-requires : tie.Need-digit-count-requires Inv-loop μ-loop
-digit-count-requires c κs = search needs
-
 add-total : tie.Need-add-total Inv-loop μ-loop
 add-total c = omega (arith, digit-few _ _ (c .digit-count .ensures))
 
 add-total-2 : tie.Need-add-total-2 Inv-loop μ-loop
 add-total-2 c = omega (arith, digit-few _ _ (c .digit-count .ensures))
-
-add-k : tie.Need-add-k Inv-loop μ-loop
-add-k c = search needs
-
-loop-less : tie.Need-loop-less Inv-loop μ-loop
-loop-less c = search needs
 
 loop-again : tie.Need-loop-again Inv-loop μ-loop
 loop-again c = search measured-more
@@ -49,12 +34,12 @@ record-length-spec =
     Inv-loop
     μ-loop
     loop-holds
-    mul-digit-count
-    shared-slice-read-digit-count
-    digit-count-requires
+    (λ c. search needs)
+    (λ c. search needs)
+    (λ c κs. search needs)
     add-total
     add-total-2
-    add-k
-    loop-less
+    (λ c. search needs)
+    (λ c. search needs)
     loop-again
     returns)

@@ -3,17 +3,8 @@ use borrow.Author.Needs.{needs}
 use Rattle.text_writer.proofs.write_byte.Statement.{statement}
 use Rattle.text_writer.proofs.write_byte.Tie as tie
 
-slice-write-out : tie.Need-slice-write-out
-slice-write-out c = search needs
-
-add-result : tie.Need-add-result
-add-result c = search needs
-
-same-length : tie.Need-same-length
-same-length c = search needs
-
 returns : tie.Need-returns
 returns c = search wrote-byte
 
 pub write-byte-spec : {M : Type 1} → statement M
-write-byte-spec = tie.close (tie.spec slice-write-out add-result same-length returns)
+write-byte-spec = tie.close (tie.spec (λ c. search needs) (λ c. search needs) (λ c. search needs) returns)

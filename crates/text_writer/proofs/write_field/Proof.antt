@@ -12,12 +12,9 @@ write-number-requires : tie.Need-write-number-requires
 unfolding fieldText
 write-number-requires c κs = search needs
 
-same-length : tie.Need-same-length
-same-length c = search needs
-
 returns : tie.Need-returns
 returns c = search wrote-field
 
 pub write-field-spec : {M : Type 1} → statement M
 write-field-spec =
-    tie.close (tie.spec write-byte-requires write-number-requires same-length returns)
+    tie.close (tie.spec write-byte-requires write-number-requires (λ c. search needs) returns)

@@ -14,26 +14,11 @@ abbrev μ-loop : tie.MeasureT-loop
 loop-holds : tie.Need-loop-holds Inv-loop μ-loop
 loop-holds c = search fields-first
 
-mul-write-field : tie.Need-mul-write-field Inv-loop μ-loop
-mul-write-field c = search needs
-
-shared-slice-read-write-field : tie.Need-shared-slice-read-write-field Inv-loop μ-loop
-shared-slice-read-write-field c = search needs
-
 write-field-requires : tie.Need-write-field-requires Inv-loop μ-loop
 write-field-requires c κs = search fields-room
 
-add-k : tie.Need-add-k Inv-loop μ-loop
-add-k c = search needs
-
-loop-less : tie.Need-loop-less Inv-loop μ-loop
-loop-less c = search needs
-
 loop-again : tie.Need-loop-again Inv-loop μ-loop
 loop-again c = search fields-again
-
-same-length : tie.Need-same-length Inv-loop μ-loop
-same-length c = search needs
 
 returns : tie.Need-returns Inv-loop μ-loop
 returns c = search fields-all
@@ -45,11 +30,11 @@ write-fields-spec =
     Inv-loop
     μ-loop
     loop-holds
-    mul-write-field
-    shared-slice-read-write-field
+    (λ c. search needs)
+    (λ c. search needs)
     write-field-requires
-    add-k
-    loop-less
+    (λ c. search needs)
+    (λ c. search needs)
     loop-again
-    same-length
+    (λ c. search needs)
     returns)

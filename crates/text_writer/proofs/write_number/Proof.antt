@@ -4,9 +4,6 @@ use borrow.Author.Needs.{needs}
 use Rattle.text_writer.proofs.write_number.Statement.{statement}
 use Rattle.text_writer.proofs.write_number.Tie as tie
 
-digit-count-requires : tie.Need-digit-count-requires
-digit-count-requires c κs = search needs
-
 write-digits-requires : tie.Need-write-digits-requires
 write-digits-requires c κs = omega (arith, c .before .digit-count .ensures)
 
@@ -15,12 +12,9 @@ add-result c =
     let b = c .before .before .before .before in
     omega (arith, numeral-length 19 (b .before .before .args .value), b .digit-count .ensures)
 
-same-length : tie.Need-same-length
-same-length c = search needs
-
 returns : tie.Need-returns
 returns c = search wrote-number
 
 pub write-number-spec : {M : Type 1} → statement M
 write-number-spec =
-    tie.close (tie.spec digit-count-requires write-digits-requires add-result same-length returns)
+    tie.close (tie.spec (λ c κs. search needs) write-digits-requires add-result (λ c. search needs) returns)

@@ -12,13 +12,10 @@ write-fields-requires c κs = search record-fields
 write-byte-requires-2 : tie.Need-write-byte-requires-2
 write-byte-requires-2 c κs = search record-feed
 
-same-length : tie.Need-same-length
-same-length c = search needs
-
 returns : tie.Need-returns
 returns c = search wrote-record
 
 pub write-record-spec : {M : Type 1} → statement M
 write-record-spec =
     tie.close
-    (tie.spec write-byte-requires write-fields-requires write-byte-requires-2 same-length returns)
+    (tie.spec write-byte-requires write-fields-requires write-byte-requires-2 (λ c. search needs) returns)

@@ -14,29 +14,8 @@ Inv-loop red-lines spacing place target₀ j₀ target j = (j ≤ length red-lin
 abbrev μ-loop : tie.MeasureT-loop
 μ-loop red-lines spacing place target₀ j₀ target j = length red-lines - j
 
-cut-to-requires : tie.Need-cut-to-requires Inv-loop μ-loop
-cut-to-requires c κs = search needs
-
 loop-holds : tie.Need-loop-holds Inv-loop μ-loop
 loop-holds c = search (no-line, needs)
-
-mul-line-for : tie.Need-mul-line-for Inv-loop μ-loop
-mul-line-for c = search needs
-
-shared-slice-read-line-for : tie.Need-shared-slice-read-line-for Inv-loop μ-loop
-shared-slice-read-line-for c = search needs
-
-line-for-requires : tie.Need-line-for-requires Inv-loop μ-loop
-line-for-requires c κs = search needs
-
-cut-to-requires-2 : tie.Need-cut-to-requires-2 Inv-loop μ-loop
-cut-to-requires-2 c κs = search needs
-
-add-j : tie.Need-add-j Inv-loop μ-loop
-add-j c = search needs
-
-loop-less : tie.Need-loop-less Inv-loop μ-loop
-loop-less c = search needs
 
 loop-again : tie.Need-loop-again Inv-loop μ-loop
 loop-again c = search (next-line, needs)
@@ -53,14 +32,14 @@ move-one-spec =
     (tie.spec
     Inv-loop
     μ-loop
-    cut-to-requires
+    (λ c κs. search needs)
     loop-holds
-    mul-line-for
-    shared-slice-read-line-for
-    line-for-requires
-    cut-to-requires-2
-    add-j
-    loop-less
+    (λ c. search needs)
+    (λ c. search needs)
+    (λ c κs. search needs)
+    (λ c κs. search needs)
+    (λ c. search needs)
+    (λ c. search needs)
     loop-again
     returns
     returns-2)

@@ -5,12 +5,9 @@ use borrow.Author.Needs.{needs}
 use Rattle.traces.proofs.valid_distance.Statement.{statement}
 use Rattle.traces.proofs.valid_distance.Tie as tie
 
-valid-place-requires : tie.Need-valid-place-requires
-valid-place-requires c κs = search needs
-
 returns : tie.Need-returns
 unfolding validDistance ofBits ofInt
 returns c = rw (c .valid-place .ensures)
 
 pub valid-distance-spec : {M : Type 1} → statement M
-valid-distance-spec = tie.close (tie.spec valid-place-requires returns)
+valid-distance-spec = tie.close (tie.spec (λ c κs. search needs) returns)

@@ -20,27 +20,6 @@ loop-holds : tie.Need-loop-holds Inv-loop μ-loop
 unfolding allBelow
 loop-holds c = (search needs, refl)
 
-mul-same : tie.Need-mul-same Inv-loop μ-loop
-mul-same c = search needs
-
-element-copy-out-same : tie.Need-element-copy-out-same Inv-loop μ-loop
-element-copy-out-same c = search needs
-
-mul-number-at : tie.Need-mul-number-at Inv-loop μ-loop
-mul-number-at c = search needs
-
-add-number-at : tie.Need-add-number-at Inv-loop μ-loop
-add-number-at c = search needs
-
-number-at-requires : tie.Need-number-at-requires Inv-loop μ-loop
-number-at-requires c κs = search needs
-
-add-i : tie.Need-add-i Inv-loop μ-loop
-add-i c = search needs
-
-loop-less : tie.Need-loop-less Inv-loop μ-loop
-loop-less c = search needs
-
 loop-again : tie.Need-loop-again Inv-loop μ-loop
 loop-again c = (search needs, all-below-next _ _ (c .before .before .before .before .loop .inv .1) (ap (eqb _) (c .number-at .ensures)))
 
@@ -58,12 +37,12 @@ are-same-spec =
     Inv-loop
     μ-loop
     loop-holds
-    mul-same
-    element-copy-out-same
-    mul-number-at
-    add-number-at
-    number-at-requires
-    add-i
-    loop-less
+    (λ c. search needs)
+    (λ c. search needs)
+    (λ c. search needs)
+    (λ c. search needs)
+    (λ c κs. search needs)
+    (λ c. search needs)
+    (λ c. search needs)
     loop-again
     returns)

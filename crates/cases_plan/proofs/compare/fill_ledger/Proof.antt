@@ -14,31 +14,10 @@ Inv-loop ledger₀ start fill i₀ ledger i = (length ledger ≡ length ledger�
 abbrev μ-loop : tie.MeasureT-loop
 μ-loop ledger₀ start fill i₀ ledger i = length ledger₀ - i
 
-loop-holds : tie.Need-loop-holds Inv-loop μ-loop
-loop-holds c = search needs
-
-held-at-requires : tie.Need-held-at-requires Inv-loop μ-loop
-held-at-requires c κs = search needs
-
-mul-ledger : tie.Need-mul-ledger Inv-loop μ-loop
-mul-ledger c = search needs
-
-slice-write-ledger : tie.Need-slice-write-ledger Inv-loop μ-loop
-slice-write-ledger c = search needs
-
-add-i : tie.Need-add-i Inv-loop μ-loop
-add-i c = search needs
-
-loop-less : tie.Need-loop-less Inv-loop μ-loop
-loop-less c = search needs
-
 loop-again : tie.Need-loop-again Inv-loop μ-loop
 loop-again c =
     let l = c .before .before .loop in
     (simp length-set (l .inv .0), omega arith, filled-next _ _ (l .ledger) (l .i) _ (omega arith) (l .inv .2) (c .held-at .ensures))
-
-same-length : tie.Need-same-length Inv-loop μ-loop
-same-length c = search needs
 
 returns : tie.Need-returns Inv-loop μ-loop
 returns c = filled-all _ _ _ (c .before .loop .i) (omega arith) (c .before .loop .inv .2)
@@ -49,12 +28,12 @@ fill-ledger-spec =
     (tie.spec
     Inv-loop
     μ-loop
-    loop-holds
-    held-at-requires
-    mul-ledger
-    slice-write-ledger
-    add-i
-    loop-less
+    (λ c. search needs)
+    (λ c κs. search needs)
+    (λ c. search needs)
+    (λ c. search needs)
+    (λ c. search needs)
+    (λ c. search needs)
     loop-again
-    same-length
+    (λ c. search needs)
     returns)

@@ -5,12 +5,6 @@ use borrow.Author.Needs.{needs}
 use Rattle.cases_plan.proofs.compare.held_at.Statement.{statement}
 use Rattle.cases_plan.proofs.compare.held_at.Tie as tie
 
-mul-result : tie.Need-mul-result
-mul-result c = search needs
-
-shared-slice-read-result : tie.Need-shared-slice-read-result
-shared-slice-read-result c = search needs
-
 returns : tie.Need-returns
 unfolding heldAt
 returns c = simp (lt-ltb _ _ (c .before .if1 .taken))
@@ -20,4 +14,4 @@ unfolding heldAt
 returns-2 c = simp (le-ltb _ _ (c .if1 .left))
 
 pub held-at-spec : {M : Type 1} → statement M
-held-at-spec = tie.close (tie.spec mul-result shared-slice-read-result returns returns-2)
+held-at-spec = tie.close (tie.spec (λ c. search needs) (λ c. search needs) returns returns-2)

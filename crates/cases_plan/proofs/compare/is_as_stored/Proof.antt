@@ -4,12 +4,9 @@ use borrow.Author.Needs.{needs}
 use Rattle.cases_plan.proofs.compare.is_as_stored.Statement.{statement}
 use Rattle.cases_plan.proofs.compare.is_as_stored.Tie as tie
 
-is-same-requires : tie.Need-is-same-requires
-is-same-requires c κs = search needs
-
 returns : tie.Need-returns
 unfolding asStored
 returns c = rw (c .before .is-same .ensures)
 
 pub is-as-stored-spec : {M : Type 1} → statement M
-is-as-stored-spec = tie.close (tie.spec is-same-requires returns)
+is-as-stored-spec = tie.close (tie.spec (λ c κs. search needs) returns)

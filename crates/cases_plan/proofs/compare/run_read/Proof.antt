@@ -9,9 +9,6 @@ use borrow.Author.Needs.{needs}
 use Rattle.cases_plan.proofs.compare.run_read.Statement.{statement}
 use Rattle.cases_plan.proofs.compare.run_read.Tie as tie
 
-is-valid-requires : tie.Need-is-valid-requires
-is-valid-requires c κs = search needs
-
 returns : tie.Need-returns
 returns c = never
 
@@ -51,20 +48,11 @@ slice-aggregate-judge-filled-3 c = sym (length-take-le _ _ (omega arith))
 slice-aggregate-judge-filled-4 : tie.Need-slice-aggregate-judge-filled-4
 slice-aggregate-judge-filled-4 c = sym (length-take-le _ _ (omega arith))
 
-slice-relend-prefix-judge-filled : tie.Need-slice-relend-prefix-judge-filled
-slice-relend-prefix-judge-filled c = search needs
-
 slice-aggregate-judge-filled-5 : tie.Need-slice-aggregate-judge-filled-5
 slice-aggregate-judge-filled-5 c = sym (length-take-le _ _ (omega arith))
 
-slice-relend-prefix-judge-filled-2 : tie.Need-slice-relend-prefix-judge-filled-2
-slice-relend-prefix-judge-filled-2 c = search needs
-
 slice-aggregate-judge-filled-6 : tie.Need-slice-aggregate-judge-filled-6
 slice-aggregate-judge-filled-6 c = sym (length-take-le _ _ (omega arith))
-
-slice-relend-prefix-judge-filled-3 : tie.Need-slice-relend-prefix-judge-filled-3
-slice-relend-prefix-judge-filled-3 c = search needs
 
 slice-aggregate-judge-filled-7 : tie.Need-slice-aggregate-judge-filled-7
 slice-aggregate-judge-filled-7 c = sym (length-take-le _ _ (omega arith))
@@ -72,20 +60,8 @@ slice-aggregate-judge-filled-7 c = sym (length-take-le _ _ (omega arith))
 judge-filled-requires : tie.Need-judge-filled-requires
 judge-filled-requires c κs = (sym (c .before .before .before .before .before .before .before .before .before .before .before .before .before .before .before .before .is-valid .ensures) ∙ not-false _ (c .before .before .before .before .before .before .before .before .before .before .before .before .before .before .before .if1 .left), length-take-le _ _ (omega arith))
 
-add-one-requires : tie.Need-add-one-requires
-add-one-requires c κs = search needs
-
-same-length : tie.Need-same-length
-same-length c = search needs
-
-same-length-2 : tie.Need-same-length-2
-same-length-2 c = search needs
-
-same-length-3 : tie.Need-same-length-3
-same-length-3 c = search needs
-
 returns-10 : tie.Need-returns-10
 returns-10 c = λ h. case-counted (length-take-le _ _ (omega arith)) (length-take-le _ _ (omega arith)) (c .before .before .before .before .before .before .before .before .judge-filled .ensures .0) (c .add-one .ensures)
 
 pub run-read-spec : {M : Type 1} → statement M
-run-read-spec = tie.close (tie.spec is-valid-requires returns returns-2 returns-3 returns-4 returns-5 returns-6 returns-7 returns-8 returns-9 slice-aggregate-judge-filled slice-aggregate-judge-filled-2 slice-aggregate-judge-filled-3 slice-aggregate-judge-filled-4 slice-relend-prefix-judge-filled slice-aggregate-judge-filled-5 slice-relend-prefix-judge-filled-2 slice-aggregate-judge-filled-6 slice-relend-prefix-judge-filled-3 slice-aggregate-judge-filled-7 judge-filled-requires add-one-requires same-length same-length-2 same-length-3 returns-10)
+run-read-spec = tie.close (tie.spec (λ c κs. search needs) returns returns-2 returns-3 returns-4 returns-5 returns-6 returns-7 returns-8 returns-9 slice-aggregate-judge-filled slice-aggregate-judge-filled-2 slice-aggregate-judge-filled-3 slice-aggregate-judge-filled-4 (λ c. search needs) slice-aggregate-judge-filled-5 (λ c. search needs) slice-aggregate-judge-filled-6 (λ c. search needs) slice-aggregate-judge-filled-7 judge-filled-requires (λ c κs. search needs) (λ c. search needs) (λ c. search needs) (λ c. search needs) returns-10)

@@ -18,17 +18,8 @@ abbrev μ-loop : tie.MeasureT-loop
 loop-holds : tie.Need-loop-holds Inv-loop μ-loop
 loop-holds c = (search needs, none)
 
-run-case-requires : tie.Need-run-case-requires Inv-loop μ-loop
-run-case-requires c κs = search needs
-
 returns : tie.Need-returns Inv-loop μ-loop
 returns c = never
-
-add-done : tie.Need-add-done Inv-loop μ-loop
-add-done c = search needs
-
-loop-less : tie.Need-loop-less Inv-loop μ-loop
-loop-less c = search needs
 
 loop-again : tie.Need-loop-again Inv-loop μ-loop
 loop-again c = (search needs, counted-more (c .before .before .before .before .loop .inv .1) (c .before .run-case .ensures (not-false _ (c .if1 .left))))
@@ -43,9 +34,9 @@ run-cases-spec =
     Inv-loop
     μ-loop
     loop-holds
-    run-case-requires
+    (λ c κs. search needs)
     returns
-    add-done
-    loop-less
+    (λ c. search needs)
+    (λ c. search needs)
     loop-again
     returns-2)

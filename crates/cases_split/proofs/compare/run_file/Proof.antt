@@ -4,24 +4,9 @@ use borrow.Author.Needs.{needs}
 use Rattle.cases_split.proofs.compare.run_file.Statement.{statement}
 use Rattle.cases_split.proofs.compare.run_file.Tie as tie
 
-read-count-requires : tie.Need-read-count-requires
-read-count-requires c κs = search needs
-
-enum-known-count : tie.Need-enum-known-count
-enum-known-count c = search needs
-
-enum-told : tie.Need-enum-told
-enum-told c = search needs
-
 returns : tie.Need-returns
 unfolding Compared
 returns c = tt
-
-run-cases-requires : tie.Need-run-cases-requires
-run-cases-requires c κs = search needs
-
-is-at-end-requires : tie.Need-is-at-end-requires
-is-at-end-requires c κs = search needs
 
 returns-2 : tie.Need-returns-2
 unfolding Compared
@@ -39,12 +24,12 @@ pub run-file-spec : {M : Type 1} → statement M
 run-file-spec =
     tie.close
     (tie.spec
-    read-count-requires
-    enum-known-count
-    enum-told
+    (λ c κs. search needs)
+    (λ c. search needs)
+    (λ c. search needs)
     returns
-    run-cases-requires
-    is-at-end-requires
+    (λ c κs. search needs)
+    (λ c κs. search needs)
     returns-2
     returns-3
     returns-4)

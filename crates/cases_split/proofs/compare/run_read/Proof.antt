@@ -9,35 +9,8 @@ use borrow.Author.Needs.{needs}
 use Rattle.cases_split.proofs.compare.run_read.Statement.{statement}
 use Rattle.cases_split.proofs.compare.run_read.Tie as tie
 
-element-copy-out-rest : tie.Need-element-copy-out-rest
-element-copy-out-rest c = search needs
-
-rooms-told-requires : tie.Need-rooms-told-requires
-rooms-told-requires c κs = search needs
-
-slice-aggregate-read-texts : tie.Need-slice-aggregate-read-texts
-slice-aggregate-read-texts c = search needs
-
-slice-aggregate-read-texts-2 : tie.Need-slice-aggregate-read-texts-2
-slice-aggregate-read-texts-2 c = search needs
-
-slice-aggregate-read-texts-3 : tie.Need-slice-aggregate-read-texts-3
-slice-aggregate-read-texts-3 c = search needs
-
-slice-aggregate-read-texts-4 : tie.Need-slice-aggregate-read-texts-4
-slice-aggregate-read-texts-4 c = search needs
-
-read-texts-requires : tie.Need-read-texts-requires
-read-texts-requires c κs = search needs
-
-are-within-requires : tie.Need-are-within-requires
-are-within-requires c κs = search needs
-
 returns : tie.Need-returns
 returns c = never
-
-are-within-requires-2 : tie.Need-are-within-requires-2
-are-within-requires-2 c κs = search needs
 
 returns-2 : tie.Need-returns-2
 returns-2 c = never
@@ -90,12 +63,6 @@ array-share-prefix-told-plan-2 c = omega (arith, c .before .before .before .befo
 slice-aggregate-judge-8 : tie.Need-slice-aggregate-judge-8
 slice-aggregate-judge-8 c = sym (length-take-le _ _ (omega (arith, c .before .before .before .before .before .before .before .before .before .are-within2 .ensures (not-false _ (c .before .before .before .before .before .before .before .before .if2 .left)) .plan₂)))
 
-judge-requires : tie.Need-judge-requires
-judge-requires c κs = search needs
-
-add-one-requires : tie.Need-add-one-requires
-add-one-requires c κs = search needs
-
 returns-3 : tie.Need-returns-3
 returns-3 c = λ h. one-more _ _ _ _ (c .before .before .before .before .before .before .judge .ensures .0) (c .add-one .ensures)
 
@@ -103,16 +70,16 @@ pub run-read-spec : {M : Type 1} → statement M
 run-read-spec =
     tie.close
     (tie.spec
-    element-copy-out-rest
-    rooms-told-requires
-    slice-aggregate-read-texts
-    slice-aggregate-read-texts-2
-    slice-aggregate-read-texts-3
-    slice-aggregate-read-texts-4
-    read-texts-requires
-    are-within-requires
+    (λ c. search needs)
+    (λ c κs. search needs)
+    (λ c. search needs)
+    (λ c. search needs)
+    (λ c. search needs)
+    (λ c. search needs)
+    (λ c κs. search needs)
+    (λ c κs. search needs)
     returns
-    are-within-requires-2
+    (λ c κs. search needs)
     returns-2
     array-borrow-prefix-network-1
     slice-aggregate-judge
@@ -130,6 +97,6 @@ run-read-spec =
     slice-aggregate-judge-7
     array-share-prefix-told-plan-2
     slice-aggregate-judge-8
-    judge-requires
-    add-one-requires
+    (λ c κs. search needs)
+    (λ c κs. search needs)
     returns-3)

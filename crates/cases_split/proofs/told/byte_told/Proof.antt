@@ -5,9 +5,6 @@ use borrow.Author.Needs.{needs}
 use Rattle.cases_split.proofs.told.byte_told.Statement.{statement}
 use Rattle.cases_split.proofs.told.byte_told.Tie as tie
 
-shared-slice-read-result : tie.Need-shared-slice-read-result
-shared-slice-read-result c = search needs
-
 returns : tie.Need-returns
 unfolding byteTold
 returns c = search (lt-ltb, needs)
@@ -17,4 +14,4 @@ unfolding byteTold
 returns-2 c = search (le-ltb, needs)
 
 pub byte-told-spec : {M : Type 1} → statement M
-byte-told-spec = tie.close (tie.spec shared-slice-read-result returns returns-2)
+byte-told-spec = tie.close (tie.spec (λ c. search needs) returns returns-2)

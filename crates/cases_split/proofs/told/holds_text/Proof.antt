@@ -22,18 +22,6 @@ loop-holds : tie.Need-loop-holds Inv-loop μ-loop
 unfolding allBelow
 loop-holds c = (search needs, refl)
 
-shared-slice-read-same : tie.Need-shared-slice-read-same Inv-loop μ-loop
-shared-slice-read-same c = search needs
-
-byte-told-requires : tie.Need-byte-told-requires Inv-loop μ-loop
-byte-told-requires c κs = search needs
-
-add-i : tie.Need-add-i Inv-loop μ-loop
-add-i c = search needs
-
-loop-less : tie.Need-loop-less Inv-loop μ-loop
-loop-less c = search needs
-
 loop-again : tie.Need-loop-again Inv-loop μ-loop
 loop-again c = (search needs, all-below-next _ _ (c .before .before .before .loop .inv .1) (ap (eqb _) (c .byte-told .ensures)))
 
@@ -49,9 +37,9 @@ holds-text-spec =
     Inv-loop
     μ-loop
     loop-holds
-    shared-slice-read-same
-    byte-told-requires
-    add-i
-    loop-less
+    (λ c. search needs)
+    (λ c κs. search needs)
+    (λ c. search needs)
+    (λ c. search needs)
     loop-again
     returns)

@@ -4,12 +4,9 @@ use borrow.Author.Needs.{needs}
 use Rattle.cases_stored.proofs.checksum.with_byte.Statement.{statement}
 use Rattle.cases_stored.proofs.checksum.with_byte.Tie as tie
 
-times-prime-requires : tie.Need-times-prime-requires
-times-prime-requires c κs = search needs
-
 returns : tie.Need-returns
 unfolding withByte
 returns c = search needs
 
 pub with-byte-spec : {M : Type 1} → statement M
-with-byte-spec = tie.close (tie.spec times-prime-requires returns)
+with-byte-spec = tie.close (tie.spec (λ c κs. search needs) returns)

@@ -5,15 +5,6 @@ use borrow.Author.Needs.{needs}
 use Rattle.cases_stored.proofs.outcome.of_plan.Statement.{statement}
 use Rattle.cases_stored.proofs.outcome.of_plan.Tie as tie
 
-enum-known-answer : tie.Need-enum-known-answer
-enum-known-answer c = search needs
-
-enum-known-answer-2 : tie.Need-enum-known-answer-2
-enum-known-answer-2 c = search needs
-
-refused-requires : tie.Need-refused-requires
-refused-requires c κs = search needs
-
 returns : tie.Need-returns
 returns c = sym (ap planOutcome (c .before .answer .given .1))
 
@@ -22,4 +13,4 @@ returns-2 c = c .refused .ensures ∙ sym (ap planOutcome (c .before .before .an
 
 pub of-plan-spec : {M : Type 1} → statement M
 of-plan-spec =
-    tie.close (tie.spec enum-known-answer enum-known-answer-2 refused-requires returns returns-2)
+    tie.close (tie.spec (λ c. search needs) (λ c. search needs) (λ c κs. search needs) returns returns-2)

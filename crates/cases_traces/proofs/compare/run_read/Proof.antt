@@ -20,9 +20,6 @@ returns-3 c = never
 returns-4 : tie.Need-returns-4
 returns-4 c = never
 
-slice-relend-prefix-judge : tie.Need-slice-relend-prefix-judge
-slice-relend-prefix-judge c = search needs
-
 slice-aggregate-judge : tie.Need-slice-aggregate-judge
 slice-aggregate-judge c = sym (length-take-le _ _ (omega arith))
 
@@ -38,12 +35,6 @@ slice-aggregate-judge-4 c = sym (length-take-le _ _ (omega arith))
 judge-requires : tie.Need-judge-requires
 judge-requires c κs = same-part _ _ _ (c .before .before .before .before .if4 .left) (c .before .before .before .before .before .before .before .if1 .left)
 
-add-one-requires : tie.Need-add-one-requires
-add-one-requires c κs = search needs
-
-same-length : tie.Need-same-length
-same-length c = search needs
-
 returns-5 : tie.Need-returns-5
 returns-5 c = λ h. one-more _ _ _ _ _ _ (c .before .before .before .before .judge .ensures .0) (c .add-one .ensures)
 
@@ -55,12 +46,12 @@ run-read-spec =
     returns-2
     returns-3
     returns-4
-    slice-relend-prefix-judge
+    (λ c. search needs)
     slice-aggregate-judge
     slice-aggregate-judge-2
     slice-aggregate-judge-3
     slice-aggregate-judge-4
     judge-requires
-    add-one-requires
-    same-length
+    (λ c κs. search needs)
+    (λ c. search needs)
     returns-5)

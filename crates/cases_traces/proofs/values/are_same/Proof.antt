@@ -21,27 +21,6 @@ loop-holds : tie.Need-loop-holds Inv-loop μ-loop
 unfolding allBelow
 loop-holds c = (search needs, refl)
 
-mul-is-same : tie.Need-mul-is-same Inv-loop μ-loop
-mul-is-same c = search needs
-
-shared-slice-read-is-same : tie.Need-shared-slice-read-is-same Inv-loop μ-loop
-shared-slice-read-is-same c = search needs
-
-mul-is-same-2 : tie.Need-mul-is-same-2 Inv-loop μ-loop
-mul-is-same-2 c = search needs
-
-shared-slice-read-is-same-2 : tie.Need-shared-slice-read-is-same-2 Inv-loop μ-loop
-shared-slice-read-is-same-2 c = search needs
-
-is-same-requires : tie.Need-is-same-requires Inv-loop μ-loop
-is-same-requires c κs = search needs
-
-add-i : tie.Need-add-i Inv-loop μ-loop
-add-i c = search needs
-
-loop-less : tie.Need-loop-less Inv-loop μ-loop
-loop-less c = search needs
-
 loop-again : tie.Need-loop-again Inv-loop μ-loop
 loop-again c = (search needs, all-below-next _ _ (c .before .before .before .before .loop .inv .1) (c .is-same .ensures))
 
@@ -57,12 +36,12 @@ are-same-spec =
     Inv-loop
     μ-loop
     loop-holds
-    mul-is-same
-    shared-slice-read-is-same
-    mul-is-same-2
-    shared-slice-read-is-same-2
-    is-same-requires
-    add-i
-    loop-less
+    (λ c. search needs)
+    (λ c. search needs)
+    (λ c. search needs)
+    (λ c. search needs)
+    (λ c κs. search needs)
+    (λ c. search needs)
+    (λ c. search needs)
     loop-again
     returns)

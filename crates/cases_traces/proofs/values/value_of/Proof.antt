@@ -10,8 +10,5 @@ returns c = nan-of-bits _ (c .if1 .taken)
 float-from-bits-result : tie.Need-float-from-bits-result
 float-from-bits-result c = let h = no-nan-of-bits _ (c .if1 .left) in search needs
 
-returns-2 : tie.Need-returns-2
-returns-2 c = search needs
-
 pub value-of-spec : {M : Type 1} → statement M
-value-of-spec = tie.close (tie.spec returns float-from-bits-result returns-2)
+value-of-spec = tie.close (tie.spec returns float-from-bits-result (λ c. search needs))
