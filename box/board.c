@@ -22,6 +22,11 @@ void print(const char *words)
 
 static void start(void)
 {
+#ifdef __ARM_FP
+    /* The registers for floats are shut at the start: coprocessors 10 and 11 of CPACR. */
+    *(volatile uint32_t *)0xe000ed88 |= 0xfu << 20;
+    __asm__ volatile("dsb\n isb" ::: "memory");
+#endif
     memcpy(data_start, data_in_flash, (size_t)(data_end - data_start));
     memset(bss_start, 0, (size_t)(bss_end - bss_start));
     uintptr_t reason = main() == 0 ? STOPPED : STOPPED_BY_ERROR;

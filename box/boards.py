@@ -1,4 +1,4 @@
-"""The boards of qemu that the library for a Cortex-M0 is tried on, the programs for them, and the texts that these hold."""
+"""The boards of qemu that the libraries of a box are tried on, the programs for them, and the texts that these hold."""
 
 import filecmp
 import os
@@ -11,10 +11,7 @@ from dataclasses import dataclass
 import generate
 
 FOLDER = "target/box"
-LIBRARY = f"{FOLDER}/libplancheck.a"
-NARROWED = f"{FOLDER}/narrow/libplancheck.a"
-TRAPPING = f"{FOLDER}/trap/libplancheck.a"
-SOURCES = ["box/build", "box/narrow", "box/calls.c", "box/arithmetic.S", "box/fill.S"]
+SOURCES = ["box/build", "box/targets.txt", "box/narrow", "box/calls.c", "box/arithmetic.S", "box/fill.S", "include/plancheck.h"]
 STRICT = ["-std=c11", "-Wall", "-Wextra", "-Werror", "-O2", "-Iinclude", "-Ibox", "-Ibench"]
 DEBIAN = {
     "arm-none-eabi-gcc": "gcc-arm-none-eabi",
@@ -23,15 +20,40 @@ DEBIAN = {
 }
 
 
+def library_for(target):
+    return f"{FOLDER}/{target}/libplancheck.a"
+
+
 @dataclass
 class Board:
     name: str  # as qemu calls it
+    target: str  # of the library that it is tried with
     flash: int  # kilobytes
     memory: int
+    flash_at: int
+    memory_at: int
+
+    def library(self):
+        return library_for(self.target)
 
 
-MPS2 = Board("mps2-an385", 4096, 4096)
-MICROBIT = Board("microbit", 256, 16)
+def rows(path):
+    """The words of each line that is no comment."""
+    with open(path) as file:
+        return [line.split() for line in file if not line.startswith("#")]
+
+
+ALL = [Board(name, target, *(int(word, 0) for word in numbers)) for name, target, *numbers in rows("box/boards.txt")]
+MICROBIT, MPS2, WITH_FLOATS, SECURE = ALL
+
+LIBRARY = MICROBIT.library()
+NARROWED = f"{FOLDER}/{MICROBIT.target}/narrow/libplancheck.a"
+TRAPPING = f"{FOLDER}/{MICROBIT.target}/trap/libplancheck.a"
+
+
+def options_of(target):
+    """The options of the C compiler for a target."""
+    return next(words[2:] for words in rows("box/targets.txt") if words[0] == target)
 
 
 def need_tools():
@@ -65,17 +87,18 @@ def archive():
 
 
 def is_built(library):
-    """Whether a library for a Cortex-M0 is of the same module as the archive for x86-64, and of what stands here."""
+    """Whether a library of a box is of the same module as the archive for x86-64, and of what stands here."""
     if not (os.path.exists(library) and os.path.exists(f"{FOLDER}/x86-64.a")):
         return False
     changed = max(map(os.path.getmtime, SOURCES))
     return changed < os.path.getmtime(library) and filecmp.cmp(f"{FOLDER}/x86-64.a", archive(), shallow=False)
 
 
-def make_libraries(narrow):
-    """Runs box/build where the library for a Cortex-M0, or the narrowed ones beside it, have to be built."""
-    if not all(is_built(library) for library in [LIBRARY] + [NARROWED, TRAPPING] * narrow):
-        print(output_of("box/build", *["--narrow"] * narrow), end="", flush=True)
+def make_libraries(narrow, boards=(MICROBIT,)):
+    """Runs box/build where the library of a board, or the narrowed ones beside it, have to be built."""
+    targets = sorted({board.target for board in boards})
+    if not all(map(is_built, [*map(library_for, targets), *[NARROWED, TRAPPING] * narrow])):
+        print(output_of("box/build", *["--narrow"] * narrow, *targets), end="", flush=True)
 
 
 def made(name, sizes, tram_steps=0):
@@ -86,6 +109,15 @@ def made(name, sizes, tram_steps=0):
         generate.with_trams(chance, network, tram_steps)
     folder = f"{FOLDER}/{name}"
     generate.write_folder(folder, network, generate.make_plan(chance, network))
+    return folder
+
+
+def carried(name, sizes):
+    """The folder of the second half of a plan for a network of these sizes; the first half is past."""
+    chance = random.Random(1)
+    network = generate.random_network(chance, *sizes)
+    folder = f"{FOLDER}/{name}"
+    generate.write_folder(folder, *generate.carried(network, generate.make_plan(chance, network), sizes[3] // 2))
     return folder
 
 
@@ -118,12 +150,14 @@ def write_inputs(path, folders, small, more):
         file.write(f"static const struct example examples[EXAMPLES] = {{\n{table}}};\n")
 
 
-def build(board, name, sources, inputs, library=LIBRARY, options=()):
+def build(board, name, sources, inputs, library=None, options=()):
     """A program for a board; the folder of inputs holds inputs.h. More options go to the compiler."""
+    library = library or board.library()
     path = f"{os.path.dirname(library)}/{name}-{board.name}.elf"
-    processor = ["-mcpu=cortex-m0", "-mthumb", "-ffunction-sections"]
-    sizes = [f"-Wl,--defsym=FLASH_KB={board.flash}", f"-Wl,--defsym=RAM_KB={board.memory}"]
-    linking = ["-nostartfiles", "-Wl,--gc-sections", *sizes, "-Tbox/board.ld"]
+    places = {"FLASH_AT": board.flash_at, "FLASH_KB": board.flash, "RAM_AT": board.memory_at, "RAM_KB": board.memory}
+    linking = ["-nostartfiles", "-Wl,--gc-sections", "-Tbox/board.ld"]
+    linking += [f"-Wl,--defsym={place}={value}" for place, value in places.items()]
+    processor = [*options_of(board.target), "-ffunction-sections"]
     output_of("arm-none-eabi-gcc", *STRICT, *processor, *options, f"-I{inputs}", "box/board.c", *sources, library, *linking, "-o", path)
     return path
 

@@ -6,6 +6,7 @@
 #include "board.h"
 #include "inputs.h"
 #include "plancheck.h"
+#include "sheet.h"
 
 #include <string.h>
 
@@ -17,8 +18,8 @@ struct text {
     size_t length, room;
 };
 
-static uint8_t network_bytes[NETWORK_ROOM + 3], plan_bytes[PLAN_ROOM + 3];
-static struct text network, plan;
+static uint8_t network_bytes[NETWORK_ROOM + 3], plan_bytes[PLAN_ROOM + 3], sheet_bytes[SHEET_ROOM];
+static struct text network, plan, sheet;
 static uint32_t ledger[LEDGER_ROOM];
 static uint8_t carried[CARRIED_ROOM];
 
@@ -46,8 +47,8 @@ static void add_long(uint64_t number)
     add((uint32_t)(number >> 32));
 }
 
-enum { CHECK_NETWORK, NETWORK_COUNTS, CHECK_PLAN, LINK_STATE, CARRY_ON, CALLS };
-static const char *const call_names[CALLS] = {"check_network", "network_counts", "check_plan", "link_state", "carry_on"};
+enum { CHECK_NETWORK, NETWORK_COUNTS, CHECK_PLAN, CHECK_SHEET, LINK_STATE, CARRY_ON, CALLS };
+static const char *const call_names[CALLS] = {"check_network", "network_counts", "check_plan", "check_sheet", "link_state", "carry_on"};
 static uint32_t told[CALLS][48];
 
 static void add_answer(int call, uint32_t number, uint32_t line, uint32_t item)
@@ -143,16 +144,32 @@ static void add_ledger(void)
         add(ledger[i]);
 }
 
+static void add_plan_answer(int call, const plancheck_plan_result *r)
+{
+    add_answer(call, r->number, r->line, r->item);
+    add_long(r->admitted);
+    add_long(r->let_out);
+    add_long(r->inside);
+    add_long(r->doubled_time);
+    add_ledger();
+}
+
 static void ask_plan(size_t ledger_len)
 {
     fill_ledger();
     plancheck_plan_result r = plancheck_check_plan(network.bytes, network.length, plan.bytes, plan.length, ledger, ledger_len);
-    add_answer(CHECK_PLAN, r.number, r.line, r.item);
-    add_long(r.admitted);
-    add_long(r.let_out);
-    add_long(r.inside);
-    add_long(r.doubled_time);
-    add_ledger();
+    add_plan_answer(CHECK_PLAN, &r);
+}
+
+static void ask_sheet(size_t ledger_len, const struct example *example)
+{
+    sheet = (struct text){sheet_bytes, write_sheet(example->network.bytes, example->network.length, sheet_bytes, below), SHEET_ROOM};
+    if (below(4) == 0)
+        damage(&sheet);
+    fill_ledger();
+    plancheck_plan_result r =
+        plancheck_check_sheet(network.bytes, network.length, plan.bytes, plan.length, sheet.bytes, sheet.length, ledger, ledger_len);
+    add_plan_answer(CHECK_SHEET, &r);
 }
 
 static void ask_link(size_t ledger_len, const struct example *example)
@@ -203,6 +220,8 @@ NOT_INLINED static int takes_empty(uintptr_t address)
         {plancheck_check_plan(bytes, 0, bytes, 0, numbers, 0).number, PLANCHECK_NETWORK_FORM},
         {plancheck_check_plan(text.bytes, text.length, steps.bytes, steps.length, numbers, 0).number, PLANCHECK_LEDGER_TOO_SHORT},
         {plancheck_check_plan(text.bytes, text.length, bytes, 0, ledger, LEDGER_ROOM).number, PLANCHECK_PHASE_TOO_LONG},
+        {plancheck_check_sheet(bytes, 0, bytes, 0, bytes, 0, numbers, 0).number, PLANCHECK_NETWORK_FORM},
+        {plancheck_check_sheet(text.bytes, text.length, bytes, 0, bytes, 0, numbers, 0).number, PLANCHECK_SHEET_VALUES},
         {plancheck_link_state(bytes, 0, numbers, 0, 0, 1).number, PLANCHECK_NETWORK_FORM},
         {plancheck_link_state(text.bytes, text.length, numbers, 0, 0, 1).number, PLANCHECK_LEDGER_TOO_SHORT},
         {plancheck_carry_on(bytes, 0, 1, bytes, 0, numbers, 0, bytes, 0).number, PLANCHECK_NETWORK_FORM},
@@ -228,10 +247,18 @@ static void ask(void)
     size_t ledger_len = below(8) == 0 ? below(LEDGER_ROOM + 1) : LEDGER_ROOM;
     ask_network();
     ask_counts();
+    ask_sheet(ledger_len, example);
     ask_plan(ledger_len);
     ask_link(ledger_len, example);
     ask_link(ledger_len, example);
     ask_carry(ledger_len, example);
+}
+
+/* Whether the library is of the header's version. */
+static int is_same_version(void)
+{
+    plancheck_version_result version = plancheck_version();
+    return version.major == PLANCHECK_VERSION_MAJOR && version.minor == PLANCHECK_VERSION_MINOR && version.patch == PLANCHECK_VERSION_PATCH;
 }
 
 /* At NULL a board has its vectors, so that a read would go unseen; at the other address it faults. */
@@ -239,6 +266,10 @@ enum { NO_MEMORY = 0x60000000 };
 
 int main(void)
 {
+    if (!is_same_version()) {
+        print("the library is of another version than the header\n");
+        return 1;
+    }
     if (!takes_empty(0) || !takes_empty(NO_MEMORY)) {
         print("what is empty is answered otherwise\n");
         return 1;

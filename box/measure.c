@@ -5,6 +5,7 @@
  */
 #include "board.h"
 #include "inputs.h"
+#include "sheet.h"
 #include "twin.h"
 
 struct implementation {
@@ -13,15 +14,18 @@ struct implementation {
     plancheck_link_result (*link_state)(const uint8_t *, size_t, const uint32_t *, size_t, uint32_t, uint32_t);
     plancheck_counts_result (*network_counts)(const uint8_t *, size_t);
     plancheck_text_result (*carry_on)(const uint8_t *, size_t, uint32_t, const uint8_t *, size_t, uint32_t *, size_t, uint8_t *, size_t);
+    plancheck_plan_result (*check_sheet)(const uint8_t *, size_t, const uint8_t *, size_t, const uint8_t *, size_t, uint32_t *, size_t);
+    plancheck_version_result (*version)(void);
 };
 
 static const struct implementation implementations[] = {
-    {plancheck_check_network, plancheck_check_plan, plancheck_link_state, plancheck_network_counts, plancheck_carry_on},
-    {twin_check_network, twin_check_plan, twin_link_state, NULL, NULL},
+    {plancheck_check_network, plancheck_check_plan, plancheck_link_state, plancheck_network_counts, plancheck_carry_on, plancheck_check_sheet,
+     plancheck_version},
+    {twin_check_network, twin_check_plan, twin_link_state, NULL, NULL, NULL, NULL},
 };
 
 /* What is measured, and what was answered. */
-enum call { CHECK_NETWORK, CHECK_PLAN, LINK_STATE, CALLS_OF_TWIN, NETWORK_COUNTS = CALLS_OF_TWIN, CARRY_ON, CALLS };
+enum call { CHECK_NETWORK, CHECK_PLAN, LINK_STATE, CALLS_OF_TWIN, NETWORK_COUNTS = CALLS_OF_TWIN, CARRY_ON, CHECK_SHEET, VERSION, CALLS };
 
 static const struct implementation *implementation;
 static const struct example *example;
@@ -29,6 +33,8 @@ static enum call call;
 static uint32_t ledger[LEDGER_ROOM];
 static uint8_t carried[PLANCHECK_NETWORK_TEXT_MAX];
 static size_t carried_plan_len;
+static uint8_t sheet[SHEET_ROOM];
+static size_t sheet_len;
 static uint32_t number, written;
 
 /* How long the first so many lines of a text are. */
@@ -56,6 +62,13 @@ static void make_call(void)
         break;
     case NETWORK_COUNTS:
         number = implementation->network_counts(network.bytes, network.length).number;
+        break;
+    case CHECK_SHEET:
+        number = implementation->check_sheet(network.bytes, network.length, plan.bytes, plan.length, sheet, sheet_len, ledger, ledger_len).number;
+        break;
+    case VERSION:
+        (void)implementation->version();
+        number = 0;
         break;
     default: {
         plancheck_text_result text = implementation->carry_on(network.bytes, network.length, example->steps - 1, plan.bytes, carried_plan_len, ledger,
@@ -100,7 +113,27 @@ static plancheck_text_result empty_carry_on(const uint8_t *text, size_t length, 
     return (plancheck_text_result){0};
 }
 
-static const struct implementation empty = {empty_check_network, empty_check_plan, empty_link_state, empty_network_counts, empty_carry_on};
+static plancheck_plan_result empty_check_sheet(const uint8_t *text, size_t length, const uint8_t *second_text, size_t second_length,
+                                               const uint8_t *third_text, size_t third_length, uint32_t *numbers, size_t count)
+{
+    (void)text, (void)length, (void)second_text, (void)second_length, (void)third_text, (void)third_length, (void)numbers, (void)count;
+    return (plancheck_plan_result){0};
+}
+
+static plancheck_version_result empty_version(void)
+{
+    return (plancheck_version_result){0};
+}
+
+static const struct implementation empty = {empty_check_network, empty_check_plan, empty_link_state,  empty_network_counts,
+                                            empty_carry_on,      empty_check_sheet, empty_version};
+
+/* A sheet of the greatest times. */
+static uint32_t always_1(uint32_t bound)
+{
+    (void)bound;
+    return 1;
+}
 
 /* The system timer counts down 24 bits, and tells when it has come to 0. */
 #define TIMER ((volatile uint32_t *)0xE000E010)
@@ -162,6 +195,7 @@ int main(void)
     print("\n");
     for (uint32_t k = 0; k < EXAMPLES; k++) {
         example = &examples[k];
+        sheet_len = write_sheet(example->network.bytes, example->network.length, sheet, always_1);
         carried_plan_len = length_of_lines(example->plan, example->steps - 1);
         for (uint32_t which = 0; which < 2; which++)
             for (call = CHECK_NETWORK; call < (which == 0 ? CALLS : CALLS_OF_TWIN); call++)

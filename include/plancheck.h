@@ -15,10 +15,11 @@
  *     }
  *
  * Link with libplancheck.a. The calls follow the System V calling convention of x86-64; structs go by value. box/build
- * makes the five calls of a box (plancheck_check_network, plancheck_network_counts, plancheck_check_plan,
- * plancheck_link_state and plancheck_carry_on) for a Cortex-M0 too, with the calling convention of its processor (AAPCS).
- * The toolchain doesn't support that route: the compiled module is the same, but on neither processor is code generation
- * part of what is proved, and on the second the answers are compared with those of the first (box/run).
+ * makes the seven calls of a box (plancheck_version, plancheck_check_network, plancheck_network_counts,
+ * plancheck_check_plan, plancheck_check_sheet, plancheck_link_state and plancheck_carry_on) for other processors too, with
+ * the calling convention of each (docs/TARGETS.md); there this header declares no others. The toolchain doesn't support
+ * that route: the compiled module is the same, but on no processor is code generation part of what is proved, and on these
+ * the answers are compared with those of x86-64 (box/run).
  *
  * UNITS
  *     volume   thousandths of a vehicle
@@ -115,8 +116,8 @@
  *     plancheck_run_cells            2,208    nothing
  *     plancheck_step_vehicles            8    nothing: the places are changed where they stand
  *     plancheck_version                  8    nothing
- * On a Cortex-M0 plancheck_check_network takes 6,084, plancheck_network_counts 6,116, plancheck_check_plan 6,572,
- * plancheck_link_state 6,188 and plancheck_carry_on 6,692 of stack (box/measure).
+ * On a Cortex-M0 plancheck_check_network takes 6,116, plancheck_network_counts 6,148, plancheck_check_plan 6,868,
+ * plancheck_check_sheet 8,652, plancheck_link_state 6,220 and plancheck_carry_on 6,764 of stack (box/measure).
  * plancheck_plan_from_listing is for an engineer's machine, not for a box. The texts of a box are at most
  * PLANCHECK_NETWORK_TEXT_MAX and PLANCHECK_PLAN_TEXT_MAX.
  *
@@ -136,6 +137,12 @@
 
 #ifdef __cplusplus
 extern "C" {
+#endif
+
+/* The calls that the archive has: on x86-64 all, on another processor those of a box. With PLANCHECK_BOX defined before,
+   only these are declared on x86-64 too. */
+#if !defined(PLANCHECK_BOX) && !defined(__x86_64__)
+#define PLANCHECK_BOX
 #endif
 
 /* The version of the calls, of their answers and of the texts (CHANGELOG.md); plancheck_version tells the library's. */
@@ -378,6 +385,8 @@ typedef struct {
     size_t length; /* of the text, in bytes */
 } plancheck_text_result;
 
+#ifndef PLANCHECK_BOX
+
 /* How the first of two plans stands to the second, by all volume let out of the network up to each boundary. */
 enum plancheck_order {
     /* Never less, and somewhere more. */
@@ -423,6 +432,8 @@ typedef struct {
     uint32_t volumes[PLANCHECK_MAX_CELLS]; /* of each cell after the last step; 0 past the cells */
 } plancheck_cells_result;
 
+#endif
+
 /*
  * The sizes that the library was built with, and where the padding is: a compiler that lays the structs out otherwise
  * stops here. In bytes, where size_t has 64 bits and where it has 32; a processor of 32 bits must align uint64_t to 8
@@ -447,12 +458,14 @@ PLANCHECK_ASSERT(plan_totals, offsetof(plancheck_plan_result, admitted) == 16);
 PLANCHECK_ASSERT(link_result, sizeof(plancheck_link_result) == 20);
 PLANCHECK_ASSERT(text_result, sizeof(plancheck_text_result) == (sizeof(size_t) == 8 ? 24 : 16));
 PLANCHECK_ASSERT(text_length, offsetof(plancheck_text_result, length) == (sizeof(size_t) == 8 ? 16 : 12));
+#ifndef PLANCHECK_BOX
 PLANCHECK_ASSERT(comparison_result, sizeof(plancheck_comparison_result) == 32);
 PLANCHECK_ASSERT(comparison_gap, offsetof(plancheck_comparison_result, gap) == 24);
 PLANCHECK_ASSERT(split_result, sizeof(plancheck_split_result) == (sizeof(size_t) == 8 ? 48 : 28));
 PLANCHECK_ASSERT(split_lengths, offsetof(plancheck_split_result, network_1) == (sizeof(size_t) == 8 ? 16 : 12));
 PLANCHECK_ASSERT(cells_result, sizeof(plancheck_cells_result) == 288);
 PLANCHECK_ASSERT(cells_flows, offsetof(plancheck_cells_result, flow_in) == 16);
+#endif
 #undef PLANCHECK_ASSERT
 
 /*
@@ -493,6 +506,21 @@ plancheck_plan_result plancheck_check_plan(const uint8_t *network, size_t networ
                                            size_t plan_len, uint32_t *ledger, size_t ledger_len);
 
 /*
+ * Checks whether a plan is accepted and keeps a fixed-time sheet, and fills the ledger. Refusals 1 to 6, 28 and 30 of the
+ * network, then 33 of the sheet line by line, then 8 and those of the plan as plancheck_check_plan tells them, and last 34.
+ *
+ * A run is a longest sequence of steps in which a signal shows one phase, steps that a tram claims left out. Each run that
+ * begins in the plan and is left in it must last just the phase's duration; one that starts at a time below the signal's
+ * greatest cycle is exempt.
+ *
+ * Reads the three texts. Writes the ledger as plancheck_check_plan does: no row for 33, all rows for 34 and for a plan that
+ * keeps the sheet, which is told with its totals.
+ */
+plancheck_plan_result plancheck_check_sheet(const uint8_t *network, size_t network_len, const uint8_t *plan,
+                                            size_t plan_len, const uint8_t *sheet, size_t sheet_len, uint32_t *ledger,
+                                            size_t ledger_len);
+
+/*
  * Tells what stands on one link at one boundary, from the ledger of an accepted plan. Refusals 1 to 6, 28 and 30 of the
  * network, then 8, 19, 20 and 21. Where the travel time ends inside a step, the elapsed part of what entered in it has
  * arrived, taken evenly; what is queued is rounded down, and the rest is in transit.
@@ -521,6 +549,8 @@ plancheck_text_result plancheck_carry_on(const uint8_t *network, size_t network_
                                          const uint8_t *plan, size_t plan_len, uint32_t *ledger, size_t ledger_len,
                                          uint8_t *carried, size_t carried_len);
 
+#ifndef PLANCHECK_BOX
+
 /*
  * Tells which of two plans for one network is ahead, and by how much its travel time is the lesser, and fills a ledger for
  * each plan. Refusals: those of the network, then all of the first plan's, its ledger's length (8) among them, then the
@@ -544,21 +574,6 @@ plancheck_comparison_result plancheck_compare_plans(const uint8_t *network, size
  */
 plancheck_text_result plancheck_plan_from_listing(const uint8_t *network, size_t network_len, const uint8_t *listing,
                                                   size_t listing_len, uint8_t *plan, size_t plan_len);
-
-/*
- * Checks whether a plan is accepted and keeps a fixed-time sheet, and fills the ledger. Refusals 1 to 6, 28 and 30 of the
- * network, then 33 of the sheet line by line, then 8 and those of the plan as plancheck_check_plan tells them, and last 34.
- *
- * A run is a longest sequence of steps in which a signal shows one phase, steps that a tram claims left out. Each run that
- * begins in the plan and is left in it must last just the phase's duration; one that starts at a time below the signal's
- * greatest cycle is exempt.
- *
- * Reads the three texts. Writes the ledger as plancheck_check_plan does: no row for 33, all rows for 34 and for a plan that
- * keeps the sheet, which is told with its totals.
- */
-plancheck_plan_result plancheck_check_sheet(const uint8_t *network, size_t network_len, const uint8_t *plan,
-                                            size_t plan_len, const uint8_t *sheet, size_t sheet_len, uint32_t *ledger,
-                                            size_t ledger_len);
 
 /*
  * Writes a plan text for a fixed-time sheet with offsets: every volume is 0, and each mask is the phase that the repeated
@@ -622,6 +637,8 @@ plancheck_cells_result plancheck_run_cells(const uint8_t *corridor, size_t corri
 plancheck_network_result plancheck_step_vehicles(double *places, size_t places_len, const double *advances,
                                                  size_t advances_len, const double *red_lines, size_t red_lines_len,
                                                  double spacing);
+
+#endif
 
 #ifdef __cplusplus
 }

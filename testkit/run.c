@@ -1,6 +1,6 @@
 /*
  * Reads the text of cases, has the library answer each, and compares. No heap, and of the C library memcpy and
- * memset alone. With TESTKIT_BOX defined, only the calls of a box are linked, and the cases of the others are left out.
+ * memset alone. Where plancheck.h declares only the calls of a box, the cases of the others are left out.
  */
 #include "testkit.h"
 
@@ -68,18 +68,16 @@ static uint32_t ledger_numbers[TESTKIT_LEDGER_ROOM];
 static uint8_t buffer_bytes[TESTKIT_BUFFER_ROOM];
 static struct text network = {network_bytes, TESTKIT_NETWORK_ROOM, 0};
 static struct text plan = {plan_bytes, TESTKIT_PLAN_ROOM, 0};
-#ifndef TESTKIT_BOX
 static uint8_t second_bytes[TESTKIT_SECOND_ROOM];
 static struct text second = {second_bytes, TESTKIT_SECOND_ROOM, 0};
 
+#ifndef PLANCHECK_BOX
 /* Doubles of a step of vehicles. */
 struct values {
     double metres[MOST_VALUES];
     size_t length;
 };
 static struct values places, advances, red_lines, spacing;
-#else
-static struct text second = {NULL, 0, 0};
 #endif
 
 /* What else a case asks. */
@@ -261,7 +259,7 @@ static void read_buffer(void)
         memset(buffer_bytes + start, fill, length);
 }
 
-#ifndef TESTKIT_BOX
+#ifndef PLANCHECK_BOX
 /* Doubles, each by its bits. */
 static void read_values(struct values *values)
 {
@@ -320,7 +318,7 @@ static int read_field(const char *word)
     return 1;
 }
 
-#ifdef TESTKIT_BOX
+#ifdef PLANCHECK_BOX
 /* Passes over a line of doubles, which only other calls use; its line feed stays. False where it is none. */
 static int read_metres(const char *word)
 {
@@ -464,6 +462,12 @@ static struct told ask_check_plan(void)
                                           ledger_length_of(0)));
 }
 
+static struct told ask_check_sheet(void)
+{
+    return plan_told(plancheck_check_sheet(network.bytes, network.length, plan.bytes, plan.length, second.bytes,
+                                           second.length, ledger_of(0), ledger_length_of(0)));
+}
+
 static struct told ask_link_state(void)
 {
     plancheck_link_result result =
@@ -491,17 +495,11 @@ static struct told ask_carry_on(void)
                                         ledger_of(0), ledger_length_of(0), buffer_of(0), buffer_length_of(0)));
 }
 
-#ifndef TESTKIT_BOX
+#ifndef PLANCHECK_BOX
 static struct told ask_plan_from_listing(void)
 {
     return text_told(plancheck_plan_from_listing(network.bytes, network.length, plan.bytes, plan.length, buffer_of(0),
                                                  buffer_length_of(0)));
-}
-
-static struct told ask_check_sheet(void)
-{
-    return plan_told(plancheck_check_sheet(network.bytes, network.length, plan.bytes, plan.length, second.bytes,
-                                           second.length, ledger_of(0), ledger_length_of(0)));
 }
 
 static struct told ask_plan_from_sheet(void)
@@ -585,11 +583,11 @@ struct call {
 static const struct call calls[] = {
     {"check_network", ask_check_network, 0, 0},
     {"check_plan", ask_check_plan, 1, 0},
+    {"check_sheet", ask_check_sheet, 1, 1},
     {"link_state", ask_link_state, 0, 0},
     {"carry_on", ask_carry_on, 1, 0},
-#ifndef TESTKIT_BOX
+#ifndef PLANCHECK_BOX
     {"plan_from_listing", ask_plan_from_listing, 1, 0},
-    {"check_sheet", ask_check_sheet, 1, 1},
     {"plan_from_sheet", ask_plan_from_sheet, 1, 0},
     {"compare_plans", ask_compare_plans, 1, 1},
     {"split", ask_split, 1, 0},
@@ -689,19 +687,12 @@ static int tell_wrong_text(void)
     return 2;
 }
 
-#ifndef TESTKIT_BOX
 static int is_other_version(void)
 {
     plancheck_version_result version = plancheck_version();
     return version.major != PLANCHECK_VERSION_MAJOR || version.minor != PLANCHECK_VERSION_MINOR ||
            version.patch != PLANCHECK_VERSION_PATCH;
 }
-#else
-static int is_other_version(void)
-{
-    return 0; /* a box has no call that tells it */
-}
-#endif
 
 int testkit_run(void)
 {
