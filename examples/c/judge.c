@@ -1,5 +1,6 @@
 /*
- * judge FOLDER: judges the network.tsv and plan.tsv of a folder with the plan check library. Prints the totals, the
+ * judge FOLDER: judges the network.tsv and plan.tsv of a folder with the plan check library. Prints the answer as the
+ * program plancheck does, fields parted by tabs: A and the four totals, or R, number, line and item. Then the totals, the
  * ledger and the state of each link at the end, or the refusal in words.
  *
  * Exit status: 0 accepted, 1 refused, 2 a file cannot be read or is too long.
@@ -18,6 +19,7 @@ static uint32_t ledger[PLANCHECK_LEDGER_MAX];
 static void print_refusal(uint32_t number, uint32_t line, uint32_t item)
 {
     const plancheck_words *words = plancheck_words_of(number);
+    printf("R\t%" PRIu32 "\t%" PRIu32 "\t%" PRIu32 "\n", number, line, item);
     if (words == NULL) {
         printf("refusal %" PRIu32 ", line %" PRIu32 ", item %" PRIu32 "\n", number, line, item);
         return;
@@ -38,6 +40,8 @@ static void print_volume(const char *name, uint64_t volume)
 
 static void print_totals(const plancheck_plan_result *totals)
 {
+    printf("A\t%" PRIu64 "\t%" PRIu64 "\t%" PRIu64 "\t%" PRIu64 "\n", totals->admitted, totals->let_out, totals->inside,
+           totals->doubled_time);
     print_volume("admitted", totals->admitted);
     print_volume("let out", totals->let_out);
     print_volume("inside at the end", totals->inside);
