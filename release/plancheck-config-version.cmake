@@ -1,0 +1,12 @@
+# A version serves who asks for one that is not greater, of the same major number; before 1.0.0 of the same minor number.
+set(PACKAGE_VERSION @VERSION@)
+string(REGEX MATCH "^(0\\.)?[0-9]+" plancheck_series "${PACKAGE_VERSION}")
+string(REGEX MATCH "^(0\\.)?[0-9]+" plancheck_asked "${PACKAGE_FIND_VERSION}")
+if(PACKAGE_FIND_VERSION VERSION_GREATER PACKAGE_VERSION OR NOT plancheck_asked STREQUAL plancheck_series)
+    set(PACKAGE_VERSION_COMPATIBLE FALSE)
+else()
+    set(PACKAGE_VERSION_COMPATIBLE TRUE)
+    if(PACKAGE_FIND_VERSION VERSION_EQUAL PACKAGE_VERSION)
+        set(PACKAGE_VERSION_EXACT TRUE)
+    endif()
+endif()
