@@ -36,6 +36,17 @@ class Board:
     def library(self):
         return library_for(self.target)
 
+    def compiler(self):
+        """The C compiler, with the options of the target."""
+        prefix, *options = next(words[1:] for words in rows("box/targets.txt") if words[0] == self.target)
+        return [f"{prefix}gcc", *options, *["--specs=picolibc.specs"] * self.target.startswith("riscv32")]
+
+    def emulator(self):
+        return ["qemu-system-riscv32", "-bios", "none"] if self.target.startswith("riscv32") else ["qemu-system-arm"]
+
+    def has_tools(self):
+        return all(shutil.which(tool[0]) for tool in (self.compiler(), self.emulator()))
+
 
 def rows(path):
     """The words of each line that is no comment."""
@@ -44,16 +55,11 @@ def rows(path):
 
 
 ALL = [Board(name, target, *(int(word, 0) for word in numbers)) for name, target, *numbers in rows("box/boards.txt")]
-MICROBIT, MPS2, WITH_FLOATS, SECURE = ALL
+MICROBIT, MPS2, WITH_FLOATS, SECURE, RISC_V = ALL
 
 LIBRARY = MICROBIT.library()
 NARROWED = f"{FOLDER}/{MICROBIT.target}/narrow/libplancheck.a"
 TRAPPING = f"{FOLDER}/{MICROBIT.target}/trap/libplancheck.a"
-
-
-def options_of(target):
-    """The options of the C compiler for a target."""
-    return next(words[2:] for words in rows("box/targets.txt") if words[0] == target)
 
 
 def need_tools():
@@ -157,15 +163,14 @@ def build(board, name, sources, inputs, library=None, options=()):
     places = {"FLASH_AT": board.flash_at, "FLASH_KB": board.flash, "RAM_AT": board.memory_at, "RAM_KB": board.memory}
     linking = ["-nostartfiles", "-Wl,--gc-sections", "-Tbox/board.ld"]
     linking += [f"-Wl,--defsym={place}={value}" for place, value in places.items()]
-    processor = [*options_of(board.target), "-ffunction-sections"]
-    output_of("arm-none-eabi-gcc", *STRICT, *processor, *options, f"-I{inputs}", "box/board.c", *sources, library, *linking, "-o", path)
+    output_of(*board.compiler(), *STRICT, "-ffunction-sections", *options, f"-I{inputs}", "box/board.c", *sources, library, *linking, "-o", path)
     return path
 
 
 def qemu(board, path, *options):
     """The command that runs a program on a board."""
     words = ["-nographic", "-monitor", "none", "-serial", "none", "-semihosting-config", "enable=on,target=native"]
-    return ["qemu-system-arm", "-M", board.name, *words, *options, "-kernel", path]
+    return [*board.emulator(), "-M", board.name, *words, *options, "-kernel", path]
 
 
 def run(board, path, *options):

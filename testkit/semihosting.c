@@ -1,11 +1,28 @@
 /*
- * Runs the cases on an Arm Cortex-M by semihosting, under a debugger or in qemu: words go to the host, and the cases
+ * Runs the cases on a Cortex-M or RISC-V by semihosting, under a debugger or in qemu: words go to the host, and the cases
  * come from the host's file TESTKIT_FILE, or with TESTKIT_IN_MEMORY from memory, where cases.S puts that file. The
  * start of the board and its linker script are the board's own.
  */
 #include "testkit.h"
 
 #include <stdint.h>
+
+#ifdef __riscv
+
+/* Three instructions that stand together tell it from another stop of the debugger. */
+static uint32_t semihosting(uint32_t operation, const void *argument)
+{
+    register uint32_t a0 __asm__("a0") = operation;
+    register const void *a1 __asm__("a1") = argument;
+    __asm__ volatile(".balign 16\n .option push\n .option norvc\n slli zero, zero, 0x1f\n ebreak\n srai zero, zero, 7\n"
+                     ".option pop"
+                     : "+r"(a0)
+                     : "r"(a1)
+                     : "memory");
+    return a0;
+}
+
+#else
 
 static uint32_t semihosting(uint32_t operation, const void *argument)
 {
@@ -14,6 +31,8 @@ static uint32_t semihosting(uint32_t operation, const void *argument)
     __asm__ volatile("bkpt 0xab" : "+r"(r0) : "r"(r1) : "memory");
     return r0;
 }
+
+#endif
 
 void testkit_print(const char *words)
 {
