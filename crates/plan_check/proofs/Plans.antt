@@ -6,7 +6,7 @@ use mathlib.Core.List.{List}
 use native.Mathlib.Numerals.{add-one}
 use borrow.Author.Tests.{le-leb, lt-leb}
 use lib.Dec.{leb}
-use lib.ListN.{length, replicate}
+use lib.ListN.{length}
 use Rattle.base_search.specs.declared.Refusal.{Refusal}
 use Rattle.base_search.specs.declared.Verdict.the-variants as verdicts
 use Rattle.base_search.specs.Checks.{refusal, verdict}
@@ -28,12 +28,9 @@ use Rattle.model.proofs.Hold.{empty-holds}
 use Rattle.network_tables.specs.declared.Reading.{Reading}
 use Rattle.network_tables.specs.declared.Stage.{Stage}
 use Rattle.network_tables.specs.declared.Stage.the-variants as stages
-use Rattle.network_tables.specs.Fields.{signalTableSize}
 use Rattle.network_tables.specs.Tables.{Judged, SignalTable}
 use Rattle.network_tables.proofs.Stages.{verdict-refused}
-use Rattle.network_signals.specs.Stages.{LoadAsked}
-use Rattle.network_signals.proofs.Passed.{signals-passed, load-zeros}
-use Rattle.network.specs.Loading.{Loaded, LoadedWithSignals}
+use Rattle.network.specs.Loading.{Loaded}
 use Rattle.plan_steps.specs.Steps.{RunAsked, RunGot}
 use Rattle.plan_check.specs.Plan.{PlanGot}
 
@@ -101,14 +98,6 @@ module _ (networkText planText links movements times old : List ℕ) (reading : 
           answered = got .answered ∙ ap (planAnswer net pln) (sym v) ∙ (unfold checkPlan in refl);
           written-rows = got .rows;
         }
-
--- the signals are read again
-module _ {text links movements times : List ℕ} {reading : Reading} (loaded : Loaded text links movements times reading) where
-  pub load-asked : {signals : List ℕ} → signals ≡ replicate signalTableSize 0 → LoadAsked text reading signals
-  load-asked zeros = load-zeros (signals-passed (loaded .signals-start) (loaded .counted) (loaded .holds)) zeros
-
-  pub with-signals : {signals : List ℕ} → SignalTable (lines text) signals → LoadedWithSignals text signals links movements times reading
-  with-signals table = record { loaded = loaded; signal-table = table }
 
 -- a network's refusal
 planned : (network plan : List Line) (size : ℕ) (r : Refusal) → verdict (networkChecks network) ≡ verdicts.Refused r → verdict (planChecks network plan size) ≡ verdicts.Refused r

@@ -6,7 +6,7 @@ ghost use Rattle.text_reader.specs.Padding.{PaddingIgnored};
 ghost use Rattle.model.specs.Hold.{planOf, EmptyHolds};
 ghost use Rattle.model.specs.Calls.{checkPlan, ledgerAfter};
 ghost use Rattle.model.specs.Guarantees.{Promises};
-ghost use Rattle.network.specs.Loading.{Loaded, LoadedWithSignals};
+ghost use Rattle.network.specs.Loading.{LoadedWithSignals};
 ghost use Rattle.plan_check.specs.Plan.{PlanGot};
 use base_search::Refusal;
 use model::PlanAnswer;
@@ -47,7 +47,7 @@ pub fn judge_with_signals(
     )
 }
 
-// The same where the signals are not at hand: the `G` lines are read again.
+// The same with signals that are needed once more: those of a copy step on.
 pub fn judge_plan(
     network: &[u8],
     plan: &[u8],
@@ -55,13 +55,13 @@ pub fn judge_plan(
     links: &[u32],
     movements: &[u32],
     times: &[u32],
+    signals: &[u32; SIGNAL_TABLE_SIZE],
     ledger: &mut [u32],
 ) -> PlanAnswer
-    requires { ⌜ Loaded (now network) (now links) (now movements) (now times) reading ⌝ }
+    requires { ⌜ LoadedWithSignals (now network) (now signals) (now links) (now movements) (now times) reading ⌝ }
     ensures { λ r. ⌜ PlanGot (now (network .entry)) (now (plan .entry)) (now (ledger .entry)) r (now (ledger .exit)) ⌝ }
 {
-    let mut signals = [0u32; SIGNAL_TABLE_SIZE];
-    network_signals::load_signals(network, reading, &mut signals);
+    let mut signals = *signals;
     judge_with_signals(
         network,
         plan,

@@ -26,12 +26,9 @@ use Rattle.model.proofs.Promises.{passes-of-accepted, refused-of-refused}
 use Rattle.network_tables.specs.declared.Reading.{Reading}
 use Rattle.network_tables.specs.declared.Stage.{Stage}
 use Rattle.network_tables.specs.declared.Stage.the-variants as stages
-use Rattle.network_tables.specs.Fields.{signalTableSize}
 use Rattle.network_tables.specs.Tables.{SignalTable, Judged}
 use Rattle.network_tables.proofs.Stages.{verdict-refused}
-use Rattle.network_signals.specs.Stages.{LoadAsked}
-use Rattle.network_signals.proofs.Passed.{signals-passed, load-zeros}
-use Rattle.network.specs.Loading.{Loaded}
+use Rattle.network.specs.Loading.{LoadedWithSignals}
 use Rattle.plan_steps.proofs.Runs.{signals-first}
 use Rattle.plan_check.specs.Plan.{PlanGot}
 use Rattle.sheet_lines.specs.Sheet.{sheetChecks}
@@ -152,16 +149,15 @@ pub network-refused : {network sheet plan : List Line} {old : List ℕ} {stage :
 unfolding verdict
 network-refused judged e = first-refused _ _ _ _ (or-else-refused _ _ _ (verdict-refused judged e))
 
--- it has passed, and its signals are loaded
-module _ {text links movements times : List ℕ} {reading : Reading} (loaded : Loaded text links movements times reading) where
-  pub load-asked : {signals : List ℕ} → signals ≡ replicate signalTableSize 0 → LoadAsked text reading signals
-  load-asked zeros = load-zeros (signals-passed (loaded .signals-start) (loaded .counted) (loaded .holds)) zeros
+-- it has passed
+pub read-asked : {text signals links movements times : List ℕ} {reading : Reading} → LoadedWithSignals text signals links movements times reading → {table : List ℕ} → length table ≡ sheetTableSize
+    → SheetAsked signals (reading .counts .signals) 0 table
+read-asked {text} held l =
+    let loaded = held .loaded in
+    sheet-asked (held .signal-table) (loaded .counted .signals) (valid-network (lines text) (loaded .holds)) (loaded .counted .few .signals) (omega arith) l
 
-  pub read-asked : {signals : List ℕ} → SignalTable (lines text) signals → {table : List ℕ} → length table ≡ sheetTableSize → SheetAsked signals (reading .counts .signals) 0 table
-  read-asked t l = sheet-asked t (loaded .counted .signals) (valid-network (lines text) (loaded .holds)) (loaded .counted .few .signals) (omega arith) l
-
--- a sheet is read for them
-module _ {text links movements times : List ℕ} {reading : Reading} (loaded : Loaded text links movements times reading) {signals : List ℕ} (signal-table : SignalTable (lines text) signals)
+-- a sheet is read for its signals
+module _ {text signals links movements times : List ℕ} {reading : Reading} (held : LoadedWithSignals text signals links movements times reading)
     {sheetText table : List ℕ} {read : Verdict} (got : SheetRead signals (reading .counts .signals) 0 sheetText read table) where
   abbrev network : List Line
   network = lines text
@@ -170,11 +166,11 @@ module _ {text links movements times : List ℕ} {reading : Reading} (loaded : L
   sheet = lines sheetText
 
   passes : verdict (networkChecks network) ≡ verdicts.Passes
-  passes = passes-of-hold (networkChecks network) (loaded .holds)
+  passes = passes-of-hold (networkChecks network) (held .loaded .holds)
 
   first-is : verdict (firstChecks network sheet) ≡ read
   unfolding verdict
-  first-is = or-else-passes _ _ passes ∙ sym (sheet-told signal-table (loaded .counted .signals) got)
+  first-is = or-else-passes _ _ passes ∙ sym (sheet-told (held .signal-table) (held .loaded .counted .signals) got)
 
   pub sheet-refused : {plan : List Line} {old : List ℕ} {q : Refusal} → read ≡ verdicts.Refused q → SheetPromises network sheet plan old old (plan-answer.Refused q)
   sheet-refused e = first-refused network sheet _ _ (first-is ∙ e)
@@ -209,7 +205,7 @@ module _ {text links movements times : List ℕ} {reading : Reading} (loaded : L
       unfolding Hold planChecks planLineChecks
       pass-asked =
           record {
-            network-held = record { counted = loaded .counted; trams-start = loaded .trams-start; steps-start = loaded .steps-start; holds = loaded .holds };
+            network-held = record { counted = held .loaded .counted; trams-start = held .loaded .trams-start; steps-start = held .loaded .steps-start; holds = held .loaded .holds };
             room = got .held e .room;
             lawful = hold-of-passes _ plan-passes .1 .1 .0;
           }
@@ -221,7 +217,7 @@ module _ {text links movements times : List ℕ} {reading : Reading} (loaded : L
 
       module _ {v : Verdict} (run : PassGot text planText table v) where
         runs-told : {told : PlanAnswer} → told ≡ planAnswer network plan v → SheetPromises network sheet plan old after told
-        runs-told w = promised network sheet plan old (kept-is ∙ or-else-passes _ _ (sym rest-is ∙ plan-passes) ∙ sym (run .told sheet (λ r l k u. sheet-number signal-table (loaded .counted .signals) got e r l k (omega arith)))) w ledger-is
+        runs-told w = promised network sheet plan old (kept-is ∙ or-else-passes _ _ (sym rest-is ∙ plan-passes) ∙ sym (run .told sheet (λ r l k u. sheet-number (held .signal-table) (held .loaded .counted .signals) got e r l k (omega arith)))) w ledger-is
 
         pub runs-kept : v ≡ verdicts.Passes → SheetPromises network sheet plan old after (plan-answer.Accepted t)
         runs-kept p = runs-told (totals-are ∙ ap (planAnswer network plan) (sym p))

@@ -10,7 +10,7 @@ ghost use Rattle.model.specs.Hold.{planOf};
 ghost use Rattle.model.specs.Network.{maxSignals};
 ghost use Rattle.network_tables.specs.Fields.{signalTableSize, tableSignal};
 ghost use Rattle.network_tables.specs.Tables.{SignalTable};
-ghost use Rattle.network.specs.Loading.{Loaded};
+ghost use Rattle.network.specs.Loading.{LoadedWithSignals};
 ghost use Rattle.model_sheet.specs.Runs.{earlier, passVerdict};
 ghost use Rattle.model_sheet.specs.Promises.{SheetPromises};
 ghost use Rattle.sheet_check.specs.Watch.{watchIn, firstBroken, watchAfter, nextWatch, durationIn, DurationAsked, WatchAsked, Watched};
@@ -278,24 +278,32 @@ fn check_on_network(
     links: &[u32],
     movements: &[u32],
     times: &[u32],
+    signals: &mut [u32; SIGNAL_TABLE_SIZE],
     ledger: &mut [u32],
 ) -> PlanAnswer
-    requires { ⌜ Loaded (now network) (now links) (now movements) (now times) reading ⌝ }
+    requires { ⌜ LoadedWithSignals (now network) (now signals) (now links) (now movements) (now times) reading ⌝ }
     ensures { λ r. ⌜ SheetPromises (lines (now (network .entry))) (lines (now (sheet .entry))) (planOf (now (network .entry)) (now (plan .entry))) (now (ledger .entry)) (now (ledger .exit)) r ⌝ }
 {
-    let mut signals = [0u32; SIGNAL_TABLE_SIZE];
     let mut table = [0u32; SHEET_TABLE_SIZE];
     let count = reading.counts.signals;
-    network_signals::load_signals(network, reading, &mut signals);
-    let read = sheet_lines::read_sheet(sheet, &signals, count, 0, &mut table);
+    let read = sheet_lines::read_sheet(sheet, signals, count, 0, &mut table);
     if let Verdict::Refused(refusal) = read {
         return PlanAnswer::Refused(refusal);
     }
-    let answer = plan_check::judge_plan(network, plan, reading, links, movements, times, ledger);
+    let answer = plan_check::judge_plan(
+        network,
+        plan,
+        reading,
+        links,
+        movements,
+        times,
+        signals,
+        ledger,
+    );
     let PlanAnswer::Accepted(totals) = answer else {
         return answer;
     };
-    match pass_plan(network, plan, reading, &table, &mut signals) {
+    match pass_plan(network, plan, reading, &table, signals) {
         Verdict::Passes => PlanAnswer::Accepted(totals),
         Verdict::Refused(refusal) => PlanAnswer::Refused(refusal),
     }
@@ -306,10 +314,17 @@ pub fn check_sheet(network: &[u8], plan: &[u8], sheet: &[u8], ledger: &mut [u32]
     ensures { λ r. ⌜ SheetPromises (lines (now (network .entry))) (lines (now (sheet .entry))) (planOf (now (network .entry)) (now (plan .entry))) (now (ledger .entry)) (now (ledger .exit)) r ⌝ }
     ensures { λ r. ⌜ PaddingIgnored (now (network .entry)) (λ paddedNetwork. PaddingIgnored (now (plan .entry)) (λ paddedPlan. PaddingIgnored (now (sheet .entry)) (λ paddedSheet. SheetPromises (lines paddedNetwork) (lines paddedSheet) (planOf paddedNetwork paddedPlan) (now (ledger .entry)) (now (ledger .exit)) r))) ⌝ }
 {
+    let mut signals = [0u32; SIGNAL_TABLE_SIZE];
     let mut links = [0u32; LINK_TABLE_SIZE];
     let mut movements = [0u32; MOVEMENT_TABLE_SIZE];
     let mut times = [0u32; TIME_TABLE_SIZE];
-    match network::load_network(network, &mut links, &mut movements, &mut times) {
+    match network::load_with_signals(
+        network,
+        &mut signals,
+        &mut links,
+        &mut movements,
+        &mut times,
+    ) {
         Stage::Refused(refusal) => PlanAnswer::Refused(refusal),
         Stage::Passed(reading) => check_on_network(
             network,
@@ -319,6 +334,7 @@ pub fn check_sheet(network: &[u8], plan: &[u8], sheet: &[u8], ledger: &mut [u32]
             &links,
             &movements,
             &times,
+            &mut signals,
             ledger,
         ),
     }
