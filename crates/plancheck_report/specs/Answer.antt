@@ -3,13 +3,13 @@ use Prim.Native.Nat.{ℕ, _≤_}
 use mathlib.Core.Path.{_≡_}
 use mathlib.Core.List.{List, [], _∷_, _++_}
 use lib.ListN.{length}
-use Rattle.text_reader.specs.Lines.{Line}
 use Rattle.text_writer.specs.Records.{recordText}
 use Rattle.base_search.specs.declared.Refusal.{Refusal}
 use Rattle.model.specs.declared.Totals.{Totals}
 use Rattle.model.specs.declared.PlanAnswer.{PlanAnswer}
 use Rattle.model.specs.declared.PlanAnswer.the-variants.{Accepted, Refused}
-use Rattle.plancheck_report.specs.Boundaries.{boundaryTexts, BoundariesAsked}
+use Rattle.network_tables.specs.declared.Counts.{Counts}
+use Rattle.plancheck_report.specs.Boundaries.{boundaryTexts, RowsAsked}
 
 -- the `A` record
 abbrev pub totalsText : Totals → List ℕ
@@ -19,11 +19,11 @@ totalsText t = recordText 65 (t .admitted ∷ t .«let_out» ∷ t .inside ∷ t
 abbrev pub refusalText : Refusal → List ℕ
 refusalText r = recordText 82 (r .number ∷ r .line ∷ r .item ∷ [])
 
-unfoldable pub answerText : List Line → PlanAnswer → List ℕ → List ℕ
-answerText network (Accepted t) ledger = totalsText t ++ boundaryTexts network ledger
-answerText network (Refused r) ledger = refusalText r
+unfoldable pub answerText : Counts → List ℕ → PlanAnswer → List ℕ → List ℕ
+answerText counts times (Accepted t) ledger = totalsText t ++ boundaryTexts counts times ledger
+answerText counts times (Refused r) ledger = refusalText r
 
 -- an `A` record has at most 86 bytes, an `R` record fewer
-pub record AnswerAsked (out : List ℕ) (network : List Line) (answer : PlanAnswer) (ledger : List ℕ) : Type 0 where
+pub record AnswerAsked (out : List ℕ) (counts : Counts) (times : List ℕ) (answer : PlanAnswer) (ledger : List ℕ) : Type 0 where
   pub room : 86 ≤ length out
-  pub accepted : (t : Totals) → answer ≡ Accepted t → BoundariesAsked out 86 network ledger
+  pub accepted : (t : Totals) → answer ≡ Accepted t → RowsAsked out 86 counts times ledger

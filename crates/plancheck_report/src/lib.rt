@@ -1,15 +1,15 @@
 // Writes what the program `plancheck` prints into a lent buffer: the whole text is proved, and the bytes behind it are kept.
 ghost use mathlib.Core.Path.{_≡_};
 ghost use mathlib.Core.List.{_∷_, _++_};
-ghost use Prim.Native.Nat.{suc, _+_, _*_, _≤_};
-ghost use lib.ListN.{length, getD};
-ghost use Rattle.text_reader.specs.Lines.{lines};
+ghost use Prim.Native.Nat.{_+_, _≤_};
+ghost use lib.ListN.{length};
 ghost use Rattle.text_reader.specs.Padding.{PaddingIgnored};
-ghost use Rattle.text_writer.specs.Records.{recordText, recordTexts};
+ghost use Rattle.text_writer.specs.Records.{recordText};
 ghost use Rattle.text_writer.specs.Writing.{putAt, Wrote};
 ghost use Rattle.model.specs.Report.{report, notRead};
 ghost use Rattle.network_tables.specs.Fields.{rowSize};
-ghost use Rattle.plancheck_report.specs.Boundaries.{ledgerNumbers, boundaryTexts, RowsAsked, BoundariesAsked};
+ghost use Rattle.network.specs.Loading.{LoadedWithSignals};
+ghost use Rattle.plancheck_report.specs.Boundaries.{boundaryTexts, RowsAsked};
 ghost use Rattle.plancheck_report.specs.Answer.{totalsText, refusalText, answerText, AnswerAsked};
 use base_search::Refusal;
 use model::PlanAnswer;
@@ -18,6 +18,8 @@ use network_tables::Counts;
 use network_tables::LINK_TABLE_SIZE;
 use network_tables::MOVEMENT_TABLE_SIZE;
 use network_tables::ROW_SIZE;
+use network_tables::Reading;
+use network_tables::SIGNAL_TABLE_SIZE;
 use network_tables::Stage;
 use network_tables::TIME_TABLE_SIZE;
 
@@ -52,7 +54,7 @@ fn write_boundary(out: &mut [u8], at: usize, n: usize, time: u32, row: &[u32]) -
 // Writes the `B` records of boundaries 0 to K, by the counts and times of a network that has passed.
 fn write_rows(out: &mut [u8], at: usize, counts: Counts, times: &[u32], ledger: &[u32]) -> usize
     requires { ⌜ RowsAsked (now out) at counts (now times) (now ledger) ⌝ }
-    ensures { λ r. ⌜ Wrote (recordTexts 66 (suc (counts .steps)) (ledgerNumbers (counts .links) (λ n. getD (now (times .entry)) n 0) (now (ledger .entry)))) at (now (out .entry)) (now (out .exit)) r ⌝ }
+    ensures { λ r. ⌜ Wrote (boundaryTexts counts (now (times .entry)) (now (ledger .entry))) at (now (out .entry)) (now (out .exit)) r ⌝ }
 {
     let mut next = at;
     let mut n: usize = 0;
@@ -65,28 +67,16 @@ fn write_rows(out: &mut [u8], at: usize, counts: Counts, times: &[u32], ledger: 
     next
 }
 
-// Writes the `B` records of an accepted plan, whose rows stand in the ledger: the network's text tells the counts and the time of each boundary.
-fn write_boundaries(out: &mut [u8], at: usize, network: &[u8], ledger: &[u32]) -> usize
-    requires { ⌜ BoundariesAsked (now out) at (lines (now network)) (now ledger) ⌝ }
-    ensures { λ r. ⌜ Wrote (boundaryTexts (lines (now (network .entry))) (now (ledger .entry))) at (now (out .entry)) (now (out .exit)) r ⌝ }
-{
-    let mut links = [0u32; LINK_TABLE_SIZE];
-    let mut movements = [0u32; MOVEMENT_TABLE_SIZE];
-    let mut times = [0u32; TIME_TABLE_SIZE];
-    match network::load_network(network, &mut links, &mut movements, &mut times) {
-        Stage::Passed(reading) => {
-            let counts = reading.counts;
-            step_arrivals::from_start(&mut times, counts.past, counts.steps);
-            write_rows(out, at, counts, &times, ledger)
-        }
-        Stage::Refused(_) => at,
-    }
-}
-
 // Writes `A` with the four totals, and the `B` records behind it.
-fn write_accepted(out: &mut [u8], network: &[u8], ledger: &[u32], totals: Totals) -> usize
-    requires { ⌜ BoundariesAsked (now out) 86 (lines (now network)) (now ledger) ⌝ }
-    ensures { λ r. ⌜ Wrote (totalsText totals ++ boundaryTexts (lines (now (network .entry))) (now (ledger .entry))) 0 (now (out .entry)) (now (out .exit)) r ⌝ }
+fn write_accepted(
+    out: &mut [u8],
+    counts: Counts,
+    times: &[u32],
+    ledger: &[u32],
+    totals: Totals,
+) -> usize
+    requires { ⌜ RowsAsked (now out) 86 counts (now times) (now ledger) ⌝ }
+    ensures { λ r. ⌜ Wrote (totalsText totals ++ boundaryTexts counts (now (times .entry)) (now (ledger .entry))) 0 (now (out .entry)) (now (out .exit)) r ⌝ }
 {
     let fields = [
         totals.admitted,
@@ -95,7 +85,7 @@ fn write_accepted(out: &mut [u8], network: &[u8], ledger: &[u32], totals: Totals
         totals.doubled_time,
     ];
     let next = text_writer::write_record(out, 0, b'A', &fields);
-    write_boundaries(out, next, network, ledger)
+    write_rows(out, next, counts, times, ledger)
 }
 
 // Writes `R`, number, line, item.
@@ -112,25 +102,82 @@ fn write_refusal(out: &mut [u8], refusal: Refusal) -> usize
 }
 
 // Writes the answer of a plan's check; the rows of an accepted plan stand in the ledger.
-fn write_answer(out: &mut [u8], network: &[u8], answer: PlanAnswer, ledger: &[u32]) -> usize
-    requires { ⌜ AnswerAsked (now out) (lines (now network)) answer (now ledger) ⌝ }
-    ensures { λ r. ⌜ Wrote (answerText (lines (now (network .entry))) answer (now (ledger .entry))) 0 (now (out .entry)) (now (out .exit)) r ⌝ }
+fn write_answer(
+    out: &mut [u8],
+    counts: Counts,
+    times: &[u32],
+    answer: PlanAnswer,
+    ledger: &[u32],
+) -> usize
+    requires { ⌜ AnswerAsked (now out) counts (now times) answer (now ledger) ⌝ }
+    ensures { λ r. ⌜ Wrote (answerText counts (now (times .entry)) answer (now (ledger .entry))) 0 (now (out .entry)) (now (out .exit)) r ⌝ }
 {
     match answer {
-        PlanAnswer::Accepted(totals) => write_accepted(out, network, ledger, totals),
+        PlanAnswer::Accepted(totals) => write_accepted(out, counts, times, ledger, totals),
         PlanAnswer::Refused(refusal) => write_refusal(out, refusal),
     }
 }
 
-// Writes the report of two texts that were read: the ledger is long enough for every network.
+// Judges a plan on a network that has passed, and writes the report: the ledger is long enough for every network. The times become those of the plan.
+fn write_judged(
+    network: &[u8],
+    plan: &[u8],
+    reading: Reading,
+    signals: &mut [u32],
+    links: &[u32],
+    movements: &[u32],
+    times: &mut [u32],
+    out: &mut [u8],
+) -> usize
+    requires { ⌜ LoadedWithSignals (now network) (now signals) (now links) (now movements) (now times) reading ⌝ }
+    requires { ⌜ 131072 ≤ length (now out) ⌝ }
+    ensures { λ r. ⌜ Wrote (report (now (network .entry)) (now (plan .entry))) 0 (now (out .entry)) (now (out .exit)) r ⌝ }
+{
+    let mut ledger = [0u32; LEDGER_SIZE];
+    let answer = plan_check::judge_with_signals(
+        network,
+        plan,
+        reading,
+        links,
+        movements,
+        times,
+        signals,
+        &mut ledger,
+    );
+    let counts = reading.counts;
+    step_arrivals::from_start(times, counts.past, counts.steps);
+    write_answer(out, counts, times, answer, &ledger)
+}
+
+// Writes the report of two texts that were read.
 pub fn write_report(network: &[u8], plan: &[u8], out: &mut [u8]) -> usize
     requires { ⌜ 131072 ≤ length (now out) ⌝ }
     ensures { λ r. ⌜ Wrote (report (now (network .entry)) (now (plan .entry))) 0 (now (out .entry)) (now (out .exit)) r ⌝ }
     ensures { λ r. ⌜ PaddingIgnored (now (network .entry)) (λ paddedNetwork. PaddingIgnored (now (plan .entry)) (λ paddedPlan. Wrote (report paddedNetwork paddedPlan) 0 (now (out .entry)) (now (out .exit)) r)) ⌝ }
 {
-    let mut ledger = [0u32; LEDGER_SIZE];
-    let answer = plan_check::check_plan(network, plan, &mut ledger);
-    write_answer(out, network, answer, &ledger)
+    let mut signals = [0u32; SIGNAL_TABLE_SIZE];
+    let mut links = [0u32; LINK_TABLE_SIZE];
+    let mut movements = [0u32; MOVEMENT_TABLE_SIZE];
+    let mut times = [0u32; TIME_TABLE_SIZE];
+    match network::load_with_signals(
+        network,
+        &mut signals,
+        &mut links,
+        &mut movements,
+        &mut times,
+    ) {
+        Stage::Refused(refusal) => write_refusal(out, refusal),
+        Stage::Passed(reading) => write_judged(
+            network,
+            plan,
+            reading,
+            &mut signals,
+            &links,
+            &movements,
+            &mut times,
+            out,
+        ),
+    }
 }
 
 // Writes `L`: the network (1) or the plan (2) is longer than the program takes, or not to be opened or read.

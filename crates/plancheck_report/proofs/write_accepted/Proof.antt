@@ -1,5 +1,5 @@
 -- `plancheck_report::write_accepted` meets its contract: the `B` records stand behind the `A` record. Assumes nothing.
-use Rattle.plancheck_report.proofs.Answer.{boundaries-asked, accepted-wrote}
+use Rattle.plancheck_report.proofs.Answer.{rows-asked, accepted-wrote}
 use Rattle.text_writer.proofs.Laws.{record-fits}
 use borrow.Author.Needs.{needs}
 use Rattle.plancheck_report.proofs.write_accepted.Statement.{statement}
@@ -8,11 +8,11 @@ use Rattle.plancheck_report.proofs.write_accepted.Tie as tie
 write-record-requires : tie.Need-write-record-requires
 write-record-requires c κs = record-fits _ _ _ _ (search needs)
 
-write-boundaries-requires : tie.Need-write-boundaries-requires
-write-boundaries-requires c κs = boundaries-asked (c .before .before .before .before .before .before .before .before .before .pre) (c .before .before .before .before .before .before .before .before .before .args .totals) (c .before .before .before .write-record .ensures)
+write-rows-requires : tie.Need-write-rows-requires
+write-rows-requires c κs = rows-asked (c .before .before .before .before .before .before .before .before .before .pre) (c .before .before .before .before .before .before .before .before .before .args .totals) (c .before .before .before .write-record .ensures)
 
 returns : tie.Need-returns
-returns c = accepted-wrote (c .before .before .before .before .before .before .before .before .before .before .before .before .pre) (c .before .before .before .before .before .before .before .before .before .before .before .before .args .totals) (c .before .before .before .before .before .before .write-record .ensures) (c .before .before .write-boundaries .ensures)
+returns c = accepted-wrote (c .before .before .before .before .before .before .before .before .before .before .before .before .pre) (c .before .before .before .before .before .before .before .before .before .before .before .before .args .totals) (c .before .before .before .before .before .before .write-record .ensures) (c .before .before .write-rows .ensures)
 
 pub write-accepted-spec : {M : Type 1} → statement M
 write-accepted-spec =
@@ -20,6 +20,6 @@ write-accepted-spec =
     (tie.spec
     (λ c. search needs)
     write-record-requires
-    write-boundaries-requires
+    write-rows-requires
     (λ c. search needs)
     returns)

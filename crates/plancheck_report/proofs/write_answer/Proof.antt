@@ -1,5 +1,4 @@
 -- `plancheck_report::write_answer` meets its contract, answer by answer. Assumes nothing.
-use Rattle.text_reader.specs.Lines.{lines}
 use Rattle.plancheck_report.proofs.Answer.{accepted-told, refused-told}
 use borrow.Author.Needs.{needs}
 use Rattle.plancheck_report.proofs.write_answer.Statement.{statement}
@@ -9,10 +8,10 @@ write-accepted-requires : tie.Need-write-accepted-requires
 write-accepted-requires c κs = c .before .before .before .before .before .before .before .pre .accepted _ (c .before .before .answer .given .1)
 
 returns : tie.Need-returns
-returns c = accepted-told (lines (c .before .before .before .before .before .before .before .before .before .before .args .network .now)) (c .before .before .before .before .before .before .before .before .before .before .args .ledger .now) (c .before .before .before .before .before .answer .given .1) (c .before .before .write-accepted .ensures)
+returns c = accepted-told (c .before .before .before .before .before .before .before .before .before .before .args .counts) (c .before .before .before .before .before .before .before .before .before .before .args .times .now) (c .before .before .before .before .before .before .before .before .before .before .args .ledger .now) (c .before .before .before .before .before .answer .given .1) (c .before .before .write-accepted .ensures)
 
 returns-2 : tie.Need-returns-2
-returns-2 c = refused-told (lines (c .before .before .before .before .before .before .before .before .before .before .args .network .now)) (c .before .before .before .before .before .before .before .before .before .before .args .ledger .now) (c .before .before .before .before .before .answer2 .given .1) (c .before .before .write-refusal .ensures)
+returns-2 c = refused-told (c .before .before .before .before .before .before .before .before .before .before .args .counts) (c .before .before .before .before .before .before .before .before .before .before .args .times .now) (c .before .before .before .before .before .before .before .before .before .before .args .ledger .now) (c .before .before .before .before .before .answer2 .given .1) (c .before .before .write-refusal .ensures)
 
 pub write-answer-spec : {M : Type 1} → statement M
 write-answer-spec =

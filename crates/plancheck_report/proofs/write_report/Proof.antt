@@ -1,33 +1,47 @@
--- `plancheck_report::write_report` meets its contract: the answer and the ledger of `check_plan` tell the report. Assumes nothing.
-use Prim.Native.Nat.{ℕ}
+-- `plancheck_report::write_report` meets its contract. Assumes nothing.
+use mathlib.Core.Path.{refl}
 use borrow.Author.Needs.{needs}
-use lib.ListN.{replicate, length-replicate}
-use Rattle.plancheck_report.specs.Boundaries.{ledgerSize}
-use Rattle.plancheck_report.proofs.Report.{answer-asked, report-wrote, same-report}
+use Rattle.network.proofs.Rooms.{zero-rooms}
+use Rattle.plancheck_report.proofs.Report.{refused-wrote, padding-too}
 use Rattle.plancheck_report.proofs.write_report.Statement.{statement}
 use Rattle.plancheck_report.proofs.write_report.Tie as tie
 
-write-answer-requires : tie.Need-write-answer-requires
-write-answer-requires c κs =
-    let p = c .before .before .before in
-    let s = p .before .before .before .before .before in
-    answer-asked (s .args .network .now) (s .args .plan .now) (replicate ledgerSize 0) (length-replicate {A = ℕ} ledgerSize 0) (p .check-plan .ensures .0) (p .check-plan .ensures .1 .0) (s .pre)
+load-with-signals-requires : tie.Need-load-with-signals-requires
+load-with-signals-requires c κs = zero-rooms refl (search needs)
+
+write-judged-requires : tie.Need-write-judged-requires
+write-judged-requires c κs = (c .before .before .before .before .before .before .before .before .before .before .before .before .load-with-signals .ensures .held _ (c .before .before .before .before .before .before .reading .given .1), c .before .before .before .before .before .before .before .before .before .before .before .before .before .before .before .before .before .before .before .before .pre)
 
 returns : tie.Need-returns
 returns c =
-    let w = c .before .before in
-    let p = w .before .before .before .before in
-    let s = p .before .before .before .before .before in
-    let wrote = report-wrote (s .args .network .now) (s .args .plan .now) (replicate ledgerSize 0) (length-replicate {A = ℕ} ledgerSize 0) (p .check-plan .ensures .0) (p .check-plan .ensures .1 .0) (w .write-answer .ensures) in
-    (wrote, λ paddedNetwork n paddedPlan q. rw (← same-report _ _ paddedNetwork paddedPlan n q) wrote)
+    let l = c .before .before .before .before .before .before .before .before .before .before .before in
+    let s = l .before .before .before .before .before .before .before .before in
+    padding-too (s .args .network .now) (s .args .plan .now) (refused-wrote (s .args .network .now) (s .args .plan .now) (l .load-with-signals .ensures) (c .before .before .before .before .before .refusal .given .1) (c .before .before .write-refusal .ensures))
+
+returns-2 : tie.Need-returns-2
+returns-2 c =
+    let w = c .before .before .before .before in
+    let s = w .before .before .before .before .before .before .before .before .before .before .before .before .before .before .before .before .before .before .before .before .before in
+    padding-too (s .args .network .now) (s .args .plan .now) (w .write-judged .ensures)
 
 pub write-report-spec : {M : Type 1} → statement M
 write-report-spec =
     tie.close
     (tie.spec
     (λ c. search needs)
+    (λ c. search needs)
+    (λ c. search needs)
+    (λ c. search needs)
+    load-with-signals-requires
+    (λ c. search needs)
     (λ c κs. search needs)
     (λ c. search needs)
-    write-answer-requires
     (λ c. search needs)
-    returns)
+    (λ c. search needs)
+    (λ c. search needs)
+    (λ c. search needs)
+    write-judged-requires
+    (λ c. search needs)
+    returns
+    (λ c. search needs)
+    returns-2)
