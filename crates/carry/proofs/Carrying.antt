@@ -192,7 +192,8 @@ module _ (networkText planText : List ℕ) (b : ℕ) (buffer : List ℕ) {readin
   steps-asked size =
       let loaded = a .loaded in
       record {
-        tables = record { holds = loaded .holds; counted = loaded .counted; trams-start = loaded .trams-start; link-table = loaded .link-table; movement-table = loaded .movement-table; time-table = loaded .time-table };
+        tables = record { holds = loaded .holds; counted = loaded .counted; link-table = loaded .link-table; movement-table = loaded .movement-table; time-table = loaded .time-table };
+        trams-start = loaded .trams-start;
         signal-table = a .signal-table;
         past-start = loaded .past-start;
         steps-start = loaded .steps-start;

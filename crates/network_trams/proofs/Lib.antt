@@ -1,3 +1,3 @@
 mod Tested
 pub mod Lines
-mod Claims
+pub mod Claims

@@ -1,7 +1,7 @@
 -- The turns and the returns of the loops over the `T` lines of a network, each in the form of a need. Assumes nothing.
 use Prim.Native.Nat.{ℕ, suc, _+_, _-_, _*_, _≤_, _<_}
 use mathlib.Core.Path.{_≡_, refl, sym, ap, _∙_}
-use mathlib.Core.Bool.{Bool, true, false, not}
+use mathlib.Core.Bool.{Bool, true, false, not, true≢false}
 use mathlib.Core.List.{List}
 use native.Mathlib.Omega.{arith}
 use borrow.Author.Tests.{leb-true, not-true, not-false}
@@ -23,12 +23,13 @@ use Rattle.network_tables.specs.Places.{tramLineIn}
 use Rattle.network_tables.specs.Fields.{tramFields, tramTableSize, tramIn}
 use Rattle.network_tables.specs.Rows.{RowRead}
 use Rattle.network_tables.specs.Blocks.{blockChecks, PassedTo, TableTo, tramBlock}
-use Rattle.network_tables.specs.Tables.{Judged, CountsHold, PhaseTable, movedTo}
+use Rattle.network_tables.specs.Tables.{Judged, CountsHold, TramTable, PhaseTable, movedTo}
 use Rattle.network_tables.proofs.Places.{tram-line-is, signals-after-trams}
 use Rattle.network_tables.proofs.Blocks.{line-malformed, line-invalid, line-valid, passed-all, passed-stop, passed-next, block-end, block-next, table-begin, table-room, table-rows, table-next}
 use Rattle.network_tables.proofs.Stages.{judged-refused, judged-passed}
 use Rattle.network_trams.specs.Trams.{validTramIn, validPhaseIn, phaseChecksIn, TramsKnown, PhaseAsked, PhasesAsked}
 use Rattle.network_trams.specs.Stages.{TramsAsked, TramsHeld}
+use Rattle.network_trams.specs.Claims.{LoadAsked}
 use Rattle.network_trams.proofs.Tested.{tram-line-suc, tram-valid}
 
 -- ---- the turns of `read_trams`
@@ -85,6 +86,27 @@ module _ {text : List ℕ} {reading : Reading} {trams₀ : List ℕ} (asked : Tr
             table-next inv row e
             (block-next (inv .read) below (line-valid row (tramLine (lines text) k) 28 0 (validTram (lines text) k) (inv .read .starts) e (sym judged ∙ not-false v n))
             (rw (tram-line-suc (lines text) k) (row .held next e (tramLine (lines text) k) (inv .read .starts) .starts)))
+
+-- ---- the turns of `load_trams`
+module _ {text : List ℕ} {at₀ count : ℕ} {trams₀ : List ℕ} (asked : LoadAsked text at₀ count trams₀) where
+  pub load-begin : TableTo text (tramBlock (lines text)) tramFields tramTableSize at₀ 0 trams₀
+  load-begin = table-begin (asked .starts) (asked .room)
+
+  module _ {at k : ℕ} {trams : List ℕ} (inv : TableTo text (tramBlock (lines text)) tramFields tramTableSize at k trams) where
+    pub load-done : count ≤ k → TramTable (lines text) trams
+    load-done h = record { size = inv .room; holds = λ i f l. inv .rows .numbers i f (omega (arith, asked .counted)) }
+
+    module _ (h : k < count) {r : LineRead} {after : List ℕ} (row : RowRead letterT tramFields text at (tramFields * k) trams r after) where
+      -- a line that has passed is not malformed
+      pub load-never : r ≡ Malformed → TramTable (lines text) after
+      load-never e = absurd (true≢false (sym (asked .forms k h) ∙ row .malformed e (tramLine (lines text) k) (inv .read .starts)))
+
+      pub load-next : {next : ℕ} → r ≡ Next next → TableTo text (tramBlock (lines text)) tramFields tramTableSize next (k + 1) after
+      unfolding tramChecks
+      load-next {next} e =
+          table-next inv row e
+          (block-next (inv .read) (omega (arith, asked .counted)) (line-valid row (tramLine (lines text) k) 28 0 (validTram (lines text) k) (inv .read .starts) e (asked .values k h))
+          (rw (tram-line-suc (lines text) k) (row .held next e (tramLine (lines text) k) (inv .read .starts) .starts)))
 
 -- ---- the turns of `check_tram_phases`
 pub phase-asked : {trams phases : List ℕ} {counts : Counts} → PhasesAsked trams phases counts → {k : ℕ} → k < counts .trams → PhaseAsked trams phases k

@@ -1,14 +1,13 @@
-// The `T` lines of a network text: refusals 1 and 28. And the phases that trams ask in a step, by these lines, which are few and short, read again: no table of
-// them is kept from step to step.
+// The `T` lines of a network text: refusals 1 and 28, their table, and the phases that trams ask in a step by it.
 ghost use mathlib.Core.Path.{_≡_};
 ghost use Prim.Native.Nat.{_<_};
 ghost use Rattle.text_reader.specs.Lines.{lines};
 ghost use Rattle.base_search.specs.Checks.{each};
-ghost use Rattle.network_tables.specs.Tables.{Judged};
+ghost use Rattle.network_tables.specs.Tables.{Judged, TramTable};
 ghost use Rattle.network_tables.specs.Blocks.{blockChecks, tramBlock};
 ghost use Rattle.network_trams.specs.Trams.{apartIn, apartFrom, validTramIn, validPhaseIn, phaseChecksIn, TramsKnown, PhaseAsked, PhasesAsked};
 ghost use Rattle.network_trams.specs.Stages.{TramsAsked, TramsHeld};
-ghost use Rattle.network_trams.specs.Claims.{claimed, ClaimAsked, ClaimsAsked, TramPhases};
+ghost use Rattle.network_trams.specs.Claims.{LoadAsked, claimed, ClaimAsked, Claimed, ClaimsAsked};
 use base_search::Refusal;
 use network_tables::Reading;
 use network_tables::Stage;
@@ -104,35 +103,46 @@ pub fn check_tram_phases(trams: &[u32], phases: &[u32], reading: Reading) -> Sta
     Stage::Passed(reading)
 }
 
-// One `T` line's claim in step `n`: its phase is asked of its signal, where the step is one of its steps and no earlier line asks.
-fn claim(tram: &[u32], n: usize, asked: &mut [u32])
-    requires { ⌜ ClaimAsked (now tram) n (now asked) ⌝ }
-    ensures { λ r. ⌜ now (asked .exit) ≡ claimed (now (tram .entry)) n (now (asked .entry)) ⌝ }
+// The `T` lines from `at` on, which have passed, read again into their table.
+pub fn load_trams(text: &[u8], at: usize, count: usize, trams: &mut [u32])
+    requires { ⌜ LoadAsked (now text) at count (now trams) ⌝ }
+    ensures { λ _. ⌜ TramTable (lines (now (text .entry))) (now (trams .exit)) ⌝ }
 {
-    let signal = network_tables::index(tram[0]) - 1;
-    let first = network_tables::index(tram[2]);
-    let last = network_tables::index(tram[3]);
-    let phase = tram[1];
-    if (first <= n + 1) & (n + 1 <= last) & (asked[signal] == 0) {
-        asked[signal] = phase;
-    }
-}
-
-// The phase that a tram asks of each signal in step `n`, 0 in an ordinary step, by the `T` lines from `at` on, which have passed.
-pub fn tram_phases(text: &[u8], at: usize, count: usize, n: usize, asked: &mut [u32])
-    requires { ⌜ ClaimsAsked (now text) at count n (now asked) ⌝ }
-    ensures { λ r. ⌜ TramPhases (lines (now (text .entry))) n (now (asked .exit)) ⌝ }
-{
-    let mut fields = [0u32; TRAM_FIELDS];
     let mut place = at;
     let mut k = 0;
     while k < count {
-        let read = network_tables::read_row(text, place, b'T', &mut fields, 0, TRAM_FIELDS);
+        let start = TRAM_FIELDS * k;
+        let read = network_tables::read_row(text, place, b'T', trams, start, TRAM_FIELDS);
         let LineRead::Next(next) = read else {
             return;
         };
-        claim(&fields, n, asked);
         place = next;
         k += 1;
+    }
+}
+
+// The claim of `T` line `k` in step `n`: its phase is asked of its signal, where the step is one of its steps.
+fn claim(trams: &[u32], k: usize, n: usize, asked: &mut [u32])
+    requires { ⌜ ClaimAsked (now trams) k n (now asked) ⌝ }
+    ensures { λ _. ⌜ now (asked .exit) ≡ claimed (now (trams .entry)) k n (now (asked .entry)) ⌝ }
+{
+    let first = network_tables::index(network_tables::tram(trams, k, 2));
+    let last = network_tables::index(network_tables::tram(trams, k, 3));
+    if (first <= n + 1) & (n + 1 <= last) {
+        let signal = network_tables::index(network_tables::tram(trams, k, 0)) - 1;
+        asked[signal] = network_tables::tram(trams, k, 1);
+    }
+}
+
+// The phase that a tram asks of each signal in step `n`, 0 in an ordinary step, by the table of the `T` lines: from the last to the first, which is the one that
+// counts where several claim a signal.
+pub fn tram_phases(trams: &[u32], count: usize, n: usize, asked: &mut [u32])
+    requires { ⌜ ClaimsAsked (now trams) count n (now asked) ⌝ }
+    ensures { λ _. ⌜ Claimed (now (trams .entry)) count n (now (asked .exit)) ⌝ }
+{
+    let mut k = count;
+    while 0 < k {
+        k -= 1;
+        claim(trams, k, n, asked);
     }
 }

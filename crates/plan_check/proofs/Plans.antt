@@ -84,7 +84,8 @@ module _ (networkText planText links movements times old : List ℕ) (reading : 
     pub run-asked : {signals : List ℕ} → SignalTable net signals → RunAsked networkText planText reading links movements times signals old
     run-asked table =
         record {
-          tables = record { holds = loaded .holds; counted = loaded .counted; trams-start = loaded .trams-start; link-table = loaded .link-table; movement-table = loaded .movement-table; time-table = loaded .time-table };
+          tables = record { holds = loaded .holds; counted = loaded .counted; link-table = loaded .link-table; movement-table = loaded .movement-table; time-table = loaded .time-table };
+          trams-start = loaded .trams-start;
           signal-table = table;
           past-start = loaded .past-start;
           steps-start = loaded .steps-start;

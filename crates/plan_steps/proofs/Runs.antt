@@ -33,9 +33,10 @@ use Rattle.model.proofs.Timeline.{past-entered, start-left}
 use Rattle.model.proofs.Written.{refused-fails, due-written, rows-until}
 use Rattle.network_tables.specs.declared.Counts.{Counts}
 use Rattle.network_tables.specs.declared.Reading.{Reading}
-use Rattle.network_tables.specs.Tables.{SignalTable}
+use Rattle.network_tables.specs.Tables.{SignalTable, TramTable}
 use Rattle.network_tables.proofs.Tables.{travel-time-at}
-use Rattle.network_tables.specs.Fields.{rowSize}
+use Rattle.network_tables.specs.Fields.{tramTableSize, rowSize}
+use Rattle.network_trams.specs.Claims.{LoadAsked}
 use Rattle.step_arrivals.proofs.Boundaries.{cursor-on}
 use Rattle.step_past.specs.Curves.{PastAsked, PastLoaded}
 use Rattle.step_rows.specs.Waiting.{FirstAsked, FirstWaits, WaitingTable}
@@ -51,6 +52,7 @@ use Rattle.plan_steps.specs.Steps.{RunAsked, RunGot, StepsAsked, AllTake
 use Rattle.plan_steps.proofs.Verdicts.{formed, plan-stops, plan-surplus, plan-passes}
 use Rattle.plan_steps.proofs.PlanLines.{plan-ends}
 use Rattle.plan_steps.proofs.Ledger.{written-again}
+use Rattle.plan_steps.proofs.Steps.{trams-ready}
 use Rattle.plan_steps.proofs.Adding.{outside-sum, totals-first}
 use Rattle.step_past.proofs.Valid.{past-form, entered-at-start, past-fits, left-at-start, left-fits}
 
@@ -105,6 +107,9 @@ module _ {networkText planText : List ℕ} {reading : Reading} {steps : ℕ} {li
   at-start : onTimeline netw 0 ≡ pastCount netw
   unfolding onTimeline
   at-start = omega arith
+
+  pub trams-asked : (trams : List ℕ) → length trams ≡ tramTableSize → LoadAsked networkText (reading .«trams_at») (reading .counts .trams) trams
+  trams-asked trams room = trams-ready networkText (reading .«trams_at») (a .trams-start) (a .tables .counted) (a .tables .holds) room
 
   pub past-asked : (arrivals curves places : List ℕ) → arrivals ≡ replicate maxLinks 0 → length curves ≡ rowSize → length places ≡ maxLinks
       → PastAsked networkText (reading .«past_at») (reading .counts) links times old arrivals curves places
@@ -179,15 +184,16 @@ module _ {networkText planText : List ℕ} {reading : Reading} {steps : ℕ} {li
       sum-asked = (a .tables .counted .few .links, omega (arith, waits .size, a .tables .counted .few .links))
 
       pub running-first : (held : ℕ) → held ≡ heldIn (reading .counts) ledger → (out : ℕ) → out ≡ sum (reading .counts .links) (λ i. getD waiting (0 + i) 0) → (signals : List ℕ) → SignalTable netw signals
-          → Running networkText planText (reading .counts) (reading .«trams_at») steps links movements times ledger
+          → {trams : List ℕ} → TramTable netw trams → Running networkText planText (reading .counts) steps trams links movements times ledger
           (record {
             verdict = Passes;
             state =
                 record { boundary = 0; «step_at» = reading .«steps_at»; «plan_at» = 0; totals = record { admitted = 0; «let_out» = 0; inside = held; «doubled_time» = 0 }; outside = out };
           }) signals arrivals curves places waiting ledger
-      running-first held e out o signals table =
+      running-first held e out o signals table trams-held =
           record {
             tables = a .tables;
+            tram-table = trams-held;
             passes = refl;
             state-at = record {
               within = omega arith;
@@ -209,8 +215,8 @@ module _ {networkText planText : List ℕ} {reading : Reading} {steps : ℕ} {li
             room = omega (arith, loaded .size, a .room);
           }
 
-module _ {networkText planText : List ℕ} {counts : Counts} {tramsAt steps : ℕ} {links movements times old : List ℕ} {taken : Taken} {signals arrivals curves places waiting ledger : List ℕ}
-    (r : Running networkText planText counts tramsAt steps links movements times old taken signals arrivals curves places waiting ledger) where
+module _ {networkText planText : List ℕ} {counts : Counts} {steps : ℕ} {trams links movements times old : List ℕ} {taken : Taken} {signals arrivals curves places waiting ledger : List ℕ}
+    (r : Running networkText planText counts steps trams links movements times old taken signals arrivals curves places waiting ledger) where
   abbrev net : List Line
   net = lines networkText
 
@@ -220,10 +226,11 @@ module _ {networkText planText : List ℕ} {counts : Counts} {tramsAt steps : �
   abbrev n : ℕ
   n = taken .state .boundary
 
-  pub running-asked : n < steps → StepAsked networkText planText counts tramsAt links movements times signals arrivals curves places waiting ledger (taken .state)
+  pub running-asked : n < steps → StepAsked networkText planText counts trams links movements times signals arrivals curves places waiting ledger (taken .state)
   running-asked h =
       record {
         tables = r .tables;
+        tram-table = r .tram-table;
         state-at = r .state-at;
         more = omega (arith, r .few-steps);
         room = let m : suc (suc n) ≤ suc steps = omega arith in omega (arith, r .room, r .long, mul-le-mul-right (2 * linkCount net) m);
@@ -239,12 +246,13 @@ module _ {networkText planText : List ℕ} {counts : Counts} {tramsAt steps : �
         }
 
     -- it passes
-    pub running-next : after .verdict ≡ Passes → Running networkText planText counts tramsAt steps links movements times old after signals′ arrivals′ curves′ places′ waiting′ ledger′
+    pub running-next : after .verdict ≡ Passes → Running networkText planText counts steps trams links movements times old after signals′ arrivals′ curves′ places′ waiting′ ledger′
     running-next e =
         let m : after .state .boundary ≡ suc n = got .boundary e ∙ add-one n in
         let w = got .row-more e in
         record {
           tables = r .tables;
+          tram-table = r .tram-table;
           passes = e;
           state-at = got .reached e;
           few-steps = r .few-steps;
@@ -291,6 +299,7 @@ module _ {networkText planText : List ℕ} {reading : Reading} {links movements 
   steps-asked waiting size =
       record {
         tables = a .tables;
+        trams-start = a .trams-start;
         signal-table = a .signal-table;
         past-start = a .past-start;
         steps-start = a .steps-start;

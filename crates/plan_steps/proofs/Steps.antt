@@ -17,6 +17,7 @@ use Rattle.base_search.specs.Checks.{refusal, verdict, Hold}
 use Rattle.text_reader.specs.declared.LineRead.{LineRead}
 use Rattle.text_reader.specs.declared.LineRead.the-variants.{Next, Malformed}
 use Rattle.text_reader.specs.Lines.{Line, lines}
+use Rattle.text_reader.specs.Reading.{Starts}
 use Rattle.model.specs.Test.{_or_}
 use Rattle.model.specs.Signals.{phaseOf, after as signalAfter}
 use Rattle.model.specs.Network.{maxSignals, linkCount, signalCount, stepCount, tramCount, tramLine, onTimeline, stepLine, stepLength, ordinary, signal, maxSteps}
@@ -32,8 +33,8 @@ use Rattle.model.proofs.Bounds.{KeepsLimits, lawful-limits, entered-word, left-
 use Rattle.model.proofs.Phases.{phase-of-le}
 use Rattle.model.proofs.Shown.{same-phases}
 use Rattle.network_tables.specs.declared.Counts.{Counts}
-use Rattle.network_tables.specs.Fields.{tramFields, tableSignal, lineSize, stepSize, rowSize, lengthIn}
-use Rattle.network_tables.specs.Tables.{CountsHold, StepNumbers, PlanNumbers}
+use Rattle.network_tables.specs.Fields.{tramFields, tramTableSize, tableSignal, lineSize, stepSize, rowSize, lengthIn}
+use Rattle.network_tables.specs.Tables.{CountsHold, TramTable, StepNumbers, PlanNumbers}
 use Rattle.network_tables.proofs.Tables.{travel-time-at, shown-mask-at}
 use Rattle.step_arrivals.specs.Arrivals.{ArrivalTable}
 use Rattle.step_past.proofs.Valid.{past-form, past-fits}
@@ -41,7 +42,8 @@ use Rattle.step_past.specs.Curves.{NextAsked as PastNextAsked, NextGot as PastN
 use Rattle.step_arrivals.proofs.Boundaries.{arrival-is, cursor-ready}
 use Rattle.step_rows.specs.Waiting.{AddAsked, Offers, WaitsAsked, Waits, WaitingTable, StepOffers}
 use Rattle.step_rows.proofs.WaitingTexts.{add-ready, step-offers, outside-is, next-ready, waiting-next}
-use Rattle.network_trams.specs.Claims.{ClaimsAsked, TramPhases}
+use Rattle.network_trams.specs.Claims.{LoadAsked as TramsLoadAsked, ClaimsAsked, Claimed}
+use Rattle.network_trams.proofs.Claims.{claims-ready, tram-phases-are}
 use Rattle.network_steps.specs.Steps.{LoadAsked, Loaded}
 use Rattle.network_steps.proofs.Steps.{load-ready, loaded-numbers, loaded-next}
 use Rattle.step_signals.specs.Ready.{Ready}
@@ -74,6 +76,25 @@ pub tram-form : (network : List Line) → Hold (networkChecks network) → (k : 
 unfolding Hold networkChecks tramChecks
 tram-form network (counts, (trams, rest)) k l = trams k l .0
 
+-- so that they can be read again
+pub trams-ready : (text : List ℕ) (at : ℕ) → Starts text at (tramLine (lines text) 0) → {counts : Counts} → CountsHold (lines text) counts → Hold (networkChecks (lines text))
+    → {trams : List ℕ} → length trams ≡ tramTableSize → TramsLoadAsked text at (counts .trams) trams
+trams-ready text at starts c holds room =
+    record {
+      starts = starts;
+      counted = c .trams;
+      few = c .few .trams;
+      forms = λ k l. tram-form (lines text) holds k (omega (arith, c .trams));
+      values = λ k l. valid-network (lines text) holds .trams k (omega (arith, c .trams));
+      room = room;
+    }
+
+-- the phases that trams ask in a step
+pub asked-by : (network : List Line) (table : List ℕ) → TramTable network table → ((k : ℕ) → k < tramCount network → isForm network (tramLine network k) letterT tramFields ≡ true)
+    → {counts : Counts} → CountsHold network counts → {n : ℕ} {claims : List ℕ} → Claimed table (counts .trams) n claims → AskedTable network n claims
+asked-by network table held forms c told =
+    let t = tram-phases-are network table held forms (c .trams) told in record { size = t .size; holds = λ r l. t .holds r (omega (arith, c .signals, c .few .signals)) }
+
 -- the signals after a step that has passed
 module _ (network plan : List Line) (n : ℕ) (signals signals′ phases claims : List ℕ) (seconds count : ℕ) (before : SignalsAt network plan n signals)
     (shown : ShownTable network plan n phases) (claimed : AskedTable network n claims) (lawful : LawfulStep network plan n) (is-count : count ≡ signalCount network)
@@ -102,8 +123,8 @@ module _ (network plan : List Line) (n : ℕ) (signals signals′ phases claims 
   pub signals-next : SignalsAt network plan (suc n) signals′
   signals-next = record { size = moved .size; holds = stepped; ready = λ r l. rw (stepped r l) (ready-next r l) }
 
-module _ {networkText planText : List ℕ} {counts : Counts} {tramsAt : ℕ} {links movements times signals arrivals curves places waiting ledger : List ℕ} {state : State}
-    (asked : StepAsked networkText planText counts tramsAt links movements times signals arrivals curves places waiting ledger state) where
+module _ {networkText planText : List ℕ} {counts : Counts} {table links movements times signals arrivals curves places waiting ledger : List ℕ} {state : State}
+    (asked : StepAsked networkText planText counts table links movements times signals arrivals curves places waiting ledger state) where
   abbrev net : List Line
   net = lines networkText
 
@@ -128,21 +149,8 @@ module _ {networkText planText : List ℕ} {counts : Counts} {tramsAt : ℕ} {li
   pub load-asked : {step : List ℕ} → length step ≡ stepSize → LoadAsked networkText (state .«step_at») (counts .links) step
   load-asked size = load-ready networkText (state .«step_at») n (counts .links) (asked .state-at .step-starts) (counted .links) (step-form net (asked .tables .holds) n (asked .more)) (counted .few .links) size
 
-  -- the `T` lines are read again
-  pub tram-asked : ClaimsAsked networkText tramsAt (counts .trams) n (replicate maxSignals 0)
-  tram-asked =
-      record {
-        starts = asked .tables .trams-start;
-        counted = counted .trams;
-        few = counted .few .trams;
-        few-steps = step-few;
-        few-signals = omega (arith, counted .signals, counted .few .signals);
-        forms = λ k l. tram-form net (asked .tables .holds) k (omega (arith, counted .trams));
-        values = λ k l. valid .trams k (omega (arith, counted .trams));
-        phases = λ k l. valid .tram-phases k (omega (arith, counted .trams));
-        room = length-replicate {A = ℕ} maxSignals 0;
-        none = λ r l. getD-replicate {A = ℕ} maxSignals r 0 0 l;
-      }
+  pub tram-asked : ClaimsAsked table (counts .trams) n (replicate maxSignals 0)
+  tram-asked = claims-ready (asked .tram-table) counted (valid .trams) step-few (length-replicate {A = ℕ} maxSignals 0) (λ r l. getD-replicate {A = ℕ} maxSignals r 0 0 l)
 
   pub place-small : 2 * (n + 1) * counts .links ≤ 5760
   place-small = let m : 2 * (n + 1) ≤ 240 = omega (arith, step-few) in omega (arith, mul-le-mul-right (counts .links) m, counted .few .links)
@@ -229,9 +237,9 @@ module _ {networkText planText : List ℕ} {counts : Counts} {tramsAt : ℕ} {li
               curves-at = asked .state-at .curves-at;
             }
 
-        module _ {phases₀ phases : List ℕ} (showing : ShownPhases signals (counts .signals) line phases₀ phases) {claims : List ℕ} (told : TramPhases net n claims) where
+        module _ {phases₀ phases : List ℕ} (showing : ShownPhases signals (counts .signals) line phases₀ phases) {claims : List ℕ} (told : Claimed table (counts .trams) n claims) where
           claimed : AskedTable net n claims
-          claimed = record { size = told .size; holds = λ r l. told .holds r (omega (arith, counted .signals, counted .few .signals)) }
+          claimed = asked-by net table (asked .tram-table) (tram-form net (asked .tables .holds)) counted told
 
           shown : ShownTable net pln n phases
           unfolding shownIn

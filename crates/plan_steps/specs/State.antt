@@ -13,13 +13,13 @@ use Rattle.model.specs.declared.Totals.{Totals}
 use Rattle.model.specs.declared.PlanAnswer.{PlanAnswer}
 use Rattle.model.specs.declared.PlanAnswer.the-variants as plan-answer
 use Rattle.model.specs.Sum.{sum}
-use Rattle.model.specs.Network.{maxLinks, maxSteps, linkCount, stepCount, tramLine, stepLine}
+use Rattle.model.specs.Network.{maxLinks, maxSteps, linkCount, stepCount, stepLine}
 use Rattle.model.specs.Flows.{outside, totals}
 use Rattle.model.specs.Table.{networkChecks, lineChecks}
 use Rattle.model.specs.Hold.{planOf}
 use Rattle.model.specs.Calls.{written}
 use Rattle.network_tables.specs.declared.Counts.{Counts}
-use Rattle.network_tables.specs.Tables.{CountsHold, LinkTable, MovementTable, TimeTable}
+use Rattle.network_tables.specs.Tables.{CountsHold, TramTable, LinkTable, MovementTable, TimeTable}
 use Rattle.step_arrivals.specs.Arrivals.{ArrivalTable}
 use Rattle.step_past.specs.Curves.{CurvesAt}
 use Rattle.step_rows.specs.Waiting.{waitingIn, WaitingTable}
@@ -29,11 +29,10 @@ use Rattle.plan_steps.specs.declared.Taken.{Taken}
 use Rattle.plan_steps.specs.Totals.{totalsAfter, TotalsAsked}
 use Rattle.plan_steps.specs.PlanLine.{PlanAt}
 
--- the tables of a network that has passed, and where its `T` lines start
-pub record Tables (networkText : List ℕ) (counts : Counts) (tramsAt : ℕ) (links movements times : List ℕ) : Type 0 where
+-- the tables of a network that has passed
+pub record Tables (networkText : List ℕ) (counts : Counts) (links movements times : List ℕ) : Type 0 where
   pub holds : Hold (networkChecks (lines networkText))
   pub counted : CountsHold (lines networkText) counts
-  pub trams-start : Starts networkText tramsAt (tramLine (lines networkText) 0)
   pub link-table : LinkTable (lines networkText) links
   pub movement-table : MovementTable (lines networkText) movements
   pub time-table : TimeTable (lines networkText) times
@@ -68,8 +67,9 @@ pub record NextGot (state : State) (counts : Counts) (step line waiting : List �
   pub outside : next .outside ≡ sum (counts .links) (waitingIn waiting)
 
 -- what taking the next step asks, with room for the row after it ..
-pub record StepAsked (networkText planText : List ℕ) (counts : Counts) (tramsAt : ℕ) (links movements times signals arrivals curves places waiting ledger : List ℕ) (state : State) : Type 0 where
-  pub tables : Tables networkText counts tramsAt links movements times
+pub record StepAsked (networkText planText : List ℕ) (counts : Counts) (trams links movements times signals arrivals curves places waiting ledger : List ℕ) (state : State) : Type 0 where
+  pub tables : Tables networkText counts links movements times
+  pub tram-table : TramTable (lines networkText) trams
   pub state-at : StateAt networkText planText state signals arrivals curves places waiting ledger
   pub more : state .boundary < stepCount (lines networkText)
   pub room : 2 * suc (suc (state .boundary)) * linkCount (lines networkText) ≤ length ledger

@@ -9,14 +9,14 @@ use Rattle.base_search.specs.Checks.{verdict}
 use Rattle.text_reader.specs.Lines.{lines}
 use Rattle.text_reader.specs.Reading.{Starts}
 use Rattle.model.specs.declared.PlanAnswer.{PlanAnswer}
-use Rattle.model.specs.Network.{maxLinks, linkCount, stepCount, timelineLine, stepLine}
+use Rattle.model.specs.Network.{maxLinks, linkCount, stepCount, tramLine, timelineLine, stepLine}
 use Rattle.model.specs.Flows.{totals}
 use Rattle.model.specs.Table.{lineChecks, planLineChecks}
 use Rattle.model.specs.Hold.{planOf}
 use Rattle.model.specs.Calls.{planAnswer, rowsWritten, written, ledgerAfter}
 use Rattle.network_tables.specs.declared.Counts.{Counts}
 use Rattle.network_tables.specs.declared.Reading.{Reading}
-use Rattle.network_tables.specs.Tables.{SignalTable}
+use Rattle.network_tables.specs.Tables.{SignalTable, TramTable}
 use Rattle.step_rows.specs.Waiting.{WaitingTable}
 use Rattle.step_signals.specs.Step.{SignalsAt}
 use Rattle.plan_steps.specs.declared.State.{State}
@@ -26,7 +26,8 @@ use Rattle.plan_steps.specs.PlanLine.{PlanAt}
 
 -- what taking all steps asks ..
 pub record RunAsked (networkText planText : List ℕ) (reading : Reading) (links movements times signals ledger : List ℕ) : Type 0 where
-  pub tables : Tables networkText (reading .counts) (reading .«trams_at») links movements times
+  pub tables : Tables networkText (reading .counts) links movements times
+  pub trams-start : Starts networkText (reading .«trams_at») (tramLine (lines networkText) 0)
   pub signal-table : SignalTable (lines networkText) signals
   pub past-start : Starts networkText (reading .«past_at») (timelineLine (lines networkText) 0)
   pub steps-start : Starts networkText (reading .«steps_at») (stepLine (lines networkText) 0)
@@ -40,7 +41,8 @@ pub record RunGot (networkText planText old : List ℕ) (answer : PlanAnswer) (l
 
 -- what taking the first steps asks: room for their rows alone
 pub record StepsAsked (networkText planText : List ℕ) (reading : Reading) (steps : ℕ) (links movements times signals waiting ledger : List ℕ) : Type 0 where
-  pub tables : Tables networkText (reading .counts) (reading .«trams_at») links movements times
+  pub tables : Tables networkText (reading .counts) links movements times
+  pub trams-start : Starts networkText (reading .«trams_at») (tramLine (lines networkText) 0)
   pub signal-table : SignalTable (lines networkText) signals
   pub past-start : Starts networkText (reading .«past_at») (timelineLine (lines networkText) 0)
   pub steps-start : Starts networkText (reading .«steps_at») (stepLine (lines networkText) 0)
@@ -71,8 +73,9 @@ pub record StepsGot (networkText planText old : List ℕ) (steps : ℕ) (taken :
   pub reached : taken .verdict ≡ Passes → AllTaken networkText planText old steps (taken .state) signals waiting ledger
 
 -- the state while they are taken
-pub record Running (networkText planText : List ℕ) (counts : Counts) (tramsAt steps : ℕ) (links movements times old : List ℕ) (taken : Taken) (signals arrivals curves places waiting ledger : List ℕ) : Type 0 where
-  pub tables : Tables networkText counts tramsAt links movements times
+pub record Running (networkText planText : List ℕ) (counts : Counts) (steps : ℕ) (trams links movements times old : List ℕ) (taken : Taken) (signals arrivals curves places waiting ledger : List ℕ) : Type 0 where
+  pub tables : Tables networkText counts links movements times
+  pub tram-table : TramTable (lines networkText) trams
   pub passes : taken .verdict ≡ Passes
   pub state-at : StateAt networkText planText (taken .state) signals arrivals curves places waiting ledger
   pub few-steps : steps ≤ stepCount (lines networkText)

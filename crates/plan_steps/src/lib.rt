@@ -17,6 +17,7 @@ use network_tables::MAX_SIGNALS;
 use network_tables::ROW_SIZE;
 use network_tables::Reading;
 use network_tables::STEP_SIZE;
+use network_tables::TRAM_TABLE_SIZE;
 use network_tables::wide;
 use text_reader::LineRead;
 
@@ -107,7 +108,7 @@ fn take_step(
     network: &[u8],
     plan: &[u8],
     counts: Counts,
-    trams_at: usize,
+    trams: &[u32],
     links: &[u32],
     movements: &[u32],
     times: &[u32],
@@ -119,7 +120,7 @@ fn take_step(
     ledger: &mut [u32],
     mut state: State,
 ) -> Taken
-    requires { ⌜ StepAsked (now network) (now plan) counts «trams_at» (now links) (now movements) (now times) (now signals) (now arrivals) (now curves) (now places) (now waiting) (now ledger) state ⌝ }
+    requires { ⌜ StepAsked (now network) (now plan) counts (now trams) (now links) (now movements) (now times) (now signals) (now arrivals) (now curves) (now places) (now waiting) (now ledger) state ⌝ }
     ensures { λ r. ⌜ StepGot (now (network .entry)) (now (plan .entry)) (now (ledger .entry)) state r (now (signals .exit)) (now (arrivals .exit)) (now (curves .exit)) (now (places .exit)) (now (waiting .exit)) (now (ledger .exit)) ⌝ }
 {
     let mut step = [0u32; STEP_SIZE];
@@ -136,7 +137,7 @@ fn take_step(
         return Taken { verdict, state };
     };
     step_signals::shown_phases(signals, counts.signals, &line, &mut phases);
-    network_trams::tram_phases(network, trams_at, counts.trams, n, &mut asked);
+    network_trams::tram_phases(trams, counts.trams, n, &mut asked);
     step_past::next_arrivals(
         network,
         counts,
@@ -208,7 +209,8 @@ pub fn take_steps(
     ensures { λ r. ⌜ StepsGot (now (network .entry)) (now (plan .entry)) (now (ledger .entry)) steps r (now (signals .exit)) (now (waiting .exit)) (now (ledger .exit)) ⌝ }
 {
     let counts = reading.counts;
-    let trams_at = reading.trams_at;
+    let mut trams = [0u32; TRAM_TABLE_SIZE];
+    network_trams::load_trams(network, reading.trams_at, counts.trams, &mut trams);
     let mut arrivals = [0usize; MAX_LINKS];
     let mut curves = [0u32; ROW_SIZE];
     let mut places = [0usize; MAX_LINKS];
@@ -247,7 +249,7 @@ pub fn take_steps(
             network,
             plan,
             counts,
-            trams_at,
+            &trams,
             links,
             movements,
             times,

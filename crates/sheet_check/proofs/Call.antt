@@ -26,10 +26,13 @@ use Rattle.model.proofs.Promises.{passes-of-accepted, refused-of-refused}
 use Rattle.network_tables.specs.declared.Reading.{Reading}
 use Rattle.network_tables.specs.declared.Stage.{Stage}
 use Rattle.network_tables.specs.declared.Stage.the-variants as stages
-use Rattle.network_tables.specs.Tables.{SignalTable, Judged}
+use Rattle.network_tables.specs.Fields.{tramTableSize}
+use Rattle.network_tables.specs.Tables.{SignalTable, TramTable, Judged}
+use Rattle.network_trams.specs.Claims.{LoadAsked as TramsLoadAsked}
 use Rattle.network_tables.proofs.Stages.{verdict-refused}
 use Rattle.network.specs.Loading.{LoadedWithSignals}
 use Rattle.plan_steps.proofs.Runs.{signals-first}
+use Rattle.plan_steps.proofs.Steps.{trams-ready}
 use Rattle.plan_check.specs.Plan.{PlanGot}
 use Rattle.sheet_lines.specs.Sheet.{sheetChecks}
 use Rattle.sheet_lines.specs.Reading.{sheetTableSize, SheetAsked, SheetRead}
@@ -85,9 +88,12 @@ module _ {networkText planText table : List ℕ} {reading : Reading} (asked : Pa
       first : (sheet : List Line) (r : ℕ) → r < signalCount net → watchIn (replicate 8 noWatch) r ≡ watchAt net sheet pln 0 r
       first sheet r l = getD-replicate {A = Watch} 8 r noWatch noWatch (omega (arith, asked .network-held .counted .signals, asked .network-held .counted .few .signals))
 
+  pub trams-asked : {trams : List ℕ} → length trams ≡ tramTableSize → TramsLoadAsked networkText (reading .«trams_at») (reading .counts .trams) trams
+  trams-asked room = trams-ready networkText (reading .«trams_at») (asked .network-held .trams-start) (asked .network-held .counted) (asked .network-held .holds) room
+
   module _ {pass : Pass} {signals : List ℕ} (inv : Passing networkText planText table pass signals) where
-    pub passing-asked : pass .boundary < reading .counts .steps → StepAsked networkText planText table reading signals pass
-    passing-asked h = record { pass-asked = asked; pass-at = inv .at; more = omega (arith, asked .network-held .counted .steps) }
+    pub passing-asked : {trams : List ℕ} → TramTable net trams → pass .boundary < reading .counts .steps → StepAsked networkText planText table reading trams signals pass
+    passing-asked held h = record { pass-asked = asked; tram-table = held; pass-at = inv .at; more = omega (arith, asked .network-held .counted .steps) }
 
     pub passing-next : {next : Pass} {signals′ : List ℕ} → StepGot networkText planText table pass next signals′ → Passing networkText planText table next signals′
     passing-next got = record { at = got .reached; watched = got .watched (inv .watched) }

@@ -15,7 +15,7 @@ use Rattle.text_reader.specs.declared.LineRead.the-variants.{Next, Malformed}
 use Rattle.text_reader.specs.Lines.{Line, lines}
 use Rattle.model.specs.declared.Signal.{Signal}
 use Rattle.model.specs.Test.{_and_, _or_}
-use Rattle.model.specs.Network.{maxSignals, maxSteps, signalCount, trams, tramPhase, signal, stepLength, time, ordinary}
+use Rattle.model.specs.Network.{maxSignals, maxSteps, signalCount, trams as tramLines, tramPhase, signal, stepLength, time, ordinary}
 use Rattle.model.specs.Signals.{phaseOf}
 use Rattle.model.specs.Flows.{shownIn, signalAt}
 use Rattle.model.specs.Table.{lineChecks}
@@ -29,7 +29,8 @@ use Rattle.network_tables.specs.declared.Reading.{Reading}
 use Rattle.network_tables.specs.Fields.{tableSignal, lineSize, stepSize, lengthIn}
 use Rattle.network_tables.specs.Tables.{CountsHold}
 use Rattle.network_tables.proofs.Tables.{step-length-at, shown-mask-at}
-use Rattle.network_trams.specs.Claims.{ClaimsAsked, TramPhases}
+use Rattle.network_trams.specs.Claims.{ClaimsAsked, Claimed}
+use Rattle.network_trams.proofs.Claims.{claims-ready}
 use Rattle.network_steps.specs.Steps.{LoadAsked, Loaded}
 use Rattle.network_steps.proofs.Steps.{load-ready, loaded-numbers, loaded-next}
 use Rattle.step_signals.specs.Ready.{Ready}
@@ -37,7 +38,7 @@ use Rattle.step_signals.specs.Step.{ShownPhases, ShownTable, AskedTable, Advanc
 use Rattle.plan_steps.specs.PlanLine.{LineAsked, LineGot}
 use Rattle.plan_steps.proofs.PlanLines.{shown-at, line-bad, line-numbers, next-starts}
 use Rattle.plan_steps.proofs.Verdicts.{formed}
-use Rattle.plan_steps.proofs.Steps.{step-form, tram-form, signals-next}
+use Rattle.plan_steps.proofs.Steps.{step-form, tram-form, asked-by, signals-next}
 use Rattle.sheet_lines.specs.Sheet.{duration, phasesOf}
 use Rattle.model_sheet.specs.Runs.{leaves, isTested, lastLine, keepsSheet, found}
 use Rattle.model_sheet.proofs.Checks.{two-phases}
@@ -54,12 +55,12 @@ module _ (network sheet plan : List Line) (n r : ℕ) where
   same-cycle : s .«greatest_cycle» ≡ signal network r .«greatest_cycle»
   same-cycle = kept network plan r (λ s. s .«greatest_cycle») (λ s q x. refl) n
 
-  pub watch-next : nextWatch (watchAt network sheet plan n r) (tramPhase (trams network) r n) s (shownIn network plan n r) (suc n) (time network n) (duration sheet r (s .shown))
+  pub watch-next : nextWatch (watchAt network sheet plan n r) (tramPhase (tramLines network) r n) s (shownIn network plan n r) (suc n) (time network n) (duration sheet r (s .shown))
       ≡ watchAt network sheet plan (suc n) r
   unfolding nextWatch watchAfter firstBroken watchAt isTested lastLine found leaves keepsSheet ordinary _and_ _or_
   watch-next =
       rw same-cycle
-      (go (eqb (tramPhase (trams network) r n) 0) (eqb (shownIn network plan n r) (s .shown)) (isTested network plan n r) (eqb (s .«shown_for») (duration sheet r (s .shown)))
+      (go (eqb (tramPhase (tramLines network) r n) 0) (eqb (shownIn network plan n r) (s .shown)) (isTested network plan n r) (eqb (s .«shown_for») (duration sheet r (s .shown)))
       (leb (signal network r .«greatest_cycle») (time network n)) (eqb (found network sheet plan n r) 0) (lastLine network n r) (found network sheet plan n r) refl)
     where
       keep : (b : Bool) (f : ℕ) → eqb f 0 ≡ b → cond b 0 f ≡ f
@@ -78,7 +79,7 @@ module _ (network sheet plan : List Line) (n r : ℕ) where
       go false q t d g b l f e = ap (λ x. record { tested = t; line = l; broken = x }) (sym (keep b f e))
 
 -- ---- between the calls of one step
-module _ {networkText planText table : List ℕ} {reading : Reading} {signals : List ℕ} {pass : Pass} (asked : StepAsked networkText planText table reading signals pass) where
+module _ {networkText planText table : List ℕ} {reading : Reading} {trams signals : List ℕ} {pass : Pass} (asked : StepAsked networkText planText table reading trams signals pass) where
   abbrev net : List Line
   net = lines networkText
 
@@ -123,20 +124,8 @@ module _ {networkText planText table : List ℕ} {reading : Reading} {signals : 
   load-asked size =
       load-ready networkText (pass .«step_at») n (counts .links) (asked .pass-at .step-starts) (counted .links) (step-form net (asked .pass-asked .network-held .holds) n (asked .more)) (counted .few .links) size
 
-  pub tram-asked : ClaimsAsked networkText (reading .«trams_at») (counts .trams) n (replicate maxSignals 0)
-  tram-asked =
-      record {
-        starts = asked .pass-asked .network-held .trams-start;
-        counted = counted .trams;
-        few = counted .few .trams;
-        few-steps = step-few;
-        few-signals = omega (arith, counted .signals, counted .few .signals);
-        forms = λ k l. tram-form net (asked .pass-asked .network-held .holds) k (omega (arith, counted .trams));
-        values = λ k l. valid .trams k (omega (arith, counted .trams));
-        phases = λ k l. valid .tram-phases k (omega (arith, counted .trams));
-        room = length-replicate {A = ℕ} maxSignals 0;
-        none = λ r l. getD-replicate {A = ℕ} maxSignals r 0 0 l;
-      }
+  pub tram-asked : ClaimsAsked trams (counts .trams) n (replicate maxSignals 0)
+  tram-asked = claims-ready (asked .tram-table) counted (valid .trams) step-few (length-replicate {A = ℕ} maxSignals 0) (λ r l. getD-replicate {A = ℕ} maxSignals r 0 0 l)
 
   pub signals-few : counts .signals ≤ maxSignals
   signals-few = counted .few .signals
@@ -153,7 +142,7 @@ module _ {networkText planText table : List ℕ} {reading : Reading} {signals : 
     pub seconds-few : lengthIn step ≤ 60
     seconds-few = omega (arith, seconds-is, step-limits net valid n (asked .more) .length-limit)
 
-    pub advance-asked : {line phases₀ phases claims : List ℕ} → ShownPhases signals (counts .signals) line phases₀ phases → TramPhases net n claims
+    pub advance-asked : {line phases₀ phases claims : List ℕ} → ShownPhases signals (counts .signals) line phases₀ phases → Claimed trams (counts .trams) n claims
         → AdvanceAsked signals (counts .signals) phases claims (lengthIn step)
     advance-asked showing told =
         record {
@@ -183,9 +172,9 @@ module _ {networkText planText table : List ℕ} {reading : Reading} {signals : 
           absurd (true≢false (sym is-formed ∙ line-bad networkText planText valid counted (asked .more) (asked .pass-at .plan-starts) shows no-number size read e))
 
       module _ {planEnd : ℕ} (e : result ≡ Next planEnd) {phases₀ phases : List ℕ} (showing : ShownPhases signals (counts .signals) line phases₀ phases)
-          {claims : List ℕ} (told : TramPhases net n claims) where
+          {claims : List ℕ} (told : Claimed trams (counts .trams) n claims) where
         claimed : AskedTable net n claims
-        claimed = record { size = told .size; holds = λ r l. told .holds r (omega (arith, counted .signals, counted .few .signals)) }
+        claimed = asked-by net trams (asked .tram-table) (tram-form net (asked .pass-asked .network-held .holds)) counted told
 
         shown : ShownTable net pln n phases
         unfolding shownIn

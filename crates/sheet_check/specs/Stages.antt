@@ -11,7 +11,7 @@ use Rattle.model.specs.Network.{maxSignals, entry, signalCount, stepCount, tram
 use Rattle.model.specs.Table.{networkChecks, lineChecks}
 use Rattle.model.specs.Hold.{planOf}
 use Rattle.network_tables.specs.declared.Reading.{Reading}
-use Rattle.network_tables.specs.Tables.{CountsHold}
+use Rattle.network_tables.specs.Tables.{CountsHold, TramTable}
 use Rattle.plan_steps.specs.PlanLine.{PlanAt}
 use Rattle.step_signals.specs.Step.{SignalsAt}
 use Rattle.sheet_lines.specs.Sheet.{phasesOf}
@@ -52,8 +52,9 @@ pub record PassWatches (networkText planText table : List ℕ) (pass : Pass) : T
       → WatchesAt (lines networkText) sheet (planOf networkText planText) (pass .boundary) (pass .watches)
 
 -- one step more is asked for, and gone through
-pub record StepAsked (networkText planText table : List ℕ) (reading : Reading) (signals : List ℕ) (pass : Pass) : Type 0 where
+pub record StepAsked (networkText planText table : List ℕ) (reading : Reading) (trams signals : List ℕ) (pass : Pass) : Type 0 where
   pub pass-asked : PassAsked networkText planText table reading
+  pub tram-table : TramTable (lines networkText) trams
   pub pass-at : PassAt networkText planText pass signals
   pub more : pass .boundary < stepCount (lines networkText)
 

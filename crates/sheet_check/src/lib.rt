@@ -27,6 +27,7 @@ use network_tables::SIGNAL_TABLE_SIZE;
 use network_tables::STEP_SIZE;
 use network_tables::Stage;
 use network_tables::TIME_TABLE_SIZE;
+use network_tables::TRAM_TABLE_SIZE;
 use sheet_lines::SHEET_FIELDS;
 use sheet_lines::SHEET_TABLE_SIZE;
 use text_reader::LineRead;
@@ -194,11 +195,12 @@ fn pass_step(
     network: &[u8],
     plan: &[u8],
     reading: Reading,
+    trams: &[u32],
     table: &[u32],
     signals: &mut [u32],
     pass: Pass,
 ) -> Pass
-    requires { ⌜ StepAsked (now network) (now plan) (now table) reading (now signals) pass ⌝ }
+    requires { ⌜ StepAsked (now network) (now plan) (now table) reading (now trams) (now signals) pass ⌝ }
     ensures { λ r. ⌜ StepGot (now (network .entry)) (now (plan .entry)) (now (table .entry)) pass r (now (signals .exit)) ⌝ }
 {
     let mut step = [0u32; STEP_SIZE];
@@ -215,7 +217,7 @@ fn pass_step(
         return pass;
     };
     step_signals::shown_phases(signals, counts.signals, &line, &mut phases);
-    network_trams::tram_phases(network, reading.trams_at, counts.trams, n, &mut asked);
+    network_trams::tram_phases(trams, counts.trams, n, &mut asked);
     let told = (n + 1) as u32;
     let watches = watch_signals(
         watches,
@@ -255,6 +257,8 @@ fn pass_plan(
         broken: 0,
     };
     let counts = reading.counts;
+    let mut trams = [0u32; TRAM_TABLE_SIZE];
+    network_trams::load_trams(network, reading.trams_at, counts.trams, &mut trams);
     let mut pass = Pass {
         boundary: 0,
         time: 0,
@@ -263,7 +267,7 @@ fn pass_plan(
         watches: [watch; 8],
     };
     while pass.boundary < counts.steps {
-        pass = pass_step(network, plan, reading, table, signals, pass);
+        pass = pass_step(network, plan, reading, &trams, table, signals, pass);
     }
     let watches = pass.watches;
     first_run(watches, counts.signals)

@@ -1,0 +1,46 @@
+-- `network_trams::load_trams` meets its contract. Assumes nothing.
+use Prim.Native.Nat.{_-_}
+use borrow.Author.Needs.{needs}
+use Rattle.text_reader.specs.Lines.{lines}
+use Rattle.network_tables.specs.Fields.{tramFields, tramTableSize}
+use Rattle.network_tables.specs.Blocks.{TableTo, tramBlock}
+use Rattle.network_trams.proofs.Lines.{load-begin, load-never, load-next, load-done}
+use Rattle.network_trams.proofs.load_trams.Statement.{statement}
+use Rattle.network_trams.proofs.load_trams.Tie as tie
+
+abbrev Inv-loop : tie.InvT-loop
+Inv-loop text at count trams₀ place₀ k₀ trams place k = TableTo text (tramBlock (lines text)) tramFields tramTableSize place k trams
+
+abbrev μ-loop : tie.MeasureT-loop
+μ-loop text at count trams₀ place₀ k₀ trams place k = count - k
+
+loop-holds : tie.Need-loop-holds Inv-loop μ-loop
+loop-holds c = search (load-begin, needs)
+
+returns : tie.Need-returns Inv-loop μ-loop
+returns c = search (load-never, needs)
+
+loop-again : tie.Need-loop-again Inv-loop μ-loop
+loop-again c = search (load-next, needs)
+
+returns-2 : tie.Need-returns-2 Inv-loop μ-loop
+returns-2 c = search (load-done, needs)
+
+pub load-trams-spec : {M : Type 1} → statement M
+load-trams-spec =
+    tie.close
+    (tie.spec
+    Inv-loop
+    μ-loop
+    loop-holds
+    (λ c. search needs)
+    (λ c κs. search needs)
+    (λ c. search needs)
+    (λ c. search needs)
+    (λ c. search needs)
+    returns
+    (λ c. search needs)
+    (λ c. search needs)
+    loop-again
+    (λ c. search needs)
+    returns-2)
