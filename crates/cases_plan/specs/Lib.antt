@@ -1,2 +1,3 @@
-pub mod Tally
+pub mod Checksum
+pub mod Outcome
 pub mod Compare

@@ -1,34 +1,26 @@
 // Runs stored cases through the proved calls, and compares each answer and a checksum of the whole ledgers and the whole buffer after the call with
 // those of another implementation. Prints each case that differs, how many cases each file has, how many agreed, for each call and refusal number,
 // and how many differ. The one case of wrong_answer.bin has a wrong answer on purpose: it must be told as different.
+mod answers;
+mod checksum;
 mod compare;
+mod outcome;
+mod stored;
 mod tally;
 
 use crate::tally::COUNTERS;
+use cases_files::files;
+use cases_files::reading;
 
-// Compares the cases of a file, and prints how many it has. There is room for the longest texts whose numbers are padded.
+// Compares the cases of a file, and prints how many it has. The greatest lengths that its header names are not needed, as each length is held to its buffer.
 fn compare_file(path: &[u8], counts: &mut [u64; COUNTERS]) {
-    let mut network = [0u8; 73728];
-    let mut plan = [0u8; 163840];
-    let mut second = [0u8; 163840];
-    let mut start = [0u32; 5888];
-    let mut ledger = [0u32; 5888];
-    let mut second_ledger = [0u32; 5888];
-    let mut buffer = [0u8; 102400];
+    let mut lengths = [0u8; 16];
     let file = os::open_read(path);
-    let answer = compare::run_file(
-        file,
-        &mut network,
-        &mut plan,
-        &mut second,
-        &mut start,
-        &mut ledger,
-        &mut second_ledger,
-        &mut buffer,
-        counts,
-    );
-    libc::close(file);
-    cases_files::tally::print_file(path, answer);
+    // "PLANCASE", version 4
+    let header = files::read_header(file, 4995408169015528528, 4);
+    let has_lengths = reading::read_whole(file, &mut lengths);
+    let is_read = has_lengths & compare::run_cases(file, header.count, counts);
+    files::finish(path, file, header, is_read);
 }
 
 fn main() {

@@ -1,18 +1,12 @@
 // The counts: the cases that agreed, written, refused for the network itself, or with one of the numbers of the call; and those that differ.
-ghost use mathlib.Core.Path.{_≡_};
-ghost use Prim.Native.Nat.{_<_};
-ghost use Rattle.cases_split.specs.Counts.{counters, placeOf};
-use cases_files::tally::print;
-use cases_files::tally::print_field;
+use cases_files::tally::print_count;
 
 pub const DIFFERENT: usize = 6;
 
 pub const COUNTERS: usize = DIFFERENT + 1;
 
 // The place of the cases that gave a refusal number, 0 where nothing is refused.
-pub fn place_of(number: u32) -> usize
-    ensures { λ r. ⌜ (r ≡ placeOf number) × (r < counters) ⌝ }
-{
+pub fn place_of(number: u32) -> usize {
     if number == 0 {
         return 0;
     }
@@ -29,12 +23,6 @@ pub fn place_of(number: u32) -> usize
         return 5;
     }
     1
-}
-
-fn print_count(name: &[u8], count: u64) {
-    print(name);
-    print_field(count);
-    print(b"\n");
 }
 
 // The counts, a line each.

@@ -6,14 +6,15 @@ mod counts;
 mod told;
 
 use crate::counts::COUNTERS;
-use cases_files::tally;
+use cases_files::files;
 
 // Compares the cases of a file, and prints how many it has.
 fn compare_file(path: &[u8], counts: &mut [u64; COUNTERS]) {
     let file = os::open_read(path);
-    let answer = compare::run_file(file, counts);
-    libc::close(file);
-    tally::print_file(path, answer);
+    // "HALFCASE", version 1
+    let header = files::read_header(file, 4995408168882028872, 1);
+    let is_read = compare::run_cases(file, header.count, counts);
+    files::finish(path, file, header, is_read);
 }
 
 fn main() {

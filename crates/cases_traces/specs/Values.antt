@@ -1,6 +1,6 @@
 -- When values are the same: by their bits, where a NaN is one value and zeros of either sign are two. Assumes nothing.
 use Prim.Native.Nat.{ℕ}
-use mathlib.Core.Bool.{Bool}
+use mathlib.Core.Bool.{Bool, _&&_}
 use mathlib.Core.List.{List}
 use lib.Dec.{eqb}
 use lib.ListN.{length, getD}
@@ -14,4 +14,4 @@ abbrev pub sameAt : List Float → List Float → ℕ → Bool
 sameAt values told i = sameValue (getD values i nan) (getD told i nan)
 
 unfoldable pub sameValues : List Float → List Float → Bool
-sameValues values told = allBelow (sameAt values told) (length values)
+sameValues values told = eqb (length values) (length told) && allBelow (sameAt values told) (length values)

@@ -1,190 +1,119 @@
-// Reads the cases, takes each step by the proved call and compares.
+// Reads the cases, takes each step by the proved call and compares. The stored form is described in reference/src/cases/street_file.rs.
 ghost use mathlib.Core.Path.{_≡_};
-ghost use mathlib.Core.Bool.{true};
-ghost use Prim.Native.Nat.{_<_};
-ghost use lib.ListN.{length};
-ghost use Rattle.cases_files.specs.Refusals.{counters};
-ghost use Rattle.cases_files.specs.Tally.{Counted, Compared};
-ghost use Rattle.cases_traces.specs.Compare.{placeIn, OneMore};
-use crate::told;
+ghost use Rattle.traces.specs.Call.{stepVehicles, placesAfter};
+ghost use Rattle.cases_traces.specs.Compare.{refusalOf, asStored};
 use crate::values;
 use base_search::Refusal;
+use base_search::Verdict;
 use cases_files::numbers::long_number_at;
 use cases_files::numbers::number_at;
 use cases_files::reading;
-use cases_files::reading::CaseCount;
 use cases_files::refusals;
 use cases_files::refusals::COUNTERS;
 use cases_files::tally;
 
-// How much of each buffer a case uses.
-struct Sizes {
-    vehicles: usize,
-    advances: usize,
-    red_lines: usize,
+// Room for some vehicles and lines too many.
+const ROOM: usize = 80;
+
+// What the library answers: a refusal, or one of the number 0 where nothing is refused.
+fn refusal_of(verdict: Verdict) -> Refusal
+    ensures { λ r. ⌜ r ≡ refusalOf verdict ⌝ }
+{
+    match verdict {
+        Verdict::Passes => Refusal {
+            number: 0,
+            line: 0,
+            item: 0,
+        },
+        Verdict::Refused(refusal) => refusal,
+    }
 }
 
-fn fields_of(refusal: Refusal) -> [u64; 3] {
-    [
-        refusal.number as u64,
-        refusal.line as u64,
-        refusal.item as u64,
-    ]
-}
-
-// Takes a step by the library: the place at which the case is counted. The places of a case that differs are not printed.
+// Takes a step by the library: whether the answer and every place are those that were stored. Where they are not, the answers are printed.
 fn judge(
     number: u32,
     places: &mut [f64],
     advances: &[f64],
     red_lines: &[f64],
     spacing: f64,
-    answer: &[u8; 12],
+    stored: Refusal,
     told: &[f64],
-) -> usize
-    requires { ⌜ length (now told) ≡ length (now places) ⌝ }
-    ensures { λ r. ⌜ r ≡ placeIn (now (places .entry)) (now (advances .entry)) (now («red_lines» .entry)) spacing (now (answer .entry)) (now (told .entry)) ⌝ }
-    ensures { λ r. ⌜ r < counters ⌝ }
+) -> bool
+    ensures { λ r. ⌜ r ≡ asStored (stepVehicles (now (places .entry)) (now (advances .entry)) (now («red_lines» .entry)) spacing) (placesAfter (now (places .entry)) (now (advances .entry)) (now («red_lines» .entry)) spacing) stored (now (told .entry)) ⌝ }
 {
-    let verdict = traces::step_vehicles(places, advances, red_lines, spacing);
-    let given = told::refusal_of(verdict);
-    let stored = told::refusal_told(answer);
-    if told::is_same(given, stored) & values::are_same(places, told) {
-        return refusals::place_of(given.number, 38, 39);
-    }
-    let given_fields = fields_of(given);
-    let stored_fields = fields_of(stored);
-    tally::print_difference(number, &given_fields, &stored_fields);
-    refusals::DIFFERENT
+    let given = refusal_of(traces::step_vehicles(places, advances, red_lines, spacing));
+    let same = refusals::is_same(given, stored) & values::are_same(places, told);
+    refusals::print_unless(same, number, given, stored);
+    same
 }
 
-// Takes what a case uses of each buffer, and judges it; false where a size is not one of its buffer.
+// Takes what a case uses of each buffer, and judges it: the place at which it is counted.
 fn run_read(
     number: u32,
+    head: &[u8; 20],
+    answer: &[u8; 12],
     places: &mut [f64],
     advances: &[f64],
     red_lines: &[f64],
     told: &[f64],
-    sizes: Sizes,
-    spacing: f64,
-    answer: &[u8; 12],
-    counts: &mut [u64; COUNTERS],
-) -> bool
-    ensures { λ r. ⌜ (r ≡ true → OneMore (now (counts .entry)) (now (counts .exit))) ⌝ }
-{
-    let vehicles = sizes.vehicles;
-    let advances_size = sizes.advances;
-    let lines_size = sizes.red_lines;
-    if places.len() < vehicles {
-        return false;
-    }
-    if advances.len() < advances_size {
-        return false;
-    }
-    if red_lines.len() < lines_size {
-        return false;
-    }
-    if told.len() < vehicles {
-        return false;
-    }
-    let place = judge(
+) -> usize {
+    let vehicles = values::within(number_at(head, 0) as usize, places);
+    let advances_size = values::within(number_at(head, 4) as usize, advances);
+    let lines_size = values::within(number_at(head, 8) as usize, red_lines);
+    let told_size = values::within(number_at(head, 0) as usize, told);
+    let stored = refusals::refusal_at(answer, 0);
+    if judge(
         number,
         &mut places[..vehicles],
         &advances[..advances_size],
         &red_lines[..lines_size],
-        spacing,
-        answer,
-        &told[..vehicles],
-    );
-    tally::add_one(counts, place);
-    true
+        values::value_of(long_number_at(head, 12)),
+        stored,
+        &told[..told_size],
+    ) {
+        return refusals::place_of(stored.number, 38, 39);
+    }
+    refusals::DIFFERENT
 }
 
-// Reads one case into the buffers and judges it; false where the file is malformed.
-fn run_case(
-    file: i32,
-    number: u32,
-    places: &mut [f64],
-    advances: &mut [f64],
-    red_lines: &mut [f64],
-    told: &mut [f64],
-    counts: &mut [u64; COUNTERS],
-) -> bool
-    ensures { λ r. ⌜ (r ≡ true → OneMore (now (counts .entry)) (now (counts .exit))) ⌝ }
-{
+// Reads one case and judges it: the place at which it is counted; none where the file is malformed.
+fn run_case(file: i32, number: u32) -> usize {
     let mut head = [0u8; 20];
     let mut answer = [0u8; 12];
-    if !reading::read_whole(file, &mut head) {
-        return false;
-    }
-    let sizes = Sizes {
-        vehicles: number_at(&head, 0) as usize,
-        advances: number_at(&head, 4) as usize,
-        red_lines: number_at(&head, 8) as usize,
-    };
-    let spacing = values::value_of(long_number_at(&head, 12));
-    let is_read = values::read_values(file, places, sizes.vehicles)
-        & values::read_values(file, advances, sizes.advances)
-        & values::read_values(file, red_lines, sizes.red_lines)
+    let mut places = [0f64; ROOM];
+    let mut advances = [0f64; ROOM];
+    let mut red_lines = [0f64; ROOM];
+    let mut told = [0f64; ROOM];
+    let is_read = reading::read_whole(file, &mut head)
+        & values::read_values(file, &mut places, number_at(&head, 0))
+        & values::read_values(file, &mut advances, number_at(&head, 4))
+        & values::read_values(file, &mut red_lines, number_at(&head, 8))
         & reading::read_whole(file, &mut answer)
-        & values::read_values(file, told, sizes.vehicles);
+        & values::read_values(file, &mut told, number_at(&head, 0));
     if !is_read {
-        return false;
+        return reading::NOTHING;
     }
     run_read(
         number,
-        places,
-        advances,
-        red_lines,
-        told,
-        sizes,
-        spacing,
+        &head,
         &answer,
-        counts,
+        &mut places,
+        &advances,
+        &red_lines,
+        &told,
     )
 }
 
-// Reads and judges the cases of an open file behind its header; false where the file is malformed.
-fn run_cases(
-    file: i32,
-    count: u32,
-    places: &mut [f64],
-    advances: &mut [f64],
-    red_lines: &mut [f64],
-    told: &mut [f64],
-    counts: &mut [u64; COUNTERS],
-) -> bool
-    ensures { λ r. ⌜ (r ≡ true → Counted OneMore count (now (counts .entry)) (now (counts .exit))) ⌝ }
-{
+// Reads, judges and counts the cases of an open file behind its header; false where the file is malformed.
+pub fn run_cases(file: i32, count: u32, counts: &mut [u64; COUNTERS]) -> bool {
     let mut done = 0;
     while done < count {
-        if !run_case(file, done, places, advances, red_lines, told, counts) {
+        let place = run_case(file, done);
+        if place == reading::NOTHING {
             return false;
         }
+        tally::add_one(counts, place);
         done += 1;
     }
     true
-}
-
-// Reads and judges all cases of an open file: how many.
-pub fn run_file(
-    file: i32,
-    places: &mut [f64],
-    advances: &mut [f64],
-    red_lines: &mut [f64],
-    told: &mut [f64],
-    counts: &mut [u64; COUNTERS],
-) -> CaseCount
-    ensures { λ r. ⌜ Compared OneMore (now (counts .entry)) (now (counts .exit)) r ⌝ }
-{
-    // "STEPCASE", version 1
-    let CaseCount::Cases(count) = reading::read_count(file, 4995408169049347155, 1) else {
-        return CaseCount::Malformed;
-    };
-    if run_cases(file, count, places, advances, red_lines, told, counts) {
-        if reading::is_at_end(file) {
-            return CaseCount::Cases(count);
-        }
-    }
-    CaseCount::Malformed
 }

@@ -2,35 +2,28 @@
 // differs, how many cases each file has, how many agreed, by refusal number, and how many differ. The two cases of wrong_answer.bin have a wrong answer on
 // purpose: they must be told as different.
 mod compare;
-mod told;
 mod values;
 
+use cases_files::files;
 use cases_files::refusals;
 use cases_files::refusals::COUNTERS;
 use cases_files::tally;
 
-// Compares the cases of a file, and prints how many it has. There is room for some vehicles and lines too many.
+// Compares the cases of a file, and prints how many it has.
 fn compare_file(path: &[u8], counts: &mut [u64; COUNTERS]) {
-    let mut places = [0f64; 80];
-    let mut advances = [0f64; 80];
-    let mut red_lines = [0f64; 80];
-    let mut told = [0f64; 80];
     let file = os::open_read(path);
-    let answer = compare::run_file(
-        file,
-        &mut places,
-        &mut advances,
-        &mut red_lines,
-        &mut told,
-        counts,
-    );
-    libc::close(file);
-    tally::print_file(path, answer);
+    // "STEPCASE", version 1
+    let header = files::read_header(file, 4995408169049347155, 1);
+    let is_read = compare::run_cases(file, header.count, counts);
+    files::finish(path, file, header, is_read);
 }
 
 fn main() {
     let mut counts = [0u64; COUNTERS];
     compare_file(b"cases.bin", &mut counts);
     compare_file(b"wrong_answer.bin", &mut counts);
-    refusals::print_counts(&counts, 38, 39);
+    tally::print_count(b"accepted", counts[0]);
+    tally::print_count(b"38", counts[1]);
+    tally::print_count(b"39", counts[2]);
+    tally::print_count(b"different", counts[refusals::DIFFERENT]);
 }

@@ -2,7 +2,8 @@
 // NaN's bits nor the bits of a NaN, so that both are set here.
 ghost use mathlib.Core.Path.{_≡_};
 ghost use lib.ListN.{length};
-ghost use lib.Ieee.{binary64, ofBits, toBits};
+ghost use lib.Ieee.{binary64, toBits};
+ghost use Rattle.cases_files.specs.Counts.{Counts};
 ghost use Rattle.cases_traces.specs.Values.{sameValue, sameValues};
 use cases_files::numbers::long_number_at;
 use cases_files::reading;
@@ -13,9 +14,7 @@ const INFINITY: u64 = 9218868437227405312;
 const SIGN: u64 = 9223372036854775808;
 
 // The value of bits.
-pub fn value_of(bits: u64) -> f64
-    ensures { λ r. ⌜ r ≡ ofBits binary64 bits ⌝ }
-{
+pub fn value_of(bits: u64) -> f64 {
     if INFINITY < bits % SIGN {
         return 0.0 / 0.0;
     }
@@ -39,11 +38,13 @@ fn is_same(one: f64, other: f64) -> bool
     bits_of(one) == bits_of(other)
 }
 
-// Whether every value is the one that was stored.
+// Whether every value is the one that was stored, and there are as many.
 pub fn are_same(values: &[f64], told: &[f64]) -> bool
-    requires { ⌜ length (now told) ≡ length (now values) ⌝ }
     ensures { λ r. ⌜ r ≡ sameValues (now (values .entry)) (now (told .entry)) ⌝ }
 {
+    if values.len() != told.len() {
+        return false;
+    }
     let mut same = true;
     let mut i = 0;
     while i < values.len() {
@@ -51,6 +52,17 @@ pub fn are_same(values: &[f64], told: &[f64]) -> bool
         i += 1;
     }
     same
+}
+
+// A length, or that of the values where it is more.
+pub fn within(size: usize, values: &[f64]) -> usize
+    ensures { λ r. ⌜ Counts r (now (values .entry)) ⌝ }
+{
+    if values.len() < size {
+        values.len()
+    } else {
+        size
+    }
 }
 
 // Fills a slice from the file; false where the file ends before or can't be read.
@@ -68,9 +80,10 @@ fn read_each(file: i32, values: &mut [f64]) -> bool {
 }
 
 // Reads so many values to the start of a buffer; false where it has no room for them, too.
-pub fn read_values(file: i32, values: &mut [f64], count: usize) -> bool {
-    if values.len() < count {
+pub fn read_values(file: i32, values: &mut [f64], count: u32) -> bool {
+    let size = within(count as usize, values);
+    if size < count as usize {
         return false;
     }
-    read_each(file, &mut values[..count])
+    read_each(file, &mut values[..size])
 }

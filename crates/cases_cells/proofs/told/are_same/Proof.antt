@@ -1,8 +1,7 @@
 -- `cases_cells::told::are_same` meets its contract. Assumes nothing.
 use Prim.Native.Nat.{_-_, _≤_}
-use mathlib.Core.Path.{_≡_, refl, ap}
+use mathlib.Core.Path.{_≡_, refl}
 use native.Mathlib.Omega.{arith}
-use lib.Dec.{eqb}
 use Rattle.cases_files.specs.Below.{allBelow}
 use Rattle.cases_files.proofs.Laws.{all-below-next}
 use Rattle.cases_cells.specs.Told.{sameVolume, sameVolumes}
@@ -11,17 +10,17 @@ use Rattle.cases_cells.proofs.told.are_same.Statement.{statement}
 use Rattle.cases_cells.proofs.told.are_same.Tie as tie
 
 abbrev Inv-loop : tie.InvT-loop
-Inv-loop volumes told same₀ i₀ same i = (i ≤ 64) × (same ≡ allBelow (sameVolume volumes told) i)
+Inv-loop volumes stored same₀ i₀ same i = (i ≤ 64) × (same ≡ allBelow (sameVolume volumes stored) i)
 
 abbrev μ-loop : tie.MeasureT-loop
-μ-loop volumes told same₀ i₀ same i = 64 - i
+μ-loop volumes stored same₀ i₀ same i = 64 - i
 
 loop-holds : tie.Need-loop-holds Inv-loop μ-loop
 unfolding allBelow
 loop-holds c = (search needs, refl)
 
 loop-again : tie.Need-loop-again Inv-loop μ-loop
-loop-again c = (search needs, all-below-next _ _ (c .before .before .before .before .loop .inv .1) (ap (eqb _) (c .number-at .ensures)))
+loop-again c = (search needs, all-below-next _ _ (c .before .before .before .loop .inv .1) refl)
 
 returns : tie.Need-returns Inv-loop μ-loop
 unfolding sameVolumes
@@ -34,15 +33,5 @@ pub are-same-spec : {M : Type 1} → statement M
 are-same-spec =
     tie.close
     (tie.spec
-    Inv-loop
-    μ-loop
-    loop-holds
-    (λ c. search needs)
-    (λ c. search needs)
-    (λ c. search needs)
-    (λ c. search needs)
-    (λ c κs. search needs)
-    (λ c. search needs)
-    (λ c. search needs)
-    loop-again
-    returns)
+    Inv-loop μ-loop loop-holds (λ c. search needs) (λ c. search needs) (λ c. search needs) (λ c. search needs) (λ c. search needs)
+    (λ c. search needs) loop-again returns)

@@ -1,31 +1,14 @@
 -- `cases_traces::compare::judge` meets its contract. Assumes nothing.
-use Rattle.cases_traces.proofs.Laws.{as-stored, not-as-stored}
 use borrow.Author.Needs.{needs}
 use Rattle.cases_traces.proofs.compare.judge.Statement.{statement}
 use Rattle.cases_traces.proofs.compare.judge.Tie as tie
 
 returns : tie.Need-returns
-returns c = (as-stored _ _ _ _ _ _ (c .before .before .before .before .before .before .before .before .before .step-vehicles .ensures .0) (c .before .before .before .before .before .before .before .before .before .step-vehicles .ensures .1 .0) (c .before .before .before .before .before .before .refusal-of .ensures) (c .before .before .before .before .before .refusal-told .ensures) (c .before .before .before .before .is-same .ensures) (c .before .before .are-same .ensures) (c .before .if1 .taken) (c .place-of .ensures .0), c .place-of .ensures .1)
-
-returns-2 : tie.Need-returns-2
-returns-2 c = (not-as-stored _ _ _ _ _ _ (c .before .before .before .before .before .before .before .before .before .before .before .before .before .step-vehicles .ensures .0) (c .before .before .before .before .before .before .before .before .before .before .before .before .before .step-vehicles .ensures .1 .0) (c .before .before .before .before .before .before .before .before .before .before .refusal-of .ensures) (c .before .before .before .before .before .before .before .before .before .refusal-told .ensures) (c .before .before .before .before .before .before .before .before .is-same .ensures) (c .before .before .before .before .before .before .are-same .ensures) (c .before .before .before .before .before .if1 .left), search needs)
+returns c = cc
 
 pub judge-spec : {M : Type 1} → statement M
 judge-spec =
     tie.close
     (tie.spec
-    (λ c κs. search needs)
-    (λ c κs. search needs)
-    (λ c κs. search needs)
-    (λ c κs. search needs)
-    (λ c κs. search needs)
-    (λ c κs. search needs)
-    (λ c. search needs)
-    returns
-    (λ c κs. search needs)
-    (λ c κs. search needs)
-    (λ c. search needs)
-    (λ c. search needs)
-    (λ c κs. search needs)
-    (λ c. search needs)
-    returns-2)
+    (λ c κs. search needs) (λ c κs. search needs) (λ c κs. search needs) (λ c κs. search needs) (λ c κs. search needs)
+    (λ c. search needs) returns)

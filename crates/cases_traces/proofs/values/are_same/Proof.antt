@@ -6,7 +6,7 @@ use lib.ListN.{length}
 use Rattle.cases_files.specs.Below.{allBelow}
 use Rattle.cases_files.proofs.Laws.{all-below-next}
 use Rattle.cases_traces.specs.Values.{sameAt}
-use Rattle.cases_traces.proofs.Laws.{same-all}
+use Rattle.cases_traces.proofs.Laws.{other-length, same-all}
 use borrow.Author.Needs.{needs}
 use Rattle.cases_traces.proofs.values.are_same.Statement.{statement}
 use Rattle.cases_traces.proofs.values.are_same.Tie as tie
@@ -17,6 +17,9 @@ Inv-loop values told same₀ i₀ same i = (i ≤ length values) × (same ≡ al
 abbrev μ-loop : tie.MeasureT-loop
 μ-loop values told same₀ i₀ same i = length values - i
 
+returns : tie.Need-returns Inv-loop μ-loop
+returns c = other-length _ _ (c .if1 .taken)
+
 loop-holds : tie.Need-loop-holds Inv-loop μ-loop
 unfolding allBelow
 loop-holds c = (search needs, refl)
@@ -24,24 +27,14 @@ loop-holds c = (search needs, refl)
 loop-again : tie.Need-loop-again Inv-loop μ-loop
 loop-again c = (search needs, all-below-next _ _ (c .before .before .before .before .loop .inv .1) (c .is-same .ensures))
 
-returns : tie.Need-returns Inv-loop μ-loop
-returns c =
+returns-2 : tie.Need-returns-2 Inv-loop μ-loop
+returns-2 c =
     let l = c .before .loop in
-    same-all _ _ (l .i) (l .inv .0) (omega arith) (l .inv .1)
+    same-all _ _ (l .i) (c .before .before .if1 .left) (l .inv .0) (omega arith) (l .inv .1)
 
 pub are-same-spec : {M : Type 1} → statement M
 are-same-spec =
     tie.close
     (tie.spec
-    Inv-loop
-    μ-loop
-    loop-holds
-    (λ c. search needs)
-    (λ c. search needs)
-    (λ c. search needs)
-    (λ c. search needs)
-    (λ c κs. search needs)
-    (λ c. search needs)
-    (λ c. search needs)
-    loop-again
-    returns)
+    Inv-loop μ-loop returns loop-holds (λ c. search needs) (λ c. search needs) (λ c. search needs) (λ c. search needs)
+    (λ c κs. search needs) (λ c. search needs) (λ c. search needs) loop-again returns-2)

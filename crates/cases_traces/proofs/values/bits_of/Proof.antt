@@ -11,4 +11,7 @@ returns-2 : tie.Need-returns-2
 returns-2 c = bits-of-nan _ (c .if1 .left)
 
 pub bits-of-spec : {M : Type 1} → statement M
-bits-of-spec = tie.close (tie.spec float-to-bits-result (λ c. search needs) returns-2)
+bits-of-spec =
+    tie.close
+    (tie.spec
+    float-to-bits-result (λ c. search needs) returns-2)

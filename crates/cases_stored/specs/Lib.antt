@@ -1,3 +1,0 @@
-pub mod Checksum
-pub mod Stored
-pub mod Outcome
