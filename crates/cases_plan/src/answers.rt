@@ -1,26 +1,54 @@
 // What the library answers to a question, and whether that is what was stored.
 ghost use mathlib.Core.Path.{_≡_};
 ghost use Prim.Native.Nat.{_<_, _^_};
-ghost use Rattle.cases_plan.specs.Compare.{answerAlone, ledgerAlone, bufferTo, answerTo, ledgerTo, secondLedgerTo, checksumTo, asStored};
+ghost use Rattle.cases_plan.specs.Compare.{writesText, textAnswer, textLedger, textBuffer, planAnswer, planLedger, bufferTo, answerTo, ledgerTo, secondLedgerTo, checksumTo, asStored};
 use crate::checksum;
 use crate::outcome;
 use crate::outcome::Outcome;
 use crate::stored::Question;
 use crate::tally;
 
-// What the library answers to a question that has one ledger, and the ledger and the buffer that it leaves.
-fn answer_alone(
+// Whether a call has a text written to the buffer.
+fn writes_text(call: u32) -> bool
+    ensures { λ r. ⌜ r ≡ writesText call ⌝ }
+{
+    (call == 4) | (call == 5) | (call == 7)
+}
+
+// What the library answers to a question that has a text written, and the ledger and the buffer that it leaves.
+fn answer_text(
     network: &[u8],
     plan: &[u8],
-    second: &[u8],
     ledger: &mut [u32],
     buffer: &mut [u8],
     question: Question,
 ) -> Outcome
+    requires { ⌜ question .boundary < 2 ^ 32 ⌝ }
+    ensures { λ r. ⌜ r ≡ textAnswer (now (network .entry)) (now (plan .entry)) (now (ledger .entry)) (now (buffer .entry)) question ⌝ }
+    ensures { λ r. ⌜ now (ledger .exit) ≡ textLedger (now (network .entry)) (now (plan .entry)) (now (ledger .entry)) question ⌝ }
+    ensures { λ r. ⌜ now (buffer .exit) ≡ textBuffer (now (network .entry)) (now (plan .entry)) (now (ledger .entry)) (now (buffer .entry)) question ⌝ }
+{
+    let boundary = question.boundary as u32;
+    if question.call == 4 {
+        return outcome::of_listing(listing_call::plan_from_listing(network, plan, buffer));
+    }
+    if question.call == 7 {
+        return outcome::of_sheet(sheet_writer::plan_from_sheet(network, plan, buffer));
+    }
+    outcome::of_carry(carry::carry_on(network, boundary, plan, ledger, buffer))
+}
+
+// What the library answers to a question of a network, a plan, a plan by a sheet or a link, and the ledger that it leaves.
+fn answer_plan(
+    network: &[u8],
+    plan: &[u8],
+    second: &[u8],
+    ledger: &mut [u32],
+    question: Question,
+) -> Outcome
     requires { ⌜ (question .boundary < 2 ^ 32) × (question .link < 2 ^ 32) ⌝ }
-    ensures { λ r. ⌜ r ≡ answerAlone (now (network .entry)) (now (plan .entry)) (now (second .entry)) (now (ledger .entry)) (now (buffer .entry)) question ⌝ }
-    ensures { λ r. ⌜ now (ledger .exit) ≡ ledgerAlone (now (network .entry)) (now (plan .entry)) (now (second .entry)) (now (ledger .entry)) question ⌝ }
-    ensures { λ r. ⌜ now (buffer .exit) ≡ bufferTo (now (network .entry)) (now (plan .entry)) (now (ledger .entry)) (now (buffer .entry)) question ⌝ }
+    ensures { λ r. ⌜ r ≡ planAnswer (now (network .entry)) (now (plan .entry)) (now (second .entry)) (now (ledger .entry)) question ⌝ }
+    ensures { λ r. ⌜ now (ledger .exit) ≡ planLedger (now (network .entry)) (now (plan .entry)) (now (second .entry)) (now (ledger .entry)) question ⌝ }
 {
     let boundary = question.boundary as u32;
     let link = question.link as u32;
@@ -30,17 +58,8 @@ fn answer_alone(
     if question.call == 2 {
         return outcome::of_plan(plan_check::check_plan(network, plan, ledger));
     }
-    if question.call == 4 {
-        return outcome::of_listing(listing_call::plan_from_listing(network, plan, buffer));
-    }
     if question.call == 6 {
         return outcome::of_plan(sheet_check::check_sheet(network, plan, second, ledger));
-    }
-    if question.call == 7 {
-        return outcome::of_sheet(sheet_writer::plan_from_sheet(network, plan, buffer));
-    }
-    if question.call == 5 {
-        return outcome::of_carry(carry::carry_on(network, boundary, plan, ledger, buffer));
     }
     outcome::of_link(plan_link_state::link_state(network, ledger, boundary, link))
 }
@@ -61,6 +80,9 @@ fn answer_to(
     ensures { λ r. ⌜ now («second_ledger» .exit) ≡ secondLedgerTo (now (network .entry)) (now (plan .entry)) (now (second .entry)) (now (ledger .entry)) (now («second_ledger» .entry)) question ⌝ }
     ensures { λ r. ⌜ now (buffer .exit) ≡ bufferTo (now (network .entry)) (now (plan .entry)) (now (ledger .entry)) (now (buffer .entry)) question ⌝ }
 {
+    if writes_text(question.call) {
+        return answer_text(network, plan, ledger, buffer, question);
+    }
     if question.call == 8 {
         return outcome::of_comparison(plan_compare::compare_plans(
             network,
@@ -70,7 +92,7 @@ fn answer_to(
             second_ledger,
         ));
     }
-    answer_alone(network, plan, second, ledger, buffer, question)
+    answer_plan(network, plan, second, ledger, question)
 }
 
 // Whether the library's answer, and the checksum of the ledgers and the buffer that it leaves, are those of the other implementation.
