@@ -40,9 +40,9 @@ use Rattle.plan_steps.specs.declared.Taken.{Taken}
 use Rattle.plan_steps.specs.Steps as steps
 use Rattle.plan_steps.proofs.Runs.{lines-within}
 use Rattle.plan_steps.proofs.Ledger.{written-again}
-use Rattle.carry_text.specs.declared.CarriedAnswer.{CarriedAnswer}
-use Rattle.carry_text.specs.declared.CarriedAnswer.the-variants as carried-answers
-use Rattle.carry_text.specs.Carried.{StandsAt, CarryAsked, WrittenWhole, TextWritten}
+use Rattle.carry.specs.declared.CarriedAnswer.{CarriedAnswer}
+use Rattle.carry.specs.declared.CarriedAnswer.the-variants as carried-answers
+use Rattle.carry.specs.Carried.{StandsAt, CarryAsked, WrittenWhole, TextWritten}
 use Rattle.model_carry.specs.declared.CarryAnswer.{CarryAnswer}
 use Rattle.model_carry.specs.declared.CarryAnswer.the-variants.{Written, Refused}
 use Rattle.model_carry.specs.Part.{cut, carriedText}

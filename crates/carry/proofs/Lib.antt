@@ -1,1 +1,6 @@
 mod Carrying
+mod Filling
+mod Reading
+mod Trams
+mod Lines
+mod Whole

@@ -1,1 +1,4 @@
 pub mod Carrying
+pub mod Rows
+pub mod Trams
+pub mod Carried

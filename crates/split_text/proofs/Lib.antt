@@ -3,3 +3,7 @@ mod Same
 mod Rows
 mod Steps
 mod Whole
+mod Border
+mod Filling
+mod Picked
+mod Lines

@@ -30,9 +30,9 @@ use Rattle.model_split.proofs.Numbering.{rank-le, picked-length}
 use Rattle.model_split.proofs.Fits.{demand-small, texts-small}
 use Rattle.split_tables.specs.Tables.{signalsAt, movementsAt, halfSize, isIn, MovementsAsked}
 use Rattle.split_tables.proofs.Halves.{zeros-at}
-use Rattle.split_lines.specs.Border.{BorderAsked, Bordered}
-use Rattle.split_lines.specs.Filling.{Filled, FillAsked, SumsAsked}
-use Rattle.split_lines.proofs.Filling.{fills-more}
+use Rattle.split_text.specs.Border.{BorderAsked, Bordered}
+use Rattle.split_text.specs.Filling.{Filled, FillAsked, SumsAsked}
+use Rattle.split_text.proofs.Filling.{fills-more}
 use Rattle.split_text.specs.declared.StepPlaces.{StepPlaces}
 use Rattle.split_text.specs.Halves.{Held, PlanLineRead, StepPut, LinePut}
 use Rattle.split_text.proofs.Reading.{line-read}

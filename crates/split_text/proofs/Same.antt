@@ -35,9 +35,9 @@ use Rattle.model_split.proofs.HalfValid.{exit-small}
 use Rattle.model_split.proofs.Trams.{signal-there}
 use Rattle.split_tables.specs.Tables.{signalsAt, movementsAt, isIn, linksIn, HalfTable}
 use Rattle.split_tables.proofs.Tables.{one-crosses, link-in, signal-in, movement-in}
-use Rattle.split_lines.specs.Border.{borderSum, Bordered}
-use Rattle.split_lines.specs.Rows.{signalNumberIn, tramIn, tramRow, linkRow, movementRow}
-use Rattle.split_lines.proofs.Picked.{picked-same}
+use Rattle.split_text.specs.Border.{borderSum, Bordered}
+use Rattle.split_text.specs.Rows.{signalNumberIn, tramIn, tramRow, linkRow, movementRow}
+use Rattle.split_text.proofs.Picked.{picked-same}
 use Rattle.split_text.specs.Halves.{OneHalf}
 
 module _ {network : List Line} (holds : Hold (networkChecks network)) {set : ℕ} {h : Half} {half : List ℕ} (one : OneHalf network set h half) where

@@ -33,9 +33,9 @@ use Rattle.model_split.proofs.Numbering.{picked-length}
 use Rattle.split_tables.specs.Tables.{signalsAt, movementsAt, isIn}
 use Rattle.split_tables.proofs.Tables.{link-in, signal-in, movement-in}
 use Rattle.split_tables.proofs.Halves.{rank-ext}
-use Rattle.split_lines.specs.Border.{Bordered}
-use Rattle.split_lines.specs.Rows.{countRow, tramIn, tramRow, signalRow, linkRow, movementRow, TramsAsked, SignalsAsked, LinksAsked, MovementsAsked}
-use Rattle.split_lines.proofs.Picked.{picked-same, picked-texts}
+use Rattle.split_text.specs.Border.{Bordered}
+use Rattle.split_text.specs.Rows.{countRow, tramIn, tramRow, signalRow, linkRow, movementRow, TramsAsked, SignalsAsked, LinksAsked, MovementsAsked}
+use Rattle.split_text.proofs.Picked.{picked-same, picked-texts}
 use Rattle.split_text.specs.Halves.{OneHalf, StepsAsked, StepsPut, NetworkAsked, NetworkPut}
 use Rattle.split_text.proofs.Same.{named-signal, tram-follows, tram-same, movement-same, link-same}
 use Rattle.split_text.proofs.Rows.{ends-asked, sums-asked}

@@ -1,1 +1,4 @@
 pub mod Halves
+pub mod Rows
+pub mod Border
+pub mod Filling

@@ -1,0 +1,25 @@
+-- `carry::put_counts` meets its contract. Assumes nothing.
+use Rattle.carry.proofs.Lines.{counts-put}
+use borrow.Author.Needs.{needs}
+use Rattle.carry.proofs.put_counts.Statement.{statement}
+use Rattle.carry.proofs.put_counts.Tie as tie
+
+returns : tie.Need-returns
+returns c = search (counts-put, needs)
+
+pub put-counts-spec : {M : Type 1} → statement M
+put-counts-spec =
+    tie.close
+    (tie.spec
+    (λ c. search needs)
+    (λ c. search needs)
+    (λ c. search needs)
+    (λ c. search needs)
+    (λ c. search needs)
+    (λ c. search needs)
+    (λ c. search needs)
+    (λ c. search needs)
+    (λ c. search needs)
+    (λ c κs. search needs)
+    (λ c. search needs)
+    returns)

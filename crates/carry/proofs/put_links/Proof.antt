@@ -1,0 +1,52 @@
+-- `carry::put_links` meets its contract. Assumes nothing.
+use mathlib.Core.Path.{refl}
+use native.Mathlib.Omega.{arith}
+use Rattle.carry.proofs.Lines.{links-next}
+use Rattle.carry.specs.Rows.{linkRow}
+use Rattle.model.specs.Table.{letterQ}
+use Rattle.network_writer.proofs.Put.{LinesTo, rows-none, rows-early, rows-all}
+use Prim.Native.Nat.{_-_}
+use borrow.Author.Needs.{needs}
+use Rattle.carry.proofs.put_links.Statement.{statement}
+use Rattle.carry.proofs.put_links.Tie as tie
+
+abbrev Inv-loop : tie.InvT-loop
+Inv-loop links waiting count out₀ at end₀ i₀ out end i = LinesTo letterQ (linkRow links waiting) count at out₀ out end i
+
+abbrev μ-loop : tie.MeasureT-loop
+μ-loop links waiting count out₀ at end₀ i₀ out end i = count - i
+
+loop-holds : tie.Need-loop-holds Inv-loop μ-loop
+loop-holds c = search rows-none
+
+put-line-requires : tie.Need-put-line-requires Inv-loop μ-loop
+put-line-requires c κs = search (rows-early, needs)
+
+loop-again : tie.Need-loop-again Inv-loop μ-loop
+loop-again c = links-next _ _ (c .before .before .before .before .before .before .before .before .before .before .before .before .before .loop .inv) (omega arith) (c .before .before .before .before .before .before .before .before .before .before .before .capacity .ensures) (c .before .before .before .before .before .before .before .before .before .before .travel-time .ensures) (c .before .before .before .before .before .before .before .before .before .exit-rate .ensures) (c .before .before .before .before .before .before .before .before .signal-of .ensures) (c .before .before .before .before .before .before .before .phase-mask .ensures) (c .before .before .before .before .before .before .standing .ensures) refl (c .before .before .put-line .ensures)
+
+returns : tie.Need-returns Inv-loop μ-loop
+returns c = search rows-all
+
+pub put-links-spec : {M : Type 1} → statement M
+put-links-spec =
+    tie.close
+    (tie.spec
+    Inv-loop
+    μ-loop
+    loop-holds
+    (λ c κs. search needs)
+    (λ c κs. search needs)
+    (λ c κs. search needs)
+    (λ c κs. search needs)
+    (λ c κs. search needs)
+    (λ c κs. search needs)
+    (λ c. search needs)
+    (λ c. search needs)
+    (λ c. search needs)
+    put-line-requires
+    (λ c. search needs)
+    (λ c. search needs)
+    loop-again
+    (λ c. search needs)
+    returns)

@@ -1,0 +1,47 @@
+-- `carry::put_movements` meets its contract. Assumes nothing.
+use native.Mathlib.Omega.{arith}
+use Rattle.carry.proofs.Lines.{movements-next}
+use Rattle.carry.specs.Rows.{movementRow}
+use Rattle.model.specs.Table.{letterM}
+use Rattle.network_writer.proofs.Put.{LinesTo, rows-none, rows-early, rows-all}
+use Prim.Native.Nat.{_-_}
+use borrow.Author.Needs.{needs}
+use Rattle.carry.proofs.put_movements.Statement.{statement}
+use Rattle.carry.proofs.put_movements.Tie as tie
+
+abbrev Inv-loop : tie.InvT-loop
+Inv-loop movements count out₀ at end₀ j₀ out end j = LinesTo letterM (movementRow movements) count at out₀ out end j
+
+abbrev μ-loop : tie.MeasureT-loop
+μ-loop movements count out₀ at end₀ j₀ out end j = count - j
+
+loop-holds : tie.Need-loop-holds Inv-loop μ-loop
+loop-holds c = search rows-none
+
+put-line-requires : tie.Need-put-line-requires Inv-loop μ-loop
+put-line-requires c κs = search (rows-early, needs)
+
+loop-again : tie.Need-loop-again Inv-loop μ-loop
+loop-again c = movements-next _ (c .before .before .before .before .before .before .before .before .before .before .loop .inv) (omega arith) (c .before .before .before .before .before .before .before .before .link-of .ensures) (c .before .before .before .before .before .before .before .link-of2 .ensures) (c .before .before .before .before .before .before .rate .ensures) (c .before .before .before .before .before .share .ensures) (c .before .before .put-line .ensures)
+
+returns : tie.Need-returns Inv-loop μ-loop
+returns c = search rows-all
+
+pub put-movements-spec : {M : Type 1} → statement M
+put-movements-spec =
+    tie.close
+    (tie.spec
+    Inv-loop
+    μ-loop
+    loop-holds
+    (λ c κs. search needs)
+    (λ c κs. search needs)
+    (λ c κs. search needs)
+    (λ c κs. search needs)
+    (λ c. search needs)
+    put-line-requires
+    (λ c. search needs)
+    (λ c. search needs)
+    loop-again
+    (λ c. search needs)
+    returns)

@@ -1,0 +1,54 @@
+-- `carry::put_steps` meets its contract. Assumes nothing.
+use native.Mathlib.Omega.{arith}
+use Rattle.carry.proofs.Reading.{StepsTo, steps-none, volumes-asked, steps-part, steps-asked, steps-next, steps-all}
+use Prim.Native.Nat.{_-_}
+use borrow.Author.Needs.{needs}
+use Rattle.carry.proofs.put_steps.Statement.{statement}
+use Rattle.carry.proofs.put_steps.Tie as tie
+
+abbrev Inv-loop : tie.InvT-loop
+Inv-loop text from ledger links boundary out₀ at row₀ width line₀ end₀ n₀ out row line end n = StepsTo text from ledger links boundary at out₀ row line out end n
+
+abbrev μ-loop : tie.MeasureT-loop
+μ-loop text from ledger links boundary out₀ at row₀ width line₀ end₀ n₀ out row line end n = boundary - n
+
+loop-holds : tie.Need-loop-holds Inv-loop μ-loop
+loop-holds c = search (steps-none, needs)
+
+fill-volumes-requires : tie.Need-fill-volumes-requires Inv-loop μ-loop
+fill-volumes-requires c κs = volumes-asked (c .before .before .before .before .before .loop .inv) (c .before .before .before .before .before .before .before .before .before .pre .0) (omega arith) (c .before .before .read-again .ensures)
+
+slice-aggregate-put-line : tie.Need-slice-aggregate-put-line Inv-loop μ-loop
+slice-aggregate-put-line c = search (steps-part, needs)
+
+put-line-requires : tie.Need-put-line-requires Inv-loop μ-loop
+put-line-requires c κs = steps-asked (c .before .before .before .before .before .before .before .before .before .loop .inv) (c .before .before .before .before .before .before .before .before .before .before .before .before .before .pre .0) (omega arith) (c .before .before .before .before .before .before .read-again .ensures) (c .before .before .before .fill-volumes .ensures) (c .before .before .before .before .before .before .before .before .before .before .before .before .before .pre .1)
+
+loop-again : tie.Need-loop-again Inv-loop μ-loop
+loop-again c = search (steps-next, needs)
+
+returns : tie.Need-returns Inv-loop μ-loop
+returns c = search steps-all
+
+pub put-steps-spec : {M : Type 1} → statement M
+put-steps-spec =
+    tie.close
+    (tie.spec
+    Inv-loop
+    μ-loop
+    (λ c. search needs)
+    (λ c. search needs)
+    loop-holds
+    (λ c. search needs)
+    (λ c. search needs)
+    (λ c κs. search needs)
+    (λ c. search needs)
+    fill-volumes-requires
+    (λ c. search needs)
+    slice-aggregate-put-line
+    put-line-requires
+    (λ c. search needs)
+    (λ c. search needs)
+    loop-again
+    (λ c. search needs)
+    returns)

@@ -1,5 +1,0 @@
-mod Filling
-mod Reading
-mod Trams
-mod Lines
-mod Whole

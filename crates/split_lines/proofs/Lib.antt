@@ -1,4 +1,0 @@
-pub mod Picked
-pub mod Lines
-pub mod Filling
-mod Border
