@@ -1,7 +1,7 @@
 -- The ways out of the call, by the definitions on the cut network. Assumes nothing.
 use Prim.Native.Nat.{ℕ, suc, _+_, _*_, _-_, _≤_, _<_}
 use mathlib.Core.Path.{_≡_, refl, sym, ap, ap₂, _∙_}
-use mathlib.Core.Bool.{Bool, true, false, not, cond}
+use mathlib.Core.Bool.{Bool, true, false, not}
 use mathlib.Core.List.{List, []}
 use native.Mathlib.Decide.{decLt}
 use native.Mathlib.Numerals.{add-one}
@@ -17,7 +17,7 @@ use Rattle.base_search.specs.Checks.{refusal, verdict, orElse, checked, each, H
 use Rattle.base_search.proofs.Laws.{passes-of-hold, hold-of-passes, or-else-passes, or-else-refused, checked-passes, checked-refused, first-stop, first-passes}
 use Rattle.text_reader.specs.Lines.{Line, noLine, lines, number}
 use Rattle.text_reader.specs.Padding.{PaddingIgnored}
-use Rattle.text_reader.specs.Reading.{Starts, atEnd, over}
+use Rattle.text_reader.specs.Reading.{Starts, atEnd}
 use Rattle.text_reader.proofs.Laws.{some-lines, no-lines, starts-end, end-of-none}
 use Rattle.text_reader.proofs.Padding.{same-lines}
 use Rattle.model.specs.Test.{_and_, within}
@@ -40,13 +40,12 @@ use Rattle.plan_steps.specs.declared.Taken.{Taken}
 use Rattle.plan_steps.specs.Steps as steps
 use Rattle.plan_steps.proofs.Runs.{lines-within}
 use Rattle.plan_steps.proofs.Ledger.{written-again}
-use Rattle.carry.specs.declared.CarriedAnswer.{CarriedAnswer}
-use Rattle.carry.specs.declared.CarriedAnswer.the-variants as carried-answers
-use Rattle.carry.specs.Carried.{StandsAt, CarryAsked, WrittenWhole, TextWritten}
-use Rattle.model_carry.specs.declared.CarryAnswer.{CarryAnswer}
-use Rattle.model_carry.specs.declared.CarryAnswer.the-variants.{Written, Refused}
+use Rattle.model_text.specs.declared.TextAnswer.{TextAnswer}
+use Rattle.model_text.specs.declared.TextAnswer.the-variants.{Refused}
+use Rattle.model_text.specs.Answers.{textAnswer, bytesAfter, roomVerdict, Told}
+use Rattle.carry.specs.Carried.{StandsAt, CarryAsked, TextWritten}
 use Rattle.model_carry.specs.Part.{cut, carriedText}
-use Rattle.model_carry.specs.Call.{plannedOn, boundaryChecks, carryChecks, carryAnswer, carryOn, carryLedger, carryBuffer, writtenBytes}
+use Rattle.model_carry.specs.Call.{plannedOn, boundaryChecks, carryChecks, carryOn, carryLedger, carryBuffer}
 use Rattle.model_text.proofs.Tests.{is-within}
 use Rattle.model_carry.proofs.Theorem.{cut-steps}
 use Rattle.model_carry.proofs.Cut.{cut-judged, cut-due, due-of-cut, cut-written}
@@ -74,24 +73,6 @@ rows-none-are : (network plan : List Line) (ledger : List ℕ) → (RowDue netwo
 unfolding ledgerAfter
 rows-none-are network plan ledger h = rw (rows-none network plan (length ledger) h) (sym (written-none network plan ledger))
 
--- what the writer's answer says of the text and the buffer
-module _ {text old new : List ℕ} {answer : CarriedAnswer} (got : WrittenWhole text old answer new) where
-  was-written : {size : ℕ} → answer ≡ carried-answers.Written size → (leb (length text) (length old) ≡ true) × (size ≡ length text) × (new ≡ over text old)
-  was-written {size} e = go (leb (length text) (length old)) refl (got .answered) (got .holds)
-    where
-      go : (fits : Bool) → leb (length text) (length old) ≡ fits → answer ≡ cond (leb (length text) (length old)) (carried-answers.Written (length text)) carried-answers.TooShort
-          → new ≡ cond (leb (length text) (length old)) (over text old) old → (leb (length text) (length old) ≡ true) × (size ≡ length text) × (new ≡ over text old)
-      go true f t h = let told = rw f at t in (f, cc, rw f at h)
-      go false f t h = let told = rw f at t in let z : _≡_ {A = ℕ} 0 1 = cc in absurd (omega arith)
-
-  was-short : answer ≡ carried-answers.TooShort → (leb (length text) (length old) ≡ false) × (new ≡ old)
-  was-short e = go (leb (length text) (length old)) refl (got .answered) (got .holds)
-    where
-      go : (fits : Bool) → leb (length text) (length old) ≡ fits → answer ≡ cond (leb (length text) (length old)) (carried-answers.Written (length text)) carried-answers.TooShort
-          → new ≡ cond (leb (length text) (length old)) (over text old) old → (leb (length text) (length old) ≡ false) × (new ≡ old)
-      go true f t h = let told = rw f at t in let z : _≡_ {A = ℕ} 0 1 = cc in absurd (omega arith)
-      go false f t h = (f, rw f at h)
-
 module _ (networkText planText : List ℕ) (b : ℕ) (ledger buffer : List ℕ) where
   abbrev net : List Line
   net = lines networkText
@@ -104,7 +85,7 @@ module _ (networkText planText : List ℕ) (b : ℕ) (ledger buffer : List ℕ) 
   unfolding carryOn carryLedger carryBuffer
   boundary-refused {r} v =
       let all : verdict (carryChecks net plan b (length ledger) (length buffer)) ≡ verdicts.Refused r = unfold carryChecks verdict in or-else-refused _ _ r v in
-      record { told = rw all (unfold carryAnswer in refl); rows = rw v; holds = rw all (unfold writtenBytes in refl) }
+      record { told = rw all (unfold textAnswer in refl); rows = rw v; holds = rw all (unfold bytesAfter in refl) }
 
   module _ (within : verdict (boundaryChecks net b) ≡ verdicts.Passes) where
     -- a refusal of the plan on the cut network
@@ -114,7 +95,7 @@ module _ (networkText planText : List ℕ) (b : ℕ) (ledger buffer : List ℕ) 
     plan-refused {r} v rows =
         let all : verdict (carryChecks net plan b (length ledger) (length buffer)) ≡ verdicts.Refused r =
         unfold carryChecks verdict in (or-else-passes _ _ within ∙ or-else-refused _ _ r v) in
-        record { told = rw all (unfold carryAnswer in refl); rows = rw within rows; holds = rw all (unfold writtenBytes in refl) }
+        record { told = rw all (unfold textAnswer in refl); rows = rw within rows; holds = rw all (unfold bytesAfter in refl) }
 
     -- the plan passes, and the text is written or does not fit
     module _ (passes : verdict (planChecks (cut net b) plan (length ledger)) ≡ verdicts.Passes) {ledger′ : List ℕ} (rows : ledger′ ≡ ledgerAfter (cut net b) plan ledger) where
@@ -122,21 +103,10 @@ module _ (networkText planText : List ℕ) (b : ℕ) (ledger buffer : List ℕ) 
       unfolding carryChecks verdict
       text-judged = or-else-passes _ _ within ∙ or-else-passes _ _ passes
 
-      pub text-written : {answer : CarriedAnswer} {buffer′ : List ℕ} → WrittenWhole (carriedText net plan b) buffer answer buffer′ → (size : ℕ) → answer ≡ carried-answers.Written size
-          → CarryGot networkText planText b ledger ledger′ buffer buffer′ (Written size)
+      pub text-told : {answer : TextAnswer} {buffer′ : List ℕ} → Told (carriedText net plan b) (roomVerdict 32 (carriedText net plan b) buffer) buffer answer buffer′
+          → CarryGot networkText planText b ledger ledger′ buffer buffer′ answer
       unfolding carryOn carryLedger carryBuffer
-      text-written got size e =
-          let f = was-written got e in
-          let all : verdict (carryChecks net plan b (length ledger) (length buffer)) ≡ verdicts.Passes = text-judged ∙ checked-passes _ 32 0 0 (f .0) in
-          record { told = rw all (unfold carryAnswer in ap Written (f .1)); rows = rw within rows; holds = rw all (unfold writtenBytes in (f .2)) }
-
-      pub text-short : {answer : CarriedAnswer} {buffer′ : List ℕ} → WrittenWhole (carriedText net plan b) buffer answer buffer′ → answer ≡ carried-answers.TooShort
-          → CarryGot networkText planText b ledger ledger′ buffer buffer′ (Refused (refusal 32 0 0))
-      unfolding carryOn carryLedger carryBuffer
-      text-short got e =
-          let f = was-short got e in
-          let all : verdict (carryChecks net plan b (length ledger) (length buffer)) ≡ verdicts.Refused (refusal 32 0 0) = text-judged ∙ checked-refused _ 32 0 0 (f .0) in
-          record { told = rw all (unfold carryAnswer in refl); rows = rw within rows; holds = rw all (unfold writtenBytes in (f .1)) }
+      text-told t = record { told = rw text-judged (t .answered); rows = rw within rows; holds = rw text-judged (t .holds) }
 
 module _ (networkText planText : List ℕ) (b : ℕ) (buffer : List ℕ) {reading : Reading} {links movements times signals₀ ledger : List ℕ} (a : StepsAsked networkText b reading links movements times signals₀ ledger) where
   abbrev network : List Line
@@ -275,16 +245,10 @@ module _ (networkText planText : List ℕ) (b : ℕ) (buffer : List ℕ) {readin
             stands = stands;
           }
 
-      module _ (e : atEnd planText (taken .state .«plan_at») ≡ true) {answer : CarriedAnswer} {buffer′ : List ℕ}
-          (text : TextWritten networkText b signals waiting ledger′ buffer answer buffer′) where
-        accepted : verdict (planChecks (cut network b) first (length ledger)) ≡ verdicts.Passes
-        accepted = lines-judged ∙ checked-passes _ 9 (suc b) 0 (sym at-end ∙ e)
-
-        pub carried-written : {size : ℕ} → answer ≡ carried-answers.Written size → CarryGot networkText planText b ledger ledger′ buffer buffer′ (Written size)
-        carried-written {size} q = text-written networkText planText b ledger buffer within-plan accepted rows-all (text first stands) size q
-
-        pub carried-short : answer ≡ carried-answers.TooShort → CarryGot networkText planText b ledger ledger′ buffer buffer′ (Refused (refusal 32 0 0))
-        carried-short q = text-short networkText planText b ledger buffer within-plan accepted rows-all (text first stands) q
+      pub carried-told : atEnd planText (taken .state .«plan_at») ≡ true → {answer : TextAnswer} {buffer′ : List ℕ} → TextWritten networkText b signals waiting ledger′ buffer answer buffer′
+          → CarryGot networkText planText b ledger ledger′ buffer buffer′ answer
+      carried-told e text =
+          text-told networkText planText b ledger buffer within-plan (lines-judged ∙ checked-passes _ 9 (suc b) 0 (sym at-end ∙ e)) rows-all (text first stands)
 
 -- ---- before the steps
 module _ (networkText planText : List ℕ) (b : ℕ) (ledger buffer : List ℕ) {reading : Reading} {links movements times : List ℕ} (loaded : Loaded networkText links movements times reading) where
@@ -329,7 +293,7 @@ network-refused networkText planText b ledger buffer {r = r} got e =
     boundary-refused networkText planText b ledger buffer (unfold boundaryChecks verdict in or-else-refused _ _ r (verdict-refused got e))
 
 -- the call's whole promise
-pub promised : {networkText planText : List ℕ} {b : ℕ} {ledger ledger′ buffer buffer′ : List ℕ} {answer : CarryAnswer} → CarryGot networkText planText b ledger ledger′ buffer buffer′ answer
+pub promised : {networkText planText : List ℕ} {b : ℕ} {ledger ledger′ buffer buffer′ : List ℕ} {answer : TextAnswer} → CarryGot networkText planText b ledger ledger′ buffer buffer′ answer
     → CarriedOn (lines networkText) (plannedOn (lines networkText) b planText) b ledger ledger′ buffer buffer′ answer
     × PaddingIgnored networkText (λ paddedNetwork. PaddingIgnored planText (λ paddedPlan. CarryGot paddedNetwork paddedPlan b ledger ledger′ buffer buffer′ answer))
 promised {networkText} {planText} {b} {ledger} {buffer = buffer} got = (

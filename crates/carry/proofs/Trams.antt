@@ -10,7 +10,6 @@ use borrow.Author.Tests.{lt-ltb, le-ltb, le-leb, lt-leb}
 use lib.ListN.{length, getD, take, drop, length-append, length-take, length-drop}
 use lib.Seq.{take-suc, take-all, getD-take, getD-drop}
 use Rattle.text_reader.specs.Lines.{Line, lines, noLine, number}
-use Rattle.text_reader.specs.Reading.{Starts}
 use Rattle.text_writer.specs.Records.{recordText}
 use Rattle.model.specs.Network.{entry, stepCount, tramCount, tramLine, trams}
 use Rattle.model.specs.Table.{isForm, letterT}
@@ -21,6 +20,7 @@ use Rattle.network_writer.specs.Put.{Put, Early}
 use Rattle.network_writer.specs.Reading.{ReadAgain}
 use Rattle.network_writer.specs.Texts.{lineTexts}
 use Rattle.network_writer.proofs.Put.{put-none, puts-more}
+use Rattle.network_writer.proofs.Trams.{TramsTo, trams-begin, tram-field, trams-on}
 use Rattle.network_writer.proofs.Texts.{texts-more}
 use Rattle.carry.specs.Trams.{leftOf, TramsAsked}
 
@@ -67,34 +67,26 @@ clipped-more b K (u ∷ ts) t = go (meets b K u) (clipped-more b K ts t)
 abbrev leftTo : List ℕ → ℕ → ℕ → List (List ℕ)
 leftTo text b k = clipped b (stepCount (lines text)) (take k (trams (lines text)))
 
-pub record TramsTo (text : List ℕ) (count b : ℕ) (tram : List ℕ) (line k : ℕ) : Type 0 where
-  pub few : k ≤ count
-  pub size : length tram ≡ tramFields
-  pub starts : Starts text line (tramLine (lines text) k)
-
 pub record CountedTo (text : List ℕ) (count b : ℕ) (tram : List ℕ) (line left k : ℕ) : Type 0 where
-  pub at-line : TramsTo text count b tram line k
+  pub at-line : TramsTo text count tram line k
   pub counted : left ≡ length (leftTo text b k)
   pub small : left ≤ k
 
 pub record TramsPut (text : List ℕ) (count b : ℕ) (tram : List ℕ) (line at : ℕ) (old out : List ℕ) (end k : ℕ) : Type 0 where
-  pub at-line : TramsTo text count b tram line k
+  pub at-line : TramsTo text count tram line k
   pub put : Put k (lineTexts letterT (leftTo text b k)) at old out end
 
 module _ {text : List ℕ} {from count b : ℕ} (a : TramsAsked text from count b) where
-  trams-begin : {tram : List ℕ} → length tram ≡ tramFields → TramsTo text count b tram from 0
-  trams-begin l = record { few = omega arith; size = l; starts = a .starts }
-
   nothing-yet : leftTo text b 0 ≡ []
   unfolding clipped
   nothing-yet = refl
 
   pub counted-none : {tram : List ℕ} → length tram ≡ tramFields → CountedTo text count b tram from 0 0
-  counted-none l = record { at-line = trams-begin l; counted = ap length (sym nothing-yet); small = omega arith }
+  counted-none l = record { at-line = trams-begin (a .passed) l; counted = ap length (sym nothing-yet); small = omega arith }
 
   pub trams-none : {tram : List ℕ} (at : ℕ) (old : List ℕ) → length tram ≡ tramFields → TramsPut text count b tram from at old old at 0
   unfolding lineTexts
-  trams-none at old l = record { at-line = trams-begin l; put = rw nothing-yet (put-none at old) }
+  trams-none at old l = record { at-line = trams-begin (a .passed) l; put = rw nothing-yet (put-none at old) }
 
   pub tram-early : {tram : List ℕ} {line at end k : ℕ} {old out : List ℕ} → TramsPut text count b tram line at old out end k → Early count at → k < count → Early 1 end
   tram-early p e h = omega (arith, p .put .ends, p .put .few)
@@ -102,21 +94,12 @@ module _ {text : List ℕ} {from count b : ℕ} (a : TramsAsked text from count 
   few-trams : (k : ℕ) → k < count → k < length (trams (lines text))
   unfolding trams tramLine isForm
   few-trams k h =
-      let l = record-within letterT tramFields (lines text) (1 + k) (a .forms k h) in
+      let l = record-within letterT tramFields (lines text) (1 + k) (a .passed .forms k h) in
       simp (length-take, length-drop) (omega (arith, a .counted))
 
-  module _ {tram : List ℕ} {line k : ℕ} (at-line : TramsTo text count b tram line k) (h : k < count) {next : ℕ} {tram′ : List ℕ} (r : ReadAgain letterT tramFields text line tram next tram′) where
-    held-numbers : (f : ℕ) → f < tramFields → getD tram′ f 0 ≡ number (getD (lines text) (tramLine (lines text) k) noLine) f
-    unfolding entry
-    held-numbers f l = let z : f ≡ 0 + f = omega arith in ap (λ x. getD tram′ x 0) z ∙ r .held (tramLine (lines text) k) (at-line .starts) (a .forms k h) .numbers f l
-
+  module _ {tram : List ℕ} {line k : ℕ} (at-line : TramsTo text count tram line k) (h : k < count) {next : ℕ} {tram′ : List ℕ} (r : ReadAgain letterT tramFields text line tram next tram′) where
     pub tram-size : length tram′ ≡ tramFields
     tram-size = r .size ∙ at-line .size
-
-    trams-on : TramsTo text count b tram′ next (k + 1)
-    unfolding tramLine
-    trams-on =
-        record { few = omega arith; size = tram-size; starts = let e : 1 + (k + 1) ≡ suc (1 + k) = omega arith in rw e (r .held (tramLine (lines text) k) (at-line .starts) (a .forms k h) .starts) }
 
     left-more : leftTo text b (k + 1) ≡ leftTo text b k ++ leftOf b tram′
     left-more =
@@ -125,7 +108,7 @@ module _ {text : List ℕ} {from count b : ℕ} (a : TramsAsked text from count 
         ∙ clipped-more b (stepCount (lines text)) (take k (trams (lines text))) (getD (trams (lines text)) k noLine)
         ∙ ap (λ (x : List (List ℕ)). leftTo text b k ++ x)
         (ap (λ t. clipped b (stepCount (lines text)) (t ∷ [])) line-is
-        ∙ clipped-one b (stepCount (lines text)) (getD (lines text) (tramLine (lines text) k) noLine) tram′ held-numbers (unfold entry in a .first-steps k h) (unfold entry in a .last-steps k h)))
+        ∙ clipped-one b (stepCount (lines text)) (getD (lines text) (tramLine (lines text) k) noLine) tram′ (unfold entry in tram-field (a .passed) at-line h r) (unfold entry in a .first-steps k h) (unfold entry in a .last-steps k h)))
       where
         line-is : getD (trams (lines text)) k noLine ≡ getD (lines text) (tramLine (lines text) k) noLine
         line-is = unfold trams tramLine in getD-take (tramCount (lines text)) (drop 1 (lines text)) k noLine (omega (arith, a .counted)) ∙ getD-drop 1 (lines text) k noLine
@@ -133,14 +116,14 @@ module _ {text : List ℕ} {from count b : ℕ} (a : TramsAsked text from count 
     pub counted-next : {left x : ℕ} → left ≡ length (leftTo text b k) → left ≤ k → x ≡ length (leftOf b tram′) → x ≤ 1 → CountedTo text count b tram′ next (left + x) (k + 1)
     counted-next c s e o =
         record {
-          at-line = trams-on;
+          at-line = trams-on (a .passed) at-line h r;
           counted = omega (arith, ap length left-more, length-append (leftTo text b k) (leftOf b tram′));
           small = omega arith;
         }
 
     pub trams-next : {at mid end : ℕ} {old out new : List ℕ} → Put k (lineTexts letterT (leftTo text b k)) at old out mid → Put 1 (lineTexts letterT (leftOf b tram′)) mid out new end
         → TramsPut text count b tram′ next at old new end (k + 1)
-    trams-next p q = record { at-line = trams-on; put = rw (ap (lineTexts letterT) left-more ∙ texts-more letterT (leftTo text b k) (leftOf b tram′)) (puts-more p q) }
+    trams-next p q = record { at-line = trams-on (a .passed) at-line h r; put = rw (ap (lineTexts letterT) left-more ∙ texts-more letterT (leftTo text b k) (leftOf b tram′)) (puts-more p q) }
 
   all-lines : {k : ℕ} → count ≤ k → leftTo text b k ≡ clipped b (stepCount (lines text)) (trams (lines text))
   unfolding trams

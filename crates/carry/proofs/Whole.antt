@@ -1,13 +1,14 @@
 -- The lines that are put, one block behind another, are the carried network's. Assumes nothing.
 use Prim.Native.Nat.{ℕ, zero, suc, _+_, _*_, _-_, _≤_, _<_}
 use mathlib.Core.Path.{_≡_, refl, sym, ap, ap₂, _∙_}
-use mathlib.Core.Bool.{true, false}
+use mathlib.Core.Bool.{true}
 use mathlib.Core.List.{List, [], _∷_, _++_, append-assoc, append-nil}
 use native.Mathlib.Numerals.{add-one}
 use native.Mathlib.Omega.{arith}
-use borrow.Author.Tests.{leb-true, le-leb, lt-leb}
-use lib.Dec.{leb}
+use borrow.Author.Tests.{leb-true}
 use lib.ListN.{length, getD, take, drop, length-take}
+use Rattle.base_search.specs.declared.Refusal.{Refusal}
+use Rattle.base_search.specs.Checks.{refusal}
 use Rattle.text_reader.specs.Lines.{Line, lines}
 use Rattle.text_reader.specs.Reading.{Starts, over}
 use Rattle.text_writer.specs.Records.{recordText, recordTexts}
@@ -32,14 +33,14 @@ use Rattle.network_tables.specs.Fields.{tableSignal, pastSize, enteredAt, leftA
 use Rattle.network_tables.proofs.Tables.{capacity-at, travel-time-at, exit-rate-at, signal-of-at, phase-mask-at, standing-at, from-link-at, to-link-at, rate-at, share-at}
 use Rattle.model_text.specs.NetworkText.{countNumbers, networkText}
 use Rattle.model_text.proofs.Formed.{Formed, formed-of-holds}
+use Rattle.model_text.specs.declared.TextAnswer.the-variants.{Written, Refused}
 use Rattle.model_carry.specs.Part.{clipped, signalNumbers, linkNumbers, movementNumbers, pastNumbers, stepNumbers, part, carriedText}
 use Rattle.model_carry.proofs.Clipped.{clipped-length}
 use Rattle.network_writer.specs.declared.Places.{Places}
 use Rattle.network_writer.specs.Put.{longest, Put, Early}
 use Rattle.network_writer.specs.Texts.{lineTexts}
 use Rattle.network_writer.proofs.Put.{puts-more}
-use Rattle.network_writer.proofs.Texts.{texts-of-list, put-first}
-use Rattle.carry.specs.declared.CarriedAnswer.the-variants.{Written, TooShort}
+use Rattle.network_writer.proofs.Texts.{texts-of-list, put-first, told-short, told-whole}
 use Rattle.carry.specs.Rows.{countRow, linkRow, movementRow, volumesIn, Copied, StepsPut, Rising, SignalsAsked, LinksAsked, MovementsAsked}
 use Rattle.carry.specs.Trams.{TramsAsked}
 use Rattle.carry.specs.Carried.{StandsAt, CarryAsked, TextPut, TextWritten}
@@ -95,11 +96,9 @@ module _ {text : List ℕ} {reading : Reading} {b : ℕ} {signals links movement
   trams-asked =
       let c = a .counted in
       record {
-        starts = a .trams-start;
+        passed = record { starts = a .trams-start; few = c .few .trams; forms = λ k l. formed .tram-forms k (omega (arith, c .trams)) };
         counted = c .trams;
-        few = c .few .trams;
         few-steps = omega (arith, a .within, c .steps, c .few .steps);
-        forms = λ k l. formed .tram-forms k (omega (arith, c .trams));
         first-steps = λ k l. tram-within k (omega (arith, c .trams)) .0;
         last-steps = λ k l. tram-within k (omega (arith, c .trams)) .1;
       }
@@ -325,15 +324,9 @@ module _ {text : List ℕ} {reading : Reading} {b : ℕ} {signals links movement
         record { long = omega (arith, p .ends, ap length e); is = λ h. p .is h ∙ put-first _ old ∙ ap (λ (x : List ℕ). over x old) e }
 
 -- ---- the text is measured, and then written if there is room
-module _ (text : List ℕ) {b : ℕ} {signals waiting ledger none none′ : List ℕ} {size : ℕ} where
-  pub short-written : (old : List ℕ) → TextPut text b signals waiting ledger none none′ size → length old < size → TextWritten text b signals waiting ledger old TooShort old
-  short-written old p h plan s =
-      let e : leb (length (carriedText (lines text) plan b)) (length old) ≡ false = lt-leb (length (carriedText (lines text) plan b)) (length old) (omega (arith, p plan s .long)) in
-      record { answered = rw e refl; holds = rw e refl }
+module _ (text : List ℕ) {b : ℕ} {signals waiting ledger none none′ old : List ℕ} {size : ℕ} (p : TextPut text b signals waiting ledger none none′ size) where
+  pub short-written : length old < size → {q : Refusal} → q ≡ refusal 32 0 0 → TextWritten text b signals waiting ledger old (Refused q) old
+  short-written h e plan s = told-short (p plan s) 32 h e
 
-  pub whole-written : {old new : List ℕ} {again : ℕ} → TextPut text b signals waiting ledger none none′ size → TextPut text b signals waiting ledger old new again → size ≤ length old
-      → TextWritten text b signals waiting ledger old (Written size) new
-  whole-written {old} p q h plan s =
-      let l = p plan s .long in
-      let e : leb (length (carriedText (lines text) plan b)) (length old) ≡ true = le-leb (length (carriedText (lines text) plan b)) (length old) (omega (arith, l)) in
-      record { answered = rw e (ap Written l); holds = rw e (q plan s .is (omega (arith, l, q plan s .long))) }
+  pub whole-written : size ≤ length old → {new : List ℕ} {again : ℕ} → TextPut text b signals waiting ledger old new again → TextWritten text b signals waiting ledger old (Written size) new
+  whole-written h q plan s = told-whole (p plan s) 32 h (q plan s)

@@ -1,13 +1,11 @@
 -- What the writing of a carried network asks and promises. Assumes nothing.
 use Prim.Native.Nat.{ℕ, suc, _*_, _≤_, _<_}
 use mathlib.Core.Path.{_≡_}
-use mathlib.Core.Bool.{cond}
 use mathlib.Core.List.{List}
-use lib.Dec.{leb}
 use lib.ListN.{length, getD}
 use Rattle.base_search.specs.Checks.{Hold}
 use Rattle.text_reader.specs.Lines.{Line, lines}
-use Rattle.text_reader.specs.Reading.{Starts, over}
+use Rattle.text_reader.specs.Reading.{Starts}
 use Rattle.model.specs.Network.{maxLinks, linkCount, signalCount, stepCount, tramLine, timelineLine, stepLine}
 use Rattle.model.specs.Flows.{signalAt, waits}
 use Rattle.model.specs.Table.{networkChecks}
@@ -15,10 +13,10 @@ use Rattle.model.specs.Calls.{written}
 use Rattle.network_tables.specs.declared.Reading.{Reading}
 use Rattle.network_tables.specs.Fields.{signalTableSize, tableSignal}
 use Rattle.network_tables.specs.Tables.{CountsHold, LinkTable, MovementTable}
+use Rattle.model_text.specs.declared.TextAnswer.{TextAnswer}
+use Rattle.model_text.specs.Answers.{roomVerdict, Told}
 use Rattle.model_carry.specs.Part.{carriedText}
 use Rattle.network_writer.specs.Put.{PutWhole}
-use Rattle.carry.specs.declared.CarriedAnswer.{CarriedAnswer}
-use Rattle.carry.specs.declared.CarriedAnswer.the-variants.{Written, TooShort}
 
 -- the signals, those who wait, and the ledger's rows at boundary b of a plan
 pub record StandsAt (network plan : List Line) (b : ℕ) (signals waiting ledger : List ℕ) : Type 0 where
@@ -47,11 +45,8 @@ abbrev pub TextPut : List ℕ → ℕ → List ℕ → List ℕ → List ℕ →
 TextPut text b signals waiting ledger old new size =
     (plan : List Line) → StandsAt (lines text) plan b signals waiting ledger → PutWhole (carriedText (lines text) plan b) old new size
 
--- The answer is the length of the text, which is written over the beginning of the buffer; or the buffer is too short, and is what it was.
-pub record WrittenWhole (text old : List ℕ) (answer : CarriedAnswer) (new : List ℕ) : Type 0 where
-  pub answered : answer ≡ cond (leb (length text) (length old)) (Written (length text)) TooShort
-  pub holds : new ≡ cond (leb (length text) (length old)) (over text old) old
-
-abbrev pub TextWritten : List ℕ → ℕ → List ℕ → List ℕ → List ℕ → List ℕ → CarriedAnswer → List ℕ → Type 0
+-- it was written over the beginning of the buffer, or the buffer is too short (32)
+abbrev pub TextWritten : List ℕ → ℕ → List ℕ → List ℕ → List ℕ → List ℕ → TextAnswer → List ℕ → Type 0
 TextWritten text b signals waiting ledger old answer new =
-    (plan : List Line) → StandsAt (lines text) plan b signals waiting ledger → WrittenWhole (carriedText (lines text) plan b) old answer new
+    (plan : List Line) → StandsAt (lines text) plan b signals waiting ledger
+    → Told (carriedText (lines text) plan b) (roomVerdict 32 (carriedText (lines text) plan b) old) old answer new

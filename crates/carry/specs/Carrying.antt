@@ -8,7 +8,7 @@ use Rattle.model.specs.Network.{linkCount, stepCount}
 use Rattle.network_tables.specs.declared.Reading.{Reading}
 use Rattle.network_tables.specs.Tables.{SignalTable}
 use Rattle.network.specs.Loading.{Loaded}
-use Rattle.model_carry.specs.declared.CarryAnswer.{CarryAnswer}
+use Rattle.model_text.specs.declared.TextAnswer.{TextAnswer}
 use Rattle.model_carry.specs.Call.{plannedOn, carryOn, carryLedger, carryBuffer}
 
 -- a boundary of the plan, and room for the rows up to it
@@ -20,7 +20,7 @@ pub record StepsAsked (networkText : List ℕ) (b : ℕ) (reading : Reading) (li
   pub room : 2 * suc b * linkCount (lines networkText) ≤ length ledger
 
 -- the answer, the ledger and the buffer are those of the definitions
-pub record CarryGot (networkText planText : List ℕ) (b : ℕ) (ledger ledgerAfter buffer bufferAfter : List ℕ) (answer : CarryAnswer) : Type 0 where
+pub record CarryGot (networkText planText : List ℕ) (b : ℕ) (ledger ledgerAfter buffer bufferAfter : List ℕ) (answer : TextAnswer) : Type 0 where
   pub told : answer ≡ carryOn (lines networkText) (plannedOn (lines networkText) b planText) b (length ledger) (length buffer)
   pub rows : ledgerAfter ≡ carryLedger (lines networkText) (plannedOn (lines networkText) b planText) b ledger
   pub holds : bufferAfter ≡ carryBuffer (lines networkText) (plannedOn (lines networkText) b planText) b (length ledger) buffer

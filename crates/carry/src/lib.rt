@@ -25,7 +25,7 @@ ghost use Rattle.carry.specs.Carried.{CarryAsked, TextPut, TextWritten};
 ghost use Rattle.carry.specs.Trams.{leftOf, TramsAsked};
 use base_search::Refusal;
 use base_search::Verdict;
-use model_carry::CarryAnswer;
+use model_text::TextAnswer;
 use network_tables::Counts;
 use network_tables::LINK_TABLE_SIZE;
 use network_tables::MAX_LINKS;
@@ -38,12 +38,6 @@ use network_tables::Stage;
 use network_tables::TIME_TABLE_SIZE;
 use network_tables::TRAM_FIELDS;
 use network_writer::Places;
-
-// The answer: how long the written text is, or that the buffer is too short for it.
-pub enum CarriedAnswer {
-    Written(usize),
-    TooShort,
-}
 
 // Puts lines that have passed as they are: so many of a letter and a number of numbers, from a place of the text on.
 fn copy_lines(
@@ -323,7 +317,7 @@ fn write_carried(
     waiting: &[u32],
     ledger: &[u32],
     out: &mut [u8],
-) -> CarriedAnswer
+) -> TextAnswer
     requires { ⌜ CarryAsked (now network) reading boundary (now signals) (now links) (now movements) (now waiting) (now ledger) ⌝ }
     ensures { λ r. ⌜ TextWritten (now (network .entry)) boundary (now (signals .entry)) (now (waiting .entry)) (now (ledger .entry)) (now (out .entry)) r (now (out .exit)) ⌝ }
 {
@@ -340,7 +334,7 @@ fn write_carried(
         &mut nowhere,
     );
     if out.len() < length {
-        return CarriedAnswer::TooShort;
+        return TextAnswer::Refused(Refusal::new(32, 0, 0));
     }
     put_network(
         network,
@@ -353,7 +347,7 @@ fn write_carried(
         ledger,
         out,
     );
-    CarriedAnswer::Written(length)
+    TextAnswer::Written(length)
 }
 
 // Takes the plan's steps up to the boundary, and writes the text from there on: 9 for a line behind them, and 32 last.
@@ -368,7 +362,7 @@ fn carry_steps(
     signals: &mut [u32],
     ledger: &mut [u32],
     carried: &mut [u8],
-) -> CarryAnswer
+) -> TextAnswer
     requires { ⌜ StepsAsked (now network) boundary reading (now links) (now movements) (now times) (now signals) (now ledger) ⌝ }
     ensures { λ r. ⌜ CarryGot (now (network .entry)) (now (plan .entry)) boundary (now (ledger .entry)) (now (ledger .exit)) (now (carried .entry)) (now (carried .exit)) r ⌝ }
 {
@@ -387,12 +381,12 @@ fn carry_steps(
     );
     let verdict = taken.verdict;
     if let Verdict::Refused(refusal) = verdict {
-        return CarryAnswer::Refused(refusal);
+        return TextAnswer::Refused(refusal);
     }
     if !text_reader::is_end(plan, taken.state.plan_at) {
-        return CarryAnswer::Refused(Refusal::new(9, boundary + 1, 0));
+        return TextAnswer::Refused(Refusal::new(9, boundary + 1, 0));
     }
-    match write_carried(
+    write_carried(
         network,
         reading,
         boundary,
@@ -402,10 +396,7 @@ fn carry_steps(
         &waiting,
         ledger,
         carried,
-    ) {
-        CarriedAnswer::Written(length) => CarryAnswer::Written(length),
-        CarriedAnswer::TooShort => CarryAnswer::Refused(Refusal::new(32, 0, 0)),
-    }
+    )
 }
 
 // Carries a network that has passed on from a boundary: 31, then 8 for as many steps, then the steps.
@@ -420,19 +411,19 @@ fn carry_from(
     signals: &mut [u32],
     ledger: &mut [u32],
     carried: &mut [u8],
-) -> CarryAnswer
+) -> TextAnswer
     requires { ⌜ LoadedWithSignals (now network) (now signals) (now links) (now movements) (now times) reading ⌝ }
     ensures { λ r. ⌜ CarryGot (now (network .entry)) (now (plan .entry)) boundary (now (ledger .entry)) (now (ledger .exit)) (now (carried .entry)) (now (carried .exit)) r ⌝ }
 {
     let counts = reading.counts;
     if boundary < 1 {
-        return CarryAnswer::Refused(Refusal::new(31, 0, 0));
+        return TextAnswer::Refused(Refusal::new(31, 0, 0));
     }
     if counts.steps <= boundary {
-        return CarryAnswer::Refused(Refusal::new(31, 0, 0));
+        return TextAnswer::Refused(Refusal::new(31, 0, 0));
     }
     if ledger.len() < 2 * (boundary + 1) * counts.links {
-        return CarryAnswer::Refused(Refusal::new(8, 0, 0));
+        return TextAnswer::Refused(Refusal::new(8, 0, 0));
     }
     carry_steps(
         network,
@@ -456,7 +447,7 @@ pub fn carry_on(
     plan: &[u8],
     ledger: &mut [u32],
     carried: &mut [u8],
-) -> CarryAnswer
+) -> TextAnswer
     ensures { λ r. ⌜ CarriedOn (lines (now (network .entry))) (plannedOn (lines (now (network .entry))) boundary (now (plan .entry))) boundary (now (ledger .entry)) (now (ledger .exit)) (now (carried .entry)) (now (carried .exit)) r ⌝ }
     ensures { λ r. ⌜ PaddingIgnored (now (network .entry)) (λ paddedNetwork. PaddingIgnored (now (plan .entry)) (λ paddedPlan. CarryGot paddedNetwork paddedPlan boundary (now (ledger .entry)) (now (ledger .exit)) (now (carried .entry)) (now (carried .exit)) r)) ⌝ }
 {
@@ -471,7 +462,7 @@ pub fn carry_on(
         &mut movements,
         &mut times,
     ) {
-        Stage::Refused(refusal) => CarryAnswer::Refused(refusal),
+        Stage::Refused(refusal) => TextAnswer::Refused(refusal),
         Stage::Passed(reading) => carry_from(
             network,
             network_tables::index(boundary),

@@ -13,16 +13,14 @@ use Rattle.base_search.specs.declared.Verdict.{Verdict}
 use Rattle.model.specs.declared.PlanAnswer.{PlanAnswer}
 use Rattle.model.specs.declared.LinkAnswer.{LinkAnswer}
 use Rattle.listing_lines.specs.Entry.{entries}
-use Rattle.listing_call.specs.declared.ListingAnswer.{ListingAnswer}
 use Rattle.listing_call.specs.ReadsBack.{PlanGot}
-use Rattle.model_carry.specs.declared.CarryAnswer.{CarryAnswer}
+use Rattle.model_text.specs.declared.TextAnswer.{TextAnswer}
 use Rattle.model_carry.specs.Call.{plannedOn}
 use Rattle.model_carry.specs.CarriesOn.{CarriedOn}
-use Rattle.model_sheet.specs.declared.SheetAnswer.{SheetAnswer}
 use Rattle.model_sheet.specs.Promises.{SheetPromises, WritePromises}
 use Rattle.plan_compare.specs.declared.ComparisonAnswer.{ComparisonAnswer}
 use Rattle.plan_compare.specs.Comparison.{comparePlans, secondLedgerAfter}
-use Rattle.cases_plan.specs.Outcome.{networkOutcome, planOutcome, linkOutcome, listingOutcome, carryOutcome, sheetOutcome, comparisonOutcome}
+use Rattle.cases_plan.specs.Outcome.{networkOutcome, planOutcome, linkOutcome, textOutcome, comparisonOutcome}
 use Rattle.cases_plan.specs.declared.outcome.Outcome.{Outcome}
 use Rattle.cases_plan.specs.declared.stored.Question.{Question}
 use Rattle.cases_plan.specs.Checksum.{checksumOf}
@@ -36,26 +34,26 @@ module _ (network plan ledger buffer : List ℕ) (question : Question) where
       × ((left ≡ textLedger network plan ledger question) × (written ≡ textBuffer network plan ledger buffer question))
 
   pub answered-listing :
-      (r : Outcome) {answer : ListingAnswer} (after : List ℕ) → question .call ≡ 4
-      → PlanGot (lines network) (entries plan) buffer answer after → r ≡ listingOutcome answer → TextAnswered r ledger after
+      (r : Outcome) {answer : TextAnswer} (after : List ℕ) → question .call ≡ 4
+      → PlanGot (lines network) (entries plan) buffer answer after → r ≡ textOutcome answer → TextAnswered r ledger after
   unfolding textAnswer textLedger textBuffer
-  answered-listing r after h g e = (rw h (e ∙ ap listingOutcome (g .told)), (rw h, rw h (g .holds)))
+  answered-listing r after h g e = (rw h (e ∙ ap textOutcome (g .told)), (rw h, rw h (g .holds)))
 
   pub answered-written :
-      (r : Outcome) {answer : SheetAnswer} (after : List ℕ) → question .call ≡ 7
-      → WritePromises (lines network) (lines plan) buffer answer after → r ≡ sheetOutcome answer → TextAnswered r ledger after
+      (r : Outcome) {answer : TextAnswer} (after : List ℕ) → question .call ≡ 7
+      → WritePromises (lines network) (lines plan) buffer answer after → r ≡ textOutcome answer → TextAnswered r ledger after
   unfolding textAnswer textLedger textBuffer
-  answered-written r after h g e = (rw h (e ∙ ap sheetOutcome (g .told)), (rw h, rw h (g .holds)))
+  answered-written r after h g e = (rw h (e ∙ ap textOutcome (g .told)), (rw h, rw h (g .holds)))
 
   pub answered-carry :
-      (r : Outcome) {answer : CarryAnswer} (left written : List ℕ) → (question .call ≡ 4 → ⊥) → (question .call ≡ 7 → ⊥)
+      (r : Outcome) {answer : TextAnswer} (left written : List ℕ) → (question .call ≡ 4 → ⊥) → (question .call ≡ 7 → ⊥)
       → CarriedOn (lines network) (plannedOn (lines network) (question .boundary) plan) (question .boundary) ledger left buffer written answer
-      → r ≡ carryOutcome answer → TextAnswered r left written
+      → r ≡ textOutcome answer → TextAnswered r left written
   unfolding textAnswer textLedger textBuffer
   answered-carry r left written four seven g e =
       let n = ne-eqb (question .call) 4 four in
       let m = ne-eqb (question .call) 7 seven in
-      (rw (n, m) (e ∙ ap carryOutcome (g .told)), (rw (n, m) (g .rows), rw (n, m) (g .holds)))
+      (rw (n, m) (e ∙ ap textOutcome (g .told)), (rw (n, m) (g .rows), rw (n, m) (g .holds)))
 
 module _ (network plan second ledger : List ℕ) (question : Question) where
   -- the same where none is

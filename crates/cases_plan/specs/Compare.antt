@@ -14,7 +14,7 @@ use Rattle.model_sheet.specs.Calls.{checkSheet, sheetLedger, planFromSheet}
 use Rattle.model_sheet.specs.Calls as sheet-calls
 use Rattle.plan_compare.specs.Comparison.{comparePlans, secondLedgerAfter}
 use Rattle.cases_plan.specs.Checksum.{checksumOf}
-use Rattle.cases_plan.specs.Outcome.{networkOutcome, planOutcome, linkOutcome, listingOutcome, carryOutcome, sheetOutcome, comparisonOutcome, sameOutcome}
+use Rattle.cases_plan.specs.Outcome.{networkOutcome, planOutcome, linkOutcome, textOutcome, comparisonOutcome, sameOutcome}
 use Rattle.cases_plan.specs.declared.outcome.Outcome.{Outcome}
 use Rattle.cases_plan.specs.declared.stored.Question.{Question}
 
@@ -25,9 +25,9 @@ writesText call = eqb call 4 || eqb call 5 || eqb call 7
 -- the answer to a question that has a text written; a listing, or a sheet that a plan is written for, stands in place of the plan
 unfoldable pub textAnswer : List ℕ → List ℕ → List ℕ → List ℕ → Question → Outcome
 textAnswer network plan ledger buffer question =
-    cond (eqb (question .call) 4) (listingOutcome (planFromListing (lines network) (entries plan) (length buffer)))
-    (cond (eqb (question .call) 7) (sheetOutcome (planFromSheet (lines network) (lines plan) (length buffer)))
-    (carryOutcome (carryOn (lines network) (plannedOn (lines network) (question .boundary) plan) (question .boundary) (length ledger) (length buffer))))
+    cond (eqb (question .call) 4) (textOutcome (planFromListing (lines network) (entries plan) (length buffer)))
+    (cond (eqb (question .call) 7) (textOutcome (planFromSheet (lines network) (lines plan) (length buffer)))
+    (textOutcome (carryOn (lines network) (plannedOn (lines network) (question .boundary) plan) (question .boundary) (length ledger) (length buffer))))
 
 -- the ledger and the buffer after it
 unfoldable pub textLedger : List ℕ → List ℕ → List ℕ → Question → List ℕ

@@ -10,12 +10,8 @@ use Rattle.model.specs.declared.PlanAnswer.{PlanAnswer}
 use Rattle.model.specs.declared.PlanAnswer.the-variants as plan-answer
 use Rattle.model.specs.declared.LinkAnswer.{LinkAnswer}
 use Rattle.model.specs.declared.LinkAnswer.the-variants as link-answer
-use Rattle.listing_call.specs.declared.ListingAnswer.{ListingAnswer}
-use Rattle.listing_call.specs.declared.ListingAnswer.the-variants as listing-answer
-use Rattle.model_carry.specs.declared.CarryAnswer.{CarryAnswer}
-use Rattle.model_carry.specs.declared.CarryAnswer.the-variants as carry-answer
-use Rattle.model_sheet.specs.declared.SheetAnswer.{SheetAnswer}
-use Rattle.model_sheet.specs.declared.SheetAnswer.the-variants as sheet-answer
+use Rattle.model_text.specs.declared.TextAnswer.{TextAnswer}
+use Rattle.model_text.specs.declared.TextAnswer.the-variants as text-answer
 use Rattle.plan_compare.specs.declared.Order.{Order}
 use Rattle.plan_compare.specs.declared.Order.the-variants.{Ahead, Behind, Equal, Crossing}
 use Rattle.plan_compare.specs.declared.ComparisonAnswer.{ComparisonAnswer}
@@ -41,17 +37,9 @@ linkOutcome (link-answer.Refused r) = refusedOutcome r
 abbrev pub writtenOutcome : ℕ → Outcome
 writtenOutcome length = record { kind = 4; first = length; second = 0; third = 0; fourth = 0 }
 
-abbrev pub listingOutcome : ListingAnswer → Outcome
-listingOutcome (listing-answer.Written length) = writtenOutcome length
-listingOutcome (listing-answer.Refused r) = refusedOutcome r
-
-abbrev pub carryOutcome : CarryAnswer → Outcome
-carryOutcome (carry-answer.Written length) = writtenOutcome length
-carryOutcome (carry-answer.Refused r) = refusedOutcome r
-
-abbrev pub sheetOutcome : SheetAnswer → Outcome
-sheetOutcome (sheet-answer.Written length) = writtenOutcome length
-sheetOutcome (sheet-answer.Refused r) = refusedOutcome r
+abbrev pub textOutcome : TextAnswer → Outcome
+textOutcome (text-answer.Written length) = writtenOutcome length
+textOutcome (text-answer.Refused r) = refusedOutcome r
 
 abbrev pub modulo64 : ℤ → ℕ
 modulo64 (pos n) = n

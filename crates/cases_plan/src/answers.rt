@@ -30,12 +30,12 @@ fn answer_text(
 {
     let boundary = question.boundary as u32;
     if question.call == 4 {
-        return outcome::of_listing(listing_call::plan_from_listing(network, plan, buffer));
+        return outcome::of_text(listing_call::plan_from_listing(network, plan, buffer));
     }
     if question.call == 7 {
-        return outcome::of_sheet(sheet_writer::plan_from_sheet(network, plan, buffer));
+        return outcome::of_text(sheet_writer::plan_from_sheet(network, plan, buffer));
     }
-    outcome::of_carry(carry::carry_on(network, boundary, plan, ledger, buffer))
+    outcome::of_text(carry::carry_on(network, boundary, plan, ledger, buffer))
 }
 
 // What the library answers to a question of a network, a plan, a plan by a sheet or a link, and the ledger that it leaves.

@@ -1,13 +1,11 @@
 // What a call gives, in the stored form.
 ghost use mathlib.Core.Path.{_≡_};
-ghost use Rattle.cases_plan.specs.Outcome.{refusedOutcome, networkOutcome, planOutcome, linkOutcome, writtenOutcome, listingOutcome, carryOutcome, sheetOutcome, modulo64, orderNumber, comparisonOutcome, sameOutcome};
+ghost use Rattle.cases_plan.specs.Outcome.{refusedOutcome, networkOutcome, planOutcome, linkOutcome, writtenOutcome, textOutcome, modulo64, orderNumber, comparisonOutcome, sameOutcome};
 use base_search::Refusal;
 use base_search::Verdict;
-use listing_call::ListingAnswer;
 use model::LinkAnswer;
 use model::PlanAnswer;
-use model_carry::CarryAnswer;
-use model_sheet::SheetAnswer;
+use model_text::TextAnswer;
 use plan_compare::ComparisonAnswer;
 use plan_compare::Order;
 
@@ -91,30 +89,12 @@ fn written(length: usize) -> Outcome
     }
 }
 
-pub fn of_listing(answer: ListingAnswer) -> Outcome
-    ensures { λ r. ⌜ r ≡ listingOutcome answer ⌝ }
+pub fn of_text(answer: TextAnswer) -> Outcome
+    ensures { λ r. ⌜ r ≡ textOutcome answer ⌝ }
 {
     match answer {
-        ListingAnswer::Written(length) => written(length),
-        ListingAnswer::Refused(refusal) => refused(refusal),
-    }
-}
-
-pub fn of_carry(answer: CarryAnswer) -> Outcome
-    ensures { λ r. ⌜ r ≡ carryOutcome answer ⌝ }
-{
-    match answer {
-        CarryAnswer::Written(length) => written(length),
-        CarryAnswer::Refused(refusal) => refused(refusal),
-    }
-}
-
-pub fn of_sheet(answer: SheetAnswer) -> Outcome
-    ensures { λ r. ⌜ r ≡ sheetOutcome answer ⌝ }
-{
-    match answer {
-        SheetAnswer::Written(length) => written(length),
-        SheetAnswer::Refused(refusal) => refused(refusal),
+        TextAnswer::Written(length) => written(length),
+        TextAnswer::Refused(refusal) => refused(refusal),
     }
 }
 

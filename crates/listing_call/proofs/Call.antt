@@ -1,27 +1,21 @@
 -- The stages of the call. Assumes nothing.
 use Prim.Native.Nat.{ℕ, zero, suc, _+_, _-_, _≤_, _<_}
 use mathlib.Core.Path.{_≡_, refl, sym, ap, _∙_}
-use mathlib.Core.Bool.{Bool, true, false}
 use mathlib.Core.List.{List}
 use native.Mathlib.Numerals.{add-one}
 use native.Mathlib.Omega.{arith}
 use borrow.Author.Needs.{needs}
-use borrow.Author.Tests.{le-leb, lt-leb}
-use lib.Dec.{leb}
 use lib.ListN.{length, getD, take, replicate, length-replicate}
-use lib.Seq.{take-at}
 use Rattle.base_search.specs.declared.Refusal.{Refusal}
 use Rattle.base_search.specs.declared.Verdict.{Verdict}
 use Rattle.base_search.specs.declared.Verdict.the-variants as verdicts
-use Rattle.base_search.specs.Checks.{refusal, each, orElse, checked, verdict, Hold}
+use Rattle.base_search.specs.Checks.{each, orElse, verdict, Hold}
 use Rattle.base_search.specs.Numbers.{isOneOf, CanArise}
-use Rattle.base_search.proofs.Laws.{hold-of-passes, passes-of-hold, or-else-passes, or-else-refused}
+use Rattle.base_search.proofs.Laws.{hold-of-passes, passes-of-hold, or-else-first, or-else-passes, or-else-refused}
 use Rattle.base_search.proofs.Numbers.{Numbered, refused-number, allOf}
 use Rattle.text_reader.specs.Lines.{Line, lines}
 use Rattle.text_reader.specs.Padding.{PaddingIgnored}
 use Rattle.text_reader.proofs.Padding.{same-lines}
-use Rattle.text_reader.specs.Reading.{over}
-use Rattle.text_writer.specs.Writing.{putAt, Wrote}
 use Rattle.model.specs.Sum.{sum}
 use Rattle.model.specs.Network.{stepLength, time}
 use Rattle.model.specs.Table.{networkChecks}
@@ -32,46 +26,26 @@ use Rattle.network_tables.specs.declared.Counts.{Counts}
 use Rattle.network_tables.specs.declared.Reading.{Reading}
 use Rattle.network_tables.specs.declared.Stage.{Stage}
 use Rattle.network_tables.specs.declared.Stage.the-variants as stages
-use Rattle.network_tables.specs.Fields.{signalTableSize}
+use Rattle.network_tables.specs.Fields.{signalTableSize, lineSize}
 use Rattle.network_tables.specs.Blocks.{blockChecks, signalBlock}
 use Rattle.network_tables.specs.Tables.{stageVerdict, movedTo, Judged, PhaseTable}
 use Rattle.network_signals.specs.Stages.{SignalsAsked, SignalsHeld}
 use Rattle.network.specs.Loading.{Loaded}
 use Rattle.network.proofs.Rooms.{zeros-size, zeros-blank}
 use Rattle.listing_lines.specs.declared.Entry.{Entry}
-use Rattle.listing_call.specs.declared.ListingAnswer.{ListingAnswer}
-use Rattle.listing_call.specs.declared.ListingAnswer.the-variants.{Written, Refused}
-use Rattle.listing_call.specs.Listing.{listingNumbers, entryChecksBy, listingChecks, planText, writeChecks, writtenAnswer, planFromListing, writtenBytes, bufferAfter}
+use Rattle.model_text.specs.declared.TextAnswer.{TextAnswer}
+use Rattle.model_text.specs.declared.TextAnswer.the-variants.{Written, Refused}
+use Rattle.model_text.specs.Answers.{textAnswer, bytesAfter, roomVerdict, Told}
+use Rattle.model_text.proofs.Answers.{refused-of-answer, told-written}
+use Rattle.listing_call.specs.Listing.{listingNumbers, entryChecksBy, listingChecks, planText, writeChecks, planFromListing, bufferAfter}
 use Rattle.listing_call.specs.ReadsBack.{PlanGot}
 use Rattle.listing_call.specs.Tables.{hasIn, secondsIn, TablesAsked, ListingGot, ListingAsked, numberTableSize, seenSize}
-use Rattle.listing_call.specs.Numbers.{textIn, Kept, LinesAsked}
-use Rattle.listing_call.specs.Writing.{answerOf, bytesOf, Told, roomVerdict, StoredGot, WriteGot, NetworkAsked, ListingWritten}
+use Rattle.network_writer.specs.Plan.{planLines, PlanAsked}
+use Rattle.listing_call.specs.Writing.{WriteGot, NetworkAsked, ListingWritten}
 use Rattle.listing_call.proofs.Theorem.{text-some, text-meant, reads-back}
 use Rattle.step_arrivals.specs.Times.{ShiftAsked, Shifted}
 use Rattle.step_arrivals.proofs.Times.{shift-asked, plan-times}
 use Rattle.listing_call.proofs.Whole.{verdict-same, text-same}
-
--- ---- 24, and the text
-over-front : (text old : List ℕ) → take (length text) (over text old) ≡ text
-unfolding over
-over-front text old = take-at text _ (length text) refl
-
-put-over : (text old new : List ℕ) → new ≡ putAt 0 text old → new ≡ over text old
-unfolding putAt over
-put-over text old new e = let z : 0 + length text ≡ length text = omega arith in rw z at e
-
-module _ (text old : List ℕ) (r : ℕ) (e : r ≡ length text) where
-  pub stored-short : length old < r → (q : Refusal) → q ≡ refusal 24 0 0 → StoredGot text old (Refused q) old
-  unfolding checked answerOf bytesOf
-  stored-short h q z = rw (lt-leb (length text) (length old) (omega arith)) (record { answered = ap Refused z; holds = refl })
-
-  pub stored-wrote : (new : List ℕ) (w : ℕ) → r ≤ length old → Wrote text 0 old new w → StoredGot text old (Written w) new
-  unfolding checked answerOf bytesOf
-  stored-wrote new w h k =
-      rw (le-leb (length text) (length old) (omega arith)) (record { answered = ap Written (omega (arith, k .ends)); holds = put-over text old new (k .is) })
-
-pub stored-asked : (numbers : List ℕ) (counts : Counts) (out : List ℕ) (r : ℕ) → Kept numbers counts → r ≡ length (textIn numbers counts) → r ≤ length out → LinesAsked numbers counts out
-stored-asked numbers counts out r k e h = record { kept = k; room-for = omega arith }
 
 -- ---- empty tables
 abbrev zeroes : ℕ → List ℕ
@@ -94,10 +68,10 @@ empty-asked n k counts phases times e f t =
 
 module _ (counts : Counts) (phases times : List ℕ) (listing : List Entry) (v : Verdict) (numbers seen : List ℕ)
     (g : ListingGot (hasIn counts phases) (secondsIn times) listing v numbers seen) where
-  pub write-kept : TablesAsked counts phases times → v ≡ verdicts.Passes → Kept numbers counts
-  write-kept t e = record { number-room = g .kept e .number-room; few = t .places .few }
+  pub write-kept : TablesAsked counts phases times → v ≡ verdicts.Passes → PlanAsked numbers lineSize counts
+  write-kept t e = record { few = t .places .few; few-columns = omega arith; room = g .kept e .number-room }
 
-  pub write-passed : (old : List ℕ) → v ≡ verdicts.Passes → (answer : ListingAnswer) (new : List ℕ) → StoredGot (textIn numbers counts) old answer new → WriteGot counts phases times listing old answer new
+  pub write-passed : (old : List ℕ) → v ≡ verdicts.Passes → (answer : TextAnswer) (new : List ℕ) → Told (planLines numbers lineSize counts) (roomVerdict 24 (planLines numbers lineSize counts) old) old answer new → WriteGot counts phases times listing old answer new
   write-passed old e answer new s =
       let told = g .told in
       record {
@@ -114,12 +88,12 @@ module _ (counts : Counts) (phases times : List ℕ) (listing : List Entry) (v :
       }
 
 -- ---- on a network that has passed
-or-passes : (text old : List ℕ) (answer : ListingAnswer) (new : List ℕ) → StoredGot text old answer new → Told text (orElse verdicts.Passes (roomVerdict text old)) old answer new
+or-passes : (text old : List ℕ) (answer : TextAnswer) (new : List ℕ) → Told text (roomVerdict 24 text old) old answer new → Told text (orElse verdicts.Passes (roomVerdict 24 text old)) old answer new
 unfolding orElse
 or-passes text old answer new s = s
 
-or-refused : (text old : List ℕ) (answer : ListingAnswer) (new : List ℕ) (r : Refusal) → answer ≡ Refused r → new ≡ old → Told text (orElse (verdicts.Refused r) (roomVerdict text old)) old answer new
-unfolding orElse answerOf bytesOf
+or-refused : (text old : List ℕ) (answer : TextAnswer) (new : List ℕ) (r : Refusal) → answer ≡ Refused r → new ≡ old → Told text (orElse (verdicts.Refused r) (roomVerdict 24 text old)) old answer new
+unfolding orElse textAnswer bytesAfter
 or-refused text old answer new r a b = record { answered = a; holds = b }
 
 signals-pass : (network : List Line) → Hold (networkChecks network) → verdict (blockChecks (signalBlock network)) ≡ verdicts.Passes
@@ -164,55 +138,28 @@ module _ (text : List ℕ) (reading : Reading) (times : List ℕ) (a : NetworkAs
             short = λ n h. omega (arith, t .holds n (omega (arith, c .steps)), t .holds (n + 1) (omega (arith, c .steps)), time-next (lines text) n, step-limits (lines text) (valid-network (lines text) (a .holds)) n (omega (arith, c .steps)) .length-limit);
           }
 
-      pub network-written : (listing : List Entry) (old : List ℕ) (answer : ListingAnswer) (new : List ℕ) → WriteGot (reading .counts) phases times listing old answer new → ListingWritten (lines text) listing old answer new
+      pub network-written : (listing : List Entry) (old : List ℕ) (answer : TextAnswer) (new : List ℕ) → WriteGot (reading .counts) phases times listing old answer new → ListingWritten (lines text) listing old answer new
       network-written listing old answer new w = go (verdict (listingChecks (lines text) listing)) refl
         where
           same : verdict (each (length listing) (entryChecksBy (hasIn (reading .counts) phases) (secondsIn times) listing)) ≡ verdict (listingChecks (lines text) listing)
           same = verdict-same (lines text) (reading .counts) phases times (a .counted) table (a .time-table) listing
 
-          go : (v : Verdict) → verdict (listingChecks (lines text) listing) ≡ v → Told (planText (lines text) listing) (orElse v (roomVerdict (planText (lines text) listing) old)) old answer new
+          go : (v : Verdict) → verdict (listingChecks (lines text) listing) ≡ v → Told (planText (lines text) listing) (orElse v (roomVerdict 24 (planText (lines text) listing) old)) old answer new
           go verdicts.Passes q =
               let k = w .passed (same ∙ q) in
-              let t : textIn (k .0) (reading .counts) ≡ planText (lines text) listing = text-same (lines text) (reading .counts) phases times (a .counted) table (a .time-table) listing (k .0) (k .1) (k .2) in
+              let t : planLines (k .0) lineSize (reading .counts) ≡ planText (lines text) listing = text-same (lines text) (reading .counts) phases times (a .counted) table (a .time-table) listing (k .0) (k .1) (k .2) in
               or-passes (planText (lines text) listing) old answer new (rw t at (k .3))
           go (verdicts.Refused r) q = let s = w .stopped r (same ∙ q) in or-refused (planText (lines text) listing) old answer new r (s .0) (s .1)
 
 -- ---- the whole call
-written-parts : (text : List ℕ) (v : Verdict) (old : List ℕ) (answer : ListingAnswer) (new : List ℕ) → Told text (orElse v (roomVerdict text old)) old answer new
-    → (end : ℕ) → answer ≡ Written end → (v ≡ verdicts.Passes) × (take end new ≡ text) × (end ≡ length text)
-unfolding orElse checked answerOf bytesOf
-written-parts text verdicts.Passes old answer new t end e = go (leb (length text) (length old)) t
-  where
-    go : (b : Bool) → Told text (checked b 24 0 0) old answer new → (verdicts.Passes ≡ verdicts.Passes) × (take end new ≡ text) × (end ≡ length text)
-    go true s =
-        let z : length text ≡ end = cc in
-        (refl, ap (take end) (s .holds) ∙ ap (λ x. take x (over text old)) (sym z) ∙ over-front text old, sym z)
-    go false s = let z : _≡_ {A = ℕ} 0 1 = cc in absurd (omega arith)
-written-parts text (verdicts.Refused r) old answer new t end e = let z : _≡_ {A = ℕ} 0 1 = cc in absurd (omega arith)
-
-answers : (network : List Line) (listing : List Entry) (v : Verdict) → answerOf (planText network listing) v ≡ writtenAnswer network listing v
-unfolding answerOf writtenAnswer
-answers network listing verdicts.Passes = refl
-answers network listing (verdicts.Refused r) = refl
-
-buffers : (network : List Line) (listing : List Entry) (v : Verdict) (old : List ℕ) → bytesOf (planText network listing) v old ≡ writtenBytes network listing v old
-unfolding bytesOf writtenBytes
-buffers network listing verdicts.Passes old = refl
-buffers network listing (verdicts.Refused r) old = refl
-
-write-numbered : (network : List Line) (listing : List Entry) (size : ℕ) → Numbered listingNumbers (writeChecks network listing size)
+pub write-numbered : (network : List Line) (listing : List Entry) (size : ℕ) → Numbered listingNumbers (writeChecks network listing size)
 unfolding Numbered isOneOf allOf writeChecks listingChecks entryChecksBy
 write-numbered network listing size = (network-among network listingNumbers refl, search needs)
-
-of-answer : (network : List Line) (listing : List Entry) (v : Verdict) (r : Refusal) → writtenAnswer network listing v ≡ Refused r → v ≡ verdicts.Refused r
-unfolding writtenAnswer
-of-answer network listing verdicts.Passes r h = cc
-of-answer network listing (verdicts.Refused q) r h = cc
 
 answer-number : (network : List Line) (listing : List Entry) (size : ℕ) (r : Refusal) → planFromListing network listing size ≡ Refused r → CanArise listingNumbers (r .number)
 unfolding planFromListing
 answer-number network listing size r h =
-    refused-number listingNumbers (writeChecks network listing size) r (write-numbered network listing size) (of-answer network listing _ r h)
+    refused-number listingNumbers (writeChecks network listing size) r (write-numbered network listing size) (refused-of-answer (planText network listing) _ r h)
 
 module _ (text : List ℕ) (r : Stage) (links movements times : List ℕ) (g : Judged (networkChecks (lines text)) (Loaded text links movements times) r) where
   pub times-asked : (reading : Reading) → r ≡ stages.Passed reading → ShiftAsked times (reading .counts .past) (reading .counts .steps)
@@ -225,40 +172,40 @@ module _ (text : List ℕ) (r : Stage) (links movements times : List ℕ) (g : J
 
   module _ (listing : List Entry) (old : List ℕ) where
     pub plan-refused : (q : Refusal) → r ≡ stages.Refused q → PlanGot (lines text) listing old (Refused q) old
-    unfolding stageVerdict writeChecks verdict planFromListing bufferAfter writtenAnswer writtenBytes
+    unfolding stageVerdict writeChecks verdict planFromListing bufferAfter textAnswer bytesAfter
     plan-refused q e =
         let v : verdict (networkChecks (lines text)) ≡ verdicts.Refused q = sym (g .told) ∙ ap stageVerdict e in
-        let o = or-else-refused (verdict (networkChecks (lines text))) (orElse (verdict (listingChecks (lines text) listing)) (roomVerdict (planText (lines text) listing) old)) q v in
-        let t : Refused q ≡ planFromListing (lines text) listing (length old) = sym (ap (writtenAnswer (lines text) listing) o) in
+        let o = or-else-refused (verdict (networkChecks (lines text))) (orElse (verdict (listingChecks (lines text) listing)) (roomVerdict 24 (planText (lines text) listing) old)) q v in
+        let t : Refused q ≡ planFromListing (lines text) listing (length old) = sym (ap (textAnswer (planText (lines text) listing)) o) in
         record {
           told = t;
-          holds = sym (ap (λ (x : Verdict). writtenBytes (lines text) listing x old) o);
+          holds = sym (ap (λ (x : Verdict). bytesAfter (planText (lines text) listing) x old) o);
           some-bytes = λ end q. let z : _≡_ {A = ℕ} 0 1 = cc in absurd (omega arith);
           reads-back = λ end q. let z : _≡_ {A = ℕ} 0 1 = cc in absurd (omega arith);
           refused-number = λ r e. answer-number (lines text) listing (length old) r (sym t ∙ e);
         }
 
-    pub plan-written : (reading : Reading) → r ≡ stages.Passed reading → (answer : ListingAnswer) (new : List ℕ) → ListingWritten (lines text) listing old answer new → PlanGot (lines text) listing old answer new
+    pub plan-written : (reading : Reading) → r ≡ stages.Passed reading → (answer : TextAnswer) (new : List ℕ) → ListingWritten (lines text) listing old answer new → PlanGot (lines text) listing old answer new
     unfolding writeChecks verdict planFromListing bufferAfter
     plan-written reading e answer new w =
         let loaded = g .held reading e in
-        let o = or-else-passes (verdict (networkChecks (lines text))) (orElse (verdict (listingChecks (lines text) listing)) (roomVerdict (planText (lines text) listing) old)) (passes-of-hold (networkChecks (lines text)) (loaded .holds)) in
-        let t : answer ≡ planFromListing (lines text) listing (length old) = w .answered ∙ answers (lines text) listing _ ∙ ap (writtenAnswer (lines text) listing) (sym o) in
+        let o = or-else-passes (verdict (networkChecks (lines text))) (orElse (verdict (listingChecks (lines text) listing)) (roomVerdict 24 (planText (lines text) listing) old)) (passes-of-hold (networkChecks (lines text)) (loaded .holds)) in
+        let t : answer ≡ planFromListing (lines text) listing (length old) = w .answered ∙ ap (textAnswer (planText (lines text) listing)) (sym o) in
         record {
           told = t;
-          holds = w .holds ∙ buffers (lines text) listing _ old ∙ ap (λ (x : Verdict). writtenBytes (lines text) listing x old) (sym o);
+          holds = w .holds ∙ ap (λ (x : Verdict). bytesAfter (planText (lines text) listing) x old) (sym o);
           some-bytes = λ end q. let p = parts end q in omega (arith, p .2, text-some (lines text) listing (passed end q) (loaded .holds));
           reads-back = λ end q. rw (parts end q .1, text-meant (lines text) listing (passed end q) (loaded .holds)) (reads-back (lines text) listing (passed end q) (loaded .holds));
           refused-number = λ r e. answer-number (lines text) listing (length old) r (sym t ∙ e);
         }
       where
         parts : (end : ℕ) → answer ≡ Written end → (verdict (listingChecks (lines text) listing) ≡ verdicts.Passes) × (take end new ≡ planText (lines text) listing) × (end ≡ length (planText (lines text) listing))
-        parts end q = written-parts (planText (lines text) listing) (verdict (listingChecks (lines text) listing)) old answer new w end q
+        parts end q = let p = told-written (planText (lines text) listing) w end q in (or-else-first _ _ (p .0), p .2, p .1)
 
         passed : (end : ℕ) → answer ≡ Written end → Hold (listingChecks (lines text) listing)
         passed end q = hold-of-passes (listingChecks (lines text) listing) (parts end q .0)
 
 -- the same of a network that differs only in padding
-pub padding-too : (text : List ℕ) {listing : List Entry} {old new : List ℕ} {answer : ListingAnswer} → PlanGot (lines text) listing old answer new
+pub padding-too : (text : List ℕ) {listing : List Entry} {old new : List ℕ} {answer : TextAnswer} → PlanGot (lines text) listing old answer new
     → PlanGot (lines text) listing old answer new × PaddingIgnored text (λ padded. PlanGot (lines padded) listing old answer new)
 padding-too text got = (got, λ padded same. rw (← same-lines text padded same) got)

@@ -28,7 +28,7 @@ use Rattle.listing_lines.specs.declared.Variable.the-variants.{Shown, Admitted,
 use Rattle.listing_call.specs.Listing.{sets, millionthsOf, stepOf, isVolume, volume, fits, one, lineAt, fitsBy, entryChecksBy, listingChecks, valueBefore, value, maskOf, volumeOf, planNumbers, planText}
 use Rattle.listing_call.specs.Tables.{hasVolume}
 use Rattle.listing_call.proofs.Bits.{bits-below}
-use Rattle.listing_call.proofs.Numbers.{list-length}
+use Rattle.model.proofs.Sums.{list-length}
 use Rattle.listing_call.proofs.Places.{same-is}
 use Rattle.listing_call.proofs.Stored.{volume-none}
 

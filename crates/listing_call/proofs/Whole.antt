@@ -3,6 +3,7 @@ use Prim.Native.Nat.{ℕ, zero, suc, _+_, _-_, _*_, _≤_, _<_}
 use mathlib.Core.Path.{_≡_, refl, sym, ap, ap₂, _∙_}
 use mathlib.Core.Bool.{Bool, true, false, not}
 use mathlib.Core.List.{List, [], _∷_, _++_, append-assoc, append-nil}
+use native.Mathlib.Decide.{decLe}
 use native.Mathlib.Numerals.{add-one}
 use native.Mathlib.Omega.{arith}
 use lib.ListN.{length, getD}
@@ -28,9 +29,9 @@ use Rattle.listing_lines.specs.declared.Entry.{Entry}
 use Rattle.listing_lines.specs.declared.Entry.the-variants.{Sets, Malformed}
 use Rattle.listing_call.specs.Listing.{stepOf, volume, hasVariable, validValue, lineAt, setBefore, valueBefore, value, formedBy, fitsBy, entryChecksBy, listingChecks, maskOf, volumeOf, planNumbers, planText}
 use Rattle.listing_call.specs.Tables.{column, place, hasPhaseIn, hasIn, secondsIn, Placed, hasVolume, maskBefore, Stored}
-use Rattle.listing_call.specs.Numbers.{columnIn, numbersIn, textIn}
+use Rattle.network_writer.specs.Plan.{columnIn, planNumber, planRow, planLines}
+use Rattle.network_writer.proofs.Plan.{column-mask, column-admitted, column-let-out, column-moved, number-some}
 use Rattle.listing_call.proofs.Turns.{within-parts}
-use Rattle.listing_call.proofs.Numbers.{column-mask, column-admitted, column-let-out, column-moved}
 
 -- ---- lists by index
 list-ext : (n : ℕ) (f g : ℕ → ℕ) → ((k : ℕ) → k < n → f k ≡ g k) → list n f ≡ list n g
@@ -139,12 +140,29 @@ module _ (network : List Line) (counts : Counts) (phases times : List ℕ) (c : 
         volume-here (Moved (suc j) (suc n)) _ (omega arith, omega (arith, c .few .steps), omega arith, omega (arith, c .few .movements)) refl refl
         (omega (arith, column-moved counts (signalCount network + (linkCount network + (linkCount network + j))) (omega (arith, c .signals)) (omega (arith, c .signals, c .links)) (omega (arith, c .signals, c .links)), c .signals, c .links))
 
-    numbers-same : numbersIn numbers counts n ≡ planNumbers network listing n
-    unfolding numbersIn planNumbers
+    -- every column is one of the table's
+    number-is : (k : ℕ) → k < planWidth counts → planNumber numbers lineSize n (columnIn counts k) ≡ getD numbers (lineSize * n + columnIn counts k) 0
+    number-is k l = sym (number-some numbers lineSize n (columnIn counts k) few)
+      where
+        few : columnIn counts k < lineSize
+        few = let w = c .few in elim (decLe (counts .signals) k) [
+          | no x ↦ omega (arith, column-mask counts k (omega arith), w .signals)
+          | yes x ↦ elim (decLe (counts .links) (k - counts .signals)) [
+            | no y ↦ omega (arith, column-admitted counts k x (omega arith), w .links)
+            | yes y ↦ elim (decLe (counts .links) (k - counts .signals - counts .links)) [
+              | no z ↦ omega (arith, column-let-out counts k x y (omega arith), w .links)
+              | yes z ↦ omega (arith, column-moved counts k x y z, w .movements)
+            ]
+          ]
+        ]
+
+    numbers-same : planRow numbers lineSize counts n ≡ planNumbers network listing n
+    unfolding planRow planNumbers
     numbers-same =
         let f : ℕ → ℕ = λ k. getD numbers (lineSize * n + columnIn counts k) 0 in
         let w : planWidth counts ≡ signalCount network + (linkCount network + (linkCount network + movementCount network)) = omega (arith, c .signals, c .links, c .movements) in
-        rw w (list-plus (signalCount network) (linkCount network + (linkCount network + movementCount network)) f
+        list-ext (planWidth counts) _ f number-is
+        ∙ rw w (list-plus (signalCount network) (linkCount network + (linkCount network + movementCount network)) f
         ∙ ap₂ _++_ (list-ext (signalCount network) f (maskOf network listing n) (λ r a. mask-same r a))
         (list-plus (linkCount network) (linkCount network + movementCount network) (λ k. f (signalCount network + k))
         ∙ ap₂ _++_ (list-ext (linkCount network) _ _ (λ i a. admitted-same i a))
@@ -153,8 +171,8 @@ module _ (network : List Line) (counts : Counts) (phases times : List ℕ) (c : 
         (list-ext (movementCount network) _ _ (λ j a. moved-same j a)))))
 
   -- what is written by the tables is the plan text
-  pub text-same : (listing : List Entry) (numbers seen : List ℕ) → Stored (secondsIn times) listing (length listing) numbers seen → textIn numbers counts ≡ planText network listing
-  unfolding textIn planText
+  pub text-same : (listing : List Entry) (numbers seen : List ℕ) → Stored (secondsIn times) listing (length listing) numbers seen → planLines numbers lineSize counts ≡ planText network listing
+  unfolding planLines planText
   text-same listing numbers seen st =
-      ap (λ (x : ℕ). recordTexts letterP x (numbersIn numbers counts)) (c .steps)
-      ∙ records-same letterP (numbersIn numbers counts) (planNumbers network listing) (stepCount network) (λ n h. numbers-same listing numbers seen st n h)
+      ap (λ (x : ℕ). recordTexts letterP x (planRow numbers lineSize counts)) (c .steps)
+      ∙ records-same letterP (planRow numbers lineSize counts) (planNumbers network listing) (stepCount network) (λ n h. numbers-same listing numbers seen st n h)

@@ -1,5 +1,4 @@
 pub mod Listing
 pub mod ReadsBack
 pub mod Tables
-pub mod Numbers
 pub mod Writing

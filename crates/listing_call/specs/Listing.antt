@@ -5,12 +5,9 @@ use mathlib.Core.Bool.{Bool, true, false, cond, not}
 use mathlib.Core.List.{List, [], _∷_, _++_}
 use lib.Dec.{leb, eqb}
 use lib.ListN.{length, getD}
-use Rattle.base_search.specs.declared.Verdict.{Verdict}
-use Rattle.base_search.specs.declared.Verdict.the-variants as verdicts
 use Rattle.base_search.specs.Checks.{Checks, check, each, _then_, verdict}
 use Rattle.text_reader.specs.Field.{largest}
 use Rattle.text_reader.specs.Lines.{Line}
-use Rattle.text_reader.specs.Reading.{over}
 use Rattle.text_writer.specs.Records.{recordTexts}
 use Rattle.model.specs.Test.{_and_, _or_, within}
 use Rattle.model.specs.Sum.{sum, only, list}
@@ -21,8 +18,8 @@ use Rattle.listing_lines.specs.declared.Variable.{Variable}
 use Rattle.listing_lines.specs.declared.Variable.the-variants.{Shown, Admitted, LetOut, Moved}
 use Rattle.listing_lines.specs.declared.Entry.{Entry}
 use Rattle.listing_lines.specs.declared.Entry.the-variants.{Sets, Malformed}
-use Rattle.listing_call.specs.declared.ListingAnswer.{ListingAnswer}
-use Rattle.listing_call.specs.declared.ListingAnswer.the-variants.{Written, Refused}
+use Rattle.model_text.specs.declared.TextAnswer.{TextAnswer}
+use Rattle.model_text.specs.Answers.{textAnswer, bytesAfter}
 
 -- the numbers with which the call refuses
 abbrev pub listingNumbers : List ℕ
@@ -153,17 +150,8 @@ module _ (network : List Line) (listing : List Entry) where
   unfoldable pub writeChecks : ℕ → Checks
   writeChecks size = networkChecks network then listingChecks then check 24 0 0 (leb (length planText) size)
 
-  unfoldable pub writtenAnswer : Verdict → ListingAnswer
-  writtenAnswer verdicts.Passes = Written (length planText)
-  writtenAnswer (verdicts.Refused r) = Refused r
-
-  unfoldable pub planFromListing : ℕ → ListingAnswer
-  planFromListing size = writtenAnswer (verdict (writeChecks size))
-
-  -- the buffer after: the plan text, and the bytes past it as they were; untouched by a refusal
-  unfoldable pub writtenBytes : Verdict → List ℕ → List ℕ
-  writtenBytes verdicts.Passes old = over planText old
-  writtenBytes (verdicts.Refused r) old = old
+  unfoldable pub planFromListing : ℕ → TextAnswer
+  planFromListing size = textAnswer planText (verdict (writeChecks size))
 
   unfoldable pub bufferAfter : List ℕ → List ℕ
-  bufferAfter old = writtenBytes (verdict (writeChecks (length old))) old
+  bufferAfter old = bytesAfter planText (verdict (writeChecks (length old))) old

@@ -15,8 +15,8 @@ use Rattle.listing_lines.specs.declared.Variable.{Variable}
 use Rattle.listing_lines.specs.declared.Variable.the-variants.{Shown, Admitted, LetOut, Moved}
 use Rattle.listing_lines.specs.declared.Entry.{Entry}
 use Rattle.listing_lines.specs.declared.Entry.the-variants.{Sets}
-use Rattle.listing_call.specs.declared.ListingAnswer.{ListingAnswer}
-use Rattle.listing_call.specs.declared.ListingAnswer.the-variants.{Written, Refused}
+use Rattle.model_text.specs.declared.TextAnswer.{TextAnswer}
+use Rattle.model_text.specs.declared.TextAnswer.the-variants.{Written, Refused}
 use Rattle.listing_call.specs.Listing.{listingNumbers, one, hasVariable, lineAt, planFromListing, bufferAfter}
 
 -- bit k of a number
@@ -58,7 +58,7 @@ pub record ReadsBack (network : List Line) (listing : List Entry) (plan : List L
 
 -- the answer and the whole buffer are those of the definitions; a plan that was written has bytes, so that it does not mean hold, and reads back in every call
 -- that is given it; and a refusal's number is one that can arise
-pub record PlanGot (network : List Line) (listing : List Entry) (old : List ℕ) (answer : ListingAnswer) (new : List ℕ) : Type 0 where
+pub record PlanGot (network : List Line) (listing : List Entry) (old : List ℕ) (answer : TextAnswer) (new : List ℕ) : Type 0 where
   pub told : answer ≡ planFromListing network listing (length old)
   pub holds : new ≡ bufferAfter network listing old
   pub some-bytes : (end : ℕ) → answer ≡ Written end → 1 ≤ end

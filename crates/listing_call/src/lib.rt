@@ -5,19 +5,17 @@ ghost use lib.ListN.{length};
 ghost use lib.Dec.{eqb};
 ghost use Rattle.text_reader.specs.Lines.{lines};
 ghost use Rattle.text_reader.specs.Padding.{PaddingIgnored};
-ghost use Rattle.text_reader.specs.Reading.{over};
-ghost use Rattle.text_writer.specs.Writing.{Wrote};
 ghost use Rattle.model.specs.Test.{within};
 ghost use Rattle.listing_lines.specs.Entry.{entries};
 ghost use Rattle.listing_call.specs.Listing.{validValue};
 ghost use Rattle.listing_call.specs.ReadsBack.{PlanGot};
 ghost use Rattle.listing_call.specs.Tables.{hasPhaseIn, hasIn, secondsIn, placeIn, itemPlaceIn, phasePlaceIn, placeOf, bitAt, withBit, Power, phaseBit, volumeIn, numberIn, outcome, PlacesAsked, TablesAsked, PlaceAsked, ItemAsked, SecondsAsked, JudgeAsked, ListingAsked, ListingGot};
-ghost use Rattle.listing_call.specs.Numbers.{columnIn, numbersIn, lineIn, textIn, ColumnAsked, Kept, StepAsked, FillAsked, LineAsked, LinesAsked};
-ghost use Rattle.listing_call.specs.Writing.{StoredGot, WriteGot, NetworkAsked, ListingWritten};
+ghost use Rattle.listing_call.specs.Writing.{WriteGot, NetworkAsked, ListingWritten};
 use base_search::Refusal;
 use base_search::Verdict;
 use listing_lines::EntryRead;
 use listing_lines::Variable;
+use model_text::TextAnswer;
 use network_tables::Counts;
 use network_tables::LINE_SIZE;
 use network_tables::LINK_TABLE_SIZE;
@@ -38,12 +36,6 @@ const STEP_BITS: usize = 8 * MAX_SIGNALS + 2 * MAX_LINKS + MAX_MOVEMENTS;
 const NUMBER_TABLE_SIZE: usize = MAX_STEPS * LINE_SIZE;
 
 const SEEN_SIZE: usize = MAX_STEPS * STEP_BITS / 8;
-
-// The answer of the call: how long the written plan text is, or a refusal.
-pub enum ListingAnswer {
-    Written(usize),
-    Refused(Refusal),
-}
 
 // Where a variable stands in the tables: its step, counted from 0, its bit and its number.
 enum Place {
@@ -333,99 +325,6 @@ fn read_listing(
     Verdict::Passes
 }
 
-// The column of number k of a line.
-fn column_at(counts: Counts, k: usize) -> usize
-    requires { ⌜ ColumnAsked counts k ⌝ }
-    ensures { λ r. ⌜ r ≡ columnIn counts k ⌝ }
-{
-    if k < counts.signals {
-        return k;
-    }
-    let i = k - counts.signals;
-    if i < counts.links {
-        return 8 + i;
-    }
-    let j = i - counts.links;
-    if j < counts.links {
-        return 32 + j;
-    }
-    56 + (j - counts.links)
-}
-
-// The numbers of the `P` line of step n go to the beginning of `fields`.
-fn fill_numbers(numbers: &[u32], counts: Counts, n: usize, fields: &mut [u64])
-    requires { ⌜ FillAsked (now numbers) counts n (now fields) ⌝ }
-    ensures { λ _. ⌜ now (fields .exit) ≡ over (numbersIn (now (numbers .entry)) counts n) (now (fields .entry)) ⌝ }
-{
-    let width = counts.plan_width();
-    let mut k = 0;
-    while k < width {
-        fields[k] = network_tables::wide(numbers[LINE_SIZE * n + column_at(counts, k)]);
-        k += 1;
-    }
-}
-
-// How long the `P` line of step n is.
-fn line_length(numbers: &[u32], counts: Counts, n: usize) -> usize
-    requires { ⌜ StepAsked (now numbers) counts n ⌝ }
-    ensures { λ r. ⌜ r ≡ length (lineIn (now (numbers .entry)) counts n) ⌝ }
-{
-    let mut fields = [0u64; LINE_SIZE];
-    fill_numbers(numbers, counts, n, &mut fields);
-    let end = counts.plan_width();
-    text_writer::record_length(&fields[..end])
-}
-
-// Writes the `P` line of step n.
-fn write_line(numbers: &[u32], counts: Counts, n: usize, out: &mut [u8], at: usize) -> usize
-    requires { ⌜ LineAsked (now numbers) counts n (now out) at ⌝ }
-    ensures { λ r. ⌜ Wrote (lineIn (now (numbers .entry)) counts n) at (now (out .entry)) (now (out .exit)) r ⌝ }
-{
-    let mut fields = [0u64; LINE_SIZE];
-    fill_numbers(numbers, counts, n, &mut fields);
-    let end = counts.plan_width();
-    text_writer::write_record(out, at, b'P', &fields[..end])
-}
-
-// How long the plan text is.
-fn plan_length(numbers: &[u32], counts: Counts) -> usize
-    requires { ⌜ Kept (now numbers) counts ⌝ }
-    ensures { λ r. ⌜ r ≡ length (textIn (now (numbers .entry)) counts) ⌝ }
-{
-    let mut total = 0;
-    let mut n = 0;
-    while n < counts.steps {
-        total += line_length(numbers, counts, n);
-        n += 1;
-    }
-    total
-}
-
-// Writes the plan text at the beginning of a buffer that has room for it.
-fn write_lines(numbers: &[u32], counts: Counts, out: &mut [u8]) -> usize
-    requires { ⌜ LinesAsked (now numbers) counts (now out) ⌝ }
-    ensures { λ r. ⌜ Wrote (textIn (now (numbers .entry)) counts) 0 (now (out .entry)) (now (out .exit)) r ⌝ }
-{
-    let mut at = 0;
-    let mut n = 0;
-    while n < counts.steps {
-        at = write_line(numbers, counts, n, out, at);
-        n += 1;
-    }
-    at
-}
-
-// Writes the plan of a listing that has passed: refusal 24 where the buffer is too short.
-fn write_stored(numbers: &[u32], counts: Counts, out: &mut [u8]) -> ListingAnswer
-    requires { ⌜ Kept (now numbers) counts ⌝ }
-    ensures { λ r. ⌜ StoredGot (textIn (now (numbers .entry)) counts) (now (out .entry)) r (now (out .exit)) ⌝ }
-{
-    if out.len() < plan_length(numbers, counts) {
-        return ListingAnswer::Refused(Refusal::new(24, 0, 0));
-    }
-    ListingAnswer::Written(write_lines(numbers, counts, out))
-}
-
 // The listing on a network that has passed: refusals 22 to 24.
 fn write_listing(
     listing: &[u8],
@@ -433,15 +332,15 @@ fn write_listing(
     phases: &[u32],
     times: &[u32],
     out: &mut [u8],
-) -> ListingAnswer
+) -> TextAnswer
     requires { ⌜ TablesAsked counts (now phases) (now times) ⌝ }
     ensures { λ r. ⌜ WriteGot counts (now (phases .entry)) (now (times .entry)) (entries (now (listing .entry))) (now (out .entry)) r (now (out .exit)) ⌝ }
 {
     let mut numbers = [0u32; NUMBER_TABLE_SIZE];
     let mut seen = [0u8; SEEN_SIZE];
     match read_listing(listing, counts, phases, times, &mut numbers, &mut seen) {
-        Verdict::Passes => write_stored(&numbers, counts, out),
-        Verdict::Refused(refusal) => ListingAnswer::Refused(refusal),
+        Verdict::Passes => network_writer::write_plan(&numbers, LINE_SIZE, counts, out),
+        Verdict::Refused(refusal) => TextAnswer::Refused(refusal),
     }
 }
 
@@ -452,7 +351,7 @@ fn write_on_network(
     listing: &[u8],
     times: &[u32],
     out: &mut [u8],
-) -> ListingAnswer
+) -> TextAnswer
     requires { ⌜ NetworkAsked (now network) reading (now times) ⌝ }
     ensures { λ r. ⌜ ListingWritten (lines (now (network .entry))) (entries (now (listing .entry))) (now (out .entry)) r (now (out .exit)) ⌝ }
 {
@@ -461,12 +360,12 @@ fn write_on_network(
     let first = reading.moved_to(reading.signals_at);
     match network_signals::read_signals(network, first, &mut phases, &mut signals) {
         Stage::Passed(_) => write_listing(listing, reading.counts, &phases, times, out),
-        Stage::Refused(refusal) => ListingAnswer::Refused(refusal),
+        Stage::Refused(refusal) => TextAnswer::Refused(refusal),
     }
 }
 
 // The plan text of a solver's listing: refusals 1 to 6, 28 and 30, then 22 and 23 line by line, then 24.
-pub fn plan_from_listing(network: &[u8], listing: &[u8], out: &mut [u8]) -> ListingAnswer
+pub fn plan_from_listing(network: &[u8], listing: &[u8], out: &mut [u8]) -> TextAnswer
     ensures { λ r. ⌜ PlanGot (lines (now (network .entry))) (entries (now (listing .entry))) (now (out .entry)) r (now (out .exit)) ⌝ }
     ensures { λ r. ⌜ PaddingIgnored (now (network .entry)) (λ padded. PlanGot (lines padded) (entries (now (listing .entry))) (now (out .entry)) r (now (out .exit))) ⌝ }
 {
@@ -479,6 +378,6 @@ pub fn plan_from_listing(network: &[u8], listing: &[u8], out: &mut [u8]) -> List
             step_arrivals::from_start(&mut times, counts.past, counts.steps);
             write_on_network(network, reading, listing, &times, out)
         }
-        Stage::Refused(refusal) => ListingAnswer::Refused(refusal),
+        Stage::Refused(refusal) => TextAnswer::Refused(refusal),
     }
 }

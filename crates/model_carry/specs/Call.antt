@@ -5,19 +5,16 @@ use mathlib.Core.Bool.{cond}
 use mathlib.Core.List.{List, [], _∷_, _++_}
 use lib.Dec.{leb}
 use lib.ListN.{length}
-use Rattle.base_search.specs.declared.Verdict.{Verdict}
-use Rattle.base_search.specs.declared.Verdict.the-variants as verdicts
 use Rattle.base_search.specs.Checks.{Checks, check, _then_, verdict}
 use Rattle.text_reader.specs.Lines.{Line, lines}
-use Rattle.text_reader.specs.Reading.{over}
 use Rattle.model.specs.Test.{within}
 use Rattle.model.specs.Network.{stepCount}
 use Rattle.model.specs.Table.{networkChecks, planChecks}
 use Rattle.model.specs.Calls.{isPassed, ledgerAfter}
 use Rattle.model.specs.Hold.{meant}
 use Rattle.model.specs.Guarantees.{planNumbers}
-use Rattle.model_carry.specs.declared.CarryAnswer.{CarryAnswer}
-use Rattle.model_carry.specs.declared.CarryAnswer.the-variants.{Written, Refused}
+use Rattle.model_text.specs.declared.TextAnswer.{TextAnswer}
+use Rattle.model_text.specs.Answers.{textAnswer, bytesAfter}
 use Rattle.model_carry.specs.Part.{cut, carriedText}
 
 -- the lines of a plan text; an empty one means that the cut network holds (T-07)
@@ -41,21 +38,13 @@ module _ (network plan : List Line) (b : ℕ) where
       then check 32 0 0 (leb (length (carriedText network plan b)) room)
 
   -- the answer: how long the text is
-  unfoldable pub carryAnswer : Verdict → CarryAnswer
-  carryAnswer verdicts.Passes = Written (length (carriedText network plan b))
-  carryAnswer (verdicts.Refused r) = Refused r
-
-  unfoldable pub carryOn : ℕ → ℕ → CarryAnswer
-  carryOn ledgerSize room = carryAnswer (verdict (carryChecks ledgerSize room))
+  unfoldable pub carryOn : ℕ → ℕ → TextAnswer
+  carryOn ledgerSize room = textAnswer (carriedText network plan b) (verdict (carryChecks ledgerSize room))
 
   -- the ledger after the call
   unfoldable pub carryLedger : List ℕ → List ℕ
   carryLedger old = cond (isPassed (verdict (boundaryChecks network b))) (ledgerAfter (cut network b) plan old) old
 
-  -- the buffer after it: the text, and the bytes past it as they were; untouched by a refusal
-  unfoldable pub writtenBytes : Verdict → List ℕ → List ℕ
-  writtenBytes verdicts.Passes old = over (carriedText network plan b) old
-  writtenBytes (verdicts.Refused r) old = old
-
+  -- the buffer after it
   unfoldable pub carryBuffer : ℕ → List ℕ → List ℕ
-  carryBuffer ledgerSize old = writtenBytes (verdict (carryChecks ledgerSize (length old))) old
+  carryBuffer ledgerSize old = bytesAfter (carriedText network plan b) (verdict (carryChecks ledgerSize (length old))) old

@@ -15,9 +15,9 @@ use Rattle.model.specs.Flows.{doubledTime, row}
 use Rattle.model.specs.Table.{networkChecks, planChecks}
 use Rattle.model.specs.Calls.{checkNetwork}
 use Rattle.model.specs.Hold.{meant}
-use Rattle.model_carry.specs.declared.CarryAnswer.{CarryAnswer}
-use Rattle.model_carry.specs.declared.CarryAnswer.the-variants as answers
-use Rattle.model_carry.specs.declared.CarryAnswer.the-variants.{Written}
+use Rattle.model_text.specs.declared.TextAnswer.{TextAnswer}
+use Rattle.model_text.specs.declared.TextAnswer.the-variants as answers
+use Rattle.model_text.specs.declared.TextAnswer.the-variants.{Written}
 use Rattle.model_carry.specs.Part.{cut, carriedText}
 use Rattle.model_carry.specs.Call.{carryNumbers, carryChecks, carryOn, carryLedger, carryBuffer}
 
@@ -72,7 +72,7 @@ pub record CarriesOn (network : List Line) : Type 0 where
 
 -- What the call promises of a plan, the ledger and the buffer before and after it, and its answer: all are those of the definitions; a text that was written is a valid
 -- network, and a refusal leaves the buffer as it was; the theorem; and a refusal's number is one that can arise.
-pub record CarriedOn (network plan : List Line) (b : ℕ) (ledger ledgerAfter buffer bufferAfter : List ℕ) (answer : CarryAnswer) : Type 0 where
+pub record CarriedOn (network plan : List Line) (b : ℕ) (ledger ledgerAfter buffer bufferAfter : List ℕ) (answer : TextAnswer) : Type 0 where
   pub told : answer ≡ carryOn network plan b (length ledger) (length buffer)
   pub rows : ledgerAfter ≡ carryLedger network plan b ledger
   pub holds : bufferAfter ≡ carryBuffer network plan b (length ledger) buffer

@@ -5,7 +5,6 @@ use mathlib.Core.Logic.{_↔_}
 use mathlib.Core.List.{List}
 use Prim.Native.Nat.{ℕ, suc, _<_}
 use lib.ListN.{length, take}
-use lib.Seq.{take-at}
 use Rattle.base_search.specs.declared.Refusal.{Refusal}
 use Rattle.base_search.specs.declared.Verdict.{Verdict}
 use Rattle.base_search.specs.declared.Verdict.the-variants as verdicts
@@ -14,7 +13,6 @@ use Rattle.base_search.specs.Numbers.{isOneOf}
 use Rattle.base_search.proofs.Laws.{or-else-passes, hold-of-passes, passes-of-hold, refused-first}
 use Rattle.base_search.proofs.Numbers.{Numbered, refused-number, allOf}
 use Rattle.text_reader.specs.Lines.{Line, lines}
-use Rattle.text_reader.specs.Reading.{over}
 use Rattle.model.specs.Test.{_and_}
 use Rattle.model.specs.declared.Totals.{Totals}
 use Rattle.model.specs.declared.PlanAnswer.the-variants as plan-answer
@@ -28,11 +26,13 @@ use Rattle.model.proofs.Numbers.{network-among, plan-among}
 use Rattle.model.proofs.Written.{ledger-promises}
 use Rattle.model.proofs.Promises.{guarantees, passes-of-accepted, accepted-of-passes, refused-of-refused}
 use Rattle.sheet_lines.specs.Sheet.{phasesOf, sheetLineChecks, signalsChecks, sheetChecks}
-use Rattle.model_sheet.specs.declared.SheetAnswer.the-variants.{Written, Refused}
+use Rattle.model_text.specs.declared.TextAnswer.the-variants.{Written}
+use Rattle.model_text.specs.Answers.{textAnswer, bytesAfter}
+use Rattle.model_text.proofs.Answers.{passes-of-written, refused-of-answer, text-of}
 use Rattle.model_sheet.specs.Kept.{Kept, FirstRun}
 use Rattle.model_sheet.specs.Runs.{runChecks}
 use Rattle.model_sheet.specs.Cycle.{hasNoTram, canWrite, boundaryChecks, sheetText, EndsOnBoundaries, writeChecks}
-use Rattle.model_sheet.specs.Calls.{sheetNumbers, sheetPlanNumbers, acceptChecks, keepChecks, checkSheet, rowsAfter, sheetLedger, writtenAnswer, planFromSheet, writtenBytes, bufferAfter}
+use Rattle.model_sheet.specs.Calls.{sheetNumbers, sheetPlanNumbers, acceptChecks, keepChecks, checkSheet, rowsAfter, sheetLedger, planFromSheet, bufferAfter}
 use Rattle.model_sheet.specs.Promises.{SheetPromises, PlanWritten, WritePromises}
 use Rattle.model_sheet.proofs.Exactly.{kept-exactly}
 use Rattle.model_sheet.proofs.First.{first-run}
@@ -109,23 +109,6 @@ module _ (network sheet plan : List Line) where
       }
 
 -- ---- the writer
--- the verdict by the answer
-module _ (text : List ℕ) where
-  passes-of-written : (v : Verdict) (end : ℕ) → writtenAnswer text v ≡ Written end → (v ≡ verdicts.Passes) × (end ≡ length text)
-  unfolding writtenAnswer
-  passes-of-written verdicts.Passes end h = (refl, cc)
-  passes-of-written (verdicts.Refused r) end h = (cc, cc)
-
-  refused-of-answer : (v : Verdict) (r : Refusal) → writtenAnswer text v ≡ Refused r → v ≡ verdicts.Refused r
-  unfolding writtenAnswer
-  refused-of-answer verdicts.Passes r h = cc
-  refused-of-answer (verdicts.Refused q) r h = cc
-
-  text-of : (v : Verdict) (old : List ℕ) → v ≡ verdicts.Passes → take (length text) (writtenBytes text v old) ≡ text
-  unfolding writtenBytes over
-  text-of verdicts.Passes old h = take-at text _ (length text) refl
-  text-of (verdicts.Refused r) old h = cc
-
 module _ (network sheet : List Line) where
   pub write-numbered : (size : ℕ) → Numbered sheetPlanNumbers (writeChecks network sheet size)
   unfolding Numbered isOneOf allOf writeChecks sheetChecks signalsChecks sheetLineChecks boundaryChecks
@@ -158,8 +141,8 @@ module _ (network sheet : List Line) where
         boundaries = boundaries;
       }
     where
-      plan : (end : ℕ) → writtenAnswer (sheetText network sheet) (verdict (writeChecks network sheet (length old))) ≡ Written end
-          → PlanWritten network sheet (lines (take end (writtenBytes (sheetText network sheet) (verdict (writeChecks network sheet (length old))) old)))
+      plan : (end : ℕ) → textAnswer (sheetText network sheet) (verdict (writeChecks network sheet (length old))) ≡ Written end
+          → PlanWritten network sheet (lines (take end (bytesAfter (sheetText network sheet) (verdict (writeChecks network sheet (length old))) old)))
       plan end h =
           let w = passes-of-written (sheetText network sheet) (verdict (writeChecks network sheet (length old))) end h in
           let p = write-parts (length old) (hold-of-passes _ (w .0)) in

@@ -6,14 +6,13 @@ use Rattle.base_search.specs.declared.Verdict.{Verdict}
 use Rattle.base_search.specs.declared.Verdict.the-variants as verdicts
 use Rattle.base_search.specs.Checks.{Checks, _then_, verdict}
 use Rattle.text_reader.specs.Lines.{Line}
-use Rattle.text_reader.specs.Reading.{over}
 use Rattle.model.specs.declared.PlanAnswer.{PlanAnswer}
 use Rattle.model.specs.Table.{networkChecks, ledgerChecks, planLineChecks}
 use Rattle.model.specs.Calls.{planAnswer, ledgerAfter}
 use Rattle.model.specs.Guarantees.{networkNumbers, planNumbers}
 use Rattle.sheet_lines.specs.Sheet.{sheetChecks}
-use Rattle.model_sheet.specs.declared.SheetAnswer.{SheetAnswer}
-use Rattle.model_sheet.specs.declared.SheetAnswer.the-variants.{Written, Refused}
+use Rattle.model_text.specs.declared.TextAnswer.{TextAnswer}
+use Rattle.model_text.specs.Answers.{textAnswer, bytesAfter}
 use Rattle.model_sheet.specs.Runs.{runChecks}
 use Rattle.model_sheet.specs.Cycle.{sheetText, writeChecks}
 
@@ -44,18 +43,9 @@ module _ (network sheet plan : List Line) where
 abbrev pub sheetPlanNumbers : List ℕ
 sheetPlanNumbers = networkNumbers ++ (33 ∷ 35 ∷ 24 ∷ [])
 
--- the answer by the verdict on a text, and the buffer after: the text, and the bytes past it as they were; untouched by a refusal
-unfoldable pub writtenAnswer : List ℕ → Verdict → SheetAnswer
-writtenAnswer text verdicts.Passes = Written (length text)
-writtenAnswer text (verdicts.Refused r) = Refused r
-
-unfoldable pub writtenBytes : List ℕ → Verdict → List ℕ → List ℕ
-writtenBytes text verdicts.Passes old = over text old
-writtenBytes text (verdicts.Refused r) old = old
-
 module _ (network sheet : List Line) where
-  unfoldable pub planFromSheet : ℕ → SheetAnswer
-  planFromSheet size = writtenAnswer (sheetText network sheet) (verdict (writeChecks network sheet size))
+  unfoldable pub planFromSheet : ℕ → TextAnswer
+  planFromSheet size = textAnswer (sheetText network sheet) (verdict (writeChecks network sheet size))
 
   unfoldable pub bufferAfter : List ℕ → List ℕ
-  bufferAfter old = writtenBytes (sheetText network sheet) (verdict (writeChecks network sheet (length old))) old
+  bufferAfter old = bytesAfter (sheetText network sheet) (verdict (writeChecks network sheet (length old))) old

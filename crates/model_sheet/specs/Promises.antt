@@ -18,8 +18,8 @@ use Rattle.model.specs.Table.{isForm, letterP, networkChecks, planChecks}
 use Rattle.model.specs.Hold.{meant}
 use Rattle.model.specs.Guarantees.{Guarantees, LedgerPromises}
 use Rattle.sheet_lines.specs.Sheet.{phasesOf, endOf, sheetChecks}
-use Rattle.model_sheet.specs.declared.SheetAnswer.{SheetAnswer}
-use Rattle.model_sheet.specs.declared.SheetAnswer.the-variants.{Written, Refused}
+use Rattle.model_text.specs.declared.TextAnswer.{TextAnswer}
+use Rattle.model_text.specs.declared.TextAnswer.the-variants.{Written, Refused}
 use Rattle.model_sheet.specs.Kept.{Kept, FirstRun}
 use Rattle.model_sheet.specs.Runs.{runChecks}
 use Rattle.model_sheet.specs.Cycle.{cyclePlace, cyclePhase, hasNoTram, canWrite, plainSheet, EndsOnBoundaries, writeChecks}
@@ -60,7 +60,7 @@ pub record PlanWritten (network sheet plan : List Line) : Type 0 where
   pub never-34 : Hold (runChecks network (plainSheet network sheet) plan)
 
 -- The call that writes it, whatever the buffer held before:
-pub record WritePromises (network sheet : List Line) (old : List ℕ) (answer : SheetAnswer) (new : List ℕ) : Type 0 where
+pub record WritePromises (network sheet : List Line) (old : List ℕ) (answer : TextAnswer) (new : List ℕ) : Type 0 where
   pub told : answer ≡ planFromSheet network sheet (length old)
   pub holds : new ≡ bufferAfter network sheet old
   -- reading back what was written gives such a plan

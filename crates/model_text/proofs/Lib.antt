@@ -3,3 +3,4 @@ pub mod Lines
 pub mod Formed
 pub mod Fits
 pub mod Same
+pub mod Answers

@@ -1,1 +1,2 @@
 pub mod NetworkText
+pub mod Answers

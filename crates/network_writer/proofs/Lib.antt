@@ -2,3 +2,5 @@ pub mod Put
 pub mod Filling
 pub mod Reading
 pub mod Texts
+pub mod Plan
+pub mod Trams

@@ -1,3 +1,5 @@
 pub mod Put
 pub mod Reading
 pub mod Texts
+pub mod Plan
+pub mod Trams

@@ -8,7 +8,7 @@ use Rattle.base_search.specs.declared.Refusal.{Refusal}
 use Rattle.base_search.specs.declared.Verdict.{Verdict}
 use Rattle.base_search.specs.declared.Verdict.the-variants.{Passes, Refused}
 use Rattle.base_search.specs.Checks.{Checks, _then_, orElse, verdict}
-use Rattle.base_search.specs.Numbers.{isOneOf, CanArise}
+use Rattle.base_search.specs.Numbers.{isOneOf}
 use Rattle.base_search.proofs.Laws.{or-else-refused, hold-of-passes, passes-of-hold}
 use Rattle.base_search.proofs.Numbers.{Numbered, refused-number}
 use Rattle.text_reader.specs.Lines.{Line}
@@ -17,10 +17,14 @@ use Rattle.model.specs.Calls.{checkNetwork, planAnswer, checkPlan, stateChecks,
 use Rattle.model.specs.Guarantees.{networkNumbers, stateNumbers, planNumbers}
 use Rattle.model.proofs.Numbers.{network-numbered, plan-numbered, state-numbered}
 use Rattle.network.specs.Counting.{countsAnswer, countNetwork}
-use Rattle.model_carry.specs.Call.{carryNumbers, carryChecks, carryAnswer, carryOn}
+use Rattle.model_text.specs.Answers.{textAnswer}
+use Rattle.listing_lines.specs.declared.Entry.{Entry}
+use Rattle.listing_call.specs.Listing.{listingNumbers, writeChecks as listingChecks, planFromListing}
+use Rattle.listing_call.proofs.Call.{write-numbered as listing-numbered}
+use Rattle.model_carry.specs.Call.{carryNumbers, carryChecks, carryOn}
 use Rattle.model_carry.proofs.Promises.{carry-numbered}
-use Rattle.model_sheet.specs.Cycle.{sheetText, writeChecks}
-use Rattle.model_sheet.specs.Calls.{sheetNumbers, sheetPlanNumbers, keepChecks, checkSheet, writtenAnswer, planFromSheet}
+use Rattle.model_sheet.specs.Cycle.{writeChecks}
+use Rattle.model_sheet.specs.Calls.{sheetNumbers, sheetPlanNumbers, keepChecks, checkSheet, planFromSheet}
 use Rattle.model_sheet.proofs.Promises.{keep-numbered, write-numbered}
 use Rattle.plan_compare.specs.declared.Order.{Order}
 use Rattle.plan_compare.specs.Comparison.{order, plansAnswer, networkAnswer, comparePlans}
@@ -39,28 +43,25 @@ use Rattle.plancheck_c.specs.declared.TextResult.{TextResult}
 use Rattle.plancheck_c.specs.declared.CellsResult.{CellsResult}
 use Rattle.plancheck_c.specs.declared.ComparisonResult.{ComparisonResult}
 use Rattle.plancheck_c.specs.declared.SplitResult.{SplitResult}
-use Rattle.plancheck_c.specs.Results.{NumberTells, verdictResult, countsResult, planResult, linkResult, carryResult, sheetResult, comparisonResult, splitResult, cellsResult}
+use Rattle.plancheck_c.specs.Results.{NumberTells, verdictResult, countsResult, planResult, linkResult, textResult, comparisonResult, splitResult, cellsResult}
 
 -- the number that is told of a verdict
 abbrev pub numberOf : Verdict → ℕ
 numberOf v = verdictResult v .number
 
 module _ (checks : Checks) (numbers : List ℕ) {number : ℕ} where
-  pub tells-by : ((r : Refusal) → verdict checks ≡ Refused r → CanArise numbers (r .number)) → number ≡ numberOf (verdict checks) → NumberTells checks numbers number
-  tells-by arise told = go (verdict checks) refl told
+  tells : Numbered numbers checks → number ≡ numberOf (verdict checks) → NumberTells checks numbers number
+  tells numbered told = go (verdict checks) refl told
     where
       go : (v : Verdict) → verdict checks ≡ v → number ≡ numberOf v → NumberTells checks numbers number
       go Passes v e = record { zero-holds = λ z. hold-of-passes checks v; holds-zero = λ h. e; arises = λ n. absurd (n e) }
       go (Refused r) v e =
-          let a = arise r v in
+          let a = refused-number numbers checks r numbered v in
           record {
             zero-holds = λ z. absurd (omega (arith, a .not-0));
             holds-zero = λ h. (let p : Passes ≡ Refused r = sym (passes-of-hold checks h) ∙ v in cc);
             arises = λ n. rw e a;
           }
-
-  tells : Numbered numbers checks → number ≡ numberOf (verdict checks) → NumberTells checks numbers number
-  tells numbered told = tells-by (λ r v. refused-number numbers checks r numbered v) told
 
 -- ---- a network, its counts, the state of a link
 pub network-tells : (network : List Line) {r : NetworkResult} → r ≡ verdictResult (checkNetwork network) → NumberTells (networkChecks network) networkNumbers (r .number)
@@ -132,23 +133,25 @@ module _ (network first second : List Line) where
         (ap (λ (x : ComparisonResult). x .number) e ∙ compared-number)
 
 -- ---- calls that write a text
-pub sheet-plan-tells : (network sheet : List Line) (size : ℕ) {r : TextResult} → r ≡ sheetResult (planFromSheet network sheet size)
+text-number : (text : List ℕ) (v : Verdict) → textResult (textAnswer text v) .number ≡ numberOf v
+unfolding textAnswer
+text-number text Passes = refl
+text-number text (Refused r) = refl
+
+pub sheet-plan-tells : (network sheet : List Line) (size : ℕ) {r : TextResult} → r ≡ textResult (planFromSheet network sheet size)
     → NumberTells (writeChecks network sheet size) sheetPlanNumbers (r .number)
 unfolding planFromSheet
-sheet-plan-tells network sheet size e = tells _ sheetPlanNumbers (write-numbered network sheet size) (ap (λ (x : TextResult). x .number) e ∙ number _)
-  where
-    number : (v : Verdict) → sheetResult (writtenAnswer (sheetText network sheet) v) .number ≡ numberOf v
-    number Passes = unfold writtenAnswer in refl
-    number (Refused r) = unfold writtenAnswer in refl
+sheet-plan-tells network sheet size e = tells _ sheetPlanNumbers (write-numbered network sheet size) (ap (λ (x : TextResult). x .number) e ∙ text-number _ _)
 
-pub carry-tells : (network plan : List Line) (b size room : ℕ) {r : TextResult} → r ≡ carryResult (carryOn network plan b size room)
+pub listing-tells : (network : List Line) (listing : List Entry) (size : ℕ) {r : TextResult} → r ≡ textResult (planFromListing network listing size)
+    → NumberTells (listingChecks network listing size) listingNumbers (r .number)
+unfolding planFromListing
+listing-tells network listing size e = tells _ listingNumbers (listing-numbered network listing size) (ap (λ (x : TextResult). x .number) e ∙ text-number _ _)
+
+pub carry-tells : (network plan : List Line) (b size room : ℕ) {r : TextResult} → r ≡ textResult (carryOn network plan b size room)
     → NumberTells (carryChecks network plan b size room) carryNumbers (r .number)
 unfolding carryOn
-carry-tells network plan b size room e = tells _ carryNumbers (carry-numbered network plan b size room) (ap (λ (x : TextResult). x .number) e ∙ number _)
-  where
-    number : (v : Verdict) → carryResult (carryAnswer network plan b v) .number ≡ numberOf v
-    number Passes = unfold carryAnswer in refl
-    number (Refused r) = unfold carryAnswer in refl
+carry-tells network plan b size room e = tells _ carryNumbers (carry-numbered network plan b size room) (ap (λ (x : TextResult). x .number) e ∙ text-number _ _)
 
 pub split-tells : (network plan : List Line) (set : ℕ) (room : Lengths) {r : SplitResult} → r ≡ splitResult (splitNetwork network plan set room)
     → NumberTells (splitChecks network plan set room) splitNumbers (r .number)

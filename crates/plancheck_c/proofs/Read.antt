@@ -12,12 +12,8 @@ use Rattle.base_search.specs.declared.Verdict.the-variants.{Passes, Refused}
 use Rattle.base_search.specs.Numbers.{CanArise}
 use Rattle.model.specs.declared.PlanAnswer.{PlanAnswer}
 use Rattle.model.specs.declared.PlanAnswer.the-variants as plan-answer
-use Rattle.listing_call.specs.declared.ListingAnswer.{ListingAnswer}
-use Rattle.listing_call.specs.declared.ListingAnswer.the-variants as listing-answer
-use Rattle.model_carry.specs.declared.CarryAnswer.{CarryAnswer}
-use Rattle.model_carry.specs.declared.CarryAnswer.the-variants as carry-answer
-use Rattle.model_sheet.specs.declared.SheetAnswer.{SheetAnswer}
-use Rattle.model_sheet.specs.declared.SheetAnswer.the-variants as sheet-answer
+use Rattle.model_text.specs.declared.TextAnswer.{TextAnswer}
+use Rattle.model_text.specs.declared.TextAnswer.the-variants as text-answer
 use Rattle.plan_compare.specs.declared.Order.the-variants.{Ahead, Behind, Equal, Crossing}
 use Rattle.plan_compare.specs.declared.ComparisonAnswer.{ComparisonAnswer}
 use Rattle.plan_compare.specs.declared.ComparisonAnswer.the-variants as comparison-answer
@@ -30,7 +26,7 @@ use Rattle.plancheck_c.specs.declared.PlanResult.{PlanResult}
 use Rattle.plancheck_c.specs.declared.TextResult.{TextResult}
 use Rattle.plancheck_c.specs.declared.ComparisonResult.{ComparisonResult}
 use Rattle.plancheck_c.specs.declared.SplitResult.{SplitResult}
-use Rattle.plancheck_c.specs.Results.{verdictResult, verdictOf, planResult, planAnswerOf, listingResult, listingAnswerOf, carryResult, carryAnswerOf, sheetResult, sheetAnswerOf, comparisonResult, comparisonAnswerOf, splitResult, splitAnswerOf, cellsResult, cellsAnswerOf}
+use Rattle.plancheck_c.specs.Results.{verdictResult, verdictOf, planResult, planAnswerOf, textResult, textAnswerOf, comparisonResult, comparisonAnswerOf, splitResult, splitAnswerOf, cellsResult, cellsAnswerOf}
 
 module _ {numbers : List ℕ} where
   not-zero : (r : Refusal) → CanArise numbers (r .number) → eqb (r .number) 0 ≡ false
@@ -50,26 +46,12 @@ module _ {numbers : List ℕ} where
   pub of-plan : (P : PlanAnswer → Type 0) (a : PlanAnswer) (r : PlanResult) → r ≡ planResult a → ((q : Refusal) → a ≡ plan-answer.Refused q → CanArise numbers (q .number)) → P a → P (planAnswerOf r)
   of-plan P a r e h p = rw e (subst P (sym (plan-back a h)) p)
 
-  sheet-back : (a : SheetAnswer) → ((q : Refusal) → a ≡ sheet-answer.Refused q → CanArise numbers (q .number)) → sheetAnswerOf (sheetResult a) ≡ a
-  sheet-back (sheet-answer.Written end) h = refl
-  sheet-back (sheet-answer.Refused r) h = rw (not-zero r (h r refl))
+  text-back : (a : TextAnswer) → ((q : Refusal) → a ≡ text-answer.Refused q → CanArise numbers (q .number)) → textAnswerOf (textResult a) ≡ a
+  text-back (text-answer.Written end) h = refl
+  text-back (text-answer.Refused r) h = rw (not-zero r (h r refl))
 
-  pub of-sheet : (P : SheetAnswer → Type 0) (a : SheetAnswer) (r : TextResult) → r ≡ sheetResult a → ((q : Refusal) → a ≡ sheet-answer.Refused q → CanArise numbers (q .number)) → P a → P (sheetAnswerOf r)
-  of-sheet P a r e h p = rw e (subst P (sym (sheet-back a h)) p)
-
-  listing-back : (a : ListingAnswer) → ((q : Refusal) → a ≡ listing-answer.Refused q → CanArise numbers (q .number)) → listingAnswerOf (listingResult a) ≡ a
-  listing-back (listing-answer.Written end) h = refl
-  listing-back (listing-answer.Refused r) h = rw (not-zero r (h r refl))
-
-  pub of-listing : (P : ListingAnswer → Type 0) (a : ListingAnswer) (r : TextResult) → r ≡ listingResult a → ((q : Refusal) → a ≡ listing-answer.Refused q → CanArise numbers (q .number)) → P a → P (listingAnswerOf r)
-  of-listing P a r e h p = rw e (subst P (sym (listing-back a h)) p)
-
-  carry-back : (a : CarryAnswer) → ((q : Refusal) → a ≡ carry-answer.Refused q → CanArise numbers (q .number)) → carryAnswerOf (carryResult a) ≡ a
-  carry-back (carry-answer.Written end) h = refl
-  carry-back (carry-answer.Refused r) h = rw (not-zero r (h r refl))
-
-  pub of-carry : (P : CarryAnswer → Type 0) (a : CarryAnswer) (r : TextResult) → r ≡ carryResult a → ((q : Refusal) → a ≡ carry-answer.Refused q → CanArise numbers (q .number)) → P a → P (carryAnswerOf r)
-  of-carry P a r e h p = rw e (subst P (sym (carry-back a h)) p)
+  pub of-text : (P : TextAnswer → Type 0) (a : TextAnswer) (r : TextResult) → r ≡ textResult a → ((q : Refusal) → a ≡ text-answer.Refused q → CanArise numbers (q .number)) → P a → P (textAnswerOf r)
+  of-text P a r e h p = rw e (subst P (sym (text-back a h)) p)
 
   split-back : (a : SplitAnswer) → ((q : Refusal) → a ≡ split-answer.Refused q → CanArise numbers (q .number)) → splitAnswerOf (splitResult a) ≡ a
   split-back (split-answer.Written end) h = refl

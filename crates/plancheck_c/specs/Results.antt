@@ -6,7 +6,6 @@ use mathlib.Core.Path.{_≡_}
 use mathlib.Core.Logic.{_≢_}
 use lib.Dec.{eqb}
 use lib.IntN.{pos}
-use Rattle.base_search.specs.declared.Refusal.{Refusal}
 use Rattle.base_search.specs.declared.Verdict.{Verdict}
 use Rattle.base_search.specs.declared.Verdict.the-variants.{Passes, Refused}
 use Rattle.base_search.specs.Checks.{refusal, Checks, Hold}
@@ -17,12 +16,8 @@ use Rattle.model.specs.declared.LinkAnswer.{LinkAnswer}
 use Rattle.model.specs.declared.LinkAnswer.the-variants as link-answer
 use Rattle.network.specs.declared.CountsAnswer.{CountsAnswer}
 use Rattle.network.specs.declared.CountsAnswer.the-variants as counts-answer
-use Rattle.listing_call.specs.declared.ListingAnswer.{ListingAnswer}
-use Rattle.listing_call.specs.declared.ListingAnswer.the-variants as listing-answer
-use Rattle.model_carry.specs.declared.CarryAnswer.{CarryAnswer}
-use Rattle.model_carry.specs.declared.CarryAnswer.the-variants as carry-answer
-use Rattle.model_sheet.specs.declared.SheetAnswer.{SheetAnswer}
-use Rattle.model_sheet.specs.declared.SheetAnswer.the-variants as sheet-answer
+use Rattle.model_text.specs.declared.TextAnswer.{TextAnswer}
+use Rattle.model_text.specs.declared.TextAnswer.the-variants as text-answer
 use Rattle.plan_compare.specs.declared.Order.{Order}
 use Rattle.plan_compare.specs.declared.Order.the-variants.{Ahead, Behind, Equal, Crossing}
 use Rattle.plan_compare.specs.declared.ComparisonAnswer.{ComparisonAnswer}
@@ -81,36 +76,13 @@ abbrev pub linkResult : LinkAnswer → LinkResult
 linkResult (link-answer.State queued inTransit) = record { number = 0; line = 0; item = 0; queued = queued; «in_transit» = inTransit }
 linkResult (link-answer.Refused r) = record { number = r .number; line = r .line; item = r .item; queued = 0; «in_transit» = 0 }
 
-abbrev pub writtenText : ℕ → TextResult
-writtenText end = record { number = 0; line = 0; item = 0; length = end }
-
-abbrev pub refusedText : Refusal → TextResult
-refusedText r = record { number = r .number; line = r .line; item = r .item; length = 0 }
-
-abbrev pub listingResult : ListingAnswer → TextResult
-listingResult (listing-answer.Written end) = writtenText end
-listingResult (listing-answer.Refused r) = refusedText r
+abbrev pub textResult : TextAnswer → TextResult
+textResult (text-answer.Written end) = record { number = 0; line = 0; item = 0; length = end }
+textResult (text-answer.Refused r) = record { number = r .number; line = r .line; item = r .item; length = 0 }
 
 -- the answer that a C caller reads off: number 0 is a text written, any other a refusal
-abbrev pub listingAnswerOf : TextResult → ListingAnswer
-listingAnswerOf r =
-    cond (eqb (r .number) 0) (listing-answer.Written (r .length)) (listing-answer.Refused (refusal (r .number) (r .line) (r .item)))
-
-abbrev pub carryResult : CarryAnswer → TextResult
-carryResult (carry-answer.Written end) = writtenText end
-carryResult (carry-answer.Refused r) = refusedText r
-
-abbrev pub carryAnswerOf : TextResult → CarryAnswer
-carryAnswerOf r =
-    cond (eqb (r .number) 0) (carry-answer.Written (r .length)) (carry-answer.Refused (refusal (r .number) (r .line) (r .item)))
-
-abbrev pub sheetResult : SheetAnswer → TextResult
-sheetResult (sheet-answer.Written end) = writtenText end
-sheetResult (sheet-answer.Refused r) = refusedText r
-
-abbrev pub sheetAnswerOf : TextResult → SheetAnswer
-sheetAnswerOf r =
-    cond (eqb (r .number) 0) (sheet-answer.Written (r .length)) (sheet-answer.Refused (refusal (r .number) (r .line) (r .item)))
+abbrev pub textAnswerOf : TextResult → TextAnswer
+textAnswerOf r = cond (eqb (r .number) 0) (text-answer.Written (r .length)) (text-answer.Refused (refusal (r .number) (r .line) (r .item)))
 
 abbrev pub cellsResult : CellsAnswer → List ℕ → CellsResult
 cellsResult (cells-answer.Ran cells flowIn flowOut) volumes =

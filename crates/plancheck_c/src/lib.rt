@@ -28,16 +28,13 @@ ghost use Rattle.plan_compare.specs.Promises.{ComparisonPromises, ComparisonGot
 ghost use Rattle.model_split.specs.Call.{splitNumbers, splitChecks, splitNetwork};
 ghost use Rattle.model_split.specs.Splits.{SplitInTwo, roomOf};
 ghost use Rattle.split.specs.Splitting.{texts, buffers, SplitGot};
-ghost use Rattle.plancheck_c.specs.Results.{NumberTells, verdictResult, verdictOf, countsResult, version, planResult, planAnswerOf, linkResult, writtenText, refusedText, listingResult, listingAnswerOf, carryResult, carryAnswerOf, sheetResult, sheetAnswerOf, orderNumber, comparisonResult, comparisonAnswerOf, splitResult, splitAnswerOf, cellsResult, cellsAnswerOf};
-use base_search::Refusal;
+ghost use Rattle.plancheck_c.specs.Results.{NumberTells, verdictResult, verdictOf, countsResult, version, planResult, planAnswerOf, linkResult, textResult, textAnswerOf, orderNumber, comparisonResult, comparisonAnswerOf, splitResult, splitAnswerOf, cellsResult, cellsAnswerOf};
 use base_search::Verdict;
 use cells_call::CellsAnswer;
-use listing_call::ListingAnswer;
 use model::LinkAnswer;
 use model::PlanAnswer;
-use model_carry::CarryAnswer;
-use model_sheet::SheetAnswer;
 use model_split::SplitAnswer;
+use model_text::TextAnswer;
 use network::CountsAnswer;
 use plan_compare::ComparisonAnswer;
 use plan_compare::Order;
@@ -277,15 +274,12 @@ pub extern "C" fn plancheck_plan_from_sheet(
     sheet: &[u8],
     plan: &mut [u8],
 ) -> TextResult
-    ensures { λ r. ⌜ r ≡ sheetResult (planFromSheet (lines (now (network .entry))) (lines (now (sheet .entry))) (length (now (plan .entry)))) ⌝ }
-    ensures { λ r. ⌜ WritePromises (lines (now (network .entry))) (lines (now (sheet .entry))) (now (plan .entry)) (sheetAnswerOf r) (now (plan .exit)) ⌝ }
+    ensures { λ r. ⌜ r ≡ textResult (planFromSheet (lines (now (network .entry))) (lines (now (sheet .entry))) (length (now (plan .entry)))) ⌝ }
+    ensures { λ r. ⌜ WritePromises (lines (now (network .entry))) (lines (now (sheet .entry))) (now (plan .entry)) (textAnswerOf r) (now (plan .exit)) ⌝ }
     ensures { λ r. ⌜ NumberTells (writeChecks (lines (now (network .entry))) (lines (now (sheet .entry))) (length (now (plan .entry)))) sheetPlanNumbers (r .number) ⌝ }
-    ensures { λ r. ⌜ PaddingIgnored (now (network .entry)) (λ paddedNetwork. PaddingIgnored (now (sheet .entry)) (λ paddedSheet. WritePromises (lines paddedNetwork) (lines paddedSheet) (now (plan .entry)) (sheetAnswerOf r) (now (plan .exit)))) ⌝ }
+    ensures { λ r. ⌜ PaddingIgnored (now (network .entry)) (λ paddedNetwork. PaddingIgnored (now (sheet .entry)) (λ paddedSheet. WritePromises (lines paddedNetwork) (lines paddedSheet) (now (plan .entry)) (textAnswerOf r) (now (plan .exit)))) ⌝ }
 {
-    match sheet_writer::plan_from_sheet(network, sheet, plan) {
-        SheetAnswer::Written(length) => written_text(length),
-        SheetAnswer::Refused(refusal) => refused_text(refusal),
-    }
+    text_result(sheet_writer::plan_from_sheet(network, sheet, plan))
 }
 
 #[no_mangle]
@@ -317,25 +311,22 @@ pub extern "C" fn plancheck_link_state(
     }
 }
 
-fn written_text(length: usize) -> TextResult
-    ensures { λ r. ⌜ r ≡ writtenText length ⌝ }
+fn text_result(answer: TextAnswer) -> TextResult
+    ensures { λ r. ⌜ r ≡ textResult answer ⌝ }
 {
-    TextResult {
-        number: 0,
-        line: 0,
-        item: 0,
-        length,
-    }
-}
-
-fn refused_text(refusal: Refusal) -> TextResult
-    ensures { λ r. ⌜ r ≡ refusedText refusal ⌝ }
-{
-    TextResult {
-        number: refusal.number,
-        line: refusal.line,
-        item: refusal.item,
-        length: 0,
+    match answer {
+        TextAnswer::Written(length) => TextResult {
+            number: 0,
+            line: 0,
+            item: 0,
+            length,
+        },
+        TextAnswer::Refused(r) => TextResult {
+            number: r.number,
+            line: r.line,
+            item: r.item,
+            length: 0,
+        },
     }
 }
 
@@ -345,15 +336,12 @@ pub extern "C" fn plancheck_plan_from_listing(
     listing: &[u8],
     plan: &mut [u8],
 ) -> TextResult
-    ensures { λ r. ⌜ r ≡ listingResult (planFromListing (lines (now (network .entry))) (entries (now (listing .entry))) (length (now (plan .entry)))) ⌝ }
-    ensures { λ r. ⌜ PlanGot (lines (now (network .entry))) (entries (now (listing .entry))) (now (plan .entry)) (listingAnswerOf r) (now (plan .exit)) ⌝ }
+    ensures { λ r. ⌜ r ≡ textResult (planFromListing (lines (now (network .entry))) (entries (now (listing .entry))) (length (now (plan .entry)))) ⌝ }
+    ensures { λ r. ⌜ PlanGot (lines (now (network .entry))) (entries (now (listing .entry))) (now (plan .entry)) (textAnswerOf r) (now (plan .exit)) ⌝ }
     ensures { λ r. ⌜ NumberTells (Listing.writeChecks (lines (now (network .entry))) (entries (now (listing .entry))) (length (now (plan .entry)))) listingNumbers (r .number) ⌝ }
-    ensures { λ r. ⌜ PaddingIgnored (now (network .entry)) (λ padded. PlanGot (lines padded) (entries (now (listing .entry))) (now (plan .entry)) (listingAnswerOf r) (now (plan .exit))) ⌝ }
+    ensures { λ r. ⌜ PaddingIgnored (now (network .entry)) (λ padded. PlanGot (lines padded) (entries (now (listing .entry))) (now (plan .entry)) (textAnswerOf r) (now (plan .exit))) ⌝ }
 {
-    match listing_call::plan_from_listing(network, listing, plan) {
-        ListingAnswer::Written(length) => written_text(length),
-        ListingAnswer::Refused(refusal) => refused_text(refusal),
-    }
+    text_result(listing_call::plan_from_listing(network, listing, plan))
 }
 
 #[no_mangle]
@@ -364,15 +352,12 @@ pub extern "C" fn plancheck_carry_on(
     ledger: &mut [u32],
     carried: &mut [u8],
 ) -> TextResult
-    ensures { λ r. ⌜ r ≡ carryResult (carryOn (lines (now (network .entry))) (plannedOn (lines (now (network .entry))) boundary (now (plan .entry))) boundary (length (now (ledger .entry))) (length (now (carried .entry)))) ⌝ }
-    ensures { λ r. ⌜ CarriedOn (lines (now (network .entry))) (plannedOn (lines (now (network .entry))) boundary (now (plan .entry))) boundary (now (ledger .entry)) (now (ledger .exit)) (now (carried .entry)) (now (carried .exit)) (carryAnswerOf r) ⌝ }
+    ensures { λ r. ⌜ r ≡ textResult (carryOn (lines (now (network .entry))) (plannedOn (lines (now (network .entry))) boundary (now (plan .entry))) boundary (length (now (ledger .entry))) (length (now (carried .entry)))) ⌝ }
+    ensures { λ r. ⌜ CarriedOn (lines (now (network .entry))) (plannedOn (lines (now (network .entry))) boundary (now (plan .entry))) boundary (now (ledger .entry)) (now (ledger .exit)) (now (carried .entry)) (now (carried .exit)) (textAnswerOf r) ⌝ }
     ensures { λ r. ⌜ NumberTells (carryChecks (lines (now (network .entry))) (plannedOn (lines (now (network .entry))) boundary (now (plan .entry))) boundary (length (now (ledger .entry))) (length (now (carried .entry)))) carryNumbers (r .number) ⌝ }
-    ensures { λ r. ⌜ PaddingIgnored (now (network .entry)) (λ paddedNetwork. PaddingIgnored (now (plan .entry)) (λ paddedPlan. CarryGot paddedNetwork paddedPlan boundary (now (ledger .entry)) (now (ledger .exit)) (now (carried .entry)) (now (carried .exit)) (carryAnswerOf r))) ⌝ }
+    ensures { λ r. ⌜ PaddingIgnored (now (network .entry)) (λ paddedNetwork. PaddingIgnored (now (plan .entry)) (λ paddedPlan. CarryGot paddedNetwork paddedPlan boundary (now (ledger .entry)) (now (ledger .exit)) (now (carried .entry)) (now (carried .exit)) (textAnswerOf r))) ⌝ }
 {
-    match carry::carry_on(network, boundary, plan, ledger, carried) {
-        CarryAnswer::Written(length) => written_text(length),
-        CarryAnswer::Refused(refusal) => refused_text(refusal),
-    }
+    text_result(carry::carry_on(network, boundary, plan, ledger, carried))
 }
 
 fn order_number(order: Order) -> u32

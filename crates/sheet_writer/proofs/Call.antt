@@ -6,7 +6,7 @@ use mathlib.Core.List.{List, _∷_, _++_, []}
 use native.Mathlib.Numerals.{add-one}
 use native.Mathlib.Decide.{decLt}
 use native.Mathlib.Omega.{arith}
-use borrow.Author.Tests.{le-ltb}
+use borrow.Author.Tests.{lt-ltb, le-ltb}
 use lib.Dec.{leb, ltb}
 use lib.ListN.{length, replicate}
 use Rattle.base_search.specs.declared.Refusal.{Refusal}
@@ -20,7 +20,7 @@ use Rattle.text_reader.proofs.Padding.{same-lines}
 use Rattle.text_writer.proofs.Laws.{records-same}
 use Rattle.model.specs.Test.{_and_}
 use Rattle.model.specs.Sum.{sum, only, list}
-use Rattle.model.specs.Network.{entry, linkCount, signalCount, movementCount, stepCount, tramCount, tramLine, signal, stepLength, time}
+use Rattle.model.specs.Network.{maxSignals, entry, linkCount, signalCount, movementCount, stepCount, tramCount, tramLine, signal, stepLength, time}
 use Rattle.model.specs.Table.{isForm, letterP, letterT, tramChecks, networkChecks}
 use Rattle.model.proofs.Tests.{every-same}
 use Rattle.model.proofs.Sums.{sum-ext}
@@ -39,20 +39,23 @@ use Rattle.network_signals.proofs.Passed.{signals-passed, load-zeros}
 use Rattle.network.specs.Loading.{Loaded}
 use Rattle.step_arrivals.specs.Times.{ShiftAsked, Shifted}
 use Rattle.step_arrivals.proofs.Times.{shift-asked, plan-times}
+use Rattle.network_writer.specs.Plan.{columnIn, planNumber, planRow, planLines, PlanAsked}
+use Rattle.network_writer.proofs.Plan.{column-mask, column-past, number-none, number-some}
 use Rattle.sheet_lines.specs.Sheet.{phasesOf, sheetChecks}
 use Rattle.sheet_lines.specs.Reading.{sheetTableSize, numberIn, SheetAsked, SheetRead}
 use Rattle.sheet_lines.proofs.Network.{sheet-asked, sheet-told, sheet-number}
-use Rattle.model_sheet.specs.declared.SheetAnswer.{SheetAnswer}
-use Rattle.model_sheet.specs.declared.SheetAnswer.the-variants.{Refused}
+use Rattle.model_text.specs.declared.TextAnswer.{TextAnswer}
+use Rattle.model_text.specs.declared.TextAnswer.the-variants.{Refused}
+use Rattle.model_text.specs.Answers.{textAnswer, bytesAfter, roomVerdict, Told}
 use Rattle.model_sheet.specs.Cycle.{placeAt, phaseFrom, phaseAt, fitsAt, hasNoTram, sheetPhase, canWrite, boundaryChecks, sheetNumbers, sheetText, writeChecks}
-use Rattle.model_sheet.specs.Calls.{writtenAnswer, planFromSheet, writtenBytes, bufferAfter}
+use Rattle.model_sheet.specs.Calls.{planFromSheet, bufferAfter}
 use Rattle.model_sheet.specs.Promises.{WritePromises}
 use Rattle.model_sheet.proofs.Cycle.{phase-most}
 use Rattle.model_sheet.proofs.Steps.{time-zero}
 use Rattle.model_sheet.proofs.Checks.{two-phases, duration-some, offset-short}
 use Rattle.model_sheet.proofs.Promises.{write-promises}
-use Rattle.sheet_writer.specs.Tables.{CycleLine, LineAsked, timeIn, secondsIn, fitsIn, canWriteIn, boundaryChecksIn, phaseIn, numbersIn, textIn, cycleText, MasksAsked}
-use Rattle.sheet_writer.specs.Stages.{CyclesAsked, MasksGot, roomVerdict, Told, CyclesWritten, NetworkAsked, SheetWritten}
+use Rattle.sheet_writer.specs.Tables.{CycleLine, LineAsked, timeIn, secondsIn, fitsIn, canWriteIn, boundaryChecksIn, phaseIn, cycleText}
+use Rattle.sheet_writer.specs.Stages.{CyclesAsked, MasksGot, CyclesWritten, NetworkAsked, SheetWritten}
 
 -- ---- a line's cycle is that of its numbers
 module _ {f g : ℕ → ℕ} where
@@ -86,20 +89,25 @@ only-same : (k n : ℕ) (x y : ℕ) → (k < n → x ≡ y) → only (ltb k n) x
 only-same k n x y h = elim (decLt k n) [ yes l ↦ ap (only (ltb k n)) (h l) | no l ↦ rw (le-ltb k n (omega arith)) ]
 
 -- ---- by the tables
-module _ {networkText : List ℕ} {counts : Counts} {signals : List ℕ} {table times masks : List ℕ} {v : Verdict} (got : MasksGot networkText counts signals table times v masks) where
+module _ {networkText : List ℕ} {counts : Counts} {signals : List ℕ} {table times masks : List ℕ} {v : Verdict} (few : Few counts) (got : MasksGot networkText counts signals table times v masks) where
   pub cycles-stopped : {q : Refusal} → v ≡ verdicts.Refused q → {old : List ℕ} → CyclesWritten networkText counts signals table times old (Refused q) old
-  unfolding orElse writtenAnswer writtenBytes
+  unfolding orElse textAnswer bytesAfter
   cycles-stopped e = record { told = rw (sym (got .told) ∙ e) (record { answered = refl; holds = refl }) }
 
-  text-held : v ≡ verdicts.Passes → textIn masks counts ≡ cycleText signals table times counts
-  unfolding textIn cycleText numbersIn
-  text-held e =
-      records-same letterP _ _ (counts .steps) (λ n l. list-same (planWidth counts) _ _ (λ k u. only-same k (counts .signals) _ _ (λ h. got .held e .shows n k l h)))
+  text-held : v ≡ verdicts.Passes → planLines masks maxSignals counts ≡ cycleText signals table times counts
+  unfolding planLines cycleText planRow
+  text-held e = records-same letterP _ _ (counts .steps) (λ n l. list-same (planWidth counts) _ _ (λ k u. number n k l))
+    where
+      number : (n k : ℕ) → n < counts .steps → planNumber masks maxSignals n (columnIn counts k) ≡ only (ltb k (counts .signals)) (2 ^ (phaseIn signals table times n k - 1))
+      number n k l = elim (decLt k (counts .signals)) [
+        | yes h ↦ rw (← column-mask counts k h, ← number-some masks maxSignals n k (omega (arith, few .signals)), lt-ltb k (counts .signals) h) (got .held e .shows n k l h)
+        | no h ↦ sym (number-none masks maxSignals n (columnIn counts k) (column-past counts k (omega arith))) ∙ rw (le-ltb k (counts .signals) (omega arith)) refl
+      ]
 
-  pub masks-asked : Few counts → MasksAsked masks counts
-  masks-asked few = record { room = got .size; few = few }
+  pub masks-asked : PlanAsked masks maxSignals counts
+  masks-asked = record { few = few; few-columns = omega arith; room = got .size }
 
-  pub cycles-written : v ≡ verdicts.Passes → {answer : SheetAnswer} {old new : List ℕ} → Told (textIn masks counts) (roomVerdict (textIn masks counts) old) old answer new
+  pub cycles-written : v ≡ verdicts.Passes → {answer : TextAnswer} {old new : List ℕ} → Told (planLines masks maxSignals counts) (roomVerdict 24 (planLines masks maxSignals counts) old) old answer new
       → CyclesWritten networkText counts signals table times old answer new
   unfolding orElse
   cycles-written e told = record { told = rw (sym (got .told) ∙ e) (rw (text-held e) at told) }
@@ -134,7 +142,7 @@ module _ {text : List ℕ} {reading : Reading} {times : List ℕ} (asked : Netwo
       sheet = lines sheetText′
 
       pub sheet-stopped : {old : List ℕ} {q : Refusal} → v ≡ verdicts.Refused q → SheetWritten network sheet old (Refused q) old
-      unfolding orElse writtenAnswer writtenBytes
+      unfolding orElse textAnswer bytesAfter
       sheet-stopped e = record { told = rw (sym (sheet-told signal-table count-is read) ∙ e) (record { answered = refl; holds = refl }) }
 
       module _ (e : v ≡ verdicts.Passes) where
@@ -209,16 +217,16 @@ module _ {text : List ℕ} {reading : Reading} {times : List ℕ} (asked : Netwo
             mask n r l u =
                 ap (λ q. 2 ^ (q - 1)) (rw (signal-is r u) (phase-same (phasesOf network r) (number-is r u) (timeIn times n)) ∙ ap (phaseAt (entry sheet r) (phasesOf network r)) (asked .time-table .holds n (omega arith)))
 
-        pub sheet-written : {old new : List ℕ} {answer : SheetAnswer} → CyclesWritten text (reading .counts) signals table times old answer new → SheetWritten network sheet old answer new
+        pub sheet-written : {old new : List ℕ} {answer : TextAnswer} → CyclesWritten text (reading .counts) signals table times old answer new → SheetWritten network sheet old answer new
         sheet-written w = record { told = rw passes (unfold orElse in (rw (boundary-same, text-same) at (w .told))) }
 
 -- ---- the whole call
 written-is : (network sheet : List Line) (old : List ℕ) → verdict (writeChecks network sheet (length old))
-    ≡ orElse (verdict (networkChecks network)) (orElse (verdict (sheetChecks network sheet 1)) (orElse (verdict (boundaryChecks network sheet)) (roomVerdict (sheetText network sheet) old)))
+    ≡ orElse (verdict (networkChecks network)) (orElse (verdict (sheetChecks network sheet 1)) (orElse (verdict (boundaryChecks network sheet)) (roomVerdict 24 (sheetText network sheet) old)))
 unfolding verdict writeChecks
 written-is network sheet old = refl
 
-pub call-told : {network sheet : List Line} {old : List ℕ} {answer : SheetAnswer} {new : List ℕ} → Told (sheetText network sheet) (verdict (writeChecks network sheet (length old))) old answer new
+pub call-told : {network sheet : List Line} {old : List ℕ} {answer : TextAnswer} {new : List ℕ} → Told (sheetText network sheet) (verdict (writeChecks network sheet (length old))) old answer new
     → WritePromises network sheet old answer new
 unfolding planFromSheet bufferAfter
 call-told {network} {sheet} {old} t = rw (t .answered, t .holds) (write-promises network sheet old)
@@ -235,14 +243,14 @@ module _ {text : List ℕ} {r : Stage} {links movements times : List ℕ} (g : J
   module _ {sheet : List Line} {old : List ℕ} where
     pub call-refused : {q : Refusal} → r ≡ stages.Refused q → WritePromises (lines text) sheet old (Refused q) old
     call-refused e =
-        call-told (rw (written-is (lines text) sheet old ∙ or-else-refused _ _ _ (verdict-refused g e)) (unfold writtenAnswer writtenBytes in record { answered = refl; holds = refl }))
+        call-told (rw (written-is (lines text) sheet old ∙ or-else-refused _ _ _ (verdict-refused g e)) (unfold textAnswer bytesAfter in record { answered = refl; holds = refl }))
 
-    pub call-written : {reading : Reading} → r ≡ stages.Passed reading → {answer : SheetAnswer} {new : List ℕ} → SheetWritten (lines text) sheet old answer new → WritePromises (lines text) sheet old answer new
+    pub call-written : {reading : Reading} → r ≡ stages.Passed reading → {answer : TextAnswer} {new : List ℕ} → SheetWritten (lines text) sheet old answer new → WritePromises (lines text) sheet old answer new
     call-written {reading} e w =
         call-told (rw (written-is (lines text) sheet old ∙ or-else-passes _ _ (passes-of-hold (networkChecks (lines text)) (g .held reading e .holds))) (w .told))
 
 -- the same of texts that differ only in padding
-pub padding-too : (network sheet : List ℕ) {old new : List ℕ} {answer : SheetAnswer} → WritePromises (lines network) (lines sheet) old answer new
+pub padding-too : (network sheet : List ℕ) {old new : List ℕ} {answer : TextAnswer} → WritePromises (lines network) (lines sheet) old answer new
     → WritePromises (lines network) (lines sheet) old answer new
     × PaddingIgnored network (λ paddedNetwork. PaddingIgnored sheet (λ paddedSheet. WritePromises (lines paddedNetwork) (lines paddedSheet) old answer new))
 padding-too network sheet got = (got, λ paddedNetwork n paddedSheet s. rw (← same-lines network paddedNetwork n, ← same-lines sheet paddedSheet s) got)

@@ -11,7 +11,6 @@ use borrow.Author.Tests.{le-leb, lt-leb, not-true, not-false, eq-eqb, ne-eqb}
 use lib.Dec.{eqb}
 use lib.ListN.{length, getD, set, length-set}
 use lib.Seq.{getD-set-same, getD-set-other}
-use lib.Pow.{pow-lt}
 use Rattle.base_search.specs.declared.Refusal.{Refusal}
 use Rattle.base_search.specs.declared.Verdict.the-variants.{Passes, Refused}
 use Rattle.base_search.specs.Checks.{refusal, Checks, check, checked, verdict}
@@ -74,9 +73,6 @@ module _ {table : List ℕ} {start phases : ℕ} {times : List ℕ} {steps r : �
 
       pub phase-few : run .phase ≤ 8
       phase-few = omega (arith, run-phase (asked .line-asked .line) (inv .at), asked .line-asked .line .few)
-
-      pub bit-byte : {m : ℕ} → m ≡ 2 ^ (run .phase - 1) → m < 256
-      bit-byte e = let l : run .phase - 1 < 8 = omega (arith, phase-few) in let x : 2 ^ (run .phase - 1) < 2 ^ 8 = pow-lt l in omega arith
 
       module _ {seconds : ℕ} (q : seconds ≡ secondsIn times n) where
         pub column-broken : run .remaining < seconds → ColumnGot value phases times steps r before false masks

@@ -3,11 +3,10 @@ use Prim.Native.Nat.{ℕ, _*_, _<_}
 use mathlib.Core.Path.{_≡_}
 use mathlib.Core.Bool.{true}
 use mathlib.Core.List.{List}
-use lib.Dec.{leb}
 use lib.ListN.{length}
 use Rattle.base_search.specs.declared.Verdict.{Verdict}
 use Rattle.base_search.specs.declared.Verdict.the-variants as verdicts
-use Rattle.base_search.specs.Checks.{orElse, checked, verdict, Hold}
+use Rattle.base_search.specs.Checks.{orElse, verdict, Hold}
 use Rattle.text_reader.specs.Lines.{Line, lines}
 use Rattle.text_reader.specs.Reading.{Starts}
 use Rattle.model.specs.Network.{tramCount, tramLine, signalLine}
@@ -20,9 +19,9 @@ use Rattle.network_tables.specs.Tables.{CountsHold}
 use Rattle.step_arrivals.specs.Times.{PlanTimes}
 use Rattle.sheet_lines.specs.Sheet.{sheetChecks}
 use Rattle.sheet_lines.specs.Reading.{sheetFields}
-use Rattle.model_sheet.specs.declared.SheetAnswer.{SheetAnswer}
+use Rattle.model_text.specs.declared.TextAnswer.{TextAnswer}
+use Rattle.model_text.specs.Answers.{roomVerdict, Told}
 use Rattle.model_sheet.specs.Cycle.{boundaryChecks, sheetText}
-use Rattle.model_sheet.specs.Calls.{writtenAnswer, writtenBytes}
 use Rattle.sheet_writer.specs.Tables.{LineAsked, TimesAsked, boundaryChecksIn, cycleText, MasksHeld, maskTableSize}
 
 -- the `T` lines of a network that has passed
@@ -45,19 +44,10 @@ pub record MasksGot (networkText : List ℕ) (counts : Counts) (signals : List �
   pub size : length masks ≡ maskTableSize
   pub held : result ≡ verdicts.Passes → MasksHeld signals table times (counts .steps) (counts .signals) masks
 
--- 24
-abbrev pub roomVerdict : List ℕ → List ℕ → Verdict
-roomVerdict text old = checked (leb (length text) (length old)) 24 0 0
-
--- a verdict was told of a text, and the buffer is as it says
-pub record Told (text : List ℕ) (v : Verdict) (old : List ℕ) (answer : SheetAnswer) (new : List ℕ) : Type 0 where
-  pub answered : answer ≡ writtenAnswer text v
-  pub holds : new ≡ writtenBytes text v old
-
 -- by the tables: 35, then 24
-pub record CyclesWritten (networkText : List ℕ) (counts : Counts) (signals : List ℕ) (table times old : List ℕ) (answer : SheetAnswer) (new : List ℕ) : Type 0 where
+pub record CyclesWritten (networkText : List ℕ) (counts : Counts) (signals : List ℕ) (table times old : List ℕ) (answer : TextAnswer) (new : List ℕ) : Type 0 where
   pub told : Told (cycleText signals table times counts)
-      (orElse (verdict (boundaryChecksIn (lines networkText) signals table times (counts .steps) (counts .signals))) (roomVerdict (cycleText signals table times counts) old)) old answer new
+      (orElse (verdict (boundaryChecksIn (lines networkText) signals table times (counts .steps) (counts .signals))) (roomVerdict 24 (cycleText signals table times counts) old)) old answer new
 
 -- a network that has passed, with the times of its plan's boundaries
 pub record NetworkAsked (text : List ℕ) (reading : Reading) (times : List ℕ) : Type 0 where
@@ -68,6 +58,6 @@ pub record NetworkAsked (text : List ℕ) (reading : Reading) (times : List ℕ)
   pub holds : Hold (networkChecks (lines text))
 
 -- on it: 33, 35, 24
-pub record SheetWritten (network sheet : List Line) (old : List ℕ) (answer : SheetAnswer) (new : List ℕ) : Type 0 where
+pub record SheetWritten (network sheet : List Line) (old : List ℕ) (answer : TextAnswer) (new : List ℕ) : Type 0 where
   pub told : Told (sheetText network sheet)
-      (orElse (verdict (sheetChecks network sheet 1)) (orElse (verdict (boundaryChecks network sheet)) (roomVerdict (sheetText network sheet) old))) old answer new
+      (orElse (verdict (sheetChecks network sheet 1)) (orElse (verdict (boundaryChecks network sheet)) (roomVerdict 24 (sheetText network sheet) old))) old answer new

@@ -9,14 +9,14 @@ use lib.Dec.{ltb}
 use lib.ListN.{length, getD}
 use Rattle.base_search.specs.Checks.{Checks, check, each}
 use Rattle.text_reader.specs.Lines.{Line}
-use Rattle.text_writer.specs.Records.{recordText, recordTexts}
+use Rattle.text_writer.specs.Records.{recordTexts}
 use Rattle.model.specs.Test.{_and_, every}
 use Rattle.model.specs.Sum.{sum, only, list}
 use Rattle.model.specs.Network.{maxSignals, maxSteps}
 use Rattle.model.specs.Table.{letterP}
 use Rattle.network_tables.specs.declared.Counts.{Counts}
-use Rattle.network_tables.specs.Places.{planWidth, Few}
-use Rattle.network_tables.specs.Fields.{timeTableSize, lineSize, tableSignal}
+use Rattle.network_tables.specs.Places.{planWidth}
+use Rattle.network_tables.specs.Fields.{timeTableSize, tableSignal}
 use Rattle.sheet_lines.specs.Reading.{sheetFields, numberIn}
 use Rattle.model_sheet.specs.Cycle.{placeAt, phaseAt, fitsAt, hasNoTram}
 use Rattle.sheet_writer.specs.declared.Run.{Run}
@@ -108,36 +108,7 @@ pub record MasksHeld (signals : List ℕ) (table times : List ℕ) (steps count 
   pub shows : (n r : ℕ) → n < steps → r < count → getD masks (8 * n + r) 0 ≡ 2 ^ (phaseIn signals table times n r - 1)
 
 -- ---- the text
--- the numbers of the `P` line of step n, by the masks, and by the cycles
-unfoldable pub numbersIn : List ℕ → Counts → ℕ → List ℕ
-numbersIn masks counts n = list (planWidth counts) (λ k. only (ltb k (counts .signals)) (getD masks (8 * n + k) 0))
-
-unfoldable pub lineIn : List ℕ → Counts → ℕ → List ℕ
-lineIn masks counts n = recordText letterP (numbersIn masks counts n)
-
-unfoldable pub textIn : List ℕ → Counts → List ℕ
-textIn masks counts = recordTexts letterP (counts .steps) (numbersIn masks counts)
-
+-- the numbers of each `P` line by the cycles: a mask for each signal, and volumes that are 0
 unfoldable pub cycleText : List ℕ → List ℕ → List ℕ → Counts → List ℕ
 cycleText signals table times counts =
     recordTexts letterP (counts .steps) (λ n. list (planWidth counts) (λ k. only (ltb k (counts .signals)) (2 ^ (phaseIn signals table times n k - 1))))
-
-pub record MasksAsked (masks : List ℕ) (counts : Counts) : Type 0 where
-  pub room : length masks ≡ maskTableSize
-  pub few : Few counts
-
-pub record NumberAsked (masks : List ℕ) (counts : Counts) (n : ℕ) : Type 0 where
-  pub masks-asked : MasksAsked masks counts
-  pub step : n < counts .steps
-
-pub record FillAsked (masks : List ℕ) (counts : Counts) (n : ℕ) (fields : List ℕ) : Type 0 where
-  pub number-asked : NumberAsked masks counts n
-  pub long : length fields ≡ lineSize
-
-pub record WriteAsked (masks : List ℕ) (counts : Counts) (n : ℕ) (out : List ℕ) (at : ℕ) : Type 0 where
-  pub number-asked : NumberAsked masks counts n
-  pub room-for : at + length (lineIn masks counts n) ≤ length out
-
-pub record TextAsked (masks : List ℕ) (counts : Counts) (out : List ℕ) : Type 0 where
-  pub masks-asked : MasksAsked masks counts
-  pub room-for : length (textIn masks counts) ≤ length out

@@ -2,24 +2,18 @@
 // is taken.
 ghost use mathlib.Core.Path.{_≡_};
 ghost use Prim.Native.Nat.{_+_, _*_, _≤_};
-ghost use lib.Dec.{ltb};
-ghost use lib.ListN.{length, getD};
+ghost use lib.ListN.{length};
 ghost use Rattle.text_reader.specs.Lines.{lines};
 ghost use Rattle.text_reader.specs.Padding.{PaddingIgnored};
-ghost use Rattle.text_reader.specs.Reading.{over};
-ghost use Rattle.text_writer.specs.Writing.{Wrote};
-ghost use Rattle.model.specs.Sum.{only};
 ghost use Rattle.model.specs.Signals.{phaseAfter};
 ghost use Rattle.sheet_lines.specs.Reading.{numberIn};
 ghost use Rattle.model_sheet.specs.Cycle.{hasNoTram};
 ghost use Rattle.model_sheet.specs.Promises.{WritePromises};
-ghost use Rattle.sheet_writer.specs.Tables.{LineAsked, RunAt, NextAsked, NextRun, secondsIn, TimesAsked, ColumnAsked, ColumnGot, numbersIn, lineIn, textIn, MasksAsked, NumberAsked, FillAsked, WriteAsked, TextAsked};
-ghost use Rattle.sheet_writer.specs.Stages.{TramsAsked, CyclesAsked, MasksGot, roomVerdict, Told, CyclesWritten, NetworkAsked, SheetWritten};
+ghost use Rattle.sheet_writer.specs.Tables.{LineAsked, RunAt, NextAsked, NextRun, secondsIn, TimesAsked, ColumnAsked, ColumnGot};
+ghost use Rattle.sheet_writer.specs.Stages.{TramsAsked, CyclesAsked, MasksGot, CyclesWritten, NetworkAsked, SheetWritten};
 use base_search::Refusal;
 use base_search::Verdict;
-use model_sheet::SheetAnswer;
-use network_tables::Counts;
-use network_tables::LINE_SIZE;
+use model_text::TextAnswer;
 use network_tables::LINK_TABLE_SIZE;
 use network_tables::MAX_SIGNALS;
 use network_tables::MAX_STEPS;
@@ -33,7 +27,7 @@ use sheet_lines::SHEET_FIELDS;
 use sheet_lines::SHEET_TABLE_SIZE;
 use text_reader::LineRead;
 
-// The masks of all steps, eight a step; a mask of eight phases fits a byte.
+// The masks of all steps, eight a step.
 const MASK_TABLE_SIZE: usize = MAX_SIGNALS * MAX_STEPS;
 
 // The run of a cycle that shows: its phase, and the seconds for which it still shows.
@@ -102,7 +96,7 @@ fn fill_column(
     times: &[u32],
     steps: usize,
     r: usize,
-    masks: &mut [u8],
+    masks: &mut [u32],
 ) -> bool
     requires { ⌜ ColumnAsked (now table) start phases (now times) steps r (now masks) ⌝ }
     ensures { λ b. ⌜ ColumnGot (numberIn (now (table .entry)) start) phases (now (times .entry)) steps r (now (masks .entry)) b (now (masks .exit)) ⌝ }
@@ -114,7 +108,7 @@ fn fill_column(
         if run.remaining < seconds {
             return false;
         }
-        masks[MAX_SIGNALS * n + r] = step_signals::mask_of(run.phase) as u8;
+        masks[MAX_SIGNALS * n + r] = step_signals::mask_of(run.phase);
         run = next_run(run, table, start, phases, seconds);
         n += 1;
     }
@@ -151,7 +145,7 @@ fn fill_masks(
     signals: &[u32],
     table: &[u32],
     times: &[u32],
-    masks: &mut [u8],
+    masks: &mut [u32],
 ) -> Verdict
     requires { ⌜ CyclesAsked (now network) reading (now signals) (now table) (now times) ⌝ }
     requires { ⌜ length (now masks) ≡ 960 ⌝ }
@@ -173,98 +167,6 @@ fn fill_masks(
     Verdict::Passes
 }
 
-// A byte as a number of 64 bits.
-fn wide(b: u8) -> u64
-    ensures { λ r. ⌜ r ≡ b ⌝ }
-{
-    b as u64
-}
-
-// Number `k` of the `P` line of step `n`: a signal's mask, or a volume, which is 0.
-fn number_at(masks: &[u8], counts: Counts, n: usize, k: usize) -> u64
-    requires { ⌜ NumberAsked (now masks) counts n ⌝ }
-    ensures { λ r. ⌜ r ≡ only (ltb k (counts .signals)) (getD (now (masks .entry)) (8 * n + k) 0) ⌝ }
-{
-    if k < counts.signals {
-        return wide(masks[MAX_SIGNALS * n + k]);
-    }
-    0
-}
-
-// The numbers of the `P` line of step `n` go to the beginning of `fields`.
-fn fill_numbers(masks: &[u8], counts: Counts, n: usize, fields: &mut [u64])
-    requires { ⌜ FillAsked (now masks) counts n (now fields) ⌝ }
-    ensures { λ _. ⌜ now (fields .exit) ≡ over (numbersIn (now (masks .entry)) counts n) (now (fields .entry)) ⌝ }
-{
-    let width = counts.plan_width();
-    let mut k = 0;
-    while k < width {
-        fields[k] = number_at(masks, counts, n, k);
-        k += 1;
-    }
-}
-
-// How long the `P` line of step `n` is.
-fn line_length(masks: &[u8], counts: Counts, n: usize) -> usize
-    requires { ⌜ NumberAsked (now masks) counts n ⌝ }
-    ensures { λ r. ⌜ r ≡ length (lineIn (now (masks .entry)) counts n) ⌝ }
-{
-    let mut fields = [0u64; LINE_SIZE];
-    fill_numbers(masks, counts, n, &mut fields);
-    let end = counts.plan_width();
-    text_writer::record_length(&fields[..end])
-}
-
-// Writes the `P` line of step `n`.
-fn write_line(masks: &[u8], counts: Counts, n: usize, out: &mut [u8], at: usize) -> usize
-    requires { ⌜ WriteAsked (now masks) counts n (now out) at ⌝ }
-    ensures { λ r. ⌜ Wrote (lineIn (now (masks .entry)) counts n) at (now (out .entry)) (now (out .exit)) r ⌝ }
-{
-    let mut fields = [0u64; LINE_SIZE];
-    fill_numbers(masks, counts, n, &mut fields);
-    let end = counts.plan_width();
-    text_writer::write_record(out, at, b'P', &fields[..end])
-}
-
-// How long the plan text is.
-fn plan_length(masks: &[u8], counts: Counts) -> usize
-    requires { ⌜ MasksAsked (now masks) counts ⌝ }
-    ensures { λ r. ⌜ r ≡ length (textIn (now (masks .entry)) counts) ⌝ }
-{
-    let mut total = 0;
-    let mut n = 0;
-    while n < counts.steps {
-        total += line_length(masks, counts, n);
-        n += 1;
-    }
-    total
-}
-
-// Writes the plan text at the beginning of a buffer that has room for it.
-fn write_lines(masks: &[u8], counts: Counts, out: &mut [u8]) -> usize
-    requires { ⌜ TextAsked (now masks) counts (now out) ⌝ }
-    ensures { λ r. ⌜ Wrote (textIn (now (masks .entry)) counts) 0 (now (out .entry)) (now (out .exit)) r ⌝ }
-{
-    let mut at = 0;
-    let mut n = 0;
-    while n < counts.steps {
-        at = write_line(masks, counts, n, out, at);
-        n += 1;
-    }
-    at
-}
-
-// Writes the plan of these masks: refusal 24 where the buffer is too short.
-fn write_masks(masks: &[u8], counts: Counts, out: &mut [u8]) -> SheetAnswer
-    requires { ⌜ MasksAsked (now masks) counts ⌝ }
-    ensures { λ r. ⌜ Told (textIn (now (masks .entry)) counts) (roomVerdict (textIn (now (masks .entry)) counts) (now (out .entry))) (now (out .entry)) r (now (out .exit)) ⌝ }
-{
-    if out.len() < plan_length(masks, counts) {
-        return SheetAnswer::Refused(Refusal::new(24, 0, 0));
-    }
-    SheetAnswer::Written(write_lines(masks, counts, out))
-}
-
 // The cycles of a sheet that has passed: refusals 35 and 24.
 fn write_cycles(
     network: &[u8],
@@ -273,14 +175,14 @@ fn write_cycles(
     table: &[u32],
     times: &[u32],
     out: &mut [u8],
-) -> SheetAnswer
+) -> TextAnswer
     requires { ⌜ CyclesAsked (now network) reading (now signals) (now table) (now times) ⌝ }
     ensures { λ r. ⌜ CyclesWritten (now (network .entry)) (reading .counts) (now (signals .entry)) (now (table .entry)) (now (times .entry)) (now (out .entry)) r (now (out .exit)) ⌝ }
 {
-    let mut masks = [0u8; MASK_TABLE_SIZE];
+    let mut masks = [0u32; MASK_TABLE_SIZE];
     match fill_masks(network, reading, signals, table, times, &mut masks) {
-        Verdict::Passes => write_masks(&masks, reading.counts, out),
-        Verdict::Refused(refusal) => SheetAnswer::Refused(refusal),
+        Verdict::Passes => network_writer::write_plan(&masks, MAX_SIGNALS, reading.counts, out),
+        Verdict::Refused(refusal) => TextAnswer::Refused(refusal),
     }
 }
 
@@ -291,7 +193,7 @@ fn write_on_network(
     sheet: &[u8],
     times: &[u32],
     out: &mut [u8],
-) -> SheetAnswer
+) -> TextAnswer
     requires { ⌜ NetworkAsked (now network) reading (now times) ⌝ }
     ensures { λ r. ⌜ SheetWritten (lines (now (network .entry))) (lines (now (sheet .entry))) (now (out .entry)) r (now (out .exit)) ⌝ }
 {
@@ -301,12 +203,12 @@ fn write_on_network(
     network_signals::load_signals(network, reading, &mut signals);
     match sheet_lines::read_sheet(sheet, &signals, counts.signals, 1, &mut table) {
         Verdict::Passes => write_cycles(network, reading, &signals, &table, times, out),
-        Verdict::Refused(refusal) => SheetAnswer::Refused(refusal),
+        Verdict::Refused(refusal) => TextAnswer::Refused(refusal),
     }
 }
 
 // The plan text of a sheet with offsets: refusals 1 to 6, 28 and 30, then 33, 35 and 24.
-pub fn plan_from_sheet(network: &[u8], sheet: &[u8], out: &mut [u8]) -> SheetAnswer
+pub fn plan_from_sheet(network: &[u8], sheet: &[u8], out: &mut [u8]) -> TextAnswer
     ensures { λ r. ⌜ WritePromises (lines (now (network .entry))) (lines (now (sheet .entry))) (now (out .entry)) r (now (out .exit)) ⌝ }
     ensures { λ r. ⌜ PaddingIgnored (now (network .entry)) (λ paddedNetwork. PaddingIgnored (now (sheet .entry)) (λ paddedSheet. WritePromises (lines paddedNetwork) (lines paddedSheet) (now (out .entry)) r (now (out .exit)))) ⌝ }
 {
@@ -319,6 +221,6 @@ pub fn plan_from_sheet(network: &[u8], sheet: &[u8], out: &mut [u8]) -> SheetAns
             step_arrivals::from_start(&mut times, counts.past, counts.steps);
             write_on_network(network, reading, sheet, &times, out)
         }
-        Stage::Refused(refusal) => SheetAnswer::Refused(refusal),
+        Stage::Refused(refusal) => TextAnswer::Refused(refusal),
     }
 }

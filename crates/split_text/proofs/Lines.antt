@@ -23,6 +23,7 @@ use Rattle.network_writer.specs.Reading.{ReadAgain}
 use Rattle.network_writer.specs.Texts.{lineTexts}
 use Rattle.network_writer.proofs.Put.{part-size}
 use Rattle.network_writer.proofs.Reading.{numbers-are}
+use Rattle.network_writer.proofs.Trams.{TramsTo, trams-begin, tram-field, trams-on}
 use Rattle.model_split.specs.Numbering.{rank}
 use Rattle.model_split.specs.Halves.{inField}
 use Rattle.split_tables.specs.Tables.{signalsAt, movementsAt, halfSize, isIn}
@@ -47,11 +48,6 @@ unfolding countRow
 counts-put counts trams half e f g p = rw (e, f, g) at p
 
 -- ---- the `T` lines: k are read
-pub record TramsTo (text : List ℕ) (count : ℕ) (tram : List ℕ) (line k : ℕ) : Type 0 where
-  pub few : k ≤ count
-  pub size : length tram ≡ tramFields
-  pub starts : Starts text line (tramLine (lines text) k)
-
 pub record TramsFound (text : List ℕ) (count : ℕ) (half tram : List ℕ) (line found k : ℕ) : Type 0 where
   pub at-line : TramsTo text count tram line k
   pub found-is : found ≡ rank (tramIn (lines text) half) k
@@ -62,23 +58,16 @@ pub record TramsPut (text : List ℕ) (count : ℕ) (half tram : List ℕ) (line
   pub picks : PickedTo letterT (tramIn (lines text) half) (tramRow (lines text) half) count at old out end k
 
 module _ {text : List ℕ} {from count : ℕ} {half : List ℕ} (a : TramsAsked text from count half) where
-  trams-begin : {tram : List ℕ} → length tram ≡ tramFields → TramsTo text count tram from 0
-  trams-begin l = record { few = omega arith; size = l; starts = a .starts }
-
   pub found-none : {tram : List ℕ} → length tram ≡ tramFields → TramsFound text count half tram from 0 0
   unfolding rank
-  found-none l = record { at-line = trams-begin l; found-is = refl; small = omega arith }
+  found-none l = record { at-line = trams-begin (a .passed) l; found-is = refl; small = omega arith }
 
   pub trams-none : {tram : List ℕ} (at : ℕ) (old : List ℕ) → length tram ≡ tramFields → TramsPut text count half tram from at old old at 0
-  trams-none at old l = record { at-line = trams-begin l; picks = picks-none }
+  trams-none at old l = record { at-line = trams-begin (a .passed) l; picks = picks-none }
 
   module _ {tram : List ℕ} {line k : ℕ} (t : TramsTo text count tram line k) (h : k < count) {next : ℕ} {tram′ : List ℕ} (r : ReadAgain letterT tramFields text line tram next tram′) where
     field : (f : ℕ) → f < tramFields → getD tram′ f 0 ≡ entry (lines text) (tramLine (lines text) k) f
-    field f l = let z : f ≡ 0 + f = omega arith in ap (λ x. getD tram′ x 0) z ∙ r .held (tramLine (lines text) k) (t .starts) (a .forms k h) .numbers f l
-
-    trams-on : TramsTo text count tram′ next (k + 1)
-    unfolding tramLine
-    trams-on = record { few = omega arith; size = r .size ∙ t .size; starts = let e : 1 + (k + 1) ≡ suc (1 + k) = omega arith in rw e (r .held (tramLine (lines text) k) (t .starts) (a .forms k h) .starts) }
+    field = tram-field (a .passed) t h r
 
     pub signal-named : {s : ℕ} → s ≡ getD tram′ 0 0 → (s ≤ maxSignals) × (length half ≡ halfSize)
     signal-named e = (omega (arith, field 0 (omega arith), a .signals k h), a .half-size)
@@ -89,12 +78,12 @@ module _ {text : List ℕ} {from count : ℕ} {half : List ℕ} (a : TramsAsked 
 
       pub found-next : {found one y : ℕ} → found ≡ rank (tramIn (lines text) half) k → found ≤ k → one ≡ only (not (eqb x 0)) 1 → one ≤ 1 → y ≡ one → TramsFound text count half tram′ next (found + y) (k + 1)
       unfolding rank tramIn
-      found-next f l o m q = record { at-line = trams-on; found-is = rw (add-one k, q, o, f, ← number-is) refl; small = omega arith }
+      found-next f l o m q = record { at-line = trams-on (a .passed) t h r; found-is = rw (add-one k, q, o, f, ← number-is) refl; small = omega arith }
 
       pub trams-next : {at mid end : ℕ} {old out new : List ℕ} → PickedTo letterT (tramIn (lines text) half) (tramRow (lines text) half) count at old out mid k
           → Put 1 (lineTexts letterT (cond (not (eqb x 0)) ((x ∷ getD tram′ 1 0 ∷ getD tram′ 2 0 ∷ getD tram′ 3 0 ∷ []) ∷ []) [])) mid out new end → TramsPut text count half tram′ next at old new end (k + 1)
       trams-next p q =
-          record { at-line = trams-on; picks = picks-next p h (unfold tramIn tramRow in (rw (field 1 (omega arith), field 2 (omega arith), field 3 (omega arith), number-is) at q)) }
+          record { at-line = trams-on (a .passed) t h r; picks = picks-next p h (unfold tramIn tramRow in (rw (field 1 (omega arith), field 2 (omega arith), field 3 (omega arith), number-is) at q)) }
 
 pub found-all : {text : List ℕ} {count : ℕ} {half tram : List ℕ} {line found k : ℕ} → TramsFound text count half tram line found k → count ≤ k
     → (found ≡ rank (tramIn (lines text) half) count) × (found ≤ count)

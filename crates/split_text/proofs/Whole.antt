@@ -62,9 +62,7 @@ module _ {networkText planText : List ℕ} {reading : Reading} {signals links mo
   trams-asked =
       let c = a .held .counted in
       record {
-        starts = a .trams-start;
-        few = few .trams;
-        forms = λ k l. formed .tram-forms k (omega (arith, c .trams));
+        passed = record { starts = a .trams-start; few = few .trams; forms = λ k l. formed .tram-forms k (omega (arith, c .trams)) };
         signals = λ k l. omega (arith, named-signal (a .held .holds) (a .one) k (omega (arith, c .trams)), c .signals, few .signals);
         half-size = a .one .table .size;
       }

@@ -9,11 +9,12 @@ use Rattle.text_reader.specs.Lines.{Line, lines}
 use Rattle.text_reader.specs.Reading.{Starts}
 use Rattle.model.specs.Sum.{list}
 use Rattle.model.specs.Network.{maxLinks, maxSignals, maxTrams, entry, tramLine, signalLine, signal}
-use Rattle.model.specs.Table.{isForm, letterT, letterG}
+use Rattle.model.specs.Table.{isForm, letterG}
 use Rattle.network_tables.specs.declared.Counts.{Counts}
 use Rattle.network_tables.specs.Places.{Few}
-use Rattle.network_tables.specs.Fields.{tramFields, signalTableSize, tableSignal, linkTableSize, capacityIn, travelTimeIn, exitRateIn, signalIn, phaseMaskIn, standingIn, waitingAtStartIn, linkIn, rateIn, shareIn}
+use Rattle.network_tables.specs.Fields.{signalTableSize, tableSignal, linkTableSize, capacityIn, travelTimeIn, exitRateIn, signalIn, phaseMaskIn, standingIn, waitingAtStartIn, linkIn, rateIn, shareIn}
 use Rattle.network_writer.specs.Put.{Early}
+use Rattle.network_writer.specs.Trams.{TramLines}
 use Rattle.model_split.specs.Numbering.{rank}
 use Rattle.model_split.specs.Halves.{inField}
 use Rattle.split_tables.specs.Tables.{signalsAt, movementsAt, halfSize, isIn}
@@ -60,9 +61,7 @@ pub record CountsAsked (counts : Counts) (trams : ℕ) (half : List ℕ) : Type 
 
 -- `T` lines that have passed, and name signals
 pub record TramsAsked (text : List ℕ) (from count : ℕ) (half : List ℕ) : Type 0 where
-  pub starts : Starts text from (tramLine (lines text) 0)
-  pub few : count ≤ maxTrams
-  pub forms : (k : ℕ) → k < count → isForm (lines text) (tramLine (lines text) k) letterT tramFields ≡ true
+  pub passed : TramLines text from count
   pub signals : (k : ℕ) → k < count → entry (lines text) (tramLine (lines text) k) 0 ≤ maxSignals
   pub half-size : length half ≡ halfSize
 

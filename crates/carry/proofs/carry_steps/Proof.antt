@@ -1,7 +1,7 @@
 -- `carry::carry_steps` meets its contract: one law for each way out. Assumes nothing.
 use mathlib.Core.Path.{sym, _∙_}
 use native.Mathlib.Omega.{arith}
-use Rattle.carry.proofs.Carrying.{not-true, not-false, steps-asked, step-refused, more-lines, write-asked, carried-written, carried-short}
+use Rattle.carry.proofs.Carrying.{not-true, not-false, steps-asked, step-refused, more-lines, write-asked, carried-told}
 use borrow.Author.Needs.{needs}
 use Rattle.carry.proofs.carry_steps.Statement.{statement}
 use Rattle.carry.proofs.carry_steps.Tie as tie
@@ -25,10 +25,7 @@ write-carried-requires : tie.Need-write-carried-requires
 write-carried-requires c κs = write-asked _ (c .before .before .before .before .before .before .before .before .before .before .before .before .before .before .before .before .before .before .before .before .before .before .before .before .before .args .plan .now) _ (c .before .before .before .before .before .before .before .before .before .before .before .before .before .before .before .before .before .before .before .before .before .before .before .before .before .args .carried .now) (c .before .before .before .before .before .before .before .before .before .before .before .before .before .before .before .before .before .before .before .before .before .before .before .before .before .pre) (c .before .before .before .before .before .before .before .before .before .before .before .before .before .take-steps .ensures) (c .before .before .before .before .before .before .enum-told .given .1) (c .before .before .before .before .before .before .before .before .before .before .before .before .before .take-steps .kept .1 .1 .1 .1 .1 .1 .1 .1 .1 .0)
 
 returns-3 : tie.Need-returns-3
-returns-3 c = carried-written _ _ _ _ (c .before .before .before .before .before .before .before .before .before .before .before .before .before .before .before .before .before .before .before .before .before .before .before .before .before .before .before .before .before .before .before .pre) (c .before .before .before .before .before .before .before .before .before .before .before .before .before .before .before .before .before .before .before .take-steps .ensures) (c .before .before .before .before .before .before .before .before .before .before .before .before .enum-told .given .1) (sym (c .before .before .before .before .before .before .before .before .before .before .before .is-end .ensures) ∙ not-false _ (c .before .before .before .before .before .before .before .before .before .before .if1 .left)) (c .before .before .before .before .before .write-carried .ensures) (c .before .length .given .1)
-
-returns-4 : tie.Need-returns-4
-returns-4 c = rw (c .new2 .ensures) (carried-short _ _ _ _ (c .before .before .before .before .before .before .before .before .before .before .before .before .before .before .before .before .before .before .before .before .before .before .before .before .before .before .before .before .before .before .before .pre) (c .before .before .before .before .before .before .before .before .before .before .before .before .before .before .before .before .before .before .before .take-steps .ensures) (c .before .before .before .before .before .before .before .before .before .before .before .before .enum-told .given .1) (sym (c .before .before .before .before .before .before .before .before .before .before .before .is-end .ensures) ∙ not-false _ (c .before .before .before .before .before .before .before .before .before .before .if1 .left)) (c .before .before .before .before .before .write-carried .ensures) (c .before .enum-told2 .given .1))
+returns-3 c = carried-told _ _ _ _ (c .before .before .before .before .before .before .before .before .before .before .before .before .before .before .before .before .before .before .before .before .before .before .before .before .before .before .before .before .pre) (c .before .before .before .before .before .before .before .before .before .before .before .before .before .before .before .before .take-steps .ensures) (c .before .before .before .before .before .before .before .before .before .enum-told .given .1) (sym (c .before .before .before .before .before .before .before .before .is-end .ensures) ∙ not-false _ (c .before .before .before .before .before .before .before .if1 .left)) (c .before .before .write-carried .ensures)
 
 pub carry-steps-spec : {M : Type 1} → statement M
 carry-steps-spec =
@@ -51,12 +48,5 @@ carry-steps-spec =
     write-carried-requires
     (λ c. search needs)
     (λ c. search needs)
-    (λ c κs. search needs)
     (λ c. search needs)
-    (λ c. search needs)
-    (λ c. search needs)
-    returns-3
-    (λ c. search needs)
-    (λ c. search needs)
-    (λ c. search needs)
-    returns-4)
+    returns-3)

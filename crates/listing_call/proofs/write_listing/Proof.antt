@@ -9,8 +9,8 @@ use Rattle.listing_call.proofs.write_listing.Tie as tie
 read-listing-requires : tie.Need-read-listing-requires
 read-listing-requires c κs = empty-asked numberTableSize seenSize _ _ _ refl refl (c .before .before .before .before .before .before .pre)
 
-write-stored-requires : tie.Need-write-stored-requires
-write-stored-requires c κs = write-kept _ _ _ _ _ _ _ (c .before .before .before .before .before .before .read-listing .ensures) (c .before .before .before .before .before .before .before .before .before .before .before .before .before .pre) (c .before .before .enum-told .given .1)
+write-plan-requires : tie.Need-write-plan-requires
+write-plan-requires c κs = write-kept _ _ _ _ _ _ _ (c .before .before .before .before .before .before .read-listing .ensures) (c .before .before .before .before .before .before .before .before .before .before .before .before .before .pre) (c .before .before .enum-told .given .1)
 
 returns : tie.Need-returns
 returns c = search write-passed
@@ -27,7 +27,7 @@ write-listing-spec =
     read-listing-requires
     (λ c. search needs)
     (λ c. search needs)
-    write-stored-requires
+    write-plan-requires
     (λ c. search needs)
     (λ c. search needs)
     returns

@@ -1,7 +1,7 @@
 -- `sheet_writer::fill_column` meets its contract. The loop's invariant: the first n steps fit, and their masks are set. Assumes nothing.
 use Prim.Native.Nat.{_-_}
 use Rattle.sheet_lines.specs.Reading.{numberIn}
-use Rattle.sheet_writer.proofs.Columns.{ColumnTo, column-none, place-inside, phase-few, bit-byte, column-broken, column-asked, column-more, column-all}
+use Rattle.sheet_writer.proofs.Columns.{ColumnTo, column-none, place-inside, phase-few, column-broken, column-asked, column-more, column-all}
 use borrow.Author.Needs.{needs}
 use Rattle.sheet_writer.proofs.fill_column.Statement.{statement}
 use Rattle.sheet_writer.proofs.fill_column.Tie as tie
@@ -20,9 +20,6 @@ returns c = search (column-broken, needs)
 
 mask-of-requires : tie.Need-mask-of-requires Inv-loop μ-loop
 mask-of-requires c κs = search (phase-few, needs)
-
-cast-masks : tie.Need-cast-masks Inv-loop μ-loop
-cast-masks c = search (bit-byte, needs)
 
 slice-write-masks : tie.Need-slice-write-masks Inv-loop μ-loop
 slice-write-masks c = search (place-inside, needs)
@@ -48,7 +45,7 @@ fill-column-spec =
     (λ c. search needs)
     returns
     mask-of-requires
-    cast-masks
+    (λ c. search needs)
     (λ c. search needs)
     (λ c. search needs)
     slice-write-masks

@@ -4,8 +4,8 @@ use borrow.Author.Needs.{needs}
 use Rattle.sheet_writer.proofs.write_cycles.Statement.{statement}
 use Rattle.sheet_writer.proofs.write_cycles.Tie as tie
 
-write-masks-requires : tie.Need-write-masks-requires
-write-masks-requires c κs = search (masks-asked, needs)
+write-plan-requires : tie.Need-write-plan-requires
+write-plan-requires c κs = search (masks-asked, needs)
 
 returns : tie.Need-returns
 returns c = search (cycles-written, needs)
@@ -21,7 +21,7 @@ write-cycles-spec =
     (λ c κs. search needs)
     (λ c. search needs)
     (λ c. search needs)
-    write-masks-requires
+    write-plan-requires
     (λ c. search needs)
     (λ c. search needs)
     returns
