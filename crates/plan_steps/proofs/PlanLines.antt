@@ -36,7 +36,7 @@ shown-at networkText planText valid {n} more signals-at empty r l =
 module _ (networkText planText : List ℕ) {counts : Counts} (valid : ValidNetwork (lines networkText)) (counted : CountsHold (lines networkText) counts) {n at : ℕ} {signals : List ℕ}
     (more : n < stepCount (lines networkText)) (starts : 0 < length planText → Starts planText at n)
     (shown : length planText ≡ 0 → (r : ℕ) → r < signalCount (lines networkText) → tableSignal signals r .shown ≡ signal (lines networkText) r .shown)
-    {before line : List ℕ} {result : LineRead} (zeros : (k : ℕ) → getD before k 0 ≡ 0) (size : length before ≡ lineSize) (got : LineGot planText at signals counts before result line) where
+    {before line : List ℕ} {result : LineRead} (zeros : length planText ≡ 0 → (k : ℕ) → signalCount (lines networkText) ≤ k → getD before k 0 ≡ 0) (size : length before ≡ lineSize) (got : LineGot planText at signals counts before result line) where
   abbrev net : List Line
   net = lines networkText
 
@@ -57,7 +57,7 @@ module _ (networkText planText : List ℕ) {counts : Counts} (valid : ValidNetwo
           size = got .held empty .size ∙ size;
           holds = λ k l. elim (decLt k (signalCount net)) [
             | yes u ↦ got .held empty .held k (omega (arith, counted .signals)) ∙ ap (λ x. 2 ^ (x - 1)) (shown empty k u) ∙ rw is-hold (sym (hold-mask net n k more u))
-            | no u ↦ got .held empty .kept k (omega (arith, counted .signals)) ∙ zeros k ∙ rw is-hold (sym (hold-volume net n k more (omega arith) l))
+            | no u ↦ got .held empty .kept k (omega (arith, counted .signals)) ∙ zeros empty k (omega arith) ∙ rw is-hold (sym (hold-volume net n k more (omega arith) l))
           ];
         }
 

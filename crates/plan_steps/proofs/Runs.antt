@@ -3,7 +3,7 @@ use Prim.Native.Nat.{ℕ, zero, suc, _+_, _*_, _-_, _≤_, _<_}
 use mathlib.Core.Path.{_≡_, refl, sym, ap, _∙_}
 use mathlib.Core.Bool.{Bool, true, false, cond}
 use mathlib.Core.List.{List, []}
-use native.Mathlib.Decide.{decLe}
+use native.Mathlib.Decide.{decLe, decLt}
 use native.Mathlib.Nat.{mul-le-mul-right}
 use native.Mathlib.Numerals.{add-one}
 use native.Mathlib.Omega.{arith}
@@ -35,7 +35,7 @@ use Rattle.network_tables.specs.declared.Counts.{Counts}
 use Rattle.network_tables.specs.declared.Reading.{Reading}
 use Rattle.network_tables.specs.Tables.{SignalTable, TramTable}
 use Rattle.network_tables.proofs.Tables.{travel-time-at}
-use Rattle.network_tables.specs.Fields.{tramTableSize, rowSize}
+use Rattle.network_tables.specs.Fields.{tramTableSize, stepSize, lineSize, rowSize}
 use Rattle.network_trams.specs.Claims.{LoadAsked}
 use Rattle.step_arrivals.proofs.Boundaries.{cursor-on}
 use Rattle.step_past.specs.Curves.{PastAsked, PastLoaded}
@@ -92,6 +92,13 @@ module _ (plan : List ℕ) (at steps : ℕ) (t : Totals) (b : Bool) (e : b ≡ a
   pub finish-more : b ≡ false → plan-answer.Refused (refusal 9 (steps + 1) 0) ≡ finished plan at steps t
   unfolding finished
   finish-more h = rw (← e, h)
+
+-- a table of zeros has no other number, at any place
+no-number : (n k : ℕ) → _≡_ {A = ℕ} (getD (replicate n 0) k 0) 0
+no-number n k = elim (decLt k n) [
+  | yes h ↦ getD-replicate {A = ℕ} n k 0 0 h
+  | no h ↦ List·getD-eq-default (replicate n 0) 0 (omega (arith, length-replicate {A = ℕ} n 0))
+]
 
 -- ---- the first steps
 module _ {networkText planText : List ℕ} {reading : Reading} {steps : ℕ} {links movements times signals₀ waiting₀ old : List ℕ} (a : StepsAsked networkText planText reading steps links movements times signals₀ waiting₀ old) where
@@ -189,7 +196,7 @@ module _ {networkText planText : List ℕ} {reading : Reading} {steps : ℕ} {li
             verdict = Passes;
             state =
                 record { boundary = 0; «step_at» = reading .«steps_at»; «plan_at» = 0; totals = record { admitted = 0; «let_out» = 0; inside = held; «doubled_time» = 0 }; outside = out };
-          }) signals arrivals curves places waiting ledger
+          }) signals arrivals curves places waiting ledger (replicate stepSize 0) (replicate lineSize 0)
       running-first held e out o signals table trams-held =
           record {
             tables = a .tables;
@@ -208,6 +215,7 @@ module _ {networkText planText : List ℕ} {reading : Reading} {steps : ℕ} {li
               curves-at = loaded .curves-at fits;
               rows = since-self;
             };
+            lent = record { step-size = length-replicate {A = ℕ} stepSize 0; line-size = length-replicate {A = ℕ} lineSize 0; no-volume = λ empty k l. no-number lineSize k };
             few-steps = a .few-steps;
             within = omega arith;
             since = since-self;
@@ -215,8 +223,8 @@ module _ {networkText planText : List ℕ} {reading : Reading} {steps : ℕ} {li
             room = omega (arith, loaded .size, a .room);
           }
 
-module _ {networkText planText : List ℕ} {counts : Counts} {steps : ℕ} {trams links movements times old : List ℕ} {taken : Taken} {signals arrivals curves places waiting ledger : List ℕ}
-    (r : Running networkText planText counts steps trams links movements times old taken signals arrivals curves places waiting ledger) where
+module _ {networkText planText : List ℕ} {counts : Counts} {steps : ℕ} {trams links movements times old : List ℕ} {taken : Taken} {signals arrivals curves places waiting ledger step line : List ℕ}
+    (r : Running networkText planText counts steps trams links movements times old taken signals arrivals curves places waiting ledger step line) where
   abbrev net : List Line
   net = lines networkText
 
@@ -226,17 +234,18 @@ module _ {networkText planText : List ℕ} {counts : Counts} {steps : ℕ} {tram
   abbrev n : ℕ
   n = taken .state .boundary
 
-  pub running-asked : n < steps → StepAsked networkText planText counts trams links movements times signals arrivals curves places waiting ledger (taken .state)
+  pub running-asked : n < steps → StepAsked networkText planText counts trams links movements times signals arrivals curves places waiting ledger step line (taken .state)
   running-asked h =
       record {
         tables = r .tables;
         tram-table = r .tram-table;
         state-at = r .state-at;
         more = omega (arith, r .few-steps);
+        lent = r .lent;
         room = let m : suc (suc n) ≤ suc steps = omega arith in omega (arith, r .room, r .long, mul-le-mul-right (2 * linkCount net) m);
       }
 
-  module _ {after : Taken} {signals′ arrivals′ curves′ places′ waiting′ ledger′ : List ℕ} (got : StepGot networkText planText ledger (taken .state) after signals′ arrivals′ curves′ places′ waiting′ ledger′) (h : n < steps) where
+  module _ {after : Taken} {signals′ arrivals′ curves′ places′ waiting′ ledger′ step′ line′ : List ℕ} (got : StepGot networkText planText ledger (taken .state) after signals′ arrivals′ curves′ places′ waiting′ ledger′ step′ line′) (h : n < steps) where
     -- a step is refused
     pub steps-stopped : {q : Refusal} → after .verdict ≡ Refused q → StepsGot networkText planText old steps after signals′ waiting′ ledger′
     steps-stopped {q} e =
@@ -246,7 +255,7 @@ module _ {networkText planText : List ℕ} {counts : Counts} {steps : ℕ} {tram
         }
 
     -- it passes
-    pub running-next : after .verdict ≡ Passes → Running networkText planText counts steps trams links movements times old after signals′ arrivals′ curves′ places′ waiting′ ledger′
+    pub running-next : after .verdict ≡ Passes → Running networkText planText counts steps trams links movements times old after signals′ arrivals′ curves′ places′ waiting′ ledger′ step′ line′
     running-next e =
         let m : after .state .boundary ≡ suc n = got .boundary e ∙ add-one n in
         let w = got .row-more e in
@@ -255,6 +264,7 @@ module _ {networkText planText : List ℕ} {counts : Counts} {steps : ℕ} {tram
           tram-table = r .tram-table;
           passes = e;
           state-at = got .reached e;
+          lent = got .lent e;
           few-steps = r .few-steps;
           within = omega (arith, m);
           since = rw m (w ∙ ap (λ x. written net pln x (suc (suc n))) (r .since) ∙ written-again net pln old (suc n) (suc (suc n)) (omega arith));

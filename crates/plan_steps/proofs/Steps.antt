@@ -6,9 +6,9 @@ use mathlib.Core.Logic.{_⊎_, inl, inr}
 use mathlib.Core.List.{List, _++_}
 use native.Mathlib.Numerals.{add-one}
 use native.Mathlib.Nat.{eq-or-lt-of-le, mul-le-mul-right}
-use native.Mathlib.Decide.{decLe, decLt}
+use native.Mathlib.Decide.{decLe}
 use native.Mathlib.Omega.{arith}
-use lib.ListN.{length, getD, take, drop, replicate, length-append, length-drop, replicate, length-replicate, getD-replicate, List·getD-eq-default, length-replicate, getD-replicate}
+use lib.ListN.{length, take, drop, replicate, length-append, length-drop, length-replicate, getD-replicate}
 use lib.Seq.{length-take-le}
 use Rattle.base_search.specs.declared.Refusal.{Refusal}
 use Rattle.base_search.specs.declared.Verdict.{Verdict}
@@ -33,7 +33,7 @@ use Rattle.model.proofs.Bounds.{KeepsLimits, lawful-limits, entered-word, left-
 use Rattle.model.proofs.Phases.{phase-of-le}
 use Rattle.model.proofs.Shown.{same-phases}
 use Rattle.network_tables.specs.declared.Counts.{Counts}
-use Rattle.network_tables.specs.Fields.{tramFields, tramTableSize, tableSignal, lineSize, stepSize, rowSize, lengthIn}
+use Rattle.network_tables.specs.Fields.{tramFields, tramTableSize, tableSignal, rowSize, lengthIn}
 use Rattle.network_tables.specs.Tables.{CountsHold, TramTable, StepNumbers, PlanNumbers}
 use Rattle.network_tables.proofs.Tables.{travel-time-at, shown-mask-at}
 use Rattle.step_arrivals.specs.Arrivals.{ArrivalTable}
@@ -60,7 +60,7 @@ use Rattle.step_check.specs.Step.{rowFrom, madeRow, JudgeAsked, Judged}
 use Rattle.step_check.proofs.Texts.{rules-are}
 use Rattle.plan_steps.specs.declared.State.{State}
 use Rattle.plan_steps.specs.PlanLine.{LineAsked, LineGot}
-use Rattle.plan_steps.specs.State.{StateAt, NextAsked, NextGot, StepAsked, StepGot}
+use Rattle.plan_steps.specs.State.{StateAt, NextAsked, NextGot, LinesLent, StepAsked, StepGot}
 use Rattle.plan_steps.proofs.Adding.{passed-lawful, totals-asked, totals-next}
 use Rattle.plan_steps.proofs.PlanLines.{shown-at, line-bad, line-numbers, line-good, next-starts}
 use Rattle.plan_steps.proofs.Ledger.{written-again}
@@ -123,8 +123,8 @@ module _ (network plan : List Line) (n : ℕ) (signals signals′ phases claims 
   pub signals-next : SignalsAt network plan (suc n) signals′
   signals-next = record { size = moved .size; holds = stepped; ready = λ r l. rw (stepped r l) (ready-next r l) }
 
-module _ {networkText planText : List ℕ} {counts : Counts} {table links movements times signals arrivals curves places waiting ledger : List ℕ} {state : State}
-    (asked : StepAsked networkText planText counts table links movements times signals arrivals curves places waiting ledger state) where
+module _ {networkText planText : List ℕ} {counts : Counts} {table links movements times signals arrivals curves places waiting ledger step₀ line₀ : List ℕ} {state : State}
+    (asked : StepAsked networkText planText counts table links movements times signals arrivals curves places waiting ledger step₀ line₀ state) where
   abbrev net : List Line
   net = lines networkText
 
@@ -143,11 +143,11 @@ module _ {networkText planText : List ℕ} {counts : Counts} {table links moveme
   pub step-few : n < maxSteps
   step-few = omega (arith, asked .more, counted .steps, counted .few .steps)
 
-  pub line-asked : {line : List ℕ} → length line ≡ lineSize → LineAsked signals counts line
-  line-asked size = record { few = counted .few; signals-size = asked .state-at .signals-at .size; ready = λ r l. asked .state-at .signals-at .ready r (omega (arith, counted .signals)); size = size }
+  pub line-asked : LineAsked signals counts line₀
+  line-asked = record { few = counted .few; signals-size = asked .state-at .signals-at .size; ready = λ r l. asked .state-at .signals-at .ready r (omega (arith, counted .signals)); size = asked .lent .line-size }
 
-  pub load-asked : {step : List ℕ} → length step ≡ stepSize → LoadAsked networkText (state .«step_at») (counts .links) step
-  load-asked size = load-ready networkText (state .«step_at») n (counts .links) (asked .state-at .step-starts) (counted .links) (step-form net (asked .tables .holds) n (asked .more)) (counted .few .links) size
+  pub load-asked : LoadAsked networkText (state .«step_at») (counts .links) step₀
+  load-asked = load-ready networkText (state .«step_at») n (counts .links) (asked .state-at .step-starts) (counted .links) (step-form net (asked .tables .holds) n (asked .more)) (counted .few .links) (asked .lent .step-size)
 
   pub tram-asked : ClaimsAsked table (counts .trams) n (replicate maxSignals 0)
   tram-asked = claims-ready (asked .tram-table) counted (valid .trams) step-few (length-replicate {A = ℕ} maxSignals 0) (λ r l. getD-replicate {A = ℕ} maxSignals r 0 0 l)
@@ -181,42 +181,33 @@ module _ {networkText planText : List ℕ} {counts : Counts} {table links moveme
   pub add-asked : {stepEnd : ℕ} {step : List ℕ} → Loaded networkText (state .«step_at») (counts .links) stepEnd step → AddAsked (counts .links) waiting step
   add-asked loaded = add-ready counted (asked .tables .holds) (asked .more) (asked .state-at .waiting-at) (step-numbers loaded)
 
-  module _ {stepEnd : ℕ} {step₀ step : List ℕ} (loaded : Loaded networkText (state .«step_at») (counts .links) stepEnd step₀) (added : Offers (counts .links) waiting step₀ step) where
+  module _ {stepEnd : ℕ} {demands step : List ℕ} (loaded : Loaded networkText (state .«step_at») (counts .links) stepEnd demands) (added : Offers (counts .links) waiting demands step) where
     offers : StepOffers net pln n step
     offers = step-offers counted (asked .state-at .waiting-at) (step-numbers loaded) added
 
     short : lengthIn step ≤ 60
     short = omega (arith, offers .lasts, step-limits net valid n (asked .more) .length-limit)
 
-    module _ {result : LineRead} {line₀ line : List ℕ} (zeros : line₀ ≡ replicate lineSize 0)
-        (read : LineGot planText (state .«plan_at») signals counts line₀ result line) where
-      no-number : (k : ℕ) → getD line₀ k 0 ≡ 0
-      no-number k = elim (decLt k lineSize) [
-        | yes h ↦ ap (λ l. getD l k 0) zeros ∙ getD-replicate {A = ℕ} lineSize k 0 0 h
-        | no h ↦ List·getD-eq-default line₀ 0 (omega (arith, ap length zeros, length-replicate {A = ℕ} lineSize 0))
-      ]
-
-      size : length line₀ ≡ lineSize
-      size = ap length zeros ∙ length-replicate {A = ℕ} lineSize 0
-
+    module _ {result : LineRead} {line : List ℕ} (read : LineGot planText (state .«plan_at») signals counts line₀ result line) where
       -- the line has not the form of a `P` line
-      pub step-malformed : result ≡ Malformed → StepGot networkText planText ledger state (record { verdict = Refused (refusal 9 (n + 1) 0); state = state }) signals arrivals curves places waiting ledger
+      pub step-malformed : result ≡ Malformed → StepGot networkText planText ledger state (record { verdict = Refused (refusal 9 (n + 1) 0); state = state }) signals arrivals curves places waiting ledger step line
       step-malformed e =
-          let v = line-malformed net pln n (line-bad networkText planText valid counted (asked .more) (asked .state-at .plan-starts) (shown-at networkText planText valid (asked .more) (asked .state-at .signals-at)) no-number size read e) in
+          let v = line-malformed net pln n (line-bad networkText planText valid counted (asked .more) (asked .state-at .plan-starts) (shown-at networkText planText valid (asked .more) (asked .state-at .signals-at)) (asked .lent .no-volume) (asked .lent .line-size) read e) in
           record {
             told = rw (add-one n) (sym v);
             kept = λ r q. refl;
             boundary = λ p. let z : _≡_ {A = ℕ} 0 1 = cc in absurd (omega arith);
+            lent = λ p. let z : _≡_ {A = ℕ} 0 1 = cc in absurd (omega arith);
             reached = λ p. let z : _≡_ {A = ℕ} 0 1 = cc in absurd (omega arith);
             row-more = λ p. let z : _≡_ {A = ℕ} 0 1 = cc in absurd (omega arith);
           }
 
       module _ {planEnd : ℕ} (e : result ≡ Next planEnd) where
         plan-numbers : PlanNumbers net pln n line
-        plan-numbers = line-numbers networkText planText valid counted (asked .more) (asked .state-at .plan-starts) (shown-at networkText planText valid (asked .more) (asked .state-at .signals-at)) no-number size read e
+        plan-numbers = line-numbers networkText planText valid counted (asked .more) (asked .state-at .plan-starts) (shown-at networkText planText valid (asked .more) (asked .state-at .signals-at)) (asked .lent .no-volume) (asked .lent .line-size) read e
 
         is-formed : formed net pln n ≡ true
-        is-formed = line-good networkText planText valid counted (asked .more) (asked .state-at .plan-starts) (shown-at networkText planText valid (asked .more) (asked .state-at .signals-at)) no-number size read e
+        is-formed = line-good networkText planText valid counted (asked .more) (asked .state-at .plan-starts) (shown-at networkText planText valid (asked .more) (asked .state-at .signals-at)) (asked .lent .no-volume) (asked .lent .line-size) read e
 
         at-next : counts .past + n + 1 ≡ onTimeline net (suc n)
         unfolding onTimeline
@@ -309,12 +300,13 @@ module _ {networkText planText : List ℕ} {counts : Counts} {table links moveme
                     ∙ rules-are (asked .tables .holds) counted plan-numbers (asked .tables .link-table) (asked .tables .movement-table) (asked .state-at .signals-at) shown claimed offers before after ledger (asked .state-at .rows) (asked .tables .time-table) arrivals-at (moved .curves-at) (asked .more)
                     ∙ sym (line-formed net pln n is-formed)
 
-                pub step-refused : {r : Refusal} → v ≡ Refused r → StepGot networkText planText ledger state (record { verdict = v; state = state }) signals arrivals′ curves′ places′ waiting ledger
+                pub step-refused : {r : Refusal} → v ≡ Refused r → StepGot networkText planText ledger state (record { verdict = v; state = state }) signals arrivals′ curves′ places′ waiting ledger step line
                 step-refused q =
                     record {
                       told = line-judged;
                       kept = λ r p. refl;
                       boundary = λ p. let z : _≡_ {A = ℕ} 0 1 = cc in absurd (omega arith);
+                      lent = λ p. let z : _≡_ {A = ℕ} 0 1 = cc in absurd (omega arith);
                       reached = λ p. let z : _≡_ {A = ℕ} 0 1 = cc in absurd (omega arith);
                       row-more = λ p. let z : _≡_ {A = ℕ} 0 1 = cc in absurd (omega arith);
                     }
@@ -388,7 +380,7 @@ module _ {networkText planText : List ℕ} {counts : Counts} {table links moveme
                           within = rw is-next (omega (arith, asked .more));
                           passed = rw is-next passed-more;
                           step-starts = rw (is-next, on .step-place) (loaded-next networkText (state .«step_at») n (counts .links) (asked .state-at .step-starts) (counted .links) loaded);
-                          plan-starts = rw (is-next, on .plan-place) (next-starts networkText planText valid counted (asked .more) (asked .state-at .plan-starts) (shown-at networkText planText valid (asked .more) (asked .state-at .signals-at)) no-number size read e);
+                          plan-starts = rw (is-next, on .plan-place) (next-starts networkText planText valid counted (asked .more) (asked .state-at .plan-starts) (shown-at networkText planText valid (asked .more) (asked .state-at .signals-at)) (asked .lent .no-volume) (asked .lent .line-size) read e);
                           signals-at = rw is-next
                               (signals-next net pln n signals signals′ phases claims (lengthIn step) (counts .signals) (asked .state-at .signals-at) shown claimed lawful (counted .signals)
                               (offers .lasts) advanced);
@@ -403,12 +395,22 @@ module _ {networkText planText : List ℕ} {counts : Counts} {table links moveme
                               (rows-written ∙ sym (written-again net pln ledger (suc (suc n)) (suc (suc n)) (omega arith)) ∙ ap (λ x. written net pln x (suc (suc n))) (sym rows-written));
                         }
 
-                    pub step-kept : StepGot networkText planText ledger state (record { verdict = v; state = next }) signals′ arrivals′ curves′ places′ waiting′ ledger′
+                    -- the tables go on to the next step
+                    lent-next : LinesLent networkText planText step line
+                    lent-next =
+                        record {
+                          step-size = added .size;
+                          line-size = read .size ∙ asked .lent .line-size;
+                          no-volume = λ empty k l. read .held empty .kept k (omega (arith, counted .signals)) ∙ asked .lent .no-volume empty k l;
+                        }
+
+                    pub step-kept : StepGot networkText planText ledger state (record { verdict = v; state = next }) signals′ arrivals′ curves′ places′ waiting′ ledger′ step line
                     step-kept =
                         record {
                           told = line-judged;
                           kept = λ r q. let z : _≡_ {A = ℕ} 0 1 = cc in absurd (omega arith);
                           boundary = λ p. on .boundary;
                           reached = λ p. state-next;
+                          lent = λ p. lent-next;
                           row-more = λ p. rows-written;
                         }

@@ -3,7 +3,7 @@ use Prim.Native.Nat.{ℕ, suc, _+_, _*_, _≤_, _<_}
 use mathlib.Core.Path.{_≡_}
 use mathlib.Core.Bool.{cond}
 use mathlib.Core.List.{List}
-use lib.ListN.{length}
+use lib.ListN.{length, getD}
 use Rattle.base_search.specs.declared.Refusal.{Refusal}
 use Rattle.base_search.specs.declared.Verdict.the-variants.{Passes, Refused}
 use Rattle.base_search.specs.Checks.{refusal, verdict, Hold}
@@ -13,12 +13,13 @@ use Rattle.model.specs.declared.Totals.{Totals}
 use Rattle.model.specs.declared.PlanAnswer.{PlanAnswer}
 use Rattle.model.specs.declared.PlanAnswer.the-variants as plan-answer
 use Rattle.model.specs.Sum.{sum}
-use Rattle.model.specs.Network.{maxLinks, maxSteps, linkCount, stepCount, stepLine}
+use Rattle.model.specs.Network.{maxLinks, maxSteps, linkCount, signalCount, stepCount, stepLine}
 use Rattle.model.specs.Flows.{outside, totals}
 use Rattle.model.specs.Table.{networkChecks, lineChecks}
 use Rattle.model.specs.Hold.{planOf}
 use Rattle.model.specs.Calls.{written}
 use Rattle.network_tables.specs.declared.Counts.{Counts}
+use Rattle.network_tables.specs.Fields.{lineSize, stepSize}
 use Rattle.network_tables.specs.Tables.{CountsHold, TramTable, LinkTable, MovementTable, TimeTable}
 use Rattle.step_arrivals.specs.Arrivals.{ArrivalTable}
 use Rattle.step_past.specs.Curves.{CurvesAt}
@@ -66,21 +67,29 @@ pub record NextGot (state : State) (counts : Counts) (step line waiting : List �
   pub totals : next .totals ≡ totalsAfter (state .totals) (state .outside) (next .outside) counts line step
   pub outside : next .outside ≡ sum (counts .links) (waitingIn waiting)
 
+-- the tables of a step's two lines, which are lent from step to step: where the plan's text is empty, no volume is in them
+pub record LinesLent (networkText planText step line : List ℕ) : Type 0 where
+  pub step-size : length step ≡ stepSize
+  pub line-size : length line ≡ lineSize
+  pub no-volume : length planText ≡ 0 → (k : ℕ) → signalCount (lines networkText) ≤ k → getD line k 0 ≡ 0
+
 -- what taking the next step asks, with room for the row after it ..
-pub record StepAsked (networkText planText : List ℕ) (counts : Counts) (trams links movements times signals arrivals curves places waiting ledger : List ℕ) (state : State) : Type 0 where
+pub record StepAsked (networkText planText : List ℕ) (counts : Counts) (trams links movements times signals arrivals curves places waiting ledger step line : List ℕ) (state : State) : Type 0 where
   pub tables : Tables networkText counts links movements times
   pub tram-table : TramTable (lines networkText) trams
   pub state-at : StateAt networkText planText state signals arrivals curves places waiting ledger
   pub more : state .boundary < stepCount (lines networkText)
+  pub lent : LinesLent networkText planText step line
   pub room : 2 * suc (suc (state .boundary)) * linkCount (lines networkText) ≤ length ledger
 
 -- .. and promises: the verdict on the step's line; where it is refused, the ledger is what it was, and where it passes, the next state is reached and the ledger
 -- has one row more
-pub record StepGot (networkText planText old : List ℕ) (state : State) (taken : Taken) (signals arrivals curves places waiting ledger : List ℕ) : Type 0 where
+pub record StepGot (networkText planText old : List ℕ) (state : State) (taken : Taken) (signals arrivals curves places waiting ledger step line : List ℕ) : Type 0 where
   pub told : taken .verdict ≡ verdict (lineChecks (lines networkText) (planOf networkText planText) (state .boundary))
   pub kept : (r : Refusal) → taken .verdict ≡ Refused r → ledger ≡ old
   pub boundary : taken .verdict ≡ Passes → taken .state .boundary ≡ state .boundary + 1
   pub reached : taken .verdict ≡ Passes → StateAt networkText planText (taken .state) signals arrivals curves places waiting ledger
+  pub lent : taken .verdict ≡ Passes → LinesLent networkText planText step line
   pub row-more : taken .verdict ≡ Passes → ledger ≡ written (lines networkText) (planOf networkText planText) old (suc (suc (state .boundary)))
 
 -- the answer once all steps have passed: the plan's text is at its end, or one line more is refused

@@ -21,7 +21,7 @@ use Rattle.step_rows.specs.Waiting.{WaitingTable}
 use Rattle.step_signals.specs.Step.{SignalsAt}
 use Rattle.plan_steps.specs.declared.State.{State}
 use Rattle.plan_steps.specs.declared.Taken.{Taken}
-use Rattle.plan_steps.specs.State.{Tables, StateAt}
+use Rattle.plan_steps.specs.State.{Tables, StateAt, LinesLent}
 use Rattle.plan_steps.specs.PlanLine.{PlanAt}
 
 -- what taking all steps asks ..
@@ -73,11 +73,12 @@ pub record StepsGot (networkText planText old : List ℕ) (steps : ℕ) (taken :
   pub reached : taken .verdict ≡ Passes → AllTaken networkText planText old steps (taken .state) signals waiting ledger
 
 -- the state while they are taken
-pub record Running (networkText planText : List ℕ) (counts : Counts) (steps : ℕ) (trams links movements times old : List ℕ) (taken : Taken) (signals arrivals curves places waiting ledger : List ℕ) : Type 0 where
+pub record Running (networkText planText : List ℕ) (counts : Counts) (steps : ℕ) (trams links movements times old : List ℕ) (taken : Taken) (signals arrivals curves places waiting ledger step line : List ℕ) : Type 0 where
   pub tables : Tables networkText counts links movements times
   pub tram-table : TramTable (lines networkText) trams
   pub passes : taken .verdict ≡ Passes
   pub state-at : StateAt networkText planText (taken .state) signals arrivals curves places waiting ledger
+  pub lent : LinesLent networkText planText step line
   pub few-steps : steps ≤ stepCount (lines networkText)
   pub within : taken .state .boundary ≤ steps
   pub since : ledger ≡ written (lines networkText) (planOf networkText planText) old (suc (taken .state .boundary))

@@ -104,6 +104,7 @@ pub fn read_line(
 }
 
 // Takes the next step: reads its `S` and `P` lines, and what trams ask in it, judges it and, where every rule is kept, writes the row after it into the ledger.
+// The tables of the two lines are lent from step to step, so that they need not be cleared anew.
 fn take_step(
     network: &[u8],
     plan: &[u8],
@@ -118,25 +119,25 @@ fn take_step(
     places: &mut [usize],
     waiting: &mut [u32],
     ledger: &mut [u32],
+    step: &mut [u32],
+    line: &mut [u32],
     mut state: State,
 ) -> Taken
-    requires { ⌜ StepAsked (now network) (now plan) counts (now trams) (now links) (now movements) (now times) (now signals) (now arrivals) (now curves) (now places) (now waiting) (now ledger) state ⌝ }
-    ensures { λ r. ⌜ StepGot (now (network .entry)) (now (plan .entry)) (now (ledger .entry)) state r (now (signals .exit)) (now (arrivals .exit)) (now (curves .exit)) (now (places .exit)) (now (waiting .exit)) (now (ledger .exit)) ⌝ }
+    requires { ⌜ StepAsked (now network) (now plan) counts (now trams) (now links) (now movements) (now times) (now signals) (now arrivals) (now curves) (now places) (now waiting) (now ledger) (now step) (now line) state ⌝ }
+    ensures { λ r. ⌜ StepGot (now (network .entry)) (now (plan .entry)) (now (ledger .entry)) state r (now (signals .exit)) (now (arrivals .exit)) (now (curves .exit)) (now (places .exit)) (now (waiting .exit)) (now (ledger .exit)) (now (step .exit)) (now (line .exit)) ⌝ }
 {
-    let mut step = [0u32; STEP_SIZE];
-    let mut line = [0u32; LINE_SIZE];
     let mut phases = [0u32; MAX_SIGNALS];
     let mut asked = [0u32; MAX_SIGNALS];
     let mut row = [0u32; ROW_SIZE];
     let n = state.boundary;
-    let step_end = network_steps::load_step(network, state.step_at, counts.links, &mut step);
-    step_rows::add_waiting(waiting, counts.links, &mut step);
-    let read = read_line(plan, state.plan_at, signals, counts, &mut line);
+    let step_end = network_steps::load_step(network, state.step_at, counts.links, step);
+    step_rows::add_waiting(waiting, counts.links, step);
+    let read = read_line(plan, state.plan_at, signals, counts, line);
     let LineRead::Next(plan_end) = read else {
         let verdict = Verdict::Refused(Refusal::new(9, n + 1, 0));
         return Taken { verdict, state };
     };
-    step_signals::shown_phases(signals, counts.signals, &line, &mut phases);
+    step_signals::shown_phases(signals, counts.signals, line, &mut phases);
     network_trams::tram_phases(trams, counts.trams, n, &mut asked);
     step_past::next_arrivals(
         network,
@@ -150,8 +151,8 @@ fn take_step(
     );
     let verdict = step_check::judge_step(
         signals,
-        &line,
-        &step,
+        line,
+        step,
         links,
         movements,
         &phases,
@@ -168,11 +169,11 @@ fn take_step(
         return Taken { verdict, state };
     };
     step_rows::write_row(ledger, 2 * (n + 1) * counts.links, &row, 2 * counts.links);
-    step_rows::next_waiting(&step, &line, counts, waiting);
+    step_rows::next_waiting(step, line, counts, waiting);
     step_signals::advance(signals, counts.signals, &phases, &asked, step[0]);
     state.step_at = step_end;
     state.plan_at = plan_end;
-    let next = next_state(state, &step, &line, waiting, counts);
+    let next = next_state(state, step, line, waiting, counts);
     Taken {
         verdict,
         state: next,
@@ -243,6 +244,8 @@ pub fn take_steps(
         verdict: Verdict::Passes,
         state,
     };
+    let mut step = [0u32; STEP_SIZE];
+    let mut line = [0u32; LINE_SIZE];
     while taken.state.boundary < steps {
         let state = taken.state;
         taken = take_step(
@@ -259,6 +262,8 @@ pub fn take_steps(
             &mut places,
             waiting,
             ledger,
+            &mut step,
+            &mut line,
             state,
         );
         let verdict = taken.verdict;

@@ -169,7 +169,7 @@ module _ {networkText planText table : List ℕ} {reading : Reading} {trams sign
 
       pub step-never : result ≡ Malformed → StepGot networkText planText table pass pass signals
       step-never e =
-          absurd (true≢false (sym is-formed ∙ line-bad networkText planText valid counted (asked .more) (asked .pass-at .plan-starts) shows no-number size read e))
+          absurd (true≢false (sym is-formed ∙ line-bad networkText planText valid counted (asked .more) (asked .pass-at .plan-starts) shows (λ h k l. no-number k) size read e))
 
       module _ {planEnd : ℕ} (e : result ≡ Next planEnd) {phases₀ phases : List ℕ} (showing : ShownPhases signals (counts .signals) line phases₀ phases)
           {claims : List ℕ} (told : Claimed trams (counts .trams) n claims) where
@@ -182,7 +182,7 @@ module _ {networkText planText table : List ℕ} {reading : Reading} {trams sign
             record {
               size = showing .size;
               holds = λ r l. showing .shown r (omega (arith, counted .signals))
-                  ∙ ap₂ phaseOf (shown-mask-at (line-numbers networkText planText valid counted (asked .more) (asked .pass-at .plan-starts) shows no-number size read e) r l)
+                  ∙ ap₂ phaseOf (shown-mask-at (line-numbers networkText planText valid counted (asked .more) (asked .pass-at .plan-starts) shows (λ h k l. no-number k) size read e) r l)
                   (ap (λ (s : Signal). s .phases) (signals-at .holds r l) ∙ same-phases net pln r n);
             }
 
@@ -220,7 +220,7 @@ module _ {networkText planText table : List ℕ} {reading : Reading} {trams sign
                   within = asked .more;
                   time-is = t ∙ rw (asked .pass-at .time-is, seconds-is) (sym (time-suc net n));
                   step-starts = loaded-next networkText (pass .«step_at») n (counts .links) (asked .pass-at .step-starts) (counted .links) loaded;
-                  plan-starts = next-starts networkText planText valid counted (asked .more) (asked .pass-at .plan-starts) shows no-number size read e;
+                  plan-starts = next-starts networkText planText valid counted (asked .more) (asked .pass-at .plan-starts) shows (λ h k l. no-number k) size read e;
                   signals-at = signals-next net pln n signals signals′ phases claims (lengthIn step) (counts .signals) signals-at shown claimed lawful (counted .signals) seconds-is on;
                   watches-size = moved .size;
                 });

@@ -42,9 +42,9 @@ pub line-told : {planText : List ℕ} {at : ℕ} {signals : List ℕ} {counts : 
 line-told {planText} {at} {before = before} zeros got =
     record {
       malformed = λ e networkText on n l starts. line-bad networkText planText (valid-network _ (on .holds)) (on .counted) l starts
-          (λ empty r u. ap (λ (s : Signal). s .shown) (on .signal-table .holds r u)) blank size got e;
+          (λ empty r u. ap (λ (s : Signal). s .shown) (on .signal-table .holds r u)) (λ empty k u. blank k) size got e;
       formed = λ next e networkText on n l starts. line-good networkText planText (valid-network _ (on .holds)) (on .counted) l starts
-          (λ empty r u. ap (λ (s : Signal). s .shown) (on .signal-table .holds r u)) blank size got e;
+          (λ empty r u. ap (λ (s : Signal). s .shown) (on .signal-table .holds r u)) (λ empty k u. blank k) size got e;
       starts = λ next e n starts h. got .read h .held next e n (starts h) .starts;
     }
   where

@@ -52,7 +52,7 @@ module _ {networkText planText signals movements : List ℕ} {counts : Counts} (
 
         go : (r : LineRead) → read .result ≡ r → PlanNumbers (lines networkText) (planOf networkText planText) n line × PlanAt planText next (suc n)
         go (Next place) e = (
-          line-numbers networkText planText valid (held .counted) within starts shown zeros size (read .got) e,
-          λ h. rw (read .next-is place e) (next-starts networkText planText valid (held .counted) within starts shown zeros size (read .got) e h),
+          line-numbers networkText planText valid (held .counted) within starts shown (λ empty k u. zeros k) size (read .got) e,
+          λ h. rw (read .next-is place e) (next-starts networkText planText valid (held .counted) within starts shown (λ empty k u. zeros k) size (read .got) e h),
         )
-        go Malformed e = absurd (not-both (held .forms n within) (line-bad networkText planText valid (held .counted) within starts shown zeros size (read .got) e))
+        go Malformed e = absurd (not-both (held .forms n within) (line-bad networkText planText valid (held .counted) within starts shown (λ empty k u. zeros k) size (read .got) e))

@@ -9,11 +9,11 @@ use Rattle.plan_steps.proofs.take_steps.Statement.{statement}
 use Rattle.plan_steps.proofs.take_steps.Tie as tie
 
 abbrev Inv-loop : tie.InvT-loop
-Inv-loop network plan steps links movements times signals₀ waiting₀ ledger₀ counts trams arrivals₀ curves₀ places₀ taken₀ signals waiting ledger arrivals curves places taken =
-    Running network plan counts steps trams links movements times ledger₀ taken signals arrivals curves places waiting ledger
+Inv-loop network plan steps links movements times signals₀ waiting₀ ledger₀ counts trams arrivals₀ curves₀ places₀ taken₀ step₀ line₀ signals waiting ledger arrivals curves places taken step line =
+    Running network plan counts steps trams links movements times ledger₀ taken signals arrivals curves places waiting ledger step line
 
 abbrev μ-loop : tie.MeasureT-loop
-μ-loop network plan steps links movements times signals₀ waiting₀ ledger₀ counts trams arrivals₀ curves₀ places₀ taken₀ signals waiting ledger arrivals curves places taken =
+μ-loop network plan steps links movements times signals₀ waiting₀ ledger₀ counts trams arrivals₀ curves₀ places₀ taken₀ step₀ line₀ signals waiting ledger arrivals curves places taken step line =
     steps - taken .state .boundary
 
 load-trams-requires : tie.Need-load-trams-requires Inv-loop μ-loop
@@ -46,26 +46,32 @@ slice-aggregate-take-step-3 c = sym (c .before .before .before .before .before .
 slice-aggregate-take-step-4 : tie.Need-slice-aggregate-take-step-4 Inv-loop μ-loop
 slice-aggregate-take-step-4 c = sym (c .before .before .before .before .before .before .before .before .loop .inv .state-at .curves-at .rooms .place-size)
 
+slice-aggregate-take-step-5 : tie.Need-slice-aggregate-take-step-5 Inv-loop μ-loop
+slice-aggregate-take-step-5 c = sym (c .before .before .before .before .before .before .before .before .before .before .before .loop .inv .lent .step-size)
+
+slice-aggregate-take-step-6 : tie.Need-slice-aggregate-take-step-6 Inv-loop μ-loop
+slice-aggregate-take-step-6 c = sym (c .before .before .before .before .before .before .before .before .before .before .before .before .loop .inv .lent .line-size)
+
 take-step-requires : tie.Need-take-step-requires Inv-loop μ-loop
-take-step-requires c κs = running-asked (c .before .before .before .before .before .before .before .before .before .before .loop .inv) (omega arith)
+take-step-requires c κs = running-asked (c .before .before .before .before .before .before .before .before .before .before .before .before .loop .inv) (omega arith)
 
 loop-less : tie.Need-loop-less Inv-loop μ-loop
-loop-less c = running-less (c .before .before .before .before .before .before .before .before .before .before .before .before .before .before .before .before .before .before .before .before .before .before .loop .inv) (c .before .before .before .before .before .before .before .before .before .before .before .take-step .ensures) (omega arith) (c .enum-told .given .1)
+loop-less c = running-less (c .before .before .before .before .before .before .before .before .before .before .before .before .before .before .before .before .before .before .before .before .before .before .before .before .before .before .loop .inv) (c .before .before .before .before .before .before .before .before .before .before .before .before .before .take-step .ensures) (omega arith) (c .enum-told .given .1)
 
 loop-again : tie.Need-loop-again Inv-loop μ-loop
-loop-again c = running-next (c .before .before .before .before .before .before .before .before .before .before .before .before .before .before .before .before .before .before .before .before .before .before .loop .inv) (c .before .before .before .before .before .before .before .before .before .before .before .take-step .ensures) (omega arith) (c .enum-told .given .1)
+loop-again c = running-next (c .before .before .before .before .before .before .before .before .before .before .before .before .before .before .before .before .before .before .before .before .before .before .before .before .before .before .loop .inv) (c .before .before .before .before .before .before .before .before .before .before .before .before .before .take-step .ensures) (omega arith) (c .enum-told .given .1)
 
 same-length : tie.Need-same-length Inv-loop μ-loop
-same-length c = omega (arith, c .before .before .before .before .before .before .before .before .before .before .before .take-step .kept .1 .1 .1 .1 .1 .1 .1 .0, c .before .before .before .before .before .before .before .before .before .before .before .before .before .before .before .before .before .before .before .before .before .before .loop .inv .state-at .signals-at .size, c .before .before .before .before .before .before .before .before .before .before .before .before .before .before .before .before .before .before .before .before .before .before .before .before .before .before .before .before .before .before .before .before .before .before .before .before .before .before .before .before .before .before .before .before .before .before .before .before .before .before .before .before .before .pre .signal-table .size)
+same-length c = omega (arith, c .before .before .before .before .before .before .before .before .before .before .before .before .before .take-step .kept .1 .1 .1 .1 .1 .1 .1 .0, c .before .before .before .before .before .before .before .before .before .before .before .before .before .before .before .before .before .before .before .before .before .before .before .before .before .before .loop .inv .state-at .signals-at .size, c .before .before .before .before .before .before .before .before .before .before .before .before .before .before .before .before .before .before .before .before .before .before .before .before .before .before .before .before .before .before .before .before .before .before .before .before .before .before .before .before .before .before .before .before .before .before .before .before .before .before .before .before .before .before .before .before .before .pre .signal-table .size)
 
 same-length-2 : tie.Need-same-length-2 Inv-loop μ-loop
-same-length-2 c = omega (arith, c .before .before .before .before .before .before .before .before .before .before .before .take-step .kept .1 .1 .1 .1 .1 .1 .1 .1 .1 .1 .1 .0, c .before .before .before .before .before .before .before .before .before .before .before .before .before .before .before .before .before .before .before .before .before .before .loop .inv .state-at .waiting-at .size, c .before .before .before .before .before .before .before .before .before .before .before .before .before .before .before .before .before .before .before .before .before .before .before .before .before .before .before .before .before .before .before .before .before .before .before .before .before .before .before .before .before .before .before .before .before .before .before .before .before .before .before .before .before .pre .waiting-size)
+same-length-2 c = omega (arith, c .before .before .before .before .before .before .before .before .before .before .before .before .before .take-step .kept .1 .1 .1 .1 .1 .1 .1 .1 .1 .1 .1 .0, c .before .before .before .before .before .before .before .before .before .before .before .before .before .before .before .before .before .before .before .before .before .before .before .before .before .before .loop .inv .state-at .waiting-at .size, c .before .before .before .before .before .before .before .before .before .before .before .before .before .before .before .before .before .before .before .before .before .before .before .before .before .before .before .before .before .before .before .before .before .before .before .before .before .before .before .before .before .before .before .before .before .before .before .before .before .before .before .before .before .before .before .before .before .pre .waiting-size)
 
 same-length-3 : tie.Need-same-length-3 Inv-loop μ-loop
-same-length-3 c = omega (arith, c .before .before .before .before .before .before .before .before .before .before .before .take-step .kept .1 .1 .1 .1 .1 .1 .1 .1 .1 .1 .1 .1 .0, c .before .before .before .before .before .before .before .before .before .before .before .before .before .before .before .before .before .before .before .before .before .before .loop .inv .long, c .before .before .before .before .before .before .before .before .before .before .before .before .before .before .before .before .before .before .before .before .before .before .before .before .before .before .before .before .before .before .before .before .before .before .before .before .load-past .ensures .size)
+same-length-3 c = omega (arith, c .before .before .before .before .before .before .before .before .before .before .before .before .before .take-step .kept .1 .1 .1 .1 .1 .1 .1 .1 .1 .1 .1 .1 .0, c .before .before .before .before .before .before .before .before .before .before .before .before .before .before .before .before .before .before .before .before .before .before .before .before .before .before .loop .inv .long, c .before .before .before .before .before .before .before .before .before .before .before .before .before .before .before .before .before .before .before .before .before .before .before .before .before .before .before .before .before .before .before .before .before .before .before .before .before .before .before .before .load-past .ensures .size)
 
 returns : tie.Need-returns Inv-loop μ-loop
-returns c = steps-since (c .before .before .before .before .before .before .before .before .before .before .before .before .before .before .before .before .before .before .before .before .before .before .before .before .before .before .before .before .before .before .before .before .before .before .before .before .before .before .before .before .before .before .before .before .before .before .before .before .before .before .before .before .before .pre) (c .before .before .before .before .before .before .before .before .before .before .before .before .before .before .before .before .before .before .before .before .before .before .before .before .before .before .before .before .before .before .before .before .before .before .before .before .load-past .ensures) (steps-stopped (c .before .before .before .before .before .before .before .before .before .before .before .before .before .before .before .before .before .before .before .before .before .before .loop .inv) (c .before .before .before .before .before .before .before .before .before .before .before .take-step .ensures) (omega arith) (c .enum-told2 .given .1))
+returns c = steps-since (c .before .before .before .before .before .before .before .before .before .before .before .before .before .before .before .before .before .before .before .before .before .before .before .before .before .before .before .before .before .before .before .before .before .before .before .before .before .before .before .before .before .before .before .before .before .before .before .before .before .before .before .before .before .before .before .before .before .pre) (c .before .before .before .before .before .before .before .before .before .before .before .before .before .before .before .before .before .before .before .before .before .before .before .before .before .before .before .before .before .before .before .before .before .before .before .before .before .before .before .before .load-past .ensures) (steps-stopped (c .before .before .before .before .before .before .before .before .before .before .before .before .before .before .before .before .before .before .before .before .before .before .before .before .before .before .loop .inv) (c .before .before .before .before .before .before .before .before .before .before .before .before .before .take-step .ensures) (omega arith) (c .enum-told2 .given .1))
 
 same-length-4 : tie.Need-same-length-4 Inv-loop μ-loop
 same-length-4 c = omega (arith, c .before .before .loop .inv .state-at .signals-at .size, c .before .before .before .before .before .before .before .before .before .before .before .before .before .before .before .before .before .before .before .before .before .before .before .before .before .before .before .before .before .before .before .before .before .pre .signal-table .size)
@@ -99,6 +105,8 @@ take-steps-spec =
     slice-aggregate-take-step-2
     slice-aggregate-take-step-3
     slice-aggregate-take-step-4
+    slice-aggregate-take-step-5
+    slice-aggregate-take-step-6
     take-step-requires
     (λ c. search needs)
     loop-less
