@@ -10,7 +10,7 @@ use lib.Dec.{ltb, eqb}
 use lib.Ieee.{Float, nan, inf, fin, up, down, lt, eq, le, isNan}
 use lib.Ieee.Fits.{down-pos}
 use lib.Ieee.Positive.{through}
-use Rattle.base_laws.proofs.Tests.{or-cases, or-left, or-right, and-left, and-right, and-both, no-truth}
+use Rattle.base_laws.proofs.Bools.{or-cases, or-left, or-right, and-left, and-right, and-both, no-truth}
 
 -- ---- ±X / P at most ±Y / Q
 abbrev pub Signed : Bool → ℕ → ℕ → Bool → ℕ → ℕ → Type 0

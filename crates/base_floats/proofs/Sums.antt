@@ -10,7 +10,7 @@ use lib.Ieee.Bits.{is-true}
 use lib.Ieee.Fits.{down-pos}
 use lib.Ieee.Order.{round-mono}
 use lib.Ieee.Scale.{finite}
-use Rattle.base_laws.proofs.Tests.{no-truth}
+use Rattle.base_laws.proofs.Bools.{no-truth}
 use Rattle.base_floats.proofs.Order.{Signed, Under, under}
 
 -- ---- no NaN

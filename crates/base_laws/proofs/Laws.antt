@@ -11,7 +11,7 @@ use borrow.Author.Tests.{not-true, not-false}
 use lib.ListN.{length, getD, set, take, drop, length-append, List·getD-append, drop-of-length-le}
 use lib.Seq.{drop-cons, take-at, drop-at, set-at, getD-at, getD-append-add, getD-drop}
 use Rattle.base_laws.specs.Indexed.{list, filled, every}
-use Rattle.base_laws.proofs.Tests.{and-left, and-right}
+use Rattle.base_laws.proofs.Bools.{and-left, and-right}
 
 module _ {A : Type 0} (f : ℕ → A) where
   pub length-list : (n : ℕ) → length (list n f) ≡ n

@@ -1,2 +1,4 @@
+pub mod Bools
 pub mod Tests
 pub mod Laws
+pub mod Sums

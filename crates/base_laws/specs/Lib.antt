@@ -1,1 +1,3 @@
+pub mod Test
+pub mod Sum
 pub mod Indexed

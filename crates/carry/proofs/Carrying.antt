@@ -20,7 +20,7 @@ use Rattle.text_reader.specs.Padding.{PaddingIgnored}
 use Rattle.text_reader.specs.Reading.{Starts, atEnd}
 use Rattle.text_reader.proofs.Laws.{some-lines, no-lines, starts-end, end-of-none}
 use Rattle.text_reader.proofs.Padding.{same-lines}
-use Rattle.model.specs.Test.{_and_, within}
+use Rattle.base_laws.specs.Test.{_and_, within}
 use Rattle.model.specs.Network.{entry, maxLinks, linkCount, stepCount}
 use Rattle.model.specs.Flows.{offered, waits}
 use Rattle.model.specs.Table.{networkChecks, lineChecks, planChecks}
@@ -46,7 +46,6 @@ use Rattle.model_text.specs.Answers.{textAnswer, bytesAfter, roomVerdict, Told}
 use Rattle.carry.specs.Carried.{StandsAt, CarryAsked, TextWritten}
 use Rattle.model_carry.specs.Part.{cut, carriedText}
 use Rattle.model_carry.specs.Call.{plannedOn, boundaryChecks, carryChecks, carryOn, carryLedger, carryBuffer}
-use Rattle.model_text.proofs.Tests.{is-within}
 use Rattle.model_carry.proofs.Theorem.{cut-steps}
 use Rattle.model_carry.proofs.Cut.{cut-judged, cut-due, due-of-cut, cut-written}
 use Rattle.model_carry.proofs.Hold.{held-first}
@@ -54,6 +53,7 @@ use Rattle.model_carry.specs.CarriesOn.{CarriedOn}
 use Rattle.model_carry.proofs.Promises.{carried-on}
 use Rattle.model_carry.proofs.Agree.{signal-agree, waits-agree}
 use Rattle.carry.specs.Carrying.{StepsAsked, CarryGot}
+use Rattle.base_laws.proofs.Tests.{is-within}
 
 pub not-true : (b : Bool) → not b ≡ true → b ≡ false
 not-true false h = refl

@@ -9,7 +9,7 @@ use lib.ListN.{length, getD, set, take, drop, length-append, length-drop, length
 use lib.Seq.{take-suc, getD-drop}
 use Rattle.text_reader.specs.Reading.{over}
 use Rattle.model.specs.declared.Signal.{Signal}
-use Rattle.model.specs.Sum.{joined}
+use Rattle.base_laws.specs.Sum.{joined}
 use Rattle.network_tables.specs.Fields.{signalFields, tableSignal, pastSize, enteredAt, leftAt, RowHeld}
 use Rattle.network_tables.proofs.Signals.{numbers-same, least-time-in, greatest-time-in}
 use Rattle.model_carry.specs.Part.{signalNumbers}

@@ -8,7 +8,8 @@ use lib.ListN.{length, getD, take}
 use Rattle.text_reader.specs.Lines.{lines}
 use Rattle.text_reader.specs.Reading.{Starts, over}
 use Rattle.text_writer.specs.Records.{recordText, recordTexts}
-use Rattle.model.specs.Sum.{list, joined}
+use Rattle.base_laws.specs.Sum.{joined}
+use Rattle.base_laws.specs.Indexed.{list}
 use Rattle.model.specs.Network.{entry}
 use Rattle.model.specs.Table.{isForm, letterH, letterS}
 use Rattle.network_tables.specs.Fields.{pastSize, lineSize}

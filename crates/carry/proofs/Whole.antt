@@ -14,14 +14,15 @@ use Rattle.text_reader.specs.Reading.{Starts, over}
 use Rattle.text_writer.specs.Records.{recordText, recordTexts}
 use Rattle.text_writer.proofs.Laws.{records-same}
 use Rattle.model.specs.declared.Signal.{Signal}
-use Rattle.model.specs.Test.{within}
-use Rattle.model.specs.Sum.{list, joined}
+use Rattle.base_laws.specs.Test.{within}
+use Rattle.base_laws.specs.Sum.{joined}
+use Rattle.base_laws.specs.Indexed.{list}
 use Rattle.model.specs.Network.{entry, linkCount, signalCount, movementCount, stepCount, tramCount, pastCount, onTimeline, tramLine, timelineLine, stepLine, trams, timelineLength, pastEntries, pastExits, stepLength, demand}
 use Rattle.model.specs.Rules.{tramExists, validTram, validPhases}
 use Rattle.model.specs.Flows.{signalAt, timelineInflow, timelineOutflow, entered, left}
 use Rattle.model.specs.Table.{isForm, letterN, letterT, letterG, letterQ, letterM, letterH, letterS}
 use Rattle.model.specs.Calls.{written}
-use Rattle.model.proofs.Tests.{and-left, and-right}
+use Rattle.base_laws.proofs.Tests.{and-left, and-right}
 use Rattle.model.proofs.Accepted.{ValidNetwork, valid-network}
 use Rattle.model.proofs.Shown.{same-phases}
 use Rattle.model.proofs.Timeline.{past-inflow, past-outflow, plan-inflow, plan-outflow, entered-suc, left-suc}
@@ -44,6 +45,7 @@ use Rattle.network_writer.proofs.Texts.{texts-of-list, put-first, told-short, t
 use Rattle.carry.specs.Rows.{countRow, linkRow, movementRow, volumesIn, Copied, StepsPut, Rising, SignalsAsked, LinksAsked, MovementsAsked}
 use Rattle.carry.specs.Trams.{TramsAsked}
 use Rattle.carry.specs.Carried.{StandsAt, CarryAsked, TextPut, TextWritten}
+use Rattle.base_laws.proofs.Sums.{joined-same}
 
 -- ---- lists and texts
 list-first : (n : ℕ) (f : ℕ → ℕ) → list (1 + n) f ≡ f 0 ∷ list n (λ k. f (1 + k))
@@ -58,11 +60,6 @@ list-pairs (suc n) f =
     let e : 1 + 2 * suc n ≡ suc (suc (1 + 2 * n)) = omega arith in
     let d : suc (1 + 2 * n) ≡ 2 + 2 * n = omega arith in
     rw e (append-assoc (list (1 + 2 * n) f) (f (1 + 2 * n) ∷ []) (f (suc (1 + 2 * n)) ∷ []) ∙ ap₂ (λ (xs : List ℕ) x. xs ++ (f (1 + 2 * n) ∷ f x ∷ [])) (list-pairs n f) d)
-
-joined-same : (n : ℕ) (f g : ℕ → List ℕ) → ((i : ℕ) → i < n → f i ≡ g i) → joined n f ≡ joined n g
-unfolding joined
-joined-same zero f g h = refl
-joined-same (suc n) f g h = ap₂ (λ (xs ys : List ℕ). xs ++ ys) (joined-same n f g (λ i l. h i (omega arith))) (h n (omega arith))
 
 module _ (letter : ℕ) where
   texts-plus : (m n : ℕ) (f : ℕ → List ℕ) → recordTexts letter (m + n) f ≡ recordTexts letter m f ++ recordTexts letter n (λ k. f (m + k))

@@ -7,7 +7,8 @@ use lib.ListN.{length, getD}
 use Rattle.text_reader.specs.Lines.{lines}
 use Rattle.text_reader.specs.Reading.{Starts}
 use Rattle.text_writer.specs.Records.{recordTexts}
-use Rattle.model.specs.Sum.{list, joined}
+use Rattle.base_laws.specs.Sum.{joined}
+use Rattle.base_laws.specs.Indexed.{list}
 use Rattle.model.specs.Network.{maxLinks, maxSignals, maxMovements, maxSteps, entry}
 use Rattle.model.specs.Table.{isForm, letterH, letterS}
 use Rattle.network_tables.specs.declared.Counts.{Counts}

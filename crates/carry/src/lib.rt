@@ -8,7 +8,7 @@ ghost use Rattle.text_reader.specs.Lines.{lines};
 ghost use Rattle.text_reader.specs.Padding.{PaddingIgnored};
 ghost use Rattle.text_reader.specs.Reading.{over};
 ghost use Rattle.text_writer.specs.Records.{recordText, recordTexts};
-ghost use Rattle.model.specs.Sum.{joined};
+ghost use Rattle.base_laws.specs.Sum.{joined};
 ghost use Rattle.model.specs.Network.{maxTrams, stepCount, trams};
 ghost use Rattle.model.specs.Table.{letterN, letterT, letterG, letterQ, letterM};
 ghost use Rattle.network_tables.specs.Places.{Few};

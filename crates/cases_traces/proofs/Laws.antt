@@ -9,7 +9,7 @@ use lib.ListN.{length}
 use lib.Ieee.{Float, nan, inf, fin, binary64, isNan, nanBits, toBits, le}
 use lib.Ieee.Bits.{nanBits-above}
 use borrow.Author.Tests.{le-ltb, eq-eqb, ne-eqb}
-use Rattle.base_laws.proofs.Tests.{no-truth}
+use Rattle.base_laws.proofs.Bools.{no-truth}
 use Rattle.base_floats.proofs.Order.{float-le-refl}
 use Rattle.cases_files.specs.Below.{allBelow}
 use Rattle.cases_traces.specs.Values.{sameAt, sameValues}

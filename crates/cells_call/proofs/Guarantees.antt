@@ -12,7 +12,7 @@ use Rattle.base_search.specs.Numbers.{isOneOf}
 use Rattle.base_search.proofs.Numbers.{Numbered, refused-number}
 use Rattle.text_reader.specs.Lines.{Line}
 use Rattle.base_laws.specs.Indexed.{list}
-use Rattle.base_laws.proofs.Tests.{zero-one}
+use Rattle.base_laws.proofs.Bools.{zero-one}
 use Rattle.cells_steps.specs.Steps.{volumesAfter, totalIn, totalOut}
 use Rattle.cells_steps.specs.Guarantees.{total}
 use Rattle.cells_steps.proofs.Guarantees.{total-last, keeps, length-all-after}

@@ -11,7 +11,7 @@ use Rattle.base_search.specs.declared.Verdict.the-variants.{Passes}
 use Rattle.base_search.specs.Checks.{verdict, Hold}
 use Rattle.base_search.proofs.Laws.{hold-of-passes}
 use Rattle.text_reader.specs.Lines.{Line, noLine, isRecord, number}
-use Rattle.base_laws.proofs.Tests.{and-left, and-right}
+use Rattle.base_laws.proofs.Bools.{and-left, and-right}
 use Rattle.base_laws.proofs.Laws.{length-list, get-list}
 use Rattle.cells_steps.specs.Steps.{Ready}
 use Rattle.cells_lines.specs.Corridor.{letterC, isVolume, validCell, cellForm, startHeld, cellCount, cellChecks, exitCheck, corridorChecks, column, chain, starts}

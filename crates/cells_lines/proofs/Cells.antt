@@ -21,7 +21,7 @@ use Rattle.text_reader.specs.Lines.{Line, lines, noLine, isRecord, number}
 use Rattle.text_reader.specs.Reading.{lineAt, nextLine, recordAt, Starts}
 use Rattle.text_reader.proofs.Laws.{starts-first, starts-line, starts-plus}
 use Rattle.base_laws.specs.Indexed.{filled}
-use Rattle.base_laws.proofs.Tests.{zero-one}
+use Rattle.base_laws.proofs.Bools.{zero-one}
 use Rattle.base_laws.proofs.Laws.{filled-none, filled-more}
 use Rattle.cells_lines.specs.declared.CellRead.{CellRead}
 use Rattle.cells_lines.specs.declared.CellRead.the-variants as cell

@@ -17,7 +17,7 @@ use Rattle.text_reader.specs.Lines.{lines, noLine, isRecord, number}
 use Rattle.text_reader.specs.Reading.{lineAt, nextLine, recordAt, atEnd, Starts}
 use Rattle.text_reader.proofs.Laws.{starts-line, starts-end, starts-plus}
 use Rattle.base_laws.specs.Indexed.{filled}
-use Rattle.base_laws.proofs.Tests.{zero-one}
+use Rattle.base_laws.proofs.Bools.{zero-one}
 use Rattle.base_laws.proofs.Laws.{filled-none, filled-more}
 use Rattle.cells_lines.specs.declared.VolumeRead.{VolumeRead}
 use Rattle.cells_lines.specs.declared.VolumeRead.the-variants as volume

@@ -12,7 +12,7 @@ use Rattle.text_reader.specs.declared.LineRead.the-variants.{Next, Malformed}
 use Rattle.text_reader.specs.Lines.{Line, isRecord, startsAs, allNumbers, number}
 use Rattle.text_reader.specs.Reading.{lineAt, nextLine, recordAt, leadingAs, Got}
 use Rattle.text_reader.proofs.Laws.{record-read, record-malformed, got-record}
-use Rattle.base_laws.proofs.Tests.{zero-one}
+use Rattle.base_laws.proofs.Bools.{zero-one}
 use Rattle.cells_lines.specs.declared.CellRead.the-variants as cell
 use Rattle.cells_lines.specs.declared.VolumeRead.the-variants as volume
 use Rattle.cells_lines.specs.Corridor.{letterC, validCell, cellForm, startHeld, volumeForm}

@@ -15,7 +15,7 @@ use Rattle.text_reader.specs.Lines.{Line, lines, noLine, isRecord, number}
 use Rattle.text_reader.specs.Reading.{lineAt}
 use Rattle.text_reader.proofs.Laws.{record-read, starts-line, starts-plus}
 use Rattle.base_laws.specs.Indexed.{list, filled}
-use Rattle.base_laws.proofs.Tests.{and-left, and-right, zero-one}
+use Rattle.base_laws.proofs.Bools.{and-left, and-right, zero-one}
 use Rattle.base_laws.proofs.Laws.{take-filled, drop-filled}
 use Rattle.cells_lines.specs.declared.CellsRead.{CellsRead}
 use Rattle.cells_lines.specs.declared.CellsRead.the-variants as cells

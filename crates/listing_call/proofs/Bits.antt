@@ -10,8 +10,8 @@ use native.Mathlib.Omega.{arith}
 use lib.Dec.{eqb}
 use lib.ListN.{length, getD, set}
 use lib.Seq.{getD-set-same, getD-set-other}
-use Rattle.model.specs.Sum.{sum, only}
-use Rattle.model.proofs.Sums.{sum-ext, sum-bound}
+use Rattle.base_laws.specs.Sum.{sum, only}
+use Rattle.base_laws.proofs.Sums.{sum-ext, sum-bound}
 use Rattle.listing_call.specs.Tables.{bit, bitAt, withBit, Power}
 
 below-8 : (P : ℕ → Type 0) → P 0 → P 1 → P 2 → P 3 → P 4 → P 5 → P 6 → P 7 → (k : ℕ) → k < 8 → P k

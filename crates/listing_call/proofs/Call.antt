@@ -16,7 +16,7 @@ use Rattle.base_search.proofs.Numbers.{Numbered, refused-number, allOf}
 use Rattle.text_reader.specs.Lines.{Line, lines}
 use Rattle.text_reader.specs.Padding.{PaddingIgnored}
 use Rattle.text_reader.proofs.Padding.{same-lines}
-use Rattle.model.specs.Sum.{sum}
+use Rattle.base_laws.specs.Sum.{sum}
 use Rattle.model.specs.Network.{stepLength, time}
 use Rattle.model.specs.Table.{networkChecks}
 use Rattle.model.proofs.Accepted.{valid-network}

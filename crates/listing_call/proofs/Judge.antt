@@ -8,7 +8,7 @@ use native.Mathlib.Omega.{arith}
 use borrow.Author.Tests.{eq-eqb, ne-eqb, eqb-true, eqb-false, not-true, not-false}
 use lib.Dec.{eqb}
 use lib.ListN.{length}
-use Rattle.model.specs.Test.{_and_}
+use Rattle.base_laws.specs.Test.{_and_}
 use Rattle.network_tables.specs.declared.Counts.{Counts}
 use Rattle.listing_lines.specs.declared.Variable.{Variable}
 use Rattle.listing_call.specs.declared.Place.{Place}

@@ -7,9 +7,9 @@ use native.Mathlib.Decide.{decLe}
 use native.Mathlib.Nat.{mul-le-mul-left}
 use native.Mathlib.Omega.{arith}
 use borrow.Author.Tests.{eq-eqb, eqb-true}
-use Rattle.model.specs.Test.{_and_}
+use Rattle.base_laws.specs.Test.{_and_}
 use Rattle.model.specs.Network.{maxSteps, maxSignals}
-use Rattle.model.proofs.Tests.{and-left, and-right}
+use Rattle.base_laws.proofs.Tests.{and-left, and-right}
 use Rattle.network_tables.specs.declared.Counts.{Counts}
 use Rattle.network_tables.specs.Fields.{lineSize}
 use Rattle.listing_lines.specs.declared.Variable.{Variable}

@@ -15,12 +15,12 @@ use Rattle.text_reader.specs.Field.{largest}
 use Rattle.text_reader.specs.Lines.{Line, lines, noLine, number}
 use Rattle.text_writer.specs.Records.{recordLines}
 use Rattle.text_writer.proofs.Records.{Small, text-back, entry-back, form-back, lines-count}
-use Rattle.model.specs.Test.{_and_}
-use Rattle.model.specs.Sum.{list}
+use Rattle.base_laws.specs.Test.{_and_}
+use Rattle.base_laws.specs.Indexed.{list}
 use Rattle.model.specs.Network.{entry, linkCount, signalCount, movementCount, stepCount, stepLength}
 use Rattle.model.specs.Flows.{shownMask, admitted, letOut, moved}
 use Rattle.model.specs.Table.{letterP, isForm}
-use Rattle.model.proofs.Tests.{and-right}
+use Rattle.base_laws.proofs.Tests.{and-right}
 use Rattle.listing_lines.specs.declared.Variable.{Variable}
 use Rattle.listing_lines.specs.declared.Entry.{Entry}
 use Rattle.listing_lines.specs.declared.Entry.the-variants.{Sets, Malformed}
@@ -28,7 +28,7 @@ use Rattle.listing_lines.specs.declared.Variable.the-variants.{Shown, Admitted,
 use Rattle.listing_call.specs.Listing.{sets, millionthsOf, stepOf, isVolume, volume, fits, one, lineAt, fitsBy, entryChecksBy, listingChecks, valueBefore, value, maskOf, volumeOf, planNumbers, planText}
 use Rattle.listing_call.specs.Tables.{hasVolume}
 use Rattle.listing_call.proofs.Bits.{bits-below}
-use Rattle.model.proofs.Sums.{list-length}
+use Rattle.base_laws.proofs.Sums.{list-length, list-at}
 use Rattle.listing_call.proofs.Places.{same-is}
 use Rattle.listing_call.proofs.Stored.{volume-none}
 
@@ -44,18 +44,6 @@ small-list : (n : ℕ) (f : ℕ → ℕ) → ((k : ℕ) → k < n → f k ≤ la
 unfolding list
 small-list zero f h = λ k. omega arith
 small-list (suc n) f h = small-both (list n f) (f n ∷ []) (small-list n f (λ k l. h k (omega arith))) (small-one (f n) (h n (omega arith)))
-
-list-at : (n : ℕ) (f : ℕ → ℕ) (k : ℕ) → k < n → getD (list n f) k 0 ≡ f k
-unfolding list
-list-at zero f k h = absurd (omega arith)
-list-at (suc n) f k h = go (eq-or-lt-of-le h) (list-at n f k)
-  where
-    go : (suc k ≡ suc n) ⊎ (suc k < suc n) → (k < n → getD (list n f) k 0 ≡ f k) → getD (list n f ++ (f n ∷ [])) k 0 ≡ f k
-    go (inl e) ih =
-        let q : k ≡ n = omega arith in
-        let p : length (list n f) + 0 ≡ n = omega (arith, list-length n f) in
-        rw q (rw p at (getD-append-add (list n f) (f n ∷ []) 0 0))
-    go (inr l) ih = List·getD-append (list n f) (f n ∷ []) 0 k (omega (arith, list-length n f)) ∙ ih (omega arith)
 
 -- what stands behind a list by index
 past-list : (n : ℕ) (f : ℕ → ℕ) (b : List ℕ) (k : ℕ) → getD (list n f ++ b) (n + k) 0 ≡ getD b k 0

@@ -13,8 +13,8 @@ use Rattle.base_search.specs.declared.Verdict.the-variants.{Passes, Refused}
 use Rattle.base_search.specs.Checks.{refusal, each, orElse, firstFrom, checked, verdict}
 use Rattle.base_search.proofs.Laws.{first-hit, first-next, first-done}
 use Rattle.text_reader.specs.Field.{largest}
-use Rattle.model.specs.Test.{_and_}
-use Rattle.model.proofs.Tests.{and-left, and-right}
+use Rattle.base_laws.specs.Test.{_and_}
+use Rattle.base_laws.proofs.Tests.{and-left, and-right}
 use Rattle.network_tables.specs.declared.Counts.{Counts}
 use Rattle.listing_lines.specs.declared.Variable.{Variable}
 use Rattle.listing_lines.specs.declared.Variable.the-variants.{Shown, Admitted, LetOut, Moved}

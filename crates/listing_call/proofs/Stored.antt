@@ -12,11 +12,11 @@ use lib.Dec.{eqb}
 use lib.ListN.{length, getD, set, length-set}
 use lib.Seq.{getD-set-same, getD-set-other}
 use Rattle.text_reader.specs.Field.{largest}
-use Rattle.model.specs.Test.{_and_, _or_}
-use Rattle.model.specs.Sum.{sum, only}
+use Rattle.base_laws.specs.Test.{_and_, _or_}
+use Rattle.base_laws.specs.Sum.{sum, only}
 use Rattle.model.specs.Network.{maxSteps, maxSignals}
-use Rattle.model.proofs.Sums.{sum-ext, sum-bound}
-use Rattle.model.proofs.Tests.{and-right}
+use Rattle.base_laws.proofs.Sums.{sum-ext, sum-bound}
+use Rattle.base_laws.proofs.Tests.{and-right, or-neither}
 use Rattle.network_tables.specs.Fields.{lineSize}
 use Rattle.listing_lines.specs.declared.Variable.{Variable}
 use Rattle.listing_lines.specs.declared.Variable.the-variants.{Shown, Admitted, LetOut, Moved}
@@ -66,11 +66,6 @@ module _ (listing : List Entry) (i : ℕ) (w : Variable) (m : ℕ) (e : lineAt l
     value-kept = rw (add-one, valueBefore, e, same-not v w n)
 
 -- what no line set is 0
-or-neither : (a b : Bool) → a or b ≡ false → (a ≡ false) × (b ≡ false)
-unfolding _or_
-or-neither true b e = (e, cc)
-or-neither false b e = (refl, e)
-
 pub value-unset : (listing : List Entry) (i : ℕ) (v : Variable) → setBefore listing i v ≡ false → valueBefore listing i v ≡ 0
 unfolding setBefore valueBefore
 value-unset listing zero v e = refl

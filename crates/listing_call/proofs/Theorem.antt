@@ -14,7 +14,7 @@ use lib.ListN.{length}
 use Rattle.base_search.specs.Checks.{Hold}
 use Rattle.text_reader.specs.Lines.{Line, lines}
 use Rattle.text_reader.proofs.Laws.{starts-first, starts-end, end-of-none}
-use Rattle.model.specs.Test.{_and_, _or_, within}
+use Rattle.base_laws.specs.Test.{_and_, _or_, within}
 use Rattle.model.specs.Network.{linkCount, signalCount, movementCount, stepCount, signal, stepLength}
 use Rattle.model.specs.Flows.{shownMask}
 use Rattle.model.specs.Rules.{validPhases}
@@ -23,7 +23,7 @@ use Rattle.model.specs.Hold.{meant}
 use Rattle.model.proofs.Accepted.{valid-network}
 use Rattle.model.proofs.Hold.{meant-lines}
 use Rattle.model.proofs.Limits.{counts}
-use Rattle.model.proofs.Tests.{and-left, and-right, or-cases}
+use Rattle.base_laws.proofs.Tests.{and-left, and-right, or-cases, or-left}
 use Rattle.listing_lines.specs.declared.Variable.{Variable}
 use Rattle.listing_lines.specs.declared.Variable.the-variants.{Shown, Admitted, LetOut, Moved}
 use Rattle.listing_lines.specs.declared.Entry.{Entry}
@@ -46,10 +46,6 @@ or-last : (t : Bool) → t or true ≡ true
 unfolding _or_
 or-last true = refl
 or-last false = refl
-
-or-first : (a b : Bool) → a ≡ true → a or b ≡ true
-unfolding _or_
-or-first a b e = rw e
 
 false-true : {A : Type 0} → _≡_ {A = Bool} false true → A
 false-true e = let z : _≡_ {A = ℕ} 0 1 = cc in absurd (omega arith)
@@ -105,7 +101,7 @@ module _ (network : List Line) (listing : List Entry) (hold : Hold (listingCheck
       where
         go : (suc i ≡ suc k) ⊎ (suc i < suc k) → (i < k → setBefore listing k v ≡ true) → setBefore listing k v or sets v (lineAt listing k) ≡ true
         go (inl q) ih = let z : k ≡ i = omega arith in rw (z, e, same-self v) (or-last (setBefore listing i v))
-        go (inr q) ih = or-first (setBefore listing k v) (sets v (lineAt listing k)) (ih (omega arith))
+        go (inr q) ih = or-left (setBefore listing k v) (sets v (lineAt listing k)) (ih (omega arith))
 
     value-stays : (k : ℕ) → sets v (lineAt listing k) ≡ false → valueBefore listing k v ≡ m → valueBefore listing (suc k) v ≡ m
     unfolding valueBefore

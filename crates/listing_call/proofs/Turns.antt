@@ -10,8 +10,8 @@ use borrow.Author.Tests.{eq-eqb, ne-eqb, le-leb, lt-leb, leb-true, not-true, not
 use lib.Dec.{eqb}
 use lib.ListN.{getD}
 use Rattle.text_reader.specs.Field.{largest}
-use Rattle.model.specs.Test.{_and_, _or_, within}
-use Rattle.model.proofs.Tests.{and-left, and-right}
+use Rattle.base_laws.specs.Test.{_and_, _or_, within}
+use Rattle.base_laws.proofs.Tests.{and-left, and-right}
 use Rattle.network_tables.specs.declared.Counts.{Counts}
 use Rattle.network_tables.specs.Fields.{lineSize}
 use Rattle.listing_lines.specs.declared.Variable.{Variable}

@@ -13,11 +13,12 @@ use Rattle.base_search.proofs.Laws.{first-same}
 use Rattle.text_reader.specs.Lines.{Line}
 use Rattle.text_writer.specs.Records.{recordTexts}
 use Rattle.text_writer.proofs.Laws.{records-same}
-use Rattle.model.specs.Test.{_and_, within}
-use Rattle.model.specs.Sum.{sum, list}
+use Rattle.base_laws.specs.Test.{_and_, within}
+use Rattle.base_laws.specs.Sum.{sum}
+use Rattle.base_laws.specs.Indexed.{list}
 use Rattle.model.specs.Network.{linkCount, signalCount, movementCount, stepCount, signal, stepLength, time}
 use Rattle.model.specs.Table.{letterP}
-use Rattle.model.proofs.Tests.{and-right}
+use Rattle.base_laws.proofs.Tests.{and-right}
 use Rattle.network_tables.specs.declared.Counts.{Counts}
 use Rattle.network_tables.specs.Places.{planWidth}
 use Rattle.network_tables.specs.Tables.{CountsHold, PhaseTable}
@@ -32,20 +33,9 @@ use Rattle.listing_call.specs.Tables.{column, place, hasPhaseIn, hasIn, 
 use Rattle.network_writer.specs.Plan.{columnIn, planNumber, planRow, planLines}
 use Rattle.network_writer.proofs.Plan.{column-mask, column-admitted, column-let-out, column-moved, number-some}
 use Rattle.listing_call.proofs.Turns.{within-parts}
+use Rattle.base_laws.proofs.Sums.{list-same, list-plus}
 
 -- ---- lists by index
-list-ext : (n : ℕ) (f g : ℕ → ℕ) → ((k : ℕ) → k < n → f k ≡ g k) → list n f ≡ list n g
-unfolding list
-list-ext zero f g h = refl
-list-ext (suc n) f g h = ap₂ (λ (a : List ℕ) (x : ℕ). a ++ (x ∷ [])) (list-ext n f g (λ k l. h k (omega arith))) (h n (omega arith))
-
-list-plus : (a b : ℕ) (f : ℕ → ℕ) → list (a + b) f ≡ list a f ++ list b (λ k. f (a + k))
-unfolding list
-list-plus a zero f = let z : a + 0 ≡ a = omega arith in rw z (sym (append-nil (list a f)))
-list-plus a (suc b) f =
-    let z : a + suc b ≡ suc (a + b) = omega arith in
-    rw z (ap (λ (x : List ℕ). x ++ (f (a + b) ∷ [])) (list-plus a b f) ∙ append-assoc (list a f) (list b (λ k. f (a + k))) (f (a + b) ∷ []))
-
 -- ---- the same judgement
 refused-both : (a b : Bool) (line : ℕ) (x y : Verdict) → orElse (checked (false and a and b) 22 line 0) x ≡ orElse (checked (false and a and b) 22 line 0) y
 unfolding _and_ checked orElse
@@ -161,14 +151,14 @@ module _ (network : List Line) (counts : Counts) (phases times : List ℕ) (c : 
     numbers-same =
         let f : ℕ → ℕ = λ k. getD numbers (lineSize * n + columnIn counts k) 0 in
         let w : planWidth counts ≡ signalCount network + (linkCount network + (linkCount network + movementCount network)) = omega (arith, c .signals, c .links, c .movements) in
-        list-ext (planWidth counts) _ f number-is
+        list-same (planWidth counts) _ f number-is
         ∙ rw w (list-plus (signalCount network) (linkCount network + (linkCount network + movementCount network)) f
-        ∙ ap₂ _++_ (list-ext (signalCount network) f (maskOf network listing n) (λ r a. mask-same r a))
+        ∙ ap₂ _++_ (list-same (signalCount network) f (maskOf network listing n) (λ r a. mask-same r a))
         (list-plus (linkCount network) (linkCount network + movementCount network) (λ k. f (signalCount network + k))
-        ∙ ap₂ _++_ (list-ext (linkCount network) _ _ (λ i a. admitted-same i a))
+        ∙ ap₂ _++_ (list-same (linkCount network) _ _ (λ i a. admitted-same i a))
         (list-plus (linkCount network) (movementCount network) (λ k. f (signalCount network + (linkCount network + k)))
-        ∙ ap₂ _++_ (list-ext (linkCount network) _ _ (λ i a. let-out-same i a))
-        (list-ext (movementCount network) _ _ (λ j a. moved-same j a)))))
+        ∙ ap₂ _++_ (list-same (linkCount network) _ _ (λ i a. let-out-same i a))
+        (list-same (movementCount network) _ _ (λ j a. moved-same j a)))))
 
   -- what is written by the tables is the plan text
   pub text-same : (listing : List Entry) (numbers seen : List ℕ) → Stored (secondsIn times) listing (length listing) numbers seen → planLines numbers lineSize counts ≡ planText network listing

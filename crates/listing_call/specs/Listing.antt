@@ -9,8 +9,9 @@ use Rattle.base_search.specs.Checks.{Checks, check, each, _then_, verdict}
 use Rattle.text_reader.specs.Field.{largest}
 use Rattle.text_reader.specs.Lines.{Line}
 use Rattle.text_writer.specs.Records.{recordTexts}
-use Rattle.model.specs.Test.{_and_, _or_, within}
-use Rattle.model.specs.Sum.{sum, only, list}
+use Rattle.base_laws.specs.Test.{_and_, _or_, within}
+use Rattle.base_laws.specs.Sum.{sum, only}
+use Rattle.base_laws.specs.Indexed.{list}
 use Rattle.model.specs.Network.{linkCount, signalCount, movementCount, stepCount, signal, stepLength}
 use Rattle.model.specs.Table.{networkChecks, letterP}
 use Rattle.model.specs.Guarantees.{networkNumbers}

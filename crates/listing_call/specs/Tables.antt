@@ -9,8 +9,8 @@ use lib.ListN.{length, getD, set}
 use Rattle.base_search.specs.declared.Verdict.{Verdict}
 use Rattle.base_search.specs.declared.Verdict.the-variants.{Passes}
 use Rattle.base_search.specs.Checks.{each, verdict}
-use Rattle.model.specs.Test.{_and_, within}
-use Rattle.model.specs.Sum.{sum, only}
+use Rattle.base_laws.specs.Test.{_and_, within}
+use Rattle.base_laws.specs.Sum.{sum, only}
 use Rattle.model.specs.Network.{maxSignals, maxSteps, maxLinks, maxMovements}
 use Rattle.network_tables.specs.declared.Counts.{Counts}
 use Rattle.network_tables.specs.Places.{Few}

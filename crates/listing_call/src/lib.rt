@@ -5,7 +5,7 @@ ghost use lib.ListN.{length};
 ghost use lib.Dec.{eqb};
 ghost use Rattle.text_reader.specs.Lines.{lines};
 ghost use Rattle.text_reader.specs.Padding.{PaddingIgnored};
-ghost use Rattle.model.specs.Test.{within};
+ghost use Rattle.base_laws.specs.Test.{within};
 ghost use Rattle.listing_lines.specs.Entry.{entries};
 ghost use Rattle.listing_call.specs.Listing.{validValue};
 ghost use Rattle.listing_call.specs.ReadsBack.{PlanGot};

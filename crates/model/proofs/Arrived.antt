@@ -10,7 +10,7 @@ use native.Mathlib.Omega.{arith}
 use lib.Dec.{leb}
 use borrow.Author.Tests.{le-leb, lt-leb, lt-ltb, le-ltb}
 use Rattle.text_reader.specs.Lines.{Line}
-use Rattle.model.specs.Sum.{sum}
+use Rattle.base_laws.specs.Sum.{sum}
 use Rattle.model.specs.Network.{pastCount, onTimeline, travelTime, standing, timelineLength, time, timelineTime, arrivalStep, elapsed}
 use Rattle.model.specs.Flows.{timelineInflow, timelineEntered, hasArrived}
 use Rattle.model.proofs.Times.{timeline-suc, timeline-mono, step-at-is, elapsed-is, elapsed-early, arrival-in-past}

@@ -13,13 +13,13 @@ use lib.Dec.{eqb, ltb}
 use borrow.Author.Tests.{leb-true, ltb-true, eqb-true, eqb-false, not-true, lt-ltb, le-ltb}
 use Rattle.base_search.specs.Checks.{Hold}
 use Rattle.text_reader.specs.Lines.{Line}
-use Rattle.model.specs.Sum.{sum, only}
+use Rattle.base_laws.specs.Sum.{sum, only}
 use Rattle.model.specs.Network.{linkCount, movementCount, stepCount, pastCount, exitRate, fromLink, toLink, rate, pastEntries, stepLength}
 use Rattle.model.specs.Flows.{offered, admitted, letOut, moved, movedInto, movedFrom, inflow, outflow, entered, left, held, vehicles, taken, waits, outside, underWay, allAdmitted, allLetOut, doubledTime}
 use Rattle.model.specs.Rules.{pairRises, validMovement, rule15, rule18, rule25, rule26}
 use Rattle.model.specs.Table.{networkChecks}
-use Rattle.model.proofs.Tests.{and-left, and-right, or-cases}
-use Rattle.model.proofs.Sums.{sum-bound, sum-add, sum-swap}
+use Rattle.base_laws.proofs.Tests.{and-left, and-right, or-cases}
+use Rattle.base_laws.proofs.Sums.{sum-bound, sum-add, sum-swap}
 use Rattle.model.proofs.Accepted.{ValidNetwork, LawfulStep, valid-network}
 use Rattle.model.proofs.Limits.{counts, link-limits, movement-limits, step-limits, past-limits}
 use Rattle.model.proofs.Timeline.{entered-start, entered-by, left-by}

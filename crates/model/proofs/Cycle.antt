@@ -11,13 +11,13 @@ use lib.Dec.{leb}
 use borrow.Author.Tests.{leb-true, eq-eqb, ne-eqb}
 use Rattle.text_reader.specs.Lines.{Line}
 use Rattle.model.specs.declared.Signal.{Signal}
-use Rattle.model.specs.Test.{_and_, _or_, within}
+use Rattle.base_laws.specs.Test.{_and_, _or_, within}
 use Rattle.model.specs.Network.{signalCount, stepCount, signal, stepLength, ordinary}
 use Rattle.model.specs.Signals.{beginsCycle, clockAfter, keepsCycle}
 use Rattle.model.specs.Flows.{shownIn, signalAt}
 use Rattle.model.specs.Rules.{validSignal, rule14}
 use Rattle.model.specs.Guarantees.{CycleBegins, NoCycleBegins, Cycle, ordinaryLength, between, leastCycle, greatestCycle, clockAtStart}
-use Rattle.model.proofs.Tests.{and-left, and-right}
+use Rattle.base_laws.proofs.Tests.{and-left, and-right}
 use Rattle.model.proofs.Accepted.{AcceptedPlan}
 use Rattle.model.proofs.Ordinary.{sum-between, seconds, seconds-on, seconds-off}
 use Rattle.model.proofs.Shown.{kept, next-signal, same-signal, phase, phase-suc, change-ordinary, phase-last, tested}

@@ -9,12 +9,12 @@ use native.Mathlib.Omega.{arith}
 use lib.Dec.{eqb}
 use borrow.Author.Tests.{leb-true}
 use Rattle.text_reader.specs.Lines.{Line}
-use Rattle.model.specs.Sum.{sum, only}
+use Rattle.base_laws.specs.Sum.{sum, only}
 use Rattle.model.specs.Network.{linkCount, movementCount, stepCount, onTimeline, capacity, travelTime, standing, fromLink, toLink, timelineLength, time, timelineTime, arrivalStep, elapsed}
 use Rattle.model.specs.Flows.{admitted, letOut, moved, movedInto, movedFrom, inflow, outflow, timelineInflow, timelineEntered, entered, left, hasArrived, held, vehicles, allAdmitted, allLetOut}
 use Rattle.model.specs.Rules.{rule17, rule18}
 use Rattle.model.specs.Guarantees.{between, secondsOver}
-use Rattle.model.proofs.Sums.{sum-ext, sum-le, sum-add, sum-sub, sum-swap, sum-more, sum-place}
+use Rattle.base_laws.proofs.Sums.{sum-ext, sum-le, sum-add, sum-sub, sum-swap, sum-more, sum-place}
 use Rattle.model.proofs.Times.{on-timeline-suc, on-timeline-mono, timeline-suc, timeline-mono, arrival-step-le, arrival-step-lt, elapsed-is, elapsed-lt}
 use Rattle.model.proofs.Timeline.{timeline-entered-suc, timeline-entered-more, entered-suc, left-suc, start-left, start-held}
 use Rattle.model.proofs.Arrived.{scaledBy, arrived-by-step, arrived-past}

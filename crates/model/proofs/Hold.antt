@@ -18,8 +18,9 @@ use Rattle.text_reader.specs.Field.{largest}
 use Rattle.text_reader.specs.Lines.{Line, lines}
 use Rattle.text_reader.proofs.Laws.{some-lines, no-lines}
 use Rattle.text_writer.proofs.Records.{Small, text-back, lines-count, entry-back, form-back}
-use Rattle.model.specs.Test.{within}
-use Rattle.model.specs.Sum.{only, list}
+use Rattle.base_laws.specs.Test.{within}
+use Rattle.base_laws.specs.Sum.{only}
+use Rattle.base_laws.specs.Indexed.{list}
 use Rattle.model.specs.Network.{entry, linkCount, signalCount, movementCount, stepCount, signal, stepLength, ordinary}
 use Rattle.model.specs.Signals.{after}
 use Rattle.model.specs.Flows.{shownMask, shownIn, signalAt}
@@ -29,8 +30,8 @@ use Rattle.model.specs.declared.PlanAnswer.the-variants as plan-answer
 use Rattle.model.specs.Table.{letterP, isForm, networkChecks, planChecks}
 use Rattle.model.specs.Calls.{planAnswer, checkPlan, ledgerAfter}
 use Rattle.model.specs.Hold.{holdNumbers, holdLines, holdText, meant, planOf, EmptyHolds}
-use Rattle.model.proofs.Tests.{and-left, and-right}
-use Rattle.model.proofs.Sums.{list-at, list-length}
+use Rattle.base_laws.proofs.Tests.{and-left, and-right}
+use Rattle.base_laws.proofs.Sums.{list-at, list-length}
 use Rattle.model.proofs.Phases.{phase-of-bit}
 use Rattle.model.proofs.Accepted.{ValidNetwork, valid-network}
 use Rattle.model.proofs.Rows.{written-none}

@@ -6,10 +6,8 @@ pub mod TramCases
 pub mod PastCases
 pub mod LedgerCases
 pub mod Witness
-pub mod Tests
 pub mod Accepted
 pub mod Limits
-pub mod Sums
 pub mod Times
 pub mod Timeline
 pub mod Arrived

@@ -8,12 +8,12 @@ use native.Mathlib.Omega.{arith}
 use lib.Dec.{leb}
 use borrow.Author.Tests.{leb-true}
 use Rattle.text_reader.specs.Lines.{Line}
-use Rattle.model.specs.Sum.{sum}
-use Rattle.model.specs.Test.{within, every}
+use Rattle.base_laws.specs.Sum.{sum}
+use Rattle.base_laws.specs.Test.{within, every}
 use Rattle.model.specs.Network.{linkCount, signalCount, movementCount, stepCount, pastCount, onTimeline, capacity, travelTime, exitRate, signalOf, standing, fromLink, toLink, rate, share, timelineLength, pastEntries, stepLength, demand, time, timelineTime}
 use Rattle.model.specs.Flows.{offered, left, hasArrived, held}
 use Rattle.model.specs.Rules.{validCounts, validLink, validMovement, validStep, validPastOf, validPast}
-use Rattle.model.proofs.Tests.{and-left, and-right, every-at}
+use Rattle.base_laws.proofs.Tests.{and-left, and-right, every-at}
 use Rattle.model.proofs.Accepted.{ValidNetwork}
 
 pub record Counts (network : List Line) : Type 0 where

@@ -13,11 +13,11 @@ use Rattle.base_search.specs.Numbers.{isOneOf}
 use Rattle.base_search.proofs.Numbers.{arises, Numbered, refused-number, allOf, wider}
 use Rattle.text_reader.specs.Lines.{Line}
 use Rattle.model.specs.declared.LinkAnswer.the-variants as link-answer
-use Rattle.model.specs.Test.{_and_, every}
+use Rattle.base_laws.specs.Test.{_and_, every}
 use Rattle.model.specs.Table.{countChecks, tramChecks, signalChecks, tramPhaseChecks, linkChecks, movementChecks, shareChecks, pastChecks, stepChecks, networkChecks, ledgerChecks, stepRules, lineChecks, planLineChecks, planChecks}
 use Rattle.model.specs.Guarantees.{networkNumbers, stateNumbers, planNumbers, NetworkPromises, StatePromises}
 use Rattle.model.specs.Calls.{checkNetwork, stateChecks, linkAnswer, linkState}
-use Rattle.model.proofs.Tests.{every-at}
+use Rattle.base_laws.proofs.Tests.{every-at}
 
 -- ---- the checks of the three calls
 pub network-numbered : (network : List Line) → Numbered networkNumbers (networkChecks network)

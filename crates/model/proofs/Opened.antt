@@ -2,8 +2,9 @@
 use Rattle.base_search.specs.Checks.{orElse, firstFrom, checked, verdict, table}
 use Rattle.text_reader.proofs.Opened.{opened as linesOpened}
 use Rattle.text_writer.specs.Records.{numeral, fieldText, fieldTexts, recordText, recordTexts, recordLine, recordLines}
-use Rattle.model.specs.Test.{_and_, _or_, within, every}
-use Rattle.model.specs.Sum.{sum, list, joined}
+use Rattle.base_laws.specs.Test.{_and_, _or_, within, every}
+use Rattle.base_laws.specs.Sum.{sum, joined}
+use Rattle.base_laws.specs.Indexed.{list}
 use Rattle.model.specs.Network.{entry, linkCount, signalCount, movementCount, stepCount, tramCount, pastCount, onTimeline, tramLine, signalLine, linkLine, movementLine, timelineLine, stepLine, covers, tramPhase, trams, ordinary, signal, capacity, travelTime, exitRate, signalOf, phaseMask, standing, waitingAtStart, fromLink, toLink, rate, share, timelineLength, pastEntries, pastExits, stepLength, demand, time, timelineTime, stepAt, arrivalStep, elapsed}
 use Rattle.model.specs.Signals.{phaseOf, opens}
 use Rattle.model.specs.Flows.{offered, shownMask, admitted, letOut, moved, shownIn, signalAt, isOpen, movedInto, movedFrom, inflow, outflow, timelineInflow, timelineOutflow, timelineEntered, timelineLeft, entered, left, hasArrived, held, vehicles, taken, waits, outside, underWay, allAdmitted, allLetOut, doubledTime, totals, rowOf, row}

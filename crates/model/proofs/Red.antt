@@ -10,14 +10,14 @@ use native.Mathlib.Decide.{ℕ-discrete, decLe}
 use native.Mathlib.Omega.{arith}
 use Rattle.text_reader.specs.Lines.{Line}
 use Rattle.model.specs.declared.Signal.{Signal}
-use Rattle.model.specs.Test.{within}
+use Rattle.base_laws.specs.Test.{within}
 use Rattle.model.specs.Rules.{validPhases}
 use Rattle.model.specs.Network.{entry, signalLine, signalCount, stepCount, signal, ordinary}
 use Rattle.model.specs.Signals.{leastTime, greatestTime}
 use Rattle.model.specs.Guarantees.{isOrdinary, NoneBetween, ordinaryLength, Green, Greens, done, more, Red, others, sumOver, between, leastOf, greatestOf}
-use Rattle.model.proofs.Sums.{list-at}
+use Rattle.base_laws.proofs.Sums.{list-at}
 use Rattle.model.proofs.Ordinary.{sum-between, not-between, none-next, none-joined, last-ordinary, first-ordinary, seconds, seconds-on, seconds-off, seconds-still}
-use Rattle.model.proofs.Tests.{and-right}
+use Rattle.base_laws.proofs.Tests.{and-right}
 use Rattle.model.proofs.Accepted.{AcceptedPlan}
 use Rattle.model.proofs.Order.{next, turns, turns-others, Turns, last-turn, other-turn}
 use Rattle.model.proofs.Shown.{P, phase, run, same-signal, change-ordinary, still, phase-of-shows, shows-of-phase, run-new, run-on, phase-first, phase-last, next-phase, least-time, greatest-time}

@@ -8,7 +8,7 @@ use native.Mathlib.Omega.{arith}
 use lib.ListN.{length, getD, take, drop, length-append, length-drop, List·getD-append}
 use lib.Seq.{getD-append-add, take-at, drop-append-add, drop-drop}
 use Rattle.text_reader.specs.Lines.{Line}
-use Rattle.model.specs.Sum.{joined}
+use Rattle.base_laws.specs.Sum.{joined}
 use Rattle.model.specs.Network.{linkCount}
 use Rattle.model.specs.Flows.{entered, left, rowOf, row}
 use Rattle.model.specs.Calls.{written}

@@ -8,13 +8,13 @@ use native.Mathlib.Omega.{arith}
 use borrow.Author.Tests.{leb-true, eqb-true, eq-eqb, ne-eqb}
 use Rattle.text_reader.specs.Lines.{Line}
 use Rattle.model.specs.declared.Signal.{Signal}
-use Rattle.model.specs.Test.{_or_, within}
+use Rattle.base_laws.specs.Test.{_or_, within}
 use Rattle.model.specs.Network.{signalCount, stepCount, signal, stepLength, ordinary}
 use Rattle.model.specs.Signals.{leastTime, greatestTime, after}
 use Rattle.model.specs.Flows.{shownMask, shownIn, signalAt}
 use Rattle.model.specs.Rules.{validSignal, rule10, rule11, rule12, rule13}
 use Rattle.model.specs.Guarantees.{Shows, isOrdinary, NoneBetween}
-use Rattle.model.proofs.Tests.{and-left, and-right}
+use Rattle.base_laws.proofs.Tests.{and-left, and-right}
 use Rattle.model.proofs.Phases.{phase-of-le, phase-of-bit, bit-of-phase}
 use Rattle.model.proofs.Accepted.{AcceptedPlan}
 use Rattle.model.proofs.Order.{next}

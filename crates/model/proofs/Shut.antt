@@ -13,7 +13,7 @@ use Rattle.model.specs.Signals.{opens}
 use Rattle.model.specs.Flows.{shownMask, shownIn, moved, isOpen}
 use Rattle.model.specs.Rules.{rule10, rule27}
 use Rattle.model.specs.Guarantees.{Shows}
-use Rattle.model.proofs.Tests.{or-cases}
+use Rattle.base_laws.proofs.Tests.{or-cases}
 use Rattle.model.proofs.Phases.{bit-of-phase}
 use Rattle.model.proofs.Accepted.{AcceptedPlan}
 use Rattle.model.proofs.Limits.{link-limits, movement-limits}

@@ -5,10 +5,10 @@ use Prim.Native.Nat.{ℕ, zero, suc, _+_, _-_, _≤_, _<_}
 use native.Mathlib.Omega.{arith}
 use borrow.Author.Tests.{lt-ltb, le-ltb}
 use Rattle.text_reader.specs.Lines.{Line}
-use Rattle.model.specs.Sum.{sum}
+use Rattle.base_laws.specs.Sum.{sum}
 use Rattle.model.specs.Network.{pastCount, onTimeline, standing, pastEntries, pastExits}
 use Rattle.model.specs.Flows.{inflow, outflow, timelineInflow, timelineOutflow, timelineEntered, timelineLeft, entered, left, held}
-use Rattle.model.proofs.Sums.{sum-ext, sum-more}
+use Rattle.base_laws.proofs.Sums.{sum-ext, sum-more}
 use Rattle.model.proofs.Times.{on-timeline-suc}
 
 module _ (network plan : List Line) where

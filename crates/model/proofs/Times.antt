@@ -8,9 +8,9 @@ use native.Mathlib.Omega.{arith}
 use lib.Dec.{leb}
 use borrow.Author.Tests.{le-leb, lt-leb}
 use Rattle.text_reader.specs.Lines.{Line}
-use Rattle.model.specs.Sum.{sum}
+use Rattle.base_laws.specs.Sum.{sum}
 use Rattle.model.specs.Network.{pastCount, onTimeline, timelineLength, stepLength, travelTime, time, timelineTime, stepAt, arrivalStep, elapsed}
-use Rattle.model.proofs.Sums.{sum-more, sum-split}
+use Rattle.base_laws.proofs.Sums.{sum-more, sum-split}
 
 module _ (network : List Line) where
   pub time-suc : (n : ℕ) → time network (suc n) ≡ time network n + stepLength network n

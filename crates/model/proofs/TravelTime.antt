@@ -5,11 +5,11 @@ use Prim.Native.Nat.{ℕ, zero, suc, _+_, _*_, _-_, _≤_, _<_}
 use native.Mathlib.Nat.{le-refl}
 use native.Mathlib.Omega.{arith}
 use Rattle.text_reader.specs.Lines.{Line}
-use Rattle.model.specs.Sum.{sum}
+use Rattle.base_laws.specs.Sum.{sum}
 use Rattle.model.specs.Network.{linkCount, stepCount, stepLength, waitingAtStart, time}
 use Rattle.model.specs.Flows.{offered, allDemand, taken, vehicles, underWay, allLetOut, doubledTime}
 use Rattle.model.specs.Guarantees.{weight, startingVehicles}
-use Rattle.model.proofs.Sums.{sum-ext, sum-weight}
+use Rattle.base_laws.proofs.Sums.{sum-ext, sum-weight}
 use Rattle.model.proofs.Times.{time-suc, time-mono}
 use Rattle.model.proofs.Accepted.{AcceptedPlan}
 use Rattle.model.proofs.Waiting.{taken-offered, outside-start, outside-step}

@@ -6,11 +6,11 @@ use Prim.Native.Nat.{ℕ, zero, suc, _+_, _≤_, _<_}
 use native.Mathlib.Omega.{arith}
 use borrow.Author.Tests.{leb-true}
 use Rattle.text_reader.specs.Lines.{Line}
-use Rattle.model.specs.Sum.{sum}
+use Rattle.base_laws.specs.Sum.{sum}
 use Rattle.model.specs.Network.{linkCount, waitingAtStart, demand}
 use Rattle.model.specs.Flows.{offered, allDemand, admitted, taken, waits, outside, allAdmitted}
 use Rattle.model.specs.Rules.{rule15}
-use Rattle.model.proofs.Sums.{sum-ext, sum-add, sum-more}
+use Rattle.base_laws.proofs.Sums.{sum-ext, sum-add, sum-more}
 
 module _ (network : List Line) where
   pub offered-suc : (n i : ℕ) → offered network (suc n) i ≡ offered network n i + demand network n i

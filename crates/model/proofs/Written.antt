@@ -16,13 +16,13 @@ use Rattle.base_search.specs.declared.Verdict.the-variants.{Passes, Refused}
 use Rattle.base_search.specs.Checks.{Checks, Hold, verdict}
 use Rattle.base_search.proofs.Laws.{hold-of-passes, passes-of-hold}
 use Rattle.text_reader.specs.Lines.{Line}
-use Rattle.model.specs.Sum.{joined}
+use Rattle.base_laws.specs.Sum.{joined}
 use Rattle.model.specs.Network.{linkCount, stepCount}
 use Rattle.model.specs.Flows.{row}
 use Rattle.model.specs.Table.{ledgerChecks, planLineChecks, planChecks}
 use Rattle.model.specs.Calls.{isPassed, rowChecks, rowsWritten, written, ledgerAfter}
 use Rattle.model.specs.Guarantees.{RowDue, placeOf, LedgerPromises}
-use Rattle.model.proofs.Sums.{count-holds, holds-count}
+use Rattle.base_laws.proofs.Sums.{count-holds, holds-count}
 use Rattle.model.proofs.Rows.{length-rows, written-at, length-written}
 
 verdict-passed : (v : Verdict) → isPassed v ≡ true → v ≡ Passes

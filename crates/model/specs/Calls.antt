@@ -12,8 +12,8 @@ use Rattle.model.specs.declared.PlanAnswer.{PlanAnswer}
 use Rattle.model.specs.declared.PlanAnswer.the-variants as plan-answer
 use Rattle.model.specs.declared.LinkAnswer.{LinkAnswer}
 use Rattle.model.specs.declared.LinkAnswer.the-variants as link-answer
-use Rattle.model.specs.Test.{_and_, _or_, within}
-use Rattle.model.specs.Sum.{sum, only, joined}
+use Rattle.base_laws.specs.Test.{_and_, _or_, within}
+use Rattle.base_laws.specs.Sum.{sum, only, joined}
 use Rattle.model.specs.Network.{linkCount, stepCount, pastCount, onTimeline, travelTime, standing, timelineLength, time, timelineTime, arrivalStep, elapsed}
 use Rattle.model.specs.Flows.{timelineEntered, totals, row}
 use Rattle.model.specs.Table.{networkChecks, ledgerChecks, lineChecks, planChecks}

@@ -7,8 +7,8 @@ use lib.Dec.{leb, ltb, eqb}
 use Rattle.text_reader.specs.Lines.{Line}
 use Rattle.model.specs.declared.Signal.{Signal}
 use Rattle.model.specs.declared.Totals.{Totals}
-use Rattle.model.specs.Test.{_or_}
-use Rattle.model.specs.Sum.{sum, only}
+use Rattle.base_laws.specs.Test.{_or_}
+use Rattle.base_laws.specs.Sum.{sum, only}
 use Rattle.model.specs.Network.{entry, linkCount, signalCount, movementCount, pastCount, onTimeline, signal, travelTime, signalOf, phaseMask, standing, waitingAtStart, fromLink, toLink, timelineLength, pastEntries, pastExits, stepLength, timelineTime, arrivalStep, elapsed, demand, ordinary}
 use Rattle.model.specs.Signals.{phaseOf, opens, after}
 

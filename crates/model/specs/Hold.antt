@@ -7,7 +7,8 @@ use lib.ListN.{length}
 use Rattle.text_reader.specs.Lines.{Line, lines}
 use Rattle.text_writer.specs.Records.{recordTexts, recordLines}
 use Rattle.model.specs.declared.PlanAnswer.{PlanAnswer}
-use Rattle.model.specs.Sum.{only, list}
+use Rattle.base_laws.specs.Sum.{only}
+use Rattle.base_laws.specs.Indexed.{list}
 use Rattle.model.specs.Network.{linkCount, signalCount, movementCount, stepCount, signal}
 use Rattle.model.specs.Table.{letterP}
 use Rattle.model.specs.Calls.{checkPlan, ledgerAfter}

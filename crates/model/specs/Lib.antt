@@ -1,5 +1,3 @@
-pub mod Test
-pub mod Sum
 pub mod Network
 pub mod Signals
 pub mod Flows

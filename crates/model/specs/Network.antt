@@ -8,8 +8,9 @@ use lib.Dec.{leb, eqb}
 use lib.ListN.{getD, take, drop}
 use Rattle.text_reader.specs.Lines.{Line, noLine, number}
 use Rattle.model.specs.declared.Signal.{Signal}
-use Rattle.model.specs.Test.{_and_, within}
-use Rattle.model.specs.Sum.{sum, list}
+use Rattle.base_laws.specs.Test.{_and_, within}
+use Rattle.base_laws.specs.Sum.{sum}
+use Rattle.base_laws.specs.Indexed.{list}
 
 -- the limits: links, signals, movements, steps, tram lines, past steps
 abbrev pub maxLinks : ℕ

@@ -6,7 +6,7 @@ use Rattle.base_search.specs.declared.Verdict.the-variants.{Passes, Refused}
 use Rattle.base_search.specs.Checks.{_then_, verdict}
 use Rattle.text_reader.specs.Lines.{Line, lines}
 use Rattle.text_writer.specs.Records.{recordText, recordTexts}
-use Rattle.model.specs.Sum.{sum}
+use Rattle.base_laws.specs.Sum.{sum}
 use Rattle.model.specs.Network.{stepCount, time}
 use Rattle.model.specs.Flows.{vehicles, allAdmitted, allLetOut, doubledTime, row}
 use Rattle.model.specs.Table.{networkChecks, planLineChecks}

@@ -6,8 +6,8 @@ use lib.Dec.{leb, ltb, eqb}
 use lib.ListN.{getD}
 use Rattle.text_reader.specs.Lines.{Line, noLine, number}
 use Rattle.model.specs.declared.Signal.{Signal}
-use Rattle.model.specs.Test.{_and_, _or_, within, every}
-use Rattle.model.specs.Sum.{sum, only}
+use Rattle.base_laws.specs.Test.{_and_, _or_, within, every}
+use Rattle.base_laws.specs.Sum.{sum, only}
 use Rattle.model.specs.Network.{maxLinks, maxSignals, maxMovements, maxSteps, maxTrams, maxPast, linkCount, signalCount, movementCount, stepCount, tramCount, pastCount, tramLine, trams, tramPhase, ordinary, signal, capacity, travelTime, exitRate, signalOf, phaseMask, standing, fromLink, toLink, rate, share, timelineLength, pastEntries, stepLength, demand}
 use Rattle.model.specs.Signals.{greatestTime, showsOnePhase, keepsOrder, keepsLeastTime, keepsGreatestTime, keepsCycle}
 use Rattle.model.specs.Flows.{offered, taken, letOut, moved, shownIn, signalAt, isOpen, movedFrom, entered, left, hasArrived, held}

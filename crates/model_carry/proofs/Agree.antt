@@ -7,10 +7,10 @@ use native.Mathlib.Omega.{arith}
 use lib.Dec.{eqb}
 use borrow.Author.Tests.{lt-ltb, le-ltb}
 use Rattle.text_reader.specs.Lines.{Line}
-use Rattle.model.specs.Sum.{only}
+use Rattle.base_laws.specs.Sum.{only}
 use Rattle.model.specs.Network.{entry, movementCount, pastCount, toLink, fromLink}
 use Rattle.model.specs.Flows.{shownMask, admitted, letOut, moved, shownIn, signalAt, movedInto, movedFrom, inflow, outflow, timelineInflow, timelineOutflow, taken, waits, offered}
-use Rattle.model.proofs.Sums.{sum-ext}
+use Rattle.base_laws.proofs.Sums.{sum-ext}
 
 module _ (network p q : List Line) (a : ℕ) (agree : (n k : ℕ) → n < a → entry p n k ≡ entry q n k) where
   moved-agree : (n j : ℕ) → n < a → moved network p n j ≡ moved network q n j

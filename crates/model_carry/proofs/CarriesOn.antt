@@ -10,11 +10,11 @@ use Rattle.base_search.specs.declared.Verdict.the-variants.{Passes}
 use Rattle.base_search.specs.Checks.{verdict, Hold}
 use Rattle.base_search.proofs.Laws.{hold-of-passes, passes-of-hold}
 use Rattle.text_reader.specs.Lines.{Line}
-use Rattle.model.specs.Test.{within}
+use Rattle.base_laws.specs.Test.{within}
 use Rattle.model.specs.Network.{stepCount}
 use Rattle.model.specs.Table.{networkChecks, lineChecks, planLineChecks, planChecks}
 use Rattle.model.specs.Hold.{meant}
-use Rattle.model.proofs.Tests.{and-left, and-right}
+use Rattle.base_laws.proofs.Tests.{and-left, and-right}
 use Rattle.model_carry.specs.Part.{cut, carriedText}
 use Rattle.model_carry.specs.Call.{boundaryChecks, carryChecks}
 use Rattle.model_carry.specs.CarriesOn.{Accepts, Carries, next, Parted, CarriesOn}

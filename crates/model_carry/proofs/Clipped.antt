@@ -9,12 +9,11 @@ use lib.ListN.{length, getD}
 use borrow.Author.Tests.{leb-true, le-leb, ltb-true, lt-ltb}
 use Rattle.text_reader.specs.Lines.{Line, noLine, number, numberOf}
 use Rattle.text_writer.specs.Records.{recordLine}
-use Rattle.model.specs.Test.{_or_, within}
+use Rattle.base_laws.specs.Test.{_or_, within}
 use Rattle.model.specs.Rules.{apart, tramExists}
-use Rattle.model.proofs.Tests.{and-left}
+use Rattle.base_laws.proofs.Tests.{and-left, and-both}
 use Rattle.model_carry.specs.Part.{meets, clip, clipped}
 use Rattle.model_carry.proofs.Trams.{clipLine}
-use Rattle.model_text.proofs.Tests.{and-both}
 
 module _ (a c : ℕ) where
   -- the line of which clipped line k is a part

@@ -8,13 +8,14 @@ use lib.ListN.{length, getD, length-append, List·getD-append}
 use lib.Seq.{getD-append-seam}
 use Rattle.text_reader.specs.Lines.{Line}
 use Rattle.text_writer.specs.Records.{recordText, recordTexts}
-use Rattle.model.specs.Sum.{list, joined}
+use Rattle.base_laws.specs.Sum.{joined}
+use Rattle.base_laws.specs.Indexed.{list}
 use Rattle.model.specs.Network.{entry, linkCount, pastCount, onTimeline, movementLine, timelineLine, stepLine, fromLink, toLink, rate, share, timelineLength, pastEntries, pastExits, stepLength, demand}
 use Rattle.model.specs.Flows.{entered, left}
 use Rattle.model.proofs.Timeline.{past-inflow, past-outflow, plan-inflow, plan-outflow, entered-suc, left-suc}
 use Rattle.model_text.proofs.Same.{texts-same}
 use Rattle.model_carry.specs.Part.{meets, clip, clipped, movementNumbers, pastNumbers, stepNumbers}
-use Rattle.model_carry.proofs.Twice.{joined-same}
+use Rattle.base_laws.proofs.Sums.{joined-same}
 
 -- ---- lists by index, from the front and in pairs
 list-first : (n : ℕ) (f : ℕ → ℕ) → list (suc n) f ≡ f 0 ∷ list n (λ k. f (1 + k))

@@ -9,7 +9,7 @@ use borrow.Author.Tests.{leb-true, le-leb}
 use Rattle.base_search.specs.Checks.{Hold, each, orElse, checked, verdict}
 use Rattle.base_search.proofs.Laws.{or-else-passes, first-same, hold-of-passes, passes-of-hold}
 use Rattle.text_reader.specs.Lines.{Line, noLine}
-use Rattle.model.specs.Sum.{joined}
+use Rattle.base_laws.specs.Sum.{joined}
 use Rattle.model.specs.Network.{linkCount, stepCount}
 use Rattle.model.specs.Flows.{row}
 use Rattle.model.specs.Table.{networkChecks, ledgerChecks, lineChecks, planLineChecks, planChecks}

@@ -9,18 +9,18 @@ use lib.Dec.{leb, eqb}
 use borrow.Author.Tests.{lt-ltb, le-ltb}
 use Rattle.text_reader.specs.Lines.{Line}
 use Rattle.model.specs.declared.Signal.{Signal}
-use Rattle.model.specs.Sum.{only}
-use Rattle.model.specs.Test.{_or_}
+use Rattle.base_laws.specs.Sum.{only}
+use Rattle.base_laws.specs.Test.{_or_}
 use Rattle.model.specs.Signals.{phaseOf, opens}
 use Rattle.model.specs.Network.{entry, linkCount, signalCount, movementCount, stepCount, pastCount, onTimeline, linkLine, movementLine, trams, signal, capacity, travelTime, exitRate, signalOf, phaseMask, standing, waitingAtStart, fromLink, toLink, rate, share, timelineLength, pastEntries, pastExits, stepLength, demand, timelineTime, stepAt, arrivalStep, elapsed, tramPhase, ordinary}
 use Rattle.model.specs.Flows.{offered, shownMask, admitted, letOut, moved, shownIn, signalAt, isOpen, movedInto, movedFrom, inflow, outflow, timelineInflow, timelineOutflow, timelineEntered, timelineLeft, entered, left, hasArrived, held, vehicles, taken, waits, outside, underWay, doubledTime, rowOf, row}
 use Rattle.model.specs.Rules.{rule10, rule11, rule12, rule13, rule14, rule15, rule16, rule17, rule18, rule25, rule26, rule27, rule29}
-use Rattle.model.proofs.Sums.{sum-ext, sum-split}
+use Rattle.base_laws.proofs.Sums.{sum-ext, sum-split}
 use Rattle.model.proofs.Times.{arrival-step-le, arrival-step-lt}
 use Rattle.model.proofs.Accepted.{ValidNetwork}
 use Rattle.model.proofs.Limits.{link-limits, movement-limits}
 use Rattle.model.proofs.Shown.{same-phases}
-use Rattle.model_text.proofs.Tests.{leb-plus}
+use Rattle.base_laws.proofs.Tests.{leb-plus}
 
 -- `other` and `rest` are what is left of `network` and `plan` at boundary a, up to some later boundary
 pub record GoesOn (network plan other rest : List Line) (a : ℕ) : Type 0 where

@@ -22,9 +22,9 @@ use Rattle.model.proofs.Hold.{hold-shown}
 use Rattle.model_text.proofs.Formed.{formed-of-holds}
 use Rattle.model_carry.specs.Part.{cut, carried}
 use Rattle.model_carry.proofs.Agree.{signal-agree}
-use Rattle.model_text.proofs.Same.{list-same}
 use Rattle.model_carry.proofs.Parts.{part-signals, part-links, part-movements, part-signal}
 use Rattle.model_carry.proofs.Theorem.{cut-steps, carried-steps}
+use Rattle.base_laws.proofs.Sums.{list-same}
 
 -- ---- equal lines
 more-lines : (letter b n : ℕ) (ns : List ℕ) → recordLines letter (b + n) (λ k. ns) ≡ recordLines letter b (λ k. ns) ++ recordLines letter n (λ k. ns)

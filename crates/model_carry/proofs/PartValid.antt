@@ -13,14 +13,14 @@ use Rattle.text_reader.specs.Lines.{Line, noLine, number, numberOf, isRecord}
 use Rattle.text_writer.specs.Records.{recordLine, recordLines}
 use Rattle.text_writer.proofs.Records.{entry-back}
 use Rattle.model.specs.declared.Signal.{Signal}
-use Rattle.model.specs.Sum.{sum, only}
-use Rattle.model.specs.Test.{_and_, within}
+use Rattle.base_laws.specs.Sum.{sum, only}
+use Rattle.base_laws.specs.Test.{_and_, within}
 use Rattle.model.specs.Network.{entry, linkCount, signalCount, movementCount, stepCount, tramCount, pastCount, onTimeline, tramLine, signalLine, timelineLine, stepLine, trams, signal, capacity, travelTime, signalOf, phaseMask, standing, fromLink, share, timelineLength, pastEntries, stepLength, demand, time}
 use Rattle.model.specs.Flows.{offered, signalAt, admitted, movedInto, inflow, timelineInflow, timelineOutflow, timelineEntered, entered, left, hasArrived, held, taken}
 use Rattle.model.specs.Rules.{validPhases, validCounts, apart, tramExists, tram, validTram, validTramPhase, validMask, validLink, pairRises, validMovement, lastMovement, validShares, validStep, validPastOf, validPast}
 use Rattle.model.specs.Table.{letterT, letterG, letterH, letterS, networkChecks}
-use Rattle.model.proofs.Tests.{and-left, and-right, every-at, every-same}
-use Rattle.model.proofs.Sums.{sum-ext, sum-add, sum-bound, list-length}
+use Rattle.base_laws.proofs.Tests.{and-left, and-right, every-at, every-same, and-both, every-of, is-within}
+use Rattle.base_laws.proofs.Sums.{sum-ext, sum-add, sum-bound, list-length}
 use Rattle.model.proofs.Accepted.{ValidNetwork, LawfulStep, valid-network}
 use Rattle.model.proofs.Limits.{counts, link-limits, past-limits, timeline-length}
 use Rattle.model.proofs.Timeline.{entered-start, entered-by, start-left, start-held}
@@ -31,7 +31,6 @@ use Rattle.model.proofs.Bounds.{lawful-limits, moved-into-small}
 use Rattle.model.proofs.Shown.{kept}
 use Rattle.model_text.specs.NetworkText.{NetworkNumbers, networkLines}
 use Rattle.model_text.proofs.Lines.{Says, count-form, all-lines, tram-says, signal-says, link-says, movement-says, past-says, step-says}
-use Rattle.model_text.proofs.Tests.{and-both, is-within, every-of}
 use Rattle.model_text.proofs.Formed.{Formed, formed-of-holds, holds-of-valid, trams-length, tram-at}
 use Rattle.model_carry.specs.Part.{meets, clip, clipped, linkNumbers, movementNumbers, pastNumbers, stepNumbers, part}
 use Rattle.model_carry.proofs.GoesOn.{GoesOn, capacity-same, travel-same, exit-same, signal-of-same, mask-same, standing-same, from-same, to-same, rate-same, share-same, phases-same, length-same, left-same, held-same, arrived-same, offered-same}

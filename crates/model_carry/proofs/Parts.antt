@@ -10,16 +10,16 @@ use lib.ListN.{length, getD, length-append, List·getD-append, List·getD-eq-def
 use lib.Seq.{getD-append-add}
 use Rattle.text_reader.specs.Lines.{Line}
 use Rattle.model.specs.declared.Signal.{Signal}
-use Rattle.model.specs.Sum.{list, joined}
+use Rattle.base_laws.specs.Sum.{joined}
+use Rattle.base_laws.specs.Indexed.{list}
 use Rattle.model.specs.Network.{entry, linkCount, signalCount, movementCount, stepCount, tramCount, pastCount, onTimeline, signalLine, linkLine, movementLine, timelineLine, stepLine, trams, signal, capacity, travelTime, exitRate, signalOf, phaseMask, standing, waitingAtStart, fromLink, toLink, rate, share, timelineLength, pastEntries, pastExits, stepLength, demand, tramPhase}
 use Rattle.model.specs.Flows.{offered, signalAt, timelineInflow, timelineOutflow, taken, waits}
 use Rattle.model.specs.Table.{letterG}
-use Rattle.model.proofs.Sums.{list-at, list-length}
+use Rattle.base_laws.proofs.Sums.{list-at, list-length, list-same}
 use Rattle.model.proofs.Shown.{kept, same-phases}
 use Rattle.model_text.specs.NetworkText.{NetworkNumbers, networkLines}
 use Rattle.model_text.proofs.Lines.{link-count, signal-count, movement-count, step-count, tram-count, past-count, signal-says, link-says, movement-says, past-says, step-says, trams-are}
 use Rattle.model_text.proofs.Formed.{Formed, none-past}
-use Rattle.model_text.proofs.Same.{list-same}
 use Rattle.model_carry.specs.Part.{clipped, signalNumbers, linkNumbers, movementNumbers, pastNumbers, stepNumbers, part}
 use Rattle.model_carry.proofs.Trams.{clipped-phase}
 use Rattle.model_carry.proofs.GoesOn.{GoesOn}

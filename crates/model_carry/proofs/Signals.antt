@@ -10,15 +10,14 @@ use lib.ListN.{getD}
 use borrow.Author.Tests.{leb-true, le-leb, eqb-true, eqb-false, eq-eqb, not-true}
 use Rattle.text_reader.specs.Lines.{Line}
 use Rattle.model.specs.declared.Signal.{Signal}
-use Rattle.model.specs.Test.{_and_, _or_, within, every}
+use Rattle.base_laws.specs.Test.{_and_, _or_, within, every}
 use Rattle.model.specs.Network.{signalCount, stepLength, ordinary}
 use Rattle.model.specs.Signals.{after, greatestTime, shownForAfter, clockAfter, beginsCycle, keepsGreatestTime, keepsCycle, phaseOf}
 use Rattle.model.specs.Flows.{shownIn, signalAt}
 use Rattle.model.specs.Rules.{validSignal, rule10, rule13, rule14}
-use Rattle.model.proofs.Tests.{and-left, and-right, or-cases}
+use Rattle.base_laws.proofs.Tests.{and-left, and-right, or-cases, and-both, is-within}
 use Rattle.model.proofs.Accepted.{ValidNetwork, LawfulStep}
 use Rattle.model.proofs.Shown.{kept, same-phases}
-use Rattle.model_text.proofs.Tests.{and-both, is-within}
 
 -- what a signal shows: refusal 3, but for the limits of its phases and its cycle, which no step changes
 pub record Shows (s : Signal) : Type 0 where

@@ -13,7 +13,7 @@ use Rattle.base_search.specs.declared.Verdict.the-variants.{Passes, Refused}
 use Rattle.base_search.specs.Checks.{orElse, firstFrom, verdict, Hold}
 use Rattle.base_search.proofs.Laws.{or-else-first, or-else-second, or-else-passes, or-else-refused, first-split, first-same, first-all, checked-passes, hold-of-passes, passes-of-hold}
 use Rattle.text_reader.specs.Lines.{Line, noLine, number}
-use Rattle.model.specs.Sum.{sum}
+use Rattle.base_laws.specs.Sum.{sum}
 use Rattle.model.specs.Network.{entry, linkCount, stepCount}
 use Rattle.model.specs.Flows.{doubledTime, row}
 use Rattle.model.specs.Table.{networkChecks, ledgerChecks, lineChecks, planLineChecks, planChecks}
@@ -26,9 +26,9 @@ use Rattle.model_carry.specs.CarriesOn.{later, Accepts, Carries, next, P
 use Rattle.model_carry.proofs.Later.{later-first, later-none, later-passes}
 use Rattle.model_carry.proofs.GoesOn.{GoesOn, row-same, times-add}
 use Rattle.model_carry.proofs.Lines.{line-same}
-use Rattle.model_text.proofs.Tests.{is-within}
 use Rattle.model_carry.proofs.Parts.{part-links, part-steps}
 use Rattle.model_carry.proofs.PartValid.{part-goes-on, part-holds}
+use Rattle.base_laws.proofs.Tests.{is-within}
 
 or-else-none : (v : Verdict) → orElse v Passes ≡ v
 unfolding orElse

@@ -9,11 +9,11 @@ use lib.Dec.{eqb}
 use borrow.Author.Tests.{le-leb, lt-leb, leb-true, leb-false}
 use Rattle.text_reader.specs.Lines.{Line, number, numberOf}
 use Rattle.text_writer.specs.Records.{recordLine}
-use Rattle.model.specs.Test.{_and_, within}
+use Rattle.base_laws.specs.Test.{_and_, within}
 use Rattle.model.specs.Network.{covers, tramPhase}
 use Rattle.model.specs.Table.{letterT}
-use Rattle.model_text.proofs.Tests.{is-within}
 use Rattle.model_carry.specs.Part.{meets, clip, clipped}
+use Rattle.base_laws.proofs.Tests.{is-within}
 
 -- ---- tests between two limits
 not-within : (u v w : ℕ) → ((u ≤ v) × (v ≤ w) → ⊥) → within u v w ≡ false

@@ -14,24 +14,20 @@ use Rattle.base_search.specs.declared.Verdict.the-variants.{Passes}
 use Rattle.base_search.specs.Checks.{Hold, verdict}
 use Rattle.text_reader.specs.Lines.{Line, noLine, number, numberOf}
 use Rattle.text_writer.specs.Records.{recordLine}
-use Rattle.model.specs.Sum.{joined}
+use Rattle.base_laws.specs.Sum.{joined}
 use Rattle.model.specs.Network.{linkCount, movementCount, stepCount, pastCount, onTimeline, trams, timelineLength, stepLength, demand}
 use Rattle.model.specs.Table.{letterT, networkChecks, lineChecks}
 use Rattle.model.proofs.Accepted.{ValidNetwork, valid-network}
 use Rattle.model_text.proofs.Lines.{trams-are}
-use Rattle.model_text.proofs.Same.{list-same, SameNumbers, same-text}
+use Rattle.model_text.proofs.Same.{SameNumbers, same-text}
 use Rattle.model_carry.specs.Part.{meets, clip, clipped, linkNumbers, movementNumbers, pastNumbers, stepNumbers, part, cut, carried, carriedText}
 use Rattle.model_carry.proofs.Trams.{clipLine}
 use Rattle.model_carry.proofs.GoesOn.{GoesOn, on-timeline-same, length-same, capacity-same, travel-same, exit-same, signal-of-same, mask-same, standing-same, from-same, to-same, rate-same, share-same, timeline-inflow-same, timeline-outflow-same, signal-same, waits-same}
 use Rattle.model_carry.proofs.Theorem.{carried-steps, carried-goes-on}
+use Rattle.base_laws.proofs.Tests.{leb-same}
+use Rattle.base_laws.proofs.Sums.{list-same, joined-same}
 
 -- ---- a tram line clipped twice
-leb-same : (x y u v : ℕ) → (x ≤ y → u ≤ v) → (u ≤ v → x ≤ y) → leb x y ≡ leb u v
-leb-same x y u v f g = elim (decLe x y) [
-  | yes h ↦ rw (le-leb x y h, le-leb u v (f h))
-  | no h ↦ elim (decLe u v) [ yes k ↦ absurd (h (g k)) | no k ↦ rw (lt-leb x y (omega arith), lt-leb u v (omega arith)) ]
-]
-
 module _ (b c K : ℕ) where
   -- its first and its last step
   first-twice : (x : ℕ) → max (max x (suc b) - b) (suc c) ≡ max x (suc (b + c)) - b
@@ -81,11 +77,6 @@ module _ (b c K : ℕ) where
           → clipped c (K - b) (map (recordLine letterT) (cond s (clip b K t ∷ clipped b K ts) (clipped b K ts))) ≡ cond (meets (b + c) K t) (clip (b + c) K t ∷ clipped (b + c) K ts) (clipped (b + c) K ts)
       go true e ih = rw (meets-twice t e, clip-twice t, ih)
       go false e ih = rw (meets-before t e) ih
-
-pub joined-same : (n : ℕ) (f g : ℕ → List ℕ) → ((k : ℕ) → k < n → f k ≡ g k) → joined n f ≡ joined n g
-unfolding joined
-joined-same zero f g h = refl
-joined-same (suc n) f g h = ap₂ (λ xs ys. xs ++ ys) (joined-same n f g (λ k l. h k (omega arith))) (h n (omega arith))
 
 -- ---- a network that goes on from boundary b, carried on from its boundary c
 module _ (network whole other more : List Line) (b c : ℕ) (p : GoesOn network whole other more b) (valid : ValidNetwork network)

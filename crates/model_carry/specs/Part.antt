@@ -8,7 +8,8 @@ use lib.Dec.{leb}
 use lib.ListN.{getD}
 use Rattle.text_reader.specs.Lines.{Line, number}
 use Rattle.model.specs.declared.Signal.{Signal}
-use Rattle.model.specs.Sum.{list, joined}
+use Rattle.base_laws.specs.Sum.{joined}
+use Rattle.base_laws.specs.Indexed.{list}
 use Rattle.model.specs.Network.{linkCount, signalCount, movementCount, stepCount, onTimeline, trams, capacity, travelTime, exitRate, signalOf, phaseMask, standing, fromLink, toLink, rate, share, timelineLength, stepLength, demand}
 use Rattle.model.specs.Flows.{signalAt, timelineInflow, timelineOutflow, waits}
 use Rattle.model_text.specs.NetworkText.{NetworkNumbers, networkLines, networkText}

@@ -10,10 +10,10 @@ use lib.ListN.{getD}
 use Rattle.base_search.specs.Checks.{Hold}
 use Rattle.text_reader.specs.Lines.{Line}
 use Rattle.model.specs.declared.Signal.{Signal}
-use Rattle.model.specs.Test.{_and_, within}
+use Rattle.base_laws.specs.Test.{_and_, within}
 use Rattle.model.specs.Network.{entry, signalCount, stepCount, signal}
 use Rattle.model.specs.Rules.{validPhases, validSignal}
-use Rattle.model.proofs.Tests.{and-left, and-right, every-at}
+use Rattle.base_laws.proofs.Tests.{and-left, and-right, every-at}
 use Rattle.model.proofs.Accepted.{ValidNetwork}
 use Rattle.sheet_lines.specs.Sheet.{phasesOf, endOf, validDurations, validOffset, validNumbers, sheetLineChecks, signalsChecks, sheetChecks}
 use Rattle.model_sheet.specs.Cycle.{fitsAt, fits, canWrite, boundaryChecks}

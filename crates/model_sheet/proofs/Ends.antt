@@ -10,11 +10,10 @@ use native.Mathlib.Omega.{arith}
 use lib.Dec.{leb}
 use borrow.Author.Tests.{leb-true, le-leb}
 use Rattle.text_reader.specs.Lines.{Line}
-use Rattle.model.specs.Test.{every}
-use Rattle.model.proofs.Tests.{every-at}
+use Rattle.base_laws.specs.Test.{every}
+use Rattle.base_laws.proofs.Tests.{every-at, every-of}
 use Rattle.model.proofs.Times.{time-suc, time-mono}
 use Rattle.model.specs.Network.{entry, stepCount, stepLength, time}
-use Rattle.model_sheet.proofs.Tests.{every-of}
 use Rattle.sheet_lines.specs.Sheet.{phasesOf, endOf}
 use Rattle.model_sheet.specs.Cycle.{cyclePlace, cyclePhase, fitsAt, sheetPhase, fits, EndsAt, EndsOnBoundaries}
 use Rattle.model_sheet.proofs.Cycle.{end-le, shows, goes-on, changes}

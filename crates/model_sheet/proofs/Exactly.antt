@@ -10,17 +10,16 @@ use lib.Dec.{eqb}
 use borrow.Author.Tests.{eqb-true, eqb-false, eq-eqb, not-true}
 use Rattle.base_search.specs.Checks.{Hold}
 use Rattle.text_reader.specs.Lines.{Line}
-use Rattle.model.specs.Test.{_and_, _or_}
+use Rattle.base_laws.specs.Test.{_and_, _or_}
 use Rattle.model.specs.Network.{signalCount, stepCount, signal, time, ordinary}
 use Rattle.model.specs.Flows.{shownIn}
 use Rattle.model.specs.Rules.{rule10}
 use Rattle.model.specs.Guarantees.{isOrdinary, NoneBetween}
-use Rattle.model.proofs.Tests.{and-left, and-right, or-cases, every-at}
+use Rattle.base_laws.proofs.Tests.{and-left, and-right, or-cases, every-at, or-left, or-right, every-of}
 use Rattle.model.proofs.Shown.{phase, run, phase-suc}
 use Rattle.sheet_lines.specs.Sheet.{duration}
 use Rattle.model_sheet.specs.Kept.{Kept}
 use Rattle.model_sheet.specs.Runs.{leaves, isTested, lastLine, keepsSheet, rule34, runChecks}
-use Rattle.model_sheet.proofs.Tests.{or-first, or-second, every-of}
 use Rattle.model_sheet.proofs.Steps.{ordinarySeconds}
 use Rattle.model_sheet.proofs.Run.{Run, RunsKept, kept-of-runs, runs-of-kept}
 use Rattle.model_sheet.proofs.LastLine.{ordinary-suc, leaves-is, last-le, last-ordinary, last-none, last-is, last-reaches, seconds-trams, Begun, begun, Showing, showing}
@@ -104,10 +103,10 @@ module _ (network plan : List Line) where
       where
         go : (t : Bool) → leaves network plan c r and isTested network plan c r ≡ t
             → not t or eqb (run network plan r c) (duration sheet r (phase network plan r c)) ≡ true
-        go false e = or-first _ _ refl
+        go false e = or-left _ _ refl
         go true e =
             let b = begun network plan r c (and-right _ _ e) in
-            or-second _ _ (eq-eqb _ _ (sym (run-seconds c r b) ∙ kept r (phase network plan r c) (b .start) (lastLine network c r) l (run-left c r u (and-left _ _ e) b) (b .late)))
+            or-right _ _ (eq-eqb _ _ (sym (run-seconds c r b) ∙ kept r (phase network plan r c) (b .start) (lastLine network c r) l (run-left c r u (and-left _ _ e) b) (b .late)))
 
     -- a step that leaves a tested run and keeps the sheet
     kept-left : (c r : ℕ) → keepsSheet network sheet plan c r ≡ true → leaves network plan c r ≡ true → isTested network plan c r ≡ true
@@ -122,7 +121,7 @@ module _ (network plan : List Line) where
 
     pub holds-of-kept : RunsKept network sheet plan → Hold (runChecks network sheet plan)
     unfolding Hold runChecks rule34
-    holds-of-kept kept n u r l = every-of (stepCount network) _ (λ c v. or-first _ _ (step-kept kept c r v l))
+    holds-of-kept kept n u r l = every-of (stepCount network) _ (λ c v. or-left _ _ (step-kept kept c r v l))
 
     -- a tested run that the check of its last ordinary step lets pass
     pub run-kept : (r q a b : ℕ) → Run network plan r q a b → signal network r .«greatest_cycle» ≤ time network a → rule34 network sheet plan (b - 1) r ≡ true

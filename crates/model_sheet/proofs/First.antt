@@ -11,14 +11,13 @@ use borrow.Author.Tests.{eqb-true, eqb-false, not-false}
 use Rattle.base_search.specs.declared.Refusal.{Refusal}
 use Rattle.base_search.specs.Checks.{Hold, FirstBroken}
 use Rattle.text_reader.specs.Lines.{Line}
-use Rattle.model.specs.Test.{_and_, _or_}
+use Rattle.base_laws.specs.Test.{_and_, _or_}
 use Rattle.model.specs.Network.{signalCount, stepCount}
 use Rattle.model.specs.Rules.{rule10}
-use Rattle.model.proofs.Tests.{and-left, and-right}
+use Rattle.base_laws.proofs.Tests.{and-left, and-right, or-neither, every-fails}
 use Rattle.model.proofs.Shown.{phase}
 use Rattle.model_sheet.specs.Kept.{Broken, FirstRun}
 use Rattle.model_sheet.specs.Runs.{leaves, isTested, lastLine, keepsSheet, rule34, runChecks}
-use Rattle.model_sheet.proofs.Tests.{or-false, every-false}
 use Rattle.model_sheet.proofs.Run.{greatest-cycle, run-of-green, green-of-run}
 use Rattle.model_sheet.proofs.LastLine.{begun}
 use Rattle.model_sheet.proofs.Exactly.{run-left, run-seconds, run-kept}
@@ -28,7 +27,7 @@ module _ (network sheet plan : List Line) (ten : (n r : ℕ) → n < stepCount n
   broken-left : (c r : ℕ) → c < stepCount network → r < signalCount network → keepsSheet network sheet plan c r ≡ false → Broken network sheet plan r (lastLine network c r)
   unfolding keepsSheet
   broken-left c r u l h =
-      let two = or-false _ _ h in
+      let two = or-neither _ _ h in
       let both : leaves network plan c r and isTested network plan c r ≡ true = not-false _ (two .0) in
       let b = begun network plan r c (and-right _ _ both) in
       let run = run-left network plan c r u (and-left _ _ both) b in
@@ -46,11 +45,11 @@ module _ (network sheet plan : List Line) (ten : (n r : ℕ) → n < stepCount n
 
   broken-at : (n r : ℕ) → r < signalCount network → rule34 network sheet plan n r ≡ false → Broken network sheet plan r (suc n)
   unfolding rule34
-  broken-at n r l h = go (every-false (stepCount network) (λ c. keepsSheet network sheet plan c r or not (eqb (lastLine network c r) (suc n))) h)
+  broken-at n r l h = go (every-fails (stepCount network) (λ c. keepsSheet network sheet plan c r or not (eqb (lastLine network c r) (suc n))) h)
     where
       go : ((c : ℕ) × (c < stepCount network) × (keepsSheet network sheet plan c r or not (eqb (lastLine network c r) (suc n)) ≡ false)) → Broken network sheet plan r (suc n)
       go (c, u, e) =
-          let two = or-false _ _ e in
+          let two = or-neither _ _ e in
           let at : lastLine network c r ≡ suc n = eqb-true _ _ (not-false _ (two .1)) in
           rw (← at) (broken-left c r u l (two .0))
 

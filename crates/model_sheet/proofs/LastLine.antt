@@ -11,7 +11,7 @@ use lib.Dec.{leb, eqb}
 use borrow.Author.Tests.{leb-true, le-leb, eqb-true, eqb-false, eq-eqb, ne-eqb}
 use Rattle.text_reader.specs.Lines.{Line}
 use Rattle.model.specs.declared.Signal.{Signal}
-use Rattle.model.specs.Test.{_and_}
+use Rattle.base_laws.specs.Test.{_and_}
 use Rattle.model.specs.Network.{signal, stepLength, time, ordinary}
 use Rattle.model.specs.Flows.{shownIn}
 use Rattle.model.specs.Guarantees.{isOrdinary, NoneBetween}

@@ -1,6 +1,5 @@
 pub mod Opened
 pub mod Cases
-pub mod Tests
 pub mod Steps
 pub mod Run
 pub mod LastLine

@@ -12,15 +12,15 @@ use lib.Seq.{getD-take, getD-drop}
 use borrow.Author.Tests.{not-true, lt-ltb}
 use Rattle.text_reader.specs.Lines.{Line, noLine, number}
 use Rattle.text_writer.proofs.Records.{entry-back}
-use Rattle.model.specs.Sum.{only}
-use Rattle.model.specs.Test.{_and_}
+use Rattle.base_laws.specs.Sum.{only}
+use Rattle.base_laws.specs.Test.{_and_}
 use Rattle.model.specs.Table.{letterP}
 use Rattle.model.specs.Signals.{phaseOf}
 use Rattle.model.specs.Network.{entry, linkCount, signalCount, movementCount, stepCount, tramCount, tramLine, trams, covers, tramPhase, signal, stepLength, time, ordinary}
 use Rattle.model.specs.Flows.{shownMask, shownIn}
 use Rattle.model.specs.Guarantees.{isOrdinary}
-use Rattle.model.proofs.Tests.{every-at}
-use Rattle.model.proofs.Sums.{list-at}
+use Rattle.base_laws.proofs.Tests.{every-at}
+use Rattle.base_laws.proofs.Sums.{list-at}
 use Rattle.model.proofs.Times.{time-suc}
 use Rattle.model.proofs.Phases.{phase-of-bit}
 use Rattle.model.proofs.Shown.{phase, phase-suc}

@@ -14,11 +14,10 @@ use Rattle.base_search.specs.declared.Verdict.the-variants.{Passes, Refused}
 use Rattle.base_search.specs.Checks.{refusal, checked, firstFrom, verdict}
 use Rattle.base_search.proofs.Laws.{first-stop, first-passes, checked-passes, checked-refused}
 use Rattle.text_reader.specs.Lines.{Line}
-use Rattle.model.specs.Test.{_and_, _or_, every}
-use Rattle.model.proofs.Tests.{and-left, and-right, or-cases}
+use Rattle.base_laws.specs.Test.{_and_, _or_, every}
+use Rattle.base_laws.proofs.Tests.{and-left, and-right, or-cases, or-left, or-right, every-of, every-not}
 use Rattle.model.specs.Network.{signalCount, stepCount}
 use Rattle.model_sheet.specs.Runs.{leaves, isTested, lastLine, keepsSheet, rule34, runChecks, found, earlier, leastLine, leastItem, toldRun, passVerdict}
-use Rattle.model_sheet.proofs.Tests.{or-first, or-second, every-of, every-not}
 use Rattle.model_sheet.proofs.LastLine.{last-le, last-ordinary, last-reaches, begun}
 
 -- ---- any tests by step and item: x is the line of the first step whose test does not hold, 0 for none
@@ -209,13 +208,13 @@ module _ (network sheet plan : List Line) (r : ℕ) where
   found-first = record { below = λ n l h. every-of (stepCount network) _ (λ c u. fine n h c u); here = λ m e. at m e (passed (stepCount network) .first (omega arith)) }
     where
       fine : (n : ℕ) → (F (stepCount network) ≡ 0) ⊎ (suc n < F (stepCount network)) → (c : ℕ) → c < stepCount network → keeps c or not (eqb (last c) (suc n)) ≡ true
-      fine n (inl e) c u = or-first _ _ (passed (stepCount network) .nothing e c u)
+      fine n (inl e) c u = or-left _ _ (passed (stepCount network) .nothing e c u)
       fine n (inr v) c u = go (keeps c) refl (passed (stepCount network) .first (omega arith))
         where
           go : (t : Bool) → keeps c ≡ t → ((k : ℕ) × (k < stepCount network) × (keeps k ≡ false) × (F (stepCount network) ≡ last k) × ((j : ℕ) → j < k → keeps j ≡ true)) → t or not (eqb (last c) (suc n)) ≡ true
-          go true h x = or-first _ _ refl
+          go true h x = or-left _ _ refl
           go false h (k, l, a, b, d) = elim (decLe k c) [
-            | yes w ↦ or-second _ _ (ap not (ne-eqb (last c) (suc n) (λ q. omega (arith, last-rises k c w))))
+            | yes w ↦ or-right _ _ (ap not (ne-eqb (last c) (suc n) (λ q. omega (arith, last-rises k c w))))
             | no w ↦ absurd (true≢false (sym (d c (omega arith)) ∙ h))
           ]
 

@@ -13,14 +13,14 @@ use Rattle.base_search.specs.Numbers.{isOneOf}
 use Rattle.base_search.proofs.Laws.{or-else-passes, hold-of-passes, passes-of-hold, refused-first}
 use Rattle.base_search.proofs.Numbers.{Numbered, refused-number, allOf}
 use Rattle.text_reader.specs.Lines.{Line, lines}
-use Rattle.model.specs.Test.{_and_}
+use Rattle.base_laws.specs.Test.{_and_}
 use Rattle.model.specs.declared.Totals.{Totals}
 use Rattle.model.specs.declared.PlanAnswer.the-variants as plan-answer
 use Rattle.model.specs.Network.{entry, signalCount, stepCount, signal}
 use Rattle.model.specs.Rules.{rule10}
 use Rattle.model.specs.Table.{networkChecks, planChecks}
 use Rattle.model.specs.Calls.{planAnswer, ledgerAfter}
-use Rattle.model.proofs.Tests.{and-left, and-right}
+use Rattle.base_laws.proofs.Tests.{and-left, and-right}
 use Rattle.model.proofs.Accepted.{valid-network, accepted-plan}
 use Rattle.model.proofs.Numbers.{network-among, plan-among}
 use Rattle.model.proofs.Written.{ledger-promises}

@@ -12,13 +12,14 @@ use Rattle.base_search.specs.Checks.{Hold}
 use Rattle.text_reader.specs.Field.{largest}
 use Rattle.text_reader.specs.Lines.{Line, lines}
 use Rattle.text_writer.proofs.Records.{Small, text-back, lines-count, entry-back, form-back}
-use Rattle.model.specs.Sum.{only, list}
-use Rattle.model.specs.Test.{_and_, within}
+use Rattle.base_laws.specs.Sum.{only}
+use Rattle.base_laws.specs.Indexed.{list}
+use Rattle.base_laws.specs.Test.{_and_, within}
 use Rattle.model.specs.Network.{entry, linkCount, signalCount, movementCount, stepCount, signal, time}
 use Rattle.model.specs.Flows.{shownMask}
 use Rattle.model.specs.Table.{isForm, letterP}
-use Rattle.model.proofs.Tests.{every-same}
-use Rattle.model.proofs.Sums.{list-length, list-at}
+use Rattle.base_laws.proofs.Tests.{every-same}
+use Rattle.base_laws.proofs.Sums.{list-length, list-at}
 use Rattle.model.proofs.Accepted.{ValidNetwork}
 use Rattle.model.proofs.Limits.{counts}
 use Rattle.model.proofs.Hold.{meant-lines}

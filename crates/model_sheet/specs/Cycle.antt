@@ -8,8 +8,9 @@ use lib.ListN.{length}
 use Rattle.base_search.specs.Checks.{Checks, check, each, _then_}
 use Rattle.text_reader.specs.Lines.{Line}
 use Rattle.text_writer.specs.Records.{recordTexts, recordLines}
-use Rattle.model.specs.Sum.{sum, only, list}
-use Rattle.model.specs.Test.{_and_, every}
+use Rattle.base_laws.specs.Sum.{sum, only}
+use Rattle.base_laws.specs.Indexed.{list}
+use Rattle.base_laws.specs.Test.{_and_, every}
 use Rattle.model.specs.Network.{entry, linkCount, signalCount, movementCount, stepCount, tramCount, tramLine, stepLength, time}
 use Rattle.model.specs.Table.{letterP, networkChecks}
 use Rattle.sheet_lines.specs.Sheet.{letterF, phasesOf, endOf, sheetChecks}

@@ -7,7 +7,7 @@ use Rattle.base_search.specs.declared.Verdict.{Verdict}
 use Rattle.base_search.specs.declared.Verdict.the-variants.{Passes, Refused}
 use Rattle.base_search.specs.Checks.{refusal, Checks, check, each}
 use Rattle.text_reader.specs.Lines.{Line}
-use Rattle.model.specs.Test.{_and_, _or_, every}
+use Rattle.base_laws.specs.Test.{_and_, _or_, every}
 use Rattle.model.specs.Network.{signalCount, stepCount, signal, time, ordinary}
 use Rattle.model.specs.Flows.{shownIn, signalAt}
 use Rattle.sheet_lines.specs.Sheet.{duration}

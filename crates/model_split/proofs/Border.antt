@@ -8,15 +8,14 @@ use native.Mathlib.Omega.{arith}
 use lib.Dec.{eqb}
 use borrow.Author.Tests.{leb-true, eqb-true, eq-eqb, not-true}
 use Rattle.text_reader.specs.Lines.{Line}
-use Rattle.model.specs.Sum.{sum, only}
-use Rattle.model.specs.Test.{_and_, _or_, every}
+use Rattle.base_laws.specs.Sum.{sum, only}
+use Rattle.base_laws.specs.Test.{_and_, _or_, every}
 use Rattle.model.specs.Network.{linkCount, movementCount, stepCount, pastCount, exitRate, signalOf, waitingAtStart, fromLink, toLink, demand}
-use Rattle.model.proofs.Tests.{and-left, and-right, or-cases, every-at}
-use Rattle.model_text.proofs.Tests.{and-both}
+use Rattle.base_laws.proofs.Tests.{and-left, and-right, or-cases, every-at, and-both, either-way, not-both, true-not}
 use Rattle.model_split.specs.Numbering.{rank}
 use Rattle.model_split.specs.Halves.{Half, inside, crosses, crossingInto, crossingFrom, inSecond, firstHalf, secondHalf}
 use Rattle.model_split.specs.Call.{rightKind, canSplit, partsSignals}
-use Rattle.model_split.proofs.Tests.{either-way, not-both, true-not, Found, find, sum-none, sum-one}
+use Rattle.model_split.proofs.Tests.{Found, find, sum-none, sum-one}
 use Rattle.model_split.proofs.Same.{Apart}
 
 pub record Kind (network : List Line) (first : ℕ → Bool) (j : ℕ) : Type 0 where

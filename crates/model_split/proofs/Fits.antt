@@ -14,13 +14,13 @@ use Rattle.text_reader.specs.Field.{largest}
 use Rattle.text_reader.specs.Lines.{Line, lines, number}
 use Rattle.text_reader.proofs.Laws.{number-small}
 use Rattle.text_writer.proofs.Records.{Small, text-back}
-use Rattle.model.specs.Sum.{list}
+use Rattle.base_laws.specs.Indexed.{list}
 use Rattle.model.specs.Network.{entry, linkCount, signalCount, movementCount, stepCount, tramCount, onTimeline, tramLine, signalLine, linkLine, movementLine, timelineLine, signal, capacity, travelTime, signalOf, phaseMask, standing, waitingAtStart, fromLink, toLink, rate, share, timelineLength, stepLength, demand}
 use Rattle.model.specs.Flows.{shownMask, admitted, letOut, moved}
 use Rattle.model.specs.Rules.{tram}
 use Rattle.model.specs.Table.{letterP, networkChecks}
 use Rattle.model.specs.Hold.{holdText, planOf}
-use Rattle.model.proofs.Sums.{list-at, list-length}
+use Rattle.base_laws.proofs.Sums.{list-at, list-length}
 use Rattle.model.proofs.Accepted.{ValidNetwork, valid-network}
 use Rattle.model.proofs.Limits.{counts, link-limits, movement-limits, step-limits}
 use Rattle.model.proofs.Hold.{plan-of-text, plan-of-empty, hold-back}

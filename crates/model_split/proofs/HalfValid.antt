@@ -11,24 +11,23 @@ use lib.ListN.{length, getD}
 use borrow.Author.Tests.{leb-true, eqb-true, eq-eqb, ne-eqb, le-leb, lt-ltb}
 use Rattle.base_search.specs.Checks.{Hold}
 use Rattle.text_reader.specs.Lines.{Line, noLine, number, isRecord}
-use Rattle.model.specs.Sum.{sum, only}
-use Rattle.model.specs.Test.{_and_, _or_, within, every}
+use Rattle.base_laws.specs.Sum.{sum, only}
+use Rattle.base_laws.specs.Test.{_and_, _or_, within, every}
 use Rattle.model.specs.Network.{entry, linkCount, signalCount, movementCount, stepCount, tramCount, pastCount, onTimeline, tramLine, signalLine, linkLine, movementLine, stepLine, signal, capacity, travelTime, exitRate, signalOf, standing, fromLink, toLink, rate, share, pastEntries, stepLength, demand, timelineTime}
 use Rattle.model.specs.Flows.{offered, entered, left, held, hasArrived}
 use Rattle.model.specs.Rules.{validPhases, validSignal, apart, tramExists, tram, validTram, validTramPhase, validCounts, validMask, validLink, pairRises, validMovement, lastMovement, validShares, validStep, validPastOf, validPast}
 use Rattle.model.specs.Table.{letterT, letterG, letterQ, letterM, letterS, networkChecks}
-use Rattle.model.proofs.Tests.{and-left, and-right, or-cases, every-at}
-use Rattle.model.proofs.Sums.{sum-bound, list-length}
+use Rattle.base_laws.proofs.Tests.{and-left, and-right, or-cases, every-at, and-both, or-left, or-right, either-way, not-both, every-of, is-within}
+use Rattle.base_laws.proofs.Sums.{sum-bound, list-length}
 use Rattle.model.proofs.Accepted.{ValidNetwork}
 use Rattle.model.proofs.Limits.{counts, link-limits, movement-limits}
 use Rattle.model.proofs.Timeline.{entered-start, left-start}
 use Rattle.model_text.specs.NetworkText.{NetworkNumbers, networkLines}
-use Rattle.model_text.proofs.Tests.{and-both, is-within, every-of}
 use Rattle.model_text.proofs.Lines.{count-form, all-lines}
 use Rattle.model_text.proofs.Formed.{Formed, holds-of-valid}
 use Rattle.model_split.specs.Numbering.{rank}
 use Rattle.model_split.specs.Halves.{Half, linkNumber, inside, follows, tramNumbers, signalNumbers, movementNumbers, borderRate, borderIn, crossingFrom, linkNumbers, stepNumbers, halfNumbers, halfPlan}
-use Rattle.model_split.proofs.Tests.{either-way, not-both, or-left, or-right, Found, find}
+use Rattle.model_split.proofs.Tests.{Found, find}
 use Rattle.model_split.proofs.Numbering.{rank-rises, rank-lt, rank-le, ranked, ranked-all, renumbered, picked-length}
 use Rattle.model_split.proofs.Same.{IsHalf, Apart, inside-from, inside-to, from-parts, no-signal, its-signal}
 use Rattle.model_split.proofs.Border.{Splittable, Crossing, NoCrossing, crossing-from, not-inside}

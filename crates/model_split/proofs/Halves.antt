@@ -8,23 +8,23 @@ use native.Mathlib.Nat.{mul-le-mul}
 use native.Mathlib.Omega.{arith}
 use borrow.Author.Tests.{leb-true, le-leb}
 use Rattle.text_reader.specs.Lines.{Line}
-use Rattle.model.specs.Sum.{sum}
+use Rattle.base_laws.specs.Sum.{sum}
 use Rattle.model.specs.Network.{linkCount, signalCount, movementCount, stepCount, exitRate, waitingAtStart, fromLink, toLink, rate, stepLength, demand}
 use Rattle.model.specs.Flows.{offered, admitted, letOut, moved, taken}
 use Rattle.model.specs.Rules.{rule10, rule11, rule12, rule13, rule14, rule15, rule16, rule17, rule18, rule25, rule26, rule27, rule29}
-use Rattle.model.proofs.Sums.{sum-le, sum-bound}
+use Rattle.base_laws.proofs.Sums.{sum-le, sum-bound}
 use Rattle.model.proofs.Accepted.{ValidNetwork, LawfulStep}
 use Rattle.model.proofs.Limits.{counts, movement-limits, step-limits}
 use Rattle.model_text.specs.NetworkText.{networkLines}
 use Rattle.model_text.proofs.Formed.{Formed}
 use Rattle.model_split.specs.Numbering.{rank}
 use Rattle.model_split.specs.Halves.{Half, inside, crossingInto, crossingFrom, borderRate, borderIn, borderOut, halfNumbers, halfPlan}
-use Rattle.model_split.proofs.Tests.{not-both}
 use Rattle.model_split.proofs.Numbering.{rank-lt, ranked-all}
 use Rattle.model_split.proofs.Same.{IsHalf, Apart, Small, rule10-same, rule11-same, rule12-same, rule13-same, rule14-same, rule15-same, rule16-same, rule17-same, rule18-same, rule25-is, rule26-same, rule27-same, rule29-same}
 use Rattle.model_split.proofs.Border.{Splittable, Crossing, NoCrossing, crossing-from, crossing-into, not-inside}
 use Rattle.model_split.proofs.Lines.{is-half}
 use Rattle.model_split.proofs.HalfValid.{exit-small}
+use Rattle.base_laws.proofs.Tests.{not-both}
 
 -- what the half's volumes are at most: with the border volumes, demands are at most 600,000, and what is let out is at most the half's exit rates allow
 pub record HalfLimits (network plan : List Line) (first : ℕ → Bool) (h : Half) (n : ℕ) : Type 0 where

@@ -9,16 +9,15 @@ use lib.ListN.{length, getD, length-append, List·getD-append, List·getD-eq-def
 use lib.Seq.{getD-append-add}
 use Rattle.text_reader.specs.Lines.{Line}
 use Rattle.text_writer.proofs.Records.{lines-count, entry-back, form-back}
-use Rattle.model.specs.Sum.{list}
+use Rattle.base_laws.specs.Indexed.{list}
 use Rattle.model.specs.Network.{entry, linkCount, signalCount, movementCount, stepCount, tramCount, pastCount, tramLine, signalLine, linkLine, movementLine, timelineLine, stepLine, onTimeline, trams, tramPhase, signal, capacity, travelTime, exitRate, signalOf, phaseMask, standing, waitingAtStart, fromLink, toLink, rate, share, timelineLength, stepLength, demand}
 use Rattle.model.specs.Flows.{shownMask, admitted, letOut, moved}
 use Rattle.model.specs.Table.{letterT, letterG, letterQ, letterM, letterS, letterP, isForm}
-use Rattle.model.proofs.Sums.{list-at, list-length}
+use Rattle.base_laws.proofs.Sums.{list-at, list-length, list-same}
 use Rattle.model.proofs.Accepted.{ValidNetwork}
 use Rattle.model_text.specs.NetworkText.{NetworkNumbers, networkLines}
 use Rattle.model_text.proofs.Lines.{Says, link-count, signal-count, movement-count, step-count, tram-count, past-count, tram-says, signal-says, link-says, movement-says, step-says, trams-are}
 use Rattle.model_text.proofs.Formed.{Formed, none-past}
-use Rattle.model_text.proofs.Same.{list-same}
 use Rattle.model_split.specs.Numbering.{rank, picked}
 use Rattle.model_split.specs.Halves.{Half, inField, linkNumber, signalNumber, inside, follows, tramNumbers, signalNumbers, movementNumbers, borderRate, borderIn, borderOut, linkNumbers, stepNumbers, halfNumbers, planNumbers, halfPlan}
 use Rattle.model_split.proofs.Numbering.{rank-lt, picked-length, picked-at}

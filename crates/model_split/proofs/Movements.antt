@@ -9,12 +9,11 @@ use native.Mathlib.Omega.{arith}
 use lib.Dec.{ltb, eqb}
 use borrow.Author.Tests.{ltb-true, eqb-true, eqb-false}
 use Rattle.text_reader.specs.Lines.{Line}
-use Rattle.model.specs.Test.{_and_}
+use Rattle.base_laws.specs.Test.{_and_}
 use Rattle.model.specs.Network.{movementCount, fromLink, toLink}
 use Rattle.model.specs.Rules.{pairRises, validMovement, lastMovement}
-use Rattle.model.proofs.Tests.{and-left, and-right, or-cases}
+use Rattle.base_laws.proofs.Tests.{and-left, and-right, or-cases, either-way}
 use Rattle.model.proofs.Accepted.{ValidNetwork}
-use Rattle.model_split.proofs.Tests.{either-way}
 
 module _ (network : List Line) where
   -- (from, to) of movement k is above that of movement j

@@ -11,9 +11,9 @@ use lib.Dec.{eqb}
 use lib.ListN.{length, getD, length-append, List·getD-append}
 use lib.Seq.{getD-append-seam}
 use borrow.Author.Tests.{eq-eqb, ne-eqb, eqb-true, eqb-false}
-use Rattle.model.specs.Sum.{sum, only}
+use Rattle.base_laws.specs.Sum.{sum, only}
 use Rattle.model_split.specs.Numbering.{rank, picked}
-use Rattle.model_split.proofs.Tests.{either-way}
+use Rattle.base_laws.proofs.Tests.{either-way}
 
 module _ (test : ℕ → Bool) where
   pub rank-more : (n : ℕ) → test n ≡ true → rank test (suc n) ≡ suc (rank test n)

@@ -10,20 +10,19 @@ use lib.Dec.{leb, eqb}
 use borrow.Author.Tests.{le-leb, lt-leb, le-ltb, ne-eqb, eqb-true}
 use Rattle.text_reader.specs.Field.{largest}
 use Rattle.text_reader.specs.Lines.{Line}
-use Rattle.model.specs.Sum.{sum, only}
-use Rattle.model.specs.Test.{_and_, _or_}
+use Rattle.base_laws.specs.Sum.{sum, only}
+use Rattle.base_laws.specs.Test.{_and_, _or_}
 use Rattle.model.specs.Network.{linkCount, signalCount, movementCount, stepCount, pastCount, onTimeline, trams, tramPhase, ordinary, signal, capacity, travelTime, exitRate, signalOf, phaseMask, standing, waitingAtStart, fromLink, toLink, rate, share, timelineLength, stepLength, demand, timelineTime, stepAt, arrivalStep, elapsed}
 use Rattle.model.specs.Flows.{offered, shownMask, admitted, letOut, moved, shownIn, signalAt, isOpen, movedInto, movedFrom, inflow, outflow, timelineInflow, timelineOutflow, timelineEntered, timelineLeft, entered, left, hasArrived, held, taken, waits}
 use Rattle.model.specs.Rules.{rule10, rule11, rule12, rule13, rule14, rule15, rule16, rule17, rule18, rule25, rule26, rule27, rule29}
-use Rattle.model.proofs.Sums.{sum-ext, sum-le, sum-add}
+use Rattle.base_laws.proofs.Sums.{sum-ext, sum-le, sum-add}
 use Rattle.model.proofs.Times.{arrival-step-lt}
-use Rattle.model.proofs.Tests.{and-left, and-right}
+use Rattle.base_laws.proofs.Tests.{and-left, and-right, or-left, or-right, not-both, leb-plus}
 use Rattle.model.proofs.Accepted.{ValidNetwork}
 use Rattle.model.proofs.Limits.{link-limits, movement-limits}
-use Rattle.model_text.proofs.Tests.{leb-plus}
 use Rattle.model_split.specs.Numbering.{rank}
 use Rattle.model_split.specs.Halves.{Half, inField, signalNumber, linkNumber, inside, crosses, crossingInto, crossingFrom, borderRate, borderIn, borderOut}
-use Rattle.model_split.proofs.Tests.{not-both, or-left, or-right, only-same}
+use Rattle.model_split.proofs.Tests.{only-same}
 use Rattle.model_split.proofs.Numbering.{renumbered, sum-ranked}
 
 -- `other` and `rest` are the half h of `network` and `plan`, by the numbers that their lines say; neither network has a past

@@ -15,7 +15,7 @@ use Rattle.model.specs.Network.{linkCount, stepCount}
 use Rattle.model.specs.Flows.{totals}
 use Rattle.model.specs.Table.{networkChecks}
 use Rattle.model.specs.Hold.{meant}
-use Rattle.model.proofs.Tests.{and-right}
+use Rattle.base_laws.proofs.Tests.{and-right}
 use Rattle.model.proofs.Accepted.{valid-network}
 use Rattle.model.proofs.Limits.{counts}
 use Rattle.model.proofs.Rows.{row-at}

@@ -5,28 +5,9 @@ use mathlib.Core.Logic.{_⊎_, inl, inr}
 use Prim.Native.Nat.{ℕ, zero, suc, _+_, _<_}
 use native.Mathlib.Nat.{eq-or-lt-of-le}
 use native.Mathlib.Omega.{arith}
-use Rattle.model.specs.Sum.{sum, only}
-use Rattle.model.specs.Test.{_or_}
-
--- a test, either way, and not both ways
-pub either-way : (t : Bool) → (t ≡ true) ⊎ (t ≡ false)
-either-way true = inl refl
-either-way false = inr refl
-
-pub not-both : {t : Bool} → t ≡ true → t ≡ false → ⊥
-not-both e f = let z : true ≡ false = sym e ∙ f in let w : _≡_ {A = ℕ} 0 1 = cc in omega arith
-
-pub true-not : (t : Bool) → t ≡ false → not t ≡ true
-true-not t e = rw e
-
-pub or-left : (a b : Bool) → a ≡ true → a or b ≡ true
-unfolding _or_
-or-left a b e = rw e
-
-pub or-right : (a b : Bool) → b ≡ true → a or b ≡ true
-unfolding _or_
-or-right true b e = refl
-or-right false b e = e
+use Rattle.base_laws.specs.Sum.{sum, only}
+use Rattle.base_laws.specs.Test.{_or_}
+use Rattle.base_laws.proofs.Tests.{either-way}
 
 -- an index that a test holds of, or none
 abbrev pub Found : ℕ → (ℕ → Bool) → Type 0

@@ -10,22 +10,21 @@ use borrow.Author.Tests.{leb-true, le-leb, eqb-true, eq-eqb}
 use Rattle.base_search.specs.Checks.{Hold}
 use Rattle.text_reader.specs.Field.{largest}
 use Rattle.text_reader.specs.Lines.{Line}
-use Rattle.model.specs.Sum.{sum, only}
-use Rattle.model.specs.Test.{_and_}
+use Rattle.base_laws.specs.Sum.{sum, only}
+use Rattle.base_laws.specs.Test.{_and_}
 use Rattle.model.specs.Network.{linkCount, signalCount, movementCount, stepCount, exitRate, fromLink, toLink, rate, share, stepLength, demand}
 use Rattle.model.specs.Flows.{offered, admitted, letOut, moved, movedFrom, isOpen, taken}
 use Rattle.model.specs.Rules.{lastMovement, validShares, rule10, rule11, rule12, rule13, rule14, rule15, rule16, rule17, rule18, rule25, rule26, rule27, rule29}
 use Rattle.model.specs.Table.{networkChecks}
-use Rattle.model.proofs.Tests.{and-left, and-right, or-cases}
-use Rattle.model.proofs.Sums.{sum-bound}
+use Rattle.base_laws.proofs.Tests.{and-left, and-right, or-cases, and-both, or-left, either-way, true-not}
+use Rattle.base_laws.proofs.Sums.{sum-bound}
 use Rattle.model.proofs.Accepted.{ValidNetwork, LawfulStep, valid-network}
 use Rattle.model.proofs.Limits.{movement-limits}
 use Rattle.model_text.specs.NetworkText.{networkLines}
-use Rattle.model_text.proofs.Tests.{and-both}
 use Rattle.model_text.proofs.Formed.{Formed, formed-of-holds}
 use Rattle.model_split.specs.Numbering.{rank}
 use Rattle.model_split.specs.Halves.{Half, inField, inside, crosses, crossingInto, crossingFrom, inSecond, firstHalf, secondHalf, borderRate, borderIn, borderOut, halfNumbers, halfPlan}
-use Rattle.model_split.proofs.Tests.{either-way, true-not, or-left, sum-one}
+use Rattle.model_split.proofs.Tests.{sum-one}
 use Rattle.model_split.proofs.Same.{Apart}
 use Rattle.model_split.proofs.Border.{Splittable, Crossing, NoCrossing, crossing-from, first-apart, second-apart}
 use Rattle.model_split.proofs.Lines.{half-links, half-steps, admitted-written, let-out-written, plan-form, plan-length}

@@ -7,17 +7,17 @@ use Prim.Native.Nat.{ℕ, suc, _+_, _*_, _≤_, _<_}
 use native.Mathlib.Omega.{arith}
 use lib.Dec.{eqb}
 use Rattle.text_reader.specs.Lines.{Line}
-use Rattle.model.specs.Sum.{sum, only}
-use Rattle.model.specs.Test.{_and_}
+use Rattle.base_laws.specs.Sum.{sum, only}
+use Rattle.base_laws.specs.Test.{_and_}
 use Rattle.model.specs.Network.{linkCount, movementCount, stepCount, fromLink, toLink, stepLength}
 use Rattle.model.specs.Flows.{admitted, letOut, moved, entered, left, held, vehicles, waits, outside, underWay, allAdmitted, allLetOut, doubledTime}
-use Rattle.model.proofs.Sums.{sum-ext, sum-add, sum-swap, sum-place}
+use Rattle.base_laws.proofs.Sums.{sum-ext, sum-add, sum-swap, sum-place}
 use Rattle.model.proofs.Accepted.{ValidNetwork, valid-network}
 use Rattle.model.proofs.Limits.{movement-limits}
 use Rattle.model_text.proofs.Formed.{Formed, formed-of-holds}
 use Rattle.model_split.specs.Numbering.{rank}
 use Rattle.model_split.specs.Halves.{Half, crosses, crossingInto, crossingFrom, firstHalf, secondHalf, borderIn, borderOut}
-use Rattle.model_split.proofs.Tests.{either-way, true-not, sum-none}
+use Rattle.model_split.proofs.Tests.{sum-none}
 use Rattle.model_split.proofs.Numbering.{sum-ranked}
 use Rattle.model_split.proofs.Same.{IsHalf, Apart, Small, in-field, entered-same, left-same, held-same, waits-same}
 use Rattle.model_split.proofs.Border.{Splittable, first-apart, second-apart}
@@ -25,6 +25,7 @@ use Rattle.model_split.proofs.Lines.{is-half}
 use Rattle.model_split.proofs.Judged.{Judged}
 use Rattle.model_split.proofs.Halves.{half-small}
 use Rattle.model_split.proofs.Theorem.{networkBy, planBy}
+use Rattle.base_laws.proofs.Tests.{either-way, true-not}
 
 -- a sum over both halves is a sum over the whole
 two-halves : (first : ℕ → Bool) (n : ℕ) (f g all : ℕ → ℕ) → ((i : ℕ) → i < n → first i ≡ true → f (rank first i) ≡ all i)

@@ -10,16 +10,15 @@ use lib.Seq.{take-suc, take-all}
 use borrow.Author.Tests.{leb-true, ne-eqb}
 use Rattle.text_reader.specs.Lines.{Line, noLine, number, numberOf}
 use Rattle.text_writer.specs.Records.{recordLine}
-use Rattle.model.specs.Test.{_and_, within}
+use Rattle.base_laws.specs.Test.{_and_, within}
 use Rattle.model.specs.Network.{signalCount, tramCount, trams, covers, tramPhase}
 use Rattle.model.specs.Rules.{tram, tramExists, validTram}
 use Rattle.model.specs.Table.{letterT}
-use Rattle.model.proofs.Tests.{and-left, and-right}
+use Rattle.base_laws.proofs.Tests.{and-left, and-right, either-way, not-both}
 use Rattle.model.proofs.Accepted.{ValidNetwork}
 use Rattle.model_text.proofs.Formed.{Formed, trams-length, tram-at}
 use Rattle.model_split.specs.Numbering.{rank, picked}
 use Rattle.model_split.specs.Halves.{Half, signalNumber, follows, tramNumbers}
-use Rattle.model_split.proofs.Tests.{either-way, not-both}
 use Rattle.model_split.proofs.Numbering.{renumbered}
 
 -- the phase that the lines ask of signal r in step n, or a given one where none does

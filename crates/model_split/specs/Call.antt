@@ -9,7 +9,7 @@ use Rattle.base_search.specs.declared.Verdict.the-variants as verdicts
 use Rattle.base_search.specs.Checks.{Checks, check, each, _then_, verdict}
 use Rattle.text_reader.specs.Lines.{Line}
 use Rattle.text_reader.specs.Reading.{over}
-use Rattle.model.specs.Test.{_and_, _or_, every}
+use Rattle.base_laws.specs.Test.{_and_, _or_, every}
 use Rattle.model.specs.Network.{linkCount, signalCount, movementCount, stepCount, pastCount, exitRate, signalOf, waitingAtStart, fromLink, toLink, demand}
 use Rattle.model.specs.Table.{isForm, letterP, networkChecks}
 use Rattle.model.specs.Guarantees.{networkNumbers}

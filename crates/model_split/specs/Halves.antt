@@ -7,8 +7,9 @@ use lib.ListN.{getD}
 use Rattle.text_reader.specs.Field.{largest}
 use Rattle.text_reader.specs.Lines.{Line, number}
 use Rattle.text_writer.specs.Records.{recordTexts, recordLines}
-use Rattle.model.specs.Test.{_and_, _or_, every}
-use Rattle.model.specs.Sum.{sum, only, list}
+use Rattle.base_laws.specs.Test.{_and_, _or_, every}
+use Rattle.base_laws.specs.Sum.{sum, only}
+use Rattle.base_laws.specs.Indexed.{list}
 use Rattle.model.specs.Network.{entry, linkCount, signalCount, movementCount, stepCount, tramCount, signalLine, signal, capacity, travelTime, exitRate, signalOf, phaseMask, standing, waitingAtStart, fromLink, toLink, rate, share, stepLength, demand}
 use Rattle.model.specs.Flows.{shownMask, admitted, letOut, moved}
 use Rattle.model.specs.Rules.{tram}

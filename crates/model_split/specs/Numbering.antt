@@ -2,7 +2,7 @@
 use Prim.Native.Nat.{ℕ, zero, suc, _+_}
 use mathlib.Core.Bool.{Bool, cond}
 use mathlib.Core.List.{List, [], _∷_, _++_}
-use Rattle.model.specs.Sum.{only}
+use Rattle.base_laws.specs.Sum.{only}
 
 -- how many of 0 to n - 1 the test holds of: the new number of n, where only those are kept
 unfoldable pub rank : (ℕ → Bool) → ℕ → ℕ

@@ -11,7 +11,7 @@ use Rattle.base_search.specs.Checks.{verdict}
 use Rattle.base_search.specs.Numbers.{CanArise}
 use Rattle.text_reader.specs.Lines.{Line, lines}
 use Rattle.model.specs.declared.Totals.{Totals}
-use Rattle.model.specs.Sum.{sum, only}
+use Rattle.base_laws.specs.Sum.{sum, only}
 use Rattle.model.specs.Network.{linkCount, movementCount, stepCount, fromLink, toLink}
 use Rattle.model.specs.Flows.{admitted, letOut, moved, totals, row}
 use Rattle.model.specs.Table.{planChecks}

@@ -12,14 +12,14 @@ use borrow.Author.Tests.{leb-true, ltb-true, eqb-true, ne-eqb}
 use Rattle.base_search.specs.Checks.{Hold}
 use Rattle.text_reader.specs.Field.{largest}
 use Rattle.text_reader.specs.Lines.{Line, noLine, number, isRecord, lines}
-use Rattle.model.specs.Sum.{sum}
-use Rattle.model.specs.Test.{_and_, within, every}
+use Rattle.base_laws.specs.Sum.{sum}
+use Rattle.base_laws.specs.Test.{_and_, within, every}
 use Rattle.model.specs.Network.{entry, linkCount, signalCount, movementCount, stepCount, tramCount, pastCount, onTimeline, tramLine, signalLine, linkLine, movementLine, timelineLine, stepLine, signal, capacity, travelTime, exitRate, signalOf, phaseMask, standing, waitingAtStart, fromLink, toLink, rate, share, timelineLength, pastEntries, pastExits, stepLength, demand}
 use Rattle.model.specs.Flows.{offered}
 use Rattle.model.specs.Rules.{validPhases, validSignal, validCounts, tram, tramExists, validTram, validTramPhase, validMask, validLink}
 use Rattle.model.specs.Table.{letterN, letterT, letterG, letterQ, letterM, letterH, letterS, networkChecks}
-use Rattle.model.proofs.Tests.{and-left, and-right, every-at}
-use Rattle.model.proofs.Sums.{sum-more, list-at}
+use Rattle.base_laws.proofs.Tests.{and-left, and-right, every-at}
+use Rattle.base_laws.proofs.Sums.{sum-more, list-at}
 use Rattle.model.proofs.Accepted.{ValidNetwork, valid-network}
 use Rattle.model.proofs.Limits.{counts, link-limits, movement-limits, step-limits, past-limits, timeline-length}
 use Rattle.model.proofs.Timeline.{entered-start, left-start}

@@ -1,4 +1,3 @@
-pub mod Tests
 pub mod Lines
 pub mod Formed
 pub mod Fits

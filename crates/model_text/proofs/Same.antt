@@ -4,14 +4,9 @@ use mathlib.Core.List.{List, [], _∷_, _++_}
 use Prim.Native.Nat.{ℕ, zero, suc, _<_}
 use native.Mathlib.Omega.{arith}
 use Rattle.text_writer.specs.Records.{recordText, recordTexts}
-use Rattle.model.specs.Sum.{list}
+use Rattle.base_laws.specs.Indexed.{list}
 use Rattle.model.specs.Table.{letterG, letterQ, letterM, letterH, letterS}
 use Rattle.model_text.specs.NetworkText.{NetworkNumbers, countNumbers, networkText}
-
-pub list-same : (n : ℕ) (f g : ℕ → ℕ) → ((k : ℕ) → k < n → f k ≡ g k) → list n f ≡ list n g
-unfolding list
-list-same zero f g h = refl
-list-same (suc n) f g h = ap₂ (λ xs x. xs ++ (x ∷ [])) (list-same n f g (λ k l. h k (omega arith))) (h n (omega arith))
 
 pub record SameNumbers (x y : NetworkNumbers) : Type 0 where
   pub links : x .links ≡ y .links

@@ -11,11 +11,11 @@ use Rattle.base_search.specs.declared.Verdict.the-variants as verdicts
 use Rattle.base_search.specs.Checks.{Hold, verdict}
 use Rattle.base_search.proofs.Laws.{or-else-passes, or-else-refused, hold-of-passes}
 use Rattle.text_reader.specs.Lines.{Line, lines}
-use Rattle.model.specs.Test.{within}
+use Rattle.base_laws.specs.Test.{within}
 use Rattle.model.specs.Network.{maxLinks, linkCount, onTimeline, capacity, standing, travelTime}
 use Rattle.model.specs.Rules.{validLink, validPast}
 use Rattle.model.specs.Table.{linkChecks, pastChecks}
-use Rattle.model.proofs.Tests.{and-left, and-right}
+use Rattle.base_laws.proofs.Tests.{and-left, and-right}
 use Rattle.network_tables.specs.declared.Reading.{Reading}
 use Rattle.network_tables.specs.declared.Stage.{Stage}
 use Rattle.network_tables.specs.declared.Stage.the-variants.{Passed, Refused}

@@ -13,7 +13,7 @@ use Rattle.base_search.specs.Checks.{refusal}
 use Rattle.text_reader.specs.declared.LineRead.{LineRead}
 use Rattle.text_reader.specs.declared.LineRead.the-variants.{Next, Malformed}
 use Rattle.text_reader.specs.Lines.{Line, lines}
-use Rattle.model.specs.Test.{_and_, within}
+use Rattle.base_laws.specs.Test.{_and_, within}
 use Rattle.model.specs.Network.{entry, linkCount, signalCount, linkLine, signal, capacity, travelTime, exitRate, signalOf, phaseMask, standing}
 use Rattle.model.specs.Rules.{validMask, validLink}
 use Rattle.model.specs.Table.{letterQ, linkChecks}

@@ -12,12 +12,12 @@ use Rattle.base_search.specs.Checks.{refusal, each, checked, verdict}
 use Rattle.text_reader.specs.declared.LineRead.{LineRead}
 use Rattle.text_reader.specs.declared.LineRead.the-variants.{Next, Malformed}
 use Rattle.text_reader.specs.Lines.{Line, lines}
-use Rattle.model.specs.Test.{_and_, _or_, within}
-use Rattle.model.specs.Sum.{sum, only}
+use Rattle.base_laws.specs.Test.{_and_, _or_, within}
+use Rattle.base_laws.specs.Sum.{sum, only}
 use Rattle.model.specs.Network.{linkCount, movementCount, movementLine, fromLink, toLink, rate, share}
 use Rattle.model.specs.Rules.{pairRises, validMovement, lastMovement, validShares}
 use Rattle.model.specs.Table.{letterM, movementChecks, shareChecks}
-use Rattle.model.proofs.Sums.{sum-ext}
+use Rattle.base_laws.proofs.Sums.{sum-ext}
 use Rattle.network_tables.specs.declared.Counts.{Counts}
 use Rattle.network_tables.specs.declared.Reading.{Reading}
 use Rattle.network_tables.specs.declared.Stage.the-variants.{Passed, Refused}

@@ -6,7 +6,7 @@ use mathlib.Core.List.{List}
 use lib.Dec.{leb, ltb, eqb}
 use lib.ListN.{length, getD}
 use Rattle.model.specs.Network.{maxLinks}
-use Rattle.model.specs.Test.{_and_, within}
+use Rattle.base_laws.specs.Test.{_and_, within}
 use Rattle.network_tables.specs.Fields.{linkTableSize, capacityIn, travelTimeIn, exitRateIn, signalIn, phaseMaskIn, standingIn}
 
 -- 4, a mask: 0 without a signal; with one not 0, and no phase above the signal's number of phases

@@ -7,8 +7,8 @@ use lib.Dec.{ltb, eqb}
 use lib.ListN.{length, getD}
 use Rattle.base_search.specs.Checks.{Checks, check}
 use Rattle.model.specs.Network.{maxLinks, maxMovements}
-use Rattle.model.specs.Test.{_and_, _or_, within}
-use Rattle.model.specs.Sum.{sum, only}
+use Rattle.base_laws.specs.Test.{_and_, _or_, within}
+use Rattle.base_laws.specs.Sum.{sum, only}
 use Rattle.network_tables.specs.declared.Counts.{Counts}
 use Rattle.network_tables.specs.Places.{movementLineIn}
 use Rattle.network_tables.specs.Fields.{movementTableSize, linkIn, rateIn, shareIn}

@@ -11,12 +11,12 @@ use Rattle.base_search.specs.declared.Refusal.{Refusal}
 use Rattle.base_search.specs.Checks.{refusal, verdict}
 use Rattle.base_search.proofs.Laws.{checked-passes, checked-refused}
 use Rattle.text_reader.specs.Lines.{Line, lines}
-use Rattle.model.specs.Sum.{sum}
-use Rattle.model.specs.Test.{_and_, every}
+use Rattle.base_laws.specs.Sum.{sum}
+use Rattle.base_laws.specs.Test.{_and_, every}
 use Rattle.model.specs.Network.{maxLinks, linkCount, pastCount, stepCount, onTimeline, timelineLength, pastEntries}
 use Rattle.model.specs.Flows.{timelineEntered, timelineLeft, entered, left, hasArrived, offered}
 use Rattle.model.specs.Rules.{validPastOf, validPast}
-use Rattle.model.proofs.Tests.{and-left, and-right, every-at, every-same}
+use Rattle.base_laws.proofs.Tests.{and-left, and-right, every-at, every-same}
 use Rattle.model.proofs.Timeline.{entered-start}
 use Rattle.model.proofs.Times.{arrival-step-le}
 use Rattle.model.proofs.Flow.{arrived-entered}

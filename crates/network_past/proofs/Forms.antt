@@ -14,7 +14,7 @@ use Rattle.base_search.proofs.Laws.{checked-passes, checked-refused}
 use Rattle.text_reader.specs.declared.LineRead.{LineRead}
 use Rattle.text_reader.specs.declared.LineRead.the-variants.{Next, Malformed}
 use Rattle.text_reader.specs.Lines.{Line, lines}
-use Rattle.model.specs.Test.{_and_, within, every}
+use Rattle.base_laws.specs.Test.{_and_, within, every}
 use Rattle.model.specs.Network.{linkCount, pastCount, stepCount, timelineLine, timelineLength}
 use Rattle.model.specs.Table.{letterH, pastChecks}
 use Rattle.network_tables.specs.declared.Reading.{Reading}

@@ -9,8 +9,8 @@ use borrow.Author.Tests.{le-leb, lt-leb}
 use lib.Dec.{leb}
 use lib.ListN.{length, getD}
 use Rattle.text_reader.specs.Lines.{Line, lines}
-use Rattle.model.specs.Sum.{sum}
-use Rattle.model.specs.Test.{_and_}
+use Rattle.base_laws.specs.Sum.{sum}
+use Rattle.base_laws.specs.Test.{_and_}
 use Rattle.model.specs.Network.{linkCount, pastCount, stepCount, onTimeline, capacity, timelineLength, pastEntries, waitingAtStart, demand, arrivalStep, elapsed}
 use Rattle.model.specs.Flows.{offered, timelineEntered, timelineInflow, timelineLeft, entered, left, held, hasArrived}
 use Rattle.model.specs.Rules.{validPastOf}
@@ -25,6 +25,7 @@ use Rattle.step_arrivals.specs.Arrivals.{secondsIn, elapsedIn, scaledIn, Arriva
 use Rattle.step_arrivals.proofs.Boundaries.{seconds-is, elapsed-at}
 use Rattle.step_past.specs.Curves.{PastRow, CurvesAt}
 use Rattle.network_past.specs.Past.{validPastIn, TestAsked}
+use Rattle.base_laws.proofs.Tests.{leb-over, leb-same}
 
 -- ---- the needs of `valid_past`
 module _ {counts : Counts} {links times demands row arrivals curves : List ℕ} {i : ℕ} (asked : TestAsked counts links times demands row arrivals curves i) {step : ℕ} (e : step ≡ getD arrivals i 0) where
@@ -41,20 +42,8 @@ module _ {counts : Counts} {links times demands row arrivals curves : List ℕ} 
   scaled-room travel s q = (omega (arith, asked .tables .rising .small (step + 1) (omega (arith, early))), omega (arith, asked .tables .rising .small (counts .past) (omega arith)))
 
 -- ---- the same tests, said with another sum
-leb-minus : (a b c : ℕ) → leb a (c + b) ≡ leb (a - b) c
-leb-minus a b c = elim (decLe a (c + b)) [
-  | yes h ↦ le-leb a (c + b) h ∙ sym (le-leb (a - b) c (omega arith))
-  | no h ↦ lt-leb a (c + b) (omega arith) ∙ sym (lt-leb (a - b) c (omega arith))
-]
-
 zero-leb : (a b s : ℕ) → a ≡ 0 → leb (a * s) b ≡ true
 zero-leb a b s e = le-leb (a * s) b (rw e (omega arith))
-
-leb-same : (a b c d : ℕ) → (a ≤ b → c ≤ d) → (c ≤ d → a ≤ b) → leb a b ≡ leb c d
-leb-same a b c d f g = elim (decLe a b) [
-  | yes h ↦ le-leb a b h ∙ sym (le-leb c d (f h))
-  | no h ↦ lt-leb a b (omega arith) ∙ sym (lt-leb c d (elim (decLe c d) [ yes l ↦ absurd (h (g l)) | no l ↦ omega arith ]))
-]
 
 module _ {text : List ℕ} {counts : Counts} (counted : CountsHold (lines text) counts) {links times row arrivals curves places : List ℕ} (demands : List ℕ)
     (link-table : LinkTable (lines text) links) (time-table : TimeTable (lines text) times) (lasts : 1 ≤ timelineLength (lines text) 0) (row-held : PastRow (lines text) (pastCount (lines text)) row)
@@ -123,5 +112,5 @@ module _ {text : List ℕ} {counts : Counts} (counted : CountsHold (lines text) 
   unfolding validPastIn validPastOf held
   valid-is =
       ap₂ _and_
-      (ap₂ _and_ arrived-is (rw (entered-is, left-is, capacity-at link-table i l) (leb-minus (entered net [] 0 i) (left net [] 0 i) (capacity net i))))
+      (ap₂ _and_ arrived-is (rw (entered-is, left-is, capacity-at link-table i l) (leb-over (entered net [] 0 i) (left net [] 0 i) (capacity net i))))
       came-is

@@ -8,8 +8,8 @@ use lib.ListN.{length, getD}
 use Rattle.base_search.specs.Checks.{Checks, check}
 use Rattle.text_reader.specs.Lines.{Line, lines}
 use Rattle.text_reader.specs.Reading.{Starts}
-use Rattle.model.specs.Sum.{sum}
-use Rattle.model.specs.Test.{_and_, every}
+use Rattle.base_laws.specs.Sum.{sum}
+use Rattle.base_laws.specs.Test.{_and_, every}
 use Rattle.model.specs.Network.{maxLinks, linkCount, pastCount, stepCount, timelineLine, stepLine, standing, capacity, travelTime, demand}
 use Rattle.model.specs.Rules.{validPast}
 use Rattle.network_tables.specs.declared.Counts.{Counts}

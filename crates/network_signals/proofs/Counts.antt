@@ -12,11 +12,11 @@ use Rattle.text_reader.specs.declared.LineRead.{LineRead}
 use Rattle.text_reader.specs.declared.LineRead.the-variants.{Next, Malformed}
 use Rattle.text_reader.specs.Lines.{lines}
 use Rattle.text_reader.proofs.Laws.{starts-first}
-use Rattle.model.specs.Test.{within}
+use Rattle.base_laws.specs.Test.{within}
 use Rattle.model.specs.Network.{entry, linkCount, signalCount, movementCount, stepCount, tramCount, pastCount, tramLine}
 use Rattle.model.specs.Rules.{validCounts}
 use Rattle.model.specs.Table.{letterN, countChecks}
-use Rattle.model.proofs.Tests.{and-left, and-right}
+use Rattle.base_laws.proofs.Tests.{and-left, and-right}
 use Rattle.network_tables.specs.declared.Counts.{Counts}
 use Rattle.network_tables.specs.declared.Stage.the-variants.{Passed, Refused}
 use Rattle.network_tables.specs.Rows.{RowRead}

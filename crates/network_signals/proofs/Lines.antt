@@ -17,11 +17,11 @@ use Rattle.text_reader.specs.declared.LineRead.the-variants.{Next, Malformed}
 use Rattle.text_reader.specs.Lines.{Line, lines, noLine, startsAs}
 use Rattle.text_reader.proofs.Laws.{record-past}
 use Rattle.model.specs.declared.Signal.{Signal}
-use Rattle.model.specs.Test.{within}
+use Rattle.base_laws.specs.Test.{within}
 use Rattle.model.specs.Network.{entry, tramCount, signalLine, signal}
 use Rattle.model.specs.Rules.{validPhases, validSignal}
 use Rattle.model.specs.Table.{isForm, letterG, signalChecks}
-use Rattle.model.proofs.Tests.{and-right}
+use Rattle.base_laws.proofs.Tests.{and-right}
 use Rattle.network_tables.specs.declared.Reading.{Reading}
 use Rattle.network_tables.specs.declared.Stage.the-variants.{Passed, Refused}
 use Rattle.network_tables.specs.Places.{signalLineIn}

@@ -17,7 +17,7 @@ use Rattle.base_search.proofs.Laws.{first-all}
 use Rattle.text_reader.specs.Lines.{lines}
 use Rattle.text_reader.specs.Reading.{Starts}
 use Rattle.model.specs.declared.Signal.{Signal}
-use Rattle.model.specs.Test.{every}
+use Rattle.base_laws.specs.Test.{every}
 use Rattle.model.specs.Network.{maxSignals, signalCount, signalLine, signal}
 use Rattle.model.specs.Table.{signalChecks}
 use Rattle.network_tables.specs.declared.Reading.{Reading}

@@ -10,8 +10,8 @@ use lib.Dec.{leb, ltb, eqb}
 use lib.ListN.{getD}
 use Rattle.text_reader.specs.Lines.{Line}
 use Rattle.model.specs.declared.Signal.{Signal}
-use Rattle.model.specs.Test.{_and_, _or_, within, every}
-use Rattle.model.specs.Sum.{list}
+use Rattle.base_laws.specs.Test.{_and_, _or_, within, every}
+use Rattle.base_laws.specs.Indexed.{list}
 use Rattle.model.specs.Network.{entry, signalLine, signal}
 use Rattle.model.specs.Rules.{validSignal}
 use Rattle.network_tables.specs.Fields.{signalBy}

@@ -6,7 +6,7 @@ use lib.Dec.{leb}
 use lib.ListN.{getD}
 use Rattle.text_reader.specs.Lines.{lines}
 use Rattle.text_reader.specs.Reading.{Starts}
-use Rattle.model.specs.Test.{_and_, within}
+use Rattle.base_laws.specs.Test.{_and_, within}
 use Rattle.model.specs.Network.{maxLinks, maxSignals, maxMovements, maxSteps, maxTrams, maxPast, tramLine}
 use Rattle.network_tables.specs.declared.Counts.{Counts}
 use Rattle.network_tables.specs.declared.Reading.{Reading}

@@ -5,7 +5,7 @@ use mathlib.Core.List.{List}
 use lib.Dec.{leb, ltb}
 use lib.ListN.{getD}
 use Rattle.model.specs.declared.Signal.{Signal}
-use Rattle.model.specs.Test.{_and_, within, every}
+use Rattle.base_laws.specs.Test.{_and_, within, every}
 use Rattle.network_tables.specs.Fields.{signalBy}
 
 -- how many numbers a `G` line has before those of its phases

@@ -3,7 +3,7 @@ ghost use mathlib.Core.Path.{_≡_};
 ghost use Prim.Native.Nat.{_≤_};
 ghost use lib.ListN.{length};
 ghost use Rattle.text_reader.specs.Lines.{lines};
-ghost use Rattle.model.specs.Test.{within};
+ghost use Rattle.base_laws.specs.Test.{within};
 ghost use Rattle.model.specs.Rules.{validSignal};
 ghost use Rattle.model.specs.Table.{countChecks, signalChecks};
 ghost use Rattle.network_tables.specs.Fields.{signalFields};

@@ -15,8 +15,8 @@ use Rattle.text_reader.specs.declared.LineRead.{LineRead}
 use Rattle.text_reader.specs.declared.LineRead.the-variants.{Next, Malformed}
 use Rattle.text_reader.specs.Lines.{Line, lines}
 use Rattle.text_reader.specs.Reading.{Starts}
-use Rattle.model.specs.Sum.{sum}
-use Rattle.model.specs.Test.{_and_, within}
+use Rattle.base_laws.specs.Sum.{sum}
+use Rattle.base_laws.specs.Test.{_and_, within}
 use Rattle.model.specs.Network.{maxLinks, linkCount, pastCount, stepCount, onTimeline, timelineLine, stepLine, stepLength, timelineLength, demand}
 use Rattle.model.specs.Rules.{validStep}
 use Rattle.model.specs.Table.{isForm, letterS, stepChecks}

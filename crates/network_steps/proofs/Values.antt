@@ -10,27 +10,14 @@ use native.Mathlib.Omega.{arith}
 use borrow.Author.Tests.{leb-true, le-leb, lt-leb}
 use lib.Dec.{leb}
 use Rattle.text_reader.specs.Lines.{Line}
-use Rattle.model.specs.Test.{_and_, within, every}
+use Rattle.base_laws.specs.Test.{_and_, within, every}
 use Rattle.model.specs.Network.{linkCount, stepLength, demand}
 use Rattle.model.specs.Rules.{validStep}
-use Rattle.model.proofs.Tests.{and-left, and-right, every-at, every-same}
+use Rattle.base_laws.proofs.Tests.{and-left, and-right, every-at, every-same, every-not}
 use Rattle.network_tables.specs.Fields.{demandIn}
 use Rattle.network_tables.specs.Tables.{Shortest, StepNumbers}
 use Rattle.network_tables.proofs.Tables.{step-length-at, demand-at}
 use Rattle.network_steps.specs.Steps.{validDemandsIn, validStepIn}
-
-every-broken : (n : ℕ) (test : ℕ → Bool) (k : ℕ) → k < n → test k ≡ false → every n test ≡ false
-unfolding every _and_
-every-broken zero test k l e = absurd (omega arith)
-every-broken (suc n) test k l e = go (eq-or-lt-of-le l) (every-broken n test k)
-  where
-    go : (suc k ≡ suc n) ⊎ (suc k < suc n) → (k < n → test k ≡ false → every n test ≡ false) → every n test and test n ≡ false
-    go (inl q) ih = let p : k ≡ n = omega arith in rw (← p, e) (by (every k test))
-      where
-        by : (b : Bool) → b and false ≡ false
-        by true = refl
-        by false = refl
-    go (inr q) ih = rw (ih (omega arith) e)
 
 module _ (step : List ℕ) (links i : ℕ) where
   pub demands-none : validDemandsIn step 0 ≡ true
@@ -44,7 +31,7 @@ module _ (step : List ℕ) (links i : ℕ) where
 
     pub demands-broken : i < links → 600_000 < demand → false ≡ validDemandsIn step links
     unfolding validDemandsIn
-    demands-broken h l = sym (every-broken links (λ i. leb (demandIn step i) 600_000) i h (lt-leb (demandIn step i) 600_000 (omega arith)))
+    demands-broken h l = sym (every-not links (λ i. leb (demandIn step i) 600_000) i h (lt-leb (demandIn step i) 600_000 (omega arith)))
 
   pub demands-all : i ≤ links → links ≤ i → validDemandsIn step i ≡ true → true ≡ validDemandsIn step links
   demands-all u l h = let e : i ≡ links = omega arith in sym (rw e at h)

@@ -7,8 +7,8 @@ use lib.Dec.{leb}
 use lib.ListN.{length, getD}
 use Rattle.text_reader.specs.Lines.{lines}
 use Rattle.text_reader.specs.Reading.{Starts}
-use Rattle.model.specs.Sum.{sum}
-use Rattle.model.specs.Test.{_and_, within, every}
+use Rattle.base_laws.specs.Sum.{sum}
+use Rattle.base_laws.specs.Test.{_and_, within, every}
 use Rattle.model.specs.Network.{maxLinks, linkCount, pastCount, stepCount, timelineLine, stepLine, demand}
 use Rattle.model.specs.Table.{isForm, letterS}
 use Rattle.network_tables.specs.declared.Reading.{Reading}

@@ -12,7 +12,7 @@ use Rattle.base_search.specs.Checks.{Checks, verdict}
 use Rattle.text_reader.specs.Lines.{Line, lines}
 use Rattle.text_reader.specs.Reading.{Starts}
 use Rattle.model.specs.declared.Signal.{Signal}
-use Rattle.model.specs.Test.{every}
+use Rattle.base_laws.specs.Test.{every}
 use Rattle.model.specs.Network.{maxSignals, entry, linkCount, signalCount, movementCount, stepCount, tramCount, pastCount, onTimeline, tramLine, signalLine, linkLine, movementLine, timelineLine, stepLine, signal, timelineTime}
 use Rattle.network_tables.specs.declared.Counts.{Counts}
 use Rattle.network_tables.specs.declared.Reading.{Reading}

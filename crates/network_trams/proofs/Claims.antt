@@ -12,11 +12,11 @@ use lib.Dec.{leb, eqb}
 use lib.ListN.{length, getD, set, take, drop, length-set, length-take, length-drop, drop-of-length-le}
 use lib.Seq.{getD-set-same, getD-set-other, getD-take, getD-drop, drop-cons}
 use Rattle.text_reader.specs.Lines.{Line, noLine, number}
-use Rattle.model.specs.Test.{_and_, within}
+use Rattle.base_laws.specs.Test.{_and_, within}
 use Rattle.model.specs.Network.{maxSignals, maxSteps, entry, signalCount, tramCount, tramLine, trams, covers, tramPhase}
 use Rattle.model.specs.Rules.{tramExists, tram, validTram}
 use Rattle.model.specs.Table.{isForm, letterT}
-use Rattle.model.proofs.Tests.{and-left, and-right}
+use Rattle.base_laws.proofs.Tests.{and-left, and-right}
 use Rattle.network_tables.specs.declared.Counts.{Counts}
 use Rattle.network_tables.specs.Fields.{tramFields, tramIn}
 use Rattle.network_tables.specs.Tables.{CountsHold, TramTable}

@@ -11,11 +11,11 @@ use Rattle.base_search.proofs.Laws.{first-same, hold-of-passes}
 use Rattle.text_reader.specs.declared.LineRead.{LineRead}
 use Rattle.text_reader.specs.declared.LineRead.the-variants.{Next, Malformed}
 use Rattle.text_reader.specs.Lines.{lines, number}
-use Rattle.model.specs.Test.{_and_, within}
+use Rattle.base_laws.specs.Test.{_and_, within}
 use Rattle.model.specs.Network.{entry, signalCount, tramCount, tramLine, signal}
 use Rattle.model.specs.Rules.{tramExists, tram, validTram, validTramPhase}
 use Rattle.model.specs.Table.{letterT, tramChecks, tramPhaseChecks}
-use Rattle.model.proofs.Tests.{and-left, and-right}
+use Rattle.base_laws.proofs.Tests.{and-left, and-right}
 use Rattle.network_tables.specs.declared.Counts.{Counts}
 use Rattle.network_tables.specs.declared.Reading.{Reading}
 use Rattle.network_tables.specs.declared.Stage.the-variants.{Passed, Refused}

@@ -8,10 +8,10 @@ use native.Mathlib.Omega.{arith}
 use lib.Dec.{leb, ltb, eqb}
 use lib.ListN.{getD}
 use Rattle.text_reader.specs.Lines.{Line, number}
-use Rattle.model.specs.Test.{_and_, _or_, within, every}
+use Rattle.base_laws.specs.Test.{_and_, _or_, within, every}
 use Rattle.model.specs.Network.{entry, signalCount, stepCount, tramLine}
 use Rattle.model.specs.Rules.{apart, tramExists, tram, validTram}
-use Rattle.model.proofs.Tests.{every-same}
+use Rattle.base_laws.proofs.Tests.{every-same}
 use Rattle.network_tables.specs.Fields.{tramFields, tramIn}
 use Rattle.network_tables.specs.Blocks.{RowsTo, tramBlock}
 use Rattle.network_trams.specs.Trams.{apartIn, apartFrom, validTramIn, validPhaseIn}

@@ -7,7 +7,7 @@ use lib.Dec.{leb, eqb}
 use lib.ListN.{length, getD, set}
 use Rattle.text_reader.specs.Lines.{Line, lines}
 use Rattle.text_reader.specs.Reading.{Starts}
-use Rattle.model.specs.Test.{_and_, within}
+use Rattle.base_laws.specs.Test.{_and_, within}
 use Rattle.model.specs.Network.{maxSignals, maxSteps, maxTrams, tramCount, tramLine, trams, tramPhase}
 use Rattle.model.specs.Rules.{validTram}
 use Rattle.model.specs.Table.{isForm, letterT}

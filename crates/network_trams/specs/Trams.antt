@@ -7,7 +7,7 @@ use lib.Dec.{leb, ltb, eqb}
 use lib.ListN.{length, getD}
 use Rattle.base_search.specs.Checks.{Checks, check}
 use Rattle.model.specs.Network.{maxTrams}
-use Rattle.model.specs.Test.{_and_, _or_, within, every}
+use Rattle.base_laws.specs.Test.{_and_, _or_, within, every}
 use Rattle.network_tables.specs.declared.Counts.{Counts}
 use Rattle.network_tables.specs.Places.{tramLineIn}
 use Rattle.network_tables.specs.Fields.{tramTableSize, tramIn}

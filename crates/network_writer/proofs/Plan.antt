@@ -10,10 +10,10 @@ use borrow.Author.Tests.{lt-ltb, le-ltb}
 use lib.ListN.{length, getD, set, take, length-set}
 use Rattle.text_reader.specs.Reading.{over}
 use Rattle.text_writer.specs.Records.{recordText}
-use Rattle.model.specs.Sum.{list}
+use Rattle.base_laws.specs.Indexed.{list}
 use Rattle.model.specs.Network.{maxSignals}
 use Rattle.model.specs.Table.{letterP}
-use Rattle.model.proofs.Sums.{list-length}
+use Rattle.base_laws.proofs.Sums.{list-length}
 use Rattle.network_tables.specs.declared.Counts.{Counts}
 use Rattle.network_tables.specs.Places.{planWidth, Few}
 use Rattle.network_tables.specs.Fields.{lineSize}

@@ -7,7 +7,7 @@ use lib.ListN.{length, getD, take}
 use lib.Seq.{take-suc}
 use Rattle.text_reader.specs.declared.LineRead.{LineRead}
 use Rattle.text_reader.specs.declared.LineRead.the-variants.{Next, Malformed}
-use Rattle.model.specs.Sum.{list}
+use Rattle.base_laws.specs.Indexed.{list}
 use Rattle.network_tables.specs.Rows.{RowRead}
 use Rattle.network_writer.specs.Reading.{ReadAgain}
 

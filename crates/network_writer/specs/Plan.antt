@@ -6,7 +6,8 @@ use mathlib.Core.List.{List}
 use lib.Dec.{ltb}
 use lib.ListN.{length, getD}
 use Rattle.text_writer.specs.Records.{recordTexts}
-use Rattle.model.specs.Sum.{only, list}
+use Rattle.base_laws.specs.Sum.{only}
+use Rattle.base_laws.specs.Indexed.{list}
 use Rattle.model.specs.Network.{maxSignals, maxLinks, maxSteps}
 use Rattle.model.specs.Table.{letterP}
 use Rattle.network_tables.specs.declared.Counts.{Counts}

@@ -15,14 +15,14 @@ use Rattle.text_reader.specs.declared.LineRead.{LineRead}
 use Rattle.text_reader.specs.declared.LineRead.the-variants.{Next, Malformed}
 use Rattle.text_reader.specs.Lines.{Line, lines}
 use Rattle.text_reader.proofs.Laws.{starts-first}
-use Rattle.model.specs.Test.{_and_, every}
-use Rattle.model.specs.Sum.{sum}
+use Rattle.base_laws.specs.Test.{_and_, every}
+use Rattle.base_laws.specs.Sum.{sum}
 use Rattle.model.specs.Network.{linkCount, signalCount, movementCount, stepCount}
 use Rattle.model.specs.Flows.{letOut, allLetOut}
 use Rattle.model.specs.Table.{letterP, isForm, lineChecks, planLineChecks, planChecks}
 use Rattle.model.specs.Hold.{planOf}
-use Rattle.model.proofs.Tests.{every-same}
-use Rattle.model.proofs.Sums.{sum-ext, sum-zero}
+use Rattle.base_laws.proofs.Tests.{every-same}
+use Rattle.base_laws.proofs.Sums.{sum-ext, sum-zero}
 use Rattle.model.proofs.Hold.{plan-of-text, plan-of-empty, hold-volume}
 use Rattle.network_tables.specs.declared.Counts.{Counts}
 use Rattle.network_tables.specs.Places.{letOutPlace, planWidth}

@@ -9,7 +9,7 @@ use lib.Dec.{leb}
 use borrow.Author.Tests.{le-leb, leb-true, leb-false}
 use Rattle.text_reader.specs.Lines.{Line}
 use Rattle.model.specs.Network.{stepCount}
-use Rattle.model.proofs.Tests.{every-at, every-all, every-fails}
+use Rattle.base_laws.proofs.Tests.{every-at, every-of, every-fails}
 use Rattle.plan_compare.specs.declared.Order.{Order}
 use Rattle.plan_compare.specs.declared.Order.the-variants.{Ahead, Behind, Equal, Crossing}
 use Rattle.plan_compare.specs.Comparison.{orderBy, letOutBy, isNeverFewer, order}
@@ -28,7 +28,7 @@ module _ (network one other : List Line) where
 
   is-never-fewer : NeverFewer network one other → isNeverFewer network one other ≡ true
   unfolding isNeverFewer
-  is-never-fewer h = every-all (suc (stepCount network)) (λ n. leb (letOutBy network other n) (letOutBy network one n)) (λ n l. le-leb _ _ (h n (omega arith)))
+  is-never-fewer h = every-of (suc (stepCount network)) (λ n. leb (letOutBy network other n) (letOutBy network one n)) (λ n l. le-leb _ _ (h n (omega arith)))
 
   is-somewhere-fewer : SomewhereMore network other one → isNeverFewer network one other ≡ false
   is-somewhere-fewer m = go (isNeverFewer network one other) refl

@@ -5,10 +5,10 @@ use mathlib.Core.List.{List}
 use native.Mathlib.Nat.{mul-le-mul-left, mul-lt-mul-of-pos-left}
 use native.Mathlib.Omega.{arith}
 use Rattle.text_reader.specs.Lines.{Line}
-use Rattle.model.specs.Sum.{sum}
+use Rattle.base_laws.specs.Sum.{sum}
 use Rattle.model.specs.Network.{stepCount, stepLength}
 use Rattle.model.specs.Flows.{underWay, doubledTime}
-use Rattle.model.proofs.Sums.{sum-le, sum-less}
+use Rattle.base_laws.proofs.Sums.{sum-le, sum-less}
 use Rattle.model.proofs.Accepted.{AcceptedPlan}
 use Rattle.model.proofs.Limits.{step-limits}
 use Rattle.model.proofs.TravelTime.{under-way-alike}

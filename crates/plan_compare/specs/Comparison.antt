@@ -9,8 +9,8 @@ use Rattle.base_search.specs.declared.Verdict.the-variants as verdict
 use Rattle.text_reader.specs.Lines.{Line}
 use Rattle.model.specs.declared.PlanAnswer.{PlanAnswer}
 use Rattle.model.specs.declared.PlanAnswer.the-variants as plan-answer
-use Rattle.model.specs.Test.{every}
-use Rattle.model.specs.Sum.{sum}
+use Rattle.base_laws.specs.Test.{every}
+use Rattle.base_laws.specs.Sum.{sum}
 use Rattle.model.specs.Network.{stepCount}
 use Rattle.model.specs.Flows.{allLetOut}
 use Rattle.model.specs.Calls.{checkNetwork, checkPlan, ledgerAfter}

@@ -7,8 +7,8 @@ use lib.Dec.{leb, ltb}
 use lib.ListN.{length}
 use Rattle.text_reader.specs.Lines.{lines}
 use Rattle.text_reader.specs.Reading.{Starts}
-use Rattle.model.specs.Test.{every}
-use Rattle.model.specs.Sum.{sum, only}
+use Rattle.base_laws.specs.Test.{every}
+use Rattle.base_laws.specs.Sum.{sum, only}
 use Rattle.model.specs.Network.{entry}
 use Rattle.model.specs.Table.{letterP, isForm}
 use Rattle.network_tables.specs.declared.Counts.{Counts}

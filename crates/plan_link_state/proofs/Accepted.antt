@@ -14,8 +14,8 @@ use Rattle.base_search.proofs.Laws.{passes-of-hold}
 use Rattle.text_reader.specs.Lines.{Line}
 use Rattle.model.specs.declared.Totals.{Totals}
 use Rattle.model.specs.declared.PlanAnswer.the-variants.{Accepted}
-use Rattle.model.specs.Sum.{sum}
-use Rattle.model.specs.Test.{_or_}
+use Rattle.base_laws.specs.Sum.{sum}
+use Rattle.base_laws.specs.Test.{_or_}
 use Rattle.model.specs.Network.{linkCount, stepCount, pastCount, onTimeline, travelTime, standing, timelineLength, time, timelineTime, arrivalStep, elapsed}
 use Rattle.model.specs.Flows.{timelineInflow, timelineEntered, entered, left, hasArrived, held}
 use Rattle.model.specs.Table.{networkChecks, ledgerChecks, planChecks}

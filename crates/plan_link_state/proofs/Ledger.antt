@@ -13,8 +13,8 @@ use Rattle.base_search.specs.Checks.{refusal}
 use Rattle.text_reader.specs.Lines.{Line, lines}
 use Rattle.model.specs.declared.LinkAnswer.{LinkAnswer}
 use Rattle.model.specs.declared.LinkAnswer.the-variants.{State, Refused}
-use Rattle.model.specs.Sum.{sum}
-use Rattle.model.specs.Test.{_and_, _or_}
+use Rattle.base_laws.specs.Sum.{sum}
+use Rattle.base_laws.specs.Test.{_and_, _or_}
 use Rattle.model.specs.Network.{linkCount, stepCount, pastCount, onTimeline, travelTime, standing, timelineLength, time, timelineTime, arrivalStep, elapsed}
 use Rattle.model.specs.Flows.{timelineEntered}
 use Rattle.model.specs.Calls.{ledgerEntered, endStep, endLength, endElapsed, arrivalEntered, scaledArrived, risesInside}

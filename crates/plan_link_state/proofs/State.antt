@@ -19,7 +19,7 @@ use Rattle.text_reader.specs.Padding.{PaddingIgnored}
 use Rattle.text_reader.proofs.Padding.{same-lines}
 use Rattle.model.specs.declared.LinkAnswer.{LinkAnswer}
 use Rattle.model.specs.declared.LinkAnswer.the-variants.{State, Refused}
-use Rattle.model.specs.Test.{_and_, within}
+use Rattle.base_laws.specs.Test.{_and_, within}
 use Rattle.model.specs.Network.{linkCount, stepCount}
 use Rattle.model.specs.Table.{networkChecks, ledgerChecks}
 use Rattle.model.specs.Calls.{ledgerEntered, ledgerLeft, endStep, endLength, scaledArrived, risesInside, ledgerArrived, stateChecks, linkAnswer, linkState}
@@ -35,12 +35,9 @@ use Rattle.network.specs.Loading.{Loaded}
 use Rattle.plan_link_state.specs.State.{Tabled, ArrivalAsked, ledgerArrival, stateFrom}
 use Rattle.plan_link_state.specs.declared.Arrival.{Arrival}
 use Rattle.plan_link_state.proofs.Ledger.{arrival-step-lasts}
+use Rattle.base_laws.proofs.Tests.{is-within}
 
 -- ---- 20: whether a link is one of the network's
-within-true : (low x high : ℕ) → low ≤ x → x ≤ high → within low x high ≡ true
-unfolding within _and_
-within-true low x high h l = rw (le-leb low x h, le-leb x high l)
-
 within-below : (low x high : ℕ) → x < low → within low x high ≡ false
 unfolding within _and_
 within-below low x high h = rw (lt-leb low x h)
@@ -111,7 +108,7 @@ module _ (network : List Line) (ledger : List ℕ) (boundary link : ℕ) where
             ≡ linkState network ledger boundary link
         unfolding stateFrom linkState ledgerArrived
         state-is first last =
-            let inside = within-true 1 link (linkCount network) first last in
+            let inside = is-within 1 link (linkCount network) first last in
             sym (ap (linkAnswer network ledger boundary link) (to20 ∙ or-else-passes _ _ (checked-passes _ 20 0 0 inside)) ∙ by-agreement agrees)
 
 -- ---- by the tables

@@ -10,7 +10,7 @@ use Rattle.text_reader.specs.Lines.{Line, lines}
 use Rattle.text_reader.specs.Reading.{Starts}
 use Rattle.model.specs.declared.LinkAnswer.{LinkAnswer}
 use Rattle.model.specs.declared.LinkAnswer.the-variants.{State, Refused}
-use Rattle.model.specs.Test.{_and_}
+use Rattle.base_laws.specs.Test.{_and_}
 use Rattle.model.specs.Network.{linkCount, stepCount, pastCount, onTimeline, timelineLine, travelTime, standing, time, timelineTime, arrivalStep}
 use Rattle.model.specs.Flows.{timelineEntered, left, hasArrived, held}
 use Rattle.model.specs.Table.{networkChecks}

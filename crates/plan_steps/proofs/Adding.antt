@@ -12,12 +12,12 @@ use Rattle.base_search.specs.Checks.{verdict, Hold}
 use Rattle.base_search.proofs.Laws.{hold-of-passes}
 use Rattle.text_reader.specs.Lines.{Line}
 use Rattle.model.specs.declared.Totals.{Totals}
-use Rattle.model.specs.Sum.{sum}
+use Rattle.base_laws.specs.Sum.{sum}
 use Rattle.model.specs.Network.{maxSteps, linkCount, stepCount}
 use Rattle.model.specs.Flows.{vehicles, allAdmitted, allLetOut, outside, underWay, doubledTime, totals}
 use Rattle.model.specs.Rules.{rule17, rule18}
 use Rattle.model.specs.Table.{networkChecks, lineChecks}
-use Rattle.model.proofs.Sums.{sum-ext}
+use Rattle.base_laws.proofs.Sums.{sum-ext}
 use Rattle.model.proofs.Accepted.{valid-network, lawful-step, LawfulStep}
 use Rattle.model.proofs.Limits.{step-limits}
 use Rattle.model.proofs.Flow.{balance-while}

@@ -7,7 +7,7 @@ use native.Mathlib.Omega.{arith}
 use lib.ListN.{drop}
 use lib.Seq.{drop-drop, drop-at}
 use Rattle.text_reader.specs.Lines.{Line}
-use Rattle.model.specs.Sum.{joined}
+use Rattle.base_laws.specs.Sum.{joined}
 use Rattle.model.specs.Network.{linkCount}
 use Rattle.model.specs.Flows.{row}
 use Rattle.model.specs.Calls.{written}

@@ -20,7 +20,7 @@ use Rattle.text_reader.proofs.Laws.{starts-first}
 use Rattle.model.specs.declared.Totals.{Totals}
 use Rattle.model.specs.declared.PlanAnswer.{PlanAnswer}
 use Rattle.model.specs.declared.PlanAnswer.the-variants as plan-answer
-use Rattle.model.specs.Sum.{sum}
+use Rattle.base_laws.specs.Sum.{sum}
 use Rattle.model.specs.Network.{maxLinks, maxSteps, linkCount, stepCount, pastCount, onTimeline, signal}
 use Rattle.model.specs.Flows.{signalAt, totals}
 use Rattle.model.specs.Table.{isForm, letterP, ledgerChecks, lineChecks, planLineChecks}

@@ -18,7 +18,7 @@ use Rattle.text_reader.specs.declared.LineRead.{LineRead}
 use Rattle.text_reader.specs.declared.LineRead.the-variants.{Next, Malformed}
 use Rattle.text_reader.specs.Lines.{Line, lines}
 use Rattle.text_reader.specs.Reading.{Starts}
-use Rattle.model.specs.Test.{_or_}
+use Rattle.base_laws.specs.Test.{_or_}
 use Rattle.model.specs.Signals.{phaseOf, after as signalAfter}
 use Rattle.model.specs.Network.{maxSignals, linkCount, signalCount, stepCount, tramCount, tramLine, onTimeline, stepLine, stepLength, ordinary, signal, maxSteps}
 use Rattle.model.specs.Flows.{shownMask, shownIn, signalAt, outside}

@@ -4,7 +4,7 @@ use mathlib.Core.Path.{_≡_}
 use mathlib.Core.List.{List}
 use lib.ListN.{length}
 use Rattle.model.specs.declared.Totals.{Totals}
-use Rattle.model.specs.Sum.{sum}
+use Rattle.base_laws.specs.Sum.{sum}
 use Rattle.network_tables.specs.declared.Counts.{Counts}
 use Rattle.network_tables.specs.Places.{Few}
 use Rattle.network_tables.specs.Fields.{lineSize, stepSize, lengthIn, admittedIn, letOutIn, enteredIn, leftIn}

@@ -14,7 +14,7 @@ use Rattle.text_reader.specs.declared.LineRead.{LineRead}
 use Rattle.text_reader.specs.declared.LineRead.the-variants.{Next, Malformed}
 use Rattle.text_reader.specs.Lines.{Line, lines}
 use Rattle.model.specs.declared.Signal.{Signal}
-use Rattle.model.specs.Test.{_and_, _or_}
+use Rattle.base_laws.specs.Test.{_and_, _or_}
 use Rattle.model.specs.Network.{maxSignals, maxSteps, signalCount, trams as tramLines, tramPhase, signal, stepLength, time, ordinary}
 use Rattle.model.specs.Signals.{phaseOf}
 use Rattle.model.specs.Flows.{shownIn, signalAt}

@@ -13,7 +13,7 @@ use lib.ListN.{length, getD, set, length-set}
 use lib.Seq.{getD-set-same, getD-set-other}
 use Rattle.base_search.specs.declared.Verdict.the-variants.{Passes, Refused}
 use Rattle.model.specs.declared.Signal.{Signal}
-use Rattle.model.specs.Test.{_and_}
+use Rattle.base_laws.specs.Test.{_and_}
 use Rattle.network_tables.specs.Fields.{tableSignal}
 use Rattle.model_sheet.specs.Runs.{earlier, leastLine, leastItem, toldRun, passVerdict}
 use Rattle.sheet_check.specs.declared.Watch.{Watch}

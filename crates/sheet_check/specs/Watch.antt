@@ -7,7 +7,7 @@ use lib.Dec.{leb, eqb}
 use lib.ListN.{length, getD}
 use Rattle.text_reader.specs.Lines.{Line}
 use Rattle.model.specs.declared.Signal.{Signal}
-use Rattle.model.specs.Test.{_and_}
+use Rattle.base_laws.specs.Test.{_and_}
 use Rattle.model.specs.Network.{maxSignals, signalCount}
 use Rattle.network_tables.specs.Fields.{signalTableSize, tableSignal}
 use Rattle.sheet_lines.specs.Reading.{sheetFields, sheetTableSize}

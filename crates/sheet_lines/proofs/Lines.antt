@@ -20,12 +20,12 @@ use Rattle.text_reader.specs.Lines.{lines}
 use Rattle.text_reader.specs.Reading.{Starts, atEnd}
 use Rattle.text_reader.proofs.Laws.{starts-first, starts-end}
 use Rattle.model.specs.declared.Signal.{Signal}
-use Rattle.model.specs.Test.{_and_, within, every}
-use Rattle.model.specs.Sum.{sum}
+use Rattle.base_laws.specs.Test.{_and_, within, every}
+use Rattle.base_laws.specs.Sum.{sum}
 use Rattle.model.specs.Network.{entry}
 use Rattle.model.specs.Table.{isForm}
-use Rattle.model.proofs.Tests.{and-right, every-at, every-same}
-use Rattle.model.proofs.Sums.{sum-ext}
+use Rattle.base_laws.proofs.Tests.{and-right, every-at, every-same}
+use Rattle.base_laws.proofs.Sums.{sum-ext}
 use Rattle.network_tables.specs.Fields.{tableSignal}
 use Rattle.network_tables.specs.Rows.{RowRead}
 use Rattle.network_tables.specs.Blocks.{PassedTo}

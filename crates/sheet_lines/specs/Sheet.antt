@@ -8,8 +8,8 @@ use lib.ListN.{length, getD}
 use Rattle.base_search.specs.Checks.{Checks, check, each, _then_}
 use Rattle.text_reader.specs.Lines.{Line}
 use Rattle.model.specs.declared.Signal.{Signal}
-use Rattle.model.specs.Test.{_and_, within, every}
-use Rattle.model.specs.Sum.{sum}
+use Rattle.base_laws.specs.Test.{_and_, within, every}
+use Rattle.base_laws.specs.Sum.{sum}
 use Rattle.model.specs.Network.{entry, signalCount, signal}
 use Rattle.model.specs.Table.{isForm}
 

@@ -1,6 +1,6 @@
 // The lines of a fixed-time sheet (T-10), read into a table: refusal 33.
 ghost use mathlib.Core.Path.{_≡_};
-ghost use Rattle.model.specs.Test.{within};
+ghost use Rattle.base_laws.specs.Test.{within};
 ghost use Rattle.network_tables.specs.Fields.{tableSignal};
 ghost use Rattle.sheet_lines.specs.Sheet.{validNumbers};
 ghost use Rattle.sheet_lines.specs.Reading.{numberIn, NumbersAsked, SheetAsked, SheetRead};

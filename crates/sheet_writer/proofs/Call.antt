@@ -18,12 +18,13 @@ use Rattle.text_reader.specs.Lines.{Line, lines}
 use Rattle.text_reader.specs.Padding.{PaddingIgnored}
 use Rattle.text_reader.proofs.Padding.{same-lines}
 use Rattle.text_writer.proofs.Laws.{records-same}
-use Rattle.model.specs.Test.{_and_}
-use Rattle.model.specs.Sum.{sum, only, list}
+use Rattle.base_laws.specs.Test.{_and_}
+use Rattle.base_laws.specs.Sum.{sum, only}
+use Rattle.base_laws.specs.Indexed.{list}
 use Rattle.model.specs.Network.{maxSignals, entry, linkCount, signalCount, movementCount, stepCount, tramCount, tramLine, signal, stepLength, time}
 use Rattle.model.specs.Table.{isForm, letterP, letterT, tramChecks, networkChecks}
-use Rattle.model.proofs.Tests.{every-same}
-use Rattle.model.proofs.Sums.{sum-ext}
+use Rattle.base_laws.proofs.Tests.{every-same}
+use Rattle.base_laws.proofs.Sums.{sum-ext, list-same}
 use Rattle.model.proofs.Times.{time-suc}
 use Rattle.model.proofs.Accepted.{ValidNetwork, valid-network}
 use Rattle.network_tables.specs.declared.Counts.{Counts}
@@ -79,11 +80,6 @@ module _ {f g : ℕ → ℕ} where
     fits-same seconds =
         let few : phaseAt f P t ≤ P = unfold phaseAt in phase-most f P (placeAt f P t) in
         ap₂ (λ x y. leb (x + seconds) y) place-same (sum-ext (phaseAt f P t) f g (λ j l. h j (omega arith)) ∙ ap (λ q. sum q g) phase-same)
-
-list-same : (n : ℕ) (f g : ℕ → ℕ) → ((k : ℕ) → k < n → f k ≡ g k) → list n f ≡ list n g
-unfolding list
-list-same zero f g h = refl
-list-same (suc n) f g h = ap₂ (λ x y. x ++ (y ∷ [])) (list-same n f g (λ k l. h k (omega arith))) (h n (omega arith))
 
 only-same : (k n : ℕ) (x y : ℕ) → (k < n → x ≡ y) → only (ltb k n) x ≡ only (ltb k n) y
 only-same k n x y h = elim (decLt k n) [ yes l ↦ ap (only (ltb k n)) (h l) | no l ↦ rw (le-ltb k n (omega arith)) ]

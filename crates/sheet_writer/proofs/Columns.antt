@@ -18,7 +18,7 @@ use Rattle.text_reader.specs.declared.LineRead.{LineRead}
 use Rattle.text_reader.specs.declared.LineRead.the-variants.{Next, Malformed}
 use Rattle.text_reader.specs.Lines.{Line, lines}
 use Rattle.text_reader.specs.Reading.{Starts}
-use Rattle.model.specs.Test.{_and_, every}
+use Rattle.base_laws.specs.Test.{_and_, every}
 use Rattle.model.specs.Network.{maxSignals, entry, tramCount, tramLine}
 use Rattle.model.specs.Table.{letterT}
 use Rattle.network_tables.specs.declared.Reading.{Reading}
@@ -28,11 +28,11 @@ use Rattle.network_tables.specs.Blocks.{PassedTo}
 use Rattle.network_tables.proofs.Blocks.{passed-none, passed-all, passed-stop, passed-next}
 use Rattle.sheet_lines.specs.Reading.{numberIn}
 use Rattle.model_sheet.specs.Cycle.{phaseAt, fitsAt, hasNoTram}
-use Rattle.model_sheet.proofs.Tests.{every-not}
 use Rattle.sheet_writer.specs.declared.Run.{Run}
 use Rattle.sheet_writer.specs.Tables.{RunAt, NextAsked, NextRun, timeIn, secondsIn, maskTableSize, fitsIn, ColumnAsked, Column, ColumnGot, canWriteIn, boundaryChecksIn, phaseIn, MasksHeld}
 use Rattle.sheet_writer.specs.Stages.{TramsAsked, CyclesAsked, MasksGot}
 use Rattle.sheet_writer.proofs.Cycle.{run-phase, fits-run}
+use Rattle.base_laws.proofs.Tests.{every-not}
 
 -- ---- one signal: the first n steps fit, their masks are set, and this run shows next
 pub record ColumnTo (value : ℕ → ℕ) (P : ℕ) (times : List ℕ) (steps r : ℕ) (before masks : List ℕ) (run : Run) (n : ℕ) : Type 0 where

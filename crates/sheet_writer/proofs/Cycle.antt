@@ -8,7 +8,7 @@ use native.Mathlib.Decide.{decLe, ℕ-discrete}
 use native.Mathlib.Omega.{arith}
 use borrow.Author.Tests.{le-leb, lt-leb, eq-eqb, ne-eqb}
 use lib.Dec.{leb}
-use Rattle.model.specs.Sum.{sum}
+use Rattle.base_laws.specs.Sum.{sum}
 use Rattle.model.specs.Signals.{phaseAfter}
 use Rattle.model_sheet.specs.Cycle.{placeAt, phaseFrom, phaseAt, fitsAt}
 use Rattle.model_sheet.proofs.Cycle.{end-zero, end-suc, phase-is, shows, goes-on, changes}

@@ -10,8 +10,9 @@ use lib.ListN.{length, getD}
 use Rattle.base_search.specs.Checks.{Checks, check, each}
 use Rattle.text_reader.specs.Lines.{Line}
 use Rattle.text_writer.specs.Records.{recordTexts}
-use Rattle.model.specs.Test.{_and_, every}
-use Rattle.model.specs.Sum.{sum, only, list}
+use Rattle.base_laws.specs.Test.{_and_, every}
+use Rattle.base_laws.specs.Sum.{sum, only}
+use Rattle.base_laws.specs.Indexed.{list}
 use Rattle.model.specs.Network.{maxSignals, maxSteps}
 use Rattle.model.specs.Table.{letterP}
 use Rattle.network_tables.specs.declared.Counts.{Counts}

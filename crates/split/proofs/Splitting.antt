@@ -17,7 +17,7 @@ use Rattle.text_reader.proofs.Padding.{same-lines}
 use Rattle.model.specs.Network.{maxSignals, linkCount}
 use Rattle.model.specs.Table.{networkChecks}
 use Rattle.model.specs.Hold.{planOf}
-use Rattle.model.proofs.Tests.{and-right}
+use Rattle.base_laws.proofs.Tests.{and-right}
 use Rattle.model.proofs.Accepted.{valid-network}
 use Rattle.model.proofs.Limits.{link-limits}
 use Rattle.network_tables.specs.declared.Reading.{Reading}

@@ -12,9 +12,9 @@ use Rattle.base_search.specs.declared.Refusal.{Refusal}
 use Rattle.base_search.specs.Checks.{refusal}
 use Rattle.text_reader.specs.Lines.{Line, lines}
 use Rattle.text_reader.specs.Reading.{over}
-use Rattle.model.specs.Test.{_and_}
+use Rattle.base_laws.specs.Test.{_and_}
 use Rattle.model.specs.Hold.{planOf}
-use Rattle.model.proofs.Tests.{and-left, and-right}
+use Rattle.base_laws.proofs.Tests.{and-left, and-right, not-both}
 use Rattle.network_tables.specs.declared.Reading.{Reading}
 use Rattle.network_writer.specs.Put.{PutWhole}
 use Rattle.model_split.specs.declared.Lengths.{Lengths}
@@ -22,7 +22,6 @@ use Rattle.model_split.specs.declared.SplitAnswer.the-variants.{Written, Refuse
 use Rattle.model_split.specs.Halves.{Half, firstHalf, secondHalf}
 use Rattle.model_split.specs.Call.{inSet, networkText₁, planText₁, networkText₂, planText₂, lengths}
 use Rattle.model_split.specs.Splits.{Buffers, roomOf}
-use Rattle.model_split.proofs.Tests.{not-both}
 use Rattle.split_text.specs.Halves.{OneHalf, PlanAsked, PlanPut, NetworkAsked, NetworkPut}
 use Rattle.split.specs.declared.HalfLengths.{HalfLengths}
 use Rattle.split.specs.Splitting.{buffers, HalfPut, BothHalves, WriteAsked, Measured, fits, HalvesWritten}

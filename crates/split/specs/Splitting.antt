@@ -9,7 +9,7 @@ use Rattle.base_search.specs.declared.Verdict.{Verdict}
 use Rattle.base_search.specs.Checks.{refusal, verdict, Hold}
 use Rattle.text_reader.specs.Lines.{Line, lines}
 use Rattle.text_reader.specs.Reading.{Starts, over}
-use Rattle.model.specs.Test.{_and_}
+use Rattle.base_laws.specs.Test.{_and_}
 use Rattle.model.specs.Network.{linkCount, tramLine, signalLine, stepLine}
 use Rattle.model.specs.Table.{networkChecks}
 use Rattle.model.specs.Hold.{planOf}

@@ -10,10 +10,10 @@ use lib.ListN.{length}
 use Rattle.base_search.specs.Checks.{Hold}
 use Rattle.text_reader.specs.Lines.{Line, lines}
 use Rattle.text_reader.specs.Reading.{Starts}
-use Rattle.model.specs.Test.{_or_, every}
+use Rattle.base_laws.specs.Test.{_or_, every}
 use Rattle.model.specs.Network.{linkCount, movementCount, stepCount, stepLine, fromLink, toLink}
 use Rattle.model.specs.Table.{networkChecks}
-use Rattle.model.proofs.Tests.{every-same}
+use Rattle.base_laws.proofs.Tests.{every-same}
 use Rattle.model.proofs.Accepted.{ValidNetwork, valid-network}
 use Rattle.model.proofs.Limits.{movement-limits}
 use Rattle.network_tables.specs.declared.Counts.{Counts}

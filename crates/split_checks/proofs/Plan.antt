@@ -30,8 +30,8 @@ use Rattle.plan_steps.specs.PlanLine.{LineAsked, LineGot}
 use Rattle.plan_steps.proofs.PlanLines.{line-bad, line-good, plan-ends}
 use Rattle.split_tables.proofs.Halves.{zeros-at}
 use Rattle.model_split.specs.Call.{formChecks}
-use Rattle.model_split.proofs.Tests.{not-both}
 use Rattle.split_checks.specs.Plan.{FormAsked, OnNetwork, isFormed, LineForm, FormsTo, FormTold}
+use Rattle.base_laws.proofs.Tests.{not-both}
 
 -- ---- `line_form`
 pub line-asked : {signals : List ℕ} {counts : Counts} → FormAsked signals counts → {line : List ℕ} → length line ≡ lineSize → LineAsked signals counts line

@@ -8,9 +8,9 @@ use native.Mathlib.Omega.{arith}
 use borrow.Author.Tests.{eq-eqb}
 use lib.Dec.{eqb}
 use lib.ListN.{length, getD}
-use Rattle.model.specs.Test.{_or_, every}
+use Rattle.base_laws.specs.Test.{_or_, every}
 use Rattle.model.specs.Network.{maxSignals, linkCount, signalOf}
-use Rattle.model.proofs.Tests.{every-same}
+use Rattle.base_laws.proofs.Tests.{every-same}
 use Rattle.model.proofs.Accepted.{valid-network}
 use Rattle.model.proofs.Limits.{link-limits}
 use Rattle.network_tables.specs.Fields.{signalIn}

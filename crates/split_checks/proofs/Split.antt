@@ -10,10 +10,10 @@ use borrow.Author.Tests.{lt-ltb, le-ltb, eq-eqb, ne-eqb}
 use lib.Dec.{leb, ltb, eqb}
 use Rattle.base_search.specs.Checks.{Hold}
 use Rattle.text_reader.specs.Lines.{Line, lines}
-use Rattle.model.specs.Test.{_and_, _or_, every}
+use Rattle.base_laws.specs.Test.{_and_, _or_, every}
 use Rattle.model.specs.Network.{linkCount, movementCount, stepCount, pastCount, exitRate, signalOf, waitingAtStart, fromLink, toLink, demand}
 use Rattle.model.specs.Table.{networkChecks}
-use Rattle.model.proofs.Tests.{every-same}
+use Rattle.base_laws.proofs.Tests.{every-same}
 use Rattle.network_tables.specs.declared.Reading.{Reading}
 use Rattle.network_tables.specs.Tables.{LinkTable, MovementTable}
 use Rattle.network_tables.proofs.Tables.{exit-rate-at, signal-of-at, waiting-at-start-at, from-link-at, to-link-at}

@@ -7,7 +7,7 @@ use native.Mathlib.Omega.{arith}
 use borrow.Author.Tests.{eq-eqb, ne-eqb}
 use lib.Dec.{eqb}
 use lib.ListN.{getD}
-use Rattle.model.specs.Test.{_and_, _or_, every}
+use Rattle.base_laws.specs.Test.{_and_, _or_, every}
 use Rattle.network_tables.specs.Fields.{waitingAtStartIn, exitRateIn, signalIn, linkIn, demandIn}
 use Rattle.split_tables.specs.Tables.{signalsAt, isIn, linksIn, MovementsAsked}
 use Rattle.split_checks.specs.Tables.{noneWaitIn, standsApartIn, rightKindIn, demandFreeIn, ownSignalBy, PlaceAsked}

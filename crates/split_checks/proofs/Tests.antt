@@ -7,10 +7,8 @@ use native.Mathlib.Numerals.{add-one}
 use native.Mathlib.Omega.{arith}
 use borrow.Author.Tests.{not-true, not-false, le-leb, ne-eqb}
 use lib.Dec.{leb, eqb}
-use Rattle.model.specs.Test.{_and_, _or_, every}
-use Rattle.model.proofs.Tests.{and-left, and-right, or-cases, every-at}
-use Rattle.model_text.proofs.Tests.{and-both, every-of}
-use Rattle.model_split.proofs.Tests.{either-way, not-both, true-not, or-left, or-right}
+use Rattle.base_laws.specs.Test.{_and_, _or_, every}
+use Rattle.base_laws.proofs.Tests.{and-left, and-right, or-cases, every-at, and-both, or-left, or-right, either-way, not-both, true-not, every-of}
 
 -- two tests that hold together are equal
 pub same-test : (a b : Bool) → (a ≡ true → b ≡ true) → (b ≡ true → a ≡ true) → a ≡ b

@@ -8,7 +8,7 @@ use lib.ListN.{length}
 use Rattle.base_search.specs.Checks.{Hold}
 use Rattle.text_reader.specs.Lines.{Line, lines}
 use Rattle.text_reader.specs.Reading.{Starts}
-use Rattle.model.specs.Test.{_and_, every}
+use Rattle.base_laws.specs.Test.{_and_, every}
 use Rattle.model.specs.Network.{linkCount, movementCount, stepLine, demand}
 use Rattle.model.specs.Table.{networkChecks}
 use Rattle.network_tables.specs.declared.Counts.{Counts}

@@ -5,7 +5,7 @@ use mathlib.Core.Bool.{Bool, not}
 use mathlib.Core.List.{List}
 use lib.Dec.{eqb}
 use lib.ListN.{length, getD}
-use Rattle.model.specs.Test.{_and_, _or_, every}
+use Rattle.base_laws.specs.Test.{_and_, _or_, every}
 use Rattle.model.specs.Network.{maxLinks, maxSignals, maxMovements}
 use Rattle.network_tables.specs.Fields.{linkTableSize, movementTableSize, waitingAtStartIn, exitRateIn, signalIn, linkIn}
 use Rattle.split_tables.specs.Tables.{signalsAt, halfSize, isIn, linksIn, MovementsAsked}

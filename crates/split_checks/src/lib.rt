@@ -3,7 +3,7 @@ ghost use mathlib.Core.Path.{_≡_};
 ghost use Prim.Native.Nat.{_-_, _≤_, _<_};
 ghost use lib.ListN.{length};
 ghost use Rattle.text_reader.specs.Lines.{lines};
-ghost use Rattle.model.specs.Test.{every};
+ghost use Rattle.base_laws.specs.Test.{every};
 ghost use Rattle.model.specs.Network.{maxLinks, maxSignals, stepCount};
 ghost use Rattle.network_tables.specs.Fields.{linkTableSize, stepSize, linkIn, demandIn};
 ghost use Rattle.split_tables.specs.Tables.{halfSize, MovementsAsked};

@@ -9,10 +9,10 @@ use native.Mathlib.Omega.{arith}
 use lib.Dec.{eqb}
 use lib.ListN.{length, getD, replicate, length-replicate, getD-replicate, List·getD-eq-default}
 use Rattle.text_reader.specs.Lines.{Line}
-use Rattle.model.specs.Test.{_or_}
-use Rattle.model.specs.Sum.{only}
+use Rattle.base_laws.specs.Test.{_or_}
+use Rattle.base_laws.specs.Sum.{only}
 use Rattle.model.specs.Network.{maxLinks, maxSignals, linkCount, movementCount, signalOf}
-use Rattle.model.proofs.Tests.{every-same}
+use Rattle.base_laws.proofs.Tests.{every-same}
 use Rattle.network_tables.specs.declared.Counts.{Counts}
 use Rattle.network_tables.specs.Fields.{signalIn}
 use Rattle.network_tables.specs.Tables.{CountsHold, MovementTable}

@@ -12,15 +12,15 @@ use borrow.Author.Tests.{eq-eqb, ne-eqb}
 use lib.Dec.{eqb}
 use lib.ListN.{length, getD, set, length-set}
 use lib.Seq.{getD-set-same, getD-set-other}
-use Rattle.model.specs.Test.{_and_, _or_, every}
-use Rattle.model.specs.Sum.{only}
+use Rattle.base_laws.specs.Test.{_and_, _or_, every}
+use Rattle.base_laws.specs.Sum.{only}
 use Rattle.model.specs.Network.{maxSignals}
 use Rattle.network_tables.specs.Fields.{signalIn, linkIn}
 use Rattle.model_split.specs.Numbering.{rank}
-use Rattle.model_split.proofs.Tests.{or-left, or-right}
 use Rattle.model_split.proofs.Numbering.{rank-more, rank-same, rank-le}
 use Rattle.split_tables.specs.Tables.{isIn, linksIn}
 use Rattle.split_tables.specs.Marks.{LinksMarked, signalMarked, outsideHas, SignalsAsked, SignalsMarked, MovementsMarked, hasMark, NumberAsked, Numbered}
+use Rattle.base_laws.proofs.Tests.{or-left, or-right}
 
 -- a number of a list in which one is set
 pub set-at-most : (xs : List ℕ) (i v k : ℕ) → i < length xs → (Q : ℕ → Type 0) → (k ≡ i → Q v) → (k ≢ i → Q (getD xs k 0)) → Q (getD (set xs i v) k 0)

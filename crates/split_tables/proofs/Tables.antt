@@ -8,8 +8,8 @@ use borrow.Author.Tests.{ne-eqb}
 use lib.Dec.{eqb}
 use lib.ListN.{getD}
 use Rattle.text_reader.specs.Lines.{Line}
-use Rattle.model.specs.Test.{_and_}
-use Rattle.model.specs.Sum.{only}
+use Rattle.base_laws.specs.Test.{_and_}
+use Rattle.base_laws.specs.Sum.{only}
 use Rattle.model.specs.Network.{linkCount, signalCount, movementCount, fromLink, toLink}
 use Rattle.network_tables.specs.Tables.{MovementTable}
 use Rattle.network_tables.proofs.Tables.{from-link-at, to-link-at}

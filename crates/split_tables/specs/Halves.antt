@@ -5,7 +5,7 @@ use mathlib.Core.List.{List}
 use lib.Dec.{eqb}
 use lib.ListN.{length, getD}
 use Rattle.text_reader.specs.Lines.{Line}
-use Rattle.model.specs.Sum.{only}
+use Rattle.base_laws.specs.Sum.{only}
 use Rattle.model.specs.Network.{maxSignals}
 use Rattle.network_tables.specs.declared.Counts.{Counts}
 use Rattle.network_tables.specs.Places.{Few}

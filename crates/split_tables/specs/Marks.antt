@@ -5,8 +5,8 @@ use mathlib.Core.Bool.{Bool, not, cond}
 use mathlib.Core.List.{List}
 use lib.Dec.{eqb}
 use lib.ListN.{length, getD, set}
-use Rattle.model.specs.Test.{_and_, _or_, every}
-use Rattle.model.specs.Sum.{only}
+use Rattle.base_laws.specs.Test.{_and_, _or_, every}
+use Rattle.base_laws.specs.Sum.{only}
 use Rattle.model.specs.Network.{maxLinks, maxSignals}
 use Rattle.network_tables.specs.Fields.{linkTableSize, signalIn}
 use Rattle.model_split.specs.Numbering.{rank}

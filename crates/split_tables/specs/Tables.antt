@@ -6,7 +6,7 @@ use mathlib.Core.List.{List}
 use lib.Dec.{eqb}
 use lib.ListN.{length, getD}
 use Rattle.text_reader.specs.Lines.{Line}
-use Rattle.model.specs.Sum.{only}
+use Rattle.base_laws.specs.Sum.{only}
 use Rattle.model.specs.Network.{maxLinks, maxSignals, maxMovements, linkCount, signalCount, movementCount}
 use Rattle.network_tables.specs.Fields.{movementTableSize, linkIn}
 use Rattle.model_split.specs.Numbering.{rank}

@@ -4,7 +4,7 @@ ghost use mathlib.Core.Bool.{not};
 ghost use Prim.Native.Nat.{_+_, _/_, _^_, _≤_};
 ghost use lib.Dec.{eqb};
 ghost use lib.ListN.{length};
-ghost use Rattle.model.specs.Sum.{only};
+ghost use Rattle.base_laws.specs.Sum.{only};
 ghost use Rattle.model_split.specs.Numbering.{rank};
 ghost use Rattle.split_tables.specs.Tables.{movementsAt, isIn, linksIn, MovementAsked, MovementsAsked};
 ghost use Rattle.split_tables.specs.Marks.{LinksMarked, NumberAsked, Numbered, signalMarked, SignalsAsked, SignalsMarked, MovementsMarked};

@@ -12,8 +12,8 @@ use lib.Dec.{eqb}
 use lib.ListN.{length, getD, set, length-set}
 use lib.Seq.{getD-set-same, getD-set-other}
 use Rattle.text_reader.specs.Field.{largest}
-use Rattle.model.specs.Test.{_and_}
-use Rattle.model.specs.Sum.{sum, only}
+use Rattle.base_laws.specs.Test.{_and_}
+use Rattle.base_laws.specs.Sum.{sum, only}
 use Rattle.model.specs.Network.{maxLinks}
 use Rattle.network_tables.specs.Fields.{linkIn}
 use Rattle.model_split.specs.Halves.{inField}

@@ -12,7 +12,8 @@ use lib.ListN.{length, getD, take}
 use Rattle.text_reader.specs.Lines.{lines}
 use Rattle.text_reader.specs.Reading.{Starts}
 use Rattle.text_writer.specs.Records.{recordText}
-use Rattle.model.specs.Sum.{only, list}
+use Rattle.base_laws.specs.Sum.{only}
+use Rattle.base_laws.specs.Indexed.{list}
 use Rattle.model.specs.Network.{maxSignals, entry, tramLine, signalLine, signal}
 use Rattle.model.specs.Table.{letterN, letterT, letterG, letterQ, letterM}
 use Rattle.network_tables.specs.declared.Counts.{Counts}

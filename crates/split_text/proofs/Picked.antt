@@ -15,8 +15,8 @@ use Rattle.network_writer.specs.Texts.{lineTexts}
 use Rattle.network_writer.proofs.Put.{put-none, puts-more}
 use Rattle.network_writer.proofs.Texts.{texts-more, texts-of-list}
 use Rattle.model_split.specs.Numbering.{rank, picked}
-use Rattle.model_split.proofs.Tests.{not-both}
 use Rattle.model_split.proofs.Numbering.{picked-length}
+use Rattle.base_laws.proofs.Tests.{not-both}
 
 -- ---- `put_kept`
 module _ (number letter : ℕ) (row : List ℕ) {at : ℕ} {old : List ℕ} where

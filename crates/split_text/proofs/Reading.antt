@@ -17,8 +17,8 @@ use Rattle.network_tables.specs.Tables.{PlanNumbers}
 use Rattle.plan_steps.specs.PlanLine.{PlanAt, LineAsked, LineGot}
 use Rattle.plan_steps.proofs.PlanLines.{line-bad, line-numbers, next-starts}
 use Rattle.plan_steps.proofs.Runs.{signals-first}
-use Rattle.model_split.proofs.Tests.{not-both}
 use Rattle.split_text.specs.Halves.{Held, PlanLineRead}
+use Rattle.base_laws.proofs.Tests.{not-both}
 
 -- ---- `read_plan`
 module _ {planText : List ℕ} {at : ℕ} {signals : List ℕ} {counts : Counts} {before after : List ℕ} {r : LineRead} (got : LineGot planText at signals counts before r after) where

@@ -12,14 +12,14 @@ use lib.ListN.{getD}
 use Rattle.base_search.specs.Checks.{Hold}
 use Rattle.text_reader.specs.Field.{largest}
 use Rattle.text_reader.specs.Lines.{Line, number}
-use Rattle.model.specs.Test.{_and_}
-use Rattle.model.specs.Sum.{sum, only}
+use Rattle.base_laws.specs.Test.{_and_}
+use Rattle.base_laws.specs.Sum.{sum, only}
 use Rattle.model.specs.Network.{entry, linkCount, signalCount, movementCount, tramCount, tramLine, signalOf, exitRate, fromLink, toLink, rate, stepLength, demand}
 use Rattle.model.specs.Rules.{tram}
 use Rattle.model.specs.Flows.{shownMask, admitted, letOut, moved}
 use Rattle.model.specs.Table.{networkChecks}
-use Rattle.model.proofs.Tests.{and-left, and-right}
-use Rattle.model.proofs.Sums.{sum-ext}
+use Rattle.base_laws.proofs.Tests.{and-left, and-right}
+use Rattle.base_laws.proofs.Sums.{sum-ext}
 use Rattle.model.proofs.Accepted.{ValidNetwork, valid-network}
 use Rattle.model.proofs.Limits.{counts, link-limits, movement-limits}
 use Rattle.network_tables.specs.Fields.{linkIn}

@@ -8,12 +8,12 @@ use lib.ListN.{length}
 use Rattle.text_reader.specs.Lines.{Line, lines}
 use Rattle.text_reader.specs.Reading.{over}
 use Rattle.text_writer.specs.Records.{recordText, recordTexts}
-use Rattle.model.specs.Test.{within}
+use Rattle.base_laws.specs.Test.{within}
 use Rattle.model.specs.Network.{maxLinks, maxSignals, maxTrams, linkCount, signalCount, movementCount, tramCount}
 use Rattle.model.specs.Rules.{validPhases}
 use Rattle.model.specs.Table.{isForm, letterN, letterT, letterG, letterQ, letterM, letterS}
 use Rattle.model.specs.Hold.{planOf}
-use Rattle.model.proofs.Tests.{and-right}
+use Rattle.base_laws.proofs.Tests.{and-right}
 use Rattle.model.proofs.Accepted.{ValidNetwork, valid-network}
 use Rattle.model.proofs.Limits.{link-limits}
 use Rattle.network_tables.specs.declared.Counts.{Counts}

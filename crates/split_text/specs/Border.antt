@@ -6,8 +6,8 @@ use mathlib.Core.List.{List}
 use lib.Dec.{eqb}
 use lib.ListN.{length, getD, set}
 use Rattle.text_reader.specs.Field.{largest}
-use Rattle.model.specs.Test.{_and_}
-use Rattle.model.specs.Sum.{sum, only}
+use Rattle.base_laws.specs.Test.{_and_}
+use Rattle.base_laws.specs.Sum.{sum, only}
 use Rattle.model.specs.Network.{maxLinks, maxMovements}
 use Rattle.network_tables.specs.Fields.{linkIn}
 use Rattle.split_tables.specs.Tables.{linksIn, MovementsAsked}

@@ -7,7 +7,7 @@ use lib.Dec.{eqb}
 use lib.ListN.{length, getD}
 use Rattle.text_reader.specs.Lines.{Line, lines}
 use Rattle.text_reader.specs.Reading.{Starts}
-use Rattle.model.specs.Sum.{list}
+use Rattle.base_laws.specs.Indexed.{list}
 use Rattle.model.specs.Network.{maxLinks, maxSignals, maxTrams, entry, tramLine, signalLine, signal}
 use Rattle.model.specs.Table.{isForm, letterG}
 use Rattle.network_tables.specs.declared.Counts.{Counts}

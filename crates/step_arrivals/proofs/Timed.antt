@@ -11,10 +11,10 @@ use lib.Dec.{leb}
 use lib.ListN.{length, getD, set, length-set}
 use lib.Seq.{getD-set-same, getD-set-other}
 use Rattle.text_reader.specs.Lines.{Line}
-use Rattle.model.specs.Sum.{sum}
-use Rattle.model.specs.Test.{_and_, within}
+use Rattle.base_laws.specs.Sum.{sum}
+use Rattle.base_laws.specs.Test.{_and_, within}
 use Rattle.model.specs.Network.{pastCount, stepCount, onTimeline, timelineLength, timelineTime}
-use Rattle.model.proofs.Tests.{and-left, and-right}
+use Rattle.base_laws.proofs.Tests.{and-left, and-right}
 use Rattle.model.proofs.Times.{timeline-suc}
 use Rattle.network_tables.specs.Fields.{timeTableSize}
 use Rattle.network_tables.specs.Tables.{TimeTable}

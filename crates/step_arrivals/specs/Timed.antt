@@ -6,7 +6,7 @@ use mathlib.Core.List.{List}
 use lib.Dec.{leb}
 use lib.ListN.{length, getD, set}
 use Rattle.text_reader.specs.Lines.{Line}
-use Rattle.model.specs.Test.{_and_, within, every}
+use Rattle.base_laws.specs.Test.{_and_, within, every}
 use Rattle.model.specs.Network.{maxSteps, pastCount, stepCount, timelineLength, timelineTime}
 use Rattle.network_tables.specs.Fields.{timeTableSize}
 

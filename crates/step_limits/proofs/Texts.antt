@@ -9,11 +9,11 @@ use borrow.Author.Tests.{leb-true, eq-eqb}
 use lib.Dec.{leb}
 use lib.ListN.{getD}
 use Rattle.text_reader.specs.Lines.{Line}
-use Rattle.model.specs.Test.{_or_, within}
+use Rattle.base_laws.specs.Test.{_or_, within}
 use Rattle.model.specs.Network.{linkCount, signalCount, movementCount, stepCount, signal, signalOf, fromLink}
 use Rattle.model.specs.Flows.{shownIn, shownMask, isOpen}
 use Rattle.model.specs.Rules.{validPhases, rule15, rule25, rule26, rule27}
-use Rattle.model.proofs.Tests.{and-right}
+use Rattle.base_laws.proofs.Tests.{and-right}
 use Rattle.model.proofs.Phases.{phase-of-le}
 use Rattle.model.proofs.Accepted.{ValidNetwork}
 use Rattle.model.proofs.Bounds.{KeepsLimits}

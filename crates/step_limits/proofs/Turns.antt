@@ -7,7 +7,7 @@ use native.Mathlib.Omega.{arith}
 use borrow.Author.Tests.{eq-eqb, ne-eqb, le-leb, not-false}
 use lib.Dec.{leb, eqb}
 use lib.ListN.{getD}
-use Rattle.model.specs.Test.{_or_}
+use Rattle.base_laws.specs.Test.{_or_}
 use Rattle.model.specs.Signals.{opens}
 use Rattle.network_tables.specs.declared.Counts.{Counts}
 use Rattle.network_tables.specs.Fields.{signalIn, phaseMaskIn, linkIn, rateIn, lengthIn, movedIn}

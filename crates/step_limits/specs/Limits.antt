@@ -6,7 +6,7 @@ use mathlib.Core.List.{List, [], _∷_}
 use Prim.Native.Nat.{ℕ, _*_, _-_, _≤_, _<_}
 use lib.Dec.{leb, eqb}
 use lib.ListN.{length, getD}
-use Rattle.model.specs.Test.{_or_}
+use Rattle.base_laws.specs.Test.{_or_}
 use Rattle.model.specs.Network.{maxSignals}
 use Rattle.model.specs.Signals.{opens}
 use Rattle.network_tables.specs.declared.Counts.{Counts}

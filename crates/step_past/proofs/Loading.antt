@@ -12,11 +12,11 @@ use Rattle.text_reader.specs.declared.LineRead.{LineRead}
 use Rattle.text_reader.specs.declared.LineRead.the-variants.{Next, Malformed}
 use Rattle.text_reader.specs.Lines.{Line, lines}
 use Rattle.text_reader.specs.Reading.{Starts}
-use Rattle.model.specs.Sum.{sum}
+use Rattle.base_laws.specs.Sum.{sum}
 use Rattle.model.specs.Network.{linkCount, pastCount, onTimeline, timelineLine, pastExits}
 use Rattle.model.specs.Flows.{timelineEntered, timelineLeft, timelineOutflow}
 use Rattle.model.specs.Table.{letterH}
-use Rattle.model.proofs.Sums.{sum-more}
+use Rattle.base_laws.proofs.Sums.{sum-more}
 use Rattle.model.proofs.Timeline.{past-outflow, timeline-entered-more}
 use Rattle.network_tables.specs.declared.Counts.{Counts}
 use Rattle.network_tables.specs.Fields.{pastSize, pastEntriesIn, enteredIn, leftIn}

@@ -7,7 +7,7 @@ use native.Mathlib.Omega.{arith}
 use lib.ListN.{length, getD, take, drop, List·getD-append}
 use lib.Seq.{getD-drop, getD-take, getD-append-add, ext-getD}
 use Rattle.text_reader.specs.Lines.{Line}
-use Rattle.model.specs.Sum.{joined}
+use Rattle.base_laws.specs.Sum.{joined}
 use Rattle.model.specs.Network.{linkCount}
 use Rattle.model.specs.Flows.{entered, left, rowOf, row}
 use Rattle.model.specs.Calls.{written}

@@ -11,8 +11,8 @@ use lib.Dec.{eqb}
 use lib.ListN.{length, getD, set, length-set}
 use lib.Seq.{getD-set-same, getD-set-other}
 use Rattle.network_tables.specs.declared.Counts.{Counts}
-use Rattle.model.specs.Sum.{sum, only}
-use Rattle.model.proofs.Sums.{sum-more}
+use Rattle.base_laws.specs.Sum.{sum, only}
+use Rattle.base_laws.proofs.Sums.{sum-more}
 use Rattle.step_rows.specs.Rows.{movedBy, Added, Room}
 use Rattle.step_rows.proofs.Sums.{sum-none, sum-next}
 use Rattle.network_tables.specs.Fields.{linkIn, rowSize, movedIn}

@@ -2,7 +2,7 @@
 use mathlib.Core.Path.{_≡_, refl}
 use Prim.Native.Nat.{ℕ, _+_}
 use native.Mathlib.Numerals.{add-one}
-use Rattle.model.specs.Sum.{sum}
+use Rattle.base_laws.specs.Sum.{sum}
 
 pub sum-none : (f : ℕ → ℕ) → sum 0 f ≡ 0
 unfolding sum

@@ -8,12 +8,12 @@ use lib.ListN.{length, getD, take}
 use lib.Seq.{take-at}
 use Rattle.text_reader.specs.Lines.{Line}
 use Rattle.network_tables.specs.declared.Counts.{Counts}
-use Rattle.model.specs.Sum.{sum, only}
+use Rattle.base_laws.specs.Sum.{sum, only}
 use Rattle.model.specs.Network.{linkCount, movementCount}
 use Rattle.model.specs.Flows.{admitted, letOut, moved, movedInto, movedFrom, inflow, outflow, entered, left, row, held, vehicles, allAdmitted, allLetOut}
 use Rattle.network_tables.specs.Tables.{CountsHold, MovementTable, PlanNumbers}
 use Rattle.network_tables.proofs.Tables.{from-link-at, to-link-at, admitted-at, let-out-at, moved-at}
-use Rattle.model.proofs.Sums.{sum-ext}
+use Rattle.base_laws.proofs.Sums.{sum-ext}
 use Rattle.model.proofs.Accepted.{ValidNetwork}
 use Rattle.model.proofs.Limits.{movement-limits}
 use Rattle.model.proofs.Timeline.{entered-suc, left-suc}

@@ -5,7 +5,7 @@ use Prim.Native.Nat.{ℕ, _+_, _*_, _-_, _<_}
 use native.Mathlib.Omega.{arith}
 use lib.ListN.{getD, drop, set}
 use lib.Seq.{set-getD}
-use Rattle.model.specs.Sum.{sum}
+use Rattle.base_laws.specs.Sum.{sum}
 use Rattle.network_tables.specs.declared.Counts.{Counts}
 use Rattle.network_tables.specs.Fields.{admittedIn, letOutIn, enteredIn, leftIn}
 use Rattle.step_rows.specs.Rows.{pairs, baseEntered, baseLeft, Base}

@@ -10,12 +10,12 @@ use lib.Dec.{leb}
 use lib.ListN.{length}
 use Rattle.base_search.specs.Checks.{Hold}
 use Rattle.text_reader.specs.Lines.{Line}
-use Rattle.model.specs.Sum.{sum}
+use Rattle.base_laws.specs.Sum.{sum}
 use Rattle.model.specs.Network.{maxLinks, linkCount, stepCount}
 use Rattle.model.specs.Flows.{offered, admitted, taken, waits, outside}
 use Rattle.model.specs.Rules.{rule15}
 use Rattle.model.specs.Table.{networkChecks}
-use Rattle.model.proofs.Sums.{sum-ext}
+use Rattle.base_laws.proofs.Sums.{sum-ext}
 use Rattle.model.proofs.Bounds.{offered-small}
 use Rattle.model.proofs.Waiting.{offered-suc, taken-suc}
 use Rattle.network_tables.specs.declared.Counts.{Counts}

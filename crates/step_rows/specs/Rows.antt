@@ -6,7 +6,7 @@ use Prim.Native.Nat.{ℕ, zero, suc, _+_, _*_, _≤_, _<_}
 use lib.Dec.{eqb}
 use lib.ListN.{length, getD}
 use Rattle.text_reader.specs.Lines.{Line}
-use Rattle.model.specs.Sum.{sum, only}
+use Rattle.base_laws.specs.Sum.{sum, only}
 use Rattle.model.specs.Network.{linkCount}
 use Rattle.model.specs.Flows.{entered, left}
 use Rattle.network_tables.specs.declared.Counts.{Counts}

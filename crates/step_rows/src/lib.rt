@@ -5,7 +5,7 @@ ghost use mathlib.Core.List.{_++_};
 ghost use Prim.Native.Nat.{_+_, _*_, _-_, _<_, _≤_};
 ghost use lib.ListN.{length, getD, set, take, drop};
 ghost use Rattle.model.specs.Network.{maxLinks, maxMovements};
-ghost use Rattle.model.specs.Sum.{sum};
+ghost use Rattle.base_laws.specs.Sum.{sum};
 ghost use Rattle.network_tables.specs.Places.{Few};
 ghost use Rattle.network_tables.specs.Fields.{movementTableSize, linkIn, enteredIn, leftIn};
 ghost use Rattle.step_rows.specs.Rows.{pairs, baseEntered, baseLeft, nextRow, Named, Base, Fits, Added, Room};

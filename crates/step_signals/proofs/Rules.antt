@@ -10,10 +10,10 @@ use lib.ListN.{getD, List·getD-eq-default}
 use borrow.Author.Count.{below-more}
 use borrow.Author.Tests.{leb-true, eqb-true, not-false}
 use Rattle.model.specs.declared.Signal.{Signal}
-use Rattle.model.specs.Test.{_and_, _or_, within}
+use Rattle.base_laws.specs.Test.{_and_, _or_, within}
 use Rattle.model.specs.Signals.{greatestTime, beginsCycle, shownForAfter, clockAfter, keepsGreatestTime, keepsCycle, after}
 use Rattle.model.specs.Rules.{validPhases, validSignal}
-use Rattle.model.proofs.Tests.{and-left, and-right, every-at}
+use Rattle.base_laws.proofs.Tests.{and-left, and-right, every-at}
 use Rattle.network_tables.specs.Fields.{tableSignal}
 use Rattle.step_signals.specs.Ready.{Ready}
 use Rattle.step_signals.specs.Step.{signalTests, signalTest, keepsAll, goesOn, signalRuleHolds, SignalRulesKept}

@@ -16,13 +16,6 @@ use Rattle.step_arrivals.specs.Arrivals.{secondsIn, elapsedIn, Rising}
 use Rattle.step_rows.specs.Rows.{movedBy, nextLeft}
 use Rattle.step_sums.specs.Sums.{keepsShare, enteredBefore, enteredAfter, leavesArrived, ShareTables, ArrivalRows}
 
--- a sum in place of a difference
-pub leb-over : (a b c : ℕ) → leb a (c + b) ≡ leb (a - b) c
-leb-over a b c = elim (decLe a (c + b)) [
-  | yes h ↦ le-leb a (c + b) h ∙ sym (le-leb (a - b) c (omega arith))
-  | no h ↦ lt-leb a (c + b) (omega arith) ∙ sym (lt-leb (a - b) c (omega arith))
-]
-
 -- ---- rule 17
 -- the ledger has the rows before the boundary
 pub row-before : {counts : Counts} {row ledger curves : List ℕ} {boundary m i : ℕ} → ArrivalRows counts row ledger curves boundary → m < boundary → i < counts .links

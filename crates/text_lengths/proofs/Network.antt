@@ -10,11 +10,11 @@ use lib.ListN.{length}
 use Rattle.base_search.specs.Checks.{Hold}
 use Rattle.text_reader.specs.Lines.{Line, lines}
 use Rattle.text_reader.proofs.Lengths.{takes-none, takes-more, takes-run, takes-all}
-use Rattle.model.specs.Test.{_and_}
+use Rattle.base_laws.specs.Test.{_and_}
 use Rattle.model.specs.Network.{linkCount, signalCount, movementCount, stepCount, tramCount, pastCount, onTimeline, tramLine, signalLine, linkLine, movementLine, timelineLine, stepLine, signal}
 use Rattle.model.specs.Rules.{validCounts}
 use Rattle.model.specs.Table.{networkChecks, letterN, letterT, letterG, letterQ, letterM, letterH, letterS}
-use Rattle.model.proofs.Tests.{and-left, and-right}
+use Rattle.base_laws.proofs.Tests.{and-left, and-right}
 use Rattle.model.proofs.Accepted.{ValidNetwork, valid-network}
 use Rattle.model.proofs.Limits.{counts}
 use Rattle.model_text.proofs.Formed.{Formed, formed-of-holds}

@@ -8,12 +8,12 @@ use native.Mathlib.Omega.{arith}
 use borrow.Author.Tests.{leb-true, ltb-true, eqb-true, eq-eqb}
 use lib.Dec.{eqb, ltb}
 use Rattle.text_reader.specs.Lines.{Line, number}
-use Rattle.model.specs.Test.{_and_, _or_, within}
-use Rattle.model.specs.Sum.{sum, only}
+use Rattle.base_laws.specs.Test.{_and_, _or_, within}
+use Rattle.base_laws.specs.Sum.{sum, only}
 use Rattle.model.specs.Network.{signalCount, stepCount, tramCount}
 use Rattle.model.specs.Rules.{apart, tramExists, validTram, tram}
-use Rattle.model.proofs.Tests.{and-left, and-right, or-cases, every-at}
-use Rattle.model.proofs.Sums.{sum-ext, sum-bound, sum-zero, sum-swap, sum-place}
+use Rattle.base_laws.proofs.Tests.{and-left, and-right, or-cases, every-at}
+use Rattle.base_laws.proofs.Sums.{sum-ext, sum-bound, sum-zero, sum-swap, sum-place}
 use Rattle.model.proofs.Accepted.{ValidNetwork}
 
 sum-ones : (n : ℕ) → sum n (λ k. 1) ≡ n

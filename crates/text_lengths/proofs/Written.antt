@@ -15,10 +15,11 @@ use Rattle.text_reader.specs.Lines.{Line}
 use Rattle.text_writer.specs.Records.{recordText}
 use Rattle.text_writer.proofs.Laws.{record-is, records-most}
 use Rattle.text_writer.proofs.Lengths.{fields-most, fields-both}
-use Rattle.model.specs.Sum.{only, list}
+use Rattle.base_laws.specs.Sum.{only}
+use Rattle.base_laws.specs.Indexed.{list}
 use Rattle.model.specs.Network.{entry, linkCount, signalCount, movementCount, stepCount, signal, time}
 use Rattle.model.specs.Table.{networkChecks, letterP}
-use Rattle.model.proofs.Sums.{list-length, list-at}
+use Rattle.base_laws.proofs.Sums.{list-length, list-at, list-plus}
 use Rattle.model.proofs.Accepted.{valid-network}
 use Rattle.model.proofs.Limits.{Counts, counts}
 use Rattle.listing_lines.specs.declared.Variable.{Variable}
@@ -37,11 +38,6 @@ list-below n f m s h k = elim (decLt k n) [
   | yes l ↦ rw (list-at n f k l) (h k l)
   | no l ↦ let past : length (list n f) ≤ k = omega (arith, list-length n f) in rw (List·getD-eq-default (list n f) 0 past) s
 ]
-
-list-both : (a b : ℕ) (f : ℕ → ℕ) → list (a + b) f ≡ list a f ++ list b (λ k. f (a + k))
-unfolding list
-list-both a zero f = let e : a + 0 ≡ a = omega arith in rw e (sym (append-nil (list a f)))
-list-both a (suc b) f = let e : a + suc b ≡ suc (a + b) = omega arith in rw (e, list-both a b f) (append-assoc (list a f) (list b (λ k. f (a + k))) _)
 
 -- a line of masks, which have at most three digits, and of numbers of at most d + 1
 line-most : (d : ℕ) → d ≤ 19 → (masks rest : List ℕ) → ((k : ℕ) → getD masks k 0 < 1000) → ((k : ℕ) → getD rest k 0 < 10 ^ suc d)
@@ -106,7 +102,7 @@ module _ (network : List Line) (holds : Hold (networkChecks network)) where
     sheet-line : (n : ℕ) → length (recordText letterP (sheetNumbers network sheet n)) ≤ 258
     unfolding sheetNumbers phaseAt
     sheet-line n =
-        rw (list-both (signalCount network) others number)
+        rw (list-plus (signalCount network) others number)
         (omega (
           arith,
           line-most 0 (omega arith) (list (signalCount network) number) (list others (λ k. number (signalCount network + k))) (list-below (signalCount network) number 1000 (omega arith) mask)

@@ -13,7 +13,7 @@ use Rattle.base_search.specs.declared.Verdict.the-variants.{Passes, Refused}
 use Rattle.base_search.specs.Checks.{refusal, verdict, checked, orElse}
 use Rattle.base_search.specs.Numbers.{isOneOf, CanArise}
 use Rattle.base_laws.specs.Indexed.{list}
-use Rattle.base_laws.proofs.Tests.{and-right, zero-one}
+use Rattle.base_laws.proofs.Bools.{and-right, zero-one}
 use Rattle.traces.specs.Step.{placeAfter}
 use Rattle.traces.specs.Call.{vehiclesNumbers, validCounts, validValues, stepChecks, stepVehicles, placesBy, placesAfter}
 use Rattle.traces.specs.Guarantees.{StepKeeps}

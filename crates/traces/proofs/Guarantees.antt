@@ -10,7 +10,7 @@ use lib.ListN.{length, getD}
 use lib.Ieee.{Float, nan, binary64, add, sub, round, isNan}
 use lib.Ieee.Scale.{finite}
 use Rattle.base_laws.specs.Indexed.{list, every}
-use Rattle.base_laws.proofs.Tests.{and-left, and-right}
+use Rattle.base_laws.proofs.Bools.{and-left, and-right}
 use Rattle.base_laws.proofs.Laws.{length-list, get-list, every-at}
 use Rattle.base_floats.proofs.Sums.{finite-real, sub-real, add-finite}
 use Rattle.traces.specs.Step.{placeAfter, leaderOf}

@@ -5,7 +5,7 @@ use mathlib.Core.List.{List}
 use lib.Ieee.{Float, nan, inf, fin, neg, le, ofInt}
 use lib.Ieee.Scale.{finite}
 use Rattle.base_laws.specs.Indexed.{every}
-use Rattle.base_laws.proofs.Tests.{no-truth, and-left, and-right}
+use Rattle.base_laws.proofs.Bools.{no-truth, and-left, and-right}
 use Rattle.base_floats.proofs.Order.{under}
 use Rattle.base_floats.proofs.Sums.{Within, size-within}
 use Rattle.traces.specs.Call.{million, validPlace, validDistance, validValues}

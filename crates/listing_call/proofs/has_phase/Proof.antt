@@ -4,6 +4,7 @@ use Rattle.listing_call.proofs.Turns.{phase-none, within-some, phase-is
 use borrow.Author.Needs.{needs}
 use Rattle.listing_call.proofs.has_phase.Statement.{statement}
 use Rattle.listing_call.proofs.has_phase.Tie as tie
+use Rattle.base_laws.proofs.Tests.{is-within}
 
 returns : tie.Need-returns
 returns c = search phase-none

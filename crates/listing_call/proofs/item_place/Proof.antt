@@ -4,6 +4,7 @@ use Rattle.listing_call.proofs.Turns.{within-some, item-none, item-aske
 use borrow.Author.Needs.{needs}
 use Rattle.listing_call.proofs.item_place.Statement.{statement}
 use Rattle.listing_call.proofs.item_place.Tie as tie
+use Rattle.base_laws.proofs.Tests.{is-within}
 
 returns : tie.Need-returns
 returns c = search item-none

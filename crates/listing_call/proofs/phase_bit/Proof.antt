@@ -4,6 +4,7 @@ use Rattle.listing_call.proofs.Turns.{within-some, phase-bit-none, phas
 use borrow.Author.Needs.{needs}
 use Rattle.listing_call.proofs.phase_bit.Statement.{statement}
 use Rattle.listing_call.proofs.phase_bit.Tie as tie
+use Rattle.base_laws.proofs.Tests.{is-within}
 
 returns : tie.Need-returns
 returns c = search phase-bit-none

@@ -4,6 +4,7 @@ use Rattle.listing_call.proofs.Turns.{place-none, place-at, within-some
 use borrow.Author.Needs.{needs}
 use Rattle.listing_call.proofs.place_in.Statement.{statement}
 use Rattle.listing_call.proofs.place_in.Tie as tie
+use Rattle.base_laws.proofs.Tests.{is-within}
 
 returns : tie.Need-returns
 returns c = search place-none

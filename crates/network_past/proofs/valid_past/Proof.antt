@@ -1,6 +1,6 @@
 -- `network_past::valid_past` meets its contract. Assumes nothing.
 use mathlib.Core.Path.{refl}
-use Rattle.model.specs.Test.{_and_}
+use Rattle.base_laws.specs.Test.{_and_}
 use Rattle.network_past.specs.Past.{validPastIn}
 use Rattle.network_past.proofs.Links.{step-room, elapsed-room, scaled-room}
 use borrow.Author.Needs.{needs}

@@ -1,6 +1,6 @@
 -- `network_signals::valid_counts` meets its contract. Assumes nothing.
 use mathlib.Core.Path.{refl}
-use Rattle.model.specs.Test.{_and_, within}
+use Rattle.base_laws.specs.Test.{_and_, within}
 use Rattle.network_signals.specs.Counts.{validCountsIn}
 use Rattle.network_signals.proofs.valid_counts.Statement.{statement}
 use Rattle.network_signals.proofs.valid_counts.Tie as tie

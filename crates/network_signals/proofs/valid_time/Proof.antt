@@ -1,6 +1,6 @@
 -- `network_signals::valid_time` meets its contract. The times of one phase are tested as they are defined. Assumes nothing.
 use borrow.Author.Needs.{needs}
-use Rattle.model.specs.Test.{_and_, within}
+use Rattle.base_laws.specs.Test.{_and_, within}
 use Rattle.network_signals.specs.Signals.{validTime}
 use Rattle.network_signals.proofs.valid_time.Statement.{statement}
 use Rattle.network_signals.proofs.valid_time.Tie as tie

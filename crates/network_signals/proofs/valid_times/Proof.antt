@@ -3,7 +3,7 @@ use Prim.Native.Nat.{_≤_, _-_}
 use mathlib.Core.Path.{_≡_, refl}
 use native.Mathlib.Omega.{arith}
 use borrow.Author.Needs.{needs}
-use Rattle.model.specs.Test.{every}
+use Rattle.base_laws.specs.Test.{every}
 use Rattle.network_signals.specs.Signals.{validTimes}
 use Rattle.network_signals.proofs.Values.{times-more}
 use Rattle.network_signals.proofs.valid_times.Statement.{statement}

@@ -1,6 +1,6 @@
 -- `network_steps::valid_step` meets its contract. Assumes nothing.
 use borrow.Author.Needs.{needs}
-use Rattle.model.specs.Test.{_and_, within}
+use Rattle.base_laws.specs.Test.{_and_, within}
 use Rattle.network_steps.specs.Steps.{validStepIn}
 use Rattle.network_steps.proofs.valid_step.Statement.{statement}
 use Rattle.network_steps.proofs.valid_step.Tie as tie

@@ -1,5 +1,5 @@
 -- `plan_link_state::arrival_by` meets its contract. Assumes nothing.
-use Rattle.model.specs.Test.{_or_}
+use Rattle.base_laws.specs.Test.{_or_}
 use Rattle.plan_link_state.proofs.Ledger.{cursor-first, over-asked, step-room, elapsed-room, short, arrival-told}
 use borrow.Author.Needs.{needs}
 use Rattle.plan_link_state.proofs.arrival_by.Statement.{statement}

@@ -1,5 +1,5 @@
 -- `sheet_check::is_earlier` meets its contract. Assumes nothing.
-use Rattle.model.specs.Test.{_and_, _or_}
+use Rattle.base_laws.specs.Test.{_and_, _or_}
 use Rattle.model_sheet.specs.Runs.{earlier}
 use borrow.Author.Needs.{needs}
 use Rattle.sheet_check.proofs.is_earlier.Statement.{statement}

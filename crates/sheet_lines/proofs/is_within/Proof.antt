@@ -1,5 +1,5 @@
 -- `sheet_lines::is_within` meets its contract. Assumes nothing.
-use Rattle.model.specs.Test.{_and_, within}
+use Rattle.base_laws.specs.Test.{_and_, within}
 use borrow.Author.Needs.{needs}
 use Rattle.sheet_lines.proofs.is_within.Statement.{statement}
 use Rattle.sheet_lines.proofs.is_within.Tie as tie

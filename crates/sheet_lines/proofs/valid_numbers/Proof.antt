@@ -8,6 +8,7 @@ use Rattle.sheet_lines.proofs.Lines.{Summed, summed-none, summed-fits, 
 use borrow.Author.Needs.{needs}
 use Rattle.sheet_lines.proofs.valid_numbers.Statement.{statement}
 use Rattle.sheet_lines.proofs.valid_numbers.Tie as tie
+use Rattle.base_laws.proofs.Tests.{is-within}
 
 abbrev Inv-loop : tie.InvT-loop
 Inv-loop table start signals r offsets phases sum₀ k₀ sum k = (phases ≡ tableSignal signals r .phases) × Summed (tableSignal signals r) (numberIn table start) k sum

@@ -2,7 +2,7 @@
 use Prim.Native.Nat.{_-_, _≤_}
 use mathlib.Core.Path.{_≡_}
 use mathlib.Core.Bool.{true}
-use Rattle.model.specs.Test.{every}
+use Rattle.base_laws.specs.Test.{every}
 use Rattle.split_checks.specs.Tables.{noneWaitIn}
 use Rattle.split_checks.proofs.Tests.{none-tested, all-tested}
 use Rattle.split_checks.proofs.Tables.{waits-fail, waits-next}

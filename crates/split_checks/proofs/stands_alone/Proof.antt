@@ -2,7 +2,7 @@
 use Prim.Native.Nat.{_-_, _≤_}
 use mathlib.Core.Path.{_≡_}
 use mathlib.Core.Bool.{true}
-use Rattle.model.specs.Test.{every}
+use Rattle.base_laws.specs.Test.{every}
 use Rattle.split_checks.specs.Tables.{standsApartIn}
 use Rattle.split_checks.proofs.Tests.{none-tested, test-fails, test-holds, all-tested}
 use borrow.Author.Needs.{needs}

@@ -2,7 +2,7 @@
 use Prim.Native.Nat.{_-_, _≤_}
 use mathlib.Core.Path.{_≡_}
 use mathlib.Core.Bool.{true}
-use Rattle.model.specs.Test.{every}
+use Rattle.base_laws.specs.Test.{every}
 use Rattle.network_tables.specs.Fields.{demandIn}
 use Rattle.split_checks.specs.Tables.{demandFreeIn}
 use Rattle.split_checks.proofs.Tests.{none-tested, test-fails, test-holds, all-tested}

@@ -3,7 +3,7 @@ use Prim.Native.Nat.{ℕ}
 use mathlib.Core.Path.{_≡_, refl}
 use native.Mathlib.Omega.{arith}
 use borrow.Author.Needs.{needs}
-use Rattle.model.specs.Test.{_and_, within}
+use Rattle.base_laws.specs.Test.{_and_, within}
 use Rattle.step_arrivals.proofs.Timed.{time-room, time-fits}
 use Rattle.step_arrivals.proofs.next_time.Statement.{statement}
 use Rattle.step_arrivals.proofs.next_time.Tie as tie

@@ -2,7 +2,7 @@
 use mathlib.Core.Path.{_≡_, sym}
 use Prim.Native.Nat.{_*_, _-_, _≤_}
 use native.Mathlib.Omega.{arith}
-use Rattle.model.specs.Sum.{sum}
+use Rattle.base_laws.specs.Sum.{sum}
 use Rattle.network_tables.specs.Fields.{enteredIn, leftIn}
 use Rattle.step_rows.proofs.Sums.{sum-none}
 use Rattle.step_rows.proofs.Turns.{held-turn}

@@ -4,7 +4,7 @@ use Prim.Native.Nat.{_+_, _*_, _-_, _≤_}
 use native.Mathlib.Omega.{arith}
 use borrow.Author.Needs.{needs}
 use lib.ListN.{getD}
-use Rattle.model.specs.Sum.{sum}
+use Rattle.base_laws.specs.Sum.{sum}
 use Rattle.step_rows.proofs.Sums.{sum-none, sum-next}
 use Rattle.step_rows.proofs.sum_of.Statement.{statement}
 use Rattle.step_rows.proofs.sum_of.Tie as tie

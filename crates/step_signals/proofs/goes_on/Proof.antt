@@ -1,6 +1,6 @@
 -- `step_signals::goes_on` meets its contract: what it calls gives the definition's parts. Assumes nothing.
 use native.Mathlib.Omega.{arith}
-use Rattle.model.specs.Test.{_and_}
+use Rattle.base_laws.specs.Test.{_and_}
 use Rattle.step_signals.specs.Step.{goesOn}
 use borrow.Author.Needs.{needs}
 use Rattle.step_signals.proofs.goes_on.Statement.{statement}

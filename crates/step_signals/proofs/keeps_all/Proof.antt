@@ -1,5 +1,5 @@
 -- `step_signals::keeps_all` meets its contract: what it calls gives the definition's parts. Assumes nothing.
-use Rattle.model.specs.Test.{_and_, _or_}
+use Rattle.base_laws.specs.Test.{_and_, _or_}
 use Rattle.step_signals.specs.Step.{keepsAll}
 use borrow.Author.Needs.{needs}
 use Rattle.step_signals.proofs.keeps_all.Statement.{statement}

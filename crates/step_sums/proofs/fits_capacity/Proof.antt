@@ -4,10 +4,10 @@ use Prim.Native.Nat.{_+_}
 use lib.Dec.{leb}
 use Rattle.network_tables.specs.Fields.{capacityIn, enteredIn, leftIn}
 use Rattle.step_sums.specs.Sums.{fitsCapacity}
-use Rattle.step_sums.proofs.Turns.{leb-over}
 use borrow.Author.Needs.{needs}
 use Rattle.step_sums.proofs.fits_capacity.Statement.{statement}
 use Rattle.step_sums.proofs.fits_capacity.Tie as tie
+use Rattle.base_laws.proofs.Tests.{leb-over}
 
 returns : tie.Need-returns
 unfolding fitsCapacity

@@ -2,7 +2,7 @@
 use mathlib.Core.Path.{_≡_, refl, sym, ap, ap₂, _∙_}
 use mathlib.Core.Bool.{Bool, true, false}
 use mathlib.Core.Logic.{_⊎_, inl, inr}
-use mathlib.Core.List.{[], _∷_, _++_}
+use mathlib.Core.List.{List, [], _∷_, _++_, append-nil, append-assoc}
 use Prim.Native.Nat.{ℕ, zero, suc, _+_, _*_, _-_, _≤_, _<_}
 use native.Mathlib.Nat.{eq-or-lt-of-le}
 use native.Mathlib.Omega.{arith}
@@ -10,7 +10,9 @@ use lib.Dec.{eqb}
 use lib.ListN.{length, getD, length-append, List·getD-append}
 use lib.Seq.{getD-append-add}
 use borrow.Author.Tests.{eq-eqb, ne-eqb}
-use Rattle.model.specs.Sum.{sum, only, list}
+use Rattle.base_laws.specs.Sum.{sum, only, joined}
+use Rattle.base_laws.proofs.Laws.{length-list, get-list}
+use Rattle.base_laws.specs.Indexed.{list}
 
 pub sum-ext : (n : ℕ) (f g : ℕ → ℕ) → ((i : ℕ) → i < n → f i ≡ g i) → sum n f ≡ sum n g
 unfolding sum
@@ -98,22 +100,28 @@ sum-weight zero c f w = omega arith
 sum-weight (suc n) c f w = omega (arith, sum-weight n c f w)
 
 pub list-length : (n : ℕ) (f : ℕ → ℕ) → length (list n f) ≡ n
-unfolding list
-list-length zero f = refl
-list-length (suc n) f = length-append (list n f) (f n ∷ []) ∙ omega (arith, list-length n f)
+list-length n f = length-list f n
 
 -- what stands at index k
 pub list-at : (n : ℕ) (f : ℕ → ℕ) (k : ℕ) → k < n → getD (list n f) k 0 ≡ f k
+list-at n f k l = get-list f 0 n k l
+
+pub list-same : (n : ℕ) (f g : ℕ → ℕ) → ((k : ℕ) → k < n → f k ≡ g k) → list n f ≡ list n g
 unfolding list
-list-at zero f k l = absurd (omega arith)
-list-at (suc n) f k l = go (eq-or-lt-of-le l) (list-at n f k)
-  where
-    go : (suc k ≡ suc n) ⊎ (suc k < suc n) → (k < n → getD (list n f) k 0 ≡ f k) → getD (list n f ++ (f n ∷ [])) k 0 ≡ f k
-    go (inl e) ih =
-        let j : k ≡ length (list n f) + 0 = omega (arith, list-length n f) in
-        let i : n ≡ k = omega arith in
-        ap (λ x. getD (list n f ++ (f n ∷ [])) x 0) j ∙ getD-append-add (list n f) (f n ∷ []) 0 0 ∙ ap f i
-    go (inr h) ih = List·getD-append (list n f) (f n ∷ []) 0 k (omega (arith, list-length n f)) ∙ ih (omega arith)
+list-same zero f g h = refl
+list-same (suc n) f g h = ap₂ (λ xs x. xs ++ (x ∷ [])) (list-same n f g (λ k l. h k (omega arith))) (h n (omega arith))
+
+pub list-plus : (a b : ℕ) (f : ℕ → ℕ) → list (a + b) f ≡ list a f ++ list b (λ k. f (a + k))
+unfolding list
+list-plus a zero f = let z : a + 0 ≡ a = omega arith in rw z (sym (append-nil (list a f)))
+list-plus a (suc b) f =
+    let z : a + suc b ≡ suc (a + b) = omega arith in
+    rw z (ap (λ (x : List ℕ). x ++ (f (a + b) ∷ [])) (list-plus a b f) ∙ append-assoc (list a f) (list b (λ k. f (a + k))) (f (a + b) ∷ []))
+
+pub joined-same : (n : ℕ) (f g : ℕ → List ℕ) → ((k : ℕ) → k < n → f k ≡ g k) → joined n f ≡ joined n g
+unfolding joined
+joined-same zero f g h = refl
+joined-same (suc n) f g h = ap₂ (λ xs ys. xs ++ ys) (joined-same n f g (λ k l. h k (omega arith))) (h n (omega arith))
 
 -- ---- how many of the tests 0 to k - 1 hold, where each that holds has all before it hold
 module _ (test : ℕ → Bool) (earlier : (m k : ℕ) → m ≤ k → test k ≡ true → test m ≡ true) where

@@ -1,7 +1,7 @@
--- Sums and lists by index. Assumes nothing.
+-- Sums by index, and lists one behind the other. Assumes nothing.
 use Prim.Native.Nat.{ℕ, zero, suc, _+_}
 use mathlib.Core.Bool.{Bool, true, false}
-use mathlib.Core.List.{List, [], _∷_, _++_}
+use mathlib.Core.List.{List, [], _++_}
 
 -- f 0 + .. + f (n - 1)
 unfoldable pub sum : ℕ → (ℕ → ℕ) → ℕ
@@ -12,11 +12,6 @@ sum (suc n) f = sum n f + f n
 abbrev pub only : Bool → ℕ → ℕ
 only true x = x
 only false x = 0
-
--- f 0, f 1, .., f (n - 1)
-unfoldable pub list : ℕ → (ℕ → ℕ) → List ℕ
-list zero f = []
-list (suc n) f = list n f ++ (f n ∷ [])
 
 -- the lists f 0, f 1, .., f (n - 1), one behind the other
 unfoldable pub joined : ℕ → (ℕ → List ℕ) → List ℕ
