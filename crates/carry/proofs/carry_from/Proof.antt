@@ -27,9 +27,6 @@ carry-steps-requires : tie.Need-carry-steps-requires
 carry-steps-requires c κs =
     let s = c .before .before .before .before .before .before .before .before .before .before .before .before .before .before .before .before .before in asked _ (s .args .plan .now) _ _ (s .args .carried .now) (s .pre .loaded) (c .before .before .before .before .before .before .before .if1 .left) (c .before .before .before .before .before .if2 .left) (c .before .before .before .if3 .left) (s .pre .signal-table)
 
-returns-4 : tie.Need-returns-4
-returns-4 c = c .before .before .before .before .before .before .carry-steps .ensures
-
 pub carry-from-spec : {M : Type 1} → statement M
 carry-from-spec =
     tie.close
@@ -47,4 +44,4 @@ carry-from-spec =
     (λ c. search needs)
     (λ c. search needs)
     (λ c. search needs)
-    returns-4)
+    (λ c. c .before .before .before .before .before .before .carry-steps .ensures))

@@ -6,9 +6,6 @@ use Rattle.carry.proofs.Carrying.{network-refused, promised}
 use Rattle.carry.proofs.carry_on.Statement.{statement}
 use Rattle.carry.proofs.carry_on.Tie as tie
 
-load-with-signals-requires : tie.Need-load-with-signals-requires
-load-with-signals-requires c κs = zero-rooms refl (search needs)
-
 carry-from-requires : tie.Need-carry-from-requires
 carry-from-requires c κs = c .before .before .before .before .before .before .before .before .before .before .before .before .before .before .load-with-signals .ensures .held _ (c .before .before .before .before .before .before .before .before .reading .given .1)
 
@@ -26,7 +23,7 @@ carry-on-spec =
     (λ c. search needs)
     (λ c. search needs)
     (λ c. search needs)
-    load-with-signals-requires
+    (λ c κs. zero-rooms refl (search needs))
     (λ c. search needs)
     (λ c. search needs)
     (λ c κs. search needs)

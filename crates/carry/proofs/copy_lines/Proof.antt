@@ -12,20 +12,11 @@ Inv-loop text from letter width count out₀ at row₀ line₀ end₀ k₀ out r
 abbrev μ-loop : tie.MeasureT-loop
 μ-loop text from letter width count out₀ at row₀ line₀ end₀ k₀ out row line end k = count - k
 
-loop-holds : tie.Need-loop-holds Inv-loop μ-loop
-loop-holds c = search (copied-none, needs)
-
 slice-aggregate-put-line : tie.Need-slice-aggregate-put-line Inv-loop μ-loop
 slice-aggregate-put-line c = copied-part (c .before .before .before .before .before .loop .inv) (c .before .before .before .before .before .before .before .before .pre .0) (omega arith) (c .before .before .read-again .ensures)
 
 put-line-requires : tie.Need-put-line-requires Inv-loop μ-loop
 put-line-requires c κs = copied-asked (c .before .before .before .before .before .before .loop .inv) (c .before .before .before .before .before .before .before .before .before .pre .0) (omega arith) (c .before .before .before .read-again .ensures) (c .before .before .before .before .before .before .before .before .before .pre .1)
-
-loop-again : tie.Need-loop-again Inv-loop μ-loop
-loop-again c = search (copied-next, needs)
-
-returns : tie.Need-returns Inv-loop μ-loop
-returns c = search copied-all
 
 pub copy-lines-spec : {M : Type 1} → statement M
 copy-lines-spec =
@@ -33,7 +24,7 @@ copy-lines-spec =
     (tie.spec
     Inv-loop
     μ-loop
-    loop-holds
+    (λ c. search (copied-none, needs))
     (λ c. search needs)
     (λ c κs. search needs)
     (λ c. search needs)
@@ -41,6 +32,6 @@ copy-lines-spec =
     put-line-requires
     (λ c. search needs)
     (λ c. search needs)
-    loop-again
+    (λ c. search (copied-next, needs))
     (λ c. search needs)
-    returns)
+    (λ c. search copied-all))

@@ -4,9 +4,6 @@ use borrow.Author.Needs.{needs}
 use Rattle.carry.proofs.put_counts.Statement.{statement}
 use Rattle.carry.proofs.put_counts.Tie as tie
 
-returns : tie.Need-returns
-returns c = search (counts-put, needs)
-
 pub put-counts-spec : {M : Type 1} → statement M
 put-counts-spec =
     tie.close
@@ -22,4 +19,4 @@ put-counts-spec =
     (λ c. search needs)
     (λ c κs. search needs)
     (λ c. search needs)
-    returns)
+    (λ c. search (counts-put, needs)))

@@ -16,17 +16,8 @@ Inv-loop links waiting count out₀ at end₀ i₀ out end i = LinesTo letterQ (
 abbrev μ-loop : tie.MeasureT-loop
 μ-loop links waiting count out₀ at end₀ i₀ out end i = count - i
 
-loop-holds : tie.Need-loop-holds Inv-loop μ-loop
-loop-holds c = search rows-none
-
-put-line-requires : tie.Need-put-line-requires Inv-loop μ-loop
-put-line-requires c κs = search (rows-early, needs)
-
 loop-again : tie.Need-loop-again Inv-loop μ-loop
 loop-again c = links-next _ _ (c .before .before .before .before .before .before .before .before .before .before .before .before .before .loop .inv) (omega arith) (c .before .before .before .before .before .before .before .before .before .before .before .capacity .ensures) (c .before .before .before .before .before .before .before .before .before .before .travel-time .ensures) (c .before .before .before .before .before .before .before .before .before .exit-rate .ensures) (c .before .before .before .before .before .before .before .before .signal-of .ensures) (c .before .before .before .before .before .before .before .phase-mask .ensures) (c .before .before .before .before .before .before .standing .ensures) refl (c .before .before .put-line .ensures)
-
-returns : tie.Need-returns Inv-loop μ-loop
-returns c = search rows-all
 
 pub put-links-spec : {M : Type 1} → statement M
 put-links-spec =
@@ -34,7 +25,7 @@ put-links-spec =
     (tie.spec
     Inv-loop
     μ-loop
-    loop-holds
+    (λ c. search rows-none)
     (λ c κs. search needs)
     (λ c κs. search needs)
     (λ c κs. search needs)
@@ -44,9 +35,9 @@ put-links-spec =
     (λ c. search needs)
     (λ c. search needs)
     (λ c. search needs)
-    put-line-requires
+    (λ c κs. search (rows-early, needs))
     (λ c. search needs)
     (λ c. search needs)
     loop-again
     (λ c. search needs)
-    returns)
+    (λ c. search rows-all))

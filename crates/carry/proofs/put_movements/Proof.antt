@@ -15,17 +15,8 @@ Inv-loop movements count out₀ at end₀ j₀ out end j = LinesTo letterM (move
 abbrev μ-loop : tie.MeasureT-loop
 μ-loop movements count out₀ at end₀ j₀ out end j = count - j
 
-loop-holds : tie.Need-loop-holds Inv-loop μ-loop
-loop-holds c = search rows-none
-
-put-line-requires : tie.Need-put-line-requires Inv-loop μ-loop
-put-line-requires c κs = search (rows-early, needs)
-
 loop-again : tie.Need-loop-again Inv-loop μ-loop
 loop-again c = movements-next _ (c .before .before .before .before .before .before .before .before .before .before .loop .inv) (omega arith) (c .before .before .before .before .before .before .before .before .link-of .ensures) (c .before .before .before .before .before .before .before .link-of2 .ensures) (c .before .before .before .before .before .before .rate .ensures) (c .before .before .before .before .before .share .ensures) (c .before .before .put-line .ensures)
-
-returns : tie.Need-returns Inv-loop μ-loop
-returns c = search rows-all
 
 pub put-movements-spec : {M : Type 1} → statement M
 put-movements-spec =
@@ -33,15 +24,15 @@ put-movements-spec =
     (tie.spec
     Inv-loop
     μ-loop
-    loop-holds
+    (λ c. search rows-none)
     (λ c κs. search needs)
     (λ c κs. search needs)
     (λ c κs. search needs)
     (λ c κs. search needs)
     (λ c. search needs)
-    put-line-requires
+    (λ c κs. search (rows-early, needs))
     (λ c. search needs)
     (λ c. search needs)
     loop-again
     (λ c. search needs)
-    returns)
+    (λ c. search rows-all))

@@ -18,12 +18,6 @@ abbrev μ-loop : tie.MeasureT-loop
 μ-loop signals count out₀ at end₀ k₀ out end k =
     count - k
 
-loop-holds : tie.Need-loop-holds Inv-loop μ-loop
-loop-holds c = rows-none
-
-mul-start : tie.Need-mul-start Inv-loop μ-loop
-mul-start c = omega (arith, c .before .before .before .before .pre .few)
-
 phase-count-requires : tie.Need-phase-count-requires Inv-loop μ-loop
 phase-count-requires c κs = (omega (arith, c .before .before .before .before .pre .few), c .before .before .before .before .pre .size)
 
@@ -51,17 +45,14 @@ add-k c = omega (arith, c .before .before .before .before .before .before .befor
 loop-again : tie.Need-loop-again Inv-loop μ-loop
 loop-again c = signals-next (c .before .before .before .before .before .before .before .before .before .before .before .pre) (c .before .before .before .before .before .before .before .before .loop .inv) (omega arith) (c .before .before .before .before .before .before .phase-count .ensures) (c .before .before .before .before .before .index .ensures .0) (c .before .before .put-line .ensures)
 
-returns : tie.Need-returns Inv-loop μ-loop
-returns c = rows-all (c .before .loop .inv) (omega arith)
-
 pub put-signals-spec : {M : Type 1} → statement M
 put-signals-spec =
     tie.close
     (tie.spec
     Inv-loop
     μ-loop
-    loop-holds
-    mul-start
+    (λ c. rows-none)
+    (λ c. omega (arith, c .before .before .before .before .pre .few))
     phase-count-requires
     (λ c κs. search needs)
     mul-stop
@@ -76,4 +67,4 @@ put-signals-spec =
     (λ c. search needs)
     loop-again
     (λ c. search needs)
-    returns)
+    (λ c. rows-all (c .before .loop .inv) (omega arith)))

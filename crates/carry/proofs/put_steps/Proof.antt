@@ -12,23 +12,11 @@ Inv-loop text from ledger links boundary out₀ at row₀ width line₀ end₀ n
 abbrev μ-loop : tie.MeasureT-loop
 μ-loop text from ledger links boundary out₀ at row₀ width line₀ end₀ n₀ out row line end n = boundary - n
 
-loop-holds : tie.Need-loop-holds Inv-loop μ-loop
-loop-holds c = search (steps-none, needs)
-
 fill-volumes-requires : tie.Need-fill-volumes-requires Inv-loop μ-loop
 fill-volumes-requires c κs = volumes-asked (c .before .before .before .before .before .loop .inv) (c .before .before .before .before .before .before .before .before .before .pre .0) (omega arith) (c .before .before .read-again .ensures)
 
-slice-aggregate-put-line : tie.Need-slice-aggregate-put-line Inv-loop μ-loop
-slice-aggregate-put-line c = search (steps-part, needs)
-
 put-line-requires : tie.Need-put-line-requires Inv-loop μ-loop
 put-line-requires c κs = steps-asked (c .before .before .before .before .before .before .before .before .before .loop .inv) (c .before .before .before .before .before .before .before .before .before .before .before .before .before .pre .0) (omega arith) (c .before .before .before .before .before .before .read-again .ensures) (c .before .before .before .fill-volumes .ensures) (c .before .before .before .before .before .before .before .before .before .before .before .before .before .pre .1)
-
-loop-again : tie.Need-loop-again Inv-loop μ-loop
-loop-again c = search (steps-next, needs)
-
-returns : tie.Need-returns Inv-loop μ-loop
-returns c = search steps-all
 
 pub put-steps-spec : {M : Type 1} → statement M
 put-steps-spec =
@@ -38,17 +26,17 @@ put-steps-spec =
     μ-loop
     (λ c. search needs)
     (λ c. search needs)
-    loop-holds
+    (λ c. search (steps-none, needs))
     (λ c. search needs)
     (λ c. search needs)
     (λ c κs. search needs)
     (λ c. search needs)
     fill-volumes-requires
     (λ c. search needs)
-    slice-aggregate-put-line
+    (λ c. search (steps-part, needs))
     put-line-requires
     (λ c. search needs)
     (λ c. search needs)
-    loop-again
+    (λ c. search (steps-next, needs))
     (λ c. search needs)
-    returns)
+    (λ c. search steps-all))

@@ -4,18 +4,12 @@ use borrow.Author.Needs.{needs}
 use Rattle.carry.proofs.put_tram.Statement.{statement}
 use Rattle.carry.proofs.put_tram.Tie as tie
 
-returns : tie.Need-returns
-returns c = search (none-put, needs)
-
-returns-2 : tie.Need-returns-2
-returns-2 c = search (one-put, needs)
-
 pub put-tram-spec : {M : Type 1} → statement M
 put-tram-spec =
     tie.close
     (tie.spec
     (λ c. search needs)
-    returns
+    (λ c. search (none-put, needs))
     (λ c. search needs)
     (λ c. search needs)
     (λ c. search needs)
@@ -25,4 +19,4 @@ put-tram-spec =
     (λ c. search needs)
     (λ c κs. search needs)
     (λ c. search needs)
-    returns-2)
+    (λ c. search (one-put, needs)))

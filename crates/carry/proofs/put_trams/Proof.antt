@@ -11,32 +11,20 @@ Inv-loop text from count boundary out₀ at tram₀ line₀ end₀ k₀ out tram
 abbrev μ-loop : tie.MeasureT-loop
 μ-loop text from count boundary out₀ at tram₀ line₀ end₀ k₀ out tram line end k = count - k
 
-loop-holds : tie.Need-loop-holds Inv-loop μ-loop
-loop-holds c = search (trams-none, needs)
-
-put-tram-requires : tie.Need-put-tram-requires Inv-loop μ-loop
-put-tram-requires c κs = search (tram-size, tram-early, needs)
-
-loop-again : tie.Need-loop-again Inv-loop μ-loop
-loop-again c = search (trams-next, needs)
-
-returns : tie.Need-returns Inv-loop μ-loop
-returns c = search trams-all
-
 pub put-trams-spec : {M : Type 1} → statement M
 put-trams-spec =
     tie.close
     (tie.spec
     Inv-loop
     μ-loop
-    loop-holds
+    (λ c. search (trams-none, needs))
     (λ c. search needs)
     (λ c κs. search needs)
     (λ c. search needs)
     (λ c. search needs)
-    put-tram-requires
+    (λ c κs. search (tram-size, tram-early, needs))
     (λ c. search needs)
     (λ c. search needs)
-    loop-again
+    (λ c. search (trams-next, needs))
     (λ c. search needs)
-    returns)
+    (λ c. search trams-all))

@@ -13,28 +13,13 @@ abbrev μ-loop : tie.MeasureT-loop
 μ-loop text flow-limits₀ holding-limits₀ wave-ratios₀ volumes₀ row₀ place₀ n₀ flow-limits holding-limits wave-ratios volumes row place n =
     65 - n
 
-loop-holds : tie.Need-loop-holds Inv-loop μ-loop
-loop-holds c = search (cells-none, needs)
-
-returns : tie.Need-returns Inv-loop μ-loop
-returns c = search (cells-too-many, needs)
-
-returns-2 : tie.Need-returns-2 Inv-loop μ-loop
-returns-2 c = search (cells-refused, needs)
-
-loop-again : tie.Need-loop-again Inv-loop μ-loop
-loop-again c = search (cells-more, needs)
-
-returns-3 : tie.Need-returns-3 Inv-loop μ-loop
-returns-3 c = search (cells-all, needs)
-
 pub read-cells-spec : {M : Type 1} → statement M
 read-cells-spec =
     tie.close
     (tie.spec
     Inv-loop
     μ-loop
-    loop-holds
+    (λ c. search (cells-none, needs))
     (λ c κs. search needs)
     (λ c. search needs)
     (λ c. search needs)
@@ -42,7 +27,7 @@ read-cells-spec =
     (λ c. search needs)
     (λ c. search needs)
     (λ c. search needs)
-    returns
+    (λ c. search (cells-too-many, needs))
     (λ c. search needs)
     (λ c κs. search needs)
     (λ c. search needs)
@@ -50,7 +35,7 @@ read-cells-spec =
     (λ c. search needs)
     (λ c. search needs)
     (λ c. search needs)
-    returns-2
+    (λ c. search (cells-refused, needs))
     (λ c. search needs)
     (λ c. search needs)
     (λ c. search needs)
@@ -66,9 +51,9 @@ read-cells-spec =
     (λ c. search needs)
     (λ c. search needs)
     (λ c. search needs)
-    loop-again
+    (λ c. search (cells-more, needs))
     (λ c. search needs)
     (λ c. search needs)
     (λ c. search needs)
     (λ c. search needs)
-    returns-3)
+    (λ c. search (cells-all, needs)))

@@ -11,50 +11,32 @@ Inv-loop text at cells demands₀ place₀ k₀ demands place k = DemandsReading
 abbrev μ-loop : tie.MeasureT-loop
 μ-loop text at cells demands₀ place₀ k₀ demands place k = 121 - k
 
-loop-holds : tie.Need-loop-holds Inv-loop μ-loop
-loop-holds c = search (demands-none, needs)
-
-returns : tie.Need-returns Inv-loop μ-loop
-returns c = search (demands-too-many, needs)
-
-returns-2 : tie.Need-returns-2 Inv-loop μ-loop
-returns-2 c = search (demands-malformed, needs)
-
-loop-again : tie.Need-loop-again Inv-loop μ-loop
-loop-again c = search (demands-more, needs)
-
-returns-3 : tie.Need-returns-3 Inv-loop μ-loop
-returns-3 c = search (demands-empty, needs)
-
-returns-4 : tie.Need-returns-4 Inv-loop μ-loop
-returns-4 c = search (demands-all, needs)
-
 pub read-demands-spec : {M : Type 1} → statement M
 read-demands-spec =
     tie.close
     (tie.spec
     Inv-loop
     μ-loop
-    loop-holds
+    (λ c. search (demands-none, needs))
     (λ c κs. search needs)
     (λ c. search needs)
     (λ c. search needs)
     (λ c. search needs)
     (λ c. search needs)
-    returns
+    (λ c. search (demands-too-many, needs))
     (λ c κs. search needs)
     (λ c. search needs)
     (λ c. search needs)
-    returns-2
+    (λ c. search (demands-malformed, needs))
     (λ c. search needs)
     (λ c. search needs)
     (λ c. search needs)
     (λ c. search needs)
     (λ c. search needs)
-    loop-again
+    (λ c. search (demands-more, needs))
     (λ c. search needs)
     (λ c. search needs)
     (λ c. search needs)
-    returns-3
+    (λ c. search (demands-empty, needs))
     (λ c. search needs)
-    returns-4)
+    (λ c. search (demands-all, needs)))

@@ -4,15 +4,6 @@ use borrow.Author.Needs.{needs}
 use Rattle.cells_steps.proofs.flow_from.Statement.{statement}
 use Rattle.cells_steps.proofs.flow_from.Tie as tie
 
-flow-into-requires : tie.Need-flow-into-requires
-flow-into-requires c κs = search (is-held, is-slow, needs)
-
-returns : tie.Need-returns
-returns c = search (flows-on, flows-less, needs)
-
-returns-2 : tie.Need-returns-2
-returns-2 c = search (flows-out-of, needs)
-
 pub flow-from-spec : {M : Type 1} → statement M
 flow-from-spec =
     tie.close
@@ -20,7 +11,7 @@ flow-from-spec =
     (λ c. search needs)
     (λ c. search needs)
     (λ c. search needs)
-    flow-into-requires
+    (λ c κs. search (is-held, is-slow, needs))
     (λ c κs. search needs)
-    returns
-    returns-2)
+    (λ c. search (flows-on, flows-less, needs))
+    (λ c. search (flows-out-of, needs)))

@@ -15,34 +15,22 @@ abbrev μ-loop : tie.MeasureT-loop
 μ-loop flow-limits holding-limits wave-ratios exit demands volumes₀ flow-in₀ flow-out₀ t₀ volumes flow-in flow-out t =
     length demands - t
 
-loop-holds : tie.Need-loop-holds Inv-loop μ-loop
-loop-holds c = search (running-none, needs)
-
-step-cells-requires : tie.Need-step-cells-requires Inv-loop μ-loop
-step-cells-requires c κs = search (running-ready, needs)
-
-loop-again : tie.Need-loop-again Inv-loop μ-loop
-loop-again c = search (running-more, needs)
-
-returns : tie.Need-returns Inv-loop μ-loop
-returns c = search (running-done, needs)
-
 pub run-steps-spec : {M : Type 1} → statement M
 run-steps-spec =
     tie.close
     (tie.spec
     Inv-loop
     μ-loop
-    loop-holds
+    (λ c. search (running-none, needs))
     (λ c. search needs)
     (λ c. search needs)
-    step-cells-requires
+    (λ c κs. search (running-ready, needs))
     (λ c κs. search needs)
     (λ c. search needs)
     (λ c κs. search needs)
     (λ c. search needs)
     (λ c. search needs)
     (λ c. search needs)
-    loop-again
+    (λ c. search (running-more, needs))
     (λ c. search needs)
-    returns)
+    (λ c. search (running-done, needs)))

@@ -15,21 +15,6 @@ abbrev μ-loop : tie.MeasureT-loop
 μ-loop flow-limits holding-limits wave-ratios exit demand volumes₀ start first entering₀ i₀ volumes entering i =
     length volumes₀ - i
 
-flow-into-requires : tie.Need-flow-into-requires Inv-loop μ-loop
-flow-into-requires c κs = search (is-held, is-slow, needs)
-
-loop-holds : tie.Need-loop-holds Inv-loop μ-loop
-loop-holds c = search (going-none, needs)
-
-add-filled : tie.Need-add-filled Inv-loop μ-loop
-add-filled c = search (going-fits, needs)
-
-loop-again : tie.Need-loop-again Inv-loop μ-loop
-loop-again c = search (going-more, needs)
-
-returns : tie.Need-returns Inv-loop μ-loop
-returns c = search (going-done, needs)
-
 pub step-cells-spec : {M : Type 1} → statement M
 step-cells-spec =
     tie.close
@@ -37,17 +22,17 @@ step-cells-spec =
     Inv-loop
     μ-loop
     (λ c. search needs)
-    flow-into-requires
-    loop-holds
+    (λ c κs. search (is-held, is-slow, needs))
+    (λ c. search (going-none, needs))
     (λ c. search needs)
     (λ c. search needs)
-    add-filled
+    (λ c. search (going-fits, needs))
     (λ c κs. search needs)
     (λ c. search needs)
     (λ c. search needs)
     (λ c. search needs)
     (λ c. search needs)
     (λ c. search needs)
-    loop-again
+    (λ c. search (going-more, needs))
     (λ c. search needs)
-    returns)
+    (λ c. search (going-done, needs)))

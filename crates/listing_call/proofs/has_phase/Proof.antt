@@ -6,9 +6,6 @@ use Rattle.listing_call.proofs.has_phase.Statement.{statement}
 use Rattle.listing_call.proofs.has_phase.Tie as tie
 use Rattle.base_laws.proofs.Tests.{is-within}
 
-returns : tie.Need-returns
-returns c = search phase-none
-
 sub-index : tie.Need-sub-index
 sub-index c = omega (arith, within-some _ _ _ (c .before .is-within .ensures) (c .if1 .left))
 
@@ -18,18 +15,15 @@ mul-index c = omega (arith, within-some _ _ _ (c .before .is-within .ensures) (c
 shared-slice-read-index : tie.Need-shared-slice-read-index
 shared-slice-read-index c = omega (arith, within-some _ _ _ (c .before .before .is-within .ensures) (c .before .if1 .left))
 
-returns-2 : tie.Need-returns-2
-returns-2 c = search phase-is
-
 pub has-phase-spec : {M : Type 1} → statement M
 has-phase-spec =
     tie.close
     (tie.spec
     (λ c κs. search needs)
-    returns
+    (λ c. search phase-none)
     sub-index
     mul-index
     shared-slice-read-index
     (λ c κs. search needs)
     (λ c κs. search needs)
-    returns-2)
+    (λ c. search phase-is))

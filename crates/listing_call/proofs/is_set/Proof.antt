@@ -4,8 +4,5 @@ use borrow.Author.Needs.{needs}
 use Rattle.listing_call.proofs.is_set.Statement.{statement}
 use Rattle.listing_call.proofs.is_set.Tie as tie
 
-returns : tie.Need-returns
-returns c = search set-test
-
 pub is-set-spec : {M : Type 1} → statement M
-is-set-spec = tie.close (tie.spec (λ c. search needs) (λ c κs. search needs) (λ c. search needs) returns)
+is-set-spec = tie.close (tie.spec (λ c. search needs) (λ c κs. search needs) (λ c. search needs) (λ c. search set-test))

@@ -5,9 +5,6 @@ use borrow.Author.Needs.{needs}
 use Rattle.listing_call.proofs.phase_place.Statement.{statement}
 use Rattle.listing_call.proofs.phase_place.Tie as tie
 
-returns : tie.Need-returns
-returns c = search phase-place-none
-
 sub-place-in : tie.Need-sub-place-in
 sub-place-in c = omega (arith, phase-some _ _ _ _ _ (c .before .has-phase .ensures) (c .if1 .left) (c .before .before .before .pre))
 
@@ -23,22 +20,16 @@ add-place-in c = omega (arith, phase-some _ _ _ _ _ (c .before .has-phase .ensur
 sub-place-in-3 : tie.Need-sub-place-in-3
 sub-place-in-3 c = omega (arith, phase-some _ _ _ _ _ (c .before .has-phase .ensures) (c .if1 .left) (c .before .before .before .pre))
 
-place-in-requires : tie.Need-place-in-requires
-place-in-requires c κs = search phase-asked
-
-returns-2 : tie.Need-returns-2
-returns-2 c = search phase-place-is
-
 pub phase-place-spec : {M : Type 1} → statement M
 phase-place-spec =
     tie.close
     (tie.spec
     (λ c κs. search needs)
-    returns
+    (λ c. search phase-place-none)
     sub-place-in
     mul-place-in
     sub-place-in-2
     add-place-in
     sub-place-in-3
-    place-in-requires
-    returns-2)
+    (λ c κs. search phase-asked)
+    (λ c. search phase-place-is))

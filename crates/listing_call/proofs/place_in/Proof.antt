@@ -6,9 +6,6 @@ use Rattle.listing_call.proofs.place_in.Statement.{statement}
 use Rattle.listing_call.proofs.place_in.Tie as tie
 use Rattle.base_laws.proofs.Tests.{is-within}
 
-returns : tie.Need-returns
-returns c = search place-none
-
 sub-n : tie.Need-sub-n
 sub-n c = omega (arith, within-some _ _ _ (c .before .is-within .ensures) (c .if1 .left))
 
@@ -24,9 +21,6 @@ mul-t10 c = omega (arith, within-some _ _ _ (c .before .is-within .ensures) (c .
 add-t11 : tie.Need-add-t11
 add-t11 c = omega (arith, within-some _ _ _ (c .before .is-within .ensures) (c .if1 .left))
 
-returns-2 : tie.Need-returns-2
-returns-2 c = search place-at
-
 pub place-in-spec : {M : Type 1} → statement M
 place-in-spec =
-    tie.close (tie.spec (λ c κs. search needs) returns sub-n mul-t8 add-t9 mul-t10 add-t11 returns-2)
+    tie.close (tie.spec (λ c κs. search needs) (λ c. search place-none) sub-n mul-t8 add-t9 mul-t10 add-t11 (λ c. search place-at))

@@ -4,8 +4,5 @@ use borrow.Author.Needs.{needs}
 use Rattle.listing_call.proofs.power.Statement.{statement}
 use Rattle.listing_call.proofs.power.Tie as tie
 
-returns : tie.Need-returns
-returns c = power-is _ (search needs)
-
 pub power-spec : {M : Type 1} → statement M
-power-spec = tie.close (tie.spec (λ c. search needs) returns)
+power-spec = tie.close (tie.spec (λ c. search needs) (λ c. power-is _ (search needs)))

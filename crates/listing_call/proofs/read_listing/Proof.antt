@@ -13,15 +13,6 @@ Inv-loop text counts phases times numbers₀ seen₀ at₀ i₀ numbers seen at 
 abbrev μ-loop : tie.MeasureT-loop
 μ-loop text counts phases times numbers₀ seen₀ at₀ i₀ numbers seen at i = length text - at
 
-loop-holds : tie.Need-loop-holds Inv-loop μ-loop
-loop-holds c = search reading-none
-
-returns : tie.Need-returns Inv-loop μ-loop
-returns c = search reading-bad
-
-judge-entry-requires : tie.Need-judge-entry-requires Inv-loop μ-loop
-judge-entry-requires c κs = search reading-asked
-
 mul-numbers : tie.Need-mul-numbers Inv-loop μ-loop
 mul-numbers c = omega (arith, store-place _ _ _ _ _ _ (c .before .before .before .before .before .before .before .before .before .before .before .before .before .before .before .before .pre .tables) _ (c .before .before .before .judge-entry .ensures) _ _ _ (c .before .bit .given .1), c .before .before .before .before .before .before .before .before .before .before .loop .inv .number-length)
 
@@ -37,17 +28,8 @@ slice-write-numbers c = omega (arith, store-place _ _ _ _ _ _ (c .before .before
 set-bit-requires : tie.Need-set-bit-requires Inv-loop μ-loop
 set-bit-requires c κs = store-bit _ _ _ _ _ _ (c .before .before .before .before .before .before .before .before .before .before .before .before .before .before .before .before .before .before .pre .tables) _ (c .before .before .before .before .before .judge-entry .ensures) _ _ _ (c .before .before .before .bit .given .1) (c .before .before .before .before .before .before .before .before .before .before .before .before .loop .inv .seen-length)
 
-returns-2 : tie.Need-returns-2 Inv-loop μ-loop
-returns-2 c = search reading-stop
-
 loop-less : tie.Need-loop-less Inv-loop μ-loop
 loop-less c = omega (arith, line-forward _ _ _ (c .before .before .before .before .before .before .before .before .before .before .before .before .before .entry-at .ensures) _ _ _ (c .before .before .before .before .before .before .before .before .before .before .before .variable .given .1) _ (c .before .before .before .before .before .before .before .before .before .before .before .before .before .before .before .loop .inv .starts))
-
-loop-again : tie.Need-loop-again Inv-loop μ-loop
-loop-again c = search reading-more
-
-returns-3 : tie.Need-returns-3 Inv-loop μ-loop
-returns-3 c = search reading-done
 
 pub read-listing-spec : {M : Type 1} → statement M
 read-listing-spec =
@@ -55,7 +37,7 @@ read-listing-spec =
     (tie.spec
     Inv-loop
     μ-loop
-    loop-holds
+    (λ c. search reading-none)
     (λ c κs. search needs)
     (λ c. search needs)
     (λ c. search needs)
@@ -63,8 +45,8 @@ read-listing-spec =
     (λ c κs. search needs)
     (λ c. search needs)
     (λ c. search needs)
-    returns
-    judge-entry-requires
+    (λ c. search reading-bad)
+    (λ c κs. search reading-asked)
     (λ c. search needs)
     mul-numbers
     slice-read-numbers
@@ -76,10 +58,10 @@ read-listing-spec =
     (λ c κs. search needs)
     (λ c. search needs)
     (λ c. search needs)
-    returns-2
+    (λ c. search reading-stop)
     (λ c. search needs)
     loop-less
-    loop-again
+    (λ c. search reading-more)
     (λ c. search needs)
     (λ c. search needs)
-    returns-3)
+    (λ c. search reading-done))

@@ -9,10 +9,7 @@ use Rattle.listing_call.proofs.set_bit.Tie as tie
 add-bytes : tie.Need-add-bytes
 add-bytes c = omega (arith, set-fits (c .before .before .before .args .bytes .now) (c .before .before .before .args .k) _ (c .before .power .ensures) (c .before .before .before .pre .0) (c .before .before .before .pre .1) (omega (arith, c .slice-known2 .given (c .before .before .before .args .k / 8))))
 
-returns : tie.Need-returns
-returns c = search set-is
-
 pub set-bit-spec : {M : Type 1} → statement M
 set-bit-spec =
     tie.close
-    (tie.spec (λ c κs. search needs) (λ c. search needs) add-bytes (λ c. search needs) (λ c. search needs) returns)
+    (tie.spec (λ c κs. search needs) (λ c. search needs) add-bytes (λ c. search needs) (λ c. search needs) (λ c. search set-is))

@@ -12,12 +12,6 @@ read-listing-requires c κs = empty-asked numberTableSize seenSize _ _ _ refl re
 write-plan-requires : tie.Need-write-plan-requires
 write-plan-requires c κs = write-kept _ _ _ _ _ _ _ (c .before .before .before .before .before .before .read-listing .ensures) (c .before .before .before .before .before .before .before .before .before .before .before .before .before .pre) (c .before .before .enum-told .given .1)
 
-returns : tie.Need-returns
-returns c = search write-passed
-
-returns-2 : tie.Need-returns-2
-returns-2 c = search write-stopped
-
 pub write-listing-spec : {M : Type 1} → statement M
 write-listing-spec =
     tie.close
@@ -30,5 +24,5 @@ write-listing-spec =
     write-plan-requires
     (λ c. search needs)
     (λ c. search needs)
-    returns
-    returns-2)
+    (λ c. search write-passed)
+    (λ c. search write-stopped))

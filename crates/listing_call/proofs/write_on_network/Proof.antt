@@ -8,15 +8,6 @@ use Rattle.listing_call.proofs.write_on_network.Tie as tie
 read-signals-requires : tie.Need-read-signals-requires
 read-signals-requires c κs = signals-asked _ _ _ (c .before .before .before .before .before .before .before .pre) _ (c .before .before .moved-to .ensures) _ (search needs) _ refl
 
-write-listing-requires : tie.Need-write-listing-requires
-write-listing-requires c κs = search tables-asked
-
-returns : tie.Need-returns
-returns c = search network-written
-
-returns-2 : tie.Need-returns-2
-returns-2 c = search signals-stopped
-
 pub write-on-network-spec : {M : Type 1} → statement M
 write-on-network-spec =
     tie.close
@@ -27,8 +18,8 @@ write-on-network-spec =
     read-signals-requires
     (λ c. search needs)
     (λ c. search needs)
-    write-listing-requires
+    (λ c κs. search tables-asked)
     (λ c. search needs)
     (λ c. search needs)
-    returns
-    returns-2)
+    (λ c. search network-written)
+    (λ c. search signals-stopped))

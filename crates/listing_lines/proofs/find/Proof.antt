@@ -12,28 +12,16 @@ Inv-loop bytes byte i₀ i = Finding byte bytes i
 abbrev μ-loop : tie.MeasureT-loop
 μ-loop bytes byte i₀ i = length bytes - i
 
-loop-holds : tie.Need-loop-holds Inv-loop μ-loop
-loop-holds c = search find-none
-
-returns : tie.Need-returns Inv-loop μ-loop
-returns c = search find-hit
-
-loop-again : tie.Need-loop-again Inv-loop μ-loop
-loop-again c = search find-more
-
-returns-2 : tie.Need-returns-2 Inv-loop μ-loop
-returns-2 c = search find-past
-
 pub find-spec : {M : Type 1} → statement M
 find-spec =
     tie.close
     (tie.spec
     Inv-loop
     μ-loop
-    loop-holds
+    (λ c. search find-none)
     (λ c. search needs)
-    returns
+    (λ c. search find-hit)
     (λ c. search needs)
     (λ c. search needs)
-    loop-again
-    returns-2)
+    (λ c. search find-more)
+    (λ c. search find-past))

@@ -8,12 +8,6 @@ use Rattle.listing_lines.proofs.fraction_of.Tie as tie
 mul-t7 : tie.Need-mul-t7
 mul-t7 c = omega (arith, fraction-fits _ _ (c .before .before .before .before .digits-of .ensures) _ _ (c .before .before .value .given .1) (c .scale .ensures))
 
-returns : tie.Need-returns
-returns c = search fraction-is
-
-returns-2 : tie.Need-returns-2
-returns-2 c = search fraction-none
-
 pub fraction-of-spec : {M : Type 1} → statement M
 fraction-of-spec =
     tie.close
@@ -23,5 +17,5 @@ fraction-of-spec =
     (λ c κs. search needs)
     mul-t7
     (λ c. search needs)
-    returns
-    returns-2)
+    (λ c. search fraction-is)
+    (λ c. search fraction-none))

@@ -4,11 +4,5 @@ use borrow.Author.Needs.{needs}
 use Rattle.listing_lines.proofs.index_of.Statement.{statement}
 use Rattle.listing_lines.proofs.index_of.Tie as tie
 
-returns : tie.Need-returns
-returns c = search index-zero
-
-returns-2 : tie.Need-returns-2
-returns-2 c = search index-is
-
 pub index-of-spec : {M : Type 1} → statement M
-index-of-spec = tie.close (tie.spec (λ c κs. search needs) returns (λ c κs. search needs) returns-2)
+index-of-spec = tie.close (tie.spec (λ c κs. search needs) (λ c. search index-zero) (λ c κs. search needs) (λ c. search index-is))

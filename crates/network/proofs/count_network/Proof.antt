@@ -4,9 +4,6 @@ use Rattle.network.proofs.Counting.{few, counted-told, refused-told}
 use Rattle.network.proofs.count_network.Statement.{statement}
 use Rattle.network.proofs.count_network.Tie as tie
 
-counted-requires : tie.Need-counted-requires
-counted-requires c κs = search (few, needs)
-
 returns : tie.Need-returns
 returns c = counted-told (c .before .before .before .before .before .before .before .load-network .ensures) (c .before .before .reading .given .1) (c .counted .ensures)
 
@@ -22,7 +19,7 @@ count-network-spec =
     (λ c. search needs)
     (λ c κs. search needs)
     (λ c. search needs)
-    counted-requires
+    (λ c κs. search (few, needs))
     (λ c. search needs)
     returns
     returns-2)

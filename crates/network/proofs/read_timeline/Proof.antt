@@ -5,9 +5,6 @@ use borrow.Author.Needs.{needs}
 use Rattle.network.proofs.read_timeline.Statement.{statement}
 use Rattle.network.proofs.read_timeline.Tie as tie
 
-read-past-requires : tie.Need-read-past-requires
-read-past-requires c κs = search (forms-asked, needs)
-
 returns : tie.Need-returns
 returns c = forms-stop (c .before .before .before .before .before .before .before .before .before .pre) (c .before .before .before .before .read-past .ensures) (c .enum-told .given .1)
 
@@ -36,7 +33,7 @@ pub read-timeline-spec : {M : Type 1} → statement M
 read-timeline-spec =
     tie.close
     (tie.spec
-    read-past-requires
+    (λ c κs. search (forms-asked, needs))
     (λ c. search needs)
     (λ c. search needs)
     (λ c. search needs)

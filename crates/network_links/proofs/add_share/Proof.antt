@@ -4,24 +4,15 @@ use Rattle.network_links.proofs.Shares.{share-first, share-past, share-
 use Rattle.network_links.proofs.add_share.Statement.{statement}
 use Rattle.network_links.proofs.add_share.Tie as tie
 
-returns : tie.Need-returns
-returns c = search (share-first, needs)
-
-returns-2 : tie.Need-returns-2
-returns-2 c = search (share-past, needs)
-
 add-sums : tie.Need-add-sums
 add-sums c = let h = share-fits {from = c .before .before .before .before .before .args .from} (c .before .before .before .before .before .pre) (search needs) (search needs) in search needs
-
-returns-3 : tie.Need-returns-3
-returns-3 c = search (share-own, needs)
 
 pub add-share-spec : {M : Type 1} → statement M
 add-share-spec =
     tie.close
     (tie.spec
-    returns
-    returns-2
+    (λ c. search (share-first, needs))
+    (λ c. search (share-past, needs))
     (λ c. search needs)
     (λ c. search needs)
     (λ c. search needs)
@@ -30,4 +21,4 @@ add-share-spec =
     (λ c. search needs)
     (λ c. search needs)
     (λ c. search needs)
-    returns-3)
+    (λ c. search (share-own, needs)))

@@ -11,17 +11,8 @@ Inv-loop movements count sums₀ j₀ sums j = SumsTo movements count sums j
 abbrev μ-loop : tie.MeasureT-loop
 μ-loop movements count sums₀ j₀ sums j = count - j
 
-loop-holds : tie.Need-loop-holds Inv-loop μ-loop
-loop-holds c = search (sums-begin, needs)
-
-add-share-requires : tie.Need-add-share-requires Inv-loop μ-loop
-add-share-requires c κs = search (add-asked, needs)
-
 loop-again : tie.Need-loop-again Inv-loop μ-loop
 loop-again c = sums-next (c .before .before .before .before .before .before .before .before .before .before .before .pre) (c .before .before .before .before .before .before .before .before .loop .inv) (search needs) (search needs) (c .before .before .before .before .before .before .link-of .ensures) (c .before .before .before .before .before .index .ensures .0) (c .before .before .before .before .share .ensures) (c .before .before .add-share .ensures)
-
-returns : tie.Need-returns Inv-loop μ-loop
-returns c = search (sums-done, needs)
 
 pub add-shares-spec : {M : Type 1} → statement M
 add-shares-spec =
@@ -29,13 +20,13 @@ add-shares-spec =
     (tie.spec
     Inv-loop
     μ-loop
-    loop-holds
+    (λ c. search (sums-begin, needs))
     (λ c κs. search needs)
     (λ c κs. search needs)
     (λ c κs. search needs)
-    add-share-requires
+    (λ c κs. search (add-asked, needs))
     (λ c. search needs)
     (λ c. search needs)
     loop-again
     (λ c. search needs)
-    returns)
+    (λ c. search (sums-done, needs)))

@@ -16,23 +16,11 @@ Inv-loop movements reading counts count sums i₀ i = PassedTo (reading .counts 
 abbrev μ-loop : tie.MeasureT-loop
 μ-loop movements reading counts count sums i₀ i = counts .links - i
 
-add-shares-requires : tie.Need-add-shares-requires Inv-loop μ-loop
-add-shares-requires c κs = sums-asked (c .before .before .before .pre) refl
-
-loop-holds : tie.Need-loop-holds Inv-loop μ-loop
-loop-holds c = search (passed-none, needs)
-
 valid-shares-requires : tie.Need-valid-shares-requires Inv-loop μ-loop
 valid-shares-requires c κs = (search needs, sum-at (c .before .before .before .before .before .before .before .before .pre) (c .before .before .before .before .add-shares .ensures) (c .before .before .loop .i) (search needs))
 
-returns : tie.Need-returns Inv-loop μ-loop
-returns c = search (shares-broken, needs)
-
 loop-again : tie.Need-loop-again Inv-loop μ-loop
 loop-again c = shares-next (c .before .before .before .before .before .before .before .before .before .before .args .movements .now) (c .before .before .before .before .before .before .before .before .before .before .args .reading) (c .before .before .before .before .loop .inv) (search needs) (c .before .valid-shares .ensures) (c .if2 .left)
-
-returns-2 : tie.Need-returns-2 Inv-loop μ-loop
-returns-2 c = search (shares-done, needs)
 
 pub check-shares-spec : {M : Type 1} → statement M
 check-shares-spec =
@@ -41,8 +29,8 @@ check-shares-spec =
     Inv-loop
     μ-loop
     (λ c. search needs)
-    add-shares-requires
-    loop-holds
+    (λ c κs. sums-asked (c .before .before .before .pre) refl)
+    (λ c. search (passed-none, needs))
     (λ c. search needs)
     (λ c. search needs)
     (λ c. search needs)
@@ -51,8 +39,8 @@ check-shares-spec =
     (λ c κs. search needs)
     (λ c κs. search needs)
     (λ c κs. search needs)
-    returns
+    (λ c. search (shares-broken, needs))
     (λ c. search needs)
     (λ c. search needs)
     loop-again
-    returns-2)
+    (λ c. search (shares-done, needs)))

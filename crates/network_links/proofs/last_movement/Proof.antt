@@ -21,9 +21,6 @@ loop-holds c = (search needs, refl, search needs)
 loop-again : tie.Need-loop-again Inv-loop μ-loop
 loop-again c = ⊎-elim (λ w. search (last-here, needs)) (λ w. search (last-other, needs)) (c .if1 .came)
 
-returns : tie.Need-returns Inv-loop μ-loop
-returns c = search (last-all, needs)
-
 pub last-movement-spec : {M : Type 1} → statement M
 last-movement-spec =
     tie.close
@@ -37,4 +34,4 @@ last-movement-spec =
     (λ c. search needs)
     (λ c. search needs)
     loop-again
-    returns)
+    (λ c. search (last-all, needs)))

@@ -4,21 +4,15 @@ use Rattle.network_links.proofs.Movements.{pair-first, pair-later}
 use Rattle.network_links.proofs.pair_rises.Statement.{statement}
 use Rattle.network_links.proofs.pair_rises.Tie as tie
 
-returns : tie.Need-returns
-returns c = search (pair-first, needs)
-
-returns-2 : tie.Need-returns-2
-returns-2 c = search (pair-later, needs)
-
 pub pair-rises-spec : {M : Type 1} → statement M
 pair-rises-spec =
     tie.close
     (tie.spec
-    returns
+    (λ c. search (pair-first, needs))
     (λ c. search needs)
     (λ c κs. search needs)
     (λ c κs. search needs)
     (λ c. search needs)
     (λ c κs. search needs)
     (λ c κs. search needs)
-    returns-2)
+    (λ c. search (pair-later, needs)))

@@ -14,31 +14,13 @@ Inv-loop text reading phases links₀ counts place₀ i₀ links place i = Table
 abbrev μ-loop : tie.MeasureT-loop
 μ-loop text reading phases links₀ counts place₀ i₀ links place i = counts .links - i
 
-loop-holds : tie.Need-loop-holds Inv-loop μ-loop
-loop-holds c = search (links-begin, needs)
-
-returns : tie.Need-returns Inv-loop μ-loop
-returns c = search (links-malformed, needs)
-
-valid-link-requires : tie.Need-valid-link-requires Inv-loop μ-loop
-valid-link-requires c κs = search (link-asked, needs)
-
-returns-2 : tie.Need-returns-2 Inv-loop μ-loop
-returns-2 c = search (links-invalid, needs)
-
-loop-again : tie.Need-loop-again Inv-loop μ-loop
-loop-again c = search (links-next, needs)
-
-returns-3 : tie.Need-returns-3 Inv-loop μ-loop
-returns-3 c = search (links-done, needs)
-
 pub read-links-spec : {M : Type 1} → statement M
 read-links-spec =
     tie.close
     (tie.spec
     Inv-loop
     μ-loop
-    loop-holds
+    (λ c. search (links-begin, needs))
     (λ c κs. search needs)
     (λ c. search needs)
     (λ c. search needs)
@@ -47,15 +29,15 @@ read-links-spec =
     (λ c. search needs)
     (λ c κs. search needs)
     (λ c. search needs)
-    returns
-    valid-link-requires
+    (λ c. search (links-malformed, needs))
+    (λ c κs. search (link-asked, needs))
     (λ c. search needs)
     (λ c κs. search needs)
     (λ c. search needs)
-    returns-2
+    (λ c. search (links-invalid, needs))
     (λ c. search needs)
     (λ c. search needs)
-    loop-again
+    (λ c. search (links-next, needs))
     (λ c κs. search needs)
     (λ c. search needs)
-    returns-3)
+    (λ c. search (links-done, needs)))

@@ -14,31 +14,13 @@ Inv-loop text reading movements₀ counts place₀ j₀ movements place j = Tabl
 abbrev μ-loop : tie.MeasureT-loop
 μ-loop text reading movements₀ counts place₀ j₀ movements place j = counts .movements - j
 
-loop-holds : tie.Need-loop-holds Inv-loop μ-loop
-loop-holds c = search (movements-begin, needs)
-
-returns : tie.Need-returns Inv-loop μ-loop
-returns c = search (movements-malformed, needs)
-
-valid-movement-requires : tie.Need-valid-movement-requires Inv-loop μ-loop
-valid-movement-requires c κs = search (movement-asked, needs)
-
-returns-2 : tie.Need-returns-2 Inv-loop μ-loop
-returns-2 c = search (movements-invalid, needs)
-
-loop-again : tie.Need-loop-again Inv-loop μ-loop
-loop-again c = search (movements-next, needs)
-
-returns-3 : tie.Need-returns-3 Inv-loop μ-loop
-returns-3 c = search (movements-done, needs)
-
 pub read-movements-spec : {M : Type 1} → statement M
 read-movements-spec =
     tie.close
     (tie.spec
     Inv-loop
     μ-loop
-    loop-holds
+    (λ c. search (movements-begin, needs))
     (λ c κs. search needs)
     (λ c. search needs)
     (λ c. search needs)
@@ -47,15 +29,15 @@ read-movements-spec =
     (λ c. search needs)
     (λ c κs. search needs)
     (λ c. search needs)
-    returns
-    valid-movement-requires
+    (λ c. search (movements-malformed, needs))
+    (λ c κs. search (movement-asked, needs))
     (λ c. search needs)
     (λ c κs. search needs)
     (λ c. search needs)
-    returns-2
+    (λ c. search (movements-invalid, needs))
     (λ c. search needs)
     (λ c. search needs)
-    loop-again
+    (λ c. search (movements-next, needs))
     (λ c κs. search needs)
     (λ c. search needs)
-    returns-3)
+    (λ c. search (movements-done, needs)))

@@ -4,9 +4,6 @@ use Rattle.network_links.proofs.Movements.{movement-tested}
 use Rattle.network_links.proofs.valid_movement.Statement.{statement}
 use Rattle.network_links.proofs.valid_movement.Tie as tie
 
-returns : tie.Need-returns
-returns c = search (movement-tested, needs)
-
 pub valid-movement-spec : {M : Type 1} → statement M
 valid-movement-spec =
     tie.close
@@ -18,4 +15,4 @@ valid-movement-spec =
     (λ c κs. search needs)
     (λ c κs. search needs)
     (λ c κs. search needs)
-    returns)
+    (λ c. search (movement-tested, needs)))

@@ -4,11 +4,5 @@ use Rattle.network_links.proofs.Movements.{shares-whole, shares-short}
 use Rattle.network_links.proofs.valid_shares.Statement.{statement}
 use Rattle.network_links.proofs.valid_shares.Tie as tie
 
-returns : tie.Need-returns
-returns c = search (shares-whole, needs)
-
-returns-2 : tie.Need-returns-2
-returns-2 c = search (shares-short, needs)
-
 pub valid-shares-spec : {M : Type 1} → statement M
-valid-shares-spec = tie.close (tie.spec returns (λ c κs. search needs) returns-2)
+valid-shares-spec = tie.close (tie.spec (λ c. search (shares-whole, needs)) (λ c κs. search needs) (λ c. search (shares-short, needs)))

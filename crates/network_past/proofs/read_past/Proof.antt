@@ -12,20 +12,8 @@ Inv-loop text reading times₀ counts fields₀ place₀ timed₀ m₀ times fie
 abbrev μ-loop : tie.MeasureT-loop
 μ-loop text reading times₀ counts fields₀ place₀ timed₀ m₀ times fields place timed m = counts .past - m
 
-loop-holds : tie.Need-loop-holds Inv-loop μ-loop
-loop-holds c = search (forms-begin, needs)
-
-returns : tie.Need-returns Inv-loop μ-loop
-returns c = search (forms-malformed, needs)
-
-next-time-requires : tie.Need-next-time-requires Inv-loop μ-loop
-next-time-requires c κs = search (time-asked, needs)
-
 loop-again : tie.Need-loop-again Inv-loop μ-loop
 loop-again c = forms-next (c .before .before .before .before .before .before .before .before .before .before .before .before .before .before .before .before .before .before .before .pre) (c .before .before .before .before .before .before .before .before .before .before .before .before .before .before .loop .inv) (search needs) (c .before .before .before .before .before .before .before .before .read-row .ensures) (c .before .before .before .before .before .read .given .1) refl (c .before .before .next-time .ensures)
-
-returns-2 : tie.Need-returns-2 Inv-loop μ-loop
-returns-2 c = search (forms-done, needs)
 
 pub read-past-spec : {M : Type 1} → statement M
 read-past-spec =
@@ -35,7 +23,7 @@ read-past-spec =
     μ-loop
     (λ c. search needs)
     (λ c. search needs)
-    loop-holds
+    (λ c. search (forms-begin, needs))
     (λ c κs. search needs)
     (λ c. search needs)
     (λ c. search needs)
@@ -46,11 +34,11 @@ read-past-spec =
     (λ c. search needs)
     (λ c κs. search needs)
     (λ c. search needs)
-    returns
+    (λ c. search (forms-malformed, needs))
     (λ c. search needs)
-    next-time-requires
+    (λ c κs. search (time-asked, needs))
     (λ c. search needs)
     (λ c. search needs)
     loop-again
     (λ c. search needs)
-    returns-2)
+    (λ c. search (forms-done, needs)))

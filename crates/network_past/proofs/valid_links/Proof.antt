@@ -14,17 +14,11 @@ Inv-loop counts links times demands row arrivals curves valid₀ i₀ valid i = 
 abbrev μ-loop : tie.MeasureT-loop
 μ-loop counts links times demands row arrivals curves valid₀ i₀ valid i = counts .links - i
 
-loop-holds : tie.Need-loop-holds Inv-loop μ-loop
-loop-holds c = search (links-none, needs)
-
 loop-again : tie.Need-loop-again Inv-loop μ-loop
 unfolding _and_
 loop-again c = search (links-more, needs)
 
-returns : tie.Need-returns Inv-loop μ-loop
-returns c = search (links-all, needs)
-
 pub valid-links-spec : {M : Type 1} → statement M
 valid-links-spec =
     tie.close
-    (tie.spec Inv-loop μ-loop loop-holds (λ c κs. search needs) (λ c. search needs) (λ c. search needs) loop-again returns)
+    (tie.spec Inv-loop μ-loop (λ c. search (links-none, needs)) (λ c κs. search needs) (λ c. search needs) (λ c. search needs) loop-again (λ c. search (links-all, needs)))

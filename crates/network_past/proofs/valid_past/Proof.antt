@@ -7,9 +7,6 @@ use borrow.Author.Needs.{needs}
 use Rattle.network_past.proofs.valid_past.Statement.{statement}
 use Rattle.network_past.proofs.valid_past.Tie as tie
 
-seconds-requires : tie.Need-seconds-requires
-seconds-requires c κs = search (step-room, needs)
-
 elapsed-requires : tie.Need-elapsed-requires
 elapsed-requires c κs = elapsed-room (c .before .before .before .before .before .before .before .before .before .pre) refl
 
@@ -26,7 +23,7 @@ valid-past-spec =
     (tie.spec
     (λ c. search needs)
     (λ c. search needs)
-    seconds-requires
+    (λ c κs. search (step-room, needs))
     (λ c κs. search needs)
     elapsed-requires
     (λ c. search needs)

@@ -3,9 +3,6 @@ use borrow.Author.Needs.{needs}
 use Rattle.network_signals.proofs.counts_from.Statement.{statement}
 use Rattle.network_signals.proofs.counts_from.Tie as tie
 
-returns : tie.Need-returns
-returns c = cc
-
 pub counts-from-spec : {M : Type 1} → statement M
 counts-from-spec =
     tie.close
@@ -22,4 +19,4 @@ counts-from-spec =
     (λ c κs. search needs)
     (λ c. search needs)
     (λ c κs. search needs)
-    returns)
+    (λ c. cc))

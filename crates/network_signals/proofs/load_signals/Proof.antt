@@ -12,9 +12,6 @@ Inv-loop text reading signals₀ counts place₀ r₀ signals place r = LoadedTo
 abbrev μ-loop : tie.MeasureT-loop
 μ-loop text reading signals₀ counts place₀ r₀ signals place r = counts .signals - r
 
-loop-holds : tie.Need-loop-holds Inv-loop μ-loop
-loop-holds c = search (loaded-none, needs)
-
 mul-start : tie.Need-mul-start Inv-loop μ-loop
 mul-start c = omega (arith, c .before .before .before .before .before .before .pre .on-text .counted .few .signals)
 
@@ -24,20 +21,11 @@ add-end c = omega (arith, c .before .before .before .before .before .before .pre
 part-read-signal-end : tie.Need-part-read-signal-end Inv-loop μ-loop
 part-read-signal-end c = omega (arith, c .before .before .before .loop .inv .table .size, c .before .before .before .before .before .before .before .pre .on-text .counted .few .signals)
 
-read-signal-requires : tie.Need-read-signal-requires Inv-loop μ-loop
-read-signal-requires c κs = search (loaded-asked, needs)
-
-returns : tie.Need-returns Inv-loop μ-loop
-returns c = search (loaded-stop, needs)
-
 add-r : tie.Need-add-r Inv-loop μ-loop
 add-r c = omega (arith, c .before .before .before .before .before .before .before .before .before .before .before .before .before .before .pre .on-text .counted .few .signals)
 
 loop-again : tie.Need-loop-again Inv-loop μ-loop
 loop-again c = loaded-next (c .before .before .before .before .before .before .before .before .before .before .before .before .before .before .pre) (c .before .before .before .before .before .before .before .before .before .before .loop .inv) (c .before .before .before .before .before .before .before .before .if1 .taken) (c .before .before .before .before .before .read-signal .kept .1 .1 .1 .0) (c .before .before .before .before .before .read-signal .ensures) (c .before .stage .given .1)
-
-returns-2 : tie.Need-returns-2 Inv-loop μ-loop
-returns-2 c = search (loaded-all, needs)
 
 pub load-signals-spec : {M : Type 1} → statement M
 load-signals-spec =
@@ -45,7 +33,7 @@ load-signals-spec =
     (tie.spec
     Inv-loop
     μ-loop
-    loop-holds
+    (λ c. search (loaded-none, needs))
     mul-start
     add-end
     (λ c κs. search needs)
@@ -53,13 +41,13 @@ load-signals-spec =
     (λ c. search needs)
     (λ c. search needs)
     part-read-signal-end
-    read-signal-requires
+    (λ c κs. search (loaded-asked, needs))
     (λ c. search needs)
     (λ c. search needs)
     (λ c. search needs)
-    returns
+    (λ c. search (loaded-stop, needs))
     add-r
     (λ c. search needs)
     loop-again
     (λ c. search needs)
-    returns-2)
+    (λ c. search (loaded-all, needs)))

@@ -5,21 +5,6 @@ use Rattle.network_signals.proofs.Lines.{stop-head, stop-phases, whole-
 use Rattle.network_signals.proofs.read_signal.Statement.{statement}
 use Rattle.network_signals.proofs.read_signal.Tie as tie
 
-returns : tie.Need-returns
-returns c = search (stop-head, needs)
-
-returns-2 : tie.Need-returns-2
-returns-2 c = search (stop-phases, needs)
-
-read-row-requires : tie.Need-read-row-requires
-read-row-requires c κs = search (whole-fits, needs)
-
-returns-3 : tie.Need-returns-3
-returns-3 c = search (stop-form, needs)
-
-valid-signal-requires : tie.Need-valid-signal-requires
-valid-signal-requires c κs = search (few-phases, needs)
-
 new-requires-4 : tie.Need-new-requires-4
 new-requires-4 c κs = omega (arith, c .before .before .before .before .before .before .before .before .before .before .before .before .before .before .before .before .before .before .before .before .signal-line .ensures, c .before .before .before .before .before .before .before .before .before .before .before .before .before .before .before .before .before .before .before .before .before .before .before .before .pre .few, c .before .before .before .before .before .before .before .before .before .before .before .before .before .before .before .before .before .before .before .before .before .before .before .before .pre .counted .few .trams)
 
@@ -45,24 +30,24 @@ read-signal-spec =
     (λ c κs. search needs)
     (λ c κs. search needs)
     (λ c. search needs)
-    returns
+    (λ c. search (stop-head, needs))
     (λ c. search needs)
     (λ c κs. search needs)
     (λ c κs. search needs)
     (λ c. search needs)
     (λ c κs. search needs)
     (λ c. search needs)
-    returns-2
+    (λ c. search (stop-phases, needs))
     (λ c. search needs)
     (λ c. search needs)
-    read-row-requires
+    (λ c κs. search (whole-fits, needs))
     (λ c. search needs)
     (λ c. search needs)
     (λ c κs. search needs)
     (λ c. search needs)
-    returns-3
+    (λ c. search (stop-form, needs))
     (λ c κs. search needs)
-    valid-signal-requires
+    (λ c κs. search (few-phases, needs))
     (λ c. search needs)
     new-requires-4
     (λ c. search needs)

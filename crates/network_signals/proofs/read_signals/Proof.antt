@@ -12,9 +12,6 @@ Inv-loop text reading phases₀ signals₀ counts place₀ shortest₀ r₀ phas
 abbrev μ-loop : tie.MeasureT-loop
 μ-loop text reading phases₀ signals₀ counts place₀ shortest₀ r₀ phases signals place shortest r = counts .signals - r
 
-loop-holds : tie.Need-loop-holds Inv-loop μ-loop
-loop-holds c = signals-begin (c .before .before .before .before .pre)
-
 mul-start : tie.Need-mul-start Inv-loop μ-loop
 mul-start c = omega (arith, c .if1 .taken, c .before .before .before .before .before .before .before .pre .counted .few .signals)
 
@@ -57,7 +54,7 @@ read-signals-spec =
     (tie.spec
     Inv-loop
     μ-loop
-    loop-holds
+    (λ c. signals-begin (c .before .before .before .before .pre))
     mul-start
     add-end
     (λ c κs. search needs)

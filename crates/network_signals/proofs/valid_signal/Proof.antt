@@ -6,12 +6,6 @@ use Rattle.network_signals.proofs.Values.{shown-below, shown-above, sho
 use Rattle.network_signals.proofs.valid_signal.Statement.{statement}
 use Rattle.network_signals.proofs.valid_signal.Tie as tie
 
-returns : tie.Need-returns
-returns c = sym (shown-below (c .before .args .t1) (c .if1 .taken))
-
-returns-2 : tie.Need-returns-2
-returns-2 c = sym (shown-above (c .before .before .args .t1) (c .if2 .taken))
-
 returns-3 : tie.Need-returns-3
 returns-3 c =
     let s = c .before .before .before .before .args .t1 in
@@ -21,8 +15,8 @@ pub valid-signal-spec : {M : Type 1} → statement M
 valid-signal-spec =
     tie.close
     (tie.spec
-    returns
-    returns-2
+    (λ c. sym (shown-below (c .before .args .t1) (c .if1 .taken)))
+    (λ c. sym (shown-above (c .before .before .args .t1) (c .if2 .taken)))
     (λ c. search needs)
     (λ c. search needs)
     (λ c κs. search needs)

@@ -11,33 +11,21 @@ Inv-loop step links demands₀ i₀ demands i = AddedTo step links demands₀ de
 abbrev μ-loop : tie.MeasureT-loop
 μ-loop step links demands₀ i₀ demands i = links - i
 
-loop-holds : tie.Need-loop-holds Inv-loop μ-loop
-loop-holds c = search (add-begin, needs)
-
-add-demands : tie.Need-add-demands Inv-loop μ-loop
-add-demands c = search (add-fits, needs)
-
-loop-again : tie.Need-loop-again Inv-loop μ-loop
-loop-again c = search (add-next, needs)
-
-returns : tie.Need-returns Inv-loop μ-loop
-returns c = search (add-done, needs)
-
 pub add-demands-spec : {M : Type 1} → statement M
 add-demands-spec =
     tie.close
     (tie.spec
     Inv-loop
     μ-loop
-    loop-holds
+    (λ c. search (add-begin, needs))
     (λ c. search needs)
     (λ c. search needs)
     (λ c κs. search needs)
-    add-demands
+    (λ c. search (add-fits, needs))
     (λ c. search needs)
     (λ c. search needs)
     (λ c. search needs)
     (λ c. search needs)
-    loop-again
+    (λ c. search (add-next, needs))
     (λ c. search needs)
-    returns)
+    (λ c. search (add-done, needs)))

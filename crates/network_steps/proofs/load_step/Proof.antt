@@ -4,12 +4,6 @@ use Rattle.network_steps.proofs.Steps.{load-next, load-never}
 use Rattle.network_steps.proofs.load_step.Statement.{statement}
 use Rattle.network_steps.proofs.load_step.Tie as tie
 
-returns : tie.Need-returns
-returns c = search (load-next, needs)
-
-returns-2 : tie.Need-returns-2
-returns-2 c = search (load-never, needs)
-
 pub load-step-spec : {M : Type 1} → statement M
 load-step-spec =
     tie.close
@@ -19,6 +13,6 @@ load-step-spec =
     (λ c. search needs)
     (λ c. search needs)
     (λ c. search needs)
-    returns
+    (λ c. search (load-next, needs))
     (λ c. search needs)
-    returns-2)
+    (λ c. search (load-never, needs)))

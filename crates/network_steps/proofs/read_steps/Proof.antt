@@ -12,26 +12,11 @@ Inv-loop text reading times₀ demands₀ counts links step₀ place₀ n₀ tim
 abbrev μ-loop : tie.MeasureT-loop
 μ-loop text reading times₀ demands₀ counts links step₀ place₀ n₀ times demands step place n = counts .steps - n
 
-loop-holds : tie.Need-loop-holds Inv-loop μ-loop
-loop-holds c = search (steps-begin, needs)
-
-returns : tie.Need-returns Inv-loop μ-loop
-returns c = search (steps-malformed, needs)
-
-returns-2 : tie.Need-returns-2 Inv-loop μ-loop
-returns-2 c = search (steps-invalid, needs)
-
-next-time-requires : tie.Need-next-time-requires Inv-loop μ-loop
-next-time-requires c κs = search (time-asked, needs)
-
 add-demands-requires : tie.Need-add-demands-requires Inv-loop μ-loop
 add-demands-requires c κs = add-asked (c .before .before .before .before .before .before .before .before .before .before .before .before .before .before .before .before .before .before .before .before .before .before .before .before .before .before .pre) (c .before .before .before .before .before .before .before .before .before .before .before .before .before .before .before .before .before .before .before .before .before .loop .inv) (search needs) (c .before .before .before .before .before .before .before .before .before .before .before .before .before .before .before .before .read-row .ensures) (c .before .before .before .before .before .before .before .before .before .before .before .before .before .read .given .1) (c .before .before .before .before .before .before .before .before .before .before .valid-step .ensures) (c .before .before .before .before .before .before .before .before .before .if2 .left)
 
 loop-again : tie.Need-loop-again Inv-loop μ-loop
 loop-again c = steps-next (c .before .before .before .before .before .before .before .before .before .before .before .before .before .before .before .before .before .before .before .before .before .before .before .before .before .before .before .before .before .pre) (c .before .before .before .before .before .before .before .before .before .before .before .before .before .before .before .before .before .before .before .before .before .before .before .before .loop .inv) (search needs) (c .before .before .before .before .before .before .before .before .before .before .before .before .before .before .before .before .before .before .before .read-row .ensures) (c .before .before .before .before .before .before .before .before .before .before .before .before .before .before .before .before .read .given .1) (c .before .before .before .before .before .before .before .before .before .before .before .before .before .valid-step .ensures) (c .before .before .before .before .before .before .before .before .before .before .before .before .if2 .left) (c .before .before .before .before .before .before .before .before .before .before .step-length .ensures) refl (c .before .before .before .before .before .before .before .next-time .ensures) (c .before .before .add-demands .ensures)
-
-returns-3 : tie.Need-returns-3 Inv-loop μ-loop
-returns-3 c = search (steps-done, needs)
 
 pub read-steps-spec : {M : Type 1} → statement M
 read-steps-spec =
@@ -39,7 +24,7 @@ read-steps-spec =
     (tie.spec
     Inv-loop
     μ-loop
-    loop-holds
+    (λ c. search (steps-begin, needs))
     (λ c κs. search needs)
     (λ c. search needs)
     (λ c. search needs)
@@ -50,18 +35,18 @@ read-steps-spec =
     (λ c κs. search needs)
     (λ c. search needs)
     (λ c. search needs)
-    returns
+    (λ c. search (steps-malformed, needs))
     (λ c. search needs)
     (λ c κs. search needs)
     (λ c. search needs)
     (λ c κs. search needs)
     (λ c. search needs)
     (λ c. search needs)
-    returns-2
+    (λ c. search (steps-invalid, needs))
     (λ c. search needs)
     (λ c κs. search needs)
     (λ c. search needs)
-    next-time-requires
+    (λ c κs. search (time-asked, needs))
     (λ c. search needs)
     add-demands-requires
     (λ c. search needs)
@@ -69,4 +54,4 @@ read-steps-spec =
     loop-again
     (λ c. search needs)
     (λ c. search needs)
-    returns-3)
+    (λ c. search (steps-done, needs)))

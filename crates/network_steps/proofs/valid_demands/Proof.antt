@@ -14,28 +14,16 @@ Inv-loop step links i₀ i = (i ≤ links) × (validDemandsIn step i ≡ true)
 abbrev μ-loop : tie.MeasureT-loop
 μ-loop step links i₀ i = links - i
 
-loop-holds : tie.Need-loop-holds Inv-loop μ-loop
-loop-holds c = search (demands-none, needs)
-
-returns : tie.Need-returns Inv-loop μ-loop
-returns c = search (demands-broken, needs)
-
-loop-again : tie.Need-loop-again Inv-loop μ-loop
-loop-again c = search (demands-on, needs)
-
-returns-2 : tie.Need-returns-2 Inv-loop μ-loop
-returns-2 c = search (demands-all, needs)
-
 pub valid-demands-spec : {M : Type 1} → statement M
 valid-demands-spec =
     tie.close
     (tie.spec
     Inv-loop
     μ-loop
-    loop-holds
+    (λ c. search (demands-none, needs))
     (λ c κs. search needs)
-    returns
+    (λ c. search (demands-broken, needs))
     (λ c. search needs)
     (λ c. search needs)
-    loop-again
-    returns-2)
+    (λ c. search (demands-on, needs))
+    (λ c. search (demands-all, needs)))

@@ -11,25 +11,13 @@ Inv-loop line count sums₀ k₀ sums k = SummedTo line count sums₀ sums k
 abbrev μ-loop : tie.MeasureT-loop
 μ-loop line count sums₀ k₀ sums k = count - k
 
-loop-holds : tie.Need-loop-holds Inv-loop μ-loop
-loop-holds c = search sums-begin
-
-returns : tie.Need-returns Inv-loop μ-loop
-returns c = search (sums-over, needs)
-
-loop-again : tie.Need-loop-again Inv-loop μ-loop
-loop-again c = search (sums-next, needs)
-
-returns-2 : tie.Need-returns-2 Inv-loop μ-loop
-returns-2 c = search sums-done
-
 pub add-numbers-spec : {M : Type 1} → statement M
 add-numbers-spec =
     tie.close
     (tie.spec
     Inv-loop
     μ-loop
-    loop-holds
+    (λ c. search sums-begin)
     (λ c. search needs)
     (λ c. search needs)
     (λ c. search needs)
@@ -39,7 +27,7 @@ add-numbers-spec =
     (λ c κs. search needs)
     (λ c. search needs)
     (λ c. search needs)
-    returns
+    (λ c. search (sums-over, needs))
     (λ c. search needs)
     (λ c. search needs)
     (λ c. search needs)
@@ -47,6 +35,6 @@ add-numbers-spec =
     (λ c. search needs)
     (λ c. search needs)
     (λ c. search needs)
-    loop-again
+    (λ c. search (sums-next, needs))
     (λ c. search needs)
-    returns-2)
+    (λ c. search sums-done))

@@ -3,9 +3,6 @@ use borrow.Author.Needs.{needs}
 use Rattle.network_tables.proofs.entered_at.Statement.{statement}
 use Rattle.network_tables.proofs.entered_at.Tie as tie
 
-returns : tie.Need-returns
-returns c = cc
-
 pub entered-at-spec : {M : Type 1} → statement M
 entered-at-spec =
     tie.close
@@ -15,4 +12,4 @@ entered-at-spec =
     (λ c. search needs)
     (λ c. search needs)
     (λ c. search needs)
-    returns)
+    (λ c. cc))

@@ -4,9 +4,6 @@ use borrow.Author.Needs.{needs}
 use Rattle.network_tables.proofs.greatest_time.Statement.{statement}
 use Rattle.network_tables.proofs.greatest_time.Tie as tie
 
-returns : tie.Need-returns
-returns c = search (greatest-time-in, needs)
-
 pub greatest-time-spec : {M : Type 1} → statement M
 greatest-time-spec =
     tie.close
@@ -17,4 +14,4 @@ greatest-time-spec =
     (λ c. search needs)
     (λ c. search needs)
     (λ c. search needs)
-    returns)
+    (λ c. search (greatest-time-in, needs)))

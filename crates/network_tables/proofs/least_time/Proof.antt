@@ -4,9 +4,6 @@ use borrow.Author.Needs.{needs}
 use Rattle.network_tables.proofs.least_time.Statement.{statement}
 use Rattle.network_tables.proofs.least_time.Tie as tie
 
-returns : tie.Need-returns
-returns c = search (least-time-in, needs)
-
 pub least-time-spec : {M : Type 1} → statement M
 least-time-spec =
     tie.close
@@ -17,4 +14,4 @@ least-time-spec =
     (λ c. search needs)
     (λ c. search needs)
     (λ c. search needs)
-    returns)
+    (λ c. search (least-time-in, needs)))

@@ -3,9 +3,6 @@ use borrow.Author.Needs.{needs}
 use Rattle.network_tables.proofs.left_at.Statement.{statement}
 use Rattle.network_tables.proofs.left_at.Tie as tie
 
-returns : tie.Need-returns
-returns c = cc
-
 pub left-at-spec : {M : Type 1} → statement M
 left-at-spec =
     tie.close
@@ -16,4 +13,4 @@ left-at-spec =
     (λ c. search needs)
     (λ c. search needs)
     (λ c. search needs)
-    returns)
+    (λ c. cc))

@@ -4,9 +4,6 @@ use Rattle.network_tables.proofs.Rows.{head-read}
 use Rattle.network_tables.proofs.read_head.Statement.{statement}
 use Rattle.network_tables.proofs.read_head.Tie as tie
 
-returns : tie.Need-returns
-returns c = search (head-read, needs)
-
 pub read-head-spec : {M : Type 1} → statement M
 read-head-spec =
     tie.close
@@ -18,4 +15,4 @@ read-head-spec =
     (λ c. search needs)
     (λ c κs. search needs)
     (λ c. search needs)
-    returns)
+    (λ c. search (head-read, needs)))

@@ -4,9 +4,6 @@ use Rattle.network_tables.proofs.Rows.{row-read}
 use Rattle.network_tables.proofs.read_row.Statement.{statement}
 use Rattle.network_tables.proofs.read_row.Tie as tie
 
-returns : tie.Need-returns
-returns c = search (row-read, needs)
-
 pub read-row-spec : {M : Type 1} → statement M
 read-row-spec =
     tie.close
@@ -18,4 +15,4 @@ read-row-spec =
     (λ c. search needs)
     (λ c κs. search needs)
     (λ c. search needs)
-    returns)
+    (λ c. search (row-read, needs)))

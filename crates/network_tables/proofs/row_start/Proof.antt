@@ -5,8 +5,5 @@ use native.Mathlib.Omega.{arith}
 use Rattle.network_tables.proofs.row_start.Statement.{statement}
 use Rattle.network_tables.proofs.row_start.Tie as tie
 
-mul-result-2 : tie.Need-mul-result-2
-mul-result-2 c = omega (arith, mul-le-mul-right (c .args .count) (c .pre .0))
-
 pub row-start-spec : {M : Type 1} → statement M
-row-start-spec = tie.close (tie.spec (λ c. search needs) mul-result-2 (λ c. search needs))
+row-start-spec = tie.close (tie.spec (λ c. search needs) (λ c. omega (arith, mul-le-mul-right (c .args .count) (c .pre .0))) (λ c. search needs))

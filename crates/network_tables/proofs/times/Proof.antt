@@ -7,8 +7,5 @@ use Rattle.network_tables.proofs.times.Tie as tie
 mul-result : tie.Need-mul-result
 mul-result c = record { fits = below 32 (c .before .wide .ensures .1) (c .wide2 .ensures .1) }
 
-returns : tie.Need-returns
-returns c = rw (c .before .wide .ensures .0, c .wide2 .ensures .0)
-
 pub times-spec : {M : Type 1} → statement M
-times-spec = tie.close (tie.spec (λ c κs. search needs) (λ c κs. search needs) mul-result returns)
+times-spec = tie.close (tie.spec (λ c κs. search needs) (λ c κs. search needs) mul-result (λ c. rw (c .before .wide .ensures .0, c .wide2 .ensures .0)))

@@ -14,34 +14,19 @@ Inv-loop trams phases reading counts k₀ k = PassedTo (reading .counts .trams) 
 abbrev μ-loop : tie.MeasureT-loop
 μ-loop trams phases reading counts k₀ k = counts .trams - k
 
-loop-holds : tie.Need-loop-holds Inv-loop μ-loop
-loop-holds c = search (passed-none, needs)
-
-valid-phase-requires : tie.Need-valid-phase-requires Inv-loop μ-loop
-valid-phase-requires c κs = search (phase-asked, needs)
-
-returns : tie.Need-returns Inv-loop μ-loop
-returns c = search (phases-broken, needs)
-
-loop-again : tie.Need-loop-again Inv-loop μ-loop
-loop-again c = search (phases-next, needs)
-
-returns-2 : tie.Need-returns-2 Inv-loop μ-loop
-returns-2 c = search (phases-done, needs)
-
 pub check-tram-phases-spec : {M : Type 1} → statement M
 check-tram-phases-spec =
     tie.close
     (tie.spec
     Inv-loop
     μ-loop
-    loop-holds
-    valid-phase-requires
+    (λ c. search (passed-none, needs))
+    (λ c κs. search (phase-asked, needs))
     (λ c κs. search needs)
     (λ c. search needs)
     (λ c κs. search needs)
-    returns
+    (λ c. search (phases-broken, needs))
     (λ c. search needs)
     (λ c. search needs)
-    loop-again
-    returns-2)
+    (λ c. search (phases-next, needs))
+    (λ c. search (phases-done, needs)))

@@ -4,12 +4,6 @@ use Rattle.network_trams.proofs.Claims.{claim-made, claim-none}
 use Rattle.network_trams.proofs.claim.Statement.{statement}
 use Rattle.network_trams.proofs.claim.Tie as tie
 
-returns : tie.Need-returns
-returns c = search (claim-made, needs)
-
-returns-2 : tie.Need-returns-2
-returns-2 c = search (claim-none, needs)
-
 pub claim-spec : {M : Type 1} → statement M
 claim-spec =
     tie.close
@@ -27,5 +21,5 @@ claim-spec =
     (λ c. search needs)
     (λ c. search needs)
     (λ c. search needs)
-    returns
-    returns-2)
+    (λ c. search (claim-made, needs))
+    (λ c. search (claim-none, needs)))

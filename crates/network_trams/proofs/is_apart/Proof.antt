@@ -4,9 +4,6 @@ use Rattle.network_trams.proofs.Tested.{apart-tested}
 use Rattle.network_trams.proofs.is_apart.Statement.{statement}
 use Rattle.network_trams.proofs.is_apart.Tie as tie
 
-returns : tie.Need-returns
-returns c = search (apart-tested, needs)
-
 pub is-apart-spec : {M : Type 1} → statement M
 is-apart-spec =
     tie.close
@@ -17,4 +14,4 @@ is-apart-spec =
     (λ c κs. search needs)
     (λ c κs. search needs)
     (λ c κs. search needs)
-    returns)
+    (λ c. search (apart-tested, needs)))

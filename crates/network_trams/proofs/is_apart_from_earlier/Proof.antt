@@ -13,16 +13,7 @@ Inv-loop trams k apart₀ j₀ apart j = (j ≤ k) × (apart ≡ apartFrom trams
 abbrev μ-loop : tie.MeasureT-loop
 μ-loop trams k apart₀ j₀ apart j = k - j
 
-loop-holds : tie.Need-loop-holds Inv-loop μ-loop
-loop-holds c = search (apart-none, needs)
-
-loop-again : tie.Need-loop-again Inv-loop μ-loop
-loop-again c = search (apart-more, needs)
-
-returns : tie.Need-returns Inv-loop μ-loop
-returns c = search (apart-all, needs)
-
 pub is-apart-from-earlier-spec : {M : Type 1} → statement M
 is-apart-from-earlier-spec =
     tie.close
-    (tie.spec Inv-loop μ-loop loop-holds (λ c κs. search needs) (λ c. search needs) (λ c. search needs) loop-again returns)
+    (tie.spec Inv-loop μ-loop (λ c. search (apart-none, needs)) (λ c κs. search needs) (λ c. search needs) (λ c. search needs) (λ c. search (apart-more, needs)) (λ c. search (apart-all, needs)))

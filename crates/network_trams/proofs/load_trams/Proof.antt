@@ -14,33 +14,21 @@ Inv-loop text at count trams₀ place₀ k₀ trams place k = TableTo text (tram
 abbrev μ-loop : tie.MeasureT-loop
 μ-loop text at count trams₀ place₀ k₀ trams place k = count - k
 
-loop-holds : tie.Need-loop-holds Inv-loop μ-loop
-loop-holds c = search (load-begin, needs)
-
-returns : tie.Need-returns Inv-loop μ-loop
-returns c = search (load-never, needs)
-
-loop-again : tie.Need-loop-again Inv-loop μ-loop
-loop-again c = search (load-next, needs)
-
-returns-2 : tie.Need-returns-2 Inv-loop μ-loop
-returns-2 c = search (load-done, needs)
-
 pub load-trams-spec : {M : Type 1} → statement M
 load-trams-spec =
     tie.close
     (tie.spec
     Inv-loop
     μ-loop
-    loop-holds
+    (λ c. search (load-begin, needs))
     (λ c. search needs)
     (λ c κs. search needs)
     (λ c. search needs)
     (λ c. search needs)
     (λ c. search needs)
-    returns
+    (λ c. search (load-never, needs))
     (λ c. search needs)
     (λ c. search needs)
-    loop-again
+    (λ c. search (load-next, needs))
     (λ c. search needs)
-    returns-2)
+    (λ c. search (load-done, needs)))

@@ -14,31 +14,13 @@ Inv-loop text reading trams₀ counts place₀ k₀ trams place k = TableTo text
 abbrev μ-loop : tie.MeasureT-loop
 μ-loop text reading trams₀ counts place₀ k₀ trams place k = counts .trams - k
 
-loop-holds : tie.Need-loop-holds Inv-loop μ-loop
-loop-holds c = search (trams-begin, needs)
-
-returns : tie.Need-returns Inv-loop μ-loop
-returns c = search (trams-malformed, needs)
-
-valid-tram-requires : tie.Need-valid-tram-requires Inv-loop μ-loop
-valid-tram-requires c κs = search (tram-known, needs)
-
-returns-2 : tie.Need-returns-2 Inv-loop μ-loop
-returns-2 c = search (trams-invalid, needs)
-
-loop-again : tie.Need-loop-again Inv-loop μ-loop
-loop-again c = search (trams-next, needs)
-
-returns-3 : tie.Need-returns-3 Inv-loop μ-loop
-returns-3 c = search (trams-done, needs)
-
 pub read-trams-spec : {M : Type 1} → statement M
 read-trams-spec =
     tie.close
     (tie.spec
     Inv-loop
     μ-loop
-    loop-holds
+    (λ c. search (trams-begin, needs))
     (λ c κs. search needs)
     (λ c. search needs)
     (λ c. search needs)
@@ -47,14 +29,14 @@ read-trams-spec =
     (λ c. search needs)
     (λ c κs. search needs)
     (λ c. search needs)
-    returns
-    valid-tram-requires
+    (λ c. search (trams-malformed, needs))
+    (λ c κs. search (tram-known, needs))
     (λ c κs. search needs)
     (λ c. search needs)
-    returns-2
+    (λ c. search (trams-invalid, needs))
     (λ c. search needs)
     (λ c. search needs)
-    loop-again
+    (λ c. search (trams-next, needs))
     (λ c κs. search needs)
     (λ c. search needs)
-    returns-3)
+    (λ c. search (trams-done, needs)))

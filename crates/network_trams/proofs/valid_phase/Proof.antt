@@ -4,9 +4,6 @@ use Rattle.network_trams.proofs.Tested.{phase-tested}
 use Rattle.network_trams.proofs.valid_phase.Statement.{statement}
 use Rattle.network_trams.proofs.valid_phase.Tie as tie
 
-returns : tie.Need-returns
-returns c = search (phase-tested, needs)
-
 pub valid-phase-spec : {M : Type 1} → statement M
 valid-phase-spec =
     tie.close
@@ -17,4 +14,4 @@ valid-phase-spec =
     (λ c. search needs)
     (λ c. search needs)
     (λ c. search needs)
-    returns)
+    (λ c. search (phase-tested, needs)))

@@ -4,9 +4,6 @@ use Rattle.network_trams.proofs.Tested.{tram-tested}
 use Rattle.network_trams.proofs.valid_tram.Statement.{statement}
 use Rattle.network_trams.proofs.valid_tram.Tie as tie
 
-returns : tie.Need-returns
-returns c = search (tram-tested, needs)
-
 pub valid-tram-spec : {M : Type 1} → statement M
 valid-tram-spec =
     tie.close
@@ -18,4 +15,4 @@ valid-tram-spec =
     (λ c κs. search needs)
     (λ c κs. search needs)
     (λ c κs. search needs)
-    returns)
+    (λ c. search (tram-tested, needs)))

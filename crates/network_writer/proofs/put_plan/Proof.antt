@@ -12,26 +12,8 @@ Inv-loop numbers columns counts out₀ row₀ width end₀ n₀ out row end n = 
 abbrev μ-loop : tie.MeasureT-loop
 μ-loop numbers columns counts out₀ row₀ width end₀ n₀ out row end n = counts .steps - n
 
-loop-holds : tie.Need-loop-holds Inv-loop μ-loop
-loop-holds c = search (plan-none, needs)
-
-fill-row-requires : tie.Need-fill-row-requires Inv-loop μ-loop
-fill-row-requires c κs = search (row-asked, needs)
-
-array-share-prefix-row : tie.Need-array-share-prefix-row Inv-loop μ-loop
-array-share-prefix-row c = search (plan-fits, needs)
-
-slice-aggregate-put-line : tie.Need-slice-aggregate-put-line Inv-loop μ-loop
-slice-aggregate-put-line c = search (plan-part, needs)
-
 put-line-requires : tie.Need-put-line-requires Inv-loop μ-loop
 put-line-requires c κs = plan-early (c .before .before .before .before .before .before .before .before .before .before .before .pre) (c .before .before .before .before .before .before .before .loop .inv) (omega arith) (c .before .before .before .fill-row .ensures) (c .before .before .before .before .before .before .before .before .plan-width .ensures)
-
-loop-again : tie.Need-loop-again Inv-loop μ-loop
-loop-again c = search (plan-next, needs)
-
-returns : tie.Need-returns Inv-loop μ-loop
-returns c = search (plan-all, needs)
 
 pub put-plan-spec : {M : Type 1} → statement M
 put-plan-spec =
@@ -40,14 +22,14 @@ put-plan-spec =
     Inv-loop
     μ-loop
     (λ c κs. search needs)
-    loop-holds
+    (λ c. search (plan-none, needs))
     (λ c. search needs)
-    fill-row-requires
-    array-share-prefix-row
-    slice-aggregate-put-line
+    (λ c κs. search (row-asked, needs))
+    (λ c. search (plan-fits, needs))
+    (λ c. search (plan-part, needs))
     put-line-requires
     (λ c. search needs)
     (λ c. search needs)
-    loop-again
+    (λ c. search (plan-next, needs))
     (λ c. search needs)
-    returns)
+    (λ c. search (plan-all, needs)))

@@ -4,12 +4,6 @@ use borrow.Author.Needs.{needs}
 use Rattle.network_writer.proofs.read_again.Statement.{statement}
 use Rattle.network_writer.proofs.read_again.Tie as tie
 
-returns : tie.Need-returns
-returns c = search (again-next, needs)
-
-returns-2 : tie.Need-returns-2
-returns-2 c = search (again-never, needs)
-
 pub read-again-spec : {M : Type 1} → statement M
 read-again-spec =
     tie.close
@@ -18,6 +12,6 @@ read-again-spec =
     (λ c. search needs)
     (λ c. search needs)
     (λ c. search needs)
-    returns
+    (λ c. search (again-next, needs))
     (λ c. search needs)
-    returns-2)
+    (λ c. search (again-never, needs)))

@@ -12,22 +12,13 @@ Inv-loop row numbers₀ k₀ numbers k = WideTo row numbers₀ numbers k
 abbrev μ-loop : tie.MeasureT-loop
 μ-loop row numbers₀ k₀ numbers k = length row - k
 
-loop-holds : tie.Need-loop-holds Inv-loop μ-loop
-loop-holds c = search wide-none
-
-loop-again : tie.Need-loop-again Inv-loop μ-loop
-loop-again c = search (wide-next, needs)
-
-returns : tie.Need-returns Inv-loop μ-loop
-returns c = search wide-all
-
 pub widen-spec : {M : Type 1} → statement M
 widen-spec =
     tie.close
     (tie.spec
     Inv-loop
     μ-loop
-    loop-holds
+    (λ c. search wide-none)
     (λ c. search needs)
     (λ c. search needs)
     (λ c κs. search needs)
@@ -35,6 +26,6 @@ widen-spec =
     (λ c. search needs)
     (λ c. search needs)
     (λ c. search needs)
-    loop-again
+    (λ c. search (wide-next, needs))
     (λ c. search needs)
-    returns)
+    (λ c. search wide-all))

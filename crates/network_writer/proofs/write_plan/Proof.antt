@@ -4,12 +4,6 @@ use borrow.Author.Needs.{needs}
 use Rattle.network_writer.proofs.write_plan.Statement.{statement}
 use Rattle.network_writer.proofs.write_plan.Tie as tie
 
-returns : tie.Need-returns
-returns c = search (told-short, needs)
-
-returns-2 : tie.Need-returns-2
-returns-2 c = search (told-whole, needs)
-
 pub write-plan-spec : {M : Type 1} → statement M
 write-plan-spec =
     tie.close
@@ -17,7 +11,7 @@ write-plan-spec =
     (λ c. search needs)
     (λ c κs. search needs)
     (λ c κs. search needs)
-    returns
+    (λ c. search (told-short, needs))
     (λ c κs. search needs)
     (λ c. search needs)
-    returns-2)
+    (λ c. search (told-whole, needs)))

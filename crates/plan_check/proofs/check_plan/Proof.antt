@@ -6,17 +6,11 @@ use borrow.Author.Needs.{needs}
 use Rattle.plan_check.proofs.check_plan.Statement.{statement}
 use Rattle.plan_check.proofs.check_plan.Tie as tie
 
-load-with-signals-requires : tie.Need-load-with-signals-requires
-load-with-signals-requires c κs = zero-rooms refl (search needs)
-
 judge-with-signals-requires : tie.Need-judge-with-signals-requires
 judge-with-signals-requires c κs = c .before .before .before .before .before .before .before .before .before .before .before .before .load-with-signals .ensures .held _ (c .before .before .before .before .before .before .reading .given .1)
 
 returns : tie.Need-returns
 returns c = plan-promised (plan-refused _ _ _ (c .before .before .before .before .before .before .before .load-with-signals .ensures) (c .before .refusal .given .1))
-
-returns-2 : tie.Need-returns-2
-returns-2 c = plan-promised (c .before .before .before .judge-with-signals .ensures)
 
 pub check-plan-spec : {M : Type 1} → statement M
 check-plan-spec =
@@ -26,7 +20,7 @@ check-plan-spec =
     (λ c. search needs)
     (λ c. search needs)
     (λ c. search needs)
-    load-with-signals-requires
+    (λ c κs. zero-rooms refl (search needs))
     (λ c. search needs)
     (λ c. search needs)
     (λ c. search needs)
@@ -36,4 +30,4 @@ check-plan-spec =
     judge-with-signals-requires
     returns
     (λ c. search needs)
-    returns-2)
+    (λ c. plan-promised (c .before .before .before .judge-with-signals .ensures)))

@@ -6,9 +6,6 @@ use Rattle.plan_check.proofs.judge_plan.Tie as tie
 judge-with-signals-requires : tie.Need-judge-with-signals-requires
 judge-with-signals-requires c κs = c .before .before .before .before .before .before .before .before .before .pre
 
-returns : tie.Need-returns
-returns c = c .before .before .before .judge-with-signals .ensures
-
 pub judge-plan-spec : {M : Type 1} → statement M
 judge-plan-spec =
     tie.close
@@ -16,4 +13,4 @@ judge-plan-spec =
     (λ c. search needs)
     judge-with-signals-requires
     (λ c. search needs)
-    returns)
+    (λ c. c .before .before .before .judge-with-signals .ensures))

@@ -4,9 +4,6 @@ use Rattle.plan_compare.proofs.Call.{first-refused, second-refused, tex
 use Rattle.plan_compare.proofs.compare_on_network.Statement.{statement}
 use Rattle.plan_compare.proofs.compare_on_network.Tie as tie
 
-returns : tie.Need-returns
-returns c = search (first-refused, needs)
-
 order-of-texts-requires : tie.Need-order-of-texts-requires
 order-of-texts-requires c κs =
     let f = c .before .before .before .before .before .before .before .before .before .before .before .before .before in
@@ -39,7 +36,7 @@ compare-on-network-spec =
     (λ c. search needs)
     (λ c. search needs)
     (λ c. search needs)
-    returns
+    (λ c. search (first-refused, needs))
     (λ c κs. search needs)
     (λ c. search needs)
     (λ c. search needs)

@@ -6,11 +6,8 @@ use borrow.Author.Needs.{needs}
 use Rattle.plan_compare.proofs.gap_between.Statement.{statement}
 use Rattle.plan_compare.proofs.gap_between.Tie as tie
 
-sub-result : tie.Need-sub-result
-sub-result c = gap-fits _ _ (c .pre .0) (c .pre .1)
-
 returns : tie.Need-returns
 returns c = toZ-ofZ (gap-fits _ _ (c .pre .0) (c .pre .1)) ∙ gap-formed _ _ (c .pre .0) (c .pre .1)
 
 pub gap-between-spec : {M : Type 1} → statement M
-gap-between-spec = tie.close (tie.spec (λ c. search needs) (λ c. search needs) sub-result returns)
+gap-between-spec = tie.close (tie.spec (λ c. search needs) (λ c. search needs) (λ c. gap-fits _ _ (c .pre .0) (c .pre .1)) returns)

@@ -16,17 +16,11 @@ abbrev μ-loop : tie.MeasureT-loop
 μ-loop first second counts one₀ other₀ first-never-fewer₀ second-never-fewer₀ one other first-never-fewer second-never-fewer =
     counts .steps - one .boundary
 
-loop-holds : tie.Need-loop-holds Inv-loop μ-loop
-loop-holds c = read-none _ _ _
-
 next-boundary-requires : tie.Need-next-boundary-requires Inv-loop μ-loop
 next-boundary-requires c κs = next-asked (c .before .before .before .before .before .before .pre) (c .before .before .before .loop .inv) (c .if1 .taken) .0
 
 next-boundary-requires-2 : tie.Need-next-boundary-requires-2 Inv-loop μ-loop
 next-boundary-requires-2 c κs = next-asked (c .before .before .before .before .before .before .before .pre) (c .before .before .before .before .loop .inv) (c .before .if1 .taken) .1
-
-loop-less : tie.Need-loop-less Inv-loop μ-loop
-loop-less c = omega arith
 
 loop-again : tie.Need-loop-again Inv-loop μ-loop
 loop-again c = read-next (c .before .before .before .before .before .before .before .before .before .loop .inv) (c .before .before .before .before .before .before .if1 .taken) (c .before .before .before .before .before .next-boundary .ensures) (c .before .before .before .before .next-boundary2 .ensures)
@@ -40,10 +34,10 @@ order-of-texts-spec =
     (tie.spec
     Inv-loop
     μ-loop
-    loop-holds
+    (λ c. read-none _ _ _)
     next-boundary-requires
     next-boundary-requires-2
-    loop-less
+    (λ c. omega arith)
     loop-again
     (λ c κs. search needs)
     returns)

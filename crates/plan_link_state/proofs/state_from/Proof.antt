@@ -5,9 +5,6 @@ use Rattle.plan_link_state.proofs.Ledger.{falls-inside, left-above, arr
 use Rattle.plan_link_state.proofs.state_from.Statement.{statement}
 use Rattle.plan_link_state.proofs.state_from.Tie as tie
 
-returns : tie.Need-returns
-returns c = falls-inside _ _ _ (c .before .if1 .taken) (c .refused .ensures)
-
 returns-2 : tie.Need-returns-2
 returns-2 c = left-above _ _ _ (c .before .before .before .if1 .left) (c .before .before .times .ensures) (c .before .if2 .taken) (c .refused2 .ensures)
 
@@ -37,7 +34,7 @@ state-from-spec =
     tie.close
     (tie.spec
     (λ c κs. search needs)
-    returns
+    (λ c. falls-inside _ _ _ (c .before .if1 .taken) (c .refused .ensures))
     (λ c κs. search needs)
     (λ c κs. search needs)
     returns-2

@@ -34,9 +34,6 @@ sum-of-requires c κs = sum-asked (c .before .before .before .before .before .be
 loop-holds : tie.Need-loop-holds Inv-loop μ-loop
 loop-holds c = running-first (c .before .before .before .before .before .before .before .before .before .before .before .before .before .before .before .before .before .before .before .before .before .before .before .before .before .before .before .before .before .before .pre) (c .before .before .before .before .before .before .before .before .before .before .before .before .before .load-past .ensures) (c .before .before .before .before .before .before .first-waiting .ensures) _ (c .before .before .held-in .ensures .0) _ (c .sum-of .ensures .0) _ (c .before .before .before .before .before .before .before .before .before .before .before .before .before .before .before .before .before .before .before .before .before .before .before .before .before .before .before .before .before .before .pre .signal-table) (c .before .before .before .before .before .before .before .before .before .before .before .before .before .before .before .before .before .before .before .load-trams .ensures)
 
-slice-aggregate-take-step : tie.Need-slice-aggregate-take-step Inv-loop μ-loop
-slice-aggregate-take-step c = sym (c .before .before .before .before .loop .inv .tram-table .size)
-
 slice-aggregate-take-step-2 : tie.Need-slice-aggregate-take-step-2 Inv-loop μ-loop
 slice-aggregate-take-step-2 c = sym (c .before .before .before .before .before .before .loop .inv .state-at .arrivals-at .size)
 
@@ -101,7 +98,7 @@ take-steps-spec =
     held-in-requires
     sum-of-requires
     loop-holds
-    slice-aggregate-take-step
+    (λ c. sym (c .before .before .before .before .loop .inv .tram-table .size))
     slice-aggregate-take-step-2
     slice-aggregate-take-step-3
     slice-aggregate-take-step-4

@@ -5,11 +5,5 @@ use borrow.Author.Needs.{needs}
 use Rattle.plancheck_c.proofs.plan_result.Statement.{statement}
 use Rattle.plancheck_c.proofs.plan_result.Tie as tie
 
-returns : tie.Need-returns
-returns c = sym (ap planResult (c .before .answer .given .1))
-
-returns-2 : tie.Need-returns-2
-returns-2 c = sym (ap planResult (c .before .answer2 .given .1))
-
 pub plan-result-spec : {M : Type 1} → statement M
-plan-result-spec = tie.close (tie.spec (λ c. search needs) (λ c. search needs) returns returns-2)
+plan-result-spec = tie.close (tie.spec (λ c. search needs) (λ c. search needs) (λ c. sym (ap planResult (c .before .answer .given .1))) (λ c. sym (ap planResult (c .before .answer2 .given .1))))

@@ -3,11 +3,5 @@ use borrow.Author.Needs.{needs}
 use Rattle.plancheck_c.proofs.text_result.Statement.{statement}
 use Rattle.plancheck_c.proofs.text_result.Tie as tie
 
-returns : tie.Need-returns
-returns c = cc
-
-returns-2 : tie.Need-returns-2
-returns-2 c = cc
-
 pub text-result-spec : {M : Type 1} → statement M
-text-result-spec = tie.close (tie.spec (λ c. search needs) (λ c. search needs) returns returns-2)
+text-result-spec = tie.close (tie.spec (λ c. search needs) (λ c. search needs) (λ c. cc) (λ c. cc))

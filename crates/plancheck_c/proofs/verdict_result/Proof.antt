@@ -5,11 +5,5 @@ use borrow.Author.Needs.{needs}
 use Rattle.plancheck_c.proofs.verdict_result.Statement.{statement}
 use Rattle.plancheck_c.proofs.verdict_result.Tie as tie
 
-returns : tie.Need-returns
-returns c = sym (ap verdictResult (c .enum-told .given .1))
-
-returns-2 : tie.Need-returns-2
-returns-2 c = sym (ap verdictResult (c .before .verdict .given .1))
-
 pub verdict-result-spec : {M : Type 1} → statement M
-verdict-result-spec = tie.close (tie.spec (λ c. search needs) (λ c. search needs) returns returns-2)
+verdict-result-spec = tie.close (tie.spec (λ c. search needs) (λ c. search needs) (λ c. sym (ap verdictResult (c .enum-told .given .1))) (λ c. sym (ap verdictResult (c .before .verdict .given .1))))

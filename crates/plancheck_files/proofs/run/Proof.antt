@@ -6,9 +6,6 @@ use borrow.Author.Needs.{needs}
 use Rattle.plancheck_files.proofs.run.Statement.{statement}
 use Rattle.plancheck_files.proofs.run.Tie as tie
 
-array-share-prefix-out : tie.Need-array-share-prefix-out
-array-share-prefix-out c = end-within (c .before .write-output .ensures)
-
 slice-aggregate-write-all : tie.Need-slice-aggregate-write-all
 slice-aggregate-write-all c = sym (length-take-le _ _ (end-within (c .before .before .write-output .ensures)))
 
@@ -24,7 +21,7 @@ run-spec =
     (λ c. search needs)
     (λ c. search needs)
     (λ c κs. search needs)
-    array-share-prefix-out
+    (λ c. end-within (c .before .write-output .ensures))
     slice-aggregate-write-all
     (λ c κs. search needs)
     (λ c. search needs))

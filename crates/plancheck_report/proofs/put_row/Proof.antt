@@ -12,22 +12,13 @@ Inv-loop fields₀ row k₀ fields k = Put row fields₀ fields k
 abbrev μ-loop : tie.MeasureT-loop
 μ-loop fields₀ row k₀ fields k = length row - k
 
-loop-holds : tie.Need-loop-holds Inv-loop μ-loop
-loop-holds c = search put-first
-
-loop-again : tie.Need-loop-again Inv-loop μ-loop
-loop-again c = search put-again
-
-returns : tie.Need-returns Inv-loop μ-loop
-returns c = search put-all
-
 pub put-row-spec : {M : Type 1} → statement M
 put-row-spec =
     tie.close
     (tie.spec
     Inv-loop
     μ-loop
-    loop-holds
+    (λ c. search put-first)
     (λ c. search needs)
     (λ c. search needs)
     (λ c κs. search needs)
@@ -36,6 +27,6 @@ put-row-spec =
     (λ c. search needs)
     (λ c. search needs)
     (λ c. search needs)
-    loop-again
+    (λ c. search put-again)
     (λ c. search needs)
-    returns)
+    (λ c. search put-all))

@@ -5,9 +5,6 @@ use borrow.Author.Needs.{needs}
 use Rattle.plancheck_report.proofs.write_accepted.Statement.{statement}
 use Rattle.plancheck_report.proofs.write_accepted.Tie as tie
 
-write-record-requires : tie.Need-write-record-requires
-write-record-requires c κs = record-fits _ _ _ _ (search needs)
-
 write-rows-requires : tie.Need-write-rows-requires
 write-rows-requires c κs = rows-asked (c .before .before .before .before .before .before .before .before .before .pre) (c .before .before .before .before .before .before .before .before .before .args .totals) (c .before .before .before .write-record .ensures)
 
@@ -19,7 +16,7 @@ write-accepted-spec =
     tie.close
     (tie.spec
     (λ c. search needs)
-    write-record-requires
+    (λ c κs. record-fits _ _ _ _ (search needs))
     write-rows-requires
     (λ c. search needs)
     returns)

@@ -5,13 +5,10 @@ use borrow.Author.Needs.{needs}
 use Rattle.plancheck_report.proofs.write_not_read.Statement.{statement}
 use Rattle.plancheck_report.proofs.write_not_read.Tie as tie
 
-write-record-requires : tie.Need-write-record-requires
-write-record-requires c κs = record-fits _ _ _ _ (search needs)
-
 returns : tie.Need-returns
 unfolding notRead
 returns c = c .before .before .write-record .ensures
 
 pub write-not-read-spec : {M : Type 1} → statement M
 write-not-read-spec =
-    tie.close (tie.spec (λ c. search needs) write-record-requires (λ c. search needs) returns)
+    tie.close (tie.spec (λ c. search needs) (λ c κs. record-fits _ _ _ _ (search needs)) (λ c. search needs) returns)

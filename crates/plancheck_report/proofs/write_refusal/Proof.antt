@@ -5,9 +5,6 @@ use borrow.Author.Needs.{needs}
 use Rattle.plancheck_report.proofs.write_refusal.Statement.{statement}
 use Rattle.plancheck_report.proofs.write_refusal.Tie as tie
 
-write-record-requires : tie.Need-write-record-requires
-write-record-requires c κs = record-fits _ _ _ _ (search needs)
-
 returns : tie.Need-returns
 returns c = refusal-wrote _ (c .before .before .before .before .before .before .before .wide .ensures .0) (c .before .before .before .before .before .before .wide2 .ensures .0) (c .before .before .before .before .before .wide3 .ensures .0) (c .before .before .write-record .ensures)
 
@@ -19,6 +16,6 @@ write-refusal-spec =
     (λ c κs. search needs)
     (λ c κs. search needs)
     (λ c. search needs)
-    write-record-requires
+    (λ c κs. record-fits _ _ _ _ (search needs))
     (λ c. search needs)
     returns)

@@ -6,9 +6,6 @@ use Rattle.plancheck_report.proofs.Report.{refused-wrote, padding-too}
 use Rattle.plancheck_report.proofs.write_report.Statement.{statement}
 use Rattle.plancheck_report.proofs.write_report.Tie as tie
 
-load-with-signals-requires : tie.Need-load-with-signals-requires
-load-with-signals-requires c κs = zero-rooms refl (search needs)
-
 write-judged-requires : tie.Need-write-judged-requires
 write-judged-requires c κs = (c .before .before .before .before .before .before .before .before .before .before .before .before .load-with-signals .ensures .held _ (c .before .before .before .before .before .before .reading .given .1), c .before .before .before .before .before .before .before .before .before .before .before .before .before .before .before .before .before .before .before .before .pre)
 
@@ -32,7 +29,7 @@ write-report-spec =
     (λ c. search needs)
     (λ c. search needs)
     (λ c. search needs)
-    load-with-signals-requires
+    (λ c κs. zero-rooms refl (search needs))
     (λ c. search needs)
     (λ c κs. search needs)
     (λ c. search needs)

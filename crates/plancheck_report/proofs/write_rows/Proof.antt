@@ -12,9 +12,6 @@ Inv-loop out₀ at counts times ledger next₀ n₀ out next n = Written counts 
 abbrev μ-loop : tie.MeasureT-loop
 μ-loop out₀ at counts times ledger next₀ n₀ out next n = suc (counts .steps) - n
 
-loop-holds : tie.Need-loop-holds Inv-loop μ-loop
-loop-holds c = search rows-first
-
 mul-start-2 : tie.Need-mul-start-2 Inv-loop μ-loop
 mul-start-2 c = omega (arith, start-small (c .before .before .before .before .before .before .before .pre) (c .before .before .before .loop .n) (omega arith))
 
@@ -39,7 +36,7 @@ write-rows-spec =
     (tie.spec
     Inv-loop
     μ-loop
-    loop-holds
+    (λ c. search rows-first)
     (λ c. search needs)
     mul-start-2
     (λ c. search needs)

@@ -4,15 +4,6 @@ use borrow.Author.Needs.{needs}
 use Rattle.sheet_check.proofs.check_on_network.Statement.{statement}
 use Rattle.sheet_check.proofs.check_on_network.Tie as tie
 
-read-sheet-requires : tie.Need-read-sheet-requires
-read-sheet-requires c κs = search (read-asked, needs)
-
-returns : tie.Need-returns
-returns c = search (sheet-refused, needs)
-
-returns-2 : tie.Need-returns-2
-returns-2 c = search (plan-refused, needs)
-
 pass-plan-requires : tie.Need-pass-plan-requires
 pass-plan-requires c κs =
     let j = c .before .before .before .before .before .before .before in
@@ -36,15 +27,15 @@ check-on-network-spec =
     tie.close
     (tie.spec
     (λ c. search needs)
-    read-sheet-requires
+    (λ c κs. search (read-asked, needs))
     (λ c. search needs)
-    returns
+    (λ c. search (sheet-refused, needs))
     (λ c. search needs)
     (λ c κs. search needs)
     (λ c. search needs)
     (λ c. search needs)
     (λ c. search needs)
-    returns-2
+    (λ c. search (plan-refused, needs))
     (λ c. search needs)
     pass-plan-requires
     (λ c. search needs)

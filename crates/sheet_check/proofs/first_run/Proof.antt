@@ -13,17 +13,8 @@ Inv-loop count watches line₀ item₀ i₀ line item i = Found (λ j. watchIn w
 abbrev μ-loop : tie.MeasureT-loop
 μ-loop count watches line₀ item₀ i₀ line item i = count - i
 
-loop-holds : tie.Need-loop-holds Inv-loop μ-loop
-loop-holds c = search (found-none, needs)
-
 loop-again : tie.Need-loop-again Inv-loop μ-loop
 loop-again c = found-more (c .before .before .before .before .loop .inv) (omega arith) (c .before .before .is-earlier .ensures) (c .before .choose .ensures) (c .choose2 .ensures)
-
-returns : tie.Need-returns Inv-loop μ-loop
-returns c = search (found-nothing, needs)
-
-returns-2 : tie.Need-returns-2 Inv-loop μ-loop
-returns-2 c = search (found-told, needs)
 
 pub first-run-spec : {M : Type 1} → statement M
 first-run-spec =
@@ -31,7 +22,7 @@ first-run-spec =
     (tie.spec
     Inv-loop
     μ-loop
-    loop-holds
+    (λ c. search (found-none, needs))
     (λ c. search needs)
     (λ c. search needs)
     (λ c κs. search needs)
@@ -42,5 +33,5 @@ first-run-spec =
     (λ c. search needs)
     (λ c. search needs)
     loop-again
-    returns
-    returns-2)
+    (λ c. search (found-nothing, needs))
+    (λ c. search (found-told, needs)))

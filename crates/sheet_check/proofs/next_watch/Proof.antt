@@ -4,11 +4,5 @@ use borrow.Author.Needs.{needs}
 use Rattle.sheet_check.proofs.next_watch.Statement.{statement}
 use Rattle.sheet_check.proofs.next_watch.Tie as tie
 
-returns : tie.Need-returns
-returns c = search (watch-on, needs)
-
-returns-2 : tie.Need-returns-2
-returns-2 c = search (watch-still, needs)
-
 pub next-watch-spec : {M : Type 1} → statement M
-next-watch-spec = tie.close (tie.spec (λ c κs. search needs) returns returns-2)
+next-watch-spec = tie.close (tie.spec (λ c κs. search needs) (λ c. search (watch-on, needs)) (λ c. search (watch-still, needs)))

@@ -21,9 +21,6 @@ loop-holds c = passing-first (c .before .before .before .before .before .before 
 pass-step-requires : tie.Need-pass-step-requires Inv-loop μ-loop
 pass-step-requires c κs = passing-asked (c .before .before .before .before .before .before .before .before .before .before .before .before .before .before .pre .0) (c .before .before .before .before .before .loop .inv) (c .before .before .before .before .before .before .before .load-trams .ensures) (omega arith)
 
-loop-less : tie.Need-loop-less Inv-loop μ-loop
-loop-less c = omega (arith, c .before .before .pass-step .ensures .boundary)
-
 loop-again : tie.Need-loop-again Inv-loop μ-loop
 loop-again c = passing-next (c .before .before .before .before .before .before .before .before .before .before .before .before .before .before .before .before .before .pre .0) (c .before .before .before .before .before .before .before .before .loop .inv) (c .before .before .pass-step .ensures)
 
@@ -44,7 +41,7 @@ pass-plan-spec =
     loop-holds
     (λ c. search needs)
     pass-step-requires
-    loop-less
+    (λ c. omega (arith, c .before .before .pass-step .ensures .boundary))
     loop-again
     first-run-requires
     (λ c. search needs)

@@ -4,11 +4,5 @@ use borrow.Author.Needs.{needs}
 use Rattle.sheet_check.proofs.watch_after.Statement.{statement}
 use Rattle.sheet_check.proofs.watch_after.Tie as tie
 
-returns : tie.Need-returns
-returns c = search (watch-same, needs)
-
-returns-2 : tie.Need-returns-2
-returns-2 c = search (watch-other, needs)
-
 pub watch-after-spec : {M : Type 1} → statement M
-watch-after-spec = tie.close (tie.spec (λ c κs. search needs) returns (λ c κs. search needs) (λ c κs. search needs) (λ c κs. search needs) returns-2)
+watch-after-spec = tie.close (tie.spec (λ c κs. search needs) (λ c. search (watch-same, needs)) (λ c κs. search needs) (λ c κs. search needs) (λ c κs. search needs) (λ c. search (watch-other, needs)))

@@ -14,9 +14,6 @@ Inv-loop signals count phases asked table line time watches₀ i₀ watches i = 
 abbrev μ-loop : tie.MeasureT-loop
 μ-loop signals count phases asked table line time watches₀ i₀ watches i = count - i
 
-loop-holds : tie.Need-loop-holds Inv-loop μ-loop
-loop-holds c = (search needs, watched-none _ _ _ _ _ _ _ (search needs))
-
 duration-of-requires : tie.Need-duration-of-requires Inv-loop μ-loop
 duration-of-requires c κs = duration-asked (c .before .before .before .before .before .before .pre) (omega arith)
 
@@ -38,7 +35,7 @@ watch-signals-spec =
     (tie.spec
     Inv-loop
     μ-loop
-    loop-holds
+    (λ c. (search needs, watched-none _ _ _ _ _ _ _ (search needs)))
     duration-of-requires
     (λ c. search needs)
     (λ c. search needs)

@@ -12,9 +12,6 @@ Inv-loop text signals count offsets table₀ place₀ r₀ table place r = ReadT
 abbrev μ-loop : tie.MeasureT-loop
 μ-loop text signals count offsets table₀ place₀ r₀ table place r = count - r
 
-loop-holds : tie.Need-loop-holds Inv-loop μ-loop
-loop-holds c = search (read-none, needs)
-
 read-row-requires : tie.Need-read-row-requires Inv-loop μ-loop
 read-row-requires c κs = row-room (c .before .before .before .before .before .before .before .pre) (c .before .before .before .loop .inv) (omega arith) (c .before .phase-count .ensures)
 
@@ -30,19 +27,13 @@ returns-2 c = read-invalid (c .before .before .before .before .before .before .b
 loop-again : tie.Need-loop-again Inv-loop μ-loop
 loop-again c = read-next (c .before .before .before .before .before .before .before .before .before .before .before .before .before .before .before .before .pre) (c .before .before .before .before .before .before .before .before .before .before .before .before .loop .inv) (omega arith) (c .before .before .before .before .before .before .before .before .before .before .phase-count .ensures) (c .before .before .before .before .before .before .before .before .read-row .ensures) (c .before .before .before .before .read .given .1) (c .before .valid-numbers .ensures) (c .if1 .left)
 
-returns-3 : tie.Need-returns-3 Inv-loop μ-loop
-returns-3 c = search (read-all, needs)
-
-returns-4 : tie.Need-returns-4 Inv-loop μ-loop
-returns-4 c = search (read-surplus, needs)
-
 pub read-sheet-spec : {M : Type 1} → statement M
 read-sheet-spec =
     tie.close
     (tie.spec
     Inv-loop
     μ-loop
-    loop-holds
+    (λ c. search (read-none, needs))
     (λ c. search needs)
     (λ c κs. search needs)
     (λ c. search needs)
@@ -64,8 +55,8 @@ read-sheet-spec =
     loop-again
     (λ c κs. search needs)
     (λ c. search needs)
-    returns-3
+    (λ c. search (read-all, needs))
     (λ c. search needs)
     (λ c κs. search needs)
     (λ c. search needs)
-    returns-4)
+    (λ c. search (read-surplus, needs)))

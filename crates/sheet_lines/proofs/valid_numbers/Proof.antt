@@ -16,9 +16,6 @@ Inv-loop table start signals r offsets phases sum₀ k₀ sum k = (phases ≡ ta
 abbrev μ-loop : tie.MeasureT-loop
 μ-loop table start signals r offsets phases sum₀ k₀ sum k = phases - k
 
-loop-holds : tie.Need-loop-holds Inv-loop μ-loop
-loop-holds c = search (summed-none, needs)
-
 returns : tie.Need-returns Inv-loop μ-loop
 returns c = summed-broken (c .before .before .before .before .before .before .loop .inv .1) (omega (arith, c .before .before .before .before .before .before .loop .inv .0)) (c .before .before .before .least-time .ensures) (c .before .before .greatest-time .ensures) (c .before .is-within .ensures) (c .if1 .taken) _
 
@@ -42,7 +39,7 @@ valid-numbers-spec =
     μ-loop
     (λ c κs. search needs)
     (λ c. search needs)
-    loop-holds
+    (λ c. search (summed-none, needs))
     (λ c. search needs)
     (λ c. search needs)
     (λ c. search needs)

@@ -12,27 +12,6 @@ Inv-loop table start phases times steps r masks₀ run₀ n₀ masks run n = Col
 abbrev μ-loop : tie.MeasureT-loop
 μ-loop table start phases times steps r masks₀ run₀ n₀ masks run n = steps - n
 
-loop-holds : tie.Need-loop-holds Inv-loop μ-loop
-loop-holds c = search (column-none, needs)
-
-returns : tie.Need-returns Inv-loop μ-loop
-returns c = search (column-broken, needs)
-
-mask-of-requires : tie.Need-mask-of-requires Inv-loop μ-loop
-mask-of-requires c κs = search (phase-few, needs)
-
-slice-write-masks : tie.Need-slice-write-masks Inv-loop μ-loop
-slice-write-masks c = search (place-inside, needs)
-
-next-run-requires : tie.Need-next-run-requires Inv-loop μ-loop
-next-run-requires c κs = search (column-asked, needs)
-
-loop-again : tie.Need-loop-again Inv-loop μ-loop
-loop-again c = search (column-more, needs)
-
-returns-2 : tie.Need-returns-2 Inv-loop μ-loop
-returns-2 c = search (column-all, needs)
-
 pub fill-column-spec : {M : Type 1} → statement M
 fill-column-spec =
     tie.close
@@ -40,18 +19,18 @@ fill-column-spec =
     Inv-loop
     μ-loop
     (λ c κs. search needs)
-    loop-holds
+    (λ c. search (column-none, needs))
     (λ c κs. search needs)
     (λ c. search needs)
-    returns
-    mask-of-requires
+    (λ c. search (column-broken, needs))
+    (λ c κs. search (phase-few, needs))
     (λ c. search needs)
     (λ c. search needs)
     (λ c. search needs)
-    slice-write-masks
-    next-run-requires
+    (λ c. search (place-inside, needs))
+    (λ c κs. search (column-asked, needs))
     (λ c. search needs)
     (λ c. search needs)
-    loop-again
+    (λ c. search (column-more, needs))
     (λ c. search needs)
-    returns-2)
+    (λ c. search (column-all, needs)))

@@ -13,12 +13,6 @@ Inv-loop network reading signals table times masks₀ counts r₀ masks r = Mask
 abbrev μ-loop : tie.MeasureT-loop
 μ-loop network reading signals table times masks₀ counts r₀ masks r = reading .counts .signals - r
 
-loop-holds : tie.Need-loop-holds Inv-loop μ-loop
-loop-holds c = search (masks-none, needs)
-
-returns : tie.Need-returns Inv-loop μ-loop
-returns c = search (masks-tram, needs)
-
 fill-column-requires : tie.Need-fill-column-requires Inv-loop μ-loop
 fill-column-requires c κs = column-wanted (c .before .before .before .before .before .before .before .before .before .before .before .before .before .pre .0) (c .before .before .before .before .before .before .loop .inv) (omega arith) (c .before .before .before .phase-count .ensures)
 
@@ -28,23 +22,20 @@ returns-2 c = masks-off (c .before .before .before .before .before .before .befo
 loop-again : tie.Need-loop-again Inv-loop μ-loop
 loop-again c = masks-next (c .before .before .before .before .before .before .before .before .before .before .before .before .before .before .before .before .before .pre .0) (c .before .before .before .before .before .before .before .before .before .before .loop .inv) (omega arith) (c .before .before .before .before .before .before .has-no-tram .ensures) (c .before .before .before .before .before .if2 .left) (c .before .before .before .before .before .before .before .phase-count .ensures) (c .before .before .before .fill-column .ensures) (c .if3 .left)
 
-returns-3 : tie.Need-returns-3 Inv-loop μ-loop
-returns-3 c = search (masks-all, needs)
-
 pub fill-masks-spec : {M : Type 1} → statement M
 fill-masks-spec =
     tie.close
     (tie.spec
     Inv-loop
     μ-loop
-    loop-holds
+    (λ c. search (masks-none, needs))
     (λ c κs. search needs)
     (λ c. search needs)
     (λ c κs. search needs)
     (λ c. search needs)
     (λ c κs. search needs)
     (λ c. search needs)
-    returns
+    (λ c. search (masks-tram, needs))
     fill-column-requires
     (λ c. search needs)
     (λ c κs. search needs)
@@ -54,4 +45,4 @@ fill-masks-spec =
     (λ c. search needs)
     loop-again
     (λ c. search needs)
-    returns-3)
+    (λ c. search (masks-all, needs)))

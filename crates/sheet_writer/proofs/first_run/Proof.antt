@@ -12,15 +12,6 @@ Inv-loop table start phases rest₀ k₀ rest k = Run-off (numberIn table start)
 abbrev μ-loop : tie.MeasureT-loop
 μ-loop table start phases rest₀ k₀ rest k = phases - k
 
-loop-holds : tie.Need-loop-holds Inv-loop μ-loop
-loop-holds c = search (off-none, needs)
-
-loop-again : tie.Need-loop-again Inv-loop μ-loop
-loop-again c = search (off-more, needs)
-
-returns : tie.Need-returns Inv-loop μ-loop
-returns c = search (off-run, needs)
-
 pub first-run-spec : {M : Type 1} → statement M
 first-run-spec =
     tie.close
@@ -30,7 +21,7 @@ first-run-spec =
     (λ c. search needs)
     (λ c. search needs)
     (λ c. search needs)
-    loop-holds
+    (λ c. search (off-none, needs))
     (λ c. search needs)
     (λ c. search needs)
     (λ c. search needs)
@@ -40,11 +31,11 @@ first-run-spec =
     (λ c. search needs)
     (λ c. search needs)
     (λ c. search needs)
-    loop-again
+    (λ c. search (off-more, needs))
     (λ c. search needs)
     (λ c. search needs)
     (λ c. search needs)
     (λ c. search needs)
     (λ c. search needs)
     (λ c. search needs)
-    returns)
+    (λ c. search (off-run, needs)))

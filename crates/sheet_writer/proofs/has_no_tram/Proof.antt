@@ -14,38 +14,23 @@ Inv-loop network at count r fields₀ place₀ k₀ fields place k = TramsTo net
 abbrev μ-loop : tie.MeasureT-loop
 μ-loop network at count r fields₀ place₀ k₀ fields place k = count - k
 
-loop-holds : tie.Need-loop-holds Inv-loop μ-loop
-loop-holds c = search (trams-none, needs)
-
-returns : tie.Need-returns Inv-loop μ-loop
-returns c = search (trams-never, needs)
-
-returns-2 : tie.Need-returns-2 Inv-loop μ-loop
-returns-2 c = search (trams-hit, needs)
-
-loop-again : tie.Need-loop-again Inv-loop μ-loop
-loop-again c = search (trams-next, needs)
-
-returns-3 : tie.Need-returns-3 Inv-loop μ-loop
-returns-3 c = search (trams-all, needs)
-
 pub has-no-tram-spec : {M : Type 1} → statement M
 has-no-tram-spec =
     tie.close
     (tie.spec
     Inv-loop
     μ-loop
-    loop-holds
+    (λ c. search (trams-none, needs))
     (λ c. search needs)
     (λ c κs. search needs)
     (λ c. search needs)
     (λ c. search needs)
-    returns
+    (λ c. search (trams-never, needs))
     (λ c. search needs)
     (λ c κs. search needs)
     (λ c. search needs)
-    returns-2
+    (λ c. search (trams-hit, needs))
     (λ c. search needs)
     (λ c. search needs)
-    loop-again
-    returns-3)
+    (λ c. search (trams-next, needs))
+    (λ c. search (trams-all, needs)))

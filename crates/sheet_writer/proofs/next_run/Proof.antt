@@ -5,9 +5,6 @@ use borrow.Author.Needs.{needs}
 use Rattle.sheet_writer.proofs.next_run.Statement.{statement}
 use Rattle.sheet_writer.proofs.next_run.Tie as tie
 
-returns : tie.Need-returns
-returns c = search (next-on, needs)
-
 shared-slice-read-t13 : tie.Need-shared-slice-read-t13
 shared-slice-read-t13 c =
     let pre = c .before .before .before .before .before .before .pre in
@@ -27,7 +24,7 @@ next-run-spec =
     tie.close
     (tie.spec
     (λ c. search needs)
-    returns
+    (λ c. search (next-on, needs))
     (λ c κs. search needs)
     (λ c κs. search needs)
     (λ c. search needs)

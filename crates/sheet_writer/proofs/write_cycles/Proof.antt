@@ -4,15 +4,6 @@ use borrow.Author.Needs.{needs}
 use Rattle.sheet_writer.proofs.write_cycles.Statement.{statement}
 use Rattle.sheet_writer.proofs.write_cycles.Tie as tie
 
-write-plan-requires : tie.Need-write-plan-requires
-write-plan-requires c κs = search (masks-asked, needs)
-
-returns : tie.Need-returns
-returns c = search (cycles-written, needs)
-
-returns-2 : tie.Need-returns-2
-returns-2 c = search (cycles-stopped, needs)
-
 pub write-cycles-spec : {M : Type 1} → statement M
 write-cycles-spec =
     tie.close
@@ -21,8 +12,8 @@ write-cycles-spec =
     (λ c κs. search needs)
     (λ c. search needs)
     (λ c. search needs)
-    write-plan-requires
+    (λ c κs. search (masks-asked, needs))
     (λ c. search needs)
     (λ c. search needs)
-    returns
-    returns-2)
+    (λ c. search (cycles-written, needs))
+    (λ c. search (cycles-stopped, needs)))

@@ -5,9 +5,6 @@ use borrow.Author.Needs.{needs}
 use Rattle.sheet_writer.proofs.write_on_network.Statement.{statement}
 use Rattle.sheet_writer.proofs.write_on_network.Tie as tie
 
-load-signals-requires : tie.Need-load-signals-requires
-load-signals-requires c κs = load-asked (c .before .before .before .before .before .before .pre) refl
-
 read-sheet-requires : tie.Need-read-sheet-requires
 read-sheet-requires c κs = cycle-asked (c .before .before .before .before .before .before .before .before .before .before .pre) (c .before .before .before .load-signals .ensures) (search needs)
 
@@ -25,7 +22,7 @@ write-on-network-spec =
     tie.close
     (tie.spec
     (λ c. search needs)
-    load-signals-requires
+    (λ c κs. load-asked (c .before .before .before .before .before .before .pre) refl)
     (λ c. search needs)
     (λ c. search needs)
     read-sheet-requires

@@ -4,8 +4,5 @@ use borrow.Author.Needs.{needs}
 use Rattle.split.proofs.has_room.Statement.{statement}
 use Rattle.split.proofs.has_room.Tie as tie
 
-returns : tie.Need-returns
-returns c = search (room-is, needs)
-
 pub has-room-spec : {M : Type 1} → statement M
-has-room-spec = tie.close (tie.spec returns)
+has-room-spec = tie.close (tie.spec (λ c. search (room-is, needs)))

@@ -4,15 +4,6 @@ use borrow.Author.Needs.{needs}
 use Rattle.split_checks.proofs.can_split.Statement.{statement}
 use Rattle.split_checks.proofs.can_split.Tie as tie
 
-right-kinds-requires : tie.Need-right-kinds-requires
-right-kinds-requires c κs = search (kinds-asked, needs)
-
-steps-free-requires : tie.Need-steps-free-requires
-steps-free-requires c κs = search (steps-asked, needs)
-
-returns : tie.Need-returns
-returns c = search (split-told, needs)
-
 pub can-split-spec : {M : Type 1} → statement M
 can-split-spec =
     tie.close
@@ -20,6 +11,6 @@ can-split-spec =
     (λ c κs. search needs)
     (λ c κs. search needs)
     (λ c κs. search needs)
-    right-kinds-requires
-    steps-free-requires
-    returns)
+    (λ c κs. search (kinds-asked, needs))
+    (λ c κs. search (steps-asked, needs))
+    (λ c. search (split-told, needs)))

@@ -4,11 +4,5 @@ use borrow.Author.Needs.{needs}
 use Rattle.split_checks.proofs.line_form.Statement.{statement}
 use Rattle.split_checks.proofs.line_form.Tie as tie
 
-read-line-requires : tie.Need-read-line-requires
-read-line-requires c κs = search (line-asked, needs)
-
-returns : tie.Need-returns
-returns c = search (line-told, needs)
-
 pub line-form-spec : {M : Type 1} → statement M
-line-form-spec = tie.close (tie.spec (λ c. search needs) read-line-requires returns)
+line-form-spec = tie.close (tie.spec (λ c. search needs) (λ c κs. search (line-asked, needs)) (λ c. search (line-told, needs)))

@@ -16,28 +16,16 @@ Inv-loop links count i₀ i = (i ≤ count) × (every i (noneWaitIn links) ≡ t
 abbrev μ-loop : tie.MeasureT-loop
 μ-loop links count i₀ i = count - i
 
-loop-holds : tie.Need-loop-holds Inv-loop μ-loop
-loop-holds c = search (none-tested, needs)
-
-returns : tie.Need-returns Inv-loop μ-loop
-returns c = search (waits-fail, needs)
-
-loop-again : tie.Need-loop-again Inv-loop μ-loop
-loop-again c = search (waits-next, needs)
-
-returns-2 : tie.Need-returns-2 Inv-loop μ-loop
-returns-2 c = search (all-tested, needs)
-
 pub nobody-waits-spec : {M : Type 1} → statement M
 nobody-waits-spec =
     tie.close
     (tie.spec
     Inv-loop
     μ-loop
-    loop-holds
+    (λ c. search (none-tested, needs))
     (λ c κs. search needs)
-    returns
+    (λ c. search (waits-fail, needs))
     (λ c. search needs)
     (λ c. search needs)
-    loop-again
-    returns-2)
+    (λ c. search (waits-next, needs))
+    (λ c. search (all-tested, needs)))

@@ -4,13 +4,7 @@ use borrow.Author.Needs.{needs}
 use Rattle.split_checks.proofs.own_signal.Statement.{statement}
 use Rattle.split_checks.proofs.own_signal.Tie as tie
 
-returns : tie.Need-returns
-returns c = search (none-owned, needs)
-
-returns-2 : tie.Need-returns-2
-returns-2 c = search (own-told, needs)
-
 pub own-signal-spec : {M : Type 1} → statement M
 own-signal-spec =
     tie.close
-    (tie.spec returns (λ c. search needs) (λ c. search needs) (λ c. search needs) (λ c. search needs) returns-2)
+    (tie.spec (λ c. search (none-owned, needs)) (λ c. search needs) (λ c. search needs) (λ c. search needs) (λ c. search needs) (λ c. search (own-told, needs)))

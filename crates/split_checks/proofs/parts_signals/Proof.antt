@@ -17,20 +17,8 @@ Inv-loop links half count i₀ i = (i ≤ count) × (every i (ownSignalIn links 
 abbrev μ-loop : tie.MeasureT-loop
 μ-loop links half count i₀ i = count - i
 
-loop-holds : tie.Need-loop-holds Inv-loop μ-loop
-loop-holds c = search (none-tested, needs)
-
 own-signal-requires : tie.Need-own-signal-requires Inv-loop μ-loop
 own-signal-requires c κs = own-asked (c .before .before .before .before .before .before .before .pre) (omega arith) (c .before .before .signal-of .ensures) (c .before .index .ensures .0)
-
-returns : tie.Need-returns Inv-loop μ-loop
-returns c = parts-told _ _ _ (search (test-fails, own-at, needs))
-
-loop-again : tie.Need-loop-again Inv-loop μ-loop
-loop-again c = search (test-holds, own-at, needs)
-
-returns-2 : tie.Need-returns-2 Inv-loop μ-loop
-returns-2 c = parts-told _ _ _ (search (all-tested, needs))
 
 pub parts-signals-spec : {M : Type 1} → statement M
 parts-signals-spec =
@@ -38,14 +26,14 @@ parts-signals-spec =
     (tie.spec
     Inv-loop
     μ-loop
-    loop-holds
+    (λ c. search (none-tested, needs))
     (λ c κs. search needs)
     (λ c κs. search needs)
     (λ c. search needs)
     (λ c. search needs)
     own-signal-requires
-    returns
+    (λ c. parts-told _ _ _ (search (test-fails, own-at, needs)))
     (λ c. search needs)
     (λ c. search needs)
-    loop-again
-    returns-2)
+    (λ c. search (test-holds, own-at, needs))
+    (λ c. parts-told _ _ _ (search (all-tested, needs))))

@@ -15,28 +15,16 @@ Inv-loop links movements half count j₀ j = (j ≤ count) × (every j (rightKin
 abbrev μ-loop : tie.MeasureT-loop
 μ-loop links movements half count j₀ j = count - j
 
-loop-holds : tie.Need-loop-holds Inv-loop μ-loop
-loop-holds c = search (none-tested, needs)
-
-returns : tie.Need-returns Inv-loop μ-loop
-returns c = search (test-fails, needs)
-
-loop-again : tie.Need-loop-again Inv-loop μ-loop
-loop-again c = search (test-holds, needs)
-
-returns-2 : tie.Need-returns-2 Inv-loop μ-loop
-returns-2 c = search (all-tested, needs)
-
 pub right-kinds-spec : {M : Type 1} → statement M
 right-kinds-spec =
     tie.close
     (tie.spec
     Inv-loop
     μ-loop
-    loop-holds
+    (λ c. search (none-tested, needs))
     (λ c κs. search needs)
-    returns
+    (λ c. search (test-fails, needs))
     (λ c. search needs)
     (λ c. search needs)
-    loop-again
-    returns-2)
+    (λ c. search (test-holds, needs))
+    (λ c. search (all-tested, needs)))

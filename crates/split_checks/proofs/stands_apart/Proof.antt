@@ -5,19 +5,13 @@ use borrow.Author.Needs.{needs}
 use Rattle.split_checks.proofs.stands_apart.Statement.{statement}
 use Rattle.split_checks.proofs.stands_apart.Tie as tie
 
-links-in-requires : tie.Need-links-in-requires
-links-in-requires c κs = search (movement-asked, needs)
-
-returns : tie.Need-returns
-returns c = search (apart-told, needs)
-
 pub stands-apart-spec : {M : Type 1} → statement M
 stands-apart-spec =
     tie.close
     (tie.spec
-    links-in-requires
+    (λ c κs. search (movement-asked, needs))
     (λ c κs. search needs)
     (λ c κs. search needs)
     (λ c κs. search needs)
     (λ c κs. search needs)
-    returns)
+    (λ c. search (apart-told, needs)))

@@ -14,17 +14,11 @@ abbrev μ-loop : tie.MeasureT-loop
 μ-loop half start count found₀ k₀ found k =
     count - k
 
-loop-holds : tie.Need-loop-holds Inv-loop μ-loop
-loop-holds c = counted-none
-
 add-found : tie.Need-add-found Inv-loop μ-loop
 add-found c = omega (arith, counted-small (c .before .before .before .before .loop .inv), c .before .one-if .ensures .1, c .index .ensures .0, c .before .before .before .before .before .before .pre)
 
 loop-again : tie.Need-loop-again Inv-loop μ-loop
 loop-again c = counted-next (c .before .before .before .before .loop .inv) (omega arith) (c .before .one-if .ensures .0) (c .index .ensures .0)
-
-returns : tie.Need-returns Inv-loop μ-loop
-returns c = counted-all (c .before .loop .inv) (omega arith)
 
 pub count-in-spec : {M : Type 1} → statement M
 count-in-spec =
@@ -32,7 +26,7 @@ count-in-spec =
     (tie.spec
     Inv-loop
     μ-loop
-    loop-holds
+    (λ c. counted-none)
     (λ c. search needs)
     (λ c. search needs)
     (λ c. search needs)
@@ -42,4 +36,4 @@ count-in-spec =
     (λ c. search needs)
     (λ c. search needs)
     loop-again
-    returns)
+    (λ c. counted-all (c .before .loop .inv) (omega arith)))

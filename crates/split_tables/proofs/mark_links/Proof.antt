@@ -14,32 +14,17 @@ abbrev μ-loop : tie.MeasureT-loop
 μ-loop set count marks₀ rest₀ i₀ marks rest i =
     count - i
 
-loop-holds : tie.Need-loop-holds Inv-loop μ-loop
-loop-holds c = bits-none
-
-slice-write-marks : tie.Need-slice-write-marks Inv-loop μ-loop
-slice-write-marks c = omega (arith, c .before .loop .inv .size, c .before .before .pre)
-
-loop-again : tie.Need-loop-again Inv-loop μ-loop
-loop-again c = bits-next (c .before .loop .inv) (c .before .before .pre) (omega arith)
-
-same-length : tie.Need-same-length Inv-loop μ-loop
-same-length c = omega (arith, c .before .loop .inv .size)
-
-returns : tie.Need-returns Inv-loop μ-loop
-returns c = bits-all (c .before .loop .inv) (omega arith)
-
 pub mark-links-spec : {M : Type 1} → statement M
 mark-links-spec =
     tie.close
     (tie.spec
     Inv-loop
     μ-loop
-    loop-holds
+    (λ c. bits-none)
     (λ c. search needs)
-    slice-write-marks
+    (λ c. omega (arith, c .before .loop .inv .size, c .before .before .pre))
     (λ c. search needs)
     (λ c. search needs)
-    loop-again
-    same-length
-    returns)
+    (λ c. bits-next (c .before .loop .inv) (c .before .before .pre) (omega arith))
+    (λ c. omega (arith, c .before .loop .inv .size))
+    (λ c. bits-all (c .before .loop .inv) (omega arith)))

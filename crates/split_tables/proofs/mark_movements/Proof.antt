@@ -15,9 +15,6 @@ abbrev μ-loop : tie.MeasureT-loop
 μ-loop movements half count marks₀ j₀ marks j =
     count - j
 
-loop-holds : tie.Need-loop-holds Inv-loop μ-loop
-loop-holds c = marked-none
-
 links-in-requires : tie.Need-links-in-requires Inv-loop μ-loop
 links-in-requires c κs = movement-asked (c .before .before .before .before .before .pre .0) (omega arith)
 
@@ -27,24 +24,18 @@ slice-write-marks c = omega (arith, c .before .before .loop .inv .size, c .befor
 loop-again : tie.Need-loop-again Inv-loop μ-loop
 loop-again c = marked-next (c .before .before .loop .inv) (c .before .before .before .before .before .before .pre .1) (omega arith) (c .links-in .ensures)
 
-same-length : tie.Need-same-length Inv-loop μ-loop
-same-length c = omega (arith, c .before .loop .inv .size)
-
-returns : tie.Need-returns Inv-loop μ-loop
-returns c = marked-all (c .before .loop .inv) (omega arith)
-
 pub mark-movements-spec : {M : Type 1} → statement M
 mark-movements-spec =
     tie.close
     (tie.spec
     Inv-loop
     μ-loop
-    loop-holds
+    (λ c. marked-none)
     links-in-requires
     (λ c. search needs)
     slice-write-marks
     (λ c. search needs)
     (λ c. search needs)
     loop-again
-    same-length
-    returns)
+    (λ c. omega (arith, c .before .loop .inv .size))
+    (λ c. marked-all (c .before .loop .inv) (omega arith)))

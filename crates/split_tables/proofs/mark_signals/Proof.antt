@@ -14,9 +14,6 @@ abbrev μ-loop : tie.MeasureT-loop
 μ-loop links half count marks₀ i₀ marks i =
     count - i
 
-loop-holds : tie.Need-loop-holds Inv-loop μ-loop
-loop-holds c = signals-none (c .before .before .before .pre)
-
 mark-signal-requires : tie.Need-mark-signal-requires Inv-loop μ-loop
 mark-signal-requires c κs = signal-room (c .before .before .before .before .before .before .before .before .before .pre) (c .before .before .before .before .before .loop .inv) (omega arith) (c .before .before .before .signal-of .ensures) (c .before .before .index .ensures .0)
 
@@ -32,7 +29,7 @@ mark-signals-spec =
     (tie.spec
     Inv-loop
     μ-loop
-    loop-holds
+    (λ c. signals-none (c .before .before .before .pre))
     (λ c κs. search needs)
     (λ c κs. search needs)
     (λ c. search needs)

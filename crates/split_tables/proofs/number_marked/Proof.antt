@@ -15,29 +15,14 @@ abbrev μ-loop : tie.MeasureT-loop
 μ-loop marks mark count half₀ start last₀ k₀ half last k =
     count - k
 
-loop-holds : tie.Need-loop-holds Inv-loop μ-loop
-loop-holds c = numbered-none (c .pre)
-
-shared-slice-read-if1 : tie.Need-shared-slice-read-if1 Inv-loop μ-loop
-shared-slice-read-if1 c = omega (arith, c .before .before .before .pre .few)
-
 add-last : tie.Need-add-last Inv-loop μ-loop
 add-last c = omega (arith, last-small (c .before .before .before .before .pre) (c .before .before .before .loop .inv), c .before .before .before .before .pre .room)
-
-add-half : tie.Need-add-half Inv-loop μ-loop
-add-half c = omega (arith, c .before .before .before .before .pre .room)
 
 slice-write-half : tie.Need-slice-write-half Inv-loop μ-loop
 slice-write-half c = place-within (c .before .before .before .before .pre) (c .before .before .before .loop .inv) (omega arith)
 
-add-k : tie.Need-add-k Inv-loop μ-loop
-add-k c = omega (arith, c .before .before .before .before .pre .room)
-
 loop-again : tie.Need-loop-again Inv-loop μ-loop
 loop-again c = ⊎-elim (λ w. rw (w .1, w .2) (numbered-more (c .before .before .before .before .pre) (c .before .before .before .loop .inv) (omega arith) (w .0 .taken))) (λ w. rw (w .1, w .2) (numbered-other (c .before .before .before .before .pre) (c .before .before .before .loop .inv) (omega arith) (w .0 .left))) (c .if1 .came)
-
-same-length : tie.Need-same-length Inv-loop μ-loop
-same-length c = omega (arith, c .before .loop .inv .size)
 
 returns : tie.Need-returns Inv-loop μ-loop
 returns c = numbered-all (c .before .before .pre) (c .before .loop .inv) (omega arith)
@@ -48,15 +33,15 @@ number-marked-spec =
     (tie.spec
     Inv-loop
     μ-loop
-    loop-holds
+    (λ c. numbered-none (c .pre))
     (λ c. search needs)
-    shared-slice-read-if1
+    (λ c. omega (arith, c .before .before .before .pre .few))
     add-last
-    add-half
+    (λ c. omega (arith, c .before .before .before .before .pre .room))
     (λ c. search needs)
     slice-write-half
-    add-k
+    (λ c. omega (arith, c .before .before .before .before .pre .room))
     (λ c. search needs)
     loop-again
-    same-length
+    (λ c. omega (arith, c .before .loop .inv .size))
     returns)

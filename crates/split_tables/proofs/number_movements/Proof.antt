@@ -4,9 +4,6 @@ use borrow.Author.Needs.{needs}
 use Rattle.split_tables.proofs.number_movements.Statement.{statement}
 use Rattle.split_tables.proofs.number_movements.Tie as tie
 
-mark-movements-requires : tie.Need-mark-movements-requires
-mark-movements-requires c κs = (c .before .before .before .before .pre .0, search needs)
-
 number-marked-requires : tie.Need-number-marked-requires
 number-marked-requires c κs = movements-asked (c .before .before .before .before .before .before .before .before .pre .0) (c .before .before .before .before .before .before .before .before .pre .1) (search needs)
 
@@ -18,7 +15,7 @@ number-movements-spec =
     tie.close
     (tie.spec
     (λ c. search needs)
-    mark-movements-requires
+    (λ c κs. (c .before .before .before .before .pre .0, search needs))
     (λ c. search needs)
     number-marked-requires
     (λ c. search needs)

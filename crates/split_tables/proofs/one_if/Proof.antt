@@ -4,15 +4,9 @@ use borrow.Author.Needs.{needs}
 use Rattle.split_tables.proofs.one_if.Statement.{statement}
 use Rattle.split_tables.proofs.one_if.Tie as tie
 
-returns : tie.Need-returns
-returns c = search (one-none, needs)
-
-returns-2 : tie.Need-returns-2
-returns-2 c = search (one-some, needs)
-
 pub one-if-spec : {M : Type 1} → statement M
 one-if-spec =
     tie.close
     (tie.spec
-    returns
-    returns-2)
+    (λ c. search (one-none, needs))
+    (λ c. search (one-some, needs)))

@@ -14,9 +14,6 @@ abbrev μ-loop : tie.MeasureT-loop
 μ-loop movements half count side values start stride sums₀ j₀ sums j =
     count - j
 
-loop-holds : tie.Need-loop-holds Inv-loop μ-loop
-loop-holds c = border-none (c .before .before .before .before .pre)
-
 links-in-requires : tie.Need-links-in-requires Inv-loop μ-loop
 links-in-requires c κs = border-movement (c .before .before .before .before .before .before .pre) (c .before .loop .inv) (omega arith)
 
@@ -56,7 +53,7 @@ add-border-spec =
     (tie.spec
     Inv-loop
     μ-loop
-    loop-holds
+    (λ c. border-none (c .before .before .before .before .pre))
     links-in-requires
     link-of-requires
     (λ c κs. search needs)

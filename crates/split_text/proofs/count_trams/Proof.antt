@@ -12,17 +12,8 @@ Inv-loop text from count half tram₀ line₀ found₀ k₀ tram line found k = 
 abbrev μ-loop : tie.MeasureT-loop
 μ-loop text from count half tram₀ line₀ found₀ k₀ tram line found k = count - k
 
-loop-holds : tie.Need-loop-holds Inv-loop μ-loop
-loop-holds c = search (found-none, needs)
-
 signal-number-requires : tie.Need-signal-number-requires Inv-loop μ-loop
 signal-number-requires c κs = signal-named (c .before .before .before .before .before .before .before .before .pre) (c .before .before .before .before .before .loop .inv .at-line) (omega arith) (c .before .before .read-again .ensures) (c .index .ensures .0)
-
-loop-again : tie.Need-loop-again Inv-loop μ-loop
-loop-again c = search (found-next, needs)
-
-returns : tie.Need-returns Inv-loop μ-loop
-returns c = found-all (c .before .loop .inv) (omega arith)
 
 pub count-trams-spec : {M : Type 1} → statement M
 count-trams-spec =
@@ -30,7 +21,7 @@ count-trams-spec =
     (tie.spec
     Inv-loop
     μ-loop
-    loop-holds
+    (λ c. search (found-none, needs))
     (λ c. search needs)
     (λ c κs. search needs)
     (λ c. search needs)
@@ -41,5 +32,5 @@ count-trams-spec =
     (λ c. search needs)
     (λ c. search needs)
     (λ c. search needs)
-    loop-again
-    returns)
+    (λ c. search (found-next, needs))
+    (λ c. found-all (c .before .loop .inv) (omega arith)))

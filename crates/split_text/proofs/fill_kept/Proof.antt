@@ -16,12 +16,6 @@ abbrev μ-loop : tie.MeasureT-loop
 μ-loop values start half first count row₀ at end₀ k₀ row end k =
     count - k
 
-loop-holds : tie.Need-loop-holds Inv-loop μ-loop
-loop-holds c = filled-none
-
-add-fill-one : tie.Need-add-fill-one Inv-loop μ-loop
-add-fill-one c = omega (arith, c .before .before .before .before .before .pre .half-room)
-
 shared-slice-read-fill-one : tie.Need-shared-slice-read-fill-one Inv-loop μ-loop
 shared-slice-read-fill-one c = omega (arith, c .before .before .before .before .before .before .pre .half-room, c .before .before .before .before .before .before .pre .half-size)
 
@@ -40,20 +34,14 @@ add-k c = omega (arith, c .before .before .before .before .before .before .befor
 loop-again : tie.Need-loop-again Inv-loop μ-loop
 loop-again c = filled-next (c .before .before .before .before .before .before .before .loop .inv) (omega arith) (unfold isIn in (c .before .before .fill-one .ensures))
 
-same-length : tie.Need-same-length Inv-loop μ-loop
-same-length c = omega (arith, c .before .loop .inv .filled .size)
-
-returns : tie.Need-returns Inv-loop μ-loop
-returns c = filled-all (c .before .loop .inv) (omega arith)
-
 pub fill-kept-spec : {M : Type 1} → statement M
 fill-kept-spec =
     tie.close
     (tie.spec
     Inv-loop
     μ-loop
-    loop-holds
-    add-fill-one
+    (λ c. filled-none)
+    (λ c. omega (arith, c .before .before .before .before .before .pre .half-room))
     (λ c. search needs)
     shared-slice-read-fill-one
     add-fill-one-2
@@ -63,5 +51,5 @@ fill-kept-spec =
     add-k
     (λ c. search needs)
     loop-again
-    same-length
-    returns)
+    (λ c. omega (arith, c .before .loop .inv .filled .size))
+    (λ c. filled-all (c .before .loop .inv) (omega arith)))

@@ -17,9 +17,6 @@ abbrev μ-loop : tie.MeasureT-loop
 μ-loop values start sums half count row₀ at end₀ i₀ row end i =
     count - i
 
-loop-holds : tie.Need-loop-holds Inv-loop μ-loop
-loop-holds c = filled-none
-
 add-wide : tie.Need-add-wide Inv-loop μ-loop
 add-wide c = omega (arith, c .before .before .before .before .before .before .pre .0 .within, c .before .before .before .before .before .before .pre .0 .few)
 
@@ -44,19 +41,13 @@ add-i c = omega (arith, c .before .before .before .before .before .before .befor
 loop-again : tie.Need-loop-again Inv-loop μ-loop
 loop-again c = filled-next (c .before .before .before .before .before .before .before .before .before .before .loop .inv) (omega arith) (unfold isIn in (rw (c .before .before .before .before .in-field .ensures, c .before .before .before .before .before .before .before .wide .ensures .0) at (c .before .before .fill-one .ensures)))
 
-same-length : tie.Need-same-length Inv-loop μ-loop
-same-length c = omega (arith, c .before .loop .inv .filled .size)
-
-returns : tie.Need-returns Inv-loop μ-loop
-returns c = filled-all (c .before .loop .inv) (omega arith)
-
 pub fill-sums-spec : {M : Type 1} → statement M
 fill-sums-spec =
     tie.close
     (tie.spec
     Inv-loop
     μ-loop
-    loop-holds
+    (λ c. filled-none)
     add-wide
     (λ c. search needs)
     shared-slice-read-wide
@@ -71,5 +62,5 @@ fill-sums-spec =
     add-i
     (λ c. search needs)
     loop-again
-    same-length
-    returns)
+    (λ c. omega (arith, c .before .loop .inv .filled .size))
+    (λ c. filled-all (c .before .loop .inv) (omega arith)))

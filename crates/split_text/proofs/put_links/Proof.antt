@@ -16,23 +16,14 @@ Inv-loop links rates count half out₀ at end₀ i₀ out end i = PickedTo lette
 abbrev μ-loop : tie.MeasureT-loop
 μ-loop links rates count half out₀ at end₀ i₀ out end i = count - i
 
-loop-holds : tie.Need-loop-holds Inv-loop μ-loop
-loop-holds c = search picks-none
-
 add-exit : tie.Need-add-exit Inv-loop μ-loop
 add-exit c = omega (arith, c .before .wide .ensures, c .before .before .before .before .before .before .before .before .before .pre .rates-asked .small (c .before .before .before .before .loop .i) (omega arith))
 
 signal-number-requires : tie.Need-signal-number-requires Inv-loop μ-loop
 signal-number-requires c κs = (omega (arith, c .before .before .before .before .before .before .before .before .before .before .before .before .before .before .pre .signals (c .before .before .before .before .before .before .before .before .before .loop .i) (omega arith), c .before .signal-of .ensures, c .index .ensures .0), c .before .before .before .before .before .before .before .before .before .before .before .before .before .before .pre .half-size)
 
-put-kept-requires : tie.Need-put-kept-requires Inv-loop μ-loop
-put-kept-requires c κs = search (picks-early, needs)
-
 loop-again : tie.Need-loop-again Inv-loop μ-loop
 loop-again c = links-next _ _ _ (c .before .before .before .before .before .before .before .before .before .before .before .before .before .before .before .before .before .before .before .loop .inv) (omega arith) (c .before .before .before .before .before .before .before .before .before .before .before .before .before .before .capacity .ensures) (c .before .before .before .before .before .before .before .before .before .before .before .before .before .travel-time .ensures) (c .before .before .before .before .before .before .before .before .before .before .before .before .before .before .before .before .before .exit-rate .ensures) (c .before .before .before .before .before .before .before .before .before .before .before .before .before .before .before .before .wide .ensures .0) (c .before .before .before .before .before .before .before .before .before .before .before .before .in-field .ensures) (c .before .before .before .before .before .before .before .before .before .before .before .signal-of .ensures) (c .before .before .before .before .before .before .before .before .before .before .index .ensures .0) (c .before .before .before .before .before .before .before .before .before .signal-number .ensures) (c .before .before .before .before .before .before .before .before .phase-mask .ensures) (c .before .before .before .before .before .before .before .standing .ensures) (c .before .before .before .before .before .before .waiting-at-start .ensures) (c .before .before .put-kept .ensures)
-
-returns : tie.Need-returns Inv-loop μ-loop
-returns c = search (picks-all, needs)
 
 pub put-links-spec : {M : Type 1} → statement M
 put-links-spec =
@@ -40,7 +31,7 @@ put-links-spec =
     (tie.spec
     Inv-loop
     μ-loop
-    loop-holds
+    (λ c. search picks-none)
     (λ c κs. search needs)
     (λ c κs. search needs)
     (λ c. search needs)
@@ -58,9 +49,9 @@ put-links-spec =
     (λ c. search needs)
     (λ c. search needs)
     (λ c. search needs)
-    put-kept-requires
+    (λ c κs. search (picks-early, needs))
     (λ c. search needs)
     (λ c. search needs)
     loop-again
     (λ c. search needs)
-    returns)
+    (λ c. search (picks-all, needs)))

@@ -16,9 +16,6 @@ Inv-loop movements count half out₀ at end₀ j₀ out end j = PickedTo letterM
 abbrev μ-loop : tie.MeasureT-loop
 μ-loop movements count half out₀ at end₀ j₀ out end j = count - j
 
-loop-holds : tie.Need-loop-holds Inv-loop μ-loop
-loop-holds c = search picks-none
-
 sub-t13 : tie.Need-sub-t13 Inv-loop μ-loop
 sub-t13 c = omega (arith, c .before .before .before .before .before .before .before .before .before .pre .table-asked .links (c .before .before .before .before .before .loop .j) 0 (omega arith) (omega arith), c .before .before .before .link-of .ensures, c .before .before .index .ensures .0)
 
@@ -31,14 +28,8 @@ sub-t16 c = omega (arith, c .before .before .before .before .before .before .bef
 shared-slice-read-t19 : tie.Need-shared-slice-read-t19 Inv-loop μ-loop
 shared-slice-read-t19 c = omega (arith, c .before .before .before .before .before .before .before .before .before .before .before .pre .table-asked .links (c .before .before .before .before .before .before .before .loop .j) 1 (omega arith) (omega arith), c .before .before .before .before .before .before .before .before .before .before .before .pre .table-asked .half-size, c .before .before .before .link-of2 .ensures, c .before .before .index2 .ensures .0)
 
-put-kept-requires : tie.Need-put-kept-requires Inv-loop μ-loop
-put-kept-requires c κs = search (picks-early, needs)
-
 loop-again : tie.Need-loop-again Inv-loop μ-loop
 loop-again c = movements-next _ _ (c .before .before .before .before .before .before .before .before .before .before .before .before .before .before .before .loop .inv) (omega arith) (c .before .before .before .before .before .before .before .before .before .before .before .before .before .link-of .ensures) (c .before .before .before .before .before .before .before .before .before .before .before .before .index .ensures .0) (c .before .before .before .before .before .before .before .before .before .before .before .link-of2 .ensures) (c .before .before .before .before .before .before .before .before .before .before .index2 .ensures .0) (c .before .before .before .before .before .before .before .rate .ensures) (c .before .before .before .before .before .before .share .ensures) (c .before .before .put-kept .ensures)
-
-returns : tie.Need-returns Inv-loop μ-loop
-returns c = search (picks-all, needs)
 
 pub put-movements-spec : {M : Type 1} → statement M
 put-movements-spec =
@@ -46,7 +37,7 @@ put-movements-spec =
     (tie.spec
     Inv-loop
     μ-loop
-    loop-holds
+    (λ c. search picks-none)
     (λ c κs. search needs)
     (λ c κs. search needs)
     (λ c κs. search needs)
@@ -63,9 +54,9 @@ put-movements-spec =
     (λ c. search needs)
     (λ c. search needs)
     (λ c. search needs)
-    put-kept-requires
+    (λ c κs. search (picks-early, needs))
     (λ c. search needs)
     (λ c. search needs)
     loop-again
     (λ c. search needs)
-    returns)
+    (λ c. search (picks-all, needs)))

@@ -13,26 +13,14 @@ Inv-loop text from signals count half out₀ at row₀ line₀ end₀ k₀ out r
 abbrev μ-loop : tie.MeasureT-loop
 μ-loop text from signals count half out₀ at row₀ line₀ end₀ k₀ out row line end k = count - k
 
-loop-holds : tie.Need-loop-holds Inv-loop μ-loop
-loop-holds c = search (signals-none, needs)
-
 read-again-requires : tie.Need-read-again-requires Inv-loop μ-loop
 read-again-requires c κs = omega (arith, width-small (c .before .before .before .before .before .before .before .before .before .pre) (omega arith) (c .before .before .phase-count .ensures) (c .before .index .ensures .0), c .before .before .before .before .loop .inv .size)
 
 array-share-prefix-row : tie.Need-array-share-prefix-row Inv-loop μ-loop
 array-share-prefix-row c = omega (arith, width-small (c .before .before .before .before .before .before .before .before .before .before .before .before .pre) (omega arith) (c .before .before .before .before .before .phase-count .ensures) (c .before .before .before .before .index .ensures .0))
 
-slice-aggregate-put-kept : tie.Need-slice-aggregate-put-kept Inv-loop μ-loop
-slice-aggregate-put-kept c = search (signal-part, needs)
-
 put-kept-requires : tie.Need-put-kept-requires Inv-loop μ-loop
 put-kept-requires c κs = signal-early (c .before .before .before .before .before .before .before .before .before .before .before .before .before .before .pre) (omega arith) (c .before .before .before .before .before .before .before .phase-count .ensures) (c .before .before .before .before .before .before .index .ensures .0) (c .before .before .before .before .before .before .before .before .before .loop .inv) (c .before .before .before .before .read-again .ensures)
-
-loop-again : tie.Need-loop-again Inv-loop μ-loop
-loop-again c = search (signals-next, needs)
-
-returns : tie.Need-returns Inv-loop μ-loop
-returns c = picks-all (c .before .loop .inv .picks) (omega arith)
 
 pub put-signals-spec : {M : Type 1} → statement M
 put-signals-spec =
@@ -40,7 +28,7 @@ put-signals-spec =
     (tie.spec
     Inv-loop
     μ-loop
-    loop-holds
+    (λ c. search (signals-none, needs))
     (λ c κs. search needs)
     (λ c κs. search needs)
     (λ c. search needs)
@@ -51,10 +39,10 @@ put-signals-spec =
     (λ c. search needs)
     (λ c. search needs)
     array-share-prefix-row
-    slice-aggregate-put-kept
+    (λ c. search (signal-part, needs))
     put-kept-requires
     (λ c. search needs)
     (λ c. search needs)
-    loop-again
+    (λ c. search (signals-next, needs))
     (λ c. search needs)
-    returns)
+    (λ c. picks-all (c .before .loop .inv .picks) (omega arith)))

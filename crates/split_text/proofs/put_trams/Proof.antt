@@ -13,20 +13,11 @@ Inv-loop text from count half out₀ at tram₀ line₀ end₀ k₀ out tram lin
 abbrev μ-loop : tie.MeasureT-loop
 μ-loop text from count half out₀ at tram₀ line₀ end₀ k₀ out tram line end k = count - k
 
-loop-holds : tie.Need-loop-holds Inv-loop μ-loop
-loop-holds c = search (trams-none, needs)
-
 signal-number-requires : tie.Need-signal-number-requires Inv-loop μ-loop
 signal-number-requires c κs = signal-named (c .before .before .before .before .before .before .before .before .before .pre .0) (c .before .before .before .before .before .loop .inv .at-line) (omega arith) (c .before .before .read-again .ensures) (c .index .ensures .0)
 
-put-kept-requires : tie.Need-put-kept-requires Inv-loop μ-loop
-put-kept-requires c κs = search (picks-early, needs)
-
 loop-again : tie.Need-loop-again Inv-loop μ-loop
 loop-again c = trams-next (c .before .before .before .before .before .before .before .before .before .before .before .before .before .before .before .pre .0) (c .before .before .before .before .before .before .before .before .before .before .before .loop .inv .at-line) (omega arith) (c .before .before .before .before .before .before .before .before .read-again .ensures) (c .before .before .before .before .before .before .index .ensures .0) (c .before .before .before .before .before .signal-number .ensures) (c .before .before .before .before .before .before .before .before .before .before .before .loop .inv .picks) (c .before .before .put-kept .ensures)
-
-returns : tie.Need-returns Inv-loop μ-loop
-returns c = search (picks-all, needs)
 
 pub put-trams-spec : {M : Type 1} → statement M
 put-trams-spec =
@@ -34,7 +25,7 @@ put-trams-spec =
     (tie.spec
     Inv-loop
     μ-loop
-    loop-holds
+    (λ c. search (trams-none, needs))
     (λ c. search needs)
     (λ c κs. search needs)
     (λ c. search needs)
@@ -44,9 +35,9 @@ put-trams-spec =
     (λ c. search needs)
     (λ c. search needs)
     (λ c. search needs)
-    put-kept-requires
+    (λ c κs. search (picks-early, needs))
     (λ c. search needs)
     (λ c. search needs)
     loop-again
     (λ c. search needs)
-    returns)
+    (λ c. search (picks-all, needs)))

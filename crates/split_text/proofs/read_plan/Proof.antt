@@ -4,12 +4,6 @@ use borrow.Author.Needs.{needs}
 use Rattle.split_text.proofs.read_plan.Statement.{statement}
 use Rattle.split_text.proofs.read_plan.Tie as tie
 
-returns : tie.Need-returns
-returns c = search plan-next
-
-returns-2 : tie.Need-returns-2
-returns-2 c = search plan-never
-
 pub read-plan-spec : {M : Type 1} → statement M
 read-plan-spec =
     tie.close
@@ -18,6 +12,6 @@ read-plan-spec =
     (λ c. search needs)
     (λ c. search needs)
     (λ c. search needs)
-    returns
+    (λ c. search plan-next)
     (λ c. search needs)
-    returns-2)
+    (λ c. search plan-never))

@@ -14,12 +14,6 @@ Inv-loop times from boundary travel latest m₀ m = (latest ≡ getD times bound
 abbrev μ-loop : tie.MeasureT-loop
 μ-loop times from boundary travel latest m₀ m = length times - m
 
-loop-again : tie.Need-loop-again Inv-loop μ-loop
-loop-again c = search (arrival-on, needs)
-
-returns : tie.Need-returns Inv-loop μ-loop
-returns c = search (arrival-here, needs)
-
 pub arrival-step-spec : {M : Type 1} → statement M
 arrival-step-spec =
     tie.close
@@ -35,5 +29,5 @@ arrival-step-spec =
     (λ c. search needs)
     (λ c. search needs)
     (λ c. search needs)
-    loop-again
-    returns)
+    (λ c. search (arrival-on, needs))
+    (λ c. search (arrival-here, needs)))

@@ -13,18 +13,6 @@ Inv-loop times₀ past steps base n₀ times n = (base ≡ getD times₀ past 0)
 abbrev μ-loop : tie.MeasureT-loop
 μ-loop times₀ past steps base n₀ times n = suc steps - n
 
-loop-holds : tie.Need-loop-holds Inv-loop μ-loop
-loop-holds c = search (shift-begin, needs)
-
-sub-times : tie.Need-sub-times Inv-loop μ-loop
-sub-times c = search (shift-since, needs)
-
-loop-again : tie.Need-loop-again Inv-loop μ-loop
-loop-again c = search (shift-next, needs)
-
-returns : tie.Need-returns Inv-loop μ-loop
-returns c = search (shift-all, needs)
-
 pub from-start-spec : {M : Type 1} → statement M
 from-start-spec =
     tie.close
@@ -33,15 +21,15 @@ from-start-spec =
     μ-loop
     (λ c. search needs)
     (λ c. search needs)
-    loop-holds
+    (λ c. search (shift-begin, needs))
     (λ c. search needs)
     (λ c. search needs)
     (λ c. search needs)
-    sub-times
+    (λ c. search (shift-since, needs))
     (λ c. search needs)
     (λ c. search needs)
     (λ c. search needs)
     (λ c. search needs)
-    loop-again
+    (λ c. search (shift-next, needs))
     (λ c. search needs)
-    returns)
+    (λ c. search (shift-all, needs)))

@@ -11,33 +11,21 @@ Inv-loop times links count boundary arrivals₀ i₀ arrivals i = Moving times l
 abbrev μ-loop : tie.MeasureT-loop
 μ-loop times links count boundary arrivals₀ i₀ arrivals i = count - i
 
-loop-holds : tie.Need-loop-holds Inv-loop μ-loop
-loop-holds c = search moving-first
-
-arrival-step-requires : tie.Need-arrival-step-requires Inv-loop μ-loop
-arrival-step-requires c κs = search moving-cursor
-
-loop-again : tie.Need-loop-again Inv-loop μ-loop
-loop-again c = search moving-more
-
-returns : tie.Need-returns Inv-loop μ-loop
-returns c = search moving-all
-
 pub next-arrivals-spec : {M : Type 1} → statement M
 next-arrivals-spec =
     tie.close
     (tie.spec
     Inv-loop
     μ-loop
-    loop-holds
+    (λ c. search moving-first)
     (λ c κs. search needs)
     (λ c. search needs)
     (λ c. search needs)
-    arrival-step-requires
+    (λ c κs. search moving-cursor)
     (λ c. search needs)
     (λ c. search needs)
     (λ c. search needs)
     (λ c. search needs)
-    loop-again
+    (λ c. search moving-more)
     (λ c. search needs)
-    returns)
+    (λ c. search moving-all))

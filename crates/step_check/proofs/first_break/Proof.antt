@@ -25,9 +25,6 @@ Inv-judge signals line step links movements phases asked previous row₀ ledger 
 abbrev μ-judge : tie.MeasureT-judge
 μ-judge signals line step links movements phases asked previous row₀ ledger times arrivals curves counts boundary found₀ k₀ row found k = 13 - k
 
-judge-holds : tie.Need-judge-holds Inv-loop μ-loop Inv-judge μ-judge
-judge-holds c = (omega arith, refl, row-first, rules-none _)
-
 form-row-for-requires : tie.Need-form-row-for-requires Inv-loop μ-loop Inv-judge μ-judge
 form-row-for-requires c κs = let o = c .before .before .judge .inv in fits-at _ _ _ _ _ _ _ _ _ _ _ _ _ _ _ (c .before .before .before .before .before .before .before .before .before .before .before .before .before .before .before .before .pre) (o .3) (o .2)
 
@@ -54,9 +51,6 @@ judge-again c =
     let row = row-turn (c .before .before .before .before .before .before .before .before .judge .inv .2) (c .before .before .before .before .before .form-row-for .ensures) (c .before .before .before .before .before .form-row-for .kept .1 .1 .1 .1 .1 .0) in
     (omega arith, w .1, row-next row, rule-kept _ _ _ _ _ _ _ _ _ _ _ _ _ _ _ row (omega arith) (w .2) (omega (arith, c .before .before .rule-items .ensures)))
 
-same-length : tie.Need-same-length Inv-loop μ-loop Inv-judge μ-judge
-same-length c = let h = c .before .judge .inv .2 .size in search needs
-
 returns : tie.Need-returns Inv-loop μ-loop Inv-judge μ-judge
 returns c = let o = c .before .judge .inv in none-broken _ _ _ _ _ _ _ _ _ _ _ _ _ _ _ (omega arith) (o .1) (o .3) (o .2)
 
@@ -76,7 +70,7 @@ first-break-spec =
     μ-loop
     Inv-judge
     μ-judge
-    judge-holds
+    (λ c. (omega arith, refl, row-first, rules-none _))
     form-row-for-requires
     (λ c κs. search needs)
     loop-holds
@@ -91,7 +85,7 @@ first-break-spec =
     (λ c. search needs)
     (λ c. search needs)
     judge-again
-    same-length
+    (λ c. let h = c .before .judge .inv .2 .size in search needs)
     returns
     same-length-2
     returns-2)

@@ -10,8 +10,5 @@ next-row-requires c κs = c .before .before .before .before .before .before .pre
 returns : tie.Need-returns
 returns c = record { formed = λ e. c .before .before .next-row .ensures; kept = λ d. absurd (d (c .before .before .before .before .if1 .taken)) }
 
-returns-2 : tie.Need-returns-2
-returns-2 c = record { formed = λ e. absurd (c .if1 .left e); kept = λ d. refl }
-
 pub form-row-for-spec : {M : Type 1} → statement M
-form-row-for-spec = tie.close (tie.spec next-row-requires (λ c. search needs) returns returns-2)
+form-row-for-spec = tie.close (tie.spec next-row-requires (λ c. search needs) returns (λ c. record { formed = λ e. absurd (c .if1 .left e); kept = λ d. refl }))

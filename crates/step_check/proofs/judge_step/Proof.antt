@@ -4,9 +4,6 @@ use borrow.Author.Needs.{needs}
 use Rattle.step_check.proofs.judge_step.Statement.{statement}
 use Rattle.step_check.proofs.judge_step.Tie as tie
 
-returns : tie.Need-returns
-returns c = c .before .before .before .keeps-rules .ensures .told (c .if1 .taken)
-
 first-break-requires : tie.Need-first-break-requires
 first-break-requires c κs = asked-again _ _ _ _ _ _ _ _ _ _ _ _ _ _ _ (c .before .before .before .before .keeps-rules .ensures) (c .before .before .before .before .before .before .before .before .before .before .before .before .before .before .before .before .before .before .before .before .pre .1)
 
@@ -26,7 +23,7 @@ judge-step-spec =
     (λ c. search needs)
     (λ c κs. search needs)
     (λ c. search needs)
-    returns
+    (λ c. c .before .before .before .keeps-rules .ensures .told (c .if1 .taken))
     first-break-requires
     (λ c. search needs)
     returns-2)

@@ -5,12 +5,6 @@ use borrow.Author.Needs.{needs}
 use Rattle.step_check.proofs.keeps_rules.Statement.{statement}
 use Rattle.step_check.proofs.keeps_rules.Tie as tie
 
-returns : tie.Need-returns
-returns c = pass-stops _ _ _ _ _ _ _ _ _ _ _ _ _ _ _
-
-returns-2 : tie.Need-returns-2
-returns-2 c = pass-stops _ _ _ _ _ _ _ _ _ _ _ _ _ _ _
-
 next-row-requires : tie.Need-next-row-requires
 next-row-requires c κs = c .before .before .before .before .before .before .before .before .before .before .before .before .before .before .before .before .before .before .before .pre .fits (c .before .before .keeps-limits .ensures (not-false _ (c .before .if2 .left)))
 
@@ -28,9 +22,9 @@ keeps-rules-spec =
     (tie.spec
     (λ c. search needs)
     (λ c κs. search needs)
-    returns
+    (λ c. pass-stops _ _ _ _ _ _ _ _ _ _ _ _ _ _ _)
     (λ c κs. search needs)
-    returns-2
+    (λ c. pass-stops _ _ _ _ _ _ _ _ _ _ _ _ _ _ _)
     next-row-requires
     keeps-sums-requires
     (λ c. search needs)

@@ -15,15 +15,6 @@ Inv-loop line step links counts count i₀ i = (i ≤ count) × LinkLimitsKept c
 abbrev μ-loop : tie.MeasureT-loop
 μ-loop line step links counts count i₀ i = count - i
 
-loop-holds : tie.Need-loop-holds Inv-loop μ-loop
-loop-holds c = (omega arith, λ i l. absurd (omega arith))
-
-returns : tie.Need-returns Inv-loop μ-loop
-returns c = λ e. let z : _≡_ {A = ℕ} 0 1 = cc in absurd (omega arith)
-
-returns-2 : tie.Need-returns-2 Inv-loop μ-loop
-returns-2 c = λ e. let z : _≡_ {A = ℕ} 0 1 = cc in absurd (omega arith)
-
 loop-again : tie.Need-loop-again Inv-loop μ-loop
 loop-again c =
     let w = c .before .before .before .before .before .loop in
@@ -41,11 +32,11 @@ keeps-link-limits-spec =
     (tie.spec
     Inv-loop
     μ-loop
-    loop-holds
+    (λ c. (omega arith, λ i l. absurd (omega arith)))
     (λ c κs. search needs)
-    returns
+    (λ c. λ e. let z : _≡_ {A = ℕ} 0 1 = cc in absurd (omega arith))
     (λ c κs. search needs)
-    returns-2
+    (λ c. λ e. let z : _≡_ {A = ℕ} 0 1 = cc in absurd (omega arith))
     (λ c. search needs)
     (λ c. search needs)
     loop-again

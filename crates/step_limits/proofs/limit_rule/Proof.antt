@@ -45,9 +45,6 @@ returns-4 : tie.Need-returns-4
 unfolding limitRuleHolds
 returns-4 c = rw (c .before .match .keys4) (c .moves-open .ensures)
 
-returns-5 : tie.Need-returns-5
-returns-5 c = no-limit-rule _ _ _ _ _ _ _ _ (omega arith)
-
 pub limit-rule-spec : {M : Type 1} → statement M
 limit-rule-spec =
     tie.close
@@ -60,4 +57,4 @@ limit-rule-spec =
     returns-2
     returns-3
     returns-4
-    returns-5)
+    (λ c. no-limit-rule _ _ _ _ _ _ _ _ (omega arith)))

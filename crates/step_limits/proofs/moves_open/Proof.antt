@@ -5,9 +5,6 @@ use borrow.Author.Needs.{needs}
 use Rattle.step_limits.proofs.moves_open.Statement.{statement}
 use Rattle.step_limits.proofs.moves_open.Tie as tie
 
-returns : tie.Need-returns
-returns c = nothing-moves _ _ _ _ _ _ (c .before .moved .ensures) (c .if1 .taken)
-
 is-open-requires : tie.Need-is-open-requires
 is-open-requires c κs = let asked = c .before .before .before .before .before .before .before .pre .0 in let from = c .from-link in let last = asked .signal-last (from .result) (from .ensures .1) in let few = asked .few in (search needs, λ r l. asked .phase-last r (omega arith))
 
@@ -19,7 +16,7 @@ moves-open-spec =
     tie.close
     (tie.spec
     (λ c κs. search needs)
-    returns
+    (λ c. nothing-moves _ _ _ _ _ _ (c .before .moved .ensures) (c .if1 .taken))
     (λ c κs. search needs)
     is-open-requires
     returns-2)

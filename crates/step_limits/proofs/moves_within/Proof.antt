@@ -16,9 +16,6 @@ within-rate-requires c κs =
     let small = s .pre .0 .rate-limit (s .args .j) (s .pre .1) in
     search needs
 
-returns-2 : tie.Need-returns-2
-returns-2 c = λ e. let z : _≡_ {A = ℕ} 0 1 = cc in absurd (omega arith)
-
 is-open-requires : tie.Need-is-open-requires
 is-open-requires c κs =
     let asked = c .before .before .before .before .before .before .before .before .before .before .before .before .pre .0 .tables in
@@ -39,7 +36,7 @@ moves-within-spec =
     (λ c κs. search needs)
     (λ c. search needs)
     within-rate-requires
-    returns-2
+    (λ c. λ e. let z : _≡_ {A = ℕ} 0 1 = cc in absurd (omega arith))
     (λ c κs. search needs)
     is-open-requires
     returns-3)

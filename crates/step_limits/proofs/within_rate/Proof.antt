@@ -5,8 +5,5 @@ use borrow.Author.Needs.{needs}
 use Rattle.step_limits.proofs.within_rate.Statement.{statement}
 use Rattle.step_limits.proofs.within_rate.Tie as tie
 
-mul-result : tie.Need-mul-result
-mul-result c = omega (arith, mul-le-mul-right (c .args .seconds) (c .pre .0))
-
 pub within-rate-spec : {M : Type 1} → statement M
-within-rate-spec = tie.close (tie.spec mul-result (λ c. search needs))
+within-rate-spec = tie.close (tie.spec (λ c. omega (arith, mul-le-mul-right (c .args .seconds) (c .pre .0))) (λ c. search needs))

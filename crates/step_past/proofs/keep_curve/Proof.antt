@@ -5,20 +5,11 @@ use borrow.Author.Needs.{needs}
 use Rattle.step_past.proofs.keep_curve.Statement.{statement}
 use Rattle.step_past.proofs.keep_curve.Tie as tie
 
-returns : tie.Need-returns
-returns c = search (keep-none, needs)
-
-slice-write-curves-2 : tie.Need-slice-write-curves-2
-slice-write-curves-2 c = rw length-set (search needs)
-
-returns-2 : tie.Need-returns-2
-returns-2 c = search (keep-set, needs)
-
 pub keep-curve-spec : {M : Type 1} → statement M
 keep-curve-spec =
     tie.close
     (tie.spec
-    returns
+    (λ c. search (keep-none, needs))
     (λ c κs. search needs)
     (λ c. search needs)
     (λ c. search needs)
@@ -31,9 +22,9 @@ keep-curve-spec =
     (λ c. search needs)
     (λ c. search needs)
     (λ c. search needs)
-    slice-write-curves-2
+    (λ c. rw length-set (search needs))
     (λ c. search needs)
     (λ c. search needs)
     (λ c. search needs)
     (λ c. search needs)
-    returns-2)
+    (λ c. search (keep-set, needs)))

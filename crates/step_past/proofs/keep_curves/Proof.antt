@@ -11,31 +11,19 @@ Inv-loop fields row arrivals links m next curves₀ places₀ i₀ curves places
 abbrev μ-loop : tie.MeasureT-loop
 μ-loop fields row arrivals links m next curves₀ places₀ i₀ curves places i = links - i
 
-loop-holds : tie.Need-loop-holds Inv-loop μ-loop
-loop-holds c = search keep-begin
-
-keep-curve-requires : tie.Need-keep-curve-requires Inv-loop μ-loop
-keep-curve-requires c κs = search keep-asked
-
-loop-again : tie.Need-loop-again Inv-loop μ-loop
-loop-again c = search (keep-next, needs)
-
-returns : tie.Need-returns Inv-loop μ-loop
-returns c = search keep-done
-
 pub keep-curves-spec : {M : Type 1} → statement M
 keep-curves-spec =
     tie.close
     (tie.spec
     Inv-loop
     μ-loop
-    loop-holds
+    (λ c. search keep-begin)
     (λ c. search needs)
     (λ c. search needs)
-    keep-curve-requires
+    (λ c κs. search keep-asked)
     (λ c. search needs)
     (λ c. search needs)
-    loop-again
+    (λ c. search (keep-next, needs))
     (λ c. search needs)
     (λ c. search needs)
-    returns)
+    (λ c. search keep-done))

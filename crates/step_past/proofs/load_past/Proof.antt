@@ -12,23 +12,11 @@ Inv-loop text at counts links times row₀ arrivals curves₀ places₀ fields�
 abbrev μ-loop : tie.MeasureT-loop
 μ-loop text at counts links times row₀ arrivals curves₀ places₀ fields₀ place₀ m₀ row curves places fields place m = counts .past - m
 
-start-row-requires : tie.Need-start-row-requires Inv-loop μ-loop
-start-row-requires c κs = search start-asked
-
-next-arrivals-requires : tie.Need-next-arrivals-requires Inv-loop μ-loop
-next-arrivals-requires c κs = search arrivals-asked
-
-loop-holds : tie.Need-loop-holds Inv-loop μ-loop
-loop-holds c = search (past-begin, needs)
-
 same-length-3 : tie.Need-same-length-3 Inv-loop μ-loop
 same-length-3 c = omega (arith, c .before .before .before .before .before .before .before .before .loop .inv .rooms .curve-size, c .before .before .before .before .before .before .before .before .before .before .before .before .before .before .before .before .before .before .before .before .before .before .before .before .pre .rooms .curve-size)
 
 same-length-4 : tie.Need-same-length-4 Inv-loop μ-loop
 same-length-4 c = omega (arith, c .before .before .before .before .before .before .before .before .loop .inv .rooms .place-size, c .before .before .before .before .before .before .before .before .before .before .before .before .before .before .before .before .before .before .before .before .before .before .before .before .pre .rooms .place-size)
-
-returns : tie.Need-returns Inv-loop μ-loop
-returns c = search (past-malformed, needs)
 
 mul-add-numbers : tie.Need-mul-add-numbers Inv-loop μ-loop
 mul-add-numbers c = let h = c .before .before .before .before .before .before .before .before .before .before .before .before .before .before .before .before .before .before .before .before .before .before .before .before .before .before .before .pre .counted .few .links in search needs
@@ -51,18 +39,15 @@ keep-curves-requires c κs = keep-asked (c .before .before .before .before .befo
 loop-again : tie.Need-loop-again Inv-loop μ-loop
 loop-again c = past-next-line (c .before .before .before .before .before .before .before .before .before .before .before .before .before .before .before .before .before .before .before .before .before .before .before .before .before .before .before .before .before .before .before .before .before .before .before .before .before .before .before .before .before .before .pre) (c .before .before .before .before .before .before .before .before .before .before .before .before .before .before .before .before .before .before .before .before .before .before .before .before .before .before .before .before .before .before .before .before .before .start-row .ensures) (c .before .before .before .before .before .before .before .before .before .before .before .before .before .before .before .before .before .before .before .before .before .before .before .before .before .before .before .before .before .next-arrivals .ensures) (c .before .before .before .before .before .before .before .before .before .before .before .before .before .before .before .before .before .before .before .before .before .before .before .before .before .before .loop .inv) (search needs) (c .before .before .before .before .before .before .before .before .before .before .before .before .before .before .before .before .before .before .before .before .before .read-row .ensures) (c .before .before .before .before .before .before .before .before .before .before .before .before .before .before .before .before .before .before .read .given .1) (c .before .before .before .before .before .before .before .before .before .before .before .before .before .add-numbers .ensures) (c .before .before .before .before .before .before .before .before .before .before .if2 .left) (c .before .before .before .before .keep-curves .ensures)
 
-returns-3 : tie.Need-returns-3 Inv-loop μ-loop
-returns-3 c = search (past-done, needs)
-
 pub load-past-spec : {M : Type 1} → statement M
 load-past-spec =
     tie.close
     (tie.spec
     Inv-loop
     μ-loop
-    start-row-requires
-    next-arrivals-requires
-    loop-holds
+    (λ c κs. search start-asked)
+    (λ c κs. search arrivals-asked)
+    (λ c. search (past-begin, needs))
     (λ c. search needs)
     (λ c. search needs)
     (λ c. search needs)
@@ -73,7 +58,7 @@ load-past-spec =
     (λ c. search needs)
     same-length-3
     same-length-4
-    returns
+    (λ c. search (past-malformed, needs))
     (λ c. search needs)
     mul-add-numbers
     add-numbers-requires
@@ -91,4 +76,4 @@ load-past-spec =
     (λ c. search needs)
     (λ c. search needs)
     (λ c. search needs)
-    returns-3)
+    (λ c. search (past-done, needs)))

@@ -5,20 +5,8 @@ use Rattle.step_past.proofs.Moving.{link-other, link-early, link-fits, 
 use Rattle.step_past.proofs.move_link.Statement.{statement}
 use Rattle.step_past.proofs.move_link.Tie as tie
 
-returns : tie.Need-returns
-returns c = search (link-other, needs)
-
-returns-2 : tie.Need-returns-2
-returns-2 c = search (link-early, needs)
-
 add-curves-2 : tie.Need-add-curves-2
 add-curves-2 c = let h = link-fits (c .before .before .before .before .before .before .before .before .before .before .before .before .before .pre) (c .before .before .before .before .travel-time .ensures) (c .before .before .before .before .before .if1 .left) (c .before .before .if2 .left) in search needs
-
-slice-write-curves-2 : tie.Need-slice-write-curves-2
-slice-write-curves-2 c = rw length-set (search needs)
-
-returns-3 : tie.Need-returns-3
-returns-3 c = search (link-on, needs)
 
 pub move-link-spec : {M : Type 1} → statement M
 move-link-spec =
@@ -26,9 +14,9 @@ move-link-spec =
     (tie.spec
     (λ c. search needs)
     (λ c. search needs)
-    returns
+    (λ c. search (link-other, needs))
     (λ c κs. search needs)
-    returns-2
+    (λ c. search (link-early, needs))
     (λ c. search needs)
     (λ c. search needs)
     (λ c. search needs)
@@ -44,7 +32,7 @@ move-link-spec =
     (λ c. search needs)
     (λ c. search needs)
     (λ c. search needs)
-    slice-write-curves-2
+    (λ c. rw length-set (search needs))
     (λ c. search needs)
     (λ c. search needs)
     (λ c. search needs)
@@ -53,4 +41,4 @@ move-link-spec =
     (λ c. search needs)
     (λ c. search needs)
     (λ c. search needs)
-    returns-3)
+    (λ c. search (link-on, needs)))

@@ -11,30 +11,18 @@ Inv-loop fields counts links line first arrivals₀ curves₀ places₀ i₀ arr
 abbrev μ-loop : tie.MeasureT-loop
 μ-loop fields counts links line first arrivals₀ curves₀ places₀ i₀ arrivals curves places i = counts .links - i
 
-loop-holds : tie.Need-loop-holds Inv-loop μ-loop
-loop-holds c = search (moving-begin, needs)
-
-move-link-requires : tie.Need-move-link-requires Inv-loop μ-loop
-move-link-requires c κs = search (link-asked, needs)
-
-loop-again : tie.Need-loop-again Inv-loop μ-loop
-loop-again c = search (moving-next, needs)
-
-returns : tie.Need-returns Inv-loop μ-loop
-returns c = search (moving-done, needs)
-
 pub move-links-spec : {M : Type 1} → statement M
 move-links-spec =
     tie.close
     (tie.spec
     Inv-loop
     μ-loop
-    loop-holds
-    move-link-requires
+    (λ c. search (moving-begin, needs))
+    (λ c κs. search (link-asked, needs))
     (λ c. search needs)
     (λ c. search needs)
-    loop-again
+    (λ c. search (moving-next, needs))
     (λ c. search needs)
     (λ c. search needs)
     (λ c. search needs)
-    returns)
+    (λ c. search (moving-done, needs)))

@@ -4,18 +4,6 @@ use Rattle.step_past.proofs.Moving.{move-cursor, move-plan, move-none, 
 use Rattle.step_past.proofs.move_on.Statement.{statement}
 use Rattle.step_past.proofs.move_on.Tie as tie
 
-arrival-step-requires : tie.Need-arrival-step-requires
-arrival-step-requires c κs = search (move-cursor, needs)
-
-returns : tie.Need-returns
-returns c = search (move-plan, needs)
-
-returns-2 : tie.Need-returns-2
-returns-2 c = search (move-none, needs)
-
-move-past-requires : tie.Need-move-past-requires
-move-past-requires c κs = search (past-move-asked, needs)
-
 pub move-on-spec : {M : Type 1} → statement M
 move-on-spec =
     tie.close
@@ -23,13 +11,13 @@ move-on-spec =
     (λ c. search needs)
     (λ c. search needs)
     (λ c κs. search needs)
-    arrival-step-requires
+    (λ c κs. search (move-cursor, needs))
     (λ c. search needs)
     (λ c. search needs)
     (λ c. search needs)
-    returns
-    returns-2
-    move-past-requires
+    (λ c. search (move-plan, needs))
+    (λ c. search (move-none, needs))
+    (λ c κs. search (past-move-asked, needs))
     (λ c. search needs)
     (λ c. search needs)
     (λ c. search needs)

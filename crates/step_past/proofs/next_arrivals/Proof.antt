@@ -11,30 +11,18 @@ Inv-loop text counts links times at arrivals₀ curves₀ places₀ i₀ arrival
 abbrev μ-loop : tie.MeasureT-loop
 μ-loop text counts links times at arrivals₀ curves₀ places₀ i₀ arrivals curves places i = counts .links - i
 
-loop-holds : tie.Need-loop-holds Inv-loop μ-loop
-loop-holds c = search moved-none
-
-move-on-requires : tie.Need-move-on-requires Inv-loop μ-loop
-move-on-requires c κs = search move-asked
-
-loop-again : tie.Need-loop-again Inv-loop μ-loop
-loop-again c = search (moved-more, needs)
-
-returns : tie.Need-returns Inv-loop μ-loop
-returns c = search moved-all
-
 pub next-arrivals-spec : {M : Type 1} → statement M
 next-arrivals-spec =
     tie.close
     (tie.spec
     Inv-loop
     μ-loop
-    loop-holds
-    move-on-requires
+    (λ c. search moved-none)
+    (λ c κs. search move-asked)
     (λ c. search needs)
     (λ c. search needs)
-    loop-again
+    (λ c. search (moved-more, needs))
     (λ c. search needs)
     (λ c. search needs)
     (λ c. search needs)
-    returns)
+    (λ c. search moved-all))

@@ -11,41 +11,26 @@ Inv-loop text links i from to curve fields₀ start₀ stop₀ place₀ m₀ fie
 abbrev μ-loop : tie.MeasureT-loop
 μ-loop text links i from to curve fields₀ start₀ stop₀ place₀ m₀ fields start stop place m = to - m
 
-loop-holds : tie.Need-loop-holds Inv-loop μ-loop
-loop-holds c = search (read-begin, needs)
-
-returns : tie.Need-returns Inv-loop μ-loop
-returns c = search (read-never, needs)
-
-add-stop-2 : tie.Need-add-stop-2 Inv-loop μ-loop
-add-stop-2 c = search (stop-fits, needs)
-
-loop-again : tie.Need-loop-again Inv-loop μ-loop
-loop-again c = search (read-next, needs)
-
-returns-2 : tie.Need-returns-2 Inv-loop μ-loop
-returns-2 c = search (read-done, needs)
-
 pub read-on-spec : {M : Type 1} → statement M
 read-on-spec =
     tie.close
     (tie.spec
     Inv-loop
     μ-loop
-    loop-holds
+    (λ c. search (read-begin, needs))
     (λ c. search needs)
     (λ c. search needs)
     (λ c. search needs)
     (λ c κs. search needs)
     (λ c. search needs)
     (λ c. search needs)
-    returns
+    (λ c. search (read-never, needs))
     (λ c. search needs)
     (λ c. search needs)
     (λ c. search needs)
     (λ c. search needs)
-    add-stop-2
+    (λ c. search (stop-fits, needs))
     (λ c. search needs)
     (λ c. search needs)
-    loop-again
-    returns-2)
+    (λ c. search (read-next, needs))
+    (λ c. search (read-done, needs)))

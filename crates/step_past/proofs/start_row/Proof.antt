@@ -12,25 +12,13 @@ Inv-loop links count row₀ i₀ row i = StartingTo links count row₀ row i
 abbrev μ-loop : tie.MeasureT-loop
 μ-loop links count row₀ i₀ row i = count - i
 
-loop-holds : tie.Need-loop-holds Inv-loop μ-loop
-loop-holds c = search start-begin
-
-slice-write-row-2 : tie.Need-slice-write-row-2 Inv-loop μ-loop
-slice-write-row-2 c = rw length-set (search needs)
-
-loop-again : tie.Need-loop-again Inv-loop μ-loop
-loop-again c = search (start-next, needs)
-
-returns : tie.Need-returns Inv-loop μ-loop
-returns c = search start-done
-
 pub start-row-spec : {M : Type 1} → statement M
 start-row-spec =
     tie.close
     (tie.spec
     Inv-loop
     μ-loop
-    loop-holds
+    (λ c. search start-begin)
     (λ c κs. search needs)
     (λ c. search needs)
     (λ c. search needs)
@@ -38,9 +26,9 @@ start-row-spec =
     (λ c. search needs)
     (λ c. search needs)
     (λ c. search needs)
-    slice-write-row-2
+    (λ c. rw length-set (search needs))
     (λ c. search needs)
     (λ c. search needs)
-    loop-again
+    (λ c. search (start-next, needs))
     (λ c. search needs)
-    returns)
+    (λ c. search start-done))

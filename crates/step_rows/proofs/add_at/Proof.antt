@@ -5,9 +5,6 @@ use borrow.Author.Needs.{needs}
 use Rattle.step_rows.proofs.add_at.Statement.{statement}
 use Rattle.step_rows.proofs.add_at.Tie as tie
 
-returns-2 : tie.Need-returns-2
-returns-2 c = nothing-added _ _ _ (omega arith)
-
 pub add-at-spec : {M : Type 1} → statement M
 add-at-spec =
     tie.close
@@ -19,4 +16,4 @@ add-at-spec =
     (λ c. search needs)
     (λ c. search needs)
     (λ c. search needs)
-    returns-2)
+    (λ c. nothing-added _ _ _ (omega arith)))

@@ -14,9 +14,6 @@ Inv-loop row₀ line movements counts j₀ row j = (j ≤ counts .movements) × 
 abbrev μ-loop : tie.MeasureT-loop
 μ-loop row₀ line movements counts j₀ row j = counts .movements - j
 
-loop-holds : tie.Need-loop-holds Inv-loop μ-loop
-loop-holds c = (search needs, search added-none)
-
 link-index-requires : tie.Need-link-index-requires Inv-loop μ-loop
 link-index-requires c κs =
     let asked = c .before .before .before .before .before .before .before .pre in
@@ -74,7 +71,7 @@ add-movements-spec =
     (tie.spec
     Inv-loop
     μ-loop
-    loop-holds
+    (λ c. (search needs, search added-none))
     (λ c κs. search needs)
     link-index-requires
     mul-to

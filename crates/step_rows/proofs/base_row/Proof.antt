@@ -19,21 +19,6 @@ Inv-loop previous line counts row₀ i₀ row i =
 abbrev μ-loop : tie.MeasureT-loop
 μ-loop previous line counts row₀ i₀ row i = counts .links - i
 
-loop-holds : tie.Need-loop-holds Inv-loop μ-loop
-loop-holds c = (search needs, begun-none _ _ _ 0, search needs)
-
-add-row : tie.Need-add-row Inv-loop μ-loop
-add-row c = record { fits = search base-entered-fits }
-
-add-row-2 : tie.Need-add-row-2 Inv-loop μ-loop
-add-row-2 c = record { fits = search base-left-fits }
-
-slice-write-row-2 : tie.Need-slice-write-row-2 Inv-loop μ-loop
-slice-write-row-2 c = rw length-set (search needs)
-
-loop-again : tie.Need-loop-again Inv-loop μ-loop
-loop-again c = (search needs, search base-turn, simp length-set (search needs))
-
 returns : tie.Need-returns Inv-loop μ-loop
 returns c =
     let l = c .before .before .loop in
@@ -46,22 +31,22 @@ base-row-spec =
     (tie.spec
     Inv-loop
     μ-loop
-    loop-holds
+    (λ c. (search needs, begun-none _ _ _ 0, search needs))
     (λ c κs. search needs)
     (λ c κs. search needs)
-    add-row
+    (λ c. record { fits = search base-entered-fits })
     (λ c. search needs)
     (λ c. search needs)
     (λ c. search needs)
     (λ c κs. search needs)
     (λ c κs. search needs)
-    add-row-2
+    (λ c. record { fits = search base-left-fits })
     (λ c. search needs)
     (λ c. search needs)
     (λ c. search needs)
-    slice-write-row-2
+    (λ c. rw length-set (search needs))
     (λ c. search needs)
     (λ c. search needs)
-    loop-again
+    (λ c. (search needs, search base-turn, simp length-set (search needs)))
     (λ c. search needs)
     returns)

@@ -15,12 +15,6 @@ Inv-loop part₀ row count k₀ part k = (k ≤ count) × (part ≡ take k row +
 abbrev μ-loop : tie.MeasureT-loop
 μ-loop part₀ row count k₀ part k = count - k
 
-loop-holds : tie.Need-loop-holds Inv-loop μ-loop
-loop-holds c = (search needs, refl, refl)
-
-slice-write-part : tie.Need-slice-write-part Inv-loop μ-loop
-slice-write-part c = omega (arith, c .before .before .loop .inv .2)
-
 loop-again : tie.Need-loop-again Inv-loop μ-loop
 loop-again c =
     let l = c .before .before in
@@ -29,9 +23,6 @@ loop-again c =
       copy-turn (s .args .part .now) (s .args .row .now) (l .loop .k) (omega arith) (omega arith) (l .loop .inv .1),
       simp length-set (l .loop .inv .2),
     )
-
-same-length : tie.Need-same-length Inv-loop μ-loop
-same-length c = c .before .loop .inv .2
 
 returns : tie.Need-returns Inv-loop μ-loop
 returns c =
@@ -45,13 +36,13 @@ copy-row-spec =
     (tie.spec
     Inv-loop
     μ-loop
-    loop-holds
+    (λ c. (search needs, refl, refl))
     (λ c. search needs)
     (λ c. search needs)
     (λ c. search needs)
-    slice-write-part
+    (λ c. omega (arith, c .before .before .loop .inv .2))
     (λ c. search needs)
     (λ c. search needs)
     loop-again
-    same-length
+    (λ c. c .before .loop .inv .2)
     returns)

@@ -11,27 +11,18 @@ Inv-loop links count waiting₀ i₀ waiting i = FirstTo links count waiting i
 abbrev μ-loop : tie.MeasureT-loop
 μ-loop links count waiting₀ i₀ waiting i = count - i
 
-loop-holds : tie.Need-loop-holds Inv-loop μ-loop
-loop-holds c = search first-begin
-
-loop-again : tie.Need-loop-again Inv-loop μ-loop
-loop-again c = search (first-more, needs)
-
-returns : tie.Need-returns Inv-loop μ-loop
-returns c = search first-all
-
 pub first-waiting-spec : {M : Type 1} → statement M
 first-waiting-spec =
     tie.close
     (tie.spec
     Inv-loop
     μ-loop
-    loop-holds
+    (λ c. search first-begin)
     (λ c κs. search needs)
     (λ c. search needs)
     (λ c. search needs)
     (λ c. search needs)
     (λ c. search needs)
-    loop-again
+    (λ c. search (first-more, needs))
     (λ c. search needs)
-    returns)
+    (λ c. search first-all))

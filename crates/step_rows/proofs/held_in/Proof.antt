@@ -16,9 +16,6 @@ Inv-loop row links total₀ i₀ total i = (i ≤ links) × (total ≡ sum i (λ
 abbrev μ-loop : tie.MeasureT-loop
 μ-loop row links total₀ i₀ total i = links - i
 
-loop-holds : tie.Need-loop-holds Inv-loop μ-loop
-loop-holds c = (search needs, sym (sum-none _), search needs)
-
 loop-again : tie.Need-loop-again Inv-loop μ-loop
 loop-again c =
     let r = c .before .before .before .before .before .before .args .row .now in
@@ -36,7 +33,7 @@ held-in-spec =
     (tie.spec
     Inv-loop
     μ-loop
-    loop-holds
+    (λ c. (search needs, sym (sum-none _), search needs))
     (λ c κs. search needs)
     (λ c κs. search needs)
     (λ c κs. search needs)

@@ -11,34 +11,22 @@ Inv-loop step line counts waiting₀ i₀ waiting i = Keeping counts step line w
 abbrev μ-loop : tie.MeasureT-loop
 μ-loop step line counts waiting₀ i₀ waiting i = counts .links - i
 
-loop-holds : tie.Need-loop-holds Inv-loop μ-loop
-loop-holds c = search keeping-first
-
-sub-waiting : tie.Need-sub-waiting Inv-loop μ-loop
-sub-waiting c = search keeping-enough
-
-loop-again : tie.Need-loop-again Inv-loop μ-loop
-loop-again c = search keeping-more
-
-returns : tie.Need-returns Inv-loop μ-loop
-returns c = search keeping-all
-
 pub next-waiting-spec : {M : Type 1} → statement M
 next-waiting-spec =
     tie.close
     (tie.spec
     Inv-loop
     μ-loop
-    loop-holds
+    (λ c. search keeping-first)
     (λ c. search needs)
     (λ c. search needs)
     (λ c. search needs)
     (λ c κs. search needs)
-    sub-waiting
+    (λ c. search keeping-enough)
     (λ c. search needs)
     (λ c. search needs)
     (λ c. search needs)
     (λ c. search needs)
-    loop-again
+    (λ c. search keeping-more)
     (λ c. search needs)
-    returns)
+    (λ c. search keeping-all))

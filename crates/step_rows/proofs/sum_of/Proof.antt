@@ -16,9 +16,6 @@ Inv-loop line first count total₀ i₀ total i =
 abbrev μ-loop : tie.MeasureT-loop
 μ-loop line first count total₀ i₀ total i = count - i
 
-loop-holds : tie.Need-loop-holds Inv-loop μ-loop
-loop-holds c = (search needs, sym (sum-none _), search needs)
-
 add-total : tie.Need-add-total Inv-loop μ-loop
 add-total c = omega (arith, c .before .before .before .loop .inv, c .before .before .before .before .before .pre)
 
@@ -43,7 +40,7 @@ sum-of-spec =
     (tie.spec
     Inv-loop
     μ-loop
-    loop-holds
+    (λ c. (search needs, sym (sum-none _), search needs))
     (λ c. search needs)
     (λ c. search needs)
     (λ c. search needs)

@@ -15,9 +15,6 @@ Inv-loop signals₀ count phases asked seconds i₀ signals i = (i ≤ count) ×
 abbrev μ-loop : tie.MeasureT-loop
 μ-loop signals₀ count phases asked seconds i₀ signals i = count - i
 
-loop-holds : tie.Need-loop-holds Inv-loop μ-loop
-loop-holds c = (search needs, advanced-none _ _ _ _ (search needs))
-
 step-on-requires : tie.Need-step-on-requires Inv-loop μ-loop
 step-on-requires c κs = let w = c .before .before .before .before .loop in let start = c .before .before .before .before .before .before .before .before .pre in (record { size = w .inv .1 .size; few = omega (arith, start .few); ready = rw (w .inv .1 .kept (w .i) (le-refl _)) (start .ready (w .i) (omega arith)) }, start .short)
 
@@ -33,7 +30,7 @@ advance-spec =
     (tie.spec
     Inv-loop
     μ-loop
-    loop-holds
+    (λ c. (search needs, advanced-none _ _ _ _ (search needs)))
     (λ c. search needs)
     (λ c. search needs)
     (λ c. search needs)

@@ -3,8 +3,5 @@ use borrow.Author.Needs.{needs}
 use Rattle.step_signals.proofs.clock_after.Statement.{statement}
 use Rattle.step_signals.proofs.clock_after.Tie as tie
 
-returns : tie.Need-returns
-returns c = rw (c .choose .ensures, c .before .before .begins-cycle .ensures)
-
 pub clock-after-spec : {M : Type 1} → statement M
-clock-after-spec = tie.close (tie.spec (λ c κs. search needs) (λ c. search needs) (λ c κs. search needs) returns)
+clock-after-spec = tie.close (tie.spec (λ c κs. search needs) (λ c. search needs) (λ c κs. search needs) (λ c. rw (c .choose .ensures, c .before .before .begins-cycle .ensures)))

@@ -14,9 +14,6 @@ Inv-loop signals count line₀ i₀ line i = (i ≤ count) × HeldMasks signals 
 abbrev μ-loop : tie.MeasureT-loop
 μ-loop signals count line₀ i₀ line i = count - i
 
-loop-holds : tie.Need-loop-holds Inv-loop μ-loop
-loop-holds c = (search needs, held-none _ _)
-
 mask-of-requires : tie.Need-mask-of-requires Inv-loop μ-loop
 mask-of-requires c κs = omega (arith, c .shown-phase .ensures, c .before .before .before .before .before .pre .1 (c .before .before .loop .i) (omega arith) .shows-phase, c .before .before .before .before .before .pre .1 (c .before .before .loop .i) (omega arith) .few-phases)
 
@@ -32,7 +29,7 @@ hold-masks-spec =
     (tie.spec
     Inv-loop
     μ-loop
-    loop-holds
+    (λ c. (search needs, held-none _ _))
     (λ c κs. search needs)
     mask-of-requires
     (λ c. search needs)

@@ -3,8 +3,5 @@ use borrow.Author.Needs.{needs}
 use Rattle.step_signals.proofs.keeps_order.Statement.{statement}
 use Rattle.step_signals.proofs.keeps_order.Tie as tie
 
-returns : tie.Need-returns
-returns c = rw (c .next-phase .ensures)
-
 pub keeps-order-spec : {M : Type 1} → statement M
-keeps-order-spec = tie.close (tie.spec (λ c κs. search needs) returns)
+keeps-order-spec = tie.close (tie.spec (λ c κs. search needs) (λ c. rw (c .next-phase .ensures)))

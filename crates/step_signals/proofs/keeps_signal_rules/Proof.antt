@@ -14,17 +14,11 @@ Inv-loop signals count phases asked seconds r₀ r = (r ≤ count) × SignalRule
 abbrev μ-loop : tie.MeasureT-loop
 μ-loop signals count phases asked seconds r₀ r = count - r
 
-loop-holds : tie.Need-loop-holds Inv-loop μ-loop
-loop-holds c = (omega arith, λ r l. absurd (omega arith))
-
 signal-keeps-requires : tie.Need-signal-keeps-requires Inv-loop μ-loop
 signal-keeps-requires c κs =
     let i = c .before .before .before .loop .r in
     let asked = c .before .before .before .before .before .before .before .pre in
     (record { size = asked .size; few = omega (arith, asked .few); ready = asked .ready i (omega arith) }, (asked .phase-last i (omega arith), asked .short))
-
-returns : tie.Need-returns Inv-loop μ-loop
-returns c = λ e. let z : _≡_ {A = ℕ} 0 1 = cc in absurd (omega arith)
 
 loop-again : tie.Need-loop-again Inv-loop μ-loop
 loop-again c =
@@ -43,13 +37,13 @@ keeps-signal-rules-spec =
     (tie.spec
     Inv-loop
     μ-loop
-    loop-holds
+    (λ c. (omega arith, λ r l. absurd (omega arith)))
     (λ c. search needs)
     (λ c. search needs)
     (λ c. search needs)
     (λ c. search needs)
     signal-keeps-requires
-    returns
+    (λ c. λ e. let z : _≡_ {A = ℕ} 0 1 = cc in absurd (omega arith))
     (λ c. search needs)
     (λ c. search needs)
     loop-again

@@ -16,30 +16,6 @@ below d l = omega arith
 after-none : {k : ℕ} → k ≤ 0 → 1 ≡ k + 1
 after-none h = omega arith
 
-returns : tie.Need-returns
-returns c = rw (eq-eqb _ _ (c .if1 .taken))
-
-returns-2 : tie.Need-returns-2
-returns-2 c = rw (ne-eqb _ _ (c .before .if1 .left)) (omega arith)
-
-returns-3 : tie.Need-returns-3
-returns-3 c = rw (ne-eqb _ _ (c .before .if1 .left)) (omega arith)
-
-returns-4 : tie.Need-returns-4
-returns-4 c = rw (ne-eqb _ _ (c .before .if1 .left)) (omega arith)
-
-returns-5 : tie.Need-returns-5
-returns-5 c = rw (ne-eqb _ _ (c .before .if1 .left)) (omega arith)
-
-returns-6 : tie.Need-returns-6
-returns-6 c = rw (ne-eqb _ _ (c .before .if1 .left)) (omega arith)
-
-returns-7 : tie.Need-returns-7
-returns-7 c = rw (ne-eqb _ _ (c .before .if1 .left)) (omega arith)
-
-returns-8 : tie.Need-returns-8
-returns-8 c = rw (ne-eqb _ _ (c .before .if1 .left)) (omega arith)
-
 returns-9 : tie.Need-returns-9
 returns-9 c =
     let ready = c .before .before .before .pre in
@@ -52,4 +28,4 @@ returns-9 c =
 
 pub next-phase-spec : {M : Type 1} → statement M
 next-phase-spec =
-    tie.close (tie.spec returns returns-2 returns-3 returns-4 returns-5 returns-6 returns-7 returns-8 returns-9)
+    tie.close (tie.spec (λ c. rw (eq-eqb _ _ (c .if1 .taken))) (λ c. rw (ne-eqb _ _ (c .before .if1 .left)) (omega arith)) (λ c. rw (ne-eqb _ _ (c .before .if1 .left)) (omega arith)) (λ c. rw (ne-eqb _ _ (c .before .if1 .left)) (omega arith)) (λ c. rw (ne-eqb _ _ (c .before .if1 .left)) (omega arith)) (λ c. rw (ne-eqb _ _ (c .before .if1 .left)) (omega arith)) (λ c. rw (ne-eqb _ _ (c .before .if1 .left)) (omega arith)) (λ c. rw (ne-eqb _ _ (c .before .if1 .left)) (omega arith)) returns-9)

@@ -10,8 +10,5 @@ returns c = phase-one 32 _ _ (c .before .before .fits .mask .fits) (c .before .i
 returns-2 : tie.Need-returns-2
 returns-2 c = phase-past 32 _ _ (c .before .before .fits .mask .fits) (c .before .if1 .taken) (c .if2 .left)
 
-returns-3 : tie.Need-returns-3
-returns-3 c = phase-many _ _ (c .if1 .left)
-
 pub phase-of-spec : {M : Type 1} → statement M
-phase-of-spec = tie.close (tie.spec (λ c. search needs) returns returns-2 returns-3)
+phase-of-spec = tie.close (tie.spec (λ c. search needs) returns returns-2 (λ c. phase-many _ _ (c .if1 .left)))

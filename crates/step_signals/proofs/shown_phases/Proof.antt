@@ -14,9 +14,6 @@ Inv-loop signals count masks phases₀ i₀ phases i = (i ≤ count) × ShownPha
 abbrev μ-loop : tie.MeasureT-loop
 μ-loop signals count masks phases₀ i₀ phases i = count - i
 
-loop-holds : tie.Need-loop-holds Inv-loop μ-loop
-loop-holds c = (search needs, shown-none _ _ _ (search needs))
-
 loop-again : tie.Need-loop-again Inv-loop μ-loop
 loop-again c = let w = c .before .before .before .before .loop in (search needs, shown-more _ _ _ (w .i) (w .phases) (c .phase-of .result) (omega arith) (w .inv .1) (rw (c .before .phase-count .ensures) at (c .phase-of .ensures)))
 
@@ -29,7 +26,7 @@ shown-phases-spec =
     (tie.spec
     Inv-loop
     μ-loop
-    loop-holds
+    (λ c. (search needs, shown-none _ _ _ (search needs)))
     (λ c. search needs)
     (λ c. search needs)
     (λ c κs. search needs)

@@ -14,9 +14,6 @@ least-time-requires c κs =
     let ready = rw (← c .before .signal-in .ensures) at (c .before .before .before .before .before .pre .0 .ready) in
     search needs
 
-greatest-time-requires : tie.Need-greatest-time-requires
-greatest-time-requires c κs = let phase = c .place-of2 .ensures in search needs
-
 keeps-all-requires : tie.Need-keeps-all-requires
 keeps-all-requires c κs =
     let s = c .before .before .before .before .before .before .before .before in
@@ -30,4 +27,4 @@ returns-2 c = rw (c .keeps-all .ensures, c .before .before .before .before .befo
 
 pub signal-keeps-spec : {M : Type 1} → statement M
 signal-keeps-spec =
-    tie.close (tie.spec (λ c κs. search needs) returns (λ c κs. search needs) (λ c κs. search needs) least-time-requires (λ c κs. search needs) greatest-time-requires keeps-all-requires returns-2)
+    tie.close (tie.spec (λ c κs. search needs) returns (λ c κs. search needs) (λ c κs. search needs) least-time-requires (λ c κs. search needs) (λ c κs. let phase = c .place-of2 .ensures in search needs) keeps-all-requires returns-2)

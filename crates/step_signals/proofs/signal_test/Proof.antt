@@ -31,9 +31,6 @@ returns-6 : tie.Need-returns-6
 unfolding signalTest _or_
 returns-6 c = rw (c .before .match .keys6, c .keeps-cycle .ensures)
 
-returns-7 : tie.Need-returns-7
-returns-7 c = no-signal-test _ _ _ _ _ (omega arith)
-
 pub signal-test-spec : {M : Type 1} → statement M
 signal-test-spec =
     tie.close
@@ -48,4 +45,4 @@ signal-test-spec =
     returns-4
     returns-5
     returns-6
-    returns-7)
+    (λ c. no-signal-test _ _ _ _ _ (omega arith)))

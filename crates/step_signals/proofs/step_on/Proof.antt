@@ -7,13 +7,7 @@ use Rattle.step_signals.proofs.step_on.Tie as tie
 after-requires : tie.Need-after-requires
 after-requires c κs = (rw (c .signal-in .ensures) (c .before .before .before .before .pre .0 .ready), c .before .before .before .before .pre .1)
 
-returns : tie.Need-returns
-returns c = search (signal-on, needs)
-
-returns-2 : tie.Need-returns-2
-returns-2 c = search (signal-still, needs)
-
 pub step-on-spec : {M : Type 1} → statement M
 step-on-spec =
     tie.close
-    (tie.spec (λ c κs. search needs) after-requires (λ c κs. search needs) (λ c. search needs) returns returns-2)
+    (tie.spec (λ c κs. search needs) after-requires (λ c κs. search needs) (λ c. search needs) (λ c. search (signal-on, needs)) (λ c. search (signal-still, needs)))

@@ -4,17 +4,8 @@ use borrow.Author.Needs.{needs}
 use Rattle.step_sums.proofs.entered_after.Statement.{statement}
 use Rattle.step_sums.proofs.entered_after.Tie as tie
 
-returns : tie.Need-returns
-returns c = search (after-past, needs)
-
-returns-2 : tie.Need-returns-2
-returns-2 c = search (after-last, needs)
-
 entered-at-requires : tie.Need-entered-at-requires
 entered-at-requires c κs = row-after (c .before .before .before .before .before .before .before .pre .0) (search needs) (c .if2 .left) (c .before .before .before .before .before .before .before .pre .1 .1)
-
-returns-3 : tie.Need-returns-3
-returns-3 c = search (after-earlier, needs)
 
 pub entered-after-spec : {M : Type 1} → statement M
 entered-after-spec =
@@ -24,9 +15,9 @@ entered-after-spec =
     (λ c. search needs)
     (λ c. search needs)
     (λ c. search needs)
-    returns
+    (λ c. search (after-past, needs))
     (λ c. search needs)
     (λ c κs. search needs)
-    returns-2
+    (λ c. search (after-last, needs))
     entered-at-requires
-    returns-3)
+    (λ c. search (after-earlier, needs)))

@@ -4,14 +4,8 @@ use borrow.Author.Needs.{needs}
 use Rattle.step_sums.proofs.entered_before.Statement.{statement}
 use Rattle.step_sums.proofs.entered_before.Tie as tie
 
-returns : tie.Need-returns
-returns c = search (before-past, needs)
-
 entered-at-requires : tie.Need-entered-at-requires
 entered-at-requires c κs = row-before (c .before .before .before .before .before .before .pre .0) (search needs) (c .before .before .before .before .before .before .pre .1 .1)
-
-returns-2 : tie.Need-returns-2
-returns-2 c = search (before-later, needs)
 
 pub entered-before-spec : {M : Type 1} → statement M
 entered-before-spec =
@@ -20,6 +14,6 @@ entered-before-spec =
     (λ c. search needs)
     (λ c. search needs)
     (λ c. search needs)
-    returns
+    (λ c. search (before-past, needs))
     entered-at-requires
-    returns-2)
+    (λ c. search (before-later, needs)))

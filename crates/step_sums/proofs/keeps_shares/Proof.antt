@@ -15,12 +15,6 @@ Inv-loop line movements previous row counts count j₀ j = (j ≤ count) × Shar
 abbrev μ-loop : tie.MeasureT-loop
 μ-loop line movements previous row counts count j₀ j = count - j
 
-loop-holds : tie.Need-loop-holds Inv-loop μ-loop
-loop-holds c = (omega arith, λ j l. absurd (omega arith))
-
-returns : tie.Need-returns Inv-loop μ-loop
-returns c = λ e. let z : _≡_ {A = ℕ} 0 1 = cc in absurd (omega arith)
-
 loop-again : tie.Need-loop-again Inv-loop μ-loop
 loop-again c =
     let w = c .before .before .before .loop in
@@ -38,9 +32,9 @@ keeps-shares-spec =
     (tie.spec
     Inv-loop
     μ-loop
-    loop-holds
+    (λ c. (omega arith, λ j l. absurd (omega arith)))
     (λ c κs. search needs)
-    returns
+    (λ c. λ e. let z : _≡_ {A = ℕ} 0 1 = cc in absurd (omega arith))
     (λ c. search needs)
     (λ c. search needs)
     loop-again

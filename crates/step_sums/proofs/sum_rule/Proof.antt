@@ -33,9 +33,6 @@ returns-3 : tie.Need-returns-3
 unfolding sumRuleHolds
 returns-3 c = rw (c .before .match .keys3) (c .fits-capacity .ensures)
 
-returns-4 : tie.Need-returns-4
-returns-4 c = no-sum-rule _ _ _ _ _ _ _ _ _ _ _ _ _ (omega arith)
-
 pub sum-rule-spec : {M : Type 1} → statement M
 sum-rule-spec =
     tie.close
@@ -46,4 +43,4 @@ sum-rule-spec =
     returns
     returns-2
     returns-3
-    returns-4)
+    (λ c. no-sum-rule _ _ _ _ _ _ _ _ _ _ _ _ _ (omega arith)))

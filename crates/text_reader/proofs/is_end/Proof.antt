@@ -3,8 +3,5 @@ use Rattle.text_reader.proofs.Turns.{end-test}
 use Rattle.text_reader.proofs.is_end.Statement.{statement}
 use Rattle.text_reader.proofs.is_end.Tie as tie
 
-returns : tie.Need-returns
-returns c = end-test _ _
-
 pub is-end-spec : {M : Type 1} → statement M
-is-end-spec = tie.close (tie.spec returns)
+is-end-spec = tie.close (tie.spec (λ c. end-test _ _))

@@ -13,26 +13,8 @@ Inv-loop text from value₀ k₀ value k = Run text from k value
 abbrev μ-loop : tie.MeasureT-loop
 μ-loop text from value₀ k₀ value k = length text - (from + k)
 
-loop-holds : tie.Need-loop-holds Inv-loop μ-loop
-loop-holds c = search (run-none, needs)
-
-returns : tie.Need-returns Inv-loop μ-loop
-returns c = search run-stop
-
-has-room-requires : tie.Need-has-room-requires Inv-loop μ-loop
-has-room-requires c κs = search digit-high
-
-returns-2 : tie.Need-returns-2 Inv-loop μ-loop
-returns-2 c = search run-big
-
 shifted-requires : tie.Need-shifted-requires Inv-loop μ-loop
 shifted-requires c κs = (search digit-low, has-room _ _ (c .before .has-room .ensures) (c .if2 .left))
-
-loop-again : tie.Need-loop-again Inv-loop μ-loop
-loop-again c = search run-more
-
-returns-3 : tie.Need-returns-3 Inv-loop μ-loop
-returns-3 c = search run-full
 
 pub sentinel-digits-from-spec : {M : Type 1} → statement M
 sentinel-digits-from-spec =
@@ -40,17 +22,17 @@ sentinel-digits-from-spec =
     (tie.spec
     Inv-loop
     μ-loop
-    loop-holds
+    (λ c. search (run-none, needs))
     (λ c. search needs)
     (λ c. search needs)
     (λ c κs. search needs)
     (λ c κs. search needs)
-    returns
-    has-room-requires
-    returns-2
+    (λ c. search run-stop)
+    (λ c κs. search digit-high)
+    (λ c. search run-big)
     shifted-requires
     (λ c. search needs)
     (λ c. search needs)
-    loop-again
+    (λ c. search run-more)
     (λ c. search needs)
-    returns-3)
+    (λ c. search run-full))

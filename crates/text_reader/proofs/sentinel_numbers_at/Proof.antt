@@ -15,29 +15,8 @@ Inv-loop text at out₀ i₀ k₀ out i k = Stored text at out₀ out i k × (ge
 abbrev μ-loop : tie.MeasureT-loop
 μ-loop text at out₀ i₀ k₀ out i k = length out - k
 
-loop-holds : tie.Need-loop-holds Inv-loop μ-loop
-loop-holds c = (search stored-none, search needs)
-
 add-t19 : tie.Need-add-t19 Inv-loop μ-loop
 add-t19 c = omega (arith, ended-feed _ _ _ _ _ (c .before .before .before .before .sentinel-tabbed-at .ensures) (c .before .before .value2 .given .1))
-
-returns : tie.Need-returns Inv-loop μ-loop
-returns c = search feed-all
-
-returns-2 : tie.Need-returns-2 Inv-loop μ-loop
-returns-2 c = search feed-early
-
-returns-3 : tie.Need-returns-3 Inv-loop μ-loop
-returns-3 c = search ended-stop
-
-loop-less : tie.Need-loop-less Inv-loop μ-loop
-loop-less c = simp length-set (omega arith)
-
-loop-again : tie.Need-loop-again Inv-loop μ-loop
-loop-again c = (search ended-more, search ended-tab)
-
-returns-4 : tie.Need-returns-4 Inv-loop μ-loop
-returns-4 c = search all-tab
 
 pub sentinel-numbers-at-spec : {M : Type 1} → statement M
 sentinel-numbers-at-spec =
@@ -45,7 +24,7 @@ sentinel-numbers-at-spec =
     (tie.spec
     Inv-loop
     μ-loop
-    loop-holds
+    (λ c. (search stored-none, search needs))
     (λ c κs. search needs)
     (λ c. search needs)
     (λ c. search needs)
@@ -56,14 +35,14 @@ sentinel-numbers-at-spec =
     (λ c. search needs)
     add-t19
     (λ c. search needs)
-    returns
+    (λ c. search feed-all)
     (λ c. search needs)
-    returns-2
+    (λ c. search feed-early)
     (λ c. search needs)
     (λ c. search needs)
-    returns-3
+    (λ c. search ended-stop)
     (λ c. search needs)
-    loop-less
-    loop-again
+    (λ c. simp length-set (omega arith))
+    (λ c. (search ended-more, search ended-tab))
     (λ c. search needs)
-    returns-4)
+    (λ c. search all-tab))

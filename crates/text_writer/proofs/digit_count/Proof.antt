@@ -9,15 +9,6 @@ Inv-loop value count₀ rest₀ count rest = Counted value rest count
 abbrev μ-loop : tie.MeasureT-loop
 μ-loop value count₀ rest₀ count rest = rest
 
-loop-holds : tie.Need-loop-holds Inv-loop μ-loop
-loop-holds c = search counted-first
-
-loop-again : tie.Need-loop-again Inv-loop μ-loop
-loop-again c = search counted-more
-
-returns : tie.Need-returns Inv-loop μ-loop
-returns c = search counted-all
-
 pub digit-count-spec : {M : Type 1} → statement M
 digit-count-spec =
-    tie.close (tie.spec Inv-loop μ-loop loop-holds (λ c. search needs) (λ c. search needs) loop-again returns)
+    tie.close (tie.spec Inv-loop μ-loop (λ c. search counted-first) (λ c. search needs) (λ c. search needs) (λ c. search counted-more) (λ c. search counted-all))

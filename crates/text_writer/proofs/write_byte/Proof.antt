@@ -3,8 +3,5 @@ use borrow.Author.Needs.{needs}
 use Rattle.text_writer.proofs.write_byte.Statement.{statement}
 use Rattle.text_writer.proofs.write_byte.Tie as tie
 
-returns : tie.Need-returns
-returns c = search wrote-byte
-
 pub write-byte-spec : {M : Type 1} → statement M
-write-byte-spec = tie.close (tie.spec (λ c. search needs) (λ c. search needs) (λ c. search needs) returns)
+write-byte-spec = tie.close (tie.spec (λ c. search needs) (λ c. search needs) (λ c. search needs) (λ c. search wrote-byte))

@@ -9,28 +9,19 @@ Inv-loop out₀ at count value left₀ rest₀ out left rest = Digits value coun
 abbrev μ-loop : tie.MeasureT-loop
 μ-loop out₀ at count value left₀ rest₀ out left rest = left
 
-loop-holds : tie.Need-loop-holds Inv-loop μ-loop
-loop-holds c = search digits-first
-
-loop-again : tie.Need-loop-again Inv-loop μ-loop
-loop-again c = search digits-more
-
-returns : tie.Need-returns Inv-loop μ-loop
-returns c = search digits-all
-
 pub write-digits-spec : {M : Type 1} → statement M
 write-digits-spec =
     tie.close
     (tie.spec
     Inv-loop
     μ-loop
-    loop-holds
+    (λ c. search digits-first)
     (λ c. search needs)
     (λ c. search needs)
     (λ c. search needs)
     (λ c. search needs)
     (λ c. search needs)
     (λ c. search needs)
-    loop-again
+    (λ c. search digits-more)
     (λ c. search needs)
-    returns)
+    (λ c. search digits-all))

@@ -12,9 +12,6 @@ write-number-requires : tie.Need-write-number-requires
 unfolding fieldText
 write-number-requires c κs = search needs
 
-returns : tie.Need-returns
-returns c = search wrote-field
-
 pub write-field-spec : {M : Type 1} → statement M
 write-field-spec =
-    tie.close (tie.spec write-byte-requires write-number-requires (λ c. search needs) returns)
+    tie.close (tie.spec write-byte-requires write-number-requires (λ c. search needs) (λ c. search wrote-field))

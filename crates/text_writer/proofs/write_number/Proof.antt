@@ -4,17 +4,11 @@ use borrow.Author.Needs.{needs}
 use Rattle.text_writer.proofs.write_number.Statement.{statement}
 use Rattle.text_writer.proofs.write_number.Tie as tie
 
-write-digits-requires : tie.Need-write-digits-requires
-write-digits-requires c κs = omega (arith, c .before .digit-count .ensures)
-
 add-result : tie.Need-add-result
 add-result c =
     let b = c .before .before .before .before in
     omega (arith, numeral-length 19 (b .before .before .args .value), b .digit-count .ensures)
 
-returns : tie.Need-returns
-returns c = search wrote-number
-
 pub write-number-spec : {M : Type 1} → statement M
 write-number-spec =
-    tie.close (tie.spec (λ c κs. search needs) write-digits-requires add-result (λ c. search needs) returns)
+    tie.close (tie.spec (λ c κs. search needs) (λ c κs. omega (arith, c .before .digit-count .ensures)) add-result (λ c. search needs) (λ c. search wrote-number))

@@ -4,11 +4,5 @@ use borrow.Author.Needs.{needs}
 use Rattle.traces.proofs.cut_at.Statement.{statement}
 use Rattle.traces.proofs.cut_at.Tie as tie
 
-returns : tie.Need-returns
-returns c = search (stop-nearer, needs)
-
-returns-2 : tie.Need-returns-2
-returns-2 c = search (target-nearer, needs)
-
 pub cut-at-spec : {M : Type 1} → statement M
-cut-at-spec = tie.close (tie.spec returns returns-2)
+cut-at-spec = tie.close (tie.spec (λ c. search (stop-nearer, needs)) (λ c. search (target-nearer, needs)))

@@ -12,22 +12,13 @@ Inv-loop places₀ advances red-lines spacing ahead₀ i₀ places ahead i = Mov
 abbrev μ-loop : tie.MeasureT-loop
 μ-loop places₀ advances red-lines spacing ahead₀ i₀ places ahead i = length places₀ - i
 
-loop-holds : tie.Need-loop-holds Inv-loop μ-loop
-loop-holds c = search (moving-none, needs)
-
-loop-again : tie.Need-loop-again Inv-loop μ-loop
-loop-again c = search (moving-next, needs)
-
-returns : tie.Need-returns Inv-loop μ-loop
-returns c = search (moving-done, needs)
-
 pub move-all-spec : {M : Type 1} → statement M
 move-all-spec =
     tie.close
     (tie.spec
     Inv-loop
     μ-loop
-    loop-holds
+    (λ c. search (moving-none, needs))
     (λ c. search needs)
     (λ c. search needs)
     (λ c. search needs)
@@ -37,6 +28,6 @@ move-all-spec =
     (λ c. search needs)
     (λ c. search needs)
     (λ c. search needs)
-    loop-again
+    (λ c. search (moving-next, needs))
     (λ c. search needs)
-    returns)
+    (λ c. search (moving-done, needs)))

@@ -14,18 +14,6 @@ Inv-loop red-lines spacing place target₀ j₀ target j = (j ≤ length red-lin
 abbrev μ-loop : tie.MeasureT-loop
 μ-loop red-lines spacing place target₀ j₀ target j = length red-lines - j
 
-loop-holds : tie.Need-loop-holds Inv-loop μ-loop
-loop-holds c = search (no-line, needs)
-
-loop-again : tie.Need-loop-again Inv-loop μ-loop
-loop-again c = search (next-line, needs)
-
-returns : tie.Need-returns Inv-loop μ-loop
-returns c = search (moves, needs)
-
-returns-2 : tie.Need-returns-2 Inv-loop μ-loop
-returns-2 c = search (stays, needs)
-
 pub move-one-spec : {M : Type 1} → statement M
 move-one-spec =
     tie.close
@@ -33,13 +21,13 @@ move-one-spec =
     Inv-loop
     μ-loop
     (λ c κs. search needs)
-    loop-holds
+    (λ c. search (no-line, needs))
     (λ c. search needs)
     (λ c. search needs)
     (λ c κs. search needs)
     (λ c κs. search needs)
     (λ c. search needs)
     (λ c. search needs)
-    loop-again
-    returns
-    returns-2)
+    (λ c. search (next-line, needs))
+    (λ c. search (moves, needs))
+    (λ c. search (stays, needs)))

@@ -15,30 +15,18 @@ Inv-loop values i₀ i = (i ≤ length values) × (every validDistance values �
 abbrev μ-loop : tie.MeasureT-loop
 μ-loop values i₀ i = length values - i
 
-loop-holds : tie.Need-loop-holds Inv-loop μ-loop
-loop-holds c = (search needs, refl)
-
-returns : tie.Need-returns Inv-loop μ-loop
-returns c = search (every-fails, needs)
-
-loop-again : tie.Need-loop-again Inv-loop μ-loop
-loop-again c = search (every-goes-on, needs)
-
-returns-2 : tie.Need-returns-2 Inv-loop μ-loop
-returns-2 c = search (every-done, needs)
-
 pub valid-distances-spec : {M : Type 1} → statement M
 valid-distances-spec =
     tie.close
     (tie.spec
     Inv-loop
     μ-loop
-    loop-holds
+    (λ c. (search needs, refl))
     (λ c. search needs)
     (λ c. search needs)
     (λ c κs. search needs)
-    returns
+    (λ c. search (every-fails, needs))
     (λ c. search needs)
     (λ c. search needs)
-    loop-again
-    returns-2)
+    (λ c. search (every-goes-on, needs))
+    (λ c. search (every-done, needs)))

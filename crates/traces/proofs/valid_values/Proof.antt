@@ -4,9 +4,6 @@ use borrow.Author.Needs.{needs}
 use Rattle.traces.proofs.valid_values.Statement.{statement}
 use Rattle.traces.proofs.valid_values.Tie as tie
 
-returns : tie.Need-returns
-returns c = search (valid-values-is, needs)
-
 pub valid-values-spec : {M : Type 1} → statement M
 valid-values-spec =
     tie.close
@@ -15,4 +12,4 @@ valid-values-spec =
     (λ c κs. search needs)
     (λ c κs. search needs)
     (λ c κs. search needs)
-    returns)
+    (λ c. search (valid-values-is, needs)))

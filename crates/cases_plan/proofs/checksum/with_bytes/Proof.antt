@@ -14,9 +14,6 @@ Inv-loop start bytes sum₀ i₀ sum i = (i ≤ length bytes) × Summed withByte
 abbrev μ-loop : tie.MeasureT-loop
 μ-loop start bytes sum₀ i₀ sum i = length bytes - i
 
-loop-holds : tie.Need-loop-holds Inv-loop μ-loop
-loop-holds c = (search needs, refl)
-
 loop-again : tie.Need-loop-again Inv-loop μ-loop
 loop-again c =
     let l = c .before .before .before .before .loop in
@@ -29,5 +26,5 @@ pub with-bytes-spec : {M : Type 1} → statement M
 with-bytes-spec =
     tie.close
     (tie.spec
-    Inv-loop μ-loop loop-holds (λ c. search needs) (λ c κs. search needs) (λ c κs. search needs) (λ c. search needs)
+    Inv-loop μ-loop (λ c. (search needs, refl)) (λ c. search needs) (λ c κs. search needs) (λ c κs. search needs) (λ c. search needs)
     (λ c. search needs) loop-again returns)

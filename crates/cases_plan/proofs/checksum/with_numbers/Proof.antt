@@ -14,9 +14,6 @@ Inv-loop start numbers sum₀ i₀ sum i = (i ≤ length numbers) × Summed with
 abbrev μ-loop : tie.MeasureT-loop
 μ-loop start numbers sum₀ i₀ sum i = length numbers - i
 
-loop-holds : tie.Need-loop-holds Inv-loop μ-loop
-loop-holds c = (search needs, refl)
-
 loop-again : tie.Need-loop-again Inv-loop μ-loop
 loop-again c =
     let l = c .before .before .before .loop in
@@ -29,5 +26,5 @@ pub with-numbers-spec : {M : Type 1} → statement M
 with-numbers-spec =
     tie.close
     (tie.spec
-    Inv-loop μ-loop loop-holds (λ c. search needs) (λ c. search needs) (λ c κs. search needs) (λ c. search needs)
+    Inv-loop μ-loop (λ c. (search needs, refl)) (λ c. search needs) (λ c. search needs) (λ c κs. search needs) (λ c. search needs)
     (λ c. search needs) loop-again returns)

@@ -3,12 +3,6 @@ use borrow.Author.Needs.{needs}
 use Rattle.cases_plan.proofs.outcome.of_network.Statement.{statement}
 use Rattle.cases_plan.proofs.outcome.of_network.Tie as tie
 
-returns : tie.Need-returns
-returns c = cc
-
-returns-2 : tie.Need-returns-2
-returns-2 c = cc
-
 pub of-network-spec : {M : Type 1} → statement M
 of-network-spec =
-    tie.close (tie.spec (λ c. search needs) (λ c. search needs) (λ c κs. search needs) returns returns-2)
+    tie.close (tie.spec (λ c. search needs) (λ c. search needs) (λ c κs. search needs) (λ c. cc) (λ c. cc))

@@ -17,9 +17,6 @@ Inv-loop buffer told from same₀ i₀ same i = (i ≤ length buffer) × (same �
 abbrev μ-loop : tie.MeasureT-loop
 μ-loop buffer told from same₀ i₀ same i = length buffer - i
 
-returns : tie.Need-returns Inv-loop μ-loop
-returns c = too-long _ _ _ (c .if1 .taken)
-
 loop-holds : tie.Need-loop-holds Inv-loop μ-loop
 unfolding allBelow
 loop-holds c = (search needs, refl)
@@ -36,5 +33,5 @@ pub holds-spec : {M : Type 1} → statement M
 holds-spec =
     tie.close
     (tie.spec
-    Inv-loop μ-loop returns loop-holds (λ c. search needs) (λ c. search needs) (λ c. search needs) (λ c. search needs)
+    Inv-loop μ-loop (λ c. too-long _ _ _ (c .if1 .taken)) loop-holds (λ c. search needs) (λ c. search needs) (λ c. search needs) (λ c. search needs)
     (λ c. search needs) loop-again returns-2)

@@ -3,11 +3,5 @@ use borrow.Author.Needs.{needs}
 use Rattle.cases_split.proofs.told.refusal_of.Statement.{statement}
 use Rattle.cases_split.proofs.told.refusal_of.Tie as tie
 
-returns : tie.Need-returns
-returns c = cc
-
-returns-2 : tie.Need-returns-2
-returns-2 c = cc
-
 pub refusal-of-spec : {M : Type 1} → statement M
-refusal-of-spec = tie.close (tie.spec (λ c. search needs) (λ c. search needs) returns returns-2)
+refusal-of-spec = tie.close (tie.spec (λ c. search needs) (λ c. search needs) (λ c. cc) (λ c. cc))

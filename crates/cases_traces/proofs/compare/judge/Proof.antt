@@ -3,12 +3,9 @@ use borrow.Author.Needs.{needs}
 use Rattle.cases_traces.proofs.compare.judge.Statement.{statement}
 use Rattle.cases_traces.proofs.compare.judge.Tie as tie
 
-returns : tie.Need-returns
-returns c = cc
-
 pub judge-spec : {M : Type 1} → statement M
 judge-spec =
     tie.close
     (tie.spec
     (λ c κs. search needs) (λ c κs. search needs) (λ c κs. search needs) (λ c κs. search needs) (λ c κs. search needs)
-    (λ c. search needs) returns)
+    (λ c. search needs) (λ c. cc))

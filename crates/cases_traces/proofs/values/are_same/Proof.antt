@@ -17,9 +17,6 @@ Inv-loop values told same₀ i₀ same i = (i ≤ length values) × (same ≡ al
 abbrev μ-loop : tie.MeasureT-loop
 μ-loop values told same₀ i₀ same i = length values - i
 
-returns : tie.Need-returns Inv-loop μ-loop
-returns c = other-length _ _ (c .if1 .taken)
-
 loop-holds : tie.Need-loop-holds Inv-loop μ-loop
 unfolding allBelow
 loop-holds c = (search needs, refl)
@@ -36,5 +33,5 @@ pub are-same-spec : {M : Type 1} → statement M
 are-same-spec =
     tie.close
     (tie.spec
-    Inv-loop μ-loop returns loop-holds (λ c. search needs) (λ c. search needs) (λ c. search needs) (λ c. search needs)
+    Inv-loop μ-loop (λ c. other-length _ _ (c .if1 .taken)) loop-holds (λ c. search needs) (λ c. search needs) (λ c. search needs) (λ c. search needs)
     (λ c κs. search needs) (λ c. search needs) (λ c. search needs) loop-again returns-2)

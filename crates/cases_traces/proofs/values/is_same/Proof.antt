@@ -3,8 +3,5 @@ use borrow.Author.Needs.{needs}
 use Rattle.cases_traces.proofs.values.is_same.Statement.{statement}
 use Rattle.cases_traces.proofs.values.is_same.Tie as tie
 
-returns : tie.Need-returns
-returns c = cc
-
 pub is-same-spec : {M : Type 1} → statement M
-is-same-spec = tie.close (tie.spec (λ c κs. search needs) (λ c κs. search needs) returns)
+is-same-spec = tie.close (tie.spec (λ c κs. search needs) (λ c κs. search needs) (λ c. cc))

@@ -4,14 +4,8 @@ use Rattle.cases_files.proofs.Laws.{counts}
 use Rattle.cases_traces.proofs.values.within.Statement.{statement}
 use Rattle.cases_traces.proofs.values.within.Tie as tie
 
-returns : tie.Need-returns
-returns c = counts _ _ (omega arith)
-
-returns-2 : tie.Need-returns-2
-returns-2 c = counts _ _ (omega arith)
-
 pub within-spec : {M : Type 1} → statement M
 within-spec =
     tie.close
     (tie.spec
-    returns returns-2)
+    (λ c. counts _ _ (omega arith)) (λ c. counts _ _ (omega arith)))
