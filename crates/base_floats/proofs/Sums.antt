@@ -1,10 +1,5 @@
 -- Sums and differences of floats: of finite values they are no NaN, and within a bound they are finite. Assumes nothing.
-use mathlib.Core.Path.{_≡_, refl, sym, _∙_}
-use mathlib.Core.Bool.{Bool, true, false, cond, _&&_, Bool·beq}
-use Prim.Native.Nat.{ℕ, zero, suc, _+_, _-_, _*_, _^_, _≤_, _<_}
-use native.Mathlib.Nat.{mul-pos, mul-le-mul-right, mul-assoc, mul-comm}
-use native.Mathlib.Omega.{arith}
-use lib.Dec.{ltb}
+use Rattle.base_laws.proofs.Kit.{_≡_, refl, sym, _∙_, Bool, true, false, cond, _&&_, Bool·beq, ℕ, zero, suc, _+_, _-_, _*_, _^_, _≤_, _<_, mul-pos, mul-le-mul-right, mul-assoc, mul-comm, arith, ltb}
 use lib.Ieee.{Float, nan, inf, fin, Format, binary64, prec, emax, low, up, down, odd, units, round, sum, add, sub, neg, le, isNan}
 use lib.Ieee.Bits.{is-true}
 use lib.Ieee.Fits.{down-pos}

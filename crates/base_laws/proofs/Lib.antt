@@ -1,3 +1,4 @@
+pub mod Kit
 pub mod Bools
 pub mod Tests
 pub mod Laws

@@ -1,11 +1,5 @@
 -- A refusal has the number of one of the checks, so that where these are among the call's, its number can arise.
-use mathlib.Core.Path.{_≡_, refl}
-use mathlib.Core.Bool.{Bool, true, false, _&&_, and-eq-true-iff}
-use mathlib.Core.Logic.{inl, inr}
-use mathlib.Core.List.{List, [], _∷_}
-use Prim.Native.Nat.{ℕ, _<_}
-use borrow.Author.Tests.{leb-true, eqb-true}
-use lib.Dec.{leb, eqb}
+use Rattle.base_laws.proofs.Kit.{_≡_, refl, Bool, true, false, _&&_, and-eq-true-iff, inl, inr, List, [], _∷_, ℕ, _<_, leb-true, eqb-true, leb, eqb}
 use Rattle.base_search.specs.declared.Refusal.{Refusal}
 use Rattle.base_search.specs.declared.Verdict.the-variants.{Refused}
 use Rattle.base_search.specs.Checks.{Checks, check, each, _then_, verdict, FirstBroken}

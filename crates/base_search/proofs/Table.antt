@@ -1,14 +1,7 @@
 -- The search for the first broken rule of a table, a turn at a time: every rule before the one that it is at holds of every item. And tables whose rules agree.
 -- Assumes nothing.
-use Prim.Native.Nat.{ℕ, zero, suc, _+_, _≤_, _<_}
-use mathlib.Core.Path.{_≡_, refl, sym, ap, ap₂, _∙_}
-use mathlib.Core.Bool.{Bool, true, false, not}
-use mathlib.Core.List.{List, [], _∷_}
-use native.Mathlib.Numerals.{add-one}
-use native.Mathlib.Omega.{arith}
+use Rattle.base_laws.proofs.Kit.{ℕ, zero, suc, _+_, _≤_, _<_, _≡_, refl, sym, ap, ap₂, _∙_, Bool, true, false, not, List, [], _∷_, add-one, arith, not-true, not-false, length}
 use borrow.Author.Count.{below-more}
-use borrow.Author.Tests.{not-true, not-false}
-use lib.ListN.{length}
 use Rattle.base_search.specs.declared.Verdict.{Verdict}
 use Rattle.base_search.specs.declared.Verdict.the-variants.{Passes, Refused}
 use Rattle.base_search.specs.Checks.{refusal, firstFrom, checked, verdict, Hold, Rule, ruleAt, rulesFrom, table}

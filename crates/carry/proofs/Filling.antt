@@ -1,12 +1,5 @@
 -- Rows by the program's tables: a signal's numbers, and a step's volumes by the ledger. Assumes nothing.
-use Prim.Native.Nat.{ℕ, zero, suc, _+_, _*_, _-_, _≤_, _<_}
-use mathlib.Core.Path.{_≡_, refl, sym, ap, _∙_}
-use mathlib.Core.List.{List, [], _∷_, _++_, append-assoc}
-use native.Mathlib.Numerals.{add-one}
-use native.Mathlib.Nat.{mul-le-mul-right}
-use native.Mathlib.Omega.{arith}
-use lib.ListN.{length, getD, set, take, drop, length-append, length-drop, length-set}
-use lib.Seq.{take-suc, getD-drop}
+use Rattle.base_laws.proofs.Kit.{ℕ, zero, suc, _+_, _*_, _-_, _≤_, _<_, _≡_, refl, sym, ap, _∙_, List, [], _∷_, _++_, append-assoc, add-one, mul-le-mul-right, arith, length, getD, set, take, drop, length-append, length-drop, length-set, take-suc, getD-drop}
 use Rattle.text_reader.specs.Reading.{over}
 use Rattle.model.specs.declared.Signal.{Signal}
 use Rattle.base_laws.specs.Sum.{joined}

@@ -1,9 +1,5 @@
 -- The `N`, `G`, `Q` and `M` lines, put by the program's tables. Assumes nothing.
-use Prim.Native.Nat.{ℕ, _+_, _*_, _-_, _≤_, _<_}
-use mathlib.Core.Path.{_≡_, ap, _∙_}
-use mathlib.Core.List.{List, [], _∷_}
-use native.Mathlib.Omega.{arith}
-use lib.ListN.{length, getD, take, drop}
+use Rattle.base_laws.proofs.Kit.{ℕ, _+_, _*_, _-_, _≤_, _<_, _≡_, ap, _∙_, List, [], _∷_, arith, length, getD, take, drop}
 use Rattle.text_writer.specs.Records.{recordText}
 use Rattle.model.specs.Table.{letterN, letterG, letterQ, letterM}
 use Rattle.network_tables.specs.declared.Counts.{Counts}

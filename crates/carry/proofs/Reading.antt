@@ -1,10 +1,5 @@
 -- Lines that have passed, read again and put as they are. Assumes nothing.
-use Prim.Native.Nat.{ℕ, suc, _+_, _*_, _≤_, _<_}
-use mathlib.Core.Path.{_≡_, refl, ap, _∙_}
-use mathlib.Core.Bool.{true}
-use mathlib.Core.List.{List, _∷_}
-use native.Mathlib.Omega.{arith}
-use lib.ListN.{length, getD, take}
+use Rattle.base_laws.proofs.Kit.{ℕ, suc, _+_, _*_, _≤_, _<_, _≡_, refl, ap, _∙_, true, List, _∷_, arith, length, getD, take}
 use Rattle.text_reader.specs.Lines.{lines}
 use Rattle.text_reader.specs.Reading.{Starts, over}
 use Rattle.text_writer.specs.Records.{recordText, recordTexts}

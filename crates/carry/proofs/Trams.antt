@@ -1,14 +1,5 @@
 -- The tram lines that are left behind a boundary, one after another. Assumes nothing.
-use Prim.Native.Nat.{ℕ, suc, _+_, _-_, _≤_, _<_, max, min}
-use mathlib.Core.Path.{_≡_, refl, sym, ap, _∙_}
-use mathlib.Core.Bool.{Bool, true, false, cond}
-use mathlib.Core.List.{List, [], _∷_, _++_, append-nil}
-use native.Mathlib.Decide.{decLe}
-use native.Mathlib.Numerals.{add-one}
-use native.Mathlib.Omega.{arith}
-use borrow.Author.Tests.{lt-ltb, le-ltb, le-leb, lt-leb}
-use lib.ListN.{length, getD, take, drop, length-append, length-take, length-drop}
-use lib.Seq.{take-suc, take-all, getD-take, getD-drop}
+use Rattle.base_laws.proofs.Kit.{ℕ, suc, _+_, _-_, _≤_, _<_, max, min, _≡_, refl, sym, ap, _∙_, Bool, true, false, cond, List, [], _∷_, _++_, append-nil, decLe, add-one, arith, lt-ltb, le-ltb, le-leb, lt-leb, length, getD, take, drop, length-append, length-take, length-drop, take-suc, take-all, getD-take, getD-drop}
 use Rattle.text_reader.specs.Lines.{Line, lines, noLine, number}
 use Rattle.text_writer.specs.Records.{recordText}
 use Rattle.model.specs.Network.{entry, stepCount, tramCount, tramLine, trams}

@@ -1,12 +1,5 @@
 -- The lines that are put, one block behind another, are the carried network's. Assumes nothing.
-use Prim.Native.Nat.{ℕ, zero, suc, _+_, _*_, _-_, _≤_, _<_}
-use mathlib.Core.Path.{_≡_, refl, sym, ap, ap₂, _∙_}
-use mathlib.Core.Bool.{true}
-use mathlib.Core.List.{List, [], _∷_, _++_, append-assoc, append-nil}
-use native.Mathlib.Numerals.{add-one}
-use native.Mathlib.Omega.{arith}
-use borrow.Author.Tests.{leb-true}
-use lib.ListN.{length, getD, take, drop, length-take}
+use Rattle.base_laws.proofs.Kit.{ℕ, zero, suc, _+_, _*_, _-_, _≤_, _<_, _≡_, refl, sym, ap, ap₂, _∙_, true, List, [], _∷_, _++_, append-assoc, append-nil, add-one, arith, leb-true, length, getD, take, drop, length-take}
 use Rattle.base_search.specs.declared.Refusal.{Refusal}
 use Rattle.base_search.specs.Checks.{refusal}
 use Rattle.text_reader.specs.Lines.{Line, lines}

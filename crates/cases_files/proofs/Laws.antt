@@ -1,11 +1,5 @@
 -- Parts of lists, and tests, a number at a time. Assumes nothing.
-use Prim.Native.Nat.{ℕ, _+_, _≤_}
-use native.Mathlib.Numerals.{add-one}
-use mathlib.Core.Path.{_≡_, sym}
-use mathlib.Core.Bool.{Bool, _&&_}
-use mathlib.Core.List.{List}
-use lib.ListN.{length}
-use lib.Seq.{length-take-le}
+use Rattle.base_laws.proofs.Kit.{ℕ, _+_, _≤_, add-one, _≡_, sym, Bool, _&&_, List, length, length-take-le}
 use Rattle.cases_files.specs.Counts.{Counts}
 use Rattle.cases_files.specs.Below.{allBelow}
 

@@ -1,15 +1,10 @@
 -- A gap modulo 2^64, as a machine forms it from a word that holds the gap. Assumes nothing.
-use Prim.Native.Nat.{ℕ, suc, _-_, _^_, _≤_}
-use mathlib.Core.Path.{_≡_, ap}
-use mathlib.Core.Bool.{true, false}
-use native.Mathlib.Omega.{arith}
-use lib.Dec.{T}
+use Rattle.base_laws.proofs.Kit.{ℕ, suc, _-_, _^_, _≤_, _≡_, ap, true, false, arith, T, ltb-true, le-ltb}
 use lib.IntN.{ℤ, pos, negsuc, natAbs, _-ℤ_}
 use lib.Signed.{ltZ, nonNeg}
 use mir.Syntax.{w64}
 use mir.Val.{Fits, SFits, toZ, ofZ}
 use mir.Facts.{toZ-ofZ}
-use borrow.Author.Tests.{ltb-true, le-ltb}
 use Rattle.plan_compare.specs.declared.Order.{Order}
 use Rattle.plan_compare.specs.declared.ComparisonAnswer.{ComparisonAnswer}
 use Rattle.plan_compare.specs.declared.ComparisonAnswer.the-variants.{Compared}

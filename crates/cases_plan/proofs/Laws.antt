@@ -1,11 +1,5 @@
 -- The answers, a call at a time, and their comparison. Assumes nothing.
-use Prim.Native.Nat.{ℕ}
-use mathlib.Core.Path.{_≡_, ap, sym, _∙_}
-use mathlib.Core.Bool.{Bool, true, false}
-use mathlib.Core.List.{List}
-use native.Mathlib.Omega.{arith}
-use borrow.Author.Tests.{ne-eqb}
-use lib.ListN.{length}
+use Rattle.base_laws.proofs.Kit.{ℕ, _≡_, ap, sym, _∙_, Bool, true, false, List, arith, ne-eqb, length}
 use Rattle.text_reader.specs.Lines.{lines}
 use Rattle.model.specs.Hold.{planOf}
 use Rattle.model.specs.Calls.{checkNetwork, checkPlan, ledgerAfter, linkState}

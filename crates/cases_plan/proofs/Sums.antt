@@ -1,12 +1,5 @@
 -- The checksum, an item at a time. Assumes nothing.
-use Prim.Native.Nat.{ℕ, _+_, _*_, _/_, _%_, _^_, _<_, _≤_}
-use mathlib.Core.Path.{_≡_, refl, sym, ap, _∙_}
-use mathlib.Core.List.{List}
-use native.Mathlib.Nat.{mod-add-mod, add-mul-mod-self-right}
-use native.Mathlib.Numerals.{add-one}
-use native.Mathlib.Omega.{arith}
-use lib.ListN.{length, getD, drop, drop-of-length-le}
-use lib.Seq.{drop-cons}
+use Rattle.base_laws.proofs.Kit.{ℕ, _+_, _*_, _/_, _%_, _^_, _<_, _≤_, _≡_, refl, sym, ap, _∙_, List, mod-add-mod, add-mul-mod-self-right, add-one, arith, length, getD, drop, drop-of-length-le, drop-cons}
 use Rattle.cases_plan.specs.Checksum.{withEach}
 
 -- a product by the prime, 2^40 + 435, in parts that fit 64 bits

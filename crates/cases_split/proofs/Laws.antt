@@ -1,11 +1,5 @@
 -- All bytes of a buffer compared, and all of a split. Assumes nothing.
-use Prim.Native.Nat.{ℕ, _≤_, _<_}
-use mathlib.Core.Path.{_≡_}
-use mathlib.Core.Bool.{Bool, false}
-use mathlib.Core.List.{List}
-use native.Mathlib.Omega.{arith}
-use borrow.Author.Tests.{le-leb, lt-leb}
-use lib.ListN.{length}
+use Rattle.base_laws.proofs.Kit.{ℕ, _≤_, _<_, _≡_, Bool, false, List, arith, le-leb, lt-leb, length}
 use Rattle.model_split.specs.declared.SplitAnswer.{SplitAnswer}
 use Rattle.model_split.specs.Splits.{Texts, Buffers, SplitInTwo}
 use Rattle.cases_files.specs.Below.{allBelow}

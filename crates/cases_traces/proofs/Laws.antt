@@ -1,14 +1,7 @@
 -- A NaN and its bits, and values that are the same. Assumes nothing.
-use Prim.Native.Nat.{ℕ, _%_, _≤_}
-use mathlib.Core.Path.{_≡_, refl, sym, _∙_}
-use mathlib.Core.Bool.{Bool, true, false, not}
-use mathlib.Core.List.{List}
-use native.Mathlib.Omega.{arith}
-use lib.Dec.{T}
-use lib.ListN.{length}
+use Rattle.base_laws.proofs.Kit.{ℕ, _%_, _≤_, _≡_, refl, sym, _∙_, Bool, true, false, not, List, arith, T, length, le-ltb, eq-eqb, ne-eqb}
 use lib.Ieee.{Float, nan, inf, fin, binary64, isNan, nanBits, toBits, le}
 use lib.Ieee.Bits.{nanBits-above}
-use borrow.Author.Tests.{le-ltb, eq-eqb, ne-eqb}
 use Rattle.base_laws.proofs.Bools.{no-truth}
 use Rattle.base_floats.proofs.Order.{float-le-refl}
 use Rattle.cases_files.specs.Below.{allBelow}

@@ -1,10 +1,5 @@
 -- What a run gives, one law for each way through it. Assumes nothing.
-use Prim.Native.Nat.{ℕ, _+_, _-_, _≤_}
-use mathlib.Core.Path.{_≡_, sym, ap, _∙_}
-use mathlib.Core.List.{List, [], _++_}
-use native.Mathlib.Omega.{arith}
-use lib.ListN.{length, take, drop, length-drop}
-use lib.Seq.{length-take-le, ext-getD, getD-drop}
+use Rattle.base_laws.proofs.Kit.{ℕ, _+_, _-_, _≤_, _≡_, sym, ap, _∙_, List, [], _++_, arith, length, take, drop, length-drop, length-take-le, ext-getD, getD-drop}
 use Rattle.base_search.specs.declared.Verdict.the-variants.{Passes, Refused}
 use Rattle.base_search.specs.Checks.{refusal, verdict}
 use Rattle.text_reader.specs.Lines.{Line, lines}

@@ -1,9 +1,7 @@
 -- Texts of corridors, judged and run by computation. Assumes nothing.
-use Prim.Native.Nat.{ℕ, zero, suc}
+use Rattle.base_laws.proofs.Kit.{ℕ, zero, suc, _≡_, refl, List, [], _∷_, map}
 use Prim.Native.Char.{code}
 use Prim.Native.String.{String, _++_}
-use mathlib.Core.Path.{_≡_, refl}
-use mathlib.Core.List.{List, [], _∷_, map}
 use Rattle.base_search.specs.Checks.{refusal, verdict, checked, orElse, firstFrom}
 use Rattle.text_reader.specs.Lines.{lines}
 use Rattle.text_reader.proofs.Opened.{opened as linesOpened}

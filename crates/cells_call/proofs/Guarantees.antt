@@ -1,10 +1,5 @@
 -- What a run keeps, by its definitions. Assumes nothing.
-use Prim.Native.Nat.{ℕ, zero, suc}
-use mathlib.Core.Path.{_≡_, refl, _∙_}
-use mathlib.Core.List.{List, [], _∷_, _++_, append-assoc, append-nil}
-use native.Mathlib.Omega.{arith}
-use borrow.Author.Needs.{needs}
-use lib.ListN.{length, List·getD-append}
+use Rattle.base_laws.proofs.Kit.{ℕ, zero, suc, _≡_, refl, _∙_, List, [], _∷_, _++_, append-assoc, append-nil, arith, needs, length, List·getD-append}
 use Rattle.base_search.specs.declared.Verdict.{Verdict}
 use Rattle.base_search.specs.declared.Verdict.the-variants.{Passes, Refused}
 use Rattle.base_search.specs.Checks.{verdict}

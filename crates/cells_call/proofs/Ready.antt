@@ -1,12 +1,5 @@
 -- A corridor text that is not refused gives a chain that is ready for its steps. Assumes nothing.
-use Prim.Native.Nat.{ℕ, zero, suc, _≤_, _<_}
-use mathlib.Core.Path.{_≡_, sym, _∙_}
-use mathlib.Core.Bool.{true, _&&_}
-use mathlib.Core.List.{List}
-use native.Mathlib.Omega.{arith}
-use borrow.Author.Tests.{leb-true, ltb-true}
-use lib.Dec.{leb, ltb}
-use lib.ListN.{length, getD}
+use Rattle.base_laws.proofs.Kit.{ℕ, zero, suc, _≤_, _<_, _≡_, sym, _∙_, true, _&&_, List, arith, leb-true, ltb-true, leb, ltb, length, getD}
 use Rattle.base_search.specs.declared.Verdict.the-variants.{Passes}
 use Rattle.base_search.specs.Checks.{verdict, Hold}
 use Rattle.base_search.proofs.Laws.{hold-of-passes}

@@ -1,17 +1,6 @@
 -- The `C` lines, as the loop reads them. Assumes nothing.
-use Prim.Native.Nat.{ℕ, suc, _+_, _≤_, _<_}
-use mathlib.Core.Path.{_≡_, refl, sym, ap, _∙_}
-use mathlib.Core.Bool.{Bool, true, false, cond, _&&_}
-use mathlib.Core.List.{List, [], _∷_}
-use native.Mathlib.Nat.{add-zero}
-use native.Mathlib.Numerals.{add-one}
-use native.Mathlib.Decide.{decLt}
-use native.Mathlib.Omega.{arith}
+use Rattle.base_laws.proofs.Kit.{ℕ, suc, _+_, _≤_, _<_, _≡_, refl, sym, ap, _∙_, Bool, true, false, cond, _&&_, List, [], _∷_, add-zero, add-one, decLt, arith, lt-ltb, le-ltb, eqb-true, eqb, length, getD, set, drop, length-set, List·getD-eq-default, getD-drop, drop-cons}
 use borrow.Author.Count.{below-none, below-more}
-use borrow.Author.Tests.{lt-ltb, le-ltb, eqb-true}
-use lib.Dec.{eqb}
-use lib.ListN.{length, getD, set, drop, length-set, List·getD-eq-default}
-use lib.Seq.{getD-drop, drop-cons}
 use Rattle.base_search.specs.declared.Verdict.{Verdict}
 use Rattle.base_search.specs.declared.Verdict.the-variants.{Passes, Refused}
 use Rattle.base_search.specs.Checks.{refusal, verdict, checked, orElse}

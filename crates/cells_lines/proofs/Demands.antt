@@ -1,14 +1,6 @@
 -- The `D` lines, as the loop reads them. Assumes nothing.
-use Prim.Native.Nat.{ℕ, suc, _+_, _-_, _≤_, _<_}
-use mathlib.Core.Path.{_≡_, sym, ap, _∙_}
-use mathlib.Core.Bool.{Bool, true, false, cond, not, _&&_}
-use mathlib.Core.Logic.{_≢_}
-use mathlib.Core.List.{List}
-use native.Mathlib.Omega.{arith}
+use Rattle.base_laws.proofs.Kit.{ℕ, suc, _+_, _-_, _≤_, _<_, _≡_, sym, ap, _∙_, Bool, true, false, cond, not, _&&_, _≢_, List, arith, lt-ltb, le-ltb, le-leb, lt-leb, eqb-true, eqb-false, not-true, not-false, eqb, length, getD, set, length-set}
 use borrow.Author.Count.{below-none, below-more}
-use borrow.Author.Tests.{lt-ltb, le-ltb, le-leb, lt-leb, eqb-true, eqb-false, not-true, not-false}
-use lib.Dec.{eqb}
-use lib.ListN.{length, getD, set, length-set}
 use Rattle.base_search.specs.declared.Verdict.the-variants.{Passes, Refused}
 use Rattle.base_search.specs.Checks.{refusal, each, verdict, checked}
 use Rattle.base_search.proofs.Laws.{first-stop, first-passes, or-else-refused, or-else-passes}

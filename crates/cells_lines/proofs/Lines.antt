@@ -1,12 +1,5 @@
 -- One line of a corridor's text, as the code reads it. Assumes nothing.
-use Prim.Native.Nat.{ℕ, _≤_, _<_}
-use mathlib.Core.Path.{_≡_, sym, ap, _∙_}
-use mathlib.Core.Bool.{Bool, true, false, not, and-true}
-use mathlib.Core.List.{List}
-use native.Mathlib.Omega.{arith}
-use borrow.Author.Tests.{le-leb, lt-leb, not-true, not-false}
-use lib.Dec.{leb, eqb}
-use lib.ListN.{length, getD}
+use Rattle.base_laws.proofs.Kit.{ℕ, _≤_, _<_, _≡_, sym, ap, _∙_, Bool, true, false, not, and-true, List, arith, le-leb, lt-leb, not-true, not-false, leb, eqb, length, getD}
 use Rattle.text_reader.specs.declared.LineRead.{LineRead}
 use Rattle.text_reader.specs.declared.LineRead.the-variants.{Next, Malformed}
 use Rattle.text_reader.specs.Lines.{Line, isRecord, startsAs, allNumbers, number}

@@ -1,13 +1,5 @@
 -- The whole text of a corridor, from its three parts. Assumes nothing.
-use Prim.Native.Nat.{ℕ, suc, _+_}
-use mathlib.Core.Path.{_≡_, sym, ap, _∙_}
-use mathlib.Core.Bool.{true, _&&_}
-use mathlib.Core.Logic.{_≢_}
-use mathlib.Core.List.{List}
-use native.Mathlib.Omega.{arith}
-use borrow.Author.Tests.{le-leb, lt-leb}
-use lib.Dec.{eqb}
-use lib.ListN.{length, getD, take}
+use Rattle.base_laws.proofs.Kit.{ℕ, suc, _+_, _≡_, sym, ap, _∙_, true, _&&_, _≢_, List, arith, le-leb, lt-leb, eqb, length, getD, take}
 use Rattle.base_search.specs.declared.Verdict.the-variants.{Passes, Refused}
 use Rattle.base_search.specs.Checks.{refusal, _then_, verdict, checked}
 use Rattle.base_search.proofs.Laws.{or-else-refused, or-else-passes}

@@ -1,14 +1,5 @@
 -- The flows of one step: none takes more than there is, or gives more than a cell has room for. Assumes nothing.
-use Prim.Native.Nat.{ℕ, zero, suc, _+_, _-_, _*_, _≤_, _<_, min}
-use mathlib.Core.Path.{_≡_}
-use mathlib.Core.Bool.{Bool, true, false, cond}
-use mathlib.Core.List.{List}
-use native.Mathlib.Nat.{mul-le-mul-right}
-use native.Mathlib.Numerals.{add-one}
-use native.Mathlib.Omega.{arith}
-use borrow.Author.Tests.{lt-ltb, le-ltb}
-use lib.Dec.{ltb}
-use lib.ListN.{length, getD}
+use Rattle.base_laws.proofs.Kit.{ℕ, zero, suc, _+_, _-_, _*_, _≤_, _<_, min, _≡_, Bool, true, false, cond, List, mul-le-mul-right, add-one, arith, lt-ltb, le-ltb, ltb, length, getD}
 use Rattle.base_laws.proofs.Laws.{length-list, get-list}
 use Rattle.cells_steps.specs.Steps.{Chain, inflow, outflow, flow, volumeAfter, after, Ready}
 

@@ -1,10 +1,5 @@
 -- Every list of steps keeps the holding limits, and nothing is lost. Assumes nothing.
-use Prim.Native.Nat.{ℕ, zero, suc, _+_, _≤_}
-use mathlib.Core.Path.{_≡_, refl, _∙_}
-use mathlib.Core.List.{List, [], _∷_, _++_}
-use native.Mathlib.Omega.{arith}
-use lib.ListN.{length, getD, take}
-use lib.Seq.{take-suc, take-all}
+use Rattle.base_laws.proofs.Kit.{ℕ, zero, suc, _+_, _≤_, _≡_, refl, _∙_, List, [], _∷_, _++_, arith, length, getD, take, take-suc, take-all}
 use Rattle.base_laws.specs.Indexed.{list}
 use Rattle.cells_steps.specs.Steps.{Chain, flow, volumeAfter, after, volumesAfter, totalIn, totalOut, Ready}
 use Rattle.cells_steps.specs.Guarantees.{total, Keeps}

@@ -1,16 +1,7 @@
 -- One law for each way through the code of a step and of a list of steps. Assumes nothing.
-use Prim.Native.Nat.{ℕ, suc, _+_, _-_, _*_, _≤_, _<_, min}
-use mathlib.Core.Path.{_≡_, refl, sym, ap, _∙_}
-use mathlib.Core.Bool.{Bool, true, false}
-use mathlib.Core.List.{List, [], _∷_}
-use native.Mathlib.Numerals.{add-one}
-use native.Mathlib.Omega.{arith}
-use borrow.Author.Tests.{eqb-true, eqb-false}
+use Rattle.base_laws.proofs.Kit.{ℕ, suc, _+_, _-_, _*_, _≤_, _<_, min, _≡_, refl, sym, ap, _∙_, Bool, true, false, List, [], _∷_, add-one, arith, eqb-true, eqb-false, eqb, length, getD, set, drop, length-set, drop-of-length-le, drop-cons, getD-set-same, getD-set-other}
 use mir.Syntax.{w32}
 use mir.Val.{Fits}
-use lib.Dec.{eqb}
-use lib.ListN.{length, getD, set, drop, length-set, drop-of-length-le}
-use lib.Seq.{drop-cons, getD-set-same, getD-set-other}
 use Rattle.base_laws.specs.Indexed.{filled}
 use Rattle.base_laws.proofs.Laws.{filled-none, filled-past, filled-more, filled-all}
 use Rattle.cells_steps.specs.declared.Passed.{Passed}

@@ -1,15 +1,5 @@
 -- Bits, eight to a byte: a bit that is set, and the others, which stay. Assumes nothing.
-use Prim.Native.Nat.{ℕ, zero, suc, _+_, _-_, _*_, _/_, _%_, _^_, _≤_, _<_}
-use mathlib.Core.Path.{_≡_, refl, sym, ap, _∙_}
-use mathlib.Core.Logic.{_⊎_, inl, inr, _≢_}
-use mathlib.Core.Bool.{Bool, true, false}
-use mathlib.Core.List.{List, [], _∷_}
-use native.Mathlib.Decide.{ℕ-discrete}
-use native.Mathlib.Nat.{eq-or-lt-of-le, pow-suc, pow-le-pow-right, div-eq-of-lt, div-div-eq-div-mul}
-use native.Mathlib.Omega.{arith}
-use lib.Dec.{eqb}
-use lib.ListN.{length, getD, set}
-use lib.Seq.{getD-set-same, getD-set-other}
+use Rattle.base_laws.proofs.Kit.{ℕ, zero, suc, _+_, _-_, _*_, _/_, _%_, _^_, _≤_, _<_, _≡_, refl, sym, ap, _∙_, _⊎_, inl, inr, _≢_, Bool, true, false, List, [], _∷_, ℕ-discrete, eq-or-lt-of-le, pow-suc, pow-le-pow-right, div-eq-of-lt, div-div-eq-div-mul, arith, eqb, length, getD, set, getD-set-same, getD-set-other}
 use Rattle.base_laws.specs.Sum.{sum, only}
 use Rattle.base_laws.proofs.Sums.{sum-ext, sum-bound}
 use Rattle.listing_call.specs.Tables.{bit, bitAt, withBit, Power}

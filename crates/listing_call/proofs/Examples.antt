@@ -1,7 +1,5 @@
 -- The call on listings for the paper's corridor, computed. Assumes nothing.
-use Prim.Native.Nat.{ℕ}
-use mathlib.Core.Path.{_≡_, refl}
-use mathlib.Core.List.{List, [], _∷_, map}
+use Rattle.base_laws.proofs.Kit.{ℕ, _≡_, refl, List, [], _∷_, map}
 use Prim.Native.String.{String}
 use Rattle.base_search.specs.declared.Verdict.{Verdict}
 use Rattle.base_search.specs.declared.Verdict.the-variants.{Passes, Refused}

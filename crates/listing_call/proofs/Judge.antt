@@ -1,13 +1,5 @@
 -- One law for each way through `judge_entry`. Assumes nothing.
-use Prim.Native.Nat.{ℕ, _-_, _/_, _≤_, _<_}
-use mathlib.Core.Path.{_≡_, refl, sym, ap, _∙_}
-use mathlib.Core.Logic.{_≢_}
-use mathlib.Core.Bool.{Bool, true, false, not, cond}
-use mathlib.Core.List.{List}
-use native.Mathlib.Omega.{arith}
-use borrow.Author.Tests.{eq-eqb, ne-eqb, eqb-true, eqb-false, not-true, not-false}
-use lib.Dec.{eqb}
-use lib.ListN.{length}
+use Rattle.base_laws.proofs.Kit.{ℕ, _-_, _/_, _≤_, _<_, _≡_, refl, sym, ap, _∙_, _≢_, Bool, true, false, not, cond, List, arith, eq-eqb, ne-eqb, eqb-true, eqb-false, not-true, not-false, eqb, length}
 use Rattle.base_laws.specs.Test.{_and_}
 use Rattle.network_tables.specs.declared.Counts.{Counts}
 use Rattle.listing_lines.specs.declared.Variable.{Variable}

@@ -1,12 +1,5 @@
 -- The places of the tables: each variable has its own bit, and each number is of one volume or of the phases of one signal. Assumes nothing.
-use Prim.Native.Nat.{ℕ, suc, _+_, _-_, _*_, _≤_, _<_}
-use mathlib.Core.Path.{_≡_, refl}
-use mathlib.Core.Bool.{true}
-use mathlib.Core.List.{List}
-use native.Mathlib.Decide.{decLe}
-use native.Mathlib.Nat.{mul-le-mul-left}
-use native.Mathlib.Omega.{arith}
-use borrow.Author.Tests.{eq-eqb, eqb-true}
+use Rattle.base_laws.proofs.Kit.{ℕ, suc, _+_, _-_, _*_, _≤_, _<_, _≡_, refl, true, List, decLe, mul-le-mul-left, arith, eq-eqb, eqb-true}
 use Rattle.base_laws.specs.Test.{_and_}
 use Rattle.model.specs.Network.{maxSteps, maxSignals}
 use Rattle.base_laws.proofs.Tests.{and-left, and-right}

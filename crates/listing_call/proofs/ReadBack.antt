@@ -1,15 +1,5 @@
 -- Reading the written plan gives just the listing's numbers. Assumes nothing.
-use Prim.Native.Nat.{ℕ, zero, suc, _+_, _*_, _-_, _≤_, _<_}
-use mathlib.Core.Path.{_≡_, refl, sym, ap, _∙_}
-use mathlib.Core.Logic.{_⊎_, inl, inr}
-use mathlib.Core.Bool.{Bool, true, false, cond}
-use mathlib.Core.List.{List, [], _∷_, _++_}
-use native.Mathlib.Nat.{eq-or-lt-of-le}
-use native.Mathlib.Omega.{arith}
-use borrow.Author.Tests.{leb-true}
-use lib.Dec.{eqb}
-use lib.ListN.{length, getD, length-append, List·getD-append}
-use lib.Seq.{getD-append-add}
+use Rattle.base_laws.proofs.Kit.{ℕ, zero, suc, _+_, _*_, _-_, _≤_, _<_, _≡_, refl, sym, ap, _∙_, _⊎_, inl, inr, Bool, true, false, cond, List, [], _∷_, _++_, eq-or-lt-of-le, arith, leb-true, eqb, length, getD, length-append, List·getD-append, getD-append-add}
 use Rattle.base_search.specs.Checks.{Hold}
 use Rattle.text_reader.specs.Field.{largest}
 use Rattle.text_reader.specs.Lines.{Line, lines, noLine, number}

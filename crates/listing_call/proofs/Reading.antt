@@ -1,12 +1,5 @@
 -- The loop over the lines of a listing: what a line comes to is the verdict on it. Assumes nothing.
-use Prim.Native.Nat.{ℕ, suc, _+_, _-_, _/_, _≤_, _<_}
-use mathlib.Core.Path.{_≡_, refl, sym, ap, _∙_}
-use mathlib.Core.Bool.{Bool, true, false, not, cond}
-use mathlib.Core.List.{List}
-use native.Mathlib.Omega.{arith}
-use borrow.Author.Tests.{eq-eqb, ne-eqb, eqb-true}
-use lib.Dec.{eqb}
-use lib.ListN.{length, getD, set}
+use Rattle.base_laws.proofs.Kit.{ℕ, suc, _+_, _-_, _/_, _≤_, _<_, _≡_, refl, sym, ap, _∙_, Bool, true, false, not, cond, List, arith, eq-eqb, ne-eqb, eqb-true, eqb, length, getD, set}
 use Rattle.base_search.specs.declared.Refusal.{Refusal}
 use Rattle.base_search.specs.declared.Verdict.{Verdict}
 use Rattle.base_search.specs.declared.Verdict.the-variants.{Passes, Refused}

@@ -1,16 +1,5 @@
 -- Reading the written plan gives just the listing's numbers. Assumes nothing.
-use Prim.Native.Nat.{ℕ, zero, suc, _*_, _-_, _%_, _≤_, _<_}
-use mathlib.Core.Path.{_≡_, refl, sym, ap, _∙_}
-use mathlib.Core.Logic.{_⊎_, inl, inr}
-use mathlib.Core.Bool.{Bool, true, false, not}
-use mathlib.Core.List.{List}
-use native.Mathlib.Numerals.{add-one}
-use native.Mathlib.Decide.{decLe}
-use native.Mathlib.Nat.{eq-or-lt-of-le, div-add-mod'}
-use native.Mathlib.Omega.{arith}
-use borrow.Author.Tests.{eqb-true, leb-true}
-use lib.Dec.{eqb}
-use lib.ListN.{length}
+use Rattle.base_laws.proofs.Kit.{ℕ, zero, suc, _*_, _-_, _%_, _≤_, _<_, _≡_, refl, sym, ap, _∙_, _⊎_, inl, inr, Bool, true, false, not, List, add-one, decLe, eq-or-lt-of-le, div-add-mod', arith, eqb-true, leb-true, eqb, length}
 use Rattle.base_search.specs.Checks.{Hold}
 use Rattle.text_reader.specs.Lines.{Line, lines}
 use Rattle.text_reader.proofs.Laws.{starts-first, starts-end, end-of-none}

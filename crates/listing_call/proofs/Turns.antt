@@ -1,14 +1,5 @@
 -- One law for each way through the functions that judge a line, in the form of what is known there. Assumes nothing.
-use Prim.Native.Nat.{ℕ, _+_, _-_, _*_, _/_, _%_, _≤_, _<_}
-use mathlib.Core.Path.{_≡_, refl, sym, ap, _∙_}
-use mathlib.Core.Logic.{_≢_}
-use mathlib.Core.Bool.{Bool, true, false, not, cond, _||_}
-use mathlib.Core.List.{List}
-use native.Mathlib.Nat.{mul-le-mul}
-use native.Mathlib.Omega.{arith}
-use borrow.Author.Tests.{eq-eqb, ne-eqb, le-leb, lt-leb, leb-true, not-true, not-false}
-use lib.Dec.{eqb}
-use lib.ListN.{getD}
+use Rattle.base_laws.proofs.Kit.{ℕ, _+_, _-_, _*_, _/_, _%_, _≤_, _<_, _≡_, refl, sym, ap, _∙_, _≢_, Bool, true, false, not, cond, _||_, List, mul-le-mul, arith, eq-eqb, ne-eqb, le-leb, lt-leb, leb-true, not-true, not-false, eqb, getD}
 use Rattle.text_reader.specs.Field.{largest}
 use Rattle.base_laws.specs.Test.{_and_, _or_, within}
 use Rattle.base_laws.proofs.Tests.{and-left, and-right}

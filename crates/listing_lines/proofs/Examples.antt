@@ -1,7 +1,5 @@
 -- What the definitions say of some lines, computed. Assumes nothing.
-use Prim.Native.Nat.{ℕ}
-use mathlib.Core.Path.{_≡_, refl}
-use mathlib.Core.List.{List, [], _∷_, map}
+use Rattle.base_laws.proofs.Kit.{ℕ, _≡_, refl, List, [], _∷_, map}
 use Prim.Native.Char.{code}
 use Prim.Native.String.{String}
 use Rattle.text_reader.specs.Field.{digit, digits, shift, decimal}

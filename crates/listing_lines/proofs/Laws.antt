@@ -1,16 +1,5 @@
 -- The laws of a listing's line that the proofs of the functions cite. Assumes nothing.
-use Prim.Native.Nat.{ℕ, suc, _+_, _-_, _*_, _^_, _≤_, _<_}
-use mathlib.Core.Path.{_≡_, refl, sym, ap, _∙_}
-use mathlib.Core.Logic.{_≢_}
-use mathlib.Core.Bool.{Bool, true, false, not, cond, and-false}
-use mathlib.Core.List.{List, [], _∷_, foldl}
-use native.Mathlib.Numerals.{add-one}
-use native.Mathlib.Nat.{pow-suc, pow-le-pow-right}
-use native.Mathlib.Omega.{arith}
-use borrow.Author.Tests.{eq-eqb, ne-eqb, le-leb, lt-leb, lt-ltb, le-ltb, not-true, not-false}
-use lib.ListN.{length, getD, take, drop, drop-of-length-le}
-use lib.Seq.{drop-cons}
-use lib.Dec.{eqb}
+use Rattle.base_laws.proofs.Kit.{ℕ, suc, _+_, _-_, _*_, _^_, _≤_, _<_, _≡_, refl, sym, ap, _∙_, _≢_, Bool, true, false, not, cond, and-false, List, [], _∷_, foldl, add-one, pow-suc, pow-le-pow-right, arith, eq-eqb, ne-eqb, le-leb, lt-leb, lt-ltb, le-ltb, not-true, not-false, length, getD, take, drop, drop-of-length-le, drop-cons, eqb}
 use Rattle.text_reader.specs.Field.{digit, digits, shift, decimal}
 use Rattle.text_reader.proofs.Numerals.{digit-bounds}
 use Rattle.listing_lines.specs.declared.Digits.the-variants.{Value, NoValue}

@@ -1,16 +1,5 @@
 -- From line to line of a listing: what a proof above cites instead of opening the definitions. Assumes nothing.
-use Prim.Native.Nat.{ℕ, _+_, _-_, _*_, _≤_, _<_}
-use mathlib.Core.Path.{_≡_, refl, sym, ap, _∙_}
-use mathlib.Core.Logic.{_≢_}
-use mathlib.Core.Bool.{Bool, true, false, cond}
-use mathlib.Core.List.{List, [], _∷_}
-use native.Mathlib.Nat.{add-zero}
-use native.Mathlib.Decide.{decLe, ℕ-discrete}
-use native.Mathlib.Omega.{arith}
-use borrow.Author.Tests.{eq-eqb, ne-eqb}
-use lib.ListN.{length, getD, take, drop, drop-of-length-le, length-drop}
-use lib.Seq.{drop-drop, getD-drop, take-length}
-use lib.Dec.{eqb}
+use Rattle.base_laws.proofs.Kit.{ℕ, _+_, _-_, _*_, _≤_, _<_, _≡_, refl, sym, ap, _∙_, _≢_, Bool, true, false, cond, List, [], _∷_, add-zero, decLe, ℕ-discrete, arith, eq-eqb, ne-eqb, length, getD, take, drop, drop-of-length-le, length-drop, drop-drop, getD-drop, take-length, eqb}
 use Rattle.text_reader.specs.Lines.{inFront, split}
 use Rattle.listing_lines.specs.declared.Named.{Named}
 use Rattle.listing_lines.specs.declared.Named.the-variants.{Known, Unknown}

@@ -1,15 +1,5 @@
 -- One law for each way through the functions that take a line apart, in the form of what is known there. Assumes nothing.
-use Prim.Native.Nat.{ℕ, zero, suc, _+_, _-_, _*_, _^_, _≤_, _<_}
-use mathlib.Core.Path.{_≡_, refl, sym, ap, _∙_}
-use mathlib.Core.Logic.{_≢_}
-use mathlib.Core.Bool.{Bool, true, false, cond, _&&_, and-eq-true-iff}
-use mathlib.Core.List.{List, [], _∷_, foldl}
-use native.Mathlib.Nat.{le-trans, mul-le-mul, pow-le-pow-right}
-use native.Mathlib.Omega.{arith}
-use borrow.Author.Tests.{eq-eqb, ne-eqb, leb-true}
-use lib.ListN.{length, getD, take, drop, length-drop}
-use lib.Seq.{take-length, length-take-le}
-use lib.Dec.{eqb, leb}
+use Rattle.base_laws.proofs.Kit.{ℕ, zero, suc, _+_, _-_, _*_, _^_, _≤_, _<_, _≡_, refl, sym, ap, _∙_, _≢_, Bool, true, false, cond, _&&_, and-eq-true-iff, List, [], _∷_, foldl, le-trans, mul-le-mul, pow-le-pow-right, arith, eq-eqb, ne-eqb, leb-true, length, getD, take, drop, length-drop, take-length, length-take-le, eqb, leb}
 use Rattle.text_reader.specs.Field.{digit, digits, shift, decimal}
 use Rattle.text_reader.proofs.Numerals.{digit-bounds}
 use Rattle.text_reader.specs.Lines.{letterOf}

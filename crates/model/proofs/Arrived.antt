@@ -1,14 +1,6 @@
 -- arrived(n) by the step in which the travel time ends; where that is a boundary, and before the timeline has run for the travel time, it is what the paper says;
 -- and in an arrival before time 0 no plan has a say. Assumes nothing.
-use mathlib.Core.Path.{_≡_, sym, ap, _∙_}
-use mathlib.Core.Logic.{_⊎_, inl, inr}
-use mathlib.Core.List.{List}
-use Prim.Native.Nat.{ℕ, suc, _+_, _*_, _-_, _≤_, _<_}
-use native.Mathlib.Decide.{decLe}
-use native.Mathlib.Nat.{eq-or-lt-of-le, mul-le-mul-right}
-use native.Mathlib.Omega.{arith}
-use lib.Dec.{leb}
-use borrow.Author.Tests.{le-leb, lt-leb, lt-ltb, le-ltb}
+use Rattle.base_laws.proofs.Kit.{_≡_, sym, ap, _∙_, _⊎_, inl, inr, List, ℕ, suc, _+_, _*_, _-_, _≤_, _<_, decLe, eq-or-lt-of-le, mul-le-mul-right, arith, leb, le-leb, lt-leb, lt-ltb, le-ltb}
 use Rattle.text_reader.specs.Lines.{Line}
 use Rattle.base_laws.specs.Sum.{sum}
 use Rattle.model.specs.Network.{pastCount, onTimeline, travelTime, standing, timelineLength, time, timelineTime, arrivalStep, elapsed}

@@ -1,16 +1,7 @@
 -- How large the sums of a plan can be, for a program that forms them in words of 32 and 64 bits: right after the limits of its volumes have passed at a step.
 -- At most 23 movements lead into a link, and from one, since (from, to) rises and from is not to. One step may admit all that waits, so what has entered is
 -- bounded by what came to the entry and by refusal 30. Assumes nothing.
-use mathlib.Core.Path.{_≡_, refl, sym, ap, _∙_}
-use mathlib.Core.Bool.{Bool, true, false, cond}
-use mathlib.Core.Logic.{_⊎_, inl, inr, ⊎-elim, _≢_}
-use mathlib.Core.List.{List}
-use Prim.Native.Nat.{ℕ, zero, suc, _+_, _*_, _-_, _≤_, _<_}
-use native.Mathlib.Nat.{eq-or-lt-of-le, le-trans, mul-le-mul, mul-le-mul-right}
-use native.Mathlib.Omega.{arith}
-use native.Mathlib.Decide.{decLe}
-use lib.Dec.{eqb, ltb}
-use borrow.Author.Tests.{leb-true, ltb-true, eqb-true, eqb-false, not-true, lt-ltb, le-ltb}
+use Rattle.base_laws.proofs.Kit.{_≡_, refl, sym, ap, _∙_, Bool, true, false, cond, _⊎_, inl, inr, ⊎-elim, _≢_, List, ℕ, zero, suc, _+_, _*_, _-_, _≤_, _<_, eq-or-lt-of-le, le-trans, mul-le-mul, mul-le-mul-right, arith, decLe, eqb, ltb, leb-true, ltb-true, eqb-true, eqb-false, not-true, lt-ltb, le-ltb}
 use Rattle.base_search.specs.Checks.{Hold}
 use Rattle.text_reader.specs.Lines.{Line}
 use Rattle.base_laws.specs.Sum.{sum, only}

@@ -1,6 +1,5 @@
 -- The paper's cases c1 to c11, by one computation on the definitions. Assumes nothing.
-use mathlib.Core.Path.{_≡_, refl}
-use mathlib.Core.List.{List, [], _∷_, map}
+use Rattle.base_laws.proofs.Kit.{_≡_, refl, List, [], _∷_, map}
 use Rattle.model.specs.Report.{report}
 use Rattle.model.proofs.Opened.{opened}
 use Rattle.model.proofs.Texts.{bytes, Case, corridor, planWith, theNetwork, thePlan, theReport}

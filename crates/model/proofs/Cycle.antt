@@ -1,14 +1,5 @@
 -- The cycle clock counts the ordinary seconds of a cycle: of one that begins in the plan, and of the one that runs at time 0. Assumes nothing.
-use mathlib.Core.Path.{_≡_, refl, sym, ap, _∙_}
-use mathlib.Core.Bool.{Bool, true, false, not, _||_}
-use mathlib.Core.Logic.{_≢_}
-use mathlib.Core.List.{List}
-use Prim.Native.Nat.{ℕ, zero, suc, _+_, _-_, _≤_, _<_}
-use native.Mathlib.Nat.{le-refl, le-of-lt}
-use native.Mathlib.Decide.{ℕ-discrete}
-use native.Mathlib.Omega.{arith}
-use lib.Dec.{leb}
-use borrow.Author.Tests.{leb-true, eq-eqb, ne-eqb}
+use Rattle.base_laws.proofs.Kit.{_≡_, refl, sym, ap, _∙_, Bool, true, false, not, _||_, _≢_, List, ℕ, zero, suc, _+_, _-_, _≤_, _<_, le-refl, le-of-lt, ℕ-discrete, arith, leb, leb-true, eq-eqb, ne-eqb}
 use Rattle.text_reader.specs.Lines.{Line}
 use Rattle.model.specs.declared.Signal.{Signal}
 use Rattle.base_laws.specs.Test.{_and_, _or_, within}

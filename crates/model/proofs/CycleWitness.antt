@@ -1,9 +1,6 @@
 -- No guarantee on cycles is empty: in a plan that is accepted, cycles of signal 1 begin at boundaries 1 and 3, and none of signal 2. All limits are reached.
-use mathlib.Core.Path.{_≡_, refl}
-use mathlib.Core.List.{List}
-use Prim.Native.Nat.{ℕ, zero, suc, _+_, _<_}
+use Rattle.base_laws.proofs.Kit.{_≡_, refl, List, ℕ, zero, suc, _+_, _<_, arith}
 use Prim.Native.String.{String, _++_}
-use native.Mathlib.Omega.{arith}
 use Rattle.text_reader.specs.Lines.{Line, lines}
 use Rattle.model.specs.declared.PlanAnswer.the-variants as plan-answer
 use Rattle.model.specs.Network.{stepCount}

@@ -1,13 +1,5 @@
 -- What an accepted plan keeps of the traffic. Assumes nothing.
-use mathlib.Core.Path.{_≡_, refl, sym, ap, _∙_}
-use mathlib.Core.Bool.{true}
-use mathlib.Core.List.{List, []}
-use Prim.Native.Nat.{ℕ, zero, suc, _+_, _*_, _-_, _/_, _≤_, _<_, min}
-use native.Mathlib.Nat.{le-refl, le-trans, le-of-mul-le-mul-right, mul-le-mul-left, mul-le-mul-right, mul-div-cancel, le-div-iff-mul-le}
-use native.Mathlib.Decide.{decLe}
-use native.Mathlib.Omega.{arith}
-use lib.Dec.{eqb}
-use borrow.Author.Tests.{leb-true}
+use Rattle.base_laws.proofs.Kit.{_≡_, refl, sym, ap, _∙_, true, List, [], ℕ, zero, suc, _+_, _*_, _-_, _/_, _≤_, _<_, min, le-refl, le-trans, le-of-mul-le-mul-right, mul-le-mul-left, mul-le-mul-right, mul-div-cancel, le-div-iff-mul-le, decLe, arith, eqb, leb-true}
 use Rattle.text_reader.specs.Lines.{Line}
 use Rattle.base_laws.specs.Sum.{sum, only}
 use Rattle.model.specs.Network.{linkCount, movementCount, stepCount, onTimeline, capacity, travelTime, standing, fromLink, toLink, timelineLength, time, timelineTime, arrivalStep, elapsed}

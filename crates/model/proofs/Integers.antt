@@ -1,10 +1,6 @@
 -- Differences of naturals, weighted and summed in the integers. Assumes nothing.
-use mathlib.Core.Path.{_≡_, refl, ap}
-use Prim.Native.Nat.{ℕ, zero, suc, _+_, _*_, _-_}
-use native.Mathlib.Decide.{decLe}
-use native.Mathlib.Omega.{arith}
+use Rattle.base_laws.proofs.Kit.{_≡_, refl, ap, ℕ, zero, suc, _+_, _*_, _-_, decLe, arith, lt-ltb, le-ltb}
 use lib.IntN.{ℤ, pos, negsuc, negℤ, subℕ, _+ℤ_, _*ℤ_}
-use borrow.Author.Tests.{lt-ltb, le-ltb}
 use Rattle.base_laws.specs.Sum.{sum}
 use Rattle.model.specs.Guarantees.{sumℤ}
 

@@ -1,12 +1,5 @@
 -- The limits of a valid network's numbers. Assumes nothing.
-use mathlib.Core.Path.{_≡_, refl, ap}
-use mathlib.Core.Bool.{true}
-use mathlib.Core.List.{List, []}
-use Prim.Native.Nat.{ℕ, zero, suc, _+_, _*_, _-_, _≤_, _<_}
-use native.Mathlib.Decide.{decLe}
-use native.Mathlib.Omega.{arith}
-use lib.Dec.{leb}
-use borrow.Author.Tests.{leb-true}
+use Rattle.base_laws.proofs.Kit.{_≡_, refl, ap, true, List, [], ℕ, zero, suc, _+_, _*_, _-_, _≤_, _<_, decLe, arith, leb, leb-true}
 use Rattle.text_reader.specs.Lines.{Line}
 use Rattle.base_laws.specs.Sum.{sum}
 use Rattle.base_laws.specs.Test.{within, every}

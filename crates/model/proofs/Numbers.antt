@@ -1,10 +1,5 @@
 -- Every refusal of a call has one of its numbers. Assumes nothing.
-use mathlib.Core.Path.{_≡_, refl}
-use mathlib.Core.Bool.{true}
-use mathlib.Core.List.{List}
-use Prim.Native.Nat.{ℕ, suc}
-use borrow.Author.Needs.{needs}
-use lib.ListN.{length}
+use Rattle.base_laws.proofs.Kit.{_≡_, refl, true, List, ℕ, suc, needs, length}
 use Rattle.base_search.specs.declared.Refusal.{Refusal}
 use Rattle.base_search.specs.declared.Verdict.{Verdict}
 use Rattle.base_search.specs.declared.Verdict.the-variants.{Passes, Refused}

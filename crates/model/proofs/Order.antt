@@ -1,11 +1,5 @@
 -- The order of the phases of a signal: from a phase through all others back to it. Assumes nothing.
-use mathlib.Core.Path.{_≡_, refl, sym, ap, _∙_}
-use mathlib.Core.Logic.{_⊎_, inl, inr, ⊎-elim, _≢_}
-use mathlib.Core.List.{List, [], _∷_, _++_, append-nil}
-use Prim.Native.Nat.{ℕ, zero, suc, _+_, _-_, _≤_, _<_}
-use native.Mathlib.Nat.{eq-or-lt-of-le, le-refl}
-use native.Mathlib.Omega.{arith}
-use borrow.Author.Tests.{eq-eqb, ne-eqb}
+use Rattle.base_laws.proofs.Kit.{_≡_, refl, sym, ap, _∙_, _⊎_, inl, inr, ⊎-elim, _≢_, List, [], _∷_, _++_, append-nil, ℕ, zero, suc, _+_, _-_, _≤_, _<_, eq-or-lt-of-le, le-refl, arith, eq-eqb, ne-eqb}
 use Rattle.model.specs.Signals.{phaseAfter, nthNext, PhaseOrder}
 use Rattle.model.specs.Guarantees.{rising, others}
 

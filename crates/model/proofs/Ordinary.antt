@@ -1,11 +1,5 @@
 -- A signal's ordinary steps: the last by a boundary, the first after one, and their seconds. Assumes nothing.
-use mathlib.Core.Path.{_≡_, refl, sym, ap, _∙_}
-use mathlib.Core.Bool.{Bool, true, false, true≢false}
-use mathlib.Core.List.{List}
-use Prim.Native.Nat.{ℕ, zero, suc, _+_, _-_, _≤_, _<_}
-use native.Mathlib.Nat.{le-refl}
-use native.Mathlib.Decide.{decLe}
-use native.Mathlib.Omega.{arith}
+use Rattle.base_laws.proofs.Kit.{_≡_, refl, sym, ap, _∙_, Bool, true, false, true≢false, List, ℕ, zero, suc, _+_, _-_, _≤_, _<_, le-refl, decLe, arith}
 use Rattle.text_reader.specs.Lines.{Line}
 use Rattle.base_laws.specs.Sum.{sum}
 use Rattle.model.specs.Network.{stepLength, ordinary}

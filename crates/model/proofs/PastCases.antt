@@ -1,9 +1,6 @@
 -- Networks with a past, and with vehicles that wait at the start (T-09), by computation on the definitions. Assumes nothing.
-use mathlib.Core.Path.{_≡_, refl}
-use mathlib.Core.List.{List, [], _∷_, map}
-use Prim.Native.Nat.{ℕ, zero, suc}
+use Rattle.base_laws.proofs.Kit.{_≡_, refl, List, [], _∷_, map, ℕ, zero, suc, replicate}
 use Prim.Native.String.{String, _++_}
-use lib.ListN.{replicate}
 use Rattle.text_reader.specs.Lines.{lines}
 use Rattle.base_search.specs.Checks.{refusal}
 use Rattle.model.specs.declared.LinkAnswer.{LinkAnswer}

@@ -1,12 +1,6 @@
 -- The phase that a mask shows. Assumes nothing.
-use mathlib.Core.Path.{_≡_, sym, ap, _∙_}
-use mathlib.Core.Logic.{_⊎_, inl, inr}
-use Prim.Native.Nat.{ℕ, zero, suc, _-_, _*_, _%_, _^_, _≤_, _<_}
-use native.Mathlib.Nat.{eq-or-lt-of-le, mod-eq-of-lt, pow-le-pow-right}
-use native.Mathlib.Decide.{ℕ-discrete}
-use native.Mathlib.Omega.{arith}
+use Rattle.base_laws.proofs.Kit.{_≡_, sym, ap, _∙_, _⊎_, inl, inr, ℕ, zero, suc, _-_, _*_, _%_, _^_, _≤_, _<_, eq-or-lt-of-le, mod-eq-of-lt, pow-le-pow-right, ℕ-discrete, arith, eq-eqb, ne-eqb}
 use lib.Pow.{pow-lt}
-use borrow.Author.Tests.{eq-eqb, ne-eqb}
 use Rattle.model.specs.Signals.{phaseOf}
 
 pub phase-of-le : (mask phases : ℕ) → phaseOf mask phases ≤ phases

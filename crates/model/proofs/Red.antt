@@ -1,13 +1,5 @@
 -- Between a green of a phase and its next green every other phase has one green, in order, and the red is as long as those. Assumes nothing.
-use mathlib.Core.Path.{_≡_, refl, sym, ap, _∙_}
-use mathlib.Core.Bool.{Bool, true, false}
-use mathlib.Core.Logic.{_⊎_, inl, inr, ⊎-elim, _≢_}
-use mathlib.Core.List.{List, [], _∷_}
-use Prim.Native.Nat.{ℕ, zero, suc, _+_, _*_, _-_, _≤_, _<_}
-use borrow.Author.Tests.{leb-true}
-use native.Mathlib.Nat.{eq-or-lt-of-le, le-refl}
-use native.Mathlib.Decide.{ℕ-discrete, decLe}
-use native.Mathlib.Omega.{arith}
+use Rattle.base_laws.proofs.Kit.{_≡_, refl, sym, ap, _∙_, Bool, true, false, _⊎_, inl, inr, ⊎-elim, _≢_, List, [], _∷_, ℕ, zero, suc, _+_, _*_, _-_, _≤_, _<_, leb-true, eq-or-lt-of-le, le-refl, ℕ-discrete, decLe, arith}
 use Rattle.text_reader.specs.Lines.{Line}
 use Rattle.model.specs.declared.Signal.{Signal}
 use Rattle.base_laws.specs.Test.{within}

@@ -1,12 +1,5 @@
 -- The rows of a ledger that is written row by row, for a program that writes row m through the part of the ledger that starts at it. Assumes nothing.
-use mathlib.Core.Path.{_≡_, refl, sym, ap, _∙_}
-use mathlib.Core.Logic.{_⊎_, inl, inr}
-use mathlib.Core.List.{List, [], _∷_, _++_, append-assoc}
-use Prim.Native.Nat.{ℕ, zero, suc, _+_, _*_, _-_, _≤_, _<_}
-use native.Mathlib.Nat.{eq-or-lt-of-le, mul-le-mul-right}
-use native.Mathlib.Omega.{arith}
-use lib.ListN.{length, getD, take, drop, length-append, length-drop, List·getD-append}
-use lib.Seq.{getD-append-add, take-at, drop-append-add, drop-drop}
+use Rattle.base_laws.proofs.Kit.{_≡_, refl, sym, ap, _∙_, _⊎_, inl, inr, List, [], _∷_, _++_, append-assoc, ℕ, zero, suc, _+_, _*_, _-_, _≤_, _<_, eq-or-lt-of-le, mul-le-mul-right, arith, length, getD, take, drop, length-append, length-drop, List·getD-append, getD-append-add, take-at, drop-append-add, drop-drop}
 use Rattle.text_reader.specs.Lines.{Line}
 use Rattle.base_laws.specs.Sum.{joined}
 use Rattle.model.specs.Network.{linkCount}

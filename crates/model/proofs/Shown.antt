@@ -1,11 +1,5 @@
 -- A signal through the steps of an accepted plan. Assumes nothing.
-use mathlib.Core.Path.{_≡_, refl, sym, ap, _∙_}
-use mathlib.Core.Bool.{Bool, true, false, cond, not}
-use mathlib.Core.Logic.{_≢_}
-use mathlib.Core.List.{List}
-use Prim.Native.Nat.{ℕ, zero, suc, _+_, _-_, _≤_, _<_}
-use native.Mathlib.Omega.{arith}
-use borrow.Author.Tests.{leb-true, eqb-true, eq-eqb, ne-eqb}
+use Rattle.base_laws.proofs.Kit.{_≡_, refl, sym, ap, _∙_, Bool, true, false, cond, not, _≢_, List, ℕ, zero, suc, _+_, _-_, _≤_, _<_, arith, leb-true, eqb-true, eq-eqb, ne-eqb}
 use Rattle.text_reader.specs.Lines.{Line}
 use Rattle.model.specs.declared.Signal.{Signal}
 use Rattle.base_laws.specs.Test.{_or_, within}

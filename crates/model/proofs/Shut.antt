@@ -1,12 +1,5 @@
 -- A shut link of an accepted plan passes nothing. Assumes nothing.
-use mathlib.Core.Path.{_≡_, refl, sym, _∙_}
-use mathlib.Core.Bool.{true}
-use mathlib.Core.Logic.{⊎-elim}
-use mathlib.Core.List.{List}
-use Prim.Native.Nat.{ℕ, suc, _-_, _/_, _%_, _^_, _≤_, _<_}
-use native.Mathlib.Omega.{arith}
-use lib.Dec.{eqb}
-use borrow.Author.Tests.{leb-true, eqb-true}
+use Rattle.base_laws.proofs.Kit.{_≡_, refl, sym, _∙_, true, ⊎-elim, List, ℕ, suc, _-_, _/_, _%_, _^_, _≤_, _<_, arith, eqb, leb-true, eqb-true}
 use Rattle.text_reader.specs.Lines.{Line}
 use Rattle.model.specs.Network.{linkCount, signalCount, movementCount, stepCount, signal, signalOf, phaseMask, fromLink}
 use Rattle.model.specs.Signals.{opens}

@@ -1,8 +1,7 @@
 -- Texts of the cases, written as strings. Assumes nothing.
-use Prim.Native.Nat.{ℕ}
+use Rattle.base_laws.proofs.Kit.{ℕ, List, [], _∷_}
 use Prim.Native.Char.{code}
 use Prim.Native.String.{String, _++_}
-use mathlib.Core.List.{List, [], _∷_}
 
 -- the bytes of an ASCII text
 abbrev pub bytes : String → List ℕ

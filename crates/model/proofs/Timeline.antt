@@ -1,9 +1,5 @@
 -- The two curves on the timeline: what entered and left a link in the past, in which no plan has a say, and then by the plan. Assumes nothing.
-use mathlib.Core.Path.{_≡_, sym, ap, ap₂, _∙_}
-use mathlib.Core.List.{List}
-use Prim.Native.Nat.{ℕ, zero, suc, _+_, _-_, _≤_, _<_}
-use native.Mathlib.Omega.{arith}
-use borrow.Author.Tests.{lt-ltb, le-ltb}
+use Rattle.base_laws.proofs.Kit.{_≡_, sym, ap, ap₂, _∙_, List, ℕ, zero, suc, _+_, _-_, _≤_, _<_, arith, lt-ltb, le-ltb}
 use Rattle.text_reader.specs.Lines.{Line}
 use Rattle.base_laws.specs.Sum.{sum}
 use Rattle.model.specs.Network.{pastCount, onTimeline, standing, pastEntries, pastExits}

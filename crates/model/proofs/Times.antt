@@ -1,12 +1,5 @@
 -- Laws of the boundaries' times and of the step in which a travel time ends. Assumes nothing.
-use mathlib.Core.Path.{_≡_, refl}
-use mathlib.Core.Bool.{Bool, true, false, cond}
-use mathlib.Core.List.{List}
-use Prim.Native.Nat.{ℕ, zero, suc, _+_, _-_, _≤_, _<_}
-use native.Mathlib.Decide.{decLe}
-use native.Mathlib.Omega.{arith}
-use lib.Dec.{leb}
-use borrow.Author.Tests.{le-leb, lt-leb}
+use Rattle.base_laws.proofs.Kit.{_≡_, refl, Bool, true, false, cond, List, ℕ, zero, suc, _+_, _-_, _≤_, _<_, decLe, arith, leb, le-leb, lt-leb}
 use Rattle.text_reader.specs.Lines.{Line}
 use Rattle.base_laws.specs.Sum.{sum}
 use Rattle.model.specs.Network.{pastCount, onTimeline, timelineLength, stepLength, travelTime, time, timelineTime, stepAt, arrivalStep, elapsed}

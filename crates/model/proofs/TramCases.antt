@@ -1,8 +1,6 @@
 -- Texts with trams (T-08), by computation on the definitions. Assumes nothing.
-use mathlib.Core.Path.{_≡_, refl}
-use mathlib.Core.List.{List, [], _∷_, map}
+use Rattle.base_laws.proofs.Kit.{_≡_, refl, List, [], _∷_, map, replicate}
 use Prim.Native.String.{String, _++_}
-use lib.ListN.{replicate}
 use Rattle.text_reader.specs.Lines.{lines}
 use Rattle.model.specs.Calls.{ledgerAfter}
 use Rattle.model.specs.Report.{report}

@@ -1,9 +1,5 @@
 -- The doubled travel time of an accepted plan. Assumes nothing.
-use mathlib.Core.Path.{_≡_, sym, ap, _∙_}
-use mathlib.Core.List.{List}
-use Prim.Native.Nat.{ℕ, zero, suc, _+_, _*_, _-_, _≤_, _<_}
-use native.Mathlib.Nat.{le-refl}
-use native.Mathlib.Omega.{arith}
+use Rattle.base_laws.proofs.Kit.{_≡_, sym, ap, _∙_, List, ℕ, zero, suc, _+_, _*_, _-_, _≤_, _<_, le-refl, arith}
 use Rattle.text_reader.specs.Lines.{Line}
 use Rattle.base_laws.specs.Sum.{sum}
 use Rattle.model.specs.Network.{linkCount, stepCount, stepLength, waitingAtStart, time}

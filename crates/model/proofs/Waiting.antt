@@ -1,10 +1,5 @@
 -- Vehicles that wait at the entry. Assumes nothing.
-use mathlib.Core.Path.{_≡_, refl}
-use mathlib.Core.Bool.{true}
-use mathlib.Core.List.{List}
-use Prim.Native.Nat.{ℕ, zero, suc, _+_, _≤_, _<_}
-use native.Mathlib.Omega.{arith}
-use borrow.Author.Tests.{leb-true}
+use Rattle.base_laws.proofs.Kit.{_≡_, refl, true, List, ℕ, zero, suc, _+_, _≤_, _<_, arith, leb-true}
 use Rattle.text_reader.specs.Lines.{Line}
 use Rattle.base_laws.specs.Sum.{sum}
 use Rattle.model.specs.Network.{linkCount, waitingAtStart, demand}

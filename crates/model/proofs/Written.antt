@@ -1,15 +1,5 @@
 -- Which rows a plan's check writes, and the ledger afterwards, number by number. Assumes nothing.
-use mathlib.Core.Path.{_≡_, refl, ap, _∙_}
-use mathlib.Core.Bool.{true}
-use mathlib.Core.Logic.{_⊎_, inl, inr, ⊎-elim}
-use mathlib.Core.List.{List, _++_}
-use Prim.Native.Nat.{ℕ, zero, suc, _+_, _*_, _-_, _≤_, _<_}
-use native.Mathlib.Nat.{le-refl, mul-le-mul-right}
-use native.Mathlib.Decide.{decLe}
-use native.Mathlib.Omega.{arith}
-use borrow.Author.Tests.{leb-true}
-use lib.ListN.{length, getD, drop}
-use lib.Seq.{getD-append-add, getD-drop}
+use Rattle.base_laws.proofs.Kit.{_≡_, refl, ap, _∙_, true, _⊎_, inl, inr, ⊎-elim, List, _++_, ℕ, zero, suc, _+_, _*_, _-_, _≤_, _<_, le-refl, mul-le-mul-right, decLe, arith, leb-true, length, getD, drop, getD-append-add, getD-drop}
 use Rattle.base_search.specs.declared.Refusal.{Refusal}
 use Rattle.base_search.specs.declared.Verdict.{Verdict}
 use Rattle.base_search.specs.declared.Verdict.the-variants.{Passes, Refused}

@@ -1,11 +1,5 @@
 -- What stands at boundary a looks at the plan's lines before it, and at no others. Assumes nothing.
-use mathlib.Core.Path.{_≡_, refl, ap, ap₂}
-use mathlib.Core.List.{List}
-use Prim.Native.Nat.{ℕ, zero, suc, _+_, _-_, _≤_, _<_}
-use native.Mathlib.Decide.{decLe}
-use native.Mathlib.Omega.{arith}
-use lib.Dec.{eqb}
-use borrow.Author.Tests.{lt-ltb, le-ltb}
+use Rattle.base_laws.proofs.Kit.{_≡_, refl, ap, ap₂, List, ℕ, zero, suc, _+_, _-_, _≤_, _<_, decLe, arith, eqb, lt-ltb, le-ltb}
 use Rattle.text_reader.specs.Lines.{Line}
 use Rattle.base_laws.specs.Sum.{only}
 use Rattle.model.specs.Network.{entry, movementCount, pastCount, toLink, fromLink}

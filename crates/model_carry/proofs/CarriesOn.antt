@@ -1,11 +1,5 @@
 -- The theorem of T-09, whole. Assumes nothing.
-use mathlib.Core.Path.{_≡_, _∙_}
-use mathlib.Core.Logic.{_↔_}
-use mathlib.Core.List.{List, [], _++_}
-use Prim.Native.Nat.{ℕ, _+_, _-_, _≤_, _<_}
-use native.Mathlib.Omega.{arith}
-use lib.ListN.{length, take, drop}
-use borrow.Author.Tests.{leb-true, eqb-true}
+use Rattle.base_laws.proofs.Kit.{_≡_, _∙_, _↔_, List, [], _++_, ℕ, _+_, _-_, _≤_, _<_, arith, length, take, drop, leb-true, eqb-true}
 use Rattle.base_search.specs.declared.Verdict.the-variants.{Passes}
 use Rattle.base_search.specs.Checks.{verdict, Hold}
 use Rattle.base_search.proofs.Laws.{hold-of-passes, passes-of-hold}

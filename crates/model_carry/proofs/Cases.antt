@@ -1,10 +1,7 @@
 -- The corridor of the paper and other networks carried on, by computation on the definitions. Assumes nothing.
-use mathlib.Core.Path.{_≡_, refl}
-use mathlib.Core.List.{List, [], _∷_, _++_, map}
-use Prim.Native.Nat.{ℕ}
+use Rattle.base_laws.proofs.Kit.{_≡_, refl, List, [], _∷_, _++_, map, ℕ, replicate}
 use Prim.Native.String.{String}
 use Prim.Native.String as string
-use lib.ListN.{replicate}
 use Rattle.base_search.specs.declared.Verdict.{Verdict}
 use Rattle.base_search.specs.declared.Verdict.the-variants.{Passes, Refused}
 use Rattle.base_search.specs.Checks.{verdict}

@@ -1,12 +1,5 @@
 -- Where the clipped tram lines come from, and that refusal 28 does not arise of them. Assumes nothing.
-use mathlib.Core.Path.{_≡_, refl}
-use mathlib.Core.Bool.{Bool, true, false, cond, not}
-use mathlib.Core.List.{List, [], _∷_}
-use Prim.Native.Nat.{ℕ, zero, suc, _-_, _≤_, _<_, min, max}
-use native.Mathlib.Omega.{arith}
-use lib.Dec.{ltb, eqb}
-use lib.ListN.{length, getD}
-use borrow.Author.Tests.{leb-true, le-leb, ltb-true, lt-ltb}
+use Rattle.base_laws.proofs.Kit.{_≡_, refl, Bool, true, false, cond, not, List, [], _∷_, ℕ, zero, suc, _-_, _≤_, _<_, min, max, arith, ltb, eqb, length, getD, leb-true, le-leb, ltb-true, lt-ltb}
 use Rattle.text_reader.specs.Lines.{Line, noLine, number, numberOf}
 use Rattle.text_writer.specs.Records.{recordLine}
 use Rattle.base_laws.specs.Test.{_or_, within}

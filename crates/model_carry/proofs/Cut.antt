@@ -1,11 +1,5 @@
 -- The cut network by the whole: for a program that judges the plan of b lines by the tables of the whole network. Assumes nothing.
-use mathlib.Core.Path.{_≡_, refl, sym, ap, ap₂, _∙_}
-use mathlib.Core.List.{List, _++_}
-use Prim.Native.Nat.{ℕ, zero, suc, _+_, _*_, _≤_, _<_}
-use native.Mathlib.Omega.{arith}
-use lib.Dec.{leb, eqb}
-use lib.ListN.{length, getD, drop}
-use borrow.Author.Tests.{leb-true, le-leb}
+use Rattle.base_laws.proofs.Kit.{_≡_, refl, sym, ap, ap₂, _∙_, List, _++_, ℕ, zero, suc, _+_, _*_, _≤_, _<_, arith, leb, eqb, length, getD, drop, leb-true, le-leb}
 use Rattle.base_search.specs.Checks.{Hold, each, orElse, checked, verdict}
 use Rattle.base_search.proofs.Laws.{or-else-passes, first-same, hold-of-passes, passes-of-hold}
 use Rattle.text_reader.specs.Lines.{Line, noLine}

@@ -1,12 +1,5 @@
 -- A network and a plan that go on from boundary a of another: every curve, signal, rule, row and time is that of the other, a steps later. Assumes nothing.
-use mathlib.Core.Path.{_≡_, refl, ap, ap₂, _∙_}
-use mathlib.Core.Bool.{cond}
-use mathlib.Core.List.{List}
-use Prim.Native.Nat.{ℕ, zero, suc, _+_, _*_, _-_, _≤_, _<_}
-use native.Mathlib.Decide.{decLe}
-use native.Mathlib.Omega.{arith}
-use lib.Dec.{leb, eqb}
-use borrow.Author.Tests.{lt-ltb, le-ltb}
+use Rattle.base_laws.proofs.Kit.{_≡_, refl, ap, ap₂, _∙_, cond, List, ℕ, zero, suc, _+_, _*_, _-_, _≤_, _<_, decLe, arith, leb, eqb, lt-ltb, le-ltb}
 use Rattle.text_reader.specs.Lines.{Line}
 use Rattle.model.specs.declared.Signal.{Signal}
 use Rattle.base_laws.specs.Sum.{only}

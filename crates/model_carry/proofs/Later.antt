@@ -1,8 +1,5 @@
 -- Refusals told some lines later. Assumes nothing.
-use mathlib.Core.Path.{_≡_, refl}
-use mathlib.Core.Bool.{Bool, true, false}
-use Prim.Native.Nat.{ℕ, zero, suc, _+_, _≤_, _<_}
-use native.Mathlib.Omega.{arith}
+use Rattle.base_laws.proofs.Kit.{_≡_, refl, Bool, true, false, ℕ, zero, suc, _+_, _≤_, _<_, arith}
 use Rattle.base_search.specs.declared.Verdict.{Verdict}
 use Rattle.base_search.specs.declared.Verdict.the-variants.{Passes, Refused}
 use Rattle.base_search.specs.Checks.{orElse, firstFrom, checked}

@@ -1,9 +1,5 @@
 -- A line of the plan is judged on what is left of a network as it is on the whole, and told so many lines later. Assumes nothing.
-use mathlib.Core.Path.{_≡_, refl, sym, ap₂, _∙_}
-use mathlib.Core.List.{List}
-use Prim.Native.Nat.{ℕ, suc, _+_, _*_, _<_}
-use native.Mathlib.Omega.{arith}
-use lib.ListN.{length, getD}
+use Rattle.base_laws.proofs.Kit.{_≡_, refl, sym, ap₂, _∙_, List, ℕ, suc, _+_, _*_, _<_, arith, length, getD}
 use Rattle.base_search.specs.Checks.{Rule, ruleAt, orElse, verdict, table}
 use Rattle.base_search.proofs.Table.{SameRules, same-table}
 use Rattle.text_reader.specs.Lines.{Line, noLine}

@@ -1,13 +1,5 @@
 -- A part of a valid network, after steps that keep every rule, is valid: none of 1 to 6, 28 and 30 arises of it. Assumes nothing.
-use mathlib.Core.Path.{_≡_, refl, sym, ap, ap₂, _∙_}
-use mathlib.Core.Bool.{true, cond}
-use mathlib.Core.List.{List, []}
-use Prim.Native.Nat.{ℕ, zero, suc, _+_, _*_, _-_, _^_, _≤_, _<_}
-use native.Mathlib.Omega.{arith}
-use lib.Dec.{leb, ltb, eqb}
-use lib.ListN.{length, getD, drop}
-use lib.Seq.{getD-drop}
-use borrow.Author.Tests.{leb-true, le-leb}
+use Rattle.base_laws.proofs.Kit.{_≡_, refl, sym, ap, ap₂, _∙_, true, cond, List, [], ℕ, zero, suc, _+_, _*_, _-_, _^_, _≤_, _<_, arith, leb, ltb, eqb, length, getD, drop, getD-drop, leb-true, le-leb}
 use Rattle.base_search.specs.Checks.{Hold}
 use Rattle.text_reader.specs.Lines.{Line, noLine, number, numberOf, isRecord}
 use Rattle.text_writer.specs.Records.{recordLine, recordLines}

@@ -1,13 +1,5 @@
 -- What the lines of a part of a network say: it goes on from its first boundary. Assumes nothing.
-use mathlib.Core.Path.{_≡_, refl, sym, ap, ap₂, _∙_}
-use mathlib.Core.Logic.{_⊎_, inl, inr}
-use mathlib.Core.List.{List, [], _∷_, _++_}
-use Prim.Native.Nat.{ℕ, zero, suc, _+_, _*_, _-_, _≤_, _<_}
-use native.Mathlib.Nat.{eq-or-lt-of-le}
-use native.Mathlib.Decide.{decLe}
-use native.Mathlib.Omega.{arith}
-use lib.ListN.{length, getD, length-append, List·getD-append, List·getD-eq-default}
-use lib.Seq.{getD-append-add}
+use Rattle.base_laws.proofs.Kit.{_≡_, refl, sym, ap, ap₂, _∙_, _⊎_, inl, inr, List, [], _∷_, _++_, ℕ, zero, suc, _+_, _*_, _-_, _≤_, _<_, eq-or-lt-of-le, decLe, arith, length, getD, length-append, List·getD-append, List·getD-eq-default, getD-append-add}
 use Rattle.text_reader.specs.Lines.{Line}
 use Rattle.model.specs.declared.Signal.{Signal}
 use Rattle.base_laws.specs.Sum.{joined}

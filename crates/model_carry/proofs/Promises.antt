@@ -1,8 +1,5 @@
 -- What the call promises beside the theorem: what it wrote, and that the number of a refusal is one that can arise. Assumes nothing.
-use mathlib.Core.Path.{_≡_, refl, sym, ap, _∙_}
-use mathlib.Core.List.{List}
-use Prim.Native.Nat.{ℕ}
-use lib.ListN.{length, take}
+use Rattle.base_laws.proofs.Kit.{_≡_, refl, sym, ap, _∙_, List, ℕ, length, take}
 use Rattle.base_search.specs.declared.Refusal.{Refusal}
 use Rattle.base_search.specs.declared.Verdict.the-variants as verdicts
 use Rattle.base_search.specs.Checks.{verdict}

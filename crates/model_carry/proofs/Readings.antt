@@ -1,8 +1,6 @@
 -- Where the theorem of T-09 would fail under another reading, by computation on the definitions. Assumes nothing.
-use mathlib.Core.Path.{_≡_, refl}
-use mathlib.Core.List.{List}
+use Rattle.base_laws.proofs.Kit.{_≡_, refl, List, take, drop}
 use Prim.Native.String.{String, _++_}
-use lib.ListN.{take, drop}
 use Rattle.base_search.specs.declared.Verdict.{Verdict}
 use Rattle.base_search.specs.declared.Verdict.the-variants.{Passes, Refused}
 use Rattle.base_search.specs.Checks.{refusal, verdict}

@@ -1,13 +1,5 @@
 -- A signal that keeps rules 10, 13 and 14 in its ordinary steps stays one that refusal 3 lets pass. Assumes nothing.
-use mathlib.Core.Path.{_≡_, refl, _∙_}
-use mathlib.Core.Bool.{Bool, true, false, cond, not, _||_, and-eq-true-iff}
-use mathlib.Core.Logic.{_⊎_, inl, inr}
-use mathlib.Core.List.{List}
-use Prim.Native.Nat.{ℕ, zero, suc, _^_, _≤_, _<_}
-use native.Mathlib.Omega.{arith}
-use lib.Dec.{leb, eqb}
-use lib.ListN.{getD}
-use borrow.Author.Tests.{leb-true, le-leb, eqb-true, eqb-false, eq-eqb, not-true}
+use Rattle.base_laws.proofs.Kit.{_≡_, refl, _∙_, Bool, true, false, cond, not, _||_, and-eq-true-iff, _⊎_, inl, inr, List, ℕ, zero, suc, _^_, _≤_, _<_, arith, leb, eqb, getD, leb-true, le-leb, eqb-true, eqb-false, eq-eqb, not-true}
 use Rattle.text_reader.specs.Lines.{Line}
 use Rattle.model.specs.declared.Signal.{Signal}
 use Rattle.base_laws.specs.Test.{_and_, _or_, within, every}

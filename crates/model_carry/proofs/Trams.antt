@@ -1,12 +1,5 @@
 -- Tram lines clipped to the steps a + 1 to c: in those steps they ask what all lines ask, and refusal 28 does not arise of them. Assumes nothing.
-use mathlib.Core.Path.{_≡_, refl, sym, ap, _∙_}
-use mathlib.Core.Bool.{Bool, true, false, cond}
-use mathlib.Core.List.{List, [], _∷_, map}
-use Prim.Native.Nat.{ℕ, suc, _+_, _-_, _≤_, _<_, min, max}
-use native.Mathlib.Decide.{decLe}
-use native.Mathlib.Omega.{arith}
-use lib.Dec.{eqb}
-use borrow.Author.Tests.{le-leb, lt-leb, leb-true, leb-false}
+use Rattle.base_laws.proofs.Kit.{_≡_, refl, sym, ap, _∙_, Bool, true, false, cond, List, [], _∷_, map, ℕ, suc, _+_, _-_, _≤_, _<_, min, max, decLe, arith, eqb, le-leb, lt-leb, leb-true, leb-false}
 use Rattle.text_reader.specs.Lines.{Line, number, numberOf}
 use Rattle.text_writer.specs.Records.{recordLine}
 use Rattle.base_laws.specs.Test.{_and_, within}

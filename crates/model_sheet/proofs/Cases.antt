@@ -1,8 +1,6 @@
 -- Sheets kept and broken, and plans written, by computation on the definitions. Assumes nothing.
-use Prim.Native.Nat.{ℕ}
+use Rattle.base_laws.proofs.Kit.{ℕ, _≡_, refl, List, [], _∷_}
 use Prim.Native.String.{String, _++_}
-use mathlib.Core.Path.{_≡_, refl}
-use mathlib.Core.List.{List, [], _∷_}
 use Rattle.base_search.specs.declared.Verdict.{Verdict}
 use Rattle.base_search.specs.declared.Verdict.the-variants.{Passes, Refused}
 use Rattle.base_search.specs.Checks.{refusal, verdict}

@@ -1,12 +1,5 @@
 -- What 33 and 35 say of a signal once they hold. Assumes nothing.
-use mathlib.Core.Path.{_≡_}
-use mathlib.Core.Bool.{true}
-use mathlib.Core.List.{List}
-use Prim.Native.Nat.{ℕ, _≤_, _<_}
-use native.Mathlib.Omega.{arith}
-use borrow.Author.Tests.{leb-true, ltb-true}
-use lib.Dec.{leb}
-use lib.ListN.{getD}
+use Rattle.base_laws.proofs.Kit.{_≡_, true, List, ℕ, _≤_, _<_, arith, leb-true, ltb-true, leb, getD}
 use Rattle.base_search.specs.Checks.{Hold}
 use Rattle.text_reader.specs.Lines.{Line}
 use Rattle.model.specs.declared.Signal.{Signal}

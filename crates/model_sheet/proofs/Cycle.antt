@@ -1,13 +1,5 @@
 -- The repeated cycle of one line of a sheet, through a step that holds no end of a run. Assumes nothing.
-use mathlib.Core.Path.{_≡_, refl, sym, ap, _∙_}
-use mathlib.Core.Bool.{Bool, true, false, cond}
-use mathlib.Core.Logic.{_⊎_, inl, inr, _≢_}
-use Prim.Native.Nat.{ℕ, zero, suc, _+_, _%_, _≤_, _<_}
-use native.Mathlib.Nat.{eq-or-lt-of-le, mod-lt, mod-eq-of-lt, mod-self, mod-add-mod, add-assoc}
-use native.Mathlib.Decide.{decLe}
-use native.Mathlib.Omega.{arith}
-use lib.Dec.{leb}
-use borrow.Author.Tests.{le-leb, lt-leb}
+use Rattle.base_laws.proofs.Kit.{_≡_, refl, sym, ap, _∙_, Bool, true, false, cond, _⊎_, inl, inr, _≢_, ℕ, zero, suc, _+_, _%_, _≤_, _<_, eq-or-lt-of-le, mod-lt, mod-eq-of-lt, mod-self, mod-add-mod, add-assoc, decLe, arith, leb, le-leb, lt-leb}
 use Rattle.base_laws.specs.Sum.{sum}
 use Rattle.model_sheet.specs.Cycle.{phaseFrom, placeAt, phaseAt}
 

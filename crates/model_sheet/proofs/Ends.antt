@@ -1,14 +1,5 @@
 -- 35's test by steps is the request's sentence: no run that ends before the horizon ends on no boundary. Assumes nothing.
-use mathlib.Core.Path.{_≡_, sym, ap, _∙_}
-use mathlib.Core.Bool.{true}
-use mathlib.Core.Logic.{_⊎_, inl, inr, _↔_}
-use mathlib.Core.List.{List}
-use Prim.Native.Nat.{ℕ, zero, suc, _+_, _-_, _≤_, _<_}
-use native.Mathlib.Nat.{eq-or-lt-of-le}
-use native.Mathlib.Decide.{decLe}
-use native.Mathlib.Omega.{arith}
-use lib.Dec.{leb}
-use borrow.Author.Tests.{leb-true, le-leb}
+use Rattle.base_laws.proofs.Kit.{_≡_, sym, ap, _∙_, true, _⊎_, inl, inr, _↔_, List, ℕ, zero, suc, _+_, _-_, _≤_, _<_, eq-or-lt-of-le, decLe, arith, leb, leb-true, le-leb}
 use Rattle.text_reader.specs.Lines.{Line}
 use Rattle.base_laws.specs.Test.{every}
 use Rattle.base_laws.proofs.Tests.{every-at, every-of}

@@ -1,13 +1,5 @@
 -- A plan keeps a sheet exactly when no check 34 is broken. Assumes nothing.
-use mathlib.Core.Path.{_≡_, refl, sym, ap, _∙_}
-use mathlib.Core.Bool.{Bool, true, false, not, true≢false}
-use mathlib.Core.Logic.{_⊎_, inl, inr, _≢_, _↔_}
-use mathlib.Core.List.{List}
-use Prim.Native.Nat.{ℕ, zero, suc, _+_, _-_, _≤_, _<_}
-use native.Mathlib.Decide.{decLe}
-use native.Mathlib.Omega.{arith}
-use lib.Dec.{eqb}
-use borrow.Author.Tests.{eqb-true, eqb-false, eq-eqb, not-true}
+use Rattle.base_laws.proofs.Kit.{_≡_, refl, sym, ap, _∙_, Bool, true, false, not, true≢false, _⊎_, inl, inr, _≢_, _↔_, List, ℕ, zero, suc, _+_, _-_, _≤_, _<_, decLe, arith, eqb, eqb-true, eqb-false, eq-eqb, not-true}
 use Rattle.base_search.specs.Checks.{Hold}
 use Rattle.text_reader.specs.Lines.{Line}
 use Rattle.base_laws.specs.Test.{_and_, _or_}

@@ -1,13 +1,5 @@
 -- A refusal 34 names the first broken run: the least line of its last ordinary step, then the lowest signal. Assumes nothing.
-use mathlib.Core.Path.{_≡_, refl, sym, ap, _∙_}
-use mathlib.Core.Bool.{true, false, not}
-use mathlib.Core.Logic.{_⊎_, inl, inr}
-use mathlib.Core.List.{List}
-use Prim.Native.Nat.{ℕ, suc, _-_, _≤_, _<_}
-use native.Mathlib.Decide.{decLe, ℕ-discrete}
-use native.Mathlib.Omega.{arith}
-use lib.Dec.{eqb}
-use borrow.Author.Tests.{eqb-true, eqb-false, not-false}
+use Rattle.base_laws.proofs.Kit.{_≡_, refl, sym, ap, _∙_, true, false, not, _⊎_, inl, inr, List, ℕ, suc, _-_, _≤_, _<_, decLe, ℕ-discrete, arith, eqb, eqb-true, eqb-false, not-false}
 use Rattle.base_search.specs.declared.Refusal.{Refusal}
 use Rattle.base_search.specs.Checks.{Hold, FirstBroken}
 use Rattle.text_reader.specs.Lines.{Line}

@@ -1,15 +1,5 @@
 -- The masks that are written for a sheet keep it. Assumes nothing.
-use mathlib.Core.Path.{_≡_, refl, sym, ap, _∙_}
-use mathlib.Core.Bool.{true, false, not, true≢false}
-use mathlib.Core.Logic.{_⊎_, inl, inr, _≢_}
-use mathlib.Core.List.{List, [], _∷_}
-use Prim.Native.Nat.{ℕ, zero, suc, _+_, _*_, _-_, _^_, _≤_, _<_}
-use native.Mathlib.Nat.{eq-or-lt-of-le}
-use native.Mathlib.Omega.{arith}
-use lib.Dec.{eqb}
-use lib.ListN.{length, getD, take, drop, length-take}
-use lib.Seq.{getD-take, getD-drop}
-use borrow.Author.Tests.{not-true, lt-ltb}
+use Rattle.base_laws.proofs.Kit.{_≡_, refl, sym, ap, _∙_, true, false, not, true≢false, _⊎_, inl, inr, _≢_, List, [], _∷_, ℕ, zero, suc, _+_, _*_, _-_, _^_, _≤_, _<_, eq-or-lt-of-le, arith, eqb, length, getD, take, drop, length-take, getD-take, getD-drop, not-true, lt-ltb}
 use Rattle.text_reader.specs.Lines.{Line, noLine, number}
 use Rattle.text_writer.proofs.Records.{entry-back}
 use Rattle.base_laws.specs.Sum.{only}

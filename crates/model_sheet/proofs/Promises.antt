@@ -1,10 +1,5 @@
 -- What the two calls promise holds of their answers. Assumes nothing.
-use mathlib.Core.Path.{_≡_, refl, sym, _∙_}
-use mathlib.Core.Bool.{true}
-use mathlib.Core.Logic.{_↔_}
-use mathlib.Core.List.{List}
-use Prim.Native.Nat.{ℕ, suc, _<_}
-use lib.ListN.{length, take}
+use Rattle.base_laws.proofs.Kit.{_≡_, refl, sym, _∙_, true, _↔_, List, ℕ, suc, _<_, length, take}
 use Rattle.base_search.specs.declared.Refusal.{Refusal}
 use Rattle.base_search.specs.declared.Verdict.{Verdict}
 use Rattle.base_search.specs.declared.Verdict.the-variants as verdicts

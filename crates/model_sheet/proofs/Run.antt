@@ -1,13 +1,6 @@
 -- A green that begins in the plan and is left in it, by the phases of the signal at each boundary in place of masks, and with the step that leaves it. Assumes
 -- nothing.
-use mathlib.Core.Path.{_≡_, refl, sym, ap, _∙_}
-use mathlib.Core.Bool.{true, true≢false}
-use mathlib.Core.Logic.{_≢_}
-use mathlib.Core.List.{List}
-use Prim.Native.Nat.{ℕ, suc, _≤_, _<_}
-use native.Mathlib.Decide.{decLe}
-use native.Mathlib.Omega.{arith}
-use borrow.Author.Tests.{leb-true}
+use Rattle.base_laws.proofs.Kit.{_≡_, refl, sym, ap, _∙_, true, true≢false, _≢_, List, ℕ, suc, _≤_, _<_, decLe, arith, leb-true}
 use Rattle.text_reader.specs.Lines.{Line}
 use Rattle.model.specs.declared.Signal.{Signal}
 use Rattle.model.specs.Network.{signalCount, stepCount, signal, time}

@@ -1,9 +1,5 @@
 -- Times and ordinary seconds. Assumes nothing.
-use mathlib.Core.Path.{_≡_, refl}
-use mathlib.Core.Bool.{true, false}
-use mathlib.Core.List.{List}
-use Prim.Native.Nat.{ℕ, zero, suc, _+_, _-_, _≤_}
-use native.Mathlib.Omega.{arith}
+use Rattle.base_laws.proofs.Kit.{_≡_, refl, true, false, List, ℕ, zero, suc, _+_, _-_, _≤_, arith}
 use Rattle.text_reader.specs.Lines.{Line}
 use Rattle.base_laws.specs.Sum.{sum}
 use Rattle.model.specs.Network.{stepLength, time, ordinary}

@@ -1,13 +1,5 @@
 -- The plan that is written for a sheet: it reads back, refusal 9 does not arise of it, and its masks keep the sheet without its offsets. Assumes nothing.
-use mathlib.Core.Path.{_≡_, sym, ap, _∙_}
-use mathlib.Core.Bool.{true}
-use mathlib.Core.List.{List}
-use Prim.Native.Nat.{ℕ, suc, _+_, _*_, _-_, _^_, _≤_, _<_}
-use native.Mathlib.Nat.{le-trans, pow-le-pow-right}
-use native.Mathlib.Decide.{decLt}
-use native.Mathlib.Omega.{arith}
-use borrow.Author.Tests.{eq-eqb, le-leb, lt-ltb, le-ltb}
-use lib.ListN.{length, getD, List·getD-eq-default}
+use Rattle.base_laws.proofs.Kit.{_≡_, sym, ap, _∙_, true, List, ℕ, suc, _+_, _*_, _-_, _^_, _≤_, _<_, le-trans, pow-le-pow-right, decLt, arith, eq-eqb, le-leb, lt-ltb, le-ltb, length, getD, List·getD-eq-default}
 use Rattle.base_search.specs.Checks.{Hold}
 use Rattle.text_reader.specs.Field.{largest}
 use Rattle.text_reader.specs.Lines.{Line, lines}

@@ -1,12 +1,5 @@
 -- What 40 and 41 say: the kind of border movements, and the signals of a half. Assumes nothing.
-use mathlib.Core.Path.{_≡_, refl, sym, _∙_}
-use mathlib.Core.Bool.{Bool, true, false, cond, not}
-use mathlib.Core.Logic.{_⊎_, inl, inr}
-use mathlib.Core.List.{List}
-use Prim.Native.Nat.{ℕ, suc, _-_, _≤_, _<_}
-use native.Mathlib.Omega.{arith}
-use lib.Dec.{eqb}
-use borrow.Author.Tests.{leb-true, eqb-true, eq-eqb, not-true}
+use Rattle.base_laws.proofs.Kit.{_≡_, refl, sym, _∙_, Bool, true, false, cond, not, _⊎_, inl, inr, List, ℕ, suc, _-_, _≤_, _<_, arith, eqb, leb-true, eqb-true, eq-eqb, not-true}
 use Rattle.text_reader.specs.Lines.{Line}
 use Rattle.base_laws.specs.Sum.{sum, only}
 use Rattle.base_laws.specs.Test.{_and_, _or_, every}

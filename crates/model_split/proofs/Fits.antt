@@ -1,14 +1,5 @@
 -- Every number that is read from a text fits a field, and so does every number that is written of a half. Assumes nothing.
-use mathlib.Core.Path.{_≡_}
-use mathlib.Core.Bool.{Bool, true, false, cond}
-use mathlib.Core.Logic.{_⊎_, inl, inr}
-use mathlib.Core.List.{List, [], _++_}
-use Prim.Native.Nat.{ℕ, zero, suc, _+_, _*_, _-_, _≤_, _<_}
-use native.Mathlib.Decide.{decLe}
-use native.Mathlib.Omega.{arith}
-use lib.Dec.{eqb}
-use lib.ListN.{length, getD, List·getD-append, List·getD-eq-default}
-use lib.Seq.{getD-append-add}
+use Rattle.base_laws.proofs.Kit.{_≡_, Bool, true, false, cond, _⊎_, inl, inr, List, [], _++_, ℕ, zero, suc, _+_, _*_, _-_, _≤_, _<_, decLe, arith, eqb, length, getD, List·getD-append, List·getD-eq-default, getD-append-add}
 use Rattle.base_search.specs.Checks.{Hold}
 use Rattle.text_reader.specs.Field.{largest}
 use Rattle.text_reader.specs.Lines.{Line, lines, number}

@@ -1,14 +1,5 @@
 -- A half of a valid network that can be split is valid, as long as the border volumes that it takes for demands are. Assumes nothing.
-use mathlib.Core.Path.{_≡_, refl, sym, ap, _∙_}
-use mathlib.Core.Bool.{Bool, true, false, not}
-use mathlib.Core.Logic.{_⊎_, inl, inr}
-use mathlib.Core.List.{List, []}
-use Prim.Native.Nat.{ℕ, zero, suc, _+_, _*_, _-_, _≤_, _<_}
-use native.Mathlib.Decide.{decLe}
-use native.Mathlib.Omega.{arith}
-use lib.Dec.{leb, ltb, eqb}
-use lib.ListN.{length, getD}
-use borrow.Author.Tests.{leb-true, eqb-true, eq-eqb, ne-eqb, le-leb, lt-ltb}
+use Rattle.base_laws.proofs.Kit.{_≡_, refl, sym, ap, _∙_, Bool, true, false, not, _⊎_, inl, inr, List, [], ℕ, zero, suc, _+_, _*_, _-_, _≤_, _<_, decLe, arith, leb, ltb, eqb, length, getD, leb-true, eqb-true, eq-eqb, ne-eqb, le-leb, lt-ltb}
 use Rattle.base_search.specs.Checks.{Hold}
 use Rattle.text_reader.specs.Lines.{Line, noLine, number, isRecord}
 use Rattle.base_laws.specs.Sum.{sum, only}

@@ -1,12 +1,5 @@
 -- Where the whole keeps its rules a half keeps its own; and where a half does, the whole keeps them of the half's links, signals and movements. Assumes nothing.
-use mathlib.Core.Path.{_≡_, sym, _∙_}
-use mathlib.Core.Bool.{Bool, true}
-use mathlib.Core.Logic.{_⊎_, inl, inr}
-use mathlib.Core.List.{List}
-use Prim.Native.Nat.{ℕ, suc, _+_, _*_, _-_, _≤_, _<_}
-use native.Mathlib.Nat.{mul-le-mul}
-use native.Mathlib.Omega.{arith}
-use borrow.Author.Tests.{leb-true, le-leb}
+use Rattle.base_laws.proofs.Kit.{_≡_, sym, _∙_, Bool, true, _⊎_, inl, inr, List, ℕ, suc, _+_, _*_, _-_, _≤_, _<_, mul-le-mul, arith, leb-true, le-leb}
 use Rattle.text_reader.specs.Lines.{Line}
 use Rattle.base_laws.specs.Sum.{sum}
 use Rattle.model.specs.Network.{linkCount, signalCount, movementCount, stepCount, exitRate, waitingAtStart, fromLink, toLink, rate, stepLength, demand}

@@ -1,10 +1,5 @@
 -- A plan is accepted exactly when its network's checks hold, its lines have their form and each of its steps keeps every rule. Assumes nothing.
-use mathlib.Core.Path.{_≡_, refl}
-use mathlib.Core.Bool.{true}
-use mathlib.Core.List.{List}
-use Prim.Native.Nat.{ℕ, suc, _+_, _*_, _≤_, _<_}
-use lib.ListN.{length}
-use borrow.Author.Tests.{leb-true, eqb-true, eq-eqb, le-leb}
+use Rattle.base_laws.proofs.Kit.{_≡_, refl, true, List, ℕ, suc, _+_, _*_, _≤_, _<_, length, leb-true, eqb-true, eq-eqb, le-leb}
 use Rattle.base_search.specs.Checks.{Hold}
 use Rattle.base_search.proofs.Table.{AllKept, kept-hold}
 use Rattle.text_reader.specs.Lines.{Line}

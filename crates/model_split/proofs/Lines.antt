@@ -1,12 +1,5 @@
 -- The lines of a half say the half's numbers. Assumes nothing.
-use mathlib.Core.Path.{_≡_, refl, sym, _∙_}
-use mathlib.Core.Bool.{Bool, true}
-use mathlib.Core.List.{List, [], _++_}
-use Prim.Native.Nat.{ℕ, suc, _+_, _*_, _≤_, _<_}
-use native.Mathlib.Decide.{decLe}
-use native.Mathlib.Omega.{arith}
-use lib.ListN.{length, getD, length-append, List·getD-append, List·getD-eq-default}
-use lib.Seq.{getD-append-add}
+use Rattle.base_laws.proofs.Kit.{_≡_, refl, sym, _∙_, Bool, true, List, [], _++_, ℕ, suc, _+_, _*_, _≤_, _<_, decLe, arith, length, getD, length-append, List·getD-append, List·getD-eq-default, getD-append-add}
 use Rattle.text_reader.specs.Lines.{Line}
 use Rattle.text_writer.proofs.Records.{lines-count, entry-back, form-back}
 use Rattle.base_laws.specs.Indexed.{list}

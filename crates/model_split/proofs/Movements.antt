@@ -1,13 +1,5 @@
 -- The movements of a valid network: their pairs rise, and whether one leaves a link. Assumes nothing.
-use mathlib.Core.Path.{_≡_, refl, ap, _∙_}
-use mathlib.Core.Bool.{true, false, cond}
-use mathlib.Core.Logic.{_⊎_, inl, inr}
-use mathlib.Core.List.{List}
-use Prim.Native.Nat.{ℕ, zero, suc, _≤_, _<_}
-use native.Mathlib.Nat.{eq-or-lt-of-le}
-use native.Mathlib.Omega.{arith}
-use lib.Dec.{ltb, eqb}
-use borrow.Author.Tests.{ltb-true, eqb-true, eqb-false}
+use Rattle.base_laws.proofs.Kit.{_≡_, refl, ap, _∙_, true, false, cond, _⊎_, inl, inr, List, ℕ, zero, suc, _≤_, _<_, eq-or-lt-of-le, arith, ltb, eqb, ltb-true, eqb-true, eqb-false}
 use Rattle.text_reader.specs.Lines.{Line}
 use Rattle.base_laws.specs.Test.{_and_}
 use Rattle.model.specs.Network.{movementCount, fromLink, toLink}

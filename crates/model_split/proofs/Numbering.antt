@@ -1,16 +1,5 @@
 -- Laws of numbering anew. Assumes nothing.
-use mathlib.Core.Path.{_≡_, refl, sym, ap, _∙_}
-use mathlib.Core.Bool.{Bool, true, false, cond}
-use mathlib.Core.Logic.{_⊎_, inl, inr}
-use mathlib.Core.List.{[], _∷_, _++_}
-use Prim.Native.Nat.{ℕ, zero, suc, _+_, _-_, _≤_, _<_}
-use native.Mathlib.Nat.{eq-or-lt-of-le}
-use native.Mathlib.Decide.{decLe}
-use native.Mathlib.Omega.{arith}
-use lib.Dec.{eqb}
-use lib.ListN.{length, getD, length-append, List·getD-append}
-use lib.Seq.{getD-append-seam}
-use borrow.Author.Tests.{eq-eqb, ne-eqb, eqb-true, eqb-false}
+use Rattle.base_laws.proofs.Kit.{_≡_, refl, sym, ap, _∙_, Bool, true, false, cond, _⊎_, inl, inr, [], _∷_, _++_, ℕ, zero, suc, _+_, _-_, _≤_, _<_, eq-or-lt-of-le, decLe, arith, eqb, length, getD, length-append, List·getD-append, getD-append-seam, eq-eqb, ne-eqb, eqb-true, eqb-false}
 use Rattle.base_laws.specs.Sum.{sum, only}
 use Rattle.model_split.specs.Numbering.{rank, picked}
 use Rattle.base_laws.proofs.Tests.{either-way}

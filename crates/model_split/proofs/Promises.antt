@@ -1,10 +1,5 @@
 -- What the call promises beside the theorem: what it wrote, and that the number of a refusal is one that can arise. Assumes nothing.
-use mathlib.Core.Path.{_≡_, refl, sym, ap, _∙_}
-use mathlib.Core.List.{List}
-use Prim.Native.Nat.{ℕ}
-use lib.ListN.{length, take}
-use lib.Seq.{take-at}
-use borrow.Author.Needs.{needs}
+use Rattle.base_laws.proofs.Kit.{_≡_, refl, sym, ap, _∙_, List, ℕ, length, take, take-at, needs}
 use Rattle.base_search.specs.declared.Refusal.{Refusal}
 use Rattle.base_search.specs.declared.Verdict.{Verdict}
 use Rattle.base_search.specs.declared.Verdict.the-variants.{Passes, Refused}

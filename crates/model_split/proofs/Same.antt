@@ -1,13 +1,5 @@
 -- A network and a plan that are one half of another: every curve, signal and rule of its links, signals and movements is that of the whole. Assumes nothing.
-use mathlib.Core.Path.{_≡_, refl, sym, ap, ap₂, _∙_}
-use mathlib.Core.Bool.{Bool, true, false, cond, not}
-use mathlib.Core.Logic.{_⊎_, inl, inr}
-use mathlib.Core.List.{List}
-use Prim.Native.Nat.{ℕ, zero, suc, _+_, _*_, _-_, _≤_, _<_, min}
-use native.Mathlib.Decide.{decLe}
-use native.Mathlib.Omega.{arith}
-use lib.Dec.{leb, eqb}
-use borrow.Author.Tests.{le-leb, lt-leb, le-ltb, ne-eqb, eqb-true}
+use Rattle.base_laws.proofs.Kit.{_≡_, refl, sym, ap, ap₂, _∙_, Bool, true, false, cond, not, _⊎_, inl, inr, List, ℕ, zero, suc, _+_, _*_, _-_, _≤_, _<_, min, decLe, arith, leb, eqb, le-leb, lt-leb, le-ltb, ne-eqb, eqb-true}
 use Rattle.text_reader.specs.Field.{largest}
 use Rattle.text_reader.specs.Lines.{Line}
 use Rattle.base_laws.specs.Sum.{sum, only}

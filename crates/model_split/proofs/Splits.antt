@@ -1,12 +1,5 @@
 -- The theorem of T-14, of texts. Assumes nothing.
-use mathlib.Core.Path.{_≡_, refl, sym, _∙_}
-use mathlib.Core.Logic.{_↔_}
-use mathlib.Core.Bool.{true, not}
-use mathlib.Core.List.{List}
-use Prim.Native.Nat.{ℕ, suc, _+_, _*_, _≤_, _<_}
-use native.Mathlib.Omega.{arith}
-use lib.ListN.{getD}
-use borrow.Author.Tests.{eqb-true}
+use Rattle.base_laws.proofs.Kit.{_≡_, refl, sym, _∙_, _↔_, true, not, List, ℕ, suc, _+_, _*_, _≤_, _<_, arith, getD, eqb-true}
 use Rattle.base_search.specs.declared.Verdict.the-variants.{Passes}
 use Rattle.base_search.specs.Checks.{Hold, verdict}
 use Rattle.base_search.proofs.Laws.{hold-of-passes, passes-of-hold}

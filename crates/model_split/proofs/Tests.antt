@@ -1,10 +1,5 @@
 -- Tests either way, an index that one holds of, and sums over what one holds of. Assumes nothing.
-use mathlib.Core.Path.{_≡_, refl, sym, _∙_}
-use mathlib.Core.Bool.{Bool, true, false, not}
-use mathlib.Core.Logic.{_⊎_, inl, inr}
-use Prim.Native.Nat.{ℕ, zero, suc, _+_, _<_}
-use native.Mathlib.Nat.{eq-or-lt-of-le}
-use native.Mathlib.Omega.{arith}
+use Rattle.base_laws.proofs.Kit.{_≡_, refl, sym, _∙_, Bool, true, false, not, _⊎_, inl, inr, ℕ, zero, suc, _+_, _<_, eq-or-lt-of-le, arith}
 use Rattle.base_laws.specs.Sum.{sum, only}
 use Rattle.base_laws.specs.Test.{_or_}
 use Rattle.base_laws.proofs.Tests.{either-way}

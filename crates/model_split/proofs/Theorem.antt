@@ -1,12 +1,5 @@
 -- The whole is accepted exactly when both halves are and the let-out and admitted border volumes match, all by their lines. Assumes nothing.
-use mathlib.Core.Path.{_≡_, refl, sym, _∙_}
-use mathlib.Core.Bool.{Bool, true, false, cond, not}
-use mathlib.Core.Logic.{_⊎_, inl, inr}
-use mathlib.Core.List.{List}
-use Prim.Native.Nat.{ℕ, suc, _+_, _*_, _-_, _≤_, _<_, min}
-use native.Mathlib.Omega.{arith}
-use lib.Dec.{eqb}
-use borrow.Author.Tests.{leb-true, le-leb, eqb-true, eq-eqb}
+use Rattle.base_laws.proofs.Kit.{_≡_, refl, sym, _∙_, Bool, true, false, cond, not, _⊎_, inl, inr, List, ℕ, suc, _+_, _*_, _-_, _≤_, _<_, min, arith, eqb, leb-true, le-leb, eqb-true, eq-eqb}
 use Rattle.base_search.specs.Checks.{Hold}
 use Rattle.text_reader.specs.Field.{largest}
 use Rattle.text_reader.specs.Lines.{Line}

@@ -1,11 +1,5 @@
 -- The totals of two halves, by their lines, add up to those of the whole, and each link's curves are those of the whole. Assumes nothing.
-use mathlib.Core.Path.{_≡_, refl, sym, ap, ap₂, _∙_}
-use mathlib.Core.Bool.{Bool, true, false, not}
-use mathlib.Core.Logic.{_⊎_, inl, inr}
-use mathlib.Core.List.{List}
-use Prim.Native.Nat.{ℕ, suc, _+_, _*_, _≤_, _<_}
-use native.Mathlib.Omega.{arith}
-use lib.Dec.{eqb}
+use Rattle.base_laws.proofs.Kit.{_≡_, refl, sym, ap, ap₂, _∙_, Bool, true, false, not, _⊎_, inl, inr, List, ℕ, suc, _+_, _*_, _≤_, _<_, arith, eqb}
 use Rattle.text_reader.specs.Lines.{Line}
 use Rattle.base_laws.specs.Sum.{sum, only}
 use Rattle.base_laws.specs.Test.{_and_}

@@ -1,13 +1,5 @@
 -- The tram lines of a half ask of its signals what all lines ask. Assumes nothing.
-use mathlib.Core.Path.{_≡_, refl, sym, ap, _∙_}
-use mathlib.Core.Bool.{true, false, cond}
-use mathlib.Core.Logic.{_⊎_, inl, inr}
-use mathlib.Core.List.{List, [], _∷_, _++_, map}
-use Prim.Native.Nat.{ℕ, zero, suc, _-_, _≤_, _<_}
-use native.Mathlib.Omega.{arith}
-use lib.ListN.{take}
-use lib.Seq.{take-suc, take-all}
-use borrow.Author.Tests.{leb-true, ne-eqb}
+use Rattle.base_laws.proofs.Kit.{_≡_, refl, sym, ap, _∙_, true, false, cond, _⊎_, inl, inr, List, [], _∷_, _++_, map, ℕ, zero, suc, _-_, _≤_, _<_, arith, take, take-suc, take-all, leb-true, ne-eqb}
 use Rattle.text_reader.specs.Lines.{Line, noLine, number, numberOf}
 use Rattle.text_writer.specs.Records.{recordLine}
 use Rattle.base_laws.specs.Test.{_and_, within}

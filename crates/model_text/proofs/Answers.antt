@@ -1,9 +1,5 @@
 -- The verdict by the answer of a call that writes a text, and the text by the buffer.
-use Prim.Native.Nat.{ℕ}
-use mathlib.Core.Path.{_≡_, refl, sym, ap, _∙_}
-use mathlib.Core.List.{List}
-use lib.ListN.{length, take}
-use lib.Seq.{take-at}
+use Rattle.base_laws.proofs.Kit.{ℕ, _≡_, refl, sym, ap, _∙_, List, length, take, take-at}
 use Rattle.base_search.specs.declared.Refusal.{Refusal}
 use Rattle.base_search.specs.declared.Verdict.{Verdict}
 use Rattle.base_search.specs.declared.Verdict.the-variants as verdicts

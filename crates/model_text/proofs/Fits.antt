@@ -1,14 +1,5 @@
 -- Every number of a valid network fits a field, so that a valid network that is given by its numbers reads back from its text. Assumes nothing.
-use mathlib.Core.Path.{_≡_, refl}
-use mathlib.Core.Bool.{true, cond}
-use mathlib.Core.List.{List, []}
-use Prim.Native.Nat.{ℕ, zero, suc, _+_, _*_, _-_, _/_, _%_, _^_, _≤_, _<_}
-use native.Mathlib.Nat.{le-trans, pow-le-pow-right}
-use native.Mathlib.Decide.{decLe}
-use native.Mathlib.Omega.{arith}
-use lib.Dec.{leb, ltb, eqb}
-use lib.ListN.{getD}
-use borrow.Author.Tests.{leb-true, ltb-true, eqb-true, ne-eqb}
+use Rattle.base_laws.proofs.Kit.{_≡_, refl, true, cond, List, [], ℕ, zero, suc, _+_, _*_, _-_, _/_, _%_, _^_, _≤_, _<_, le-trans, pow-le-pow-right, decLe, arith, leb, ltb, eqb, getD, leb-true, ltb-true, eqb-true, ne-eqb}
 use Rattle.base_search.specs.Checks.{Hold}
 use Rattle.text_reader.specs.Field.{largest}
 use Rattle.text_reader.specs.Lines.{Line, noLine, number, isRecord, lines}

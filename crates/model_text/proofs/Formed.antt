@@ -1,13 +1,5 @@
 -- A network's checks hold exactly when every line has its form, nothing follows, and no value is refused. Assumes nothing.
-use mathlib.Core.Path.{_≡_, refl, _∙_}
-use mathlib.Core.Bool.{true, _&&_, and-eq-true-iff}
-use mathlib.Core.List.{List, [], _∷_}
-use Prim.Native.Nat.{ℕ, zero, suc, _+_, _*_, _≤_, _<_}
-use native.Mathlib.Omega.{arith}
-use lib.Dec.{eqb}
-use lib.ListN.{length, getD, take, drop, length-take, length-drop, List·getD-eq-default}
-use lib.Seq.{getD-take, getD-drop}
-use borrow.Author.Tests.{eqb-true, eq-eqb, le-leb}
+use Rattle.base_laws.proofs.Kit.{_≡_, refl, _∙_, true, _&&_, and-eq-true-iff, List, [], _∷_, ℕ, zero, suc, _+_, _*_, _≤_, _<_, arith, eqb, length, getD, take, drop, length-take, length-drop, List·getD-eq-default, getD-take, getD-drop, eqb-true, eq-eqb, le-leb}
 use Rattle.base_search.specs.Checks.{Hold}
 use Rattle.text_reader.specs.declared.Field.{Field}
 use Rattle.text_reader.specs.declared.Field.the-variants.{Number, NoNumber}

@@ -1,11 +1,5 @@
 -- What the lines of a network that is given by its numbers say, and that its text reads back as them. Assumes nothing.
-use mathlib.Core.Path.{_≡_, refl, sym, ap, _∙_}
-use mathlib.Core.Bool.{true}
-use mathlib.Core.List.{List, [], _∷_, _++_, map}
-use Prim.Native.Nat.{ℕ, zero, suc, _+_, _<_}
-use native.Mathlib.Omega.{arith}
-use lib.ListN.{length, getD, length-append, List·getD-append}
-use lib.Seq.{getD-append-add, take-at}
+use Rattle.base_laws.proofs.Kit.{_≡_, refl, sym, ap, _∙_, true, List, [], _∷_, _++_, map, ℕ, zero, suc, _+_, _<_, arith, length, getD, length-append, List·getD-append, getD-append-add, take-at}
 use Rattle.text_reader.specs.Lines.{Line, noLine, number, isRecord, lines}
 use Rattle.text_writer.specs.Records.{recordLine, recordLines}
 use Rattle.text_writer.proofs.Records.{Small, record-back, records-back, text-back, lines-count, entry-back, form-back}

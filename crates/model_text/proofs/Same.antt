@@ -1,8 +1,5 @@
 -- Numbers that agree make one list, and networks whose numbers agree have one text. Assumes nothing.
-use mathlib.Core.Path.{_≡_, refl, ap₂}
-use mathlib.Core.List.{List, [], _∷_, _++_}
-use Prim.Native.Nat.{ℕ, zero, suc, _<_}
-use native.Mathlib.Omega.{arith}
+use Rattle.base_laws.proofs.Kit.{_≡_, refl, ap₂, List, [], _∷_, _++_, ℕ, zero, suc, _<_, arith}
 use Rattle.text_writer.specs.Records.{recordText, recordTexts}
 use Rattle.base_laws.specs.Indexed.{list}
 use Rattle.model.specs.Table.{letterG, letterQ, letterM, letterH, letterS}

@@ -1,8 +1,5 @@
 -- The stages of a network's reading, one after another: where one is refused, so is the network; and what each asks of those before it. Assumes nothing.
-use Prim.Native.Nat.{ℕ}
-use mathlib.Core.Path.{_≡_, sym, ap, _∙_}
-use mathlib.Core.List.{List}
-use lib.ListN.{length}
+use Rattle.base_laws.proofs.Kit.{ℕ, _≡_, sym, ap, _∙_, List, length}
 use Rattle.base_search.specs.declared.Refusal.{Refusal}
 use Rattle.base_search.specs.declared.Verdict.{Verdict}
 use Rattle.base_search.specs.declared.Verdict.the-variants as verdicts

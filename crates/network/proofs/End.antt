@@ -1,10 +1,5 @@
 -- What comes after the `S` lines: the end of the text. Assumes nothing.
-use Prim.Native.Nat.{ℕ, suc, _+_, _-_, _≤_}
-use mathlib.Core.Path.{_≡_, refl, sym, _∙_}
-use mathlib.Core.Bool.{Bool, true, false}
-use mathlib.Core.List.{List}
-use native.Mathlib.Omega.{arith}
-use lib.ListN.{length}
+use Rattle.base_laws.proofs.Kit.{ℕ, suc, _+_, _-_, _≤_, _≡_, refl, sym, _∙_, Bool, true, false, List, arith, length}
 use Rattle.base_search.specs.declared.Refusal.{Refusal}
 use Rattle.base_search.specs.declared.Verdict.the-variants.{Passes}
 use Rattle.base_search.specs.Checks.{refusal, Hold, verdict}

@@ -1,10 +1,5 @@
 -- Tables of zeros have room for a network.
-use Prim.Native.Nat.{ℕ}
-use mathlib.Core.Path.{_≡_, ap, _∙_}
-use mathlib.Core.List.{List}
-use native.Mathlib.Decide.{decLe}
-use native.Mathlib.Omega.{arith}
-use lib.ListN.{length, getD, replicate, length-replicate, getD-replicate, List·getD-eq-default}
+use Rattle.base_laws.proofs.Kit.{ℕ, _≡_, ap, _∙_, List, decLe, arith, length, getD, replicate, length-replicate, getD-replicate, List·getD-eq-default}
 use Rattle.network_tables.specs.Fields.{signalTableSize}
 use Rattle.network.specs.Loading.{Rooms, SignalRooms}
 

@@ -1,11 +1,5 @@
 -- The `H` lines, the `S` lines, the end of the text and the past, one after another. Assumes nothing.
-use Prim.Native.Nat.{ℕ, _≤_, _<_}
-use mathlib.Core.Path.{_≡_, sym, _∙_}
-use mathlib.Core.Bool.{true}
-use mathlib.Core.List.{List}
-use native.Mathlib.Omega.{arith}
-use borrow.Author.Tests.{leb-true}
-use lib.ListN.{replicate, length-replicate, getD-replicate}
+use Rattle.base_laws.proofs.Kit.{ℕ, _≤_, _<_, _≡_, sym, _∙_, true, List, arith, leb-true, replicate, length-replicate, getD-replicate}
 use Rattle.base_search.specs.declared.Refusal.{Refusal}
 use Rattle.base_search.specs.declared.Verdict.the-variants as verdicts
 use Rattle.base_search.specs.Checks.{Hold, verdict}

@@ -1,13 +1,5 @@
 -- The test of a link by its table is the paper's test of the link, and the turns of the loop over the `Q` lines. Assumes nothing.
-use Prim.Native.Nat.{ℕ, suc, _+_, _-_, _*_, _%_, _^_, _≤_, _<_}
-use mathlib.Core.Path.{_≡_, refl, sym, _∙_}
-use mathlib.Core.Bool.{Bool, true, false, cond, not, _&&_, and-true, and-false}
-use mathlib.Core.List.{List}
-use native.Mathlib.Numerals.{add-one}
-use native.Mathlib.Omega.{arith}
-use borrow.Author.Tests.{le-leb, lt-leb, eqb-false, leb-true, ne-eqb, not-true, not-false}
-use lib.Dec.{leb, ltb, eqb}
-use lib.ListN.{getD}
+use Rattle.base_laws.proofs.Kit.{ℕ, suc, _+_, _-_, _*_, _%_, _^_, _≤_, _<_, _≡_, refl, sym, _∙_, Bool, true, false, cond, not, _&&_, and-true, and-false, List, add-one, arith, le-leb, lt-leb, eqb-false, leb-true, ne-eqb, not-true, not-false, leb, ltb, eqb, getD}
 use Rattle.base_search.specs.declared.Refusal.{Refusal}
 use Rattle.base_search.specs.Checks.{refusal}
 use Rattle.text_reader.specs.declared.LineRead.{LineRead}

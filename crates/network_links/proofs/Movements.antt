@@ -1,12 +1,5 @@
 -- The tests of movements by their table are the paper's, and the turns of the loops over the `M` lines and over the links' shares. Assumes nothing.
-use Prim.Native.Nat.{ℕ, zero, suc, _+_, _-_, _*_, _≤_, _<_}
-use mathlib.Core.Path.{_≡_, refl, sym, ap, fun-ext, _∙_}
-use mathlib.Core.Bool.{Bool, true, false, not, _&&_, _||_}
-use mathlib.Core.List.{List}
-use native.Mathlib.Numerals.{add-one}
-use native.Mathlib.Omega.{arith}
-use borrow.Author.Tests.{eq-eqb, ne-eqb, not-true, not-false}
-use lib.Dec.{leb, ltb, eqb, eqb·suc-zero}
+use Rattle.base_laws.proofs.Kit.{ℕ, zero, suc, _+_, _-_, _*_, _≤_, _<_, _≡_, refl, sym, ap, fun-ext, _∙_, Bool, true, false, not, _&&_, _||_, List, add-one, arith, eq-eqb, ne-eqb, not-true, not-false, leb, ltb, eqb, eqb·suc-zero}
 use Rattle.base_search.specs.declared.Refusal.{Refusal}
 use Rattle.base_search.specs.Checks.{refusal, each, checked, verdict}
 use Rattle.text_reader.specs.declared.LineRead.{LineRead}

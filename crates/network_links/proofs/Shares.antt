@@ -1,15 +1,5 @@
 -- The sums of the shares of each link's movements, in one pass.
-use Prim.Native.Nat.{ℕ, _+_, _-_, _*_, _≤_, _<_}
-use mathlib.Core.Path.{_≡_, refl, ap, _∙_}
-use mathlib.Core.Bool.{Bool, true, false}
-use mathlib.Core.List.{List}
-use native.Mathlib.Decide.{ℕ-discrete}
-use native.Mathlib.Numerals.{add-one}
-use native.Mathlib.Omega.{arith}
-use borrow.Author.Tests.{eq-eqb, ne-eqb}
-use lib.Dec.{eqb}
-use lib.ListN.{getD, set, replicate, length-set, length-replicate, getD-replicate}
-use lib.Seq.{getD-set-same, getD-set-other}
+use Rattle.base_laws.proofs.Kit.{ℕ, _+_, _-_, _*_, _≤_, _<_, _≡_, refl, ap, _∙_, Bool, true, false, List, ℕ-discrete, add-one, arith, eq-eqb, ne-eqb, eqb, getD, set, replicate, length-set, length-replicate, getD-replicate, getD-set-same, getD-set-other}
 use Rattle.model.specs.Network.{maxLinks}
 use Rattle.base_laws.specs.Sum.{sum, only}
 use Rattle.network_tables.specs.declared.Counts.{Counts}

@@ -1,12 +1,5 @@
 -- 30 after all lines. Assumes nothing.
-use Prim.Native.Nat.{ℕ, _+_, _*_, _-_, _≤_, _<_}
-use mathlib.Core.Path.{_≡_, refl, sym, ap, _∙_}
-use mathlib.Core.Bool.{Bool, true, false, not}
-use mathlib.Core.List.{List, []}
-use native.Mathlib.Numerals.{add-one}
-use native.Mathlib.Omega.{arith}
-use borrow.Author.Tests.{leb-true, not-true, not-false}
-use lib.ListN.{length, replicate, length-replicate, getD-replicate}
+use Rattle.base_laws.proofs.Kit.{ℕ, _+_, _*_, _-_, _≤_, _<_, _≡_, refl, sym, ap, _∙_, Bool, true, false, not, List, [], add-one, arith, leb-true, not-true, not-false, length, replicate, length-replicate, getD-replicate}
 use Rattle.base_search.specs.declared.Refusal.{Refusal}
 use Rattle.base_search.specs.Checks.{refusal, verdict}
 use Rattle.base_search.proofs.Laws.{checked-passes, checked-refused}

@@ -1,13 +1,5 @@
 -- 30 of one link by the program's tables is the paper's. Assumes nothing.
-use Prim.Native.Nat.{ℕ, suc, _+_, _*_, _-_, _≤_, _<_}
-use mathlib.Core.Path.{_≡_, sym, ap, ap₂, _∙_}
-use mathlib.Core.Bool.{true}
-use mathlib.Core.List.{List, []}
-use native.Mathlib.Decide.{decLe}
-use native.Mathlib.Omega.{arith}
-use borrow.Author.Tests.{le-leb, lt-leb}
-use lib.Dec.{leb}
-use lib.ListN.{length, getD}
+use Rattle.base_laws.proofs.Kit.{ℕ, suc, _+_, _*_, _-_, _≤_, _<_, _≡_, sym, ap, ap₂, _∙_, true, List, [], decLe, arith, le-leb, lt-leb, leb, length, getD}
 use Rattle.text_reader.specs.Lines.{Line, lines}
 use Rattle.base_laws.specs.Sum.{sum}
 use Rattle.base_laws.specs.Test.{_and_}

@@ -1,11 +1,5 @@
 -- The returns of the function that reads the `N` line, each in the form of a need. Assumes nothing.
-use Prim.Native.Nat.{ℕ, _+_, _<_}
-use mathlib.Core.Path.{_≡_, sym, ap, _∙_}
-use mathlib.Core.Bool.{Bool, true, false, not}
-use mathlib.Core.List.{List}
-use native.Mathlib.Omega.{arith}
-use borrow.Author.Tests.{leb-true, not-true, not-false}
-use lib.ListN.{getD}
+use Rattle.base_laws.proofs.Kit.{ℕ, _+_, _<_, _≡_, sym, ap, _∙_, Bool, true, false, not, List, arith, leb-true, not-true, not-false, getD}
 use Rattle.base_search.specs.declared.Refusal.{Refusal}
 use Rattle.base_search.specs.Checks.{refusal}
 use Rattle.text_reader.specs.declared.LineRead.{LineRead}

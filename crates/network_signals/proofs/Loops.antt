@@ -1,16 +1,5 @@
 -- The turns and the returns of the loops over the `G` lines, each in the form of a need. Assumes nothing.
-use Prim.Native.Nat.{ℕ, _+_, _-_, _*_, _≤_, _<_}
-use mathlib.Core.Path.{_≡_, refl, ap, _∙_}
-use mathlib.Core.Logic.{⊎-elim}
-use mathlib.Core.List.{List, _++_}
-use native.Mathlib.Decide.{decLe}
-use native.Mathlib.Nat.{eq-or-lt-of-le, le-of-suc-le-suc}
-use native.Mathlib.Numerals.{add-one}
-use native.Mathlib.Omega.{arith}
-use borrow.Author.Tests.{le-leb}
-use lib.Dec.{leb}
-use lib.ListN.{length, take, drop, getD, set, length-set, List·getD-eq-default, List·getD-append}
-use lib.Seq.{getD-set-same, getD-set-other, getD-take, getD-drop}
+use Rattle.base_laws.proofs.Kit.{ℕ, _+_, _-_, _*_, _≤_, _<_, _≡_, refl, ap, _∙_, ⊎-elim, List, _++_, decLe, eq-or-lt-of-le, le-of-suc-le-suc, add-one, arith, le-leb, leb, length, take, drop, getD, set, length-set, List·getD-eq-default, List·getD-append, getD-set-same, getD-set-other, getD-take, getD-drop}
 use Rattle.base_search.specs.declared.Refusal.{Refusal}
 use Rattle.base_search.specs.Checks.{verdict}
 use Rattle.base_search.proofs.Laws.{first-all}

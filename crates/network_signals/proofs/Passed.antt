@@ -1,10 +1,5 @@
 -- `G` lines that have passed are loaded again into a table of zeros. Assumes nothing.
-use Prim.Native.Nat.{ℕ}
-use mathlib.Core.Path.{_≡_, ap, _∙_}
-use mathlib.Core.List.{List}
-use native.Mathlib.Decide.{decLe}
-use native.Mathlib.Omega.{arith}
-use lib.ListN.{length, getD, replicate, length-replicate, getD-replicate, List·getD-eq-default}
+use Rattle.base_laws.proofs.Kit.{ℕ, _≡_, ap, _∙_, List, decLe, arith, length, getD, replicate, length-replicate, getD-replicate, List·getD-eq-default}
 use Rattle.base_search.specs.Checks.{Hold}
 use Rattle.base_search.proofs.Laws.{passes-of-hold}
 use Rattle.text_reader.specs.Lines.{lines}

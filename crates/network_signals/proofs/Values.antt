@@ -1,13 +1,5 @@
 -- A signal by its numbers: the tests of its values, one turn of a loop over its phases, and what the shortest time says. Assumes nothing.
-use Prim.Native.Nat.{ℕ, zero, suc, _+_, _-_, _≤_, _<_}
-use mathlib.Core.Path.{_≡_, refl, sym, ap, _∙_, fun-ext}
-use mathlib.Core.Bool.{Bool, true, false, _&&_, _||_, not, cond, and-true, and-false, and-assoc}
-use mathlib.Core.List.{List}
-use native.Mathlib.Numerals.{add-one}
-use native.Mathlib.Omega.{arith}
-use borrow.Author.Tests.{lt-leb, leb-true, leb-false, le-leb, ltb-true, ltb-false}
-use lib.Dec.{leb, ltb, eqb}
-use lib.ListN.{getD}
+use Rattle.base_laws.proofs.Kit.{ℕ, zero, suc, _+_, _-_, _≤_, _<_, _≡_, refl, sym, ap, _∙_, fun-ext, Bool, true, false, _&&_, _||_, not, cond, and-true, and-false, and-assoc, List, add-one, arith, lt-leb, leb-true, leb-false, le-leb, ltb-true, ltb-false, leb, ltb, eqb, getD}
 use Rattle.text_reader.specs.Lines.{Line}
 use Rattle.model.specs.declared.Signal.{Signal}
 use Rattle.base_laws.specs.Test.{_and_, _or_, within, every}

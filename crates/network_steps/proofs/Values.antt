@@ -1,14 +1,5 @@
 -- The values of an `S` line: the demands are taken one by one, and the test of the numbers is the paper's, where they are a network's. Assumes nothing.
-use Prim.Native.Nat.{ℕ, zero, suc, _+_, _≤_, _<_}
-use mathlib.Core.Path.{_≡_, refl, sym, ap₂}
-use mathlib.Core.Bool.{Bool, true, false}
-use mathlib.Core.Logic.{_⊎_, inl, inr}
-use mathlib.Core.List.{List}
-use native.Mathlib.Nat.{eq-or-lt-of-le}
-use native.Mathlib.Numerals.{add-one}
-use native.Mathlib.Omega.{arith}
-use borrow.Author.Tests.{leb-true, le-leb, lt-leb}
-use lib.Dec.{leb}
+use Rattle.base_laws.proofs.Kit.{ℕ, zero, suc, _+_, _≤_, _<_, _≡_, refl, sym, ap₂, Bool, true, false, _⊎_, inl, inr, List, eq-or-lt-of-le, add-one, arith, leb-true, le-leb, lt-leb, leb}
 use Rattle.text_reader.specs.Lines.{Line}
 use Rattle.base_laws.specs.Test.{_and_, within, every}
 use Rattle.model.specs.Network.{linkCount, stepLength, demand}

@@ -1,13 +1,5 @@
 -- The lines of a block, read one after another: one law for each way through a turn of the loop. Assumes nothing.
-use Prim.Native.Nat.{ℕ, suc, _+_, _*_, _≤_, _<_}
-use mathlib.Core.Path.{_≡_, ap, _∙_}
-use mathlib.Core.Bool.{Bool, true, false}
-use mathlib.Core.Logic.{_⊎_, inl, inr}
-use mathlib.Core.List.{List}
-use native.Mathlib.Nat.{eq-or-lt-of-le, mul-le-mul-left, mul-suc, sub-zero}
-use native.Mathlib.Numerals.{add-one}
-use native.Mathlib.Omega.{arith}
-use lib.ListN.{length, getD}
+use Rattle.base_laws.proofs.Kit.{ℕ, suc, _+_, _*_, _≤_, _<_, _≡_, ap, _∙_, Bool, true, false, _⊎_, inl, inr, List, eq-or-lt-of-le, mul-le-mul-left, mul-suc, sub-zero, add-one, arith, length, getD}
 use Rattle.base_search.specs.declared.Refusal.{Refusal}
 use Rattle.base_search.specs.declared.Verdict.the-variants.{Passes, Refused}
 use Rattle.base_search.specs.Checks.{refusal, Checks, each, orElse, checked, verdict}

@@ -1,12 +1,6 @@
 -- The places of lines by the program's counts are the paper's, and each block of lines starts where the one before it ends; a record is a line of its text.
 -- Assumes nothing.
-use Prim.Native.Nat.{ℕ, _<_}
-use mathlib.Core.Path.{_≡_}
-use mathlib.Core.Bool.{Bool, true, false}
-use mathlib.Core.List.{List}
-use native.Mathlib.Decide.{decLe}
-use native.Mathlib.Omega.{arith}
-use lib.ListN.{length, getD, List·getD-eq-default}
+use Rattle.base_laws.proofs.Kit.{ℕ, _<_, _≡_, Bool, true, false, List, decLe, arith, length, getD, List·getD-eq-default}
 use Rattle.text_reader.specs.Lines.{Line, noLine, isRecord}
 use Rattle.model.specs.Network.{linkCount, signalCount, movementCount, tramCount, pastCount, onTimeline, tramLine, signalLine, linkLine, movementLine, timelineLine, stepLine}
 use Rattle.network_tables.specs.declared.Counts.{Counts}

@@ -1,11 +1,5 @@
 -- A line that is read into a row of a table. Assumes nothing.
-use Prim.Native.Nat.{ℕ, _+_, _-_, _≤_, _<_}
-use mathlib.Core.Path.{_≡_, sym, ap, _∙_}
-use mathlib.Core.Bool.{Bool}
-use mathlib.Core.List.{List, _++_}
-use native.Mathlib.Omega.{arith}
-use lib.ListN.{length, take, drop, getD, length-append, length-take, length-drop, List·getD-append}
-use lib.Seq.{length-take-le, getD-take, getD-drop, getD-append-add}
+use Rattle.base_laws.proofs.Kit.{ℕ, _+_, _-_, _≤_, _<_, _≡_, sym, ap, _∙_, Bool, List, _++_, arith, length, take, drop, getD, length-append, length-take, length-drop, List·getD-append, length-take-le, getD-take, getD-drop, getD-append-add}
 use Rattle.text_reader.specs.declared.LineRead.{LineRead}
 use Rattle.text_reader.specs.Lines.{startsAs, number}
 use Rattle.text_reader.specs.Reading.{lineAt, leadingAs, recordAt, Got}

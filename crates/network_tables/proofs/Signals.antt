@@ -1,15 +1,5 @@
 -- A signal in the table of the `G` lines: its times, and what a write to its row keeps. Assumes nothing.
-use Prim.Native.Nat.{ℕ, zero, suc, _+_, _*_, _<_}
-use mathlib.Core.Path.{_≡_, refl, sym, _∙_}
-use mathlib.Core.Logic.{_≢_}
-use mathlib.Core.Bool.{cond}
-use mathlib.Core.List.{List}
-use native.Mathlib.Omega.{arith}
-use native.Mathlib.Decide.{ℕ-discrete}
-use borrow.Author.Tests.{ne-eqb}
-use lib.Dec.{eqb}
-use lib.ListN.{length, getD, set, length-set}
-use lib.Seq.{getD-set-same, getD-set-other}
+use Rattle.base_laws.proofs.Kit.{ℕ, zero, suc, _+_, _*_, _<_, _≡_, refl, sym, _∙_, _≢_, cond, List, arith, ℕ-discrete, ne-eqb, eqb, length, getD, set, length-set, getD-set-same, getD-set-other}
 use Rattle.model.specs.Network.{maxSignals}
 use Rattle.network_tables.specs.Fields.{signalFields, signalTableSize, signalBy, tableSignal}
 use Rattle.network_tables.specs.Tables.{showing, SignalLaid}

@@ -1,8 +1,5 @@
 -- What a stage of a network's reading promises, by the verdict on its checks; and one stage after another. Assumes nothing.
-use Prim.Native.Nat.{ℕ}
-use mathlib.Core.Path.{_≡_, sym, ap, _∙_}
-use mathlib.Core.List.{List}
-use native.Mathlib.Omega.{arith}
+use Rattle.base_laws.proofs.Kit.{ℕ, _≡_, sym, ap, _∙_, List, arith}
 use Rattle.base_search.specs.declared.Refusal.{Refusal}
 use Rattle.base_search.specs.declared.Verdict.the-variants as verdicts
 use Rattle.base_search.specs.Checks.{Checks, verdict}

@@ -1,12 +1,5 @@
 -- The turns of the loop that adds a line's numbers to sums. Assumes nothing.
-use Prim.Native.Nat.{ℕ, _+_, _≤_, _<_}
-use mathlib.Core.Path.{_≡_, refl, _∙_}
-use mathlib.Core.Bool.{true, false}
-use mathlib.Core.List.{List}
-use native.Mathlib.Decide.{ℕ-discrete}
-use native.Mathlib.Omega.{arith}
-use lib.ListN.{length, getD, set, length-set}
-use lib.Seq.{getD-set-same, getD-set-other}
+use Rattle.base_laws.proofs.Kit.{ℕ, _+_, _≤_, _<_, _≡_, refl, _∙_, true, false, List, ℕ-discrete, arith, length, getD, set, length-set, getD-set-same, getD-set-other}
 use Rattle.network_tables.specs.Sums.{Summed}
 
 -- the first n sums have their numbers, and the others are as they were

@@ -1,9 +1,5 @@
 -- What stands at a place of the program's tables, by its name in the paper. Assumes nothing.
-use Prim.Native.Nat.{ℕ, _+_, _*_, _<_}
-use mathlib.Core.Path.{_≡_, sym, ap, _∙_}
-use mathlib.Core.List.{List}
-use native.Mathlib.Omega.{arith}
-use lib.ListN.{getD}
+use Rattle.base_laws.proofs.Kit.{ℕ, _+_, _*_, _<_, _≡_, sym, ap, _∙_, List, arith, getD}
 use Rattle.text_reader.specs.Lines.{Line}
 use Rattle.model.specs.Network.{linkCount, signalCount, movementCount, capacity, travelTime, exitRate, signalOf, phaseMask, standing, waitingAtStart, fromLink, toLink, rate, share, stepLine, timelineLength, pastEntries, pastExits, stepLength, demand}
 use Rattle.model.specs.Flows.{shownMask, admitted, letOut, moved}

@@ -1,10 +1,5 @@
 -- The turns and the returns of the loops over the `T` lines of a network, each in the form of a need. Assumes nothing.
-use Prim.Native.Nat.{ℕ, suc, _+_, _-_, _*_, _≤_, _<_}
-use mathlib.Core.Path.{_≡_, refl, sym, ap, _∙_}
-use mathlib.Core.Bool.{Bool, true, false, not, true≢false}
-use mathlib.Core.List.{List}
-use native.Mathlib.Omega.{arith}
-use borrow.Author.Tests.{leb-true, not-true, not-false}
+use Rattle.base_laws.proofs.Kit.{ℕ, suc, _+_, _-_, _*_, _≤_, _<_, _≡_, refl, sym, ap, _∙_, Bool, true, false, not, true≢false, List, arith, leb-true, not-true, not-false}
 use Rattle.base_search.specs.declared.Refusal.{Refusal}
 use Rattle.base_search.specs.Checks.{refusal, each, checked, verdict, Hold}
 use Rattle.base_search.proofs.Laws.{first-same, hold-of-passes}

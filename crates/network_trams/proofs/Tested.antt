@@ -1,12 +1,5 @@
 -- The tests of tram lines by their table, one turn of a loop over them, and that they are the paper's. Assumes nothing.
-use Prim.Native.Nat.{ℕ, suc, _+_, _-_, _≤_, _<_}
-use mathlib.Core.Path.{_≡_, refl, ap}
-use mathlib.Core.Bool.{Bool, true, not, _&&_, _||_}
-use mathlib.Core.List.{List}
-use native.Mathlib.Numerals.{add-one}
-use native.Mathlib.Omega.{arith}
-use lib.Dec.{leb, ltb, eqb}
-use lib.ListN.{getD}
+use Rattle.base_laws.proofs.Kit.{ℕ, suc, _+_, _-_, _≤_, _<_, _≡_, refl, ap, Bool, true, not, _&&_, _||_, List, add-one, arith, leb, ltb, eqb, getD}
 use Rattle.text_reader.specs.Lines.{Line, number}
 use Rattle.base_laws.specs.Test.{_and_, _or_, within, every}
 use Rattle.model.specs.Network.{entry, signalCount, stepCount, tramLine}

@@ -1,11 +1,5 @@
 -- Numbers that go to the front of a row, one after another. Assumes nothing.
-use Prim.Native.Nat.{ℕ, suc, _+_, _≤_, _<_}
-use mathlib.Core.Path.{_≡_, refl, sym, ap, _∙_}
-use mathlib.Core.List.{List, [], _∷_, _++_}
-use native.Mathlib.Numerals.{add-one}
-use native.Mathlib.Omega.{arith}
-use lib.ListN.{length, getD, set, take, drop, length-append, length-set}
-use lib.Seq.{length-take-le, take-suc, take-length, take-at, drop-cons, set-at, append-snoc}
+use Rattle.base_laws.proofs.Kit.{ℕ, suc, _+_, _≤_, _<_, _≡_, refl, sym, ap, _∙_, List, [], _∷_, _++_, add-one, arith, length, getD, set, take, drop, length-append, length-set, length-take-le, take-suc, take-length, take-at, drop-cons, set-at, append-snoc}
 use Rattle.text_reader.specs.Reading.{over}
 
 pub over-next : (a old : List ℕ) (x n : ℕ) → length a ≡ n → n < length old → set (over a old) n x ≡ over (a ++ (x ∷ [])) old

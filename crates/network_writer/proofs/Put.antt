@@ -1,11 +1,5 @@
 -- Lines that are put one behind another. Assumes nothing.
-use Prim.Native.Nat.{ℕ, suc, _+_, _*_, _≤_, _<_}
-use mathlib.Core.Path.{_≡_, refl, sym, ap, ap₂, _∙_}
-use mathlib.Core.List.{List, [], _++_}
-use native.Mathlib.Numerals.{add-one}
-use native.Mathlib.Omega.{arith}
-use lib.ListN.{length, take, length-append, take-append-drop}
-use lib.Seq.{take-at, length-take-le}
+use Rattle.base_laws.proofs.Kit.{ℕ, suc, _+_, _*_, _≤_, _<_, _≡_, refl, sym, ap, ap₂, _∙_, List, [], _++_, add-one, arith, length, take, length-append, take-append-drop, take-at, length-take-le}
 use Rattle.text_reader.specs.Reading.{over}
 use Rattle.text_writer.specs.Records.{recordText, recordTexts}
 use Rattle.text_writer.specs.Writing.{putAt, Wrote}

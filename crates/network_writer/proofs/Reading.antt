@@ -1,10 +1,5 @@
 -- Lines that have passed, read again. Assumes nothing.
-use Prim.Native.Nat.{ℕ, zero, suc, _+_, _≤_, _<_}
-use mathlib.Core.Path.{_≡_, refl, ap₂, _∙_}
-use mathlib.Core.List.{List, [], _∷_, _++_}
-use native.Mathlib.Omega.{arith}
-use lib.ListN.{length, getD, take}
-use lib.Seq.{take-suc}
+use Rattle.base_laws.proofs.Kit.{ℕ, zero, suc, _+_, _≤_, _<_, _≡_, refl, ap₂, _∙_, List, [], _∷_, _++_, arith, length, getD, take, take-suc}
 use Rattle.text_reader.specs.declared.LineRead.{LineRead}
 use Rattle.text_reader.specs.declared.LineRead.the-variants.{Next, Malformed}
 use Rattle.base_laws.specs.Indexed.{list}

@@ -1,12 +1,5 @@
 -- The whole check of a plan. Assumes nothing.
-use Prim.Native.Nat.{ℕ, suc, _+_, _*_, _≤_, _<_}
-use mathlib.Core.Path.{_≡_, refl, sym, ap, _∙_}
-use mathlib.Core.Bool.{true, false}
-use mathlib.Core.List.{List}
-use native.Mathlib.Numerals.{add-one}
-use borrow.Author.Tests.{le-leb, lt-leb}
-use lib.Dec.{leb}
-use lib.ListN.{length}
+use Rattle.base_laws.proofs.Kit.{ℕ, suc, _+_, _*_, _≤_, _<_, _≡_, refl, sym, ap, _∙_, true, false, List, add-one, le-leb, lt-leb, leb, length}
 use Rattle.base_search.specs.declared.Refusal.{Refusal}
 use Rattle.base_search.specs.declared.Verdict.the-variants as verdicts
 use Rattle.base_search.specs.Checks.{refusal, verdict}

@@ -1,11 +1,6 @@
 -- The ways out of a comparison. Assumes nothing.
-use Prim.Native.Nat.{ℕ, _<_}
-use mathlib.Core.Path.{_≡_, refl, sym, _∙_}
-use mathlib.Core.List.{List}
-use native.Mathlib.Nat.{le-refl}
-use native.Mathlib.Omega.{arith}
+use Rattle.base_laws.proofs.Kit.{ℕ, _<_, _≡_, refl, sym, _∙_, List, le-refl, arith, length}
 use lib.IntN.{ℤ, subℕ}
-use lib.ListN.{length}
 use mir.Syntax.{w64}
 use mir.Val.{SFits, toZ, ofZ}
 use Rattle.base_search.specs.declared.Refusal.{Refusal}

@@ -1,10 +1,7 @@
 -- Comparisons of plans, by computation on the definitions. Assumes nothing.
-use Prim.Native.Nat.{ℕ}
+use Rattle.base_laws.proofs.Kit.{ℕ, _≡_, refl, List, [], _∷_, map, replicate}
 use Prim.Native.String.{String, _++_}
-use mathlib.Core.Path.{_≡_, refl}
-use mathlib.Core.List.{List, [], _∷_, map}
 use lib.IntN.{ℤ, pos, negsuc}
-use lib.ListN.{replicate}
 use Rattle.base_search.specs.Checks.{refusal}
 use Rattle.text_reader.specs.Lines.{lines}
 use Rattle.model.specs.Hold.{planOf}

@@ -1,15 +1,10 @@
 -- The difference of two naturals in the integers: its sign, its negation and zero. Assumes nothing.
-use Prim.Native.Nat.{ℕ, zero, suc, _-_, _≤_, _<_}
-use mathlib.Core.Path.{_≡_, refl, ap}
-use mathlib.Core.Logic.{_↔_}
-use native.Mathlib.Decide.{decLt}
-use native.Mathlib.Omega.{arith}
+use Rattle.base_laws.proofs.Kit.{ℕ, zero, suc, _-_, _≤_, _<_, _≡_, refl, ap, _↔_, decLt, arith, le-leb, lt-ltb, le-ltb}
 use lib.IntN.{ℤ, pos, negℤ, _-ℤ_, subℕ}
 use lib.Signed.{_≤ℤ_, _<ℤ_, leZ-yes, ltZ-yes, clashℤ}
 use mir.Syntax.{w64}
 use mir.Val.{SFits, toZ, ofZ}
 use mir.Facts.{toZ-ofZ}
-use borrow.Author.Tests.{le-leb, lt-ltb, le-ltb}
 
 pub gap-none : (a b : ℕ) → a ≡ b → subℕ a b ≡ pos 0
 gap-none a b e = let d : a - b ≡ 0 = omega arith in rw (le-ltb a b (omega arith), d)

@@ -1,12 +1,5 @@
 -- How two plans stand to each other by their curves. Assumes nothing.
-use Prim.Native.Nat.{suc}
-use mathlib.Core.Path.{_≡_, refl}
-use mathlib.Core.Bool.{Bool, true, false}
-use mathlib.Core.List.{List}
-use native.Mathlib.Nat.{le-antisymm}
-use native.Mathlib.Omega.{arith}
-use lib.Dec.{leb}
-use borrow.Author.Tests.{le-leb, leb-true, leb-false}
+use Rattle.base_laws.proofs.Kit.{suc, _≡_, refl, Bool, true, false, List, le-antisymm, arith, leb, le-leb, leb-true, leb-false}
 use Rattle.text_reader.specs.Lines.{Line}
 use Rattle.model.specs.Network.{stepCount}
 use Rattle.base_laws.proofs.Tests.{every-at, every-of, every-fails}

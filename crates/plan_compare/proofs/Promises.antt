@@ -1,9 +1,5 @@
 -- What a comparison promises of its answer. Assumes nothing.
-use Prim.Native.Nat.{ℕ, _≤_, _<_}
-use mathlib.Core.Path.{_≡_, refl, ap₂, _∙_}
-use mathlib.Core.List.{List}
-use native.Mathlib.Nat.{le-antisymm}
-use native.Mathlib.Omega.{arith}
+use Rattle.base_laws.proofs.Kit.{ℕ, _≤_, _<_, _≡_, refl, ap₂, _∙_, List, le-antisymm, arith}
 use lib.IntN.{ℤ, subℕ}
 use Rattle.base_search.specs.declared.Refusal.{Refusal}
 use Rattle.base_search.specs.declared.Verdict.the-variants.{Passes}

@@ -1,14 +1,5 @@
 -- What is read of one link in the past and in a ledger. Assumes nothing.
-use Prim.Native.Nat.{ℕ, suc, _+_, _*_, _-_, _/_, _≤_, _<_}
-use mathlib.Core.Path.{_≡_, refl, sym, ap, ap₂, _∙_}
-use mathlib.Core.Bool.{Bool, true, false, not, cond}
-use mathlib.Core.List.{List, []}
-use native.Mathlib.Nat.{mul-le-mul-right, mul-comm, le-div-iff-mul-le, div-le-of-le-mul}
-use native.Mathlib.Decide.{decLe}
-use native.Mathlib.Omega.{arith}
-use borrow.Author.Tests.{le-leb, lt-leb, ltb-true, ltb-false, not-true, not-false}
-use lib.Dec.{leb, ltb, eqb}
-use lib.ListN.{length, getD}
+use Rattle.base_laws.proofs.Kit.{ℕ, suc, _+_, _*_, _-_, _/_, _≤_, _<_, _≡_, refl, sym, ap, ap₂, _∙_, Bool, true, false, not, cond, List, [], mul-le-mul-right, mul-comm, le-div-iff-mul-le, div-le-of-le-mul, decLe, arith, le-leb, lt-leb, ltb-true, ltb-false, not-true, not-false, leb, ltb, eqb, length, getD}
 use Rattle.base_search.specs.Checks.{refusal}
 use Rattle.text_reader.specs.Lines.{Line, lines}
 use Rattle.model.specs.declared.LinkAnswer.{LinkAnswer}

@@ -1,11 +1,5 @@
 -- The ledger while its rows are written one after another. Assumes nothing.
-use Prim.Native.Nat.{ℕ, _+_, _*_, _-_, _≤_}
-use mathlib.Core.Path.{_≡_, sym, ap, _∙_}
-use mathlib.Core.List.{List, _++_}
-use native.Mathlib.Nat.{mul-le-mul-right}
-use native.Mathlib.Omega.{arith}
-use lib.ListN.{drop}
-use lib.Seq.{drop-drop, drop-at}
+use Rattle.base_laws.proofs.Kit.{ℕ, _+_, _*_, _-_, _≤_, _≡_, sym, ap, _∙_, List, _++_, mul-le-mul-right, arith, drop, drop-drop, drop-at}
 use Rattle.text_reader.specs.Lines.{Line}
 use Rattle.base_laws.specs.Sum.{joined}
 use Rattle.model.specs.Network.{linkCount}

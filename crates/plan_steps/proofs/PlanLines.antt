@@ -1,13 +1,5 @@
 -- The `P` line of a step that was read, or made where the plan's text is empty, is that of the plan which the text means. Assumes nothing.
-use Prim.Native.Nat.{ℕ, suc, _+_, _*_, _-_, _^_, _≤_, _<_}
-use mathlib.Core.Path.{_≡_, refl, sym, ap, _∙_}
-use mathlib.Core.Bool.{true, false}
-use mathlib.Core.List.{List}
-use native.Mathlib.Decide.{decLt}
-use native.Mathlib.Omega.{arith}
-use borrow.Author.Tests.{eq-eqb}
-use lib.Dec.{eqb}
-use lib.ListN.{length, getD}
+use Rattle.base_laws.proofs.Kit.{ℕ, suc, _+_, _*_, _-_, _^_, _≤_, _<_, _≡_, refl, sym, ap, _∙_, true, false, List, decLt, arith, eq-eqb, eqb, length, getD}
 use Rattle.text_reader.specs.declared.LineRead.{LineRead}
 use Rattle.text_reader.specs.declared.LineRead.the-variants.{Next, Malformed}
 use Rattle.text_reader.specs.Lines.{Line, lines}

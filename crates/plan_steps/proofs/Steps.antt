@@ -1,15 +1,5 @@
 -- What is known between the calls of one step. Assumes nothing.
-use Prim.Native.Nat.{ℕ, suc, _+_, _*_, _-_, _≤_, _<_}
-use mathlib.Core.Path.{_≡_, refl, sym, ap, ap₂, _∙_}
-use mathlib.Core.Bool.{Bool, true, false, cond}
-use mathlib.Core.Logic.{_⊎_, inl, inr}
-use mathlib.Core.List.{List, _++_}
-use native.Mathlib.Numerals.{add-one}
-use native.Mathlib.Nat.{eq-or-lt-of-le, mul-le-mul-right}
-use native.Mathlib.Decide.{decLe}
-use native.Mathlib.Omega.{arith}
-use lib.ListN.{length, take, drop, replicate, length-append, length-drop, length-replicate, getD-replicate}
-use lib.Seq.{length-take-le}
+use Rattle.base_laws.proofs.Kit.{ℕ, suc, _+_, _*_, _-_, _≤_, _<_, _≡_, refl, sym, ap, ap₂, _∙_, Bool, true, false, cond, _⊎_, inl, inr, List, _++_, add-one, eq-or-lt-of-le, mul-le-mul-right, decLe, arith, length, take, drop, replicate, length-append, length-drop, length-replicate, getD-replicate, length-take-le, leb-true}
 use Rattle.base_search.specs.declared.Refusal.{Refusal}
 use Rattle.base_search.specs.declared.Verdict.{Verdict}
 use Rattle.base_search.specs.declared.Verdict.the-variants.{Passes, Refused}
@@ -26,7 +16,6 @@ use Rattle.model.specs.Rules.{rule10, rule13, rule14}
 use Rattle.model.specs.Table.{isForm, letterT, letterS, tramChecks, networkChecks, stepChecks, lineChecks}
 use Rattle.model.specs.Hold.{planOf}
 use Rattle.model.specs.Calls.{written}
-use borrow.Author.Tests.{leb-true}
 use Rattle.model.proofs.Accepted.{ValidNetwork, valid-network, LawfulStep}
 use Rattle.model.proofs.Limits.{step-limits}
 use Rattle.model.proofs.Bounds.{KeepsLimits, lawful-limits, entered-word, left-word}

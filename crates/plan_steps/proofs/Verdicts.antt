@@ -1,10 +1,5 @@
 -- The verdict on a plan, by how far its lines have been judged. Assumes nothing.
-use Prim.Native.Nat.{ℕ, suc, _+_, _*_, _<_}
-use mathlib.Core.Path.{_≡_, _∙_}
-use mathlib.Core.Bool.{Bool, true, false}
-use mathlib.Core.List.{List}
-use lib.Dec.{eqb}
-use lib.ListN.{length}
+use Rattle.base_laws.proofs.Kit.{ℕ, suc, _+_, _*_, _<_, _≡_, _∙_, Bool, true, false, List, eqb, length}
 use Rattle.base_search.specs.declared.Refusal.{Refusal}
 use Rattle.base_search.specs.declared.Verdict.the-variants.{Passes, Refused}
 use Rattle.base_search.specs.Checks.{refusal, verdict, table}

@@ -1,11 +1,5 @@
 -- What holds of an answer holds of the answer that its result is read as, since no refusal has the number 0.
-use Prim.Native.Nat.{ℕ}
-use mathlib.Core.Path.{_≡_, refl, sym, subst}
-use mathlib.Core.Bool.{false}
-use mathlib.Core.List.{List}
-use native.Mathlib.Omega.{arith}
-use borrow.Author.Tests.{ne-eqb}
-use lib.Dec.{eqb}
+use Rattle.base_laws.proofs.Kit.{ℕ, _≡_, refl, sym, subst, false, List, arith, ne-eqb, eqb}
 use Rattle.base_search.specs.declared.Refusal.{Refusal}
 use Rattle.base_search.specs.declared.Verdict.{Verdict}
 use Rattle.base_search.specs.declared.Verdict.the-variants.{Passes, Refused}

@@ -1,10 +1,5 @@
 -- What was read is short enough, and what was written fits its buffer. Assumes nothing.
-use Prim.Native.Nat.{ℕ, _+_, _≤_}
-use mathlib.Core.Path.{_≡_, sym, ap}
-use mathlib.Core.List.{List, _++_}
-use native.Mathlib.Omega.{arith}
-use lib.ListN.{length, take, drop, length-append}
-use lib.Seq.{length-take-le}
+use Rattle.base_laws.proofs.Kit.{ℕ, _+_, _≤_, _≡_, sym, ap, List, _++_, arith, length, take, drop, length-append, length-take-le}
 use Rattle.plancheck_io.specs.Read.{Within}
 use Rattle.plancheck_io.specs.declared.FileRead.{FileRead}
 use Rattle.plancheck_io.specs.declared.FileRead.the-variants.{Read}

@@ -1,6 +1,5 @@
 -- What came fits. Assumes nothing.
-use Prim.Native.Nat.{ℕ, _+_, _≤_}
-use mathlib.Core.Path.{_≡_}
+use Rattle.base_laws.proofs.Kit.{ℕ, _+_, _≤_, _≡_}
 use Rattle.plancheck_io.specs.Read.{Fits}
 use Rattle.plancheck_io.specs.declared.Part.{Part}
 use Rattle.plancheck_io.specs.declared.Part.the-variants.{Came}

@@ -1,9 +1,5 @@
 -- The laws of writing an answer: `A` and the `B` records behind it, or `R`. Assumes nothing.
-use Prim.Native.Nat.{ℕ, suc, _≤_}
-use mathlib.Core.Path.{_≡_}
-use mathlib.Core.List.{List, [], _∷_, _++_}
-use native.Mathlib.Omega.{arith}
-use lib.ListN.{length, getD}
+use Rattle.base_laws.proofs.Kit.{ℕ, suc, _≤_, _≡_, List, [], _∷_, _++_, arith, length, getD}
 use Rattle.base_search.specs.declared.Refusal.{Refusal}
 use Rattle.text_writer.specs.Records.{recordText}
 use Rattle.text_writer.specs.Writing.{Wrote}

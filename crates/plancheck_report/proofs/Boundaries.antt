@@ -1,12 +1,5 @@
 -- The laws of writing the `B` records: one behind the other, each from its row of the ledger. Assumes nothing.
-use Prim.Native.Nat.{ℕ, zero, suc, _+_, _-_, _*_, _≤_, _<_}
-use mathlib.Core.Path.{_≡_, refl, sym, ap, _∙_}
-use mathlib.Core.List.{List, [], _∷_, _++_}
-use native.Mathlib.Numerals.{add-one}
-use native.Mathlib.Nat.{mul-le-mul, mul-le-mul-right}
-use native.Mathlib.Omega.{arith}
-use lib.ListN.{length, getD, take, drop, set, length-set, take-append-drop}
-use lib.Seq.{length-take-le, take-suc, take-length}
+use Rattle.base_laws.proofs.Kit.{ℕ, zero, suc, _+_, _-_, _*_, _≤_, _<_, _≡_, refl, sym, ap, _∙_, List, [], _∷_, _++_, add-one, mul-le-mul, mul-le-mul-right, arith, length, getD, take, drop, set, length-set, take-append-drop, length-take-le, take-suc, take-length}
 use Rattle.text_writer.specs.Records.{recordText, recordTexts}
 use Rattle.text_writer.specs.Writing.{putAt, Wrote}
 use Rattle.text_writer.proofs.Laws.{put-take, wrote-byte, wrote-more, wrote-length, record-most}

@@ -1,12 +1,6 @@
 -- A plan's answer and its ledger tell the whole report: a ledger of 5,808 numbers is long enough for every network, so that refusal 8 can't come.
 -- Assumes nothing.
-use Prim.Native.Nat.{ℕ, suc, _*_, _≤_}
-use mathlib.Core.Path.{_≡_, refl, sym, ap, ap₂, _∙_}
-use mathlib.Core.List.{List, _++_}
-use native.Mathlib.Nat.{mul-le-mul}
-use native.Mathlib.Omega.{arith}
-use borrow.Author.Tests.{le-leb}
-use lib.ListN.{length}
+use Rattle.base_laws.proofs.Kit.{ℕ, suc, _*_, _≤_, _≡_, refl, sym, ap, ap₂, _∙_, List, _++_, mul-le-mul, arith, le-leb, length}
 use Rattle.base_search.specs.declared.Refusal.{Refusal}
 use Rattle.base_search.specs.declared.Verdict.{Verdict}
 use Rattle.base_search.specs.declared.Verdict.the-variants.{Passes, Refused}

@@ -1,11 +1,5 @@
 -- The rows that a plan's check has written are those that its report prints. Assumes nothing.
-use Prim.Native.Nat.{ℕ, suc, _*_, _≤_, _<_}
-use mathlib.Core.Path.{_≡_, sym, ap, _∙_}
-use mathlib.Core.List.{List, _∷_}
-use native.Mathlib.Nat.{mul-le-mul-right}
-use native.Mathlib.Omega.{arith}
-use lib.ListN.{length, take, drop, length-drop}
-use lib.Seq.{ext-getD, getD-take, getD-drop, length-take-le}
+use Rattle.base_laws.proofs.Kit.{ℕ, suc, _*_, _≤_, _<_, _≡_, sym, ap, _∙_, List, _∷_, mul-le-mul-right, arith, length, take, drop, length-drop, ext-getD, getD-take, getD-drop, length-take-le}
 use Rattle.text_reader.specs.Lines.{Line}
 use Rattle.text_writer.specs.Records.{recordTexts}
 use Rattle.text_writer.proofs.Laws.{records-same}

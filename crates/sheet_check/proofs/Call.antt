@@ -1,10 +1,5 @@
 -- All steps of an accepted plan, and the whole call. Assumes nothing.
-use Prim.Native.Nat.{ℕ, zero, suc, _≤_, _<_}
-use mathlib.Core.Path.{_≡_, refl, sym, ap, ap₂, _∙_}
-use mathlib.Core.Bool.{cond}
-use mathlib.Core.List.{List}
-use native.Mathlib.Omega.{arith}
-use lib.ListN.{length, replicate, length-replicate, getD-replicate}
+use Rattle.base_laws.proofs.Kit.{ℕ, zero, suc, _≤_, _<_, _≡_, refl, sym, ap, ap₂, _∙_, cond, List, arith, length, replicate, length-replicate, getD-replicate}
 use Rattle.base_search.specs.declared.Refusal.{Refusal}
 use Rattle.base_search.specs.declared.Verdict.{Verdict}
 use Rattle.base_search.specs.declared.Verdict.the-variants as verdicts

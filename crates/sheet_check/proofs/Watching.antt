@@ -1,16 +1,6 @@
 -- What is watched of the signals, through a step and at the end: one law for each way. Assumes nothing.
-use Prim.Native.Nat.{ℕ, _+_, _≤_, _<_}
-use mathlib.Core.Path.{_≡_, refl, sym, ap₂, _∙_}
-use mathlib.Core.Bool.{Bool, true, false, cond, not, _&&_}
-use mathlib.Core.List.{List}
-use native.Mathlib.Nat.{le-refl}
-use native.Mathlib.Numerals.{add-one}
-use native.Mathlib.Omega.{arith}
-use borrow.Author.Tests.{eq-eqb, ne-eqb}
+use Rattle.base_laws.proofs.Kit.{ℕ, _+_, _≤_, _<_, _≡_, refl, sym, ap₂, _∙_, Bool, true, false, cond, not, _&&_, List, le-refl, add-one, arith, eq-eqb, ne-eqb, leb, eqb, length, getD, set, length-set, getD-set-same, getD-set-other}
 use borrow.Author.Count.{below-more}
-use lib.Dec.{leb, eqb}
-use lib.ListN.{length, getD, set, length-set}
-use lib.Seq.{getD-set-same, getD-set-other}
 use Rattle.base_search.specs.declared.Verdict.the-variants.{Passes, Refused}
 use Rattle.model.specs.declared.Signal.{Signal}
 use Rattle.base_laws.specs.Test.{_and_}

@@ -1,14 +1,5 @@
 -- Where the tables hold a network's and a sheet's numbers, what is judged and written by them is what the request says. Assumes nothing.
-use Prim.Native.Nat.{ℕ, zero, suc, _+_, _*_, _-_, _%_, _^_, _≤_, _<_}
-use mathlib.Core.Path.{_≡_, refl, sym, ap, ap₂, _∙_}
-use mathlib.Core.Bool.{true, cond}
-use mathlib.Core.List.{List, _∷_, _++_, []}
-use native.Mathlib.Numerals.{add-one}
-use native.Mathlib.Decide.{decLt}
-use native.Mathlib.Omega.{arith}
-use borrow.Author.Tests.{lt-ltb, le-ltb}
-use lib.Dec.{leb, ltb}
-use lib.ListN.{length, replicate}
+use Rattle.base_laws.proofs.Kit.{ℕ, zero, suc, _+_, _*_, _-_, _%_, _^_, _≤_, _<_, _≡_, refl, sym, ap, ap₂, _∙_, true, cond, List, _∷_, _++_, [], add-one, decLt, arith, lt-ltb, le-ltb, leb, ltb, length, replicate}
 use Rattle.base_search.specs.declared.Refusal.{Refusal}
 use Rattle.base_search.specs.declared.Verdict.{Verdict}
 use Rattle.base_search.specs.declared.Verdict.the-variants as verdicts

@@ -1,13 +1,5 @@
 -- The run of a cycle, from its offset on and from step to step: one law for each way through a turn. Assumes nothing.
-use Prim.Native.Nat.{ℕ, suc, _+_, _-_, _%_, _≤_, _<_}
-use mathlib.Core.Path.{_≡_, sym, ap, _∙_}
-use mathlib.Core.Logic.{_⊎_, inl, inr, _≢_}
-use native.Mathlib.Numerals.{add-one}
-use native.Mathlib.Nat.{mod-eq-of-lt}
-use native.Mathlib.Decide.{decLe, ℕ-discrete}
-use native.Mathlib.Omega.{arith}
-use borrow.Author.Tests.{le-leb, lt-leb, eq-eqb, ne-eqb}
-use lib.Dec.{leb}
+use Rattle.base_laws.proofs.Kit.{ℕ, suc, _+_, _-_, _%_, _≤_, _<_, _≡_, sym, ap, _∙_, _⊎_, inl, inr, _≢_, add-one, mod-eq-of-lt, decLe, ℕ-discrete, arith, le-leb, lt-leb, eq-eqb, ne-eqb, leb}
 use Rattle.base_laws.specs.Sum.{sum}
 use Rattle.model.specs.Signals.{phaseAfter}
 use Rattle.model_sheet.specs.Cycle.{placeAt, phaseFrom, phaseAt, fitsAt}

@@ -1,11 +1,5 @@
 -- The ways out of the call, by the definitions. Assumes nothing.
-use Prim.Native.Nat.{ℕ, _^_, _/_, _≤_, _<_}
-use mathlib.Core.Path.{_≡_, refl, sym, _∙_}
-use mathlib.Core.Bool.{Bool, true, false, not}
-use mathlib.Core.List.{List, []}
-use native.Mathlib.Omega.{arith}
-use borrow.Author.Tests.{not-true, not-false}
-use lib.ListN.{replicate, length-replicate}
+use Rattle.base_laws.proofs.Kit.{ℕ, _^_, _/_, _≤_, _<_, _≡_, refl, sym, _∙_, Bool, true, false, not, List, [], arith, not-true, not-false, replicate, length-replicate}
 use Rattle.base_search.specs.declared.Refusal.{Refusal}
 use Rattle.base_search.specs.declared.Verdict.{Verdict}
 use Rattle.base_search.specs.declared.Verdict.the-variants as verdicts

@@ -1,13 +1,5 @@
 -- The texts of both halves, measured and then written. Assumes nothing.
-use Prim.Native.Nat.{ℕ, _≤_}
-use mathlib.Core.Path.{_≡_, refl, sym, ap, _∙_}
-use mathlib.Core.Bool.{Bool, true, false, not, _&&_}
-use mathlib.Core.Logic.{inl, inr}
-use mathlib.Core.List.{List}
-use native.Mathlib.Omega.{arith}
-use borrow.Author.Tests.{not-true, not-false, leb-true}
-use lib.Dec.{leb}
-use lib.ListN.{length}
+use Rattle.base_laws.proofs.Kit.{ℕ, _≤_, _≡_, refl, sym, ap, _∙_, Bool, true, false, not, _&&_, inl, inr, List, arith, not-true, not-false, leb-true, leb, length}
 use Rattle.base_search.specs.declared.Refusal.{Refusal}
 use Rattle.base_search.specs.Checks.{refusal}
 use Rattle.text_reader.specs.Lines.{Line, lines}

@@ -1,12 +1,5 @@
 -- The movements of a network that has passed, and the turns of the loop over its steps. Assumes nothing.
-use mathlib.Core.Path.{_≡_, refl, ap, _∙_}
-use mathlib.Core.Bool.{Bool, true, false, not}
-use mathlib.Core.List.{List}
-use Prim.Native.Nat.{ℕ, zero, suc, _+_, _-_, _≤_, _<_}
-use native.Mathlib.Numerals.{add-one}
-use native.Mathlib.Omega.{arith}
-use lib.Dec.{eqb}
-use lib.ListN.{length}
+use Rattle.base_laws.proofs.Kit.{_≡_, refl, ap, _∙_, Bool, true, false, not, List, ℕ, zero, suc, _+_, _-_, _≤_, _<_, add-one, arith, eqb, length}
 use Rattle.base_search.specs.Checks.{Hold}
 use Rattle.text_reader.specs.Lines.{Line, lines}
 use Rattle.text_reader.specs.Reading.{Starts}

@@ -1,15 +1,6 @@
 -- The form of a plan's lines: a line read is that of the plan which its text means, and the turns of the loop over all lines. Assumes nothing.
-use Prim.Native.Nat.{ℕ, suc, _+_, _-_, _≤_, _<_}
-use mathlib.Core.Path.{_≡_, sym, ap, _∙_}
-use mathlib.Core.Bool.{Bool, true, false, not}
-use mathlib.Core.List.{List}
-use native.Mathlib.Decide.{decLe}
-use native.Mathlib.Numerals.{add-one}
-use native.Mathlib.Omega.{arith}
+use Rattle.base_laws.proofs.Kit.{ℕ, suc, _+_, _-_, _≤_, _<_, _≡_, sym, ap, _∙_, Bool, true, false, not, List, decLe, add-one, arith, not-true, not-false, eqb, length, getD, replicate, length-replicate, List·getD-eq-default}
 use borrow.Author.Count.{below-more}
-use borrow.Author.Tests.{not-true, not-false}
-use lib.Dec.{eqb}
-use lib.ListN.{length, getD, replicate, length-replicate, List·getD-eq-default}
 use Rattle.base_search.specs.declared.Refusal.{Refusal}
 use Rattle.base_search.specs.declared.Verdict.the-variants.{Passes, Refused}
 use Rattle.base_search.specs.Checks.{refusal, checked, verdict}

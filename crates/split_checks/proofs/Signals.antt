@@ -1,13 +1,5 @@
 -- 41 by the tables is that of the definitions. Assumes nothing.
-use mathlib.Core.Path.{_≡_, refl, ap, _∙_}
-use mathlib.Core.Bool.{Bool, true, false, not, _||_}
-use mathlib.Core.List.{List}
-use Prim.Native.Nat.{ℕ, _-_, _≤_, _<_}
-use native.Mathlib.Decide.{decLt}
-use native.Mathlib.Omega.{arith}
-use borrow.Author.Tests.{eq-eqb}
-use lib.Dec.{eqb}
-use lib.ListN.{length, getD}
+use Rattle.base_laws.proofs.Kit.{_≡_, refl, ap, _∙_, Bool, true, false, not, _||_, List, ℕ, _-_, _≤_, _<_, decLt, arith, eq-eqb, eqb, length, getD}
 use Rattle.base_laws.specs.Test.{_or_, every}
 use Rattle.model.specs.Network.{maxSignals, linkCount, signalOf}
 use Rattle.base_laws.proofs.Tests.{every-same}

@@ -1,13 +1,5 @@
 -- 40 by the tables is that of the definitions, where the tables are a network's and its halves'. Assumes nothing.
-use mathlib.Core.Path.{_≡_, refl, sym, ap, ap₂, _∙_}
-use mathlib.Core.Bool.{Bool, not, _&&_}
-use mathlib.Core.List.{List}
-use Prim.Native.Nat.{ℕ, zero, suc, _+_, _-_, _^_, _/_, _<_}
-use native.Mathlib.Decide.{decLt}
-use native.Mathlib.Nat.{div-lt-iff-lt-mul, div-eq-of-lt}
-use native.Mathlib.Omega.{arith}
-use borrow.Author.Tests.{lt-ltb, le-ltb, eq-eqb, ne-eqb}
-use lib.Dec.{leb, ltb, eqb}
+use Rattle.base_laws.proofs.Kit.{_≡_, refl, sym, ap, ap₂, _∙_, Bool, not, _&&_, List, ℕ, zero, suc, _+_, _-_, _^_, _/_, _<_, decLt, div-lt-iff-lt-mul, div-eq-of-lt, arith, lt-ltb, le-ltb, eq-eqb, ne-eqb, leb, ltb, eqb}
 use Rattle.base_search.specs.Checks.{Hold}
 use Rattle.text_reader.specs.Lines.{Line, lines}
 use Rattle.base_laws.specs.Test.{_and_, _or_, every}

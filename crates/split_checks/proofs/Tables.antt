@@ -1,12 +1,5 @@
 -- The tests of links and movements by the tables: what the functions ask and give. Assumes nothing.
-use mathlib.Core.Path.{_≡_, refl, sym, _∙_}
-use mathlib.Core.Bool.{Bool, true, false, not, _&&_, _||_}
-use mathlib.Core.List.{List}
-use Prim.Native.Nat.{ℕ, _+_, _-_, _<_}
-use native.Mathlib.Omega.{arith}
-use borrow.Author.Tests.{eq-eqb, ne-eqb}
-use lib.Dec.{eqb}
-use lib.ListN.{getD}
+use Rattle.base_laws.proofs.Kit.{_≡_, refl, sym, _∙_, Bool, true, false, not, _&&_, _||_, List, ℕ, _+_, _-_, _<_, arith, eq-eqb, ne-eqb, eqb, getD}
 use Rattle.base_laws.specs.Test.{_and_, _or_, every}
 use Rattle.network_tables.specs.Fields.{waitingAtStartIn, exitRateIn, signalIn, linkIn, demandIn}
 use Rattle.split_tables.specs.Tables.{signalsAt, isIn, linksIn, MovementsAsked}

@@ -1,13 +1,5 @@
 -- Both halves numbered by the set of links in the first. Assumes nothing.
-use Prim.Native.Nat.{ℕ, zero, suc, _+_, _-_, _/_, _%_, _^_, _<_}
-use mathlib.Core.Path.{_≡_, refl, ap, ap₂, _∙_}
-use mathlib.Core.Bool.{Bool, true, false, not}
-use mathlib.Core.List.{List}
-use native.Mathlib.Decide.{decLe}
-use native.Mathlib.Nat.{mod-lt}
-use native.Mathlib.Omega.{arith}
-use lib.Dec.{eqb}
-use lib.ListN.{length, getD, replicate, length-replicate, getD-replicate, List·getD-eq-default}
+use Rattle.base_laws.proofs.Kit.{ℕ, zero, suc, _+_, _-_, _/_, _%_, _^_, _<_, _≡_, refl, ap, ap₂, _∙_, Bool, true, false, not, List, decLe, mod-lt, arith, eqb, length, getD, replicate, length-replicate, getD-replicate, List·getD-eq-default}
 use Rattle.text_reader.specs.Lines.{Line}
 use Rattle.base_laws.specs.Test.{_or_}
 use Rattle.base_laws.specs.Sum.{only}

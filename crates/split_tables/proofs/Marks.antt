@@ -1,17 +1,5 @@
 -- Marks, and those that have one numbered anew. Assumes nothing.
-use Prim.Native.Nat.{ℕ, suc, _+_, _-_, _/_, _%_, _^_, _≤_, _<_}
-use mathlib.Core.Path.{_≡_, refl, sym, ap, _∙_}
-use mathlib.Core.Logic.{_≢_}
-use mathlib.Core.Bool.{Bool, true, false, not}
-use mathlib.Core.List.{List}
-use native.Mathlib.Decide.{ℕ-discrete}
-use native.Mathlib.Nat.{pow-suc, div-div-eq-div-mul}
-use native.Mathlib.Numerals.{add-one}
-use native.Mathlib.Omega.{arith}
-use borrow.Author.Tests.{eq-eqb, ne-eqb}
-use lib.Dec.{eqb}
-use lib.ListN.{length, getD, set, length-set}
-use lib.Seq.{getD-set-same, getD-set-other}
+use Rattle.base_laws.proofs.Kit.{ℕ, suc, _+_, _-_, _/_, _%_, _^_, _≤_, _<_, _≡_, refl, sym, ap, _∙_, _≢_, Bool, true, false, not, List, ℕ-discrete, pow-suc, div-div-eq-div-mul, add-one, arith, eq-eqb, ne-eqb, eqb, length, getD, set, length-set, getD-set-same, getD-set-other}
 use Rattle.base_laws.specs.Test.{_and_, _or_, every}
 use Rattle.base_laws.specs.Sum.{only}
 use Rattle.model.specs.Network.{maxSignals}

@@ -1,12 +1,5 @@
 -- What a half's table says of its links, signals and movements. Assumes nothing.
-use Prim.Native.Nat.{ℕ, suc, _+_, _-_, _<_}
-use mathlib.Core.Path.{_≡_, refl, ap, _∙_}
-use mathlib.Core.Bool.{Bool, true, false, not, cond}
-use mathlib.Core.List.{List}
-use native.Mathlib.Omega.{arith}
-use borrow.Author.Tests.{ne-eqb}
-use lib.Dec.{eqb}
-use lib.ListN.{getD}
+use Rattle.base_laws.proofs.Kit.{ℕ, suc, _+_, _-_, _<_, _≡_, refl, ap, _∙_, Bool, true, false, not, cond, List, arith, ne-eqb, eqb, getD}
 use Rattle.text_reader.specs.Lines.{Line}
 use Rattle.base_laws.specs.Test.{_and_}
 use Rattle.base_laws.specs.Sum.{only}

@@ -1,16 +1,5 @@
 -- The numbers of border movements, added up one after another. Assumes nothing.
-use Prim.Native.Nat.{ℕ, suc, _+_, _*_, _-_, _≤_, _<_}
-use mathlib.Core.Path.{_≡_, refl, ap₂, _∙_}
-use mathlib.Core.Logic.{_≢_}
-use mathlib.Core.Bool.{Bool, true, false}
-use mathlib.Core.List.{List}
-use native.Mathlib.Decide.{ℕ-discrete}
-use native.Mathlib.Numerals.{add-one}
-use native.Mathlib.Omega.{arith}
-use borrow.Author.Tests.{eq-eqb, ne-eqb}
-use lib.Dec.{eqb}
-use lib.ListN.{length, getD, set, length-set}
-use lib.Seq.{getD-set-same, getD-set-other}
+use Rattle.base_laws.proofs.Kit.{ℕ, suc, _+_, _*_, _-_, _≤_, _<_, _≡_, refl, ap₂, _∙_, _≢_, Bool, true, false, List, ℕ-discrete, add-one, arith, eq-eqb, ne-eqb, eqb, length, getD, set, length-set, getD-set-same, getD-set-other}
 use Rattle.text_reader.specs.Field.{largest}
 use Rattle.base_laws.specs.Test.{_and_}
 use Rattle.base_laws.specs.Sum.{sum, only}

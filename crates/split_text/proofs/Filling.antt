@@ -1,14 +1,5 @@
 -- Numbers put into a row, one behind another. Assumes nothing.
-use Prim.Native.Nat.{ℕ, _+_, _≤_, _<_}
-use mathlib.Core.Path.{_≡_, refl, sym, ap, _∙_}
-use mathlib.Core.Logic.{_≢_}
-use mathlib.Core.Bool.{Bool, not, cond}
-use mathlib.Core.List.{List, [], _∷_, _++_, append-assoc, append-nil}
-use native.Mathlib.Numerals.{add-one}
-use native.Mathlib.Omega.{arith}
-use borrow.Author.Tests.{eq-eqb, ne-eqb}
-use lib.Dec.{eqb}
-use lib.ListN.{length, set, drop, length-append, length-drop, length-set}
+use Rattle.base_laws.proofs.Kit.{ℕ, _+_, _≤_, _<_, _≡_, refl, sym, ap, _∙_, _≢_, Bool, not, cond, List, [], _∷_, _++_, append-assoc, append-nil, add-one, arith, eq-eqb, ne-eqb, eqb, length, set, drop, length-append, length-drop, length-set}
 use Rattle.text_reader.specs.Reading.{over}
 use Rattle.network_writer.proofs.Filling.{over-next}
 use Rattle.model_split.specs.Numbering.{picked}

@@ -1,14 +1,5 @@
 -- Lines of what is in the half, put one behind another. Assumes nothing.
-use Prim.Native.Nat.{ℕ, zero, suc, _+_, _≤_, _<_}
-use mathlib.Core.Path.{_≡_, refl, ap, ap₂, _∙_}
-use mathlib.Core.Logic.{_≢_}
-use mathlib.Core.Bool.{Bool, true, false, not, cond}
-use mathlib.Core.List.{List, [], _∷_, _++_, append-nil}
-use native.Mathlib.Numerals.{add-one}
-use native.Mathlib.Omega.{arith}
-use borrow.Author.Tests.{eq-eqb, ne-eqb}
-use lib.Dec.{eqb}
-use lib.ListN.{getD}
+use Rattle.base_laws.proofs.Kit.{ℕ, zero, suc, _+_, _≤_, _<_, _≡_, refl, ap, ap₂, _∙_, _≢_, Bool, true, false, not, cond, List, [], _∷_, _++_, append-nil, add-one, arith, eq-eqb, ne-eqb, eqb, getD}
 use Rattle.text_writer.specs.Records.{recordText, recordTexts}
 use Rattle.network_writer.specs.Put.{Put, Early}
 use Rattle.network_writer.specs.Texts.{lineTexts}

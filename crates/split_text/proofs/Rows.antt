@@ -1,10 +1,5 @@
 -- The `S` and the `P` line of a step, read, filled and put. Assumes nothing.
-use Prim.Native.Nat.{ℕ, zero, suc, _+_, _*_, _≤_, _<_}
-use mathlib.Core.Path.{_≡_, refl, ap, _∙_}
-use mathlib.Core.Bool.{Bool}
-use mathlib.Core.List.{List, [], _∷_}
-use native.Mathlib.Omega.{arith}
-use lib.ListN.{length, getD, set, take, replicate, length-replicate}
+use Rattle.base_laws.proofs.Kit.{ℕ, zero, suc, _+_, _*_, _≤_, _<_, _≡_, refl, ap, _∙_, Bool, List, [], _∷_, arith, length, getD, set, take, replicate, length-replicate}
 use Rattle.text_reader.specs.Lines.{Line, lines}
 use Rattle.text_reader.specs.Reading.{over}
 use Rattle.text_writer.specs.Records.{recordText}

@@ -1,10 +1,5 @@
 -- The lines that are put, one block behind another, are the half's. Assumes nothing.
-use Prim.Native.Nat.{ℕ, _+_, _*_, _≤_}
-use mathlib.Core.Path.{_≡_, refl, ap, _∙_}
-use mathlib.Core.List.{List, _++_}
-use native.Mathlib.Omega.{arith}
-use borrow.Author.Tests.{leb-true}
-use lib.ListN.{length}
+use Rattle.base_laws.proofs.Kit.{ℕ, _+_, _*_, _≤_, _≡_, refl, ap, _∙_, List, _++_, arith, leb-true, length}
 use Rattle.text_reader.specs.Lines.{Line, lines}
 use Rattle.text_reader.specs.Reading.{over}
 use Rattle.text_writer.specs.Records.{recordText, recordTexts}

@@ -1,16 +1,5 @@
 -- Laws of the steps by a table of times: the step in which a travel time ends is found by going up, and moves on from one boundary to the next. Assumes nothing.
-use Prim.Native.Nat.{ℕ, zero, suc, _+_, _*_, _-_, _≤_, _<_}
-use mathlib.Core.Path.{_≡_}
-use mathlib.Core.Bool.{Bool, true, false, cond}
-use mathlib.Core.Logic.{_⊎_, inl, inr}
-use mathlib.Core.List.{List}
-use native.Mathlib.Nat.{eq-or-lt-of-le, mul-le-mul}
-use native.Mathlib.Numerals.{add-one}
-use native.Mathlib.Decide.{decLe}
-use native.Mathlib.Omega.{arith}
-use borrow.Author.Tests.{le-leb, lt-leb}
-use lib.Dec.{leb}
-use lib.ListN.{getD}
+use Rattle.base_laws.proofs.Kit.{ℕ, zero, suc, _+_, _*_, _-_, _≤_, _<_, _≡_, Bool, true, false, cond, _⊎_, inl, inr, List, eq-or-lt-of-le, mul-le-mul, add-one, decLe, arith, le-leb, lt-leb, leb, getD}
 use mir.Syntax.{w64}
 use mir.Val.{Fits}
 use Rattle.step_arrivals.specs.Arrivals.{stepAtIn, arrivalStepIn, Rising, Cursor}

@@ -1,12 +1,5 @@
 -- The arrival step of each link, moved on one link after another. Assumes nothing.
-use Prim.Native.Nat.{ℕ, _+_, _≤_, _<_}
-use mathlib.Core.Path.{_≡_, refl, ap, _∙_}
-use mathlib.Core.Logic.{_⊎_, inl, inr}
-use mathlib.Core.List.{List}
-use native.Mathlib.Nat.{eq-or-lt-of-le}
-use native.Mathlib.Omega.{arith}
-use lib.ListN.{getD, set, length-set}
-use lib.Seq.{getD-set-same, getD-set-other}
+use Rattle.base_laws.proofs.Kit.{ℕ, _+_, _≤_, _<_, _≡_, refl, ap, _∙_, _⊎_, inl, inr, List, eq-or-lt-of-le, arith, getD, set, length-set, getD-set-same, getD-set-other}
 use Rattle.network_tables.specs.Fields.{travelTimeIn}
 use Rattle.step_arrivals.specs.Arrivals.{arrivalStepIn, Cursor, ArrivalsAsked, Arrived}
 

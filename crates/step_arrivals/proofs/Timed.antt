@@ -1,15 +1,5 @@
 -- The times of the timeline's boundaries as they are set. Assumes nothing.
-use Prim.Native.Nat.{ℕ, _+_, _≤_, _<_}
-use mathlib.Core.Path.{_≡_, refl, sym, ap, _∙_}
-use mathlib.Core.Bool.{Bool, true, _&&_}
-use mathlib.Core.List.{List}
-use native.Mathlib.Decide.{ℕ-discrete}
-use native.Mathlib.Numerals.{add-one}
-use native.Mathlib.Omega.{arith}
-use borrow.Author.Tests.{leb-true}
-use lib.Dec.{leb}
-use lib.ListN.{length, getD, set, length-set}
-use lib.Seq.{getD-set-same, getD-set-other}
+use Rattle.base_laws.proofs.Kit.{ℕ, _+_, _≤_, _<_, _≡_, refl, sym, ap, _∙_, Bool, true, _&&_, List, ℕ-discrete, add-one, arith, leb-true, leb, length, getD, set, length-set, getD-set-same, getD-set-other}
 use Rattle.text_reader.specs.Lines.{Line}
 use Rattle.base_laws.specs.Sum.{sum}
 use Rattle.base_laws.specs.Test.{_and_, within}

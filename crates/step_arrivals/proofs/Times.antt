@@ -1,11 +1,5 @@
 -- The turns of the loop that has the times start at time 0, and that they are the paper's. Assumes nothing.
-use Prim.Native.Nat.{ℕ, suc, _+_, _-_, _≤_, _<_}
-use mathlib.Core.Path.{_≡_, refl, _∙_}
-use mathlib.Core.List.{List}
-use native.Mathlib.Decide.{ℕ-discrete}
-use native.Mathlib.Omega.{arith}
-use lib.ListN.{length, getD, set, length-set}
-use lib.Seq.{getD-set-same, getD-set-other}
+use Rattle.base_laws.proofs.Kit.{ℕ, suc, _+_, _-_, _≤_, _<_, _≡_, refl, _∙_, List, ℕ-discrete, arith, length, getD, set, length-set, getD-set-same, getD-set-other}
 use Rattle.base_search.specs.Checks.{Hold}
 use Rattle.text_reader.specs.Lines.{Line}
 use Rattle.model.specs.Network.{stepCount, pastCount, onTimeline, time, timelineTime}

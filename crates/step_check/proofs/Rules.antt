@@ -1,13 +1,5 @@
 -- The thirteen rules by their families. Assumes nothing.
-use Prim.Native.Nat.{ℕ, zero, suc, _-_, _≤_, _<_}
-use mathlib.Core.Path.{_≡_, refl, _∙_}
-use mathlib.Core.Bool.{Bool, cond}
-use mathlib.Core.List.{List, [], _∷_}
-use native.Mathlib.Decide.{decLe}
-use native.Mathlib.Omega.{arith}
-use borrow.Author.Tests.{lt-ltb, le-ltb}
-use lib.Dec.{ltb}
-use lib.ListN.{length, getD}
+use Rattle.base_laws.proofs.Kit.{ℕ, zero, suc, _-_, _≤_, _<_, _≡_, refl, _∙_, Bool, cond, List, [], _∷_, decLe, arith, lt-ltb, le-ltb, ltb, length, getD}
 use Rattle.base_search.specs.declared.Verdict.the-variants.{Passes}
 use Rattle.base_search.specs.Checks.{ruleAt, rulesFrom, verdict, table}
 use Rattle.base_search.proofs.Laws.{passes-of-hold}

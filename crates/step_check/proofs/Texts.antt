@@ -1,7 +1,5 @@
 -- The thirteen rules by the program's tables are those of the paper, where the tables hold what the texts say. Assumes nothing.
-use Prim.Native.Nat.{ℕ, suc, _<_}
-use mathlib.Core.Path.{_≡_, refl}
-use mathlib.Core.List.{List}
+use Rattle.base_laws.proofs.Kit.{ℕ, suc, _<_, _≡_, refl, List}
 use Rattle.base_search.specs.Checks.{Hold, rulesFrom, verdict, table}
 use Rattle.base_search.proofs.Table.{SameRules, same-table}
 use Rattle.text_reader.specs.Lines.{Line, lines}

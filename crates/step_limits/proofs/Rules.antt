@@ -1,9 +1,5 @@
 -- The limits by their places. Assumes nothing.
-use Prim.Native.Nat.{ℕ, _≤_}
-use mathlib.Core.Path.{_≡_, sym}
-use mathlib.Core.Bool.{true}
-use mathlib.Core.List.{List, [], _∷_}
-use lib.ListN.{List·getD-eq-default}
+use Rattle.base_laws.proofs.Kit.{ℕ, _≤_, _≡_, sym, true, List, [], _∷_, List·getD-eq-default}
 use Rattle.network_tables.specs.declared.Counts.{Counts}
 use Rattle.step_limits.specs.Limits.{admitsOffer, letsOutRate, movesRate, movesOpen, limitRuleHolds}
 

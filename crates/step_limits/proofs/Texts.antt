@@ -1,13 +1,5 @@
 -- The limits by the program's tables are those of the paper, where the tables hold what the texts say. Assumes nothing.
-use mathlib.Core.Path.{_≡_, refl, sym, ap₂, _∙_}
-use mathlib.Core.List.{List}
-use Prim.Native.Nat.{ℕ, _*_, _-_, _≤_, _<_}
-use native.Mathlib.Nat.{le-trans}
-use native.Mathlib.Decide.{decLe}
-use native.Mathlib.Omega.{arith}
-use borrow.Author.Tests.{leb-true, eq-eqb}
-use lib.Dec.{leb}
-use lib.ListN.{getD}
+use Rattle.base_laws.proofs.Kit.{_≡_, refl, sym, ap₂, _∙_, List, ℕ, _*_, _-_, _≤_, _<_, le-trans, decLe, arith, leb-true, eq-eqb, leb, getD}
 use Rattle.text_reader.specs.Lines.{Line}
 use Rattle.base_laws.specs.Test.{_or_, within}
 use Rattle.model.specs.Network.{linkCount, signalCount, movementCount, stepCount, signal, signalOf, fromLink}

@@ -1,11 +1,5 @@
 -- Row 0 at the start of the timeline, and the curves of the links as they are kept. Assumes nothing.
-use Prim.Native.Nat.{ℕ, _+_, _*_, _-_, _≤_, _<_}
-use mathlib.Core.Path.{_≡_, refl, _∙_}
-use mathlib.Core.List.{List}
-use native.Mathlib.Decide.{ℕ-discrete}
-use native.Mathlib.Omega.{arith}
-use lib.ListN.{length, getD, set, length-set}
-use lib.Seq.{getD-set-same, getD-set-other}
+use Rattle.base_laws.proofs.Kit.{ℕ, _+_, _*_, _-_, _≤_, _<_, _≡_, refl, _∙_, List, ℕ-discrete, arith, length, getD, set, length-set, getD-set-same, getD-set-other}
 use Rattle.network_tables.specs.Fields.{standingIn, pastEntriesIn, enteredIn}
 use Rattle.step_past.specs.Curves.{StartAsked, Started, curveIn, CurveRooms, KeepAsked, KeptAt, Kept, KeepAllAsked, KeptAll}
 

@@ -1,13 +1,5 @@
 -- Row 0 and the curves at boundary 0, one `H` line after another. Assumes nothing.
-use Prim.Native.Nat.{ℕ, suc, _+_, _*_, _-_, _/_, _%_, _≤_, _<_}
-use mathlib.Core.Path.{_≡_, refl, ap, _∙_}
-use mathlib.Core.Bool.{Bool, true, false, not}
-use mathlib.Core.List.{List, []}
-use native.Mathlib.Decide.{ℕ-discrete}
-use native.Mathlib.Numerals.{add-one}
-use native.Mathlib.Omega.{arith}
-use borrow.Author.Tests.{not-true, not-false}
-use lib.ListN.{length, getD}
+use Rattle.base_laws.proofs.Kit.{ℕ, suc, _+_, _*_, _-_, _/_, _%_, _≤_, _<_, _≡_, refl, ap, _∙_, Bool, true, false, not, List, [], ℕ-discrete, add-one, arith, not-true, not-false, length, getD}
 use Rattle.text_reader.specs.declared.LineRead.{LineRead}
 use Rattle.text_reader.specs.declared.LineRead.the-variants.{Next, Malformed}
 use Rattle.text_reader.specs.Lines.{Line, lines}

@@ -1,11 +1,5 @@
 -- The `H` lines read again for one link. Assumes nothing.
-use Prim.Native.Nat.{ℕ, suc, _+_, _*_, _≤_, _<_}
-use mathlib.Core.Path.{_≡_, sym, ap, _∙_}
-use mathlib.Core.Bool.{Bool, true, false}
-use mathlib.Core.List.{List, []}
-use native.Mathlib.Numerals.{add-one}
-use native.Mathlib.Omega.{arith}
-use lib.ListN.{length, getD}
+use Rattle.base_laws.proofs.Kit.{ℕ, suc, _+_, _*_, _≤_, _<_, _≡_, sym, ap, _∙_, Bool, true, false, List, [], add-one, arith, length, getD}
 use mir.Syntax.{w32}
 use mir.Val.{Fits}
 use Rattle.text_reader.specs.declared.LineRead.{LineRead}

@@ -1,8 +1,5 @@
 -- The past of a network that has passed. Assumes nothing.
-use Prim.Native.Nat.{ℕ, _+_, _≤_, _<_}
-use mathlib.Core.Path.{_≡_, sym, ap}
-use mathlib.Core.List.{List, []}
-use native.Mathlib.Omega.{arith}
+use Rattle.base_laws.proofs.Kit.{ℕ, _+_, _≤_, _<_, _≡_, sym, ap, List, [], arith}
 use Rattle.base_search.specs.Checks.{Hold}
 use Rattle.text_reader.specs.Lines.{Line}
 use Rattle.model.specs.Network.{linkCount, pastCount, onTimeline}

@@ -1,11 +1,5 @@
 -- The rows of a ledger, read through a part of it or from a row that is lent. Assumes nothing.
-use mathlib.Core.Path.{_≡_, refl, sym, ap, _∙_}
-use mathlib.Core.List.{List, [], _∷_, _++_}
-use Prim.Native.Nat.{ℕ, zero, suc, _+_, _*_, _-_, _/_, _%_, _≤_, _<_}
-use native.Mathlib.Decide.{decLe, ℕ-discrete}
-use native.Mathlib.Omega.{arith}
-use lib.ListN.{length, getD, take, drop, List·getD-append}
-use lib.Seq.{getD-drop, getD-take, getD-append-add, ext-getD}
+use Rattle.base_laws.proofs.Kit.{_≡_, refl, sym, ap, _∙_, List, [], _∷_, _++_, ℕ, zero, suc, _+_, _*_, _-_, _/_, _%_, _≤_, _<_, decLe, ℕ-discrete, arith, length, getD, take, drop, List·getD-append, getD-drop, getD-take, getD-append-add, ext-getD}
 use Rattle.text_reader.specs.Lines.{Line}
 use Rattle.base_laws.specs.Sum.{joined}
 use Rattle.model.specs.Network.{linkCount}

@@ -1,9 +1,5 @@
 -- The row after a step, from the row that the step's line begins. Assumes nothing.
-use mathlib.Core.Path.{_≡_, ap, sym, _∙_}
-use mathlib.Core.List.{List, _++_}
-use Prim.Native.Nat.{ℕ, _+_, _*_, _<_}
-use native.Mathlib.Omega.{arith}
-use lib.ListN.{length, getD, drop, List·getD-append}
+use Rattle.base_laws.proofs.Kit.{_≡_, ap, sym, _∙_, List, _++_, ℕ, _+_, _*_, _<_, arith, length, getD, drop, List·getD-append}
 use Rattle.network_tables.specs.declared.Counts.{Counts}
 use Rattle.step_rows.specs.Rows.{baseEntered, baseLeft, nextEntered, nextLeft, nextRow, pairs, Base, Fits, Room, Added}
 use Rattle.step_rows.proofs.Lists.{length-pairs, pairs-left, begun-entered, begun-left, begun-rest, begun-length, begun-is}

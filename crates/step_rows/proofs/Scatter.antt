@@ -1,15 +1,5 @@
 -- One movement more is added to a row: what it must find, and what it leaves. Assumes nothing.
-use mathlib.Core.Path.{_≡_, refl, ap, _∙_}
-use mathlib.Core.Logic.{_⊎_, inl, inr, ⊎-elim}
-use mathlib.Core.Bool.{Bool, true, false}
-use mathlib.Core.List.{List}
-use Prim.Native.Nat.{ℕ, suc, _+_, _*_, _≤_, _<_}
-use native.Mathlib.Nat.{add-zero}
-use native.Mathlib.Omega.{arith}
-use borrow.Author.Tests.{eqb-true, eqb-false, eq-eqb, ne-eqb}
-use lib.Dec.{eqb}
-use lib.ListN.{length, getD, set, length-set}
-use lib.Seq.{getD-set-same, getD-set-other}
+use Rattle.base_laws.proofs.Kit.{_≡_, refl, ap, _∙_, _⊎_, inl, inr, ⊎-elim, Bool, true, false, List, ℕ, suc, _+_, _*_, _≤_, _<_, add-zero, arith, eqb-true, eqb-false, eq-eqb, ne-eqb, eqb, length, getD, set, length-set, getD-set-same, getD-set-other}
 use Rattle.network_tables.specs.declared.Counts.{Counts}
 use Rattle.base_laws.specs.Sum.{sum, only}
 use Rattle.base_laws.proofs.Sums.{sum-more}

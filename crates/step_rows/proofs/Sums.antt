@@ -1,7 +1,5 @@
 -- A sum from its start, by one term more. Assumes nothing.
-use mathlib.Core.Path.{_≡_, refl}
-use Prim.Native.Nat.{ℕ, _+_}
-use native.Mathlib.Numerals.{add-one}
+use Rattle.base_laws.proofs.Kit.{_≡_, refl, ℕ, _+_, add-one}
 use Rattle.base_laws.specs.Sum.{sum}
 
 pub sum-none : (f : ℕ → ℕ) → sum 0 f ≡ 0

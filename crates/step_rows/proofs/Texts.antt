@@ -1,11 +1,5 @@
 -- What the program's tables give is what the two texts say: the row after a step is the paper's. Assumes nothing.
-use mathlib.Core.Path.{_≡_, ap, ap₂, sym, _∙_}
-use mathlib.Core.List.{List, _++_}
-use Prim.Native.Nat.{ℕ, suc, _+_, _*_, _-_, _≤_, _<_}
-use native.Mathlib.Omega.{arith}
-use lib.Dec.{eqb}
-use lib.ListN.{length, getD, take}
-use lib.Seq.{take-at}
+use Rattle.base_laws.proofs.Kit.{_≡_, ap, ap₂, sym, _∙_, List, _++_, ℕ, suc, _+_, _*_, _-_, _≤_, _<_, arith, eqb, length, getD, take, take-at}
 use Rattle.text_reader.specs.Lines.{Line}
 use Rattle.network_tables.specs.declared.Counts.{Counts}
 use Rattle.base_laws.specs.Sum.{sum, only}

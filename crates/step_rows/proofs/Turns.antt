@@ -1,10 +1,5 @@
 -- One turn of each loop over a row. Assumes nothing.
-use mathlib.Core.Path.{_≡_, sym, ap, ap₂, _∙_}
-use mathlib.Core.List.{List, _++_}
-use Prim.Native.Nat.{ℕ, _+_, _*_, _-_, _<_}
-use native.Mathlib.Omega.{arith}
-use lib.ListN.{getD, drop, set}
-use lib.Seq.{set-getD}
+use Rattle.base_laws.proofs.Kit.{_≡_, sym, ap, ap₂, _∙_, List, _++_, ℕ, _+_, _*_, _-_, _<_, arith, getD, drop, set, set-getD}
 use Rattle.base_laws.specs.Sum.{sum}
 use Rattle.network_tables.specs.declared.Counts.{Counts}
 use Rattle.network_tables.specs.Fields.{admittedIn, letOutIn, enteredIn, leftIn}

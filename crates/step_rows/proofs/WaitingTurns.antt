@@ -1,13 +1,5 @@
 -- One turn of each loop over the entries. Assumes nothing.
-use Prim.Native.Nat.{ℕ, _+_, _-_, _≤_, _<_}
-use mathlib.Core.Path.{_≡_, refl, _∙_}
-use mathlib.Core.Logic.{_⊎_, inl, inr}
-use mathlib.Core.List.{List}
-use native.Mathlib.Nat.{eq-or-lt-of-le}
-use native.Mathlib.Decide.{ℕ-discrete}
-use native.Mathlib.Omega.{arith}
-use lib.ListN.{length, set, length-set}
-use lib.Seq.{getD-set-same, getD-set-other}
+use Rattle.base_laws.proofs.Kit.{ℕ, _+_, _-_, _≤_, _<_, _≡_, refl, _∙_, _⊎_, inl, inr, List, eq-or-lt-of-le, ℕ-discrete, arith, length, set, length-set, getD-set-same, getD-set-other}
 use Rattle.network_tables.specs.declared.Counts.{Counts}
 use Rattle.network_tables.specs.Fields.{waitingAtStartIn, demandIn, admittedIn}
 use Rattle.step_rows.specs.Waiting.{waitingIn, offerIn, FirstAsked, FirstWaits, AddAsked, Offers, WaitsAsked, Waits}

@@ -1,12 +1,7 @@
 -- A number with one set bit: its count of ones is 1 exactly where it is a power of two, and its trailing zeros are the exponent. Assumes nothing.
-use mathlib.Core.Path.{_≡_, refl, sym, ap, _∙_, subst}
-use mathlib.Core.Logic.{_⊎_, inl, inr, ⊎-elim}
-use Prim.Native.Nat.{ℕ, zero, suc, _+_, _*_, _/_, _%_, _^_, _<_}
-use native.Mathlib.Nat.{pow-suc, mod-lt, zero-lt-suc, div-add-mod'}
-use native.Mathlib.Omega.{arith}
+use Rattle.base_laws.proofs.Kit.{_≡_, refl, sym, ap, _∙_, subst, _⊎_, inl, inr, ⊎-elim, ℕ, zero, suc, _+_, _*_, _/_, _%_, _^_, _<_, pow-suc, mod-lt, zero-lt-suc, div-add-mod', arith, add-one}
 use lib.Arith.{lt-one}
 use lib.Pow.{shr-lt, pow-pos}
-use native.Mathlib.Numerals.{add-one}
 use lib.Count.{ones, onesIn, trailingZeros, ones-step, ones-cat}
 
 -- halving takes one digit off

@@ -1,8 +1,5 @@
 -- The phase that a mask shows, from its count of ones and its trailing zeros. Assumes nothing.
-use mathlib.Core.Path.{_≡_, refl, sym, ap, _∙_}
-use Prim.Native.Nat.{ℕ, _+_, _-_, _^_, _≤_, _<_}
-use native.Mathlib.Decide.{ℕ-discrete}
-use native.Mathlib.Omega.{arith}
+use Rattle.base_laws.proofs.Kit.{_≡_, refl, sym, ap, _∙_, ℕ, _+_, _-_, _^_, _≤_, _<_, ℕ-discrete, arith}
 use lib.Pow.{pow-lt}
 use lib.Count.{ones, trailingZeros}
 use Rattle.model.specs.Signals.{phaseOf}

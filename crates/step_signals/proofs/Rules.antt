@@ -1,14 +1,6 @@
 -- The rules of a signal by their places, and that they keep it ready for the next step. Assumes nothing.
-use Prim.Native.Nat.{ℕ, zero, suc, _+_, _-_, _≤_, _<_}
-use mathlib.Core.Path.{_≡_, refl, sym, _∙_}
-use mathlib.Core.Bool.{Bool, true, false, not, _&&_, _||_}
-use mathlib.Core.List.{List}
-use native.Mathlib.Nat.{le-trans}
-use native.Mathlib.Omega.{arith}
-use lib.Dec.{leb, eqb}
-use lib.ListN.{getD, List·getD-eq-default}
+use Rattle.base_laws.proofs.Kit.{ℕ, zero, suc, _+_, _-_, _≤_, _<_, _≡_, refl, sym, _∙_, Bool, true, false, not, _&&_, _||_, List, le-trans, arith, leb, eqb, getD, List·getD-eq-default, leb-true, eqb-true, not-false}
 use borrow.Author.Count.{below-more}
-use borrow.Author.Tests.{leb-true, eqb-true, not-false}
 use Rattle.model.specs.declared.Signal.{Signal}
 use Rattle.base_laws.specs.Test.{_and_, _or_, within}
 use Rattle.model.specs.Signals.{greatestTime, beginsCycle, shownForAfter, clockAfter, keepsGreatestTime, keepsCycle, after}

@@ -1,13 +1,6 @@
 -- All signals through a step, one after the other. Assumes nothing.
-use Prim.Native.Nat.{ℕ, _+_, _-_, _^_, _<_}
-use mathlib.Core.Path.{_≡_, refl, ap, _∙_}
-use mathlib.Core.List.{List}
-use native.Mathlib.Nat.{le-refl}
-use native.Mathlib.Omega.{arith}
-use lib.ListN.{length, getD, set, length-set}
-use lib.Seq.{getD-set-same, getD-set-other}
+use Rattle.base_laws.proofs.Kit.{ℕ, _+_, _-_, _^_, _<_, _≡_, refl, ap, _∙_, List, le-refl, arith, length, getD, set, length-set, getD-set-same, getD-set-other, ne-eqb}
 use borrow.Author.Count.{below-more}
-use borrow.Author.Tests.{ne-eqb}
 use Rattle.network_tables.specs.Fields.{signalTableSize, tableSignal}
 use Rattle.network_tables.specs.Tables.{showing, SignalLaid}
 use Rattle.model.specs.declared.Signal.{Signal}

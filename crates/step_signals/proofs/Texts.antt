@@ -1,7 +1,5 @@
 -- Rules 10, 29 and 11 to 14 by the program's tables are those of the paper, where the tables hold what the texts say. Assumes nothing.
-use Prim.Native.Nat.{ℕ, _<_}
-use mathlib.Core.Path.{_≡_}
-use mathlib.Core.List.{List}
+use Rattle.base_laws.proofs.Kit.{ℕ, _<_, _≡_, List}
 use Rattle.text_reader.specs.Lines.{Line}
 use Rattle.model.specs.Network.{signalCount, stepLength, ordinary}
 use Rattle.model.specs.Rules.{rule10, rule11, rule12, rule13, rule14, rule29}

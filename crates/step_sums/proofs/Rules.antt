@@ -1,9 +1,5 @@
 -- Rules 16 to 18 by their places. Assumes nothing.
-use Prim.Native.Nat.{ℕ, _≤_}
-use mathlib.Core.Path.{_≡_, sym}
-use mathlib.Core.Bool.{true}
-use mathlib.Core.List.{List, [], _∷_}
-use lib.ListN.{List·getD-eq-default}
+use Rattle.base_laws.proofs.Kit.{ℕ, _≤_, _≡_, sym, true, List, [], _∷_, List·getD-eq-default}
 use Rattle.network_tables.specs.declared.Counts.{Counts}
 use Rattle.step_sums.specs.Sums.{keepsShare, leavesArrived, fitsCapacity, sumRuleHolds}
 

@@ -1,13 +1,5 @@
 -- Rules 16 to 18 by the program's tables are those of the paper, where the tables hold what the texts say. Assumes nothing.
-use mathlib.Core.Path.{_≡_, sym, ap, ap₂, _∙_}
-use mathlib.Core.List.{List, [], _++_}
-use Prim.Native.Nat.{ℕ, suc, _+_, _*_, _-_, _≤_, _<_}
-use native.Mathlib.Decide.{decLe, ℕ-discrete}
-use native.Mathlib.Numerals.{add-one}
-use native.Mathlib.Omega.{arith}
-use borrow.Author.Tests.{lt-ltb, le-ltb, eq-eqb, ne-eqb}
-use lib.Dec.{leb}
-use lib.ListN.{length}
+use Rattle.base_laws.proofs.Kit.{_≡_, sym, ap, ap₂, _∙_, List, [], _++_, ℕ, suc, _+_, _*_, _-_, _≤_, _<_, decLe, ℕ-discrete, add-one, arith, lt-ltb, le-ltb, eq-eqb, ne-eqb, leb, length}
 use Rattle.base_search.specs.Checks.{Hold}
 use Rattle.text_reader.specs.Lines.{Line, lines}
 use Rattle.model.specs.Network.{linkCount, movementCount, stepCount, onTimeline, travelTime, arrivalStep, elapsed}

@@ -1,15 +1,5 @@
 -- What the tests of the code say of rules 16 to 18. Assumes nothing.
-use mathlib.Core.Path.{_≡_, ap, ap₂, sym, _∙_}
-use mathlib.Core.Logic.{_⊎_, inl, inr}
-use mathlib.Core.Bool.{true}
-use mathlib.Core.List.{List}
-use Prim.Native.Nat.{ℕ, suc, _+_, _*_, _-_, _≤_, _<_}
-use native.Mathlib.Nat.{eq-or-lt-of-le, mul-le-mul-right}
-use native.Mathlib.Decide.{decLe}
-use native.Mathlib.Omega.{arith}
-use borrow.Author.Tests.{le-leb, lt-leb, lt-ltb, le-ltb, eq-eqb, ne-eqb}
-use lib.Dec.{leb}
-use lib.ListN.{getD}
+use Rattle.base_laws.proofs.Kit.{_≡_, ap, ap₂, sym, _∙_, _⊎_, inl, inr, true, List, ℕ, suc, _+_, _*_, _-_, _≤_, _<_, eq-or-lt-of-le, mul-le-mul-right, decLe, arith, le-leb, lt-leb, lt-ltb, le-ltb, eq-eqb, ne-eqb, leb, getD}
 use Rattle.network_tables.specs.declared.Counts.{Counts}
 use Rattle.network_tables.specs.Fields.{travelTimeIn, linkIn, shareIn, letOutIn, movedIn, enteredIn, leftIn, enteredAt, RowHeld}
 use Rattle.step_arrivals.specs.Arrivals.{secondsIn, elapsedIn, Rising}

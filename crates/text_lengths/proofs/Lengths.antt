@@ -1,11 +1,5 @@
 -- No text that passes, and none that is written, is longer than the header tells: 2 bytes and 11 for each number are a line, where every number is padded.
-use Prim.Native.Nat.{ℕ, _+_, _*_, _≤_, _<_}
-use mathlib.Core.Path.{_≡_}
-use mathlib.Core.List.{List}
-use native.Mathlib.Decide.{decLe}
-use native.Mathlib.Omega.{arith}
-use borrow.Author.Tests.{eqb-true}
-use lib.ListN.{length}
+use Rattle.base_laws.proofs.Kit.{ℕ, _+_, _*_, _≤_, _<_, _≡_, List, decLe, arith, eqb-true, length}
 use Rattle.base_search.specs.Checks.{Hold}
 use Rattle.base_search.proofs.Laws.{hold-of-passes}
 use Rattle.text_reader.specs.Lines.{Line, lines}

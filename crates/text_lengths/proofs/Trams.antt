@@ -1,12 +1,5 @@
 -- In a plan of one step no two tram lines are for one signal.
-use Prim.Native.Nat.{ℕ, zero, suc, _+_, _≤_, _<_}
-use mathlib.Core.Path.{_≡_, refl, sym, _∙_}
-use mathlib.Core.Logic.{_⊎_, ⊎-elim, _≢_}
-use mathlib.Core.Bool.{Bool, true, false, not, true≢false}
-use mathlib.Core.List.{List}
-use native.Mathlib.Omega.{arith}
-use borrow.Author.Tests.{leb-true, ltb-true, eqb-true, eq-eqb}
-use lib.Dec.{eqb, ltb}
+use Rattle.base_laws.proofs.Kit.{ℕ, zero, suc, _+_, _≤_, _<_, _≡_, refl, sym, _∙_, _⊎_, ⊎-elim, _≢_, Bool, true, false, not, true≢false, List, arith, leb-true, ltb-true, eqb-true, eq-eqb, eqb, ltb}
 use Rattle.text_reader.specs.Lines.{Line, number}
 use Rattle.base_laws.specs.Test.{_and_, _or_, within}
 use Rattle.base_laws.specs.Sum.{sum, only}

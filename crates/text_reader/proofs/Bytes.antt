@@ -1,14 +1,5 @@
 -- The first line of some bytes, read byte by byte: what `split` says of it by whether a tab, a line feed or another byte comes first. Assumes nothing.
-use Prim.Native.Nat.{ℕ, suc, _+_, _<_}
-use mathlib.Core.Path.{_≡_, refl, sym, ap, _∙_}
-use mathlib.Core.Logic.{_≢_}
-use mathlib.Core.Bool.{Bool, true, false}
-use mathlib.Core.List.{List, [], _∷_, map}
-use native.Mathlib.Omega.{arith}
-use borrow.Author.Tests.{eq-eqb, ne-eqb, lt-ltb, ltb-true}
-use native.Mathlib.Decide.{ℕ-discrete}
-use lib.Dec.{eqb, ltb, eqb·suc-zero}
-use lib.ListN.{length, drop, getD}
+use Rattle.base_laws.proofs.Kit.{ℕ, suc, _+_, _<_, _≡_, refl, sym, ap, _∙_, _≢_, Bool, true, false, List, [], _∷_, map, arith, eq-eqb, ne-eqb, lt-ltb, ltb-true, ℕ-discrete, eqb, ltb, eqb·suc-zero, length, drop, getD}
 use Rattle.text_reader.specs.declared.Field.{Field}
 use Rattle.text_reader.specs.Field.{fieldOf}
 use Rattle.text_reader.specs.Lines.{inFront, split, lineOf, linesOf, lines, noLine, letterOf}

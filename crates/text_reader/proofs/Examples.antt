@@ -1,8 +1,5 @@
 -- What the definitions say of some texts, computed. Assumes nothing.
-use Prim.Native.Nat.{ℕ}
-use mathlib.Core.Path.{_≡_, refl}
-use mathlib.Core.Bool.{Bool, true, false}
-use mathlib.Core.List.{List, [], _∷_}
+use Rattle.base_laws.proofs.Kit.{ℕ, _≡_, refl, Bool, true, false, List, [], _∷_}
 use Rattle.text_reader.specs.declared.Field.{Field}
 use Rattle.text_reader.specs.declared.Field.the-variants.{Number, NoNumber}
 use Rattle.text_reader.specs.declared.LineRead.the-variants.{Next, Malformed}

@@ -1,15 +1,5 @@
 -- What a proof above cites of lines and their places instead of opening the definitions. Assumes nothing.
-use Prim.Native.Nat.{ℕ, zero, suc, _+_, _-_, _≤_, _<_}
-use mathlib.Core.Path.{_≡_, refl, sym, ap, _∙_}
-use mathlib.Core.Bool.{Bool, true, false, cond, _&&_, and-eq-true-iff}
-use mathlib.Core.List.{List, [], _∷_, map, append-nil}
-use native.Mathlib.Numerals.{add-one}
-use native.Mathlib.Nat.{add-zero}
-use native.Mathlib.Omega.{arith}
-use borrow.Author.Tests.{eqb-true, eqb-false, eq-eqb, ne-eqb, leb-true, le-leb}
-use lib.Dec.{eqb, leb}
-use lib.ListN.{length, take, drop, getD, length-drop, drop-of-length-le, List·getD-eq-default}
-use lib.Seq.{drop-drop, getD-drop}
+use Rattle.base_laws.proofs.Kit.{ℕ, zero, suc, _+_, _-_, _≤_, _<_, _≡_, refl, sym, ap, _∙_, Bool, true, false, cond, _&&_, and-eq-true-iff, List, [], _∷_, map, append-nil, add-one, add-zero, arith, eqb-true, eqb-false, eq-eqb, ne-eqb, leb-true, le-leb, eqb, leb, length, take, drop, getD, length-drop, drop-of-length-le, List·getD-eq-default, drop-drop, getD-drop}
 use Rattle.text_reader.specs.declared.Field.{Field}
 use Rattle.text_reader.specs.declared.Field.the-variants.{Number, NoNumber}
 use Rattle.text_reader.specs.declared.LineRead.{LineRead}

@@ -1,14 +1,5 @@
 -- How long a text of records may be: a record has a letter, a tab and at most ten digits for each number, and a line feed.
-use Prim.Native.Nat.{ℕ, zero, suc, _+_, _*_, _≤_, _<_}
-use mathlib.Core.Path.{_≡_, refl, sym, ap, _∙_}
-use mathlib.Core.Bool.{Bool, true, false, cond, _&&_, and-eq-true-iff}
-use mathlib.Core.List.{List, [], _∷_, map}
-use native.Mathlib.Nat.{le-refl}
-use native.Mathlib.Decide.{decLe}
-use native.Mathlib.Omega.{arith}
-use borrow.Author.Tests.{leb-true, eqb-true, eq-eqb}
-use lib.Dec.{eqb, leb}
-use lib.ListN.{length, drop, getD, length-drop}
+use Rattle.base_laws.proofs.Kit.{ℕ, zero, suc, _+_, _*_, _≤_, _<_, _≡_, refl, sym, ap, _∙_, Bool, true, false, cond, _&&_, and-eq-true-iff, List, [], _∷_, map, le-refl, decLe, arith, leb-true, eqb-true, eq-eqb, eqb, leb, length, drop, getD, length-drop}
 use Rattle.text_reader.specs.declared.Field.the-variants.{Number, NoNumber}
 use Rattle.text_reader.specs.Field.{isNumeral, fieldOf, digits, decimal, largest}
 use Rattle.text_reader.specs.Lines.{inFront, split, lineOf, lines, letterOf, noLetter, noLine, isNumber, allNumbers, isRecord}

@@ -1,13 +1,5 @@
 -- What a field says, digit by digit. Assumes nothing.
-use Prim.Native.Nat.{ℕ, suc, _+_, _-_, _*_, _≤_, _<_}
-use mathlib.Core.Path.{_≡_, refl}
-use mathlib.Core.Bool.{true, false, and-eq-true-iff, and-false}
-use mathlib.Core.List.{List, [], _∷_, foldl}
-use native.Mathlib.Nat.{le-trans}
-use native.Mathlib.Omega.{arith}
-use borrow.Author.Tests.{le-leb, lt-leb, leb-true}
-use lib.Dec.{leb, leb·zero, leb·suc-zero, leb·suc-suc}
-use lib.ListN.{length}
+use Rattle.base_laws.proofs.Kit.{ℕ, suc, _+_, _-_, _*_, _≤_, _<_, _≡_, refl, true, false, and-eq-true-iff, and-false, List, [], _∷_, foldl, le-trans, arith, le-leb, lt-leb, leb-true, leb, leb·zero, leb·suc-zero, leb·suc-suc, length}
 use Rattle.text_reader.specs.declared.Field.the-variants.{Number, NoNumber}
 use Rattle.text_reader.specs.Field.{digit, digits, shift, decimal, largest, isNumeral, fieldOf}
 use Rattle.text_reader.specs.Reading.{worth}

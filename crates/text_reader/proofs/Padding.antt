@@ -1,14 +1,5 @@
 -- Texts that differ only in padding have the same lines, so all that is stated over lines is the same for both. Assumes nothing.
-use Prim.Native.Nat.{ℕ, suc, _<_}
-use mathlib.Core.Path.{_≡_, refl, sym, ap, _∙_}
-use mathlib.Core.Logic.{inl, inr, _≢_}
-use mathlib.Core.List.{List, [], _∷_, _++_, map, foldl, append-nil}
-use mathlib.Core.Bool.{Bool, true, false, _&&_, and-eq-true-iff}
-use native.Mathlib.Omega.{arith}
-use native.Mathlib.Decide.{ℕ-discrete}
-use borrow.Author.Tests.{ne-eqb, le-leb}
-use lib.Dec.{eqb, leb, eqb·suc-zero}
-use lib.ListN.{length, drop, getD}
+use Rattle.base_laws.proofs.Kit.{ℕ, suc, _<_, _≡_, refl, sym, ap, _∙_, inl, inr, _≢_, List, [], _∷_, _++_, map, foldl, append-nil, Bool, true, false, _&&_, and-eq-true-iff, arith, ℕ-discrete, ne-eqb, le-leb, eqb, leb, eqb·suc-zero, length, drop, getD}
 use Rattle.text_reader.specs.Field.{digit, digits, shift, decimal, isNumeral, fieldOf}
 use Rattle.text_reader.specs.Lines.{inFront, split, lineOf, linesOf, lines}
 use Rattle.text_reader.specs.Padding.{unpadded, oneToTen, SameField, Pairwise, none, more, SameLine, SameText}

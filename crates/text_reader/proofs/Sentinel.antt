@@ -1,16 +1,6 @@
 -- The laws of the functions that read a text which a line feed ends: behind a byte that is no line feed the text goes on. Each is in the form of a need.
 -- Assumes nothing.
-use Prim.Native.Nat.{ℕ, suc, _+_, _-_, _*_, _≤_, _<_}
-use mathlib.Core.Path.{_≡_, refl, sym, ap, _∙_}
-use mathlib.Core.Logic.{_≢_}
-use mathlib.Core.Bool.{Bool, true, false, cond, not, and-eq-true-iff}
-use mathlib.Core.List.{List, [], _∷_}
-use native.Mathlib.Omega.{arith}
-use native.Mathlib.Nat.{add-zero}
-use native.Mathlib.Decide.{decLe, ℕ-discrete}
-use borrow.Author.Tests.{eq-eqb, eqb-true, ne-eqb}
-use lib.Dec.{eqb, leb}
-use lib.ListN.{length, getD, set, length-set, List·getD-eq-default}
+use Rattle.base_laws.proofs.Kit.{ℕ, suc, _+_, _-_, _*_, _≤_, _<_, _≡_, refl, sym, ap, _∙_, _≢_, Bool, true, false, cond, not, and-eq-true-iff, List, [], _∷_, arith, add-zero, decLe, ℕ-discrete, eq-eqb, eqb-true, ne-eqb, eqb, leb, length, getD, set, length-set, List·getD-eq-default}
 use Rattle.text_reader.specs.declared.Tabbed.{Tabbed}
 use Rattle.text_reader.specs.declared.Tabbed.the-variants.{Found, Absent}
 use Rattle.text_reader.specs.declared.Ended.{Ended}

@@ -1,8 +1,7 @@
 -- A quoted text as its bytes, for worked examples in ASCII. Assumes nothing.
-use Prim.Native.Nat.{ℕ}
+use Rattle.base_laws.proofs.Kit.{ℕ, List, [], _∷_}
 use Prim.Native.Char.{code}
 use Prim.Native.String.{String, [] as nil, _∷_ as _then_}
-use mathlib.Core.List.{List, [], _∷_}
 
 abbrev pub bytes : String → List ℕ
 bytes nil = []

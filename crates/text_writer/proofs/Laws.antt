@@ -1,14 +1,5 @@
 -- The laws of writing: what is written one behind the other is one text. Assumes nothing.
-use Prim.Native.Nat.{ℕ, zero, suc, _+_, _-_, _*_, _/_, _%_, _^_, _≤_, _<_}
-use mathlib.Core.Path.{_≡_, refl, sym, ap, ap₂, _∙_}
-use mathlib.Core.List.{List, [], _∷_, _++_, append-assoc, append-nil}
-use native.Mathlib.Numerals.{add-one}
-use native.Mathlib.Decide.{decLe}
-use native.Mathlib.Nat.{pow-suc}
-use native.Mathlib.Omega.{arith}
-use borrow.Author.Tests.{lt-ltb, le-ltb}
-use lib.ListN.{length, getD, take, drop, set, length-append, length-set, length-drop, take-append-drop}
-use lib.Seq.{take-at, drop-at, drop-drop, length-take-le, set-at, take-suc, append-snoc, set-split, take-length}
+use Rattle.base_laws.proofs.Kit.{ℕ, zero, suc, _+_, _-_, _*_, _/_, _%_, _^_, _≤_, _<_, _≡_, refl, sym, ap, ap₂, _∙_, List, [], _∷_, _++_, append-assoc, append-nil, add-one, decLe, pow-suc, arith, lt-ltb, le-ltb, length, getD, take, drop, set, length-append, length-set, length-drop, take-append-drop, take-at, drop-at, drop-drop, length-take-le, set-at, take-suc, append-snoc, set-split, take-length}
 use Rattle.text_writer.specs.Records.{numeral, fieldText, fieldTexts, recordText, recordTexts}
 use Rattle.text_writer.specs.Writing.{putAt, digits, Wrote}
 

@@ -1,10 +1,5 @@
 -- How long written records are, by the digits of their numbers.
-use Prim.Native.Nat.{ℕ, suc, _+_, _*_, _^_, _≤_, _<_}
-use mathlib.Core.List.{List, [], _∷_, _++_}
-use mathlib.Core.Path.{_≡_}
-use native.Mathlib.Nat.{le-trans, pow-le-pow-right}
-use native.Mathlib.Omega.{arith}
-use lib.ListN.{length, getD, length-append}
+use Rattle.base_laws.proofs.Kit.{ℕ, suc, _+_, _*_, _^_, _≤_, _<_, List, [], _∷_, _++_, _≡_, le-trans, pow-le-pow-right, arith, length, getD, length-append}
 use Rattle.text_writer.specs.Records.{numeral, fieldText, fieldTexts}
 use Rattle.text_writer.proofs.Numerals.{numeral-spells}
 

@@ -1,14 +1,5 @@
 -- A written numeral reads back as its number. Assumes nothing.
-use Prim.Native.Nat.{ℕ, zero, suc, _+_, _-_, _*_, _/_, _%_, _^_, _≤_, _<_}
-use mathlib.Core.Path.{_≡_, refl, sym, ap, _∙_}
-use mathlib.Core.Logic.{_≢_}
-use mathlib.Core.Bool.{Bool, true, false, _&&_}
-use mathlib.Core.List.{List, [], _∷_, _++_, foldl}
-use native.Mathlib.Decide.{decLe}
-use native.Mathlib.Nat.{pow-suc}
-use native.Mathlib.Omega.{arith}
-use borrow.Author.Tests.{le-leb}
-use lib.ListN.{length, getD, length-append, List·getD-append}
+use Rattle.base_laws.proofs.Kit.{ℕ, zero, suc, _+_, _-_, _*_, _/_, _%_, _^_, _≤_, _<_, _≡_, refl, sym, ap, _∙_, _≢_, Bool, true, false, _&&_, List, [], _∷_, _++_, foldl, decLe, pow-suc, arith, le-leb, length, getD, length-append, List·getD-append}
 use Rattle.text_reader.specs.declared.Field.the-variants.{Number}
 use Rattle.text_reader.specs.Field.{digit, digits, shift, decimal, largest, isNumeral, fieldOf}
 use Rattle.text_writer.specs.Records.{numeral}

@@ -1,14 +1,5 @@
 -- The `lines` of a written text are the records written. Assumes nothing.
-use Prim.Native.Nat.{ℕ, zero, suc, _+_, _≤_, _<_}
-use mathlib.Core.Path.{_≡_, refl, sym, ap, ap₂, _∙_}
-use mathlib.Core.Logic.{_⊎_, inl, inr, _≢_}
-use mathlib.Core.Bool.{Bool, true, false, _&&_}
-use mathlib.Core.List.{List, [], _∷_, _++_, map, append-assoc, append-nil}
-use native.Mathlib.Nat.{eq-or-lt-of-le}
-use native.Mathlib.Omega.{arith}
-use borrow.Author.Tests.{eq-eqb}
-use lib.ListN.{length, getD, length-append, List·getD-append}
-use lib.Seq.{getD-append-add}
+use Rattle.base_laws.proofs.Kit.{ℕ, zero, suc, _+_, _≤_, _<_, _≡_, refl, sym, ap, ap₂, _∙_, _⊎_, inl, inr, _≢_, Bool, true, false, _&&_, List, [], _∷_, _++_, map, append-assoc, append-nil, eq-or-lt-of-le, arith, eq-eqb, length, getD, length-append, List·getD-append, getD-append-add}
 use Rattle.text_reader.specs.declared.Field.{Field}
 use Rattle.text_reader.specs.declared.Field.the-variants.{Number, NoNumber}
 use Rattle.text_reader.specs.Field.{digit, digits, largest, fieldOf}

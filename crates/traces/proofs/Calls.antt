@@ -1,13 +1,6 @@
 -- What a call gives, one law for each way through it. Assumes nothing.
-use mathlib.Core.Path.{_≡_, refl, _∙_, sym}
-use mathlib.Core.Bool.{Bool, true, false, not, _&&_}
-use mathlib.Core.List.{List}
-use native.Mathlib.Omega.{arith}
-use borrow.Author.Tests.{not-true, not-false, eqb-true}
-use lib.Dec.{leb}
-use lib.ListN.{length}
+use Rattle.base_laws.proofs.Kit.{_≡_, refl, _∙_, sym, Bool, true, false, not, _&&_, List, arith, not-true, not-false, eqb-true, leb, length, ℕ}
 use lib.Ieee.{Float}
-use Prim.Native.Nat.{ℕ}
 use Rattle.base_search.specs.declared.Verdict.{Verdict}
 use Rattle.base_search.specs.declared.Verdict.the-variants.{Passes, Refused}
 use Rattle.base_search.specs.Checks.{refusal, verdict, checked, orElse}

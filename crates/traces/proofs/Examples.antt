@@ -1,8 +1,5 @@
 -- Worked steps, by computation. Assumes nothing.
-use Prim.Native.Nat.{ℕ}
-use mathlib.Core.Path.{_≡_, refl}
-use mathlib.Core.Bool.{false}
-use mathlib.Core.List.{List, [], _∷_}
+use Rattle.base_laws.proofs.Kit.{ℕ, _≡_, refl, false, List, [], _∷_}
 use lib.IntN.{pos}
 use lib.Ieee.{Float, nan, inf, binary64, ofInt, ofBits, neg, lt, le, add, sub}
 use Rattle.base_search.specs.declared.Verdict.{Verdict}

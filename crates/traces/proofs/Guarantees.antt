@@ -1,12 +1,5 @@
 -- A step that is not refused keeps what `Keeps` says. Assumes nothing.
-use Prim.Native.Nat.{ℕ, zero, suc, _*_, _<_}
-use mathlib.Core.Path.{_≡_, refl}
-use mathlib.Core.Bool.{true, false, _&&_}
-use mathlib.Core.List.{List}
-use native.Mathlib.Omega.{arith}
-use borrow.Author.Tests.{eqb-true}
-use lib.Dec.{leb}
-use lib.ListN.{length, getD}
+use Rattle.base_laws.proofs.Kit.{ℕ, zero, suc, _*_, _<_, _≡_, refl, true, false, _&&_, List, arith, eqb-true, leb, length, getD}
 use lib.Ieee.{Float, nan, binary64, add, sub, round, isNan}
 use lib.Ieee.Scale.{finite}
 use Rattle.base_laws.specs.Indexed.{list, every}

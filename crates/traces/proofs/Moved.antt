@@ -1,12 +1,5 @@
 -- Where one vehicle ends: its target is at most each obstacle. Assumes nothing.
-use Prim.Native.Nat.{ℕ, zero, suc, _<_}
-use mathlib.Core.Path.{_≡_, refl}
-use mathlib.Core.Bool.{Bool, true, false, cond}
-use mathlib.Core.Logic.{_⊎_, inl, inr}
-use mathlib.Core.List.{List}
-use native.Mathlib.Nat.{eq-or-lt-of-le, le-of-suc-le-suc}
-use native.Mathlib.Omega.{arith}
-use lib.ListN.{length, getD}
+use Rattle.base_laws.proofs.Kit.{ℕ, zero, suc, _<_, _≡_, refl, Bool, true, false, cond, _⊎_, inl, inr, List, eq-or-lt-of-le, le-of-suc-le-suc, arith, length, getD}
 use lib.Ieee.{Float, nan, binary64, add, sub, lt, le, isNan}
 use lib.Ieee.Scale.{finite}
 use Rattle.traces.specs.declared.Vehicle.{Vehicle}

@@ -1,11 +1,5 @@
 -- One law for each way through the code of a step. Assumes nothing.
-use Prim.Native.Nat.{ℕ, _+_, _≤_, _<_}
-use mathlib.Core.Path.{_≡_, refl, _∙_, ap}
-use mathlib.Core.Bool.{true, false}
-use mathlib.Core.List.{List}
-use native.Mathlib.Numerals.{add-one}
-use native.Mathlib.Omega.{arith}
-use lib.ListN.{length, getD, set, length-set}
+use Rattle.base_laws.proofs.Kit.{ℕ, _+_, _≤_, _<_, _≡_, refl, _∙_, ap, true, false, List, add-one, arith, length, getD, set, length-set}
 use lib.Ieee.{Float, nan, binary64, add, sub, lt, le}
 use Rattle.base_laws.specs.Indexed.{list, filled}
 use Rattle.base_laws.proofs.Laws.{filled-none, filled-past, filled-more, filled-all}

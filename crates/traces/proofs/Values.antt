@@ -1,7 +1,5 @@
 -- Refusal 38: what a valid value is. Assumes nothing.
-use mathlib.Core.Path.{_≡_, refl}
-use mathlib.Core.Bool.{Bool, true, false, _&&_}
-use mathlib.Core.List.{List}
+use Rattle.base_laws.proofs.Kit.{_≡_, refl, Bool, true, false, _&&_, List}
 use lib.Ieee.{Float, nan, inf, fin, neg, le, ofInt}
 use lib.Ieee.Scale.{finite}
 use Rattle.base_laws.specs.Indexed.{every}

@@ -1,8 +1,5 @@
 -- `carry::carry_from` meets its contract: one law for each way out. Assumes nothing.
-use Prim.Native.Nat.{_+_, _*_, _≤_}
-use native.Mathlib.Nat.{mul-le-mul-right}
-use native.Mathlib.Omega.{arith}
-use borrow.Author.Needs.{needs}
+use Rattle.base_laws.proofs.Kit.{_+_, _*_, _≤_, mul-le-mul-right, arith, needs}
 use Rattle.carry.proofs.Carrying.{too-early, too-late, ledger-short, asked}
 use Rattle.carry.proofs.carry_from.Statement.{statement}
 use Rattle.carry.proofs.carry_from.Tie as tie

@@ -1,6 +1,5 @@
 -- `carry::carry_on` meets its contract. Assumes nothing.
-use mathlib.Core.Path.{refl}
-use borrow.Author.Needs.{needs}
+use Rattle.base_laws.proofs.Kit.{refl, needs}
 use Rattle.network.proofs.Rooms.{zero-rooms}
 use Rattle.carry.proofs.Carrying.{network-refused, promised}
 use Rattle.carry.proofs.carry_on.Statement.{statement}

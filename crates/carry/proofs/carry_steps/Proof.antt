@@ -1,8 +1,6 @@
 -- `carry::carry_steps` meets its contract: one law for each way out. Assumes nothing.
-use mathlib.Core.Path.{sym, _∙_}
-use native.Mathlib.Omega.{arith}
+use Rattle.base_laws.proofs.Kit.{sym, _∙_, arith, needs}
 use Rattle.carry.proofs.Carrying.{not-true, not-false, steps-asked, step-refused, more-lines, write-asked, carried-told}
-use borrow.Author.Needs.{needs}
 use Rattle.carry.proofs.carry_steps.Statement.{statement}
 use Rattle.carry.proofs.carry_steps.Tie as tie
 

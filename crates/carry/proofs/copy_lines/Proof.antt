@@ -1,8 +1,6 @@
 -- `carry::copy_lines` meets its contract. Assumes nothing.
-use native.Mathlib.Omega.{arith}
+use Rattle.base_laws.proofs.Kit.{arith, _-_, needs}
 use Rattle.carry.proofs.Reading.{CopiedTo, copied-none, copied-part, copied-asked, copied-next, copied-all}
-use Prim.Native.Nat.{_-_}
-use borrow.Author.Needs.{needs}
 use Rattle.carry.proofs.copy_lines.Statement.{statement}
 use Rattle.carry.proofs.copy_lines.Tie as tie
 

@@ -1,7 +1,6 @@
 -- `carry::count_trams` meets its contract. Assumes nothing.
-use Prim.Native.Nat.{_-_}
+use Rattle.base_laws.proofs.Kit.{_-_, needs}
 use Rattle.carry.proofs.Trams.{CountedTo, counted-none, tram-size, counted-next, counted-all}
-use borrow.Author.Needs.{needs}
 use Rattle.carry.proofs.count_trams.Statement.{statement}
 use Rattle.carry.proofs.count_trams.Tie as tie
 

@@ -1,8 +1,6 @@
 -- `carry::fill_volumes` meets its contract. Assumes nothing.
-use lib.ListN.{length-set}
-use Prim.Native.Nat.{_-_}
+use Rattle.base_laws.proofs.Kit.{length-set, _-_, needs}
 use Rattle.carry.proofs.Filling.{VolumesTo, volumes-none, held-before, held-after, entered-rises, left-rises, volumes-next, volumes-all}
-use borrow.Author.Needs.{needs}
 use Rattle.carry.proofs.fill_volumes.Statement.{statement}
 use Rattle.carry.proofs.fill_volumes.Tie as tie
 

@@ -1,12 +1,9 @@
 -- `carry::put_links` meets its contract. Assumes nothing.
-use mathlib.Core.Path.{refl}
-use native.Mathlib.Omega.{arith}
+use Rattle.base_laws.proofs.Kit.{refl, arith, _-_, needs}
 use Rattle.carry.proofs.Lines.{links-next}
 use Rattle.carry.specs.Rows.{linkRow}
 use Rattle.model.specs.Table.{letterQ}
 use Rattle.network_writer.proofs.Put.{LinesTo, rows-none, rows-early, rows-all}
-use Prim.Native.Nat.{_-_}
-use borrow.Author.Needs.{needs}
 use Rattle.carry.proofs.put_links.Statement.{statement}
 use Rattle.carry.proofs.put_links.Tie as tie
 

@@ -1,11 +1,9 @@
 -- `carry::put_movements` meets its contract. Assumes nothing.
-use native.Mathlib.Omega.{arith}
+use Rattle.base_laws.proofs.Kit.{arith, _-_, needs}
 use Rattle.carry.proofs.Lines.{movements-next}
 use Rattle.carry.specs.Rows.{movementRow}
 use Rattle.model.specs.Table.{letterM}
 use Rattle.network_writer.proofs.Put.{LinesTo, rows-none, rows-early, rows-all}
-use Prim.Native.Nat.{_-_}
-use borrow.Author.Needs.{needs}
 use Rattle.carry.proofs.put_movements.Statement.{statement}
 use Rattle.carry.proofs.put_movements.Tie as tie
 

@@ -1,12 +1,10 @@
 -- `carry::put_signals` meets its contract. Assumes nothing.
-use Prim.Native.Nat.{_-_}
-use native.Mathlib.Omega.{arith}
+use Rattle.base_laws.proofs.Kit.{_-_, arith, needs}
 use Rattle.model.specs.Table.{letterG}
 use Rattle.network_tables.specs.Fields.{tableSignal}
 use Rattle.model_carry.specs.Part.{signalNumbers}
 use Rattle.network_writer.proofs.Put.{LinesTo, rows-none, rows-all}
 use Rattle.carry.proofs.Lines.{signal-few, signal-within, signal-early, signals-next}
-use borrow.Author.Needs.{needs}
 use Rattle.carry.proofs.put_signals.Statement.{statement}
 use Rattle.carry.proofs.put_signals.Tie as tie
 

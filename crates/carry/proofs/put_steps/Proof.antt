@@ -1,8 +1,6 @@
 -- `carry::put_steps` meets its contract. Assumes nothing.
-use native.Mathlib.Omega.{arith}
+use Rattle.base_laws.proofs.Kit.{arith, _-_, needs}
 use Rattle.carry.proofs.Reading.{StepsTo, steps-none, volumes-asked, steps-part, steps-asked, steps-next, steps-all}
-use Prim.Native.Nat.{_-_}
-use borrow.Author.Needs.{needs}
 use Rattle.carry.proofs.put_steps.Statement.{statement}
 use Rattle.carry.proofs.put_steps.Tie as tie
 

@@ -1,7 +1,6 @@
 -- `carry::put_trams` meets its contract. Assumes nothing.
 use Rattle.carry.proofs.Trams.{TramsPut, trams-none, tram-size, tram-early, trams-next, trams-all}
-use Prim.Native.Nat.{_-_}
-use borrow.Author.Needs.{needs}
+use Rattle.base_laws.proofs.Kit.{_-_, needs}
 use Rattle.carry.proofs.put_trams.Statement.{statement}
 use Rattle.carry.proofs.put_trams.Tie as tie
 

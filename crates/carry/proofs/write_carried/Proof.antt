@@ -1,7 +1,6 @@
 -- `carry::write_carried` meets its contract.
 use Rattle.carry.proofs.Whole.{short-written, whole-written}
-use native.Mathlib.Omega.{arith}
-use borrow.Author.Needs.{needs}
+use Rattle.base_laws.proofs.Kit.{arith, needs}
 use Rattle.carry.proofs.write_carried.Statement.{statement}
 use Rattle.carry.proofs.write_carried.Tie as tie
 

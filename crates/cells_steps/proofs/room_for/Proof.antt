@@ -1,8 +1,6 @@
 -- `cells_steps::room_for` meets its contract. Assumes nothing.
-use Prim.Native.Nat.{_-_}
-use native.Mathlib.Omega.{arith}
+use Rattle.base_laws.proofs.Kit.{_-_, arith, needs}
 use Rattle.cells_steps.proofs.Flows.{scaled}
-use borrow.Author.Needs.{needs}
 use Rattle.cells_steps.proofs.room_for.Statement.{statement}
 use Rattle.cells_steps.proofs.room_for.Tie as tie
 

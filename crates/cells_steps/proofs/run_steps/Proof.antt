@@ -1,9 +1,7 @@
 -- `cells_steps::run_steps` meets its contract. The measure is how many demands are left. Assumes nothing.
-use Prim.Native.Nat.{_-_}
-use lib.ListN.{length}
+use Rattle.base_laws.proofs.Kit.{_-_, length, needs}
 use Rattle.cells_steps.specs.Steps.{chainOf}
 use Rattle.cells_steps.proofs.Turns.{Running, running-none, running-ready, running-more, running-done}
-use borrow.Author.Needs.{needs}
 use Rattle.cells_steps.proofs.run_steps.Statement.{statement}
 use Rattle.cells_steps.proofs.run_steps.Tie as tie
 

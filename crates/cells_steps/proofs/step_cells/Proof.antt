@@ -1,9 +1,7 @@
 -- `cells_steps::step_cells` meets its contract. The measure is how many cells are left. Assumes nothing.
-use Prim.Native.Nat.{_-_}
-use lib.ListN.{length}
+use Rattle.base_laws.proofs.Kit.{_-_, length, needs}
 use Rattle.cells_steps.specs.Steps.{chainOf}
 use Rattle.cells_steps.proofs.Turns.{is-held, is-slow, Going, going-none, going-fits, going-more, going-done}
-use borrow.Author.Needs.{needs}
 use Rattle.cells_steps.proofs.step_cells.Statement.{statement}
 use Rattle.cells_steps.proofs.step_cells.Tie as tie
 

@@ -1,7 +1,6 @@
 -- `listing_call::has_phase` meets its contract. Assumes nothing.
-use native.Mathlib.Omega.{arith}
+use Rattle.base_laws.proofs.Kit.{arith, needs}
 use Rattle.listing_call.proofs.Turns.{phase-none, within-some, phase-is}
-use borrow.Author.Needs.{needs}
 use Rattle.listing_call.proofs.has_phase.Statement.{statement}
 use Rattle.listing_call.proofs.has_phase.Tie as tie
 use Rattle.base_laws.proofs.Tests.{is-within}

@@ -1,7 +1,6 @@
 -- `listing_call::item_place` meets its contract. Assumes nothing.
-use native.Mathlib.Omega.{arith}
+use Rattle.base_laws.proofs.Kit.{arith, needs}
 use Rattle.listing_call.proofs.Turns.{within-some, item-none, item-asked, item-is}
-use borrow.Author.Needs.{needs}
 use Rattle.listing_call.proofs.item_place.Statement.{statement}
 use Rattle.listing_call.proofs.item_place.Tie as tie
 use Rattle.base_laws.proofs.Tests.{is-within}

@@ -1,7 +1,6 @@
 -- `listing_call::phase_bit` meets its contract. Assumes nothing.
-use native.Mathlib.Omega.{arith}
+use Rattle.base_laws.proofs.Kit.{arith, needs}
 use Rattle.listing_call.proofs.Turns.{within-some, phase-bit-none, phase-bit-is}
-use borrow.Author.Needs.{needs}
 use Rattle.listing_call.proofs.phase_bit.Statement.{statement}
 use Rattle.listing_call.proofs.phase_bit.Tie as tie
 use Rattle.base_laws.proofs.Tests.{is-within}

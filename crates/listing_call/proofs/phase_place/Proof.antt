@@ -1,7 +1,6 @@
 -- `listing_call::phase_place` meets its contract. Assumes nothing.
-use native.Mathlib.Omega.{arith}
+use Rattle.base_laws.proofs.Kit.{arith, needs}
 use Rattle.listing_call.proofs.Turns.{phase-place-none, phase-some, phase-asked, phase-place-is}
-use borrow.Author.Needs.{needs}
 use Rattle.listing_call.proofs.phase_place.Statement.{statement}
 use Rattle.listing_call.proofs.phase_place.Tie as tie
 

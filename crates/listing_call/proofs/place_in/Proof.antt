@@ -1,7 +1,6 @@
 -- `listing_call::place_in` meets its contract. Assumes nothing.
-use native.Mathlib.Omega.{arith}
+use Rattle.base_laws.proofs.Kit.{arith, needs}
 use Rattle.listing_call.proofs.Turns.{place-none, place-at, within-some}
-use borrow.Author.Needs.{needs}
 use Rattle.listing_call.proofs.place_in.Statement.{statement}
 use Rattle.listing_call.proofs.place_in.Tie as tie
 use Rattle.base_laws.proofs.Tests.{is-within}

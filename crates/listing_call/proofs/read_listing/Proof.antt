@@ -1,9 +1,6 @@
 -- `listing_call::read_listing` meets its contract. Assumes nothing.
-use Prim.Native.Nat.{_-_}
-use native.Mathlib.Omega.{arith}
-use lib.ListN.{length}
+use Rattle.base_laws.proofs.Kit.{_-_, arith, length, needs}
 use Rattle.listing_call.proofs.Reading.{Reading, reading-none, reading-done, reading-bad, reading-asked, reading-stop, reading-more, line-forward, store-place, store-fits, store-bit}
-use borrow.Author.Needs.{needs}
 use Rattle.listing_call.proofs.read_listing.Statement.{statement}
 use Rattle.listing_call.proofs.read_listing.Tie as tie
 

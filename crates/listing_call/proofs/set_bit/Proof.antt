@@ -1,8 +1,6 @@
 -- `listing_call::set_bit` meets its contract. Assumes nothing.
-use Prim.Native.Nat.{_/_}
-use native.Mathlib.Omega.{arith}
+use Rattle.base_laws.proofs.Kit.{_/_, arith, needs}
 use Rattle.listing_call.proofs.Bits.{set-is, set-fits}
-use borrow.Author.Needs.{needs}
 use Rattle.listing_call.proofs.set_bit.Statement.{statement}
 use Rattle.listing_call.proofs.set_bit.Tie as tie
 

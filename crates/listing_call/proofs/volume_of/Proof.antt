@@ -1,7 +1,6 @@
 -- `listing_call::volume_of` meets its contract. Assumes nothing.
-use native.Mathlib.Omega.{arith}
+use Rattle.base_laws.proofs.Kit.{arith, needs}
 use Rattle.listing_call.proofs.Turns.{product-fits, volume-broken, volume-big, volume-whole}
-use borrow.Author.Needs.{needs}
 use Rattle.listing_call.proofs.volume_of.Statement.{statement}
 use Rattle.listing_call.proofs.volume_of.Tie as tie
 

@@ -1,7 +1,6 @@
 -- `listing_call::write_listing` meets its contract. Assumes nothing.
 use Rattle.listing_call.proofs.Call.{empty-asked, write-kept, write-passed, write-stopped}
-use mathlib.Core.Path.{refl}
-use borrow.Author.Needs.{needs}
+use Rattle.base_laws.proofs.Kit.{refl, needs}
 use Rattle.listing_call.specs.Tables.{numberTableSize, seenSize}
 use Rattle.listing_call.proofs.write_listing.Statement.{statement}
 use Rattle.listing_call.proofs.write_listing.Tie as tie

@@ -1,7 +1,6 @@
 -- `listing_call::write_on_network` meets its contract. Assumes nothing.
 use Rattle.listing_call.proofs.Call.{signals-asked, signals-stopped, tables-asked, network-written}
-use mathlib.Core.Path.{refl}
-use borrow.Author.Needs.{needs}
+use Rattle.base_laws.proofs.Kit.{refl, needs}
 use Rattle.listing_call.proofs.write_on_network.Statement.{statement}
 use Rattle.listing_call.proofs.write_on_network.Tie as tie
 

@@ -1,8 +1,6 @@
 -- `listing_lines::digits_of` meets its contract. Assumes nothing.
-use Prim.Native.Nat.{_-_}
-use lib.ListN.{length}
+use Rattle.base_laws.proofs.Kit.{_-_, length, needs}
 use Rattle.listing_lines.proofs.Laws.{Said, digits-none, digits-long, said-none, said-not, said-small, digit-low, said-more, said-all}
-use borrow.Author.Needs.{needs}
 use Rattle.listing_lines.proofs.digits_of.Statement.{statement}
 use Rattle.listing_lines.proofs.digits_of.Tie as tie
 

@@ -1,8 +1,6 @@
 -- `listing_lines::find` meets its contract. Assumes nothing.
-use Prim.Native.Nat.{_-_}
-use lib.ListN.{length}
+use Rattle.base_laws.proofs.Kit.{_-_, length, needs}
 use Rattle.listing_lines.proofs.Laws.{Finding, find-none, find-hit, find-more, find-past}
-use borrow.Author.Needs.{needs}
 use Rattle.listing_lines.proofs.find.Statement.{statement}
 use Rattle.listing_lines.proofs.find.Tie as tie
 

@@ -1,7 +1,6 @@
 -- `listing_lines::fraction_of` meets its contract. Assumes nothing.
-use native.Mathlib.Omega.{arith}
+use Rattle.base_laws.proofs.Kit.{arith, needs}
 use Rattle.listing_lines.proofs.Turns.{fraction-none, fraction-is, fraction-fits}
-use borrow.Author.Needs.{needs}
 use Rattle.listing_lines.proofs.fraction_of.Statement.{statement}
 use Rattle.listing_lines.proofs.fraction_of.Tie as tie
 

@@ -1,7 +1,6 @@
 -- `listing_lines::rate_of` meets its contract. Assumes nothing.
-use native.Mathlib.Omega.{arith}
+use Rattle.base_laws.proofs.Kit.{arith, needs}
 use Rattle.listing_lines.proofs.Turns.{fraction-small, ten-small, part-size, rate-bad, rate-whole, rate-part, rate-part-bad}
-use borrow.Author.Needs.{needs}
 use Rattle.listing_lines.proofs.rate_of.Statement.{statement}
 use Rattle.listing_lines.proofs.rate_of.Tie as tie
 

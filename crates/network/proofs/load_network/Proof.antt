@@ -1,6 +1,5 @@
 -- `network::load_network` meets its contract.
-use mathlib.Core.Path.{refl}
-use borrow.Author.Needs.{needs}
+use Rattle.base_laws.proofs.Kit.{refl, needs}
 use Rattle.network.proofs.Rooms.{zero-rooms}
 use Rattle.network.proofs.Chain.{tables-judged}
 use Rattle.network.proofs.load_network.Statement.{statement}

@@ -1,7 +1,6 @@
 -- `network::read_timeline` meets its contract. Assumes nothing.
-use native.Mathlib.Omega.{arith}
+use Rattle.base_laws.proofs.Kit.{arith, needs}
 use Rattle.network.proofs.Timeline.{forms-asked, forms-stop, steps-asked, steps-stop, end-asked, end-stop, past-asked, timeline-judged}
-use borrow.Author.Needs.{needs}
 use Rattle.network.proofs.read_timeline.Statement.{statement}
 use Rattle.network.proofs.read_timeline.Tie as tie
 

@@ -1,6 +1,5 @@
 -- `network_links::add_shares` meets its contract. The invariant: the shares of j movements are summed up.
-use Prim.Native.Nat.{_-_}
-use borrow.Author.Needs.{needs}
+use Rattle.base_laws.proofs.Kit.{_-_, needs}
 use Rattle.network_links.proofs.Shares.{SumsTo, sums-begin, add-asked, sums-next, sums-done}
 use Rattle.network_links.proofs.add_shares.Statement.{statement}
 use Rattle.network_links.proofs.add_shares.Tie as tie

@@ -1,7 +1,5 @@
 -- `network_links::check_shares` meets its contract. Assumes nothing.
-use Prim.Native.Nat.{_-_}
-use mathlib.Core.Path.{refl}
-use borrow.Author.Needs.{needs}
+use Rattle.base_laws.proofs.Kit.{_-_, refl, needs}
 use Rattle.network_tables.specs.Blocks.{PassedTo}
 use Rattle.network_tables.proofs.Blocks.{passed-none}
 use Rattle.network_links.specs.Movements.{shareChecksIn}

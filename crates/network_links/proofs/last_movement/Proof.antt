@@ -1,8 +1,5 @@
 -- `network_links::last_movement` meets its contract. Assumes nothing.
-use Prim.Native.Nat.{_-_, _≤_}
-use mathlib.Core.Logic.{⊎-elim}
-use mathlib.Core.Path.{_≡_, refl}
-use borrow.Author.Needs.{needs}
+use Rattle.base_laws.proofs.Kit.{_-_, _≤_, ⊎-elim, _≡_, refl, needs}
 use Rattle.network_links.specs.Movements.{lastMovementIn}
 use Rattle.network_links.proofs.Movements.{last-here, last-other, last-all}
 use Rattle.network_links.proofs.last_movement.Statement.{statement}

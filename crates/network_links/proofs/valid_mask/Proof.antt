@@ -1,7 +1,5 @@
 -- `network_links::valid_mask` meets its contract. Assumes nothing.
-use Prim.Native.Nat.{_-_}
-use native.Mathlib.Omega.{arith}
-use borrow.Author.Needs.{needs}
+use Rattle.base_laws.proofs.Kit.{_-_, arith, needs}
 use Rattle.network_links.proofs.Links.{mask-none, mask-some}
 use Rattle.network_links.proofs.valid_mask.Statement.{statement}
 use Rattle.network_links.proofs.valid_mask.Tie as tie

@@ -1,8 +1,6 @@
 -- `network_past::read_past` meets its contract. The invariant: m lines have passed, and are timed as long as their lengths are valid. Assumes nothing.
-use Prim.Native.Nat.{_-_}
-use mathlib.Core.Path.{refl}
+use Rattle.base_laws.proofs.Kit.{_-_, refl, needs}
 use Rattle.network_past.proofs.Forms.{FormsTo, forms-begin, forms-malformed, time-asked, forms-next, forms-done}
-use borrow.Author.Needs.{needs}
 use Rattle.network_past.proofs.read_past.Statement.{statement}
 use Rattle.network_past.proofs.read_past.Tie as tie
 

@@ -1,10 +1,8 @@
 -- `network_past::valid_links` meets its contract. The invariant: whether the first i links are valid. Assumes nothing.
-use Prim.Native.Nat.{_-_, _≤_}
-use mathlib.Core.Path.{_≡_}
+use Rattle.base_laws.proofs.Kit.{_-_, _≤_, _≡_, needs}
 use Rattle.base_laws.specs.Test.{_and_}
 use Rattle.network_past.specs.Past.{validLinksIn}
 use Rattle.network_past.proofs.End.{links-none, links-more, links-all}
-use borrow.Author.Needs.{needs}
 use Rattle.network_past.proofs.valid_links.Statement.{statement}
 use Rattle.network_past.proofs.valid_links.Tie as tie
 

@@ -1,9 +1,8 @@
 -- `network_past::valid_past` meets its contract. Assumes nothing.
-use mathlib.Core.Path.{refl}
+use Rattle.base_laws.proofs.Kit.{refl, needs}
 use Rattle.base_laws.specs.Test.{_and_}
 use Rattle.network_past.specs.Past.{validPastIn}
 use Rattle.network_past.proofs.Links.{step-room, elapsed-room, scaled-room}
-use borrow.Author.Needs.{needs}
 use Rattle.network_past.proofs.valid_past.Statement.{statement}
 use Rattle.network_past.proofs.valid_past.Tie as tie
 

@@ -1,7 +1,5 @@
 -- `network_signals::load_signals` meets its contract. Assumes nothing.
-use Prim.Native.Nat.{_-_}
-use native.Mathlib.Omega.{arith}
-use borrow.Author.Needs.{needs}
+use Rattle.base_laws.proofs.Kit.{_-_, arith, needs}
 use Rattle.network_signals.proofs.Loops.{LoadedTo, loaded-none, loaded-asked, loaded-stop, loaded-next, loaded-all}
 use Rattle.network_signals.proofs.load_signals.Statement.{statement}
 use Rattle.network_signals.proofs.load_signals.Tie as tie

@@ -1,6 +1,5 @@
 -- `network_signals::read_signal` meets its contract. Assumes nothing.
-use native.Mathlib.Omega.{arith}
-use borrow.Author.Needs.{needs}
+use Rattle.base_laws.proofs.Kit.{arith, needs}
 use Rattle.network_signals.proofs.Lines.{stop-head, stop-phases, whole-fits, stop-form, few-phases, stop-values, pass-line}
 use Rattle.network_signals.proofs.read_signal.Statement.{statement}
 use Rattle.network_signals.proofs.read_signal.Tie as tie

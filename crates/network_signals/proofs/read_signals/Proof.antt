@@ -1,7 +1,5 @@
 -- `network_signals::read_signals` meets its contract.
-use Prim.Native.Nat.{_-_}
-use native.Mathlib.Omega.{arith}
-use borrow.Author.Needs.{needs}
+use Rattle.base_laws.proofs.Kit.{_-_, arith, needs}
 use Rattle.network_signals.proofs.Loops.{SignalsTo, signals-begin, signal-asked, signals-stop, signal-few, signals-next, signals-done, table-next}
 use Rattle.network_signals.proofs.read_signals.Statement.{statement}
 use Rattle.network_signals.proofs.read_signals.Tie as tie

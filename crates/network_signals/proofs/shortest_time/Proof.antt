@@ -1,9 +1,6 @@
 -- `network_signals::shortest_time` meets its contract. The loop's invariant: `shortest` is the least of `so_far` and the
 -- greatest times of the first k phases. Assumes nothing.
-use Prim.Native.Nat.{_≤_, _-_}
-use mathlib.Core.Path.{_≡_, refl}
-use native.Mathlib.Omega.{arith}
-use borrow.Author.Needs.{needs}
+use Rattle.base_laws.proofs.Kit.{_≤_, _-_, _≡_, refl, arith, needs}
 use Rattle.network_signals.specs.Signals.{shortestTime}
 use Rattle.network_signals.proofs.Values.{shortest-more}
 use Rattle.network_signals.proofs.shortest_time.Statement.{statement}

@@ -1,7 +1,5 @@
 -- `network_signals::valid_signal` meets its contract. Each return by where the shown phase stands. Assumes nothing.
-use mathlib.Core.Path.{sym}
-use native.Mathlib.Omega.{arith}
-use borrow.Author.Needs.{needs}
+use Rattle.base_laws.proofs.Kit.{sym, arith, needs}
 use Rattle.network_signals.proofs.Values.{shown-below, shown-above, shown-within}
 use Rattle.network_signals.proofs.valid_signal.Statement.{statement}
 use Rattle.network_signals.proofs.valid_signal.Tie as tie

@@ -1,8 +1,5 @@
 -- `network_signals::valid_times` meets its contract. The loop's invariant: the times of the first k phases are tested. Assumes nothing.
-use Prim.Native.Nat.{_≤_, _-_}
-use mathlib.Core.Path.{_≡_, refl}
-use native.Mathlib.Omega.{arith}
-use borrow.Author.Needs.{needs}
+use Rattle.base_laws.proofs.Kit.{_≤_, _-_, _≡_, refl, arith, needs}
 use Rattle.base_laws.specs.Test.{every}
 use Rattle.network_signals.specs.Signals.{validTimes}
 use Rattle.network_signals.proofs.Values.{times-more}

@@ -1,6 +1,5 @@
 -- `network_steps::add_demands` meets its contract. The invariant: the demands of i links are added.
-use Prim.Native.Nat.{_-_}
-use borrow.Author.Needs.{needs}
+use Rattle.base_laws.proofs.Kit.{_-_, needs}
 use Rattle.network_steps.proofs.Steps.{AddedTo, add-begin, add-fits, add-next, add-done}
 use Rattle.network_steps.proofs.add_demands.Statement.{statement}
 use Rattle.network_steps.proofs.add_demands.Tie as tie

@@ -1,8 +1,6 @@
 -- `network_steps::read_steps` meets its contract. The invariant: n lines have passed, and their times and demands are reckoned. Assumes nothing.
-use Prim.Native.Nat.{_-_}
-use mathlib.Core.Path.{refl}
+use Rattle.base_laws.proofs.Kit.{_-_, refl, needs}
 use Rattle.network_steps.proofs.Steps.{StepsTo, steps-begin, steps-malformed, steps-invalid, time-asked, add-asked, steps-next, steps-done}
-use borrow.Author.Needs.{needs}
 use Rattle.network_steps.proofs.read_steps.Statement.{statement}
 use Rattle.network_steps.proofs.read_steps.Tie as tie
 

@@ -1,8 +1,5 @@
 -- `network_steps::valid_demands` meets its contract. Assumes nothing.
-use Prim.Native.Nat.{_-_, _≤_}
-use mathlib.Core.Path.{_≡_}
-use mathlib.Core.Bool.{true}
-use borrow.Author.Needs.{needs}
+use Rattle.base_laws.proofs.Kit.{_-_, _≤_, _≡_, true, needs}
 use Rattle.network_steps.specs.Steps.{validDemandsIn}
 use Rattle.network_steps.proofs.Values.{demands-none, demands-broken, demands-on, demands-all}
 use Rattle.network_steps.proofs.valid_demands.Statement.{statement}

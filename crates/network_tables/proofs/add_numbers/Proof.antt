@@ -1,7 +1,6 @@
 -- `network_tables::add_numbers` meets its contract. The invariant: the first k sums have their numbers. Assumes nothing.
-use Prim.Native.Nat.{_-_}
+use Rattle.base_laws.proofs.Kit.{_-_, needs}
 use Rattle.network_tables.proofs.Sums.{SummedTo, sums-begin, sums-over, sums-next, sums-done}
-use borrow.Author.Needs.{needs}
 use Rattle.network_tables.proofs.add_numbers.Statement.{statement}
 use Rattle.network_tables.proofs.add_numbers.Tie as tie
 

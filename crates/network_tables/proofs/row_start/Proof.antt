@@ -1,7 +1,5 @@
 -- `network_tables::row_start` meets its contract: the product fits, since both factors are small. Assumes nothing.
-use borrow.Author.Needs.{needs}
-use native.Mathlib.Nat.{mul-le-mul-right}
-use native.Mathlib.Omega.{arith}
+use Rattle.base_laws.proofs.Kit.{needs, mul-le-mul-right, arith}
 use Rattle.network_tables.proofs.row_start.Statement.{statement}
 use Rattle.network_tables.proofs.row_start.Tie as tie
 

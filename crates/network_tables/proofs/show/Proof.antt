@@ -1,8 +1,6 @@
 -- `network_tables::show` meets its contract. Assumes nothing.
-use native.Mathlib.Omega.{arith}
-use lib.ListN.{length-set}
+use Rattle.base_laws.proofs.Kit.{arith, length-set, needs}
 use Rattle.network_tables.proofs.Signals.{shown-laid}
-use borrow.Author.Needs.{needs}
 use Rattle.network_tables.proofs.show.Statement.{statement}
 use Rattle.network_tables.proofs.show.Tie as tie
 

@@ -1,6 +1,5 @@
 -- `network_trams::check_tram_phases` meets its contract. Assumes nothing.
-use Prim.Native.Nat.{_-_}
-use borrow.Author.Needs.{needs}
+use Rattle.base_laws.proofs.Kit.{_-_, needs}
 use Rattle.network_tables.specs.Blocks.{PassedTo}
 use Rattle.network_tables.proofs.Blocks.{passed-none}
 use Rattle.network_trams.specs.Trams.{phaseChecksIn}

@@ -1,7 +1,5 @@
 -- `network_trams::is_apart_from_earlier` meets its contract. Assumes nothing.
-use Prim.Native.Nat.{_≤_, _-_}
-use mathlib.Core.Path.{_≡_}
-use borrow.Author.Needs.{needs}
+use Rattle.base_laws.proofs.Kit.{_≤_, _-_, _≡_, needs}
 use Rattle.network_trams.specs.Trams.{apartFrom}
 use Rattle.network_trams.proofs.Tested.{apart-none, apart-more, apart-all}
 use Rattle.network_trams.proofs.is_apart_from_earlier.Statement.{statement}

@@ -1,6 +1,5 @@
 -- `network_trams::read_trams` meets its contract. Assumes nothing.
-use Prim.Native.Nat.{_-_}
-use borrow.Author.Needs.{needs}
+use Rattle.base_laws.proofs.Kit.{_-_, needs}
 use Rattle.text_reader.specs.Lines.{lines}
 use Rattle.network_tables.specs.Fields.{tramFields, tramTableSize}
 use Rattle.network_tables.specs.Blocks.{TableTo, tramBlock}

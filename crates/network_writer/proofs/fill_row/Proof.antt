@@ -1,7 +1,6 @@
 -- `network_writer::fill_row` meets its contract.
-use Prim.Native.Nat.{_-_}
+use Rattle.base_laws.proofs.Kit.{_-_, needs}
 use Rattle.network_writer.proofs.Plan.{RowTo, row-none, column-asked, number-asked, row-inside, row-more, row-all}
-use borrow.Author.Needs.{needs}
 use Rattle.network_writer.proofs.fill_row.Statement.{statement}
 use Rattle.network_writer.proofs.fill_row.Tie as tie
 

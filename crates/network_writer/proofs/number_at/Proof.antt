@@ -1,7 +1,6 @@
 -- `network_writer::number_at` meets its contract.
-use native.Mathlib.Omega.{arith}
+use Rattle.base_laws.proofs.Kit.{arith, needs}
 use Rattle.network_writer.proofs.Plan.{number-none, number-some, number-inside}
-use borrow.Author.Needs.{needs}
 use Rattle.network_writer.proofs.number_at.Statement.{statement}
 use Rattle.network_writer.proofs.number_at.Tie as tie
 

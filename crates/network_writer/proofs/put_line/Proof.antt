@@ -1,7 +1,6 @@
 -- `network_writer::put_line` meets its contract. Assumes nothing.
-use native.Mathlib.Omega.{arith}
+use Rattle.base_laws.proofs.Kit.{arith, needs}
 use Rattle.network_writer.proofs.Put.{row-size, row-few, line-counted, line-short, line-room, line-wrote}
-use borrow.Author.Needs.{needs}
 use Rattle.network_writer.proofs.put_line.Statement.{statement}
 use Rattle.network_writer.proofs.put_line.Tie as tie
 

@@ -1,8 +1,6 @@
 -- `network_writer::put_plan` meets its contract.
-use Prim.Native.Nat.{_-_}
-use native.Mathlib.Omega.{arith}
+use Rattle.base_laws.proofs.Kit.{_-_, arith, needs}
 use Rattle.network_writer.proofs.Plan.{PlanTo, plan-none, row-asked, plan-fits, plan-part, plan-early, plan-next, plan-all}
-use borrow.Author.Needs.{needs}
 use Rattle.network_writer.proofs.put_plan.Statement.{statement}
 use Rattle.network_writer.proofs.put_plan.Tie as tie
 

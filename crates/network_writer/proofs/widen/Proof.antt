@@ -1,8 +1,6 @@
 -- `network_writer::widen` meets its contract. Assumes nothing.
-use lib.ListN.{length}
-use Prim.Native.Nat.{_-_}
+use Rattle.base_laws.proofs.Kit.{length, _-_, needs}
 use Rattle.network_writer.proofs.Filling.{WideTo, wide-none, wide-next, wide-all}
-use borrow.Author.Needs.{needs}
 use Rattle.network_writer.proofs.widen.Statement.{statement}
 use Rattle.network_writer.proofs.widen.Tie as tie
 

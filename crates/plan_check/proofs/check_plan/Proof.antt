@@ -1,8 +1,7 @@
 -- `plan_check::check_plan` meets its contract. Assumes nothing.
 use Rattle.plan_check.proofs.Plans.{plan-refused, plan-promised}
-use mathlib.Core.Path.{refl}
+use Rattle.base_laws.proofs.Kit.{refl, needs}
 use Rattle.network.proofs.Rooms.{zero-rooms}
-use borrow.Author.Needs.{needs}
 use Rattle.plan_check.proofs.check_plan.Statement.{statement}
 use Rattle.plan_check.proofs.check_plan.Tie as tie
 

@@ -1,9 +1,6 @@
 -- `plan_check::judge_with_signals` meets its contract: one law for each way out. Assumes nothing.
-use Prim.Native.Nat.{_+_, _*_, _≤_}
-use native.Mathlib.Nat.{mul-le-mul-right}
-use native.Mathlib.Omega.{arith}
+use Rattle.base_laws.proofs.Kit.{_+_, _*_, _≤_, mul-le-mul-right, arith, needs}
 use Rattle.plan_check.proofs.Plans.{plan-short, run-asked, plan-run}
-use borrow.Author.Needs.{needs}
 use Rattle.plan_check.proofs.judge_with_signals.Statement.{statement}
 use Rattle.plan_check.proofs.judge_with_signals.Tie as tie
 

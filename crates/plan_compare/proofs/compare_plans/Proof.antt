@@ -1,6 +1,5 @@
 -- `plan_compare::compare_plans` meets its contract. Assumes nothing.
-use mathlib.Core.Path.{refl}
-use borrow.Author.Needs.{needs}
+use Rattle.base_laws.proofs.Kit.{refl, needs}
 use Rattle.network.proofs.Rooms.{zero-rooms}
 use Rattle.plan_compare.proofs.Call.{network-refused, got-promised}
 use Rattle.plan_compare.proofs.compare_plans.Statement.{statement}

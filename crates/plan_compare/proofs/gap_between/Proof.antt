@@ -1,8 +1,7 @@
 -- `plan_compare::gap_between` meets its contract. Assumes nothing.
-use mathlib.Core.Path.{_∙_}
+use Rattle.base_laws.proofs.Kit.{_∙_, needs}
 use mir.Facts.{toZ-ofZ}
 use Rattle.plan_compare.proofs.Gap.{gap-formed, gap-fits}
-use borrow.Author.Needs.{needs}
 use Rattle.plan_compare.proofs.gap_between.Statement.{statement}
 use Rattle.plan_compare.proofs.gap_between.Tie as tie
 

@@ -1,7 +1,6 @@
 -- `plan_compare::next_boundary` meets its contract. Assumes nothing.
 use Rattle.plan_compare.proofs.Curves.{next-empty, next-malformed, next-read}
-use native.Mathlib.Omega.{arith}
-use borrow.Author.Needs.{needs}
+use Rattle.base_laws.proofs.Kit.{arith, needs}
 use Rattle.plan_compare.proofs.next_boundary.Statement.{statement}
 use Rattle.plan_compare.proofs.next_boundary.Tie as tie
 

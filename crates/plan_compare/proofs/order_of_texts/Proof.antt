@@ -1,8 +1,5 @@
 -- `plan_compare::order_of_texts` meets its contract. Assumes nothing.
-use Prim.Native.Nat.{_-_}
-use mathlib.Core.Path.{_∙_}
-use native.Mathlib.Omega.{arith}
-use borrow.Author.Needs.{needs}
+use Rattle.base_laws.proofs.Kit.{_-_, _∙_, arith, needs}
 use Rattle.plan_compare.specs.Curves.{ReadTo}
 use Rattle.plan_compare.proofs.Curves.{next-asked, read-none, read-next, read-all}
 use Rattle.plan_compare.proofs.order_of_texts.Statement.{statement}

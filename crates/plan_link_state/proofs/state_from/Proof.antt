@@ -1,6 +1,5 @@
 -- `plan_link_state::state_from` meets its contract: one law for each way out. Assumes nothing.
-use native.Mathlib.Omega.{arith}
-use borrow.Author.Needs.{needs}
+use Rattle.base_laws.proofs.Kit.{arith, needs}
 use Rattle.plan_link_state.proofs.Ledger.{falls-inside, left-above, arrived-above, arrived-entered, left-arrived, state-told}
 use Rattle.plan_link_state.proofs.state_from.Statement.{statement}
 use Rattle.plan_link_state.proofs.state_from.Tie as tie

@@ -1,8 +1,7 @@
 -- `plan_steps::finish` meets its contract. Assumes nothing.
 use Rattle.plan_steps.proofs.Runs.{finish-end, finish-more}
-use mathlib.Core.Path.{ap, _∙_}
+use Rattle.base_laws.proofs.Kit.{ap, _∙_, needs}
 use Rattle.model.specs.declared.PlanAnswer.the-variants as plan-answer
-use borrow.Author.Needs.{needs}
 use Rattle.plan_steps.proofs.finish.Statement.{statement}
 use Rattle.plan_steps.proofs.finish.Tie as tie
 

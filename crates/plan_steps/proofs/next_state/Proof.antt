@@ -1,7 +1,6 @@
 -- `plan_steps::next_state` meets its contract: what it calls gives the parts of the state. Assumes nothing.
-use mathlib.Core.Path.{refl}
+use Rattle.base_laws.proofs.Kit.{refl, needs}
 use Rattle.plan_steps.proofs.Adding.{outside-sum}
-use borrow.Author.Needs.{needs}
 use Rattle.plan_steps.proofs.next_state.Statement.{statement}
 use Rattle.plan_steps.proofs.next_state.Tie as tie
 

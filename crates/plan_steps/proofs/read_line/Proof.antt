@@ -1,8 +1,6 @@
 -- `plan_steps::read_line` meets its contract. Assumes nothing.
-use mathlib.Core.Path.{refl}
-use native.Mathlib.Omega.{arith}
+use Rattle.base_laws.proofs.Kit.{refl, arith, needs}
 use Rattle.network_tables.specs.Rows.{RowRead}
-use borrow.Author.Needs.{needs}
 use Rattle.plan_steps.proofs.read_line.Statement.{statement}
 use Rattle.plan_steps.proofs.read_line.Tie as tie
 

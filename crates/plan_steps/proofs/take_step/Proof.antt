@@ -1,8 +1,6 @@
 -- `plan_steps::take_step` meets its contract: one law for each call and each way out. Assumes nothing.
-use mathlib.Core.Path.{sym}
-use native.Mathlib.Omega.{arith}
+use Rattle.base_laws.proofs.Kit.{sym, arith, needs}
 use Rattle.plan_steps.proofs.Steps.{tram-asked, step-few, place-small, line-asked, load-asked, add-asked, step-malformed, arrivals-asked, judge-asked, step-refused, write-asked, waits-asked, advance-asked, next-asked, step-kept}
-use borrow.Author.Needs.{needs}
 use Rattle.plan_steps.proofs.take_step.Statement.{statement}
 use Rattle.plan_steps.proofs.take_step.Tie as tie
 

@@ -1,10 +1,7 @@
 -- `plan_steps::take_steps` meets its contract. The invariant: the state at a boundary is reached, and the ledger has the rows up to it. Assumes nothing.
-use Prim.Native.Nat.{_-_}
-use mathlib.Core.Path.{refl, sym}
-use native.Mathlib.Omega.{arith}
+use Rattle.base_laws.proofs.Kit.{_-_, refl, sym, arith, needs}
 use Rattle.plan_steps.specs.Steps.{Running}
 use Rattle.plan_steps.proofs.Runs.{trams-asked, past-asked, first-waiting-asked, held-asked, sum-asked, running-first, steps-since, running-asked, steps-stopped, running-less, running-next, steps-taken}
-use borrow.Author.Needs.{needs}
 use Rattle.plan_steps.proofs.take_steps.Statement.{statement}
 use Rattle.plan_steps.proofs.take_steps.Tie as tie
 

@@ -1,8 +1,4 @@
-use Prim.Native.Nat.{_+_, _≤_}
-use mathlib.Core.Path.{refl}
-use native.Mathlib.Nat.{mul-le-mul-right}
-use native.Mathlib.Omega.{arith}
-use borrow.Author.Needs.{needs}
+use Rattle.base_laws.proofs.Kit.{_+_, _≤_, refl, mul-le-mul-right, arith, needs}
 use Rattle.plan_steps.proofs.travel_time.Statement.{statement}
 use Rattle.plan_steps.proofs.travel_time.Tie as tie
 

@@ -1,7 +1,6 @@
 -- `plancheck_c::plan_result` meets its contract. Assumes nothing.
-use mathlib.Core.Path.{sym, ap}
+use Rattle.base_laws.proofs.Kit.{sym, ap, needs}
 use Rattle.plancheck_c.specs.Results.{planResult}
-use borrow.Author.Needs.{needs}
 use Rattle.plancheck_c.proofs.plan_result.Statement.{statement}
 use Rattle.plancheck_c.proofs.plan_result.Tie as tie
 

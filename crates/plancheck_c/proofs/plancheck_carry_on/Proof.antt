@@ -1,7 +1,5 @@
 -- `plancheck_c::plancheck_carry_on` meets its contract.
-use Prim.Native.Nat.{ℕ}
-use mathlib.Core.List.{List}
-use mathlib.Core.Path.{_≡_, ap, _∙_}
+use Rattle.base_laws.proofs.Kit.{ℕ, List, _≡_, ap, _∙_, needs}
 use Rattle.base_search.specs.declared.Refusal.{Refusal}
 use Rattle.base_search.specs.Numbers.{CanArise}
 use Rattle.text_reader.specs.Lines.{Line}
@@ -14,7 +12,6 @@ use Rattle.plancheck_c.specs.declared.TextResult.{TextResult}
 use Rattle.plancheck_c.specs.Results.{textResult, textAnswerOf}
 use Rattle.plancheck_c.proofs.Numbers.{carry-tells}
 use Rattle.plancheck_c.proofs.Read.{of-text}
-use borrow.Author.Needs.{needs}
 use Rattle.plancheck_c.proofs.plancheck_carry_on.Statement.{statement}
 use Rattle.plancheck_c.proofs.plancheck_carry_on.Tie as tie
 

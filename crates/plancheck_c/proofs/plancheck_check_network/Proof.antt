@@ -1,8 +1,7 @@
 -- `plancheck_c::plancheck_check_network` meets its contract. Assumes nothing.
-use mathlib.Core.Path.{ap, _∙_}
+use Rattle.base_laws.proofs.Kit.{ap, _∙_, needs}
 use Rattle.plancheck_c.specs.Results.{verdictResult}
 use Rattle.plancheck_c.proofs.Numbers.{network-tells}
-use borrow.Author.Needs.{needs}
 use Rattle.plancheck_c.proofs.plancheck_check_network.Statement.{statement}
 use Rattle.plancheck_c.proofs.plancheck_check_network.Tie as tie
 

@@ -1,7 +1,5 @@
 -- `plancheck_c::plancheck_check_plan` meets its contract. Assumes nothing.
-use Prim.Native.Nat.{ℕ}
-use mathlib.Core.List.{List}
-use mathlib.Core.Path.{_≡_, ap, _∙_}
+use Rattle.base_laws.proofs.Kit.{ℕ, List, _≡_, ap, _∙_, needs}
 use Rattle.model.specs.declared.PlanAnswer.{PlanAnswer}
 use Rattle.model.specs.Guarantees.{planNumbers, Promises}
 use Rattle.model.specs.Hold.{EmptyHolds}
@@ -13,7 +11,6 @@ use Rattle.base_search.specs.declared.Refusal.{Refusal}
 use Rattle.base_search.specs.Numbers.{CanArise}
 use Rattle.model.specs.declared.PlanAnswer.the-variants as plan-answer
 use Rattle.text_reader.specs.Lines.{Line}
-use borrow.Author.Needs.{needs}
 use Rattle.plancheck_c.proofs.plancheck_check_plan.Statement.{statement}
 use Rattle.plancheck_c.proofs.plancheck_check_plan.Tie as tie
 

@@ -1,7 +1,5 @@
 -- `plancheck_c::plancheck_check_sheet` meets its contract. Assumes nothing.
-use Prim.Native.Nat.{ℕ}
-use mathlib.Core.List.{List}
-use mathlib.Core.Path.{_≡_, ap, _∙_}
+use Rattle.base_laws.proofs.Kit.{ℕ, List, _≡_, ap, _∙_, needs}
 use Rattle.model.specs.declared.PlanAnswer.{PlanAnswer}
 use Rattle.model_sheet.specs.Promises.{SheetPromises}
 use Rattle.plancheck_c.specs.Results.{planResult, planAnswerOf}
@@ -9,7 +7,6 @@ use Rattle.plancheck_c.proofs.Numbers.{sheet-tells}
 use Rattle.plancheck_c.proofs.Read.{of-plan}
 use Rattle.plancheck_c.specs.declared.PlanResult.{PlanResult}
 use Rattle.text_reader.specs.Lines.{Line}
-use borrow.Author.Needs.{needs}
 use Rattle.plancheck_c.proofs.plancheck_check_sheet.Statement.{statement}
 use Rattle.plancheck_c.proofs.plancheck_check_sheet.Tie as tie
 

@@ -1,7 +1,5 @@
 -- `plancheck_c::plancheck_compare_plans` meets its contract. Assumes nothing.
-use mathlib.Core.List.{List}
-use Prim.Native.Nat.{ℕ}
-use mathlib.Core.Path.{_≡_, sym, ap, _∙_}
+use Rattle.base_laws.proofs.Kit.{List, ℕ, _≡_, sym, ap, _∙_, needs}
 use lib.IntN.{ℤ}
 use mir.Syntax.{w64}
 use mir.Val.{SFits, toZ, ofZ}
@@ -16,7 +14,6 @@ use Rattle.plancheck_c.proofs.Numbers.{compared-tells}
 use Rattle.plancheck_c.proofs.Read.{of-comparison}
 use Rattle.plancheck_c.specs.declared.ComparisonResult.{ComparisonResult}
 use Rattle.text_reader.specs.Lines.{Line}
-use borrow.Author.Needs.{needs}
 use Rattle.plancheck_c.proofs.plancheck_compare_plans.Statement.{statement}
 use Rattle.plancheck_c.proofs.plancheck_compare_plans.Tie as tie
 

@@ -1,8 +1,7 @@
 -- `plancheck_c::plancheck_link_state` meets its contract. Assumes nothing.
-use mathlib.Core.Path.{sym, ap, _∙_}
+use Rattle.base_laws.proofs.Kit.{sym, ap, _∙_, needs}
 use Rattle.plancheck_c.specs.Results.{linkResult}
 use Rattle.plancheck_c.proofs.Numbers.{link-tells}
-use borrow.Author.Needs.{needs}
 use Rattle.plancheck_c.proofs.plancheck_link_state.Statement.{statement}
 use Rattle.plancheck_c.proofs.plancheck_link_state.Tie as tie
 

@@ -1,8 +1,7 @@
 -- `plancheck_c::plancheck_network_counts` meets its contract. Assumes nothing.
-use mathlib.Core.Path.{sym, ap, _∙_}
+use Rattle.base_laws.proofs.Kit.{sym, ap, _∙_, needs}
 use Rattle.plancheck_c.specs.Results.{countsResult}
 use Rattle.plancheck_c.proofs.Numbers.{counts-tells}
-use borrow.Author.Needs.{needs}
 use Rattle.plancheck_c.proofs.plancheck_network_counts.Statement.{statement}
 use Rattle.plancheck_c.proofs.plancheck_network_counts.Tie as tie
 

@@ -1,7 +1,5 @@
 -- `plancheck_c::plancheck_plan_from_listing` meets its contract.
-use Prim.Native.Nat.{ℕ}
-use mathlib.Core.List.{List}
-use mathlib.Core.Path.{_≡_, ap, _∙_}
+use Rattle.base_laws.proofs.Kit.{ℕ, List, _≡_, ap, _∙_, needs}
 use Rattle.text_reader.specs.Lines.{Line}
 use Rattle.listing_lines.specs.declared.Entry.{Entry}
 use Rattle.listing_call.specs.ReadsBack.{PlanGot}
@@ -10,7 +8,6 @@ use Rattle.plancheck_c.specs.declared.TextResult.{TextResult}
 use Rattle.plancheck_c.specs.Results.{textResult, textAnswerOf}
 use Rattle.plancheck_c.proofs.Numbers.{listing-tells}
 use Rattle.plancheck_c.proofs.Read.{of-text}
-use borrow.Author.Needs.{needs}
 use Rattle.plancheck_c.proofs.plancheck_plan_from_listing.Statement.{statement}
 use Rattle.plancheck_c.proofs.plancheck_plan_from_listing.Tie as tie
 

@@ -1,7 +1,5 @@
 -- `plancheck_c::plancheck_plan_from_sheet` meets its contract.
-use Prim.Native.Nat.{ℕ}
-use mathlib.Core.List.{List}
-use mathlib.Core.Path.{_≡_, ap, _∙_}
+use Rattle.base_laws.proofs.Kit.{ℕ, List, _≡_, ap, _∙_, needs}
 use Rattle.text_reader.specs.Lines.{Line}
 use Rattle.model_text.specs.declared.TextAnswer.{TextAnswer}
 use Rattle.model_sheet.specs.Promises.{WritePromises}
@@ -9,7 +7,6 @@ use Rattle.plancheck_c.specs.declared.TextResult.{TextResult}
 use Rattle.plancheck_c.specs.Results.{textResult, textAnswerOf}
 use Rattle.plancheck_c.proofs.Numbers.{sheet-plan-tells}
 use Rattle.plancheck_c.proofs.Read.{of-text}
-use borrow.Author.Needs.{needs}
 use Rattle.plancheck_c.proofs.plancheck_plan_from_sheet.Statement.{statement}
 use Rattle.plancheck_c.proofs.plancheck_plan_from_sheet.Tie as tie
 

@@ -1,14 +1,11 @@
 -- `plancheck_c::plancheck_run_cells` meets its contract. Assumes nothing.
-use Prim.Native.Nat.{ℕ}
-use mathlib.Core.List.{List}
-use mathlib.Core.Path.{sym, ap₂, _∙_}
+use Rattle.base_laws.proofs.Kit.{ℕ, List, sym, ap₂, _∙_, needs}
 use Rattle.cells_call.specs.declared.CellsAnswer.{CellsAnswer}
 use Rattle.cells_call.specs.Call.{RunKeeps}
 use Rattle.plancheck_c.specs.Results.{cellsResult, cellsAnswerOf}
 use Rattle.plancheck_c.proofs.Numbers.{cells-tells}
 use Rattle.plancheck_c.proofs.Read.{of-cells}
 use Rattle.text_reader.specs.Lines.{Line}
-use borrow.Author.Needs.{needs}
 use Rattle.plancheck_c.proofs.plancheck_run_cells.Statement.{statement}
 use Rattle.plancheck_c.proofs.plancheck_run_cells.Tie as tie
 

@@ -1,7 +1,5 @@
 -- `plancheck_c::plancheck_split` meets its contract. Assumes nothing.
-use Prim.Native.Nat.{ℕ}
-use mathlib.Core.List.{List}
-use mathlib.Core.Path.{_≡_, sym, ap, _∙_}
+use Rattle.base_laws.proofs.Kit.{ℕ, List, _≡_, sym, ap, _∙_, needs}
 use Rattle.model_split.specs.declared.SplitAnswer.{SplitAnswer}
 use Rattle.model_split.specs.Splits.{Texts, Buffers, SplitInTwo}
 use Rattle.split.specs.Splitting.{SplitGot}
@@ -13,7 +11,6 @@ use Rattle.base_search.specs.declared.Refusal.{Refusal}
 use Rattle.base_search.specs.Numbers.{CanArise}
 use Rattle.model_split.specs.declared.SplitAnswer.the-variants as split-answer
 use Rattle.model_split.specs.Call.{splitNumbers}
-use borrow.Author.Needs.{needs}
 use Rattle.plancheck_c.proofs.plancheck_split.Statement.{statement}
 use Rattle.plancheck_c.proofs.plancheck_split.Tie as tie
 

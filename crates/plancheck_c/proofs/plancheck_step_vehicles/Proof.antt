@@ -1,6 +1,5 @@
 -- `plancheck_c::plancheck_step_vehicles` meets its contract. Assumes nothing.
-use mathlib.Core.List.{List}
-use mathlib.Core.Path.{_≡_, ap, _∙_}
+use Rattle.base_laws.proofs.Kit.{List, _≡_, ap, _∙_, needs}
 use Rattle.base_search.specs.declared.Verdict.{Verdict}
 use Rattle.traces.specs.Guarantees.{StepKeeps}
 use Rattle.plancheck_c.specs.Results.{verdictResult, verdictOf}
@@ -8,7 +7,6 @@ use Rattle.plancheck_c.proofs.Numbers.{vehicles-tells}
 use Rattle.plancheck_c.proofs.Read.{of-verdict}
 use Rattle.plancheck_c.specs.declared.NetworkResult.{NetworkResult}
 use lib.Ieee.{Float}
-use borrow.Author.Needs.{needs}
 use Rattle.plancheck_c.proofs.plancheck_step_vehicles.Statement.{statement}
 use Rattle.plancheck_c.proofs.plancheck_step_vehicles.Tie as tie
 

@@ -1,8 +1,6 @@
 -- `plancheck_files::run` is safe and ends: what was written fits the buffer. Assumes nothing.
-use mathlib.Core.Path.{sym}
-use lib.Seq.{length-take-le}
+use Rattle.base_laws.proofs.Kit.{sym, length-take-le, needs}
 use Rattle.plancheck_files.proofs.Laws.{end-within}
-use borrow.Author.Needs.{needs}
 use Rattle.plancheck_files.proofs.run.Statement.{statement}
 use Rattle.plancheck_files.proofs.run.Tie as tie
 

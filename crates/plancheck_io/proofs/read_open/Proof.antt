@@ -1,10 +1,6 @@
-use native.Mathlib.Omega.{arith}
+use Rattle.base_laws.proofs.Kit.{arith, _-_, _≤_, _≡_, length, needs}
 use Rattle.plancheck_io.proofs.Laws.{came-fits}
-use Prim.Native.Nat.{_-_, _≤_}
-use mathlib.Core.Path.{_≡_}
-use lib.ListN.{length}
 use Rattle.plancheck_io.specs.Read.{Within}
-use borrow.Author.Needs.{needs}
 use Rattle.plancheck_io.proofs.read_open.Statement.{statement}
 use Rattle.plancheck_io.proofs.read_open.Tie as tie
 

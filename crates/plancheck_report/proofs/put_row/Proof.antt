@@ -1,8 +1,6 @@
 -- `plancheck_report::put_row` meets its contract. The invariant: the first k numbers of the row are there. Assumes nothing.
-use Prim.Native.Nat.{_-_}
-use lib.ListN.{length}
+use Rattle.base_laws.proofs.Kit.{_-_, length, needs}
 use Rattle.plancheck_report.proofs.Boundaries.{Put, put-first, put-again, put-all}
-use borrow.Author.Needs.{needs}
 use Rattle.plancheck_report.proofs.put_row.Statement.{statement}
 use Rattle.plancheck_report.proofs.put_row.Tie as tie
 

@@ -1,10 +1,7 @@
 -- `plancheck_report::write_boundary` meets its contract: what is lent to `write_record` is the number, the time and the row. Assumes nothing.
-use mathlib.Core.Path.{ap}
-use lib.ListN.{length}
-use native.Mathlib.Omega.{arith}
+use Rattle.base_laws.proofs.Kit.{ap, length, arith, needs}
 use Rattle.plancheck_report.proofs.Boundaries.{fields-read}
 use Rattle.text_writer.proofs.Laws.{record-fits}
-use borrow.Author.Needs.{needs}
 use Rattle.plancheck_report.proofs.write_boundary.Statement.{statement}
 use Rattle.plancheck_report.proofs.write_boundary.Tie as tie
 

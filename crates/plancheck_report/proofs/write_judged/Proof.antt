@@ -1,7 +1,5 @@
 -- `plancheck_report::write_judged` meets its contract: the answer and the ledger of the judgement tell the report. Assumes nothing.
-use Prim.Native.Nat.{ℕ}
-use lib.ListN.{length-replicate}
-use borrow.Author.Needs.{needs}
+use Rattle.base_laws.proofs.Kit.{ℕ, length-replicate, needs}
 use Rattle.plancheck_report.specs.Boundaries.{ledgerSize}
 use Rattle.plancheck_report.proofs.Report.{times-asked, answer-asked, report-wrote}
 use Rattle.plancheck_report.proofs.write_judged.Statement.{statement}

@@ -1,6 +1,5 @@
 -- `plancheck_report::write_report` meets its contract. Assumes nothing.
-use mathlib.Core.Path.{refl}
-use borrow.Author.Needs.{needs}
+use Rattle.base_laws.proofs.Kit.{refl, needs}
 use Rattle.network.proofs.Rooms.{zero-rooms}
 use Rattle.plancheck_report.proofs.Report.{refused-wrote, padding-too}
 use Rattle.plancheck_report.proofs.write_report.Statement.{statement}

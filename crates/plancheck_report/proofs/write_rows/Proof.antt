@@ -1,8 +1,6 @@
 -- `plancheck_report::write_rows` meets its contract. The invariant: the records of the first n boundaries are written. Assumes nothing.
-use Prim.Native.Nat.{suc, _-_}
-use native.Mathlib.Omega.{arith}
+use Rattle.base_laws.proofs.Kit.{suc, _-_, arith, needs}
 use Rattle.plancheck_report.proofs.Boundaries.{Written, start-small, row-within, rows-first, rows-again, rows-all}
-use borrow.Author.Needs.{needs}
 use Rattle.plancheck_report.proofs.write_rows.Statement.{statement}
 use Rattle.plancheck_report.proofs.write_rows.Tie as tie
 

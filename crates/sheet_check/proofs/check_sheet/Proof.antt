@@ -1,8 +1,7 @@
 -- `sheet_check::check_sheet` meets its contract. Assumes nothing.
-use mathlib.Core.Path.{refl}
+use Rattle.base_laws.proofs.Kit.{refl, needs}
 use Rattle.network.proofs.Rooms.{zero-rooms}
 use Rattle.sheet_check.proofs.Call.{network-refused, padding-too}
-use borrow.Author.Needs.{needs}
 use Rattle.sheet_check.proofs.check_sheet.Statement.{statement}
 use Rattle.sheet_check.proofs.check_sheet.Tie as tie
 

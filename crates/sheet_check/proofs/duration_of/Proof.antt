@@ -1,6 +1,5 @@
 -- `sheet_check::duration_of` meets its contract. Assumes nothing.
-use mathlib.Core.Path.{refl}
-use borrow.Author.Needs.{needs}
+use Rattle.base_laws.proofs.Kit.{refl, needs}
 use Rattle.sheet_check.proofs.duration_of.Statement.{statement}
 use Rattle.sheet_check.proofs.duration_of.Tie as tie
 

@@ -1,9 +1,7 @@
 -- `sheet_check::first_run` meets its contract. The loop's invariant: the least line of the first i signals, and its signal.  Assumes nothing.
-use Prim.Native.Nat.{_-_}
+use Rattle.base_laws.proofs.Kit.{_-_, arith, needs}
 use Rattle.sheet_check.specs.Watch.{watchIn}
 use Rattle.sheet_check.proofs.Watching.{Found, found-none, found-more, found-nothing, found-told}
-use native.Mathlib.Omega.{arith}
-use borrow.Author.Needs.{needs}
 use Rattle.sheet_check.proofs.first_run.Statement.{statement}
 use Rattle.sheet_check.proofs.first_run.Tie as tie
 

@@ -1,8 +1,6 @@
 -- `sheet_check::pass_step` meets its contract. Assumes nothing.
-use mathlib.Core.Path.{refl}
+use Rattle.base_laws.proofs.Kit.{refl, arith, needs}
 use Rattle.sheet_check.proofs.Step.{step-few, time-few, signals-at, line-asked, load-asked, tram-asked, signals-few, line-size, seconds-few, step-never, watch-asked, advance-asked, step-gone}
-use native.Mathlib.Omega.{arith}
-use borrow.Author.Needs.{needs}
 use Rattle.sheet_check.proofs.pass_step.Statement.{statement}
 use Rattle.sheet_check.proofs.pass_step.Tie as tie
 

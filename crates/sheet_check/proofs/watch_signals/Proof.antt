@@ -1,10 +1,7 @@
 -- `sheet_check::watch_signals` meets its contract. The loop's invariant: the watches of the first i signals are a step on. Assumes nothing.
-use Prim.Native.Nat.{_-_, _≤_}
-use mathlib.Core.Path.{_≡_}
+use Rattle.base_laws.proofs.Kit.{_-_, _≤_, _≡_, arith, needs}
 use Rattle.sheet_check.specs.Watch.{Watched}
 use Rattle.sheet_check.proofs.Watching.{watched-none, watched-more, duration-asked}
-use native.Mathlib.Omega.{arith}
-use borrow.Author.Needs.{needs}
 use Rattle.sheet_check.proofs.watch_signals.Statement.{statement}
 use Rattle.sheet_check.proofs.watch_signals.Tie as tie
 

@@ -1,8 +1,6 @@
 -- `sheet_lines::read_sheet` meets its contract. The loop's invariant: the first r lines are read. Assumes nothing.
-use Prim.Native.Nat.{_-_}
+use Rattle.base_laws.proofs.Kit.{_-_, arith, needs}
 use Rattle.sheet_lines.proofs.Lines.{ReadTo, read-none, row-room, read-malformed, numbers-asked, read-invalid, read-next, read-all, read-surplus}
-use native.Mathlib.Omega.{arith}
-use borrow.Author.Needs.{needs}
 use Rattle.sheet_lines.proofs.read_sheet.Statement.{statement}
 use Rattle.sheet_lines.proofs.read_sheet.Tie as tie
 

@@ -1,11 +1,8 @@
 -- `sheet_lines::valid_numbers` meets its contract. The loop's invariant: the durations of the first k phases are valid and summed. Assumes nothing.
-use Prim.Native.Nat.{_-_}
-use mathlib.Core.Path.{_≡_, refl}
-use native.Mathlib.Omega.{arith}
+use Rattle.base_laws.proofs.Kit.{_-_, _≡_, refl, arith, needs}
 use Rattle.network_tables.specs.Fields.{tableSignal}
 use Rattle.sheet_lines.specs.Reading.{numberIn}
 use Rattle.sheet_lines.proofs.Lines.{Summed, summed-none, summed-fits, summed-more, summed-broken, summed-kept, summed-offset}
-use borrow.Author.Needs.{needs}
 use Rattle.sheet_lines.proofs.valid_numbers.Statement.{statement}
 use Rattle.sheet_lines.proofs.valid_numbers.Tie as tie
 use Rattle.base_laws.proofs.Tests.{is-within}

@@ -1,9 +1,7 @@
 -- `sheet_writer::fill_masks` meets its contract. The loop's invariant: 35 of the first r signals passes, and their masks are held. Assumes nothing.
-use Prim.Native.Nat.{_-_}
+use Rattle.base_laws.proofs.Kit.{_-_, arith, needs}
 use Rattle.text_reader.specs.Lines.{lines}
 use Rattle.sheet_writer.proofs.Columns.{MasksTo, masks-none, column-wanted, masks-tram, masks-off, masks-next, masks-all}
-use native.Mathlib.Omega.{arith}
-use borrow.Author.Needs.{needs}
 use Rattle.sheet_writer.proofs.fill_masks.Statement.{statement}
 use Rattle.sheet_writer.proofs.fill_masks.Tie as tie
 

@@ -1,8 +1,7 @@
 -- `sheet_writer::first_run` meets its contract. The loop's invariant: the first k durations are off the offset. Assumes nothing.
-use Prim.Native.Nat.{_-_}
+use Rattle.base_laws.proofs.Kit.{_-_, needs}
 use Rattle.sheet_lines.specs.Reading.{numberIn}
 use Rattle.sheet_writer.proofs.Cycle.{Run-off, off-none, off-more, off-run}
-use borrow.Author.Needs.{needs}
 use Rattle.sheet_writer.proofs.first_run.Statement.{statement}
 use Rattle.sheet_writer.proofs.first_run.Tie as tie
 

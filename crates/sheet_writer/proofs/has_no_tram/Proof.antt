@@ -1,10 +1,7 @@
 -- `sheet_writer::has_no_tram` meets its contract. The loop's invariant: none of the first k lines is for the signal. Assumes nothing.
-use Prim.Native.Nat.{_-_}
-use mathlib.Core.Path.{_≡_}
-use lib.ListN.{length}
+use Rattle.base_laws.proofs.Kit.{_-_, _≡_, length, needs}
 use Rattle.network_tables.specs.Fields.{tramFields}
 use Rattle.sheet_writer.proofs.Columns.{TramsTo, trams-none, trams-never, trams-hit, trams-next, trams-all}
-use borrow.Author.Needs.{needs}
 use Rattle.sheet_writer.proofs.has_no_tram.Statement.{statement}
 use Rattle.sheet_writer.proofs.has_no_tram.Tie as tie
 

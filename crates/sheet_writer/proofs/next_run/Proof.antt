@@ -1,7 +1,6 @@
 -- `sheet_writer::next_run` meets its contract. Assumes nothing.
 use Rattle.sheet_writer.proofs.Cycle.{next-on, next-over, after-few}
-use native.Mathlib.Omega.{arith}
-use borrow.Author.Needs.{needs}
+use Rattle.base_laws.proofs.Kit.{arith, needs}
 use Rattle.sheet_writer.proofs.next_run.Statement.{statement}
 use Rattle.sheet_writer.proofs.next_run.Tie as tie
 

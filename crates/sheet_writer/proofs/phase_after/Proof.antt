@@ -1,6 +1,5 @@
 -- `sheet_writer::phase_after` meets its contract. Assumes nothing.
-use borrow.Author.Tests.{eq-eqb, ne-eqb}
-use borrow.Author.Needs.{needs}
+use Rattle.base_laws.proofs.Kit.{eq-eqb, ne-eqb, needs}
 use Rattle.sheet_writer.proofs.phase_after.Statement.{statement}
 use Rattle.sheet_writer.proofs.phase_after.Tie as tie
 

@@ -1,6 +1,5 @@
 -- `sheet_writer::seconds_in` meets its contract. Assumes nothing.
-use native.Mathlib.Omega.{arith}
-use borrow.Author.Needs.{needs}
+use Rattle.base_laws.proofs.Kit.{arith, needs}
 use Rattle.sheet_writer.proofs.seconds_in.Statement.{statement}
 use Rattle.sheet_writer.proofs.seconds_in.Tie as tie
 

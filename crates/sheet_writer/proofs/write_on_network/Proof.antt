@@ -1,7 +1,6 @@
 -- `sheet_writer::write_on_network` meets its contract. Assumes nothing.
-use mathlib.Core.Path.{refl}
+use Rattle.base_laws.proofs.Kit.{refl, needs}
 use Rattle.sheet_writer.proofs.Call.{load-asked, cycle-asked, cycles-asked, sheet-stopped, sheet-written}
-use borrow.Author.Needs.{needs}
 use Rattle.sheet_writer.proofs.write_on_network.Statement.{statement}
 use Rattle.sheet_writer.proofs.write_on_network.Tie as tie
 

@@ -1,7 +1,6 @@
 -- `split::split_loaded` meets its contract. Assumes nothing.
-use mathlib.Core.Path.{refl}
+use Rattle.base_laws.proofs.Kit.{refl, needs}
 use Rattle.split.proofs.Splitting.{halves-asked, signals-asked, judge-asked, judged-refused, write-asked, all-judged}
-use borrow.Author.Needs.{needs}
 use Rattle.split.proofs.split_loaded.Statement.{statement}
 use Rattle.split.proofs.split_loaded.Tie as tie
 

@@ -1,12 +1,9 @@
 -- `split_checks::nobody_waits` meets its contract. Assumes nothing.
-use Prim.Native.Nat.{_-_, _≤_}
-use mathlib.Core.Path.{_≡_}
-use mathlib.Core.Bool.{true}
+use Rattle.base_laws.proofs.Kit.{_-_, _≤_, _≡_, true, needs}
 use Rattle.base_laws.specs.Test.{every}
 use Rattle.split_checks.specs.Tables.{noneWaitIn}
 use Rattle.split_checks.proofs.Tests.{none-tested, all-tested}
 use Rattle.split_checks.proofs.Tables.{waits-fail, waits-next}
-use borrow.Author.Needs.{needs}
 use Rattle.split_checks.proofs.nobody_waits.Statement.{statement}
 use Rattle.split_checks.proofs.nobody_waits.Tie as tie
 

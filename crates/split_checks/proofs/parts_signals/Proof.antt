@@ -1,13 +1,9 @@
 -- `split_checks::parts_signals` meets its contract. Assumes nothing.
-use Prim.Native.Nat.{_-_, _≤_}
-use mathlib.Core.Path.{_≡_}
-use mathlib.Core.Bool.{true}
+use Rattle.base_laws.proofs.Kit.{_-_, _≤_, _≡_, true, arith, needs}
 use Rattle.base_laws.specs.Test.{every}
-use native.Mathlib.Omega.{arith}
 use Rattle.split_checks.specs.Tables.{ownSignalIn}
 use Rattle.split_checks.proofs.Tests.{none-tested, test-fails, test-holds, all-tested}
 use Rattle.split_checks.proofs.Signals.{own-at, own-asked, parts-told}
-use borrow.Author.Needs.{needs}
 use Rattle.split_checks.proofs.parts_signals.Statement.{statement}
 use Rattle.split_checks.proofs.parts_signals.Tie as tie
 

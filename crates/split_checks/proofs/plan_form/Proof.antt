@@ -1,8 +1,7 @@
 -- `split_checks::plan_form` meets its contract. Assumes nothing.
-use Prim.Native.Nat.{_-_}
+use Rattle.base_laws.proofs.Kit.{_-_, needs}
 use Rattle.split_checks.specs.Plan.{FormsTo}
 use Rattle.split_checks.proofs.Plan.{forms-none, forms-stop, forms-next, forms-more, forms-all}
-use borrow.Author.Needs.{needs}
 use Rattle.split_checks.proofs.plan_form.Statement.{statement}
 use Rattle.split_checks.proofs.plan_form.Tie as tie
 

@@ -1,11 +1,8 @@
 -- `split_checks::right_kinds` meets its contract. Assumes nothing.
-use Prim.Native.Nat.{_-_, _≤_}
-use mathlib.Core.Path.{_≡_}
-use mathlib.Core.Bool.{true}
+use Rattle.base_laws.proofs.Kit.{_-_, _≤_, _≡_, true, needs}
 use Rattle.base_laws.specs.Test.{every}
 use Rattle.split_checks.specs.Tables.{rightKindIn}
 use Rattle.split_checks.proofs.Tests.{none-tested, test-fails, test-holds, all-tested}
-use borrow.Author.Needs.{needs}
 use Rattle.split_checks.proofs.right_kinds.Statement.{statement}
 use Rattle.split_checks.proofs.right_kinds.Tie as tie
 

@@ -1,12 +1,9 @@
 -- `split_checks::step_free` meets its contract. Assumes nothing.
-use Prim.Native.Nat.{_-_, _≤_}
-use mathlib.Core.Path.{_≡_}
-use mathlib.Core.Bool.{true}
+use Rattle.base_laws.proofs.Kit.{_-_, _≤_, _≡_, true, needs}
 use Rattle.base_laws.specs.Test.{every}
 use Rattle.network_tables.specs.Fields.{demandIn}
 use Rattle.split_checks.specs.Tables.{demandFreeIn}
 use Rattle.split_checks.proofs.Tests.{none-tested, test-fails, test-holds, all-tested}
-use borrow.Author.Needs.{needs}
 use Rattle.split_checks.proofs.step_free.Statement.{statement}
 use Rattle.split_checks.proofs.step_free.Tie as tie
 

@@ -1,7 +1,6 @@
 -- `split_checks::steps_free` meets its contract. Assumes nothing.
-use Prim.Native.Nat.{_-_}
+use Rattle.base_laws.proofs.Kit.{_-_, needs}
 use Rattle.split_checks.proofs.Network.{StepsTo, steps-none, free-asked, load-asked, steps-fail, steps-next, steps-all}
-use borrow.Author.Needs.{needs}
 use Rattle.split_checks.proofs.steps_free.Statement.{statement}
 use Rattle.split_checks.proofs.steps_free.Tie as tie
 

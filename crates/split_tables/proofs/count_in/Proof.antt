@@ -1,8 +1,6 @@
 -- `split_tables::count_in` meets its contract. Assumes nothing.
-use Prim.Native.Nat.{_-_}
-use native.Mathlib.Omega.{arith}
+use Rattle.base_laws.proofs.Kit.{_-_, arith, needs}
 use Rattle.split_tables.proofs.Marks.{CountedTo, counted-none, counted-small, counted-next, counted-all}
-use borrow.Author.Needs.{needs}
 use Rattle.split_tables.proofs.count_in.Statement.{statement}
 use Rattle.split_tables.proofs.count_in.Tie as tie
 

@@ -1,7 +1,6 @@
 -- `split_tables::links_in` meets its contract. Assumes nothing.
-use native.Mathlib.Omega.{arith}
+use Rattle.base_laws.proofs.Kit.{arith, needs}
 use Rattle.split_tables.proofs.Marks.{links-made}
-use borrow.Author.Needs.{needs}
 use Rattle.split_tables.proofs.links_in.Statement.{statement}
 use Rattle.split_tables.proofs.links_in.Tie as tie
 

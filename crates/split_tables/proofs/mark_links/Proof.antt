@@ -1,8 +1,6 @@
 -- `split_tables::mark_links` meets its contract. Assumes nothing.
-use Prim.Native.Nat.{_-_}
-use native.Mathlib.Omega.{arith}
+use Rattle.base_laws.proofs.Kit.{_-_, arith, needs}
 use Rattle.split_tables.proofs.Marks.{BitsTo, bits-none, bits-next, bits-all}
-use borrow.Author.Needs.{needs}
 use Rattle.split_tables.proofs.mark_links.Statement.{statement}
 use Rattle.split_tables.proofs.mark_links.Tie as tie
 

@@ -1,9 +1,7 @@
 -- `split_tables::mark_movements` meets its contract. Assumes nothing.
-use Prim.Native.Nat.{_-_}
-use native.Mathlib.Omega.{arith}
+use Rattle.base_laws.proofs.Kit.{_-_, arith, needs}
 use Rattle.split_tables.proofs.Tables.{movement-asked}
 use Rattle.split_tables.proofs.Marks.{MarkedTo, marked-none, marked-next, marked-all}
-use borrow.Author.Needs.{needs}
 use Rattle.split_tables.proofs.mark_movements.Statement.{statement}
 use Rattle.split_tables.proofs.mark_movements.Tie as tie
 

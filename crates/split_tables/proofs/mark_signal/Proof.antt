@@ -1,7 +1,6 @@
 -- `split_tables::mark_signal` meets its contract. Assumes nothing.
-use native.Mathlib.Omega.{arith}
+use Rattle.base_laws.proofs.Kit.{arith, needs}
 use Rattle.split_tables.proofs.Marks.{signal-in, signal-none, signal-marked}
-use borrow.Author.Needs.{needs}
 use Rattle.split_tables.proofs.mark_signal.Statement.{statement}
 use Rattle.split_tables.proofs.mark_signal.Tie as tie
 

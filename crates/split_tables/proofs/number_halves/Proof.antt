@@ -1,8 +1,6 @@
 -- `split_tables::number_halves` meets its contract. Assumes nothing.
-use mathlib.Core.Path.{refl}
-use native.Mathlib.Omega.{arith}
+use Rattle.base_laws.proofs.Kit.{refl, arith, needs}
 use Rattle.split_tables.proofs.Halves.{links-asked, marks-asked, signals-asked, inside-asked, halves-numbered}
-use borrow.Author.Needs.{needs}
 use Rattle.split_tables.proofs.number_halves.Statement.{statement}
 use Rattle.split_tables.proofs.number_halves.Tie as tie
 

@@ -1,9 +1,6 @@
 -- `split_tables::number_marked` meets its contract. Assumes nothing.
-use Prim.Native.Nat.{_-_}
-use mathlib.Core.Logic.{⊎-elim}
-use native.Mathlib.Omega.{arith}
+use Rattle.base_laws.proofs.Kit.{_-_, ⊎-elim, arith, needs}
 use Rattle.split_tables.proofs.Marks.{NumberedTo, numbered-none, last-small, place-within, numbered-more, numbered-other, numbered-all}
-use borrow.Author.Needs.{needs}
 use Rattle.split_tables.proofs.number_marked.Statement.{statement}
 use Rattle.split_tables.proofs.number_marked.Tie as tie
 

@@ -1,7 +1,6 @@
 -- `split_text::add_at` meets its contract. Assumes nothing.
-use native.Mathlib.Omega.{arith}
+use Rattle.base_laws.proofs.Kit.{arith, needs}
 use Rattle.split_text.proofs.Border.{added-not, added-one}
-use borrow.Author.Needs.{needs}
 use Rattle.split_text.proofs.add_at.Statement.{statement}
 use Rattle.split_text.proofs.add_at.Tie as tie
 

@@ -1,8 +1,6 @@
 -- `split_text::add_border` meets its contract. Assumes nothing.
-use Prim.Native.Nat.{_-_}
-use native.Mathlib.Omega.{arith}
+use Rattle.base_laws.proofs.Kit.{_-_, arith, needs}
 use Rattle.split_text.proofs.Border.{BorderTo, border-none, border-movement, border-room, border-next, border-all}
-use borrow.Author.Needs.{needs}
 use Rattle.split_text.proofs.add_border.Statement.{statement}
 use Rattle.split_text.proofs.add_border.Tie as tie
 

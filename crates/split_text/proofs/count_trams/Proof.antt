@@ -1,8 +1,6 @@
 -- `split_text::count_trams` meets its contract. Assumes nothing.
-use native.Mathlib.Omega.{arith}
-use Prim.Native.Nat.{_-_}
+use Rattle.base_laws.proofs.Kit.{arith, _-_, needs}
 use Rattle.split_text.proofs.Lines.{TramsFound, found-none, signal-named, found-next, found-all}
-use borrow.Author.Needs.{needs}
 use Rattle.split_text.proofs.count_trams.Statement.{statement}
 use Rattle.split_text.proofs.count_trams.Tie as tie
 

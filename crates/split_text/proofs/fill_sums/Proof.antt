@@ -1,11 +1,8 @@
 -- `split_text::fill_sums` meets its contract. Assumes nothing.
-use Prim.Native.Nat.{_+_, _-_}
-use native.Mathlib.Omega.{arith}
-use lib.ListN.{getD}
+use Rattle.base_laws.proofs.Kit.{_+_, _-_, arith, getD, needs}
 use Rattle.model_split.specs.Halves.{inField}
 use Rattle.split_tables.specs.Tables.{isIn}
 use Rattle.split_text.proofs.Filling.{FilledTo, filled-none, filled-end, filled-next, filled-all}
-use borrow.Author.Needs.{needs}
 use Rattle.split_text.proofs.fill_sums.Statement.{statement}
 use Rattle.split_text.proofs.fill_sums.Tie as tie
 

@@ -1,12 +1,10 @@
 -- `split_text::put_links` meets its contract. Assumes nothing.
-use native.Mathlib.Omega.{arith}
-use Prim.Native.Nat.{_-_}
+use Rattle.base_laws.proofs.Kit.{arith, _-_, needs}
 use Rattle.model.specs.Table.{letterQ}
 use Rattle.split_tables.specs.Tables.{isIn}
 use Rattle.split_text.specs.Rows.{linkRow}
 use Rattle.split_text.proofs.Picked.{PickedTo, picks-none, picks-early, picks-all}
 use Rattle.split_text.proofs.Lines.{links-next}
-use borrow.Author.Needs.{needs}
 use Rattle.split_text.proofs.put_links.Statement.{statement}
 use Rattle.split_text.proofs.put_links.Tie as tie
 

@@ -1,12 +1,10 @@
 -- `split_text::put_movements` meets its contract. Assumes nothing.
-use native.Mathlib.Omega.{arith}
-use Prim.Native.Nat.{_+_, _-_}
+use Rattle.base_laws.proofs.Kit.{arith, _+_, _-_, needs}
 use Rattle.model.specs.Table.{letterM}
 use Rattle.split_tables.specs.Tables.{movementsAt, isIn}
 use Rattle.split_text.specs.Rows.{movementRow}
 use Rattle.split_text.proofs.Picked.{PickedTo, picks-none, picks-early, picks-all}
 use Rattle.split_text.proofs.Lines.{movements-next}
-use borrow.Author.Needs.{needs}
 use Rattle.split_text.proofs.put_movements.Statement.{statement}
 use Rattle.split_text.proofs.put_movements.Tie as tie
 

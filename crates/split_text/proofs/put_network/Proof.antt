@@ -1,8 +1,7 @@
 -- `split_text::put_network` meets its contract. Assumes nothing.
-use mathlib.Core.Path.{refl}
+use Rattle.base_laws.proofs.Kit.{refl, needs}
 use Rattle.split_text.proofs.Rows.{rates-asked}
 use Rattle.split_text.proofs.Whole.{trams-asked, trams-ready, signals-ready, links-ready, movements-ready, steps-ready, all-put}
-use borrow.Author.Needs.{needs}
 use Rattle.split_text.proofs.put_network.Statement.{statement}
 use Rattle.split_text.proofs.put_network.Tie as tie
 

@@ -1,7 +1,6 @@
 -- `split_text::put_plan` meets its contract. Assumes nothing.
-use Prim.Native.Nat.{_-_}
+use Rattle.base_laws.proofs.Kit.{_-_, needs}
 use Rattle.split_text.proofs.Steps.{PlanTo, plan-none, plan-line-asked, plan-next, plan-size, plan-all}
-use borrow.Author.Needs.{needs}
 use Rattle.split_text.proofs.put_plan.Statement.{statement}
 use Rattle.split_text.proofs.put_plan.Tie as tie
 

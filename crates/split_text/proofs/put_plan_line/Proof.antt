@@ -1,10 +1,8 @@
 -- `split_text::put_plan_line` meets its contract. Assumes nothing.
-use mathlib.Core.Path.{refl, sym}
-use native.Mathlib.Omega.{arith}
+use Rattle.base_laws.proofs.Kit.{refl, sym, arith, needs}
 use Rattle.network_tables.specs.Fields.{lineSize}
 use Rattle.split_text.proofs.Reading.{plan-asked}
 use Rattle.split_text.proofs.Rows.{row-at, row-on, line-fits, volumes-asked, sums-asked, masks-asked, admissions-asked, exits-asked, moves-asked, line-put}
-use borrow.Author.Needs.{needs}
 use Rattle.split_text.proofs.put_plan_line.Statement.{statement}
 use Rattle.split_text.proofs.put_plan_line.Tie as tie
 

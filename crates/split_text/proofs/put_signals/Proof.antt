@@ -1,9 +1,7 @@
 -- `split_text::put_signals` meets its contract. Assumes nothing.
-use native.Mathlib.Omega.{arith}
-use Prim.Native.Nat.{_-_}
+use Rattle.base_laws.proofs.Kit.{arith, _-_, needs}
 use Rattle.split_text.proofs.Picked.{picks-all}
 use Rattle.split_text.proofs.Lines.{SignalsPut, signals-none, width-small, signal-part, signal-early, signals-next}
-use borrow.Author.Needs.{needs}
 use Rattle.split_text.proofs.put_signals.Statement.{statement}
 use Rattle.split_text.proofs.put_signals.Tie as tie
 

@@ -1,9 +1,7 @@
 -- `split_text::put_step` meets its contract. Assumes nothing.
-use mathlib.Core.Path.{refl}
-use native.Mathlib.Omega.{arith}
+use Rattle.base_laws.proofs.Kit.{refl, arith, needs}
 use Rattle.split_text.proofs.Reading.{plan-asked}
 use Rattle.split_text.proofs.Rows.{step-fits, volumes-asked, sums-asked, demands-asked, step-put}
-use borrow.Author.Needs.{needs}
 use Rattle.split_text.proofs.put_step.Statement.{statement}
 use Rattle.split_text.proofs.put_step.Tie as tie
 

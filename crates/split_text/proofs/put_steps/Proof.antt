@@ -1,7 +1,6 @@
 -- `split_text::put_steps` meets its contract. Assumes nothing.
-use Prim.Native.Nat.{_-_}
+use Rattle.base_laws.proofs.Kit.{_-_, needs}
 use Rattle.split_text.proofs.Steps.{StepsTo, steps-none, step-asked, steps-next, steps-size, steps-all}
-use borrow.Author.Needs.{needs}
 use Rattle.split_text.proofs.put_steps.Statement.{statement}
 use Rattle.split_text.proofs.put_steps.Tie as tie
 

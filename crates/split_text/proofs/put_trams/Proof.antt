@@ -1,9 +1,7 @@
 -- `split_text::put_trams` meets its contract. Assumes nothing.
-use native.Mathlib.Omega.{arith}
-use Prim.Native.Nat.{_-_}
+use Rattle.base_laws.proofs.Kit.{arith, _-_, needs}
 use Rattle.split_text.proofs.Picked.{picks-early, picks-all}
 use Rattle.split_text.proofs.Lines.{TramsPut, trams-none, signal-named, trams-next}
-use borrow.Author.Needs.{needs}
 use Rattle.split_text.proofs.put_trams.Statement.{statement}
 use Rattle.split_text.proofs.put_trams.Tie as tie
 

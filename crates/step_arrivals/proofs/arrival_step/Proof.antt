@@ -1,8 +1,5 @@
 -- `step_arrivals::arrival_step` meets its contract. The cursor is never past the step to be found. Assumes nothing.
-use Prim.Native.Nat.{_-_}
-use mathlib.Core.Path.{_≡_}
-use lib.ListN.{length, getD}
-use borrow.Author.Needs.{needs}
+use Rattle.base_laws.proofs.Kit.{_-_, _≡_, length, getD, needs}
 use Rattle.step_arrivals.specs.Arrivals.{Cursor}
 use Rattle.step_arrivals.proofs.Arrivals.{arrival-here, arrival-on}
 use Rattle.step_arrivals.proofs.arrival_step.Statement.{statement}

@@ -1,9 +1,6 @@
 -- `step_arrivals::from_start` meets its contract. The invariant: the first n places have their times. Assumes nothing.
-use Prim.Native.Nat.{suc, _-_}
-use mathlib.Core.Path.{_≡_}
-use lib.ListN.{getD}
+use Rattle.base_laws.proofs.Kit.{suc, _-_, _≡_, getD, needs}
 use Rattle.step_arrivals.proofs.Times.{ShiftedTo, shift-begin, shift-since, shift-next, shift-all}
-use borrow.Author.Needs.{needs}
 use Rattle.step_arrivals.proofs.from_start.Statement.{statement}
 use Rattle.step_arrivals.proofs.from_start.Tie as tie
 

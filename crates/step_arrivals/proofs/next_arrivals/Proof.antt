@@ -1,7 +1,6 @@
 -- `step_arrivals::next_arrivals` meets its contract. The invariant: the cursors of the first i links have been moved on. Assumes nothing.
-use Prim.Native.Nat.{_-_}
+use Rattle.base_laws.proofs.Kit.{_-_, needs}
 use Rattle.step_arrivals.proofs.Cursors.{Moving, moving-first, moving-cursor, moving-more, moving-all}
-use borrow.Author.Needs.{needs}
 use Rattle.step_arrivals.proofs.next_arrivals.Statement.{statement}
 use Rattle.step_arrivals.proofs.next_arrivals.Tie as tie
 

@@ -1,8 +1,5 @@
 -- `step_arrivals::next_time` meets its contract. Assumes nothing.
-use Prim.Native.Nat.{ℕ}
-use mathlib.Core.Path.{_≡_, refl}
-use native.Mathlib.Omega.{arith}
-use borrow.Author.Needs.{needs}
+use Rattle.base_laws.proofs.Kit.{ℕ, _≡_, refl, arith, needs}
 use Rattle.base_laws.specs.Test.{_and_, within}
 use Rattle.step_arrivals.proofs.Timed.{time-room, time-fits}
 use Rattle.step_arrivals.proofs.next_time.Statement.{statement}

@@ -1,9 +1,6 @@
 -- `step_arrivals::scaled_arrived` meets its contract. Assumes nothing.
-use Prim.Native.Nat.{_+_, _*_}
-use mathlib.Core.Path.{ap, ap₂, _∙_}
-use native.Mathlib.Omega.{arith}
+use Rattle.base_laws.proofs.Kit.{_+_, _*_, ap, ap₂, _∙_, arith, needs}
 use Rattle.step_arrivals.proofs.Arrivals.{scaled-fits}
-use borrow.Author.Needs.{needs}
 use Rattle.step_arrivals.proofs.scaled_arrived.Statement.{statement}
 use Rattle.step_arrivals.proofs.scaled_arrived.Tie as tie
 

@@ -1,13 +1,10 @@
 -- `step_check::first_break` meets its contract. The loops' invariants: nothing is found so far, and every rule before the one at hand is kept. Assumes nothing.
-use Prim.Native.Nat.{_-_, _≤_}
-use mathlib.Core.Path.{_≡_, refl}
-use native.Mathlib.Omega.{arith}
+use Rattle.base_laws.proofs.Kit.{_-_, _≤_, _≡_, refl, arith, needs}
 use Rattle.base_search.specs.declared.Verdict.the-variants.{Passes}
 use Rattle.base_search.proofs.Table.{RulesKept, ItemsKept, rules-none}
 use Rattle.step_check.specs.Step.{stepRulesIn}
 use Rattle.step_check.proofs.Rules.{few-items}
 use Rattle.step_check.proofs.Search.{RowBefore, row-first, row-turn, row-next, fits-at, tables-at, items-first, item-kept, rule-kept, broken-here, none-broken}
-use borrow.Author.Needs.{needs}
 use Rattle.step_check.proofs.first_break.Statement.{statement}
 use Rattle.step_check.proofs.first_break.Tie as tie
 

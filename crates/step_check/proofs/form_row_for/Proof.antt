@@ -1,6 +1,5 @@
 -- `step_check::form_row_for` meets its contract. Assumes nothing.
-use mathlib.Core.Path.{refl}
-use borrow.Author.Needs.{needs}
+use Rattle.base_laws.proofs.Kit.{refl, needs}
 use Rattle.step_check.proofs.form_row_for.Statement.{statement}
 use Rattle.step_check.proofs.form_row_for.Tie as tie
 

@@ -1,7 +1,6 @@
 -- `step_check::keeps_rules` meets its contract. Assumes nothing.
-use borrow.Author.Tests.{not-false}
+use Rattle.base_laws.proofs.Kit.{not-false, needs}
 use Rattle.step_check.proofs.Pass.{pass-stops, pass-ends}
-use borrow.Author.Needs.{needs}
 use Rattle.step_check.proofs.keeps_rules.Statement.{statement}
 use Rattle.step_check.proofs.keeps_rules.Tie as tie
 

@@ -1,7 +1,6 @@
 -- `step_check::rule_holds` meets its contract: each way out is one family of rules. Assumes nothing.
-use native.Mathlib.Omega.{arith}
+use Rattle.base_laws.proofs.Kit.{arith, needs}
 use Rattle.step_check.proofs.Rules.{items-signal, items-limit, items-sum, holds-signal, holds-limit, holds-sum}
-use borrow.Author.Needs.{needs}
 use Rattle.step_check.proofs.rule_holds.Statement.{statement}
 use Rattle.step_check.proofs.rule_holds.Tie as tie
 

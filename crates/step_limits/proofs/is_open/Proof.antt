@@ -1,12 +1,8 @@
 -- `step_limits::is_open` meets its contract. Without a signal the first test decides, with one the second. Assumes nothing.
-use mathlib.Core.Path.{_≡_, sym, ap, ap₂, _∙_}
-use Prim.Native.Nat.{_-_}
-use native.Mathlib.Omega.{arith}
-use lib.ListN.{getD}
+use Rattle.base_laws.proofs.Kit.{_≡_, sym, ap, ap₂, _∙_, _-_, arith, getD, needs}
 use Rattle.model.specs.Signals.{opens}
 use Rattle.network_tables.specs.Fields.{signalIn}
 use Rattle.step_limits.proofs.Turns.{open-free, open-shown}
-use borrow.Author.Needs.{needs}
 use Rattle.step_limits.proofs.is_open.Statement.{statement}
 use Rattle.step_limits.proofs.is_open.Tie as tie
 

@@ -1,9 +1,5 @@
 -- `step_limits::keeps_limits` meets its contract. Assumes nothing.
-use Prim.Native.Nat.{ℕ}
-use mathlib.Core.Path.{_≡_}
-use native.Mathlib.Omega.{arith}
-use borrow.Author.Tests.{not-false}
-use borrow.Author.Needs.{needs}
+use Rattle.base_laws.proofs.Kit.{ℕ, _≡_, arith, not-false, needs}
 use Rattle.step_limits.proofs.keeps_limits.Statement.{statement}
 use Rattle.step_limits.proofs.keeps_limits.Tie as tie
 

@@ -1,11 +1,7 @@
 -- `step_limits::keeps_link_limits` meets its contract. The loop's invariant: the links so far keep 15 and 25. Assumes nothing.
-use Prim.Native.Nat.{ℕ, _-_, _≤_}
-use mathlib.Core.Path.{_≡_, sym, _∙_}
-use native.Mathlib.Omega.{arith}
+use Rattle.base_laws.proofs.Kit.{ℕ, _-_, _≤_, _≡_, sym, _∙_, arith, not-false, needs}
 use borrow.Author.Count.{below-more}
-use borrow.Author.Tests.{not-false}
 use Rattle.step_limits.specs.Limits.{LinkLimitsKept}
-use borrow.Author.Needs.{needs}
 use Rattle.step_limits.proofs.keeps_link_limits.Statement.{statement}
 use Rattle.step_limits.proofs.keeps_link_limits.Tie as tie
 

@@ -1,11 +1,7 @@
 -- `step_limits::keeps_movement_limits` meets its contract. The loop's invariant: the movements so far keep 26 and 27. Assumes nothing.
-use Prim.Native.Nat.{ℕ, _-_, _≤_}
-use mathlib.Core.Path.{_≡_}
-use native.Mathlib.Omega.{arith}
+use Rattle.base_laws.proofs.Kit.{ℕ, _-_, _≤_, _≡_, arith, not-false, needs}
 use borrow.Author.Count.{below-more}
-use borrow.Author.Tests.{not-false}
 use Rattle.step_limits.specs.Limits.{MovementLimitsKept}
-use borrow.Author.Needs.{needs}
 use Rattle.step_limits.proofs.keeps_movement_limits.Statement.{statement}
 use Rattle.step_limits.proofs.keeps_movement_limits.Tie as tie
 

@@ -1,9 +1,7 @@
 -- `step_limits::limit_rule` meets its contract. Each way out is one test of the table. Assumes nothing.
-use Prim.Native.Nat.{_<_}
-use native.Mathlib.Omega.{arith}
+use Rattle.base_laws.proofs.Kit.{_<_, arith, needs}
 use Rattle.step_limits.specs.Limits.{limitRuleHolds}
 use Rattle.step_limits.proofs.Rules.{no-limit-rule}
-use borrow.Author.Needs.{needs}
 use Rattle.step_limits.proofs.limit_rule.Statement.{statement}
 use Rattle.step_limits.proofs.limit_rule.Tie as tie
 

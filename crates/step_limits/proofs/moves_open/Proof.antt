@@ -1,7 +1,6 @@
 -- `step_limits::moves_open` meets its contract. Assumes nothing.
 use Rattle.step_limits.proofs.Turns.{nothing-moves, moves-open-is}
-use native.Mathlib.Omega.{arith}
-use borrow.Author.Needs.{needs}
+use Rattle.base_laws.proofs.Kit.{arith, needs}
 use Rattle.step_limits.proofs.moves_open.Statement.{statement}
 use Rattle.step_limits.proofs.moves_open.Tie as tie
 

@@ -1,10 +1,7 @@
 -- `step_limits::moves_rate` meets its contract. Assumes nothing.
-use mathlib.Core.Path.{_∙_, ap₂}
-use Prim.Native.Nat.{_*_}
-use lib.Dec.{leb}
+use Rattle.base_laws.proofs.Kit.{_∙_, ap₂, _*_, leb, needs}
 use Rattle.network_tables.specs.Fields.{lengthIn}
 use Rattle.step_limits.specs.Limits.{movesRate}
-use borrow.Author.Needs.{needs}
 use Rattle.step_limits.proofs.moves_rate.Statement.{statement}
 use Rattle.step_limits.proofs.moves_rate.Tie as tie
 

@@ -1,9 +1,6 @@
 -- `step_limits::moves_within` meets its contract. Assumes nothing.
-use Prim.Native.Nat.{ℕ}
-use mathlib.Core.Path.{_≡_}
-use native.Mathlib.Omega.{arith}
+use Rattle.base_laws.proofs.Kit.{ℕ, _≡_, arith, needs}
 use Rattle.step_limits.proofs.Turns.{still-keeps, moving-keeps}
-use borrow.Author.Needs.{needs}
 use Rattle.step_limits.proofs.moves_within.Statement.{statement}
 use Rattle.step_limits.proofs.moves_within.Tie as tie
 

@@ -1,7 +1,5 @@
 -- `step_limits::within_rate` meets its contract. Assumes nothing.
-use native.Mathlib.Nat.{mul-le-mul-right}
-use native.Mathlib.Omega.{arith}
-use borrow.Author.Needs.{needs}
+use Rattle.base_laws.proofs.Kit.{mul-le-mul-right, arith, needs}
 use Rattle.step_limits.proofs.within_rate.Statement.{statement}
 use Rattle.step_limits.proofs.within_rate.Tie as tie
 

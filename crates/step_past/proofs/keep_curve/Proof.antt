@@ -1,7 +1,6 @@
 -- `step_past::keep_curve` meets its contract. Assumes nothing.
 use Rattle.step_past.proofs.Keeping.{keep-none, keep-set}
-use lib.ListN.{length-set}
-use borrow.Author.Needs.{needs}
+use Rattle.base_laws.proofs.Kit.{length-set, needs}
 use Rattle.step_past.proofs.keep_curve.Statement.{statement}
 use Rattle.step_past.proofs.keep_curve.Tie as tie
 

@@ -1,7 +1,6 @@
 -- `step_past::keep_curves` meets its contract. The invariant: the curves of the first i links are kept. Assumes nothing.
-use Prim.Native.Nat.{_-_}
+use Rattle.base_laws.proofs.Kit.{_-_, needs}
 use Rattle.step_past.proofs.Keeping.{KeepingTo, keep-begin, keep-asked, keep-next, keep-done}
-use borrow.Author.Needs.{needs}
 use Rattle.step_past.proofs.keep_curves.Statement.{statement}
 use Rattle.step_past.proofs.keep_curves.Tie as tie
 

@@ -1,6 +1,5 @@
 -- `step_past::move_link` meets its contract.
-use lib.ListN.{length-set}
-use borrow.Author.Needs.{needs}
+use Rattle.base_laws.proofs.Kit.{length-set, needs}
 use Rattle.step_past.proofs.Moving.{link-other, link-early, link-fits, link-on}
 use Rattle.step_past.proofs.move_link.Statement.{statement}
 use Rattle.step_past.proofs.move_link.Tie as tie

@@ -1,6 +1,5 @@
 -- `step_past::move_links` meets its contract. The invariant: the links before i are moved on by the line.
-use Prim.Native.Nat.{_-_}
-use borrow.Author.Needs.{needs}
+use Rattle.base_laws.proofs.Kit.{_-_, needs}
 use Rattle.step_past.proofs.Moving.{MovingTo, moving-begin, link-asked, moving-next, moving-done}
 use Rattle.step_past.proofs.move_links.Statement.{statement}
 use Rattle.step_past.proofs.move_links.Tie as tie

@@ -1,8 +1,5 @@
 -- `step_past::move_past` meets its contract. The invariant: link i is not past its step, nor is a link behind it.
-use Prim.Native.Nat.{_-_}
-use mathlib.Core.Path.{refl}
-use lib.ListN.{getD}
-use borrow.Author.Needs.{needs}
+use Rattle.base_laws.proofs.Kit.{_-_, refl, getD, needs}
 use Rattle.step_past.proofs.Moving.{PastTo, past-cursor, past-first, past-arrived, from-few, times-asked, past-malformed, links-asked, past-onward, past-line-next}
 use Rattle.step_past.proofs.move_past.Statement.{statement}
 use Rattle.step_past.proofs.move_past.Tie as tie

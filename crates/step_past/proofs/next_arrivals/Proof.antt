@@ -1,7 +1,6 @@
 -- `step_past::next_arrivals` meets its contract. The invariant: the first i links are moved on. Assumes nothing.
-use Prim.Native.Nat.{_-_}
+use Rattle.base_laws.proofs.Kit.{_-_, needs}
 use Rattle.step_past.proofs.Moving.{MovedTo, moved-none, move-asked, moved-more, moved-all}
-use borrow.Author.Needs.{needs}
 use Rattle.step_past.proofs.next_arrivals.Statement.{statement}
 use Rattle.step_past.proofs.next_arrivals.Tie as tie
 

@@ -1,7 +1,6 @@
 -- `step_past::read_on` meets its contract. The invariant: the curve of the lines read so far. Assumes nothing.
-use Prim.Native.Nat.{_-_}
+use Rattle.base_laws.proofs.Kit.{_-_, needs}
 use Rattle.step_past.proofs.Reading.{ReadTo, read-begin, read-never, stop-fits, read-next, read-done}
-use borrow.Author.Needs.{needs}
 use Rattle.step_past.proofs.read_on.Statement.{statement}
 use Rattle.step_past.proofs.read_on.Tie as tie
 

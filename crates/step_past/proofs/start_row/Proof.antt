@@ -1,8 +1,6 @@
 -- `step_past::start_row` meets its contract. The invariant: the first i links are at their start. Assumes nothing.
-use Prim.Native.Nat.{_-_}
+use Rattle.base_laws.proofs.Kit.{_-_, length-set, needs}
 use Rattle.step_past.proofs.Keeping.{StartingTo, start-begin, start-next, start-done}
-use lib.ListN.{length-set}
-use borrow.Author.Needs.{needs}
 use Rattle.step_past.proofs.start_row.Statement.{statement}
 use Rattle.step_past.proofs.start_row.Tie as tie
 

@@ -1,7 +1,6 @@
 -- `step_rows::add_at` meets its contract. Assumes nothing.
-use native.Mathlib.Omega.{arith}
+use Rattle.base_laws.proofs.Kit.{arith, needs}
 use Rattle.step_rows.proofs.Turns.{nothing-added}
-use borrow.Author.Needs.{needs}
 use Rattle.step_rows.proofs.add_at.Statement.{statement}
 use Rattle.step_rows.proofs.add_at.Tie as tie
 

@@ -1,7 +1,6 @@
 -- `step_rows::add_waiting` meets its contract. The invariant: those who wait have been added to the demand of the first i links. Assumes nothing.
-use Prim.Native.Nat.{_-_}
+use Rattle.base_laws.proofs.Kit.{_-_, needs}
 use Rattle.step_rows.proofs.WaitingTurns.{Adding, adding-first, adding-fits, adding-more, adding-all}
-use borrow.Author.Needs.{needs}
 use Rattle.step_rows.proofs.add_waiting.Statement.{statement}
 use Rattle.step_rows.proofs.add_waiting.Tie as tie
 

@@ -1,14 +1,9 @@
 -- `step_rows::base_row` meets its contract. The invariant: the row has begun with the first i links. Assumes nothing.
-use mathlib.Core.List.{_++_}
-use mathlib.Core.Path.{_≡_}
-use Prim.Native.Nat.{_*_, _-_, _≤_}
-use native.Mathlib.Omega.{arith}
-use lib.ListN.{length, drop, length-set}
+use Rattle.base_laws.proofs.Kit.{_++_, _≡_, _*_, _-_, _≤_, arith, length, drop, length-set, needs}
 use Rattle.network_tables.specs.Fields.{rowSize}
 use Rattle.step_rows.specs.Rows.{pairs, baseEntered, baseLeft}
 use Rattle.step_rows.proofs.Lists.{begun-none}
 use Rattle.step_rows.proofs.Turns.{base-entered-fits, base-left-fits, base-turn}
-use borrow.Author.Needs.{needs}
 use Rattle.step_rows.proofs.base_row.Statement.{statement}
 use Rattle.step_rows.proofs.base_row.Tie as tie
 

@@ -1,10 +1,5 @@
 -- `step_rows::copy_row` meets its contract. The invariant: the first k numbers are the row's, the others the part's. Assumes nothing.
-use mathlib.Core.Path.{_≡_, refl}
-use mathlib.Core.List.{_++_}
-use Prim.Native.Nat.{_-_, _≤_}
-use native.Mathlib.Omega.{arith}
-use borrow.Author.Needs.{needs}
-use lib.ListN.{length, take, drop, length-set}
+use Rattle.base_laws.proofs.Kit.{_≡_, refl, _++_, _-_, _≤_, arith, needs, length, take, drop, length-set}
 use Rattle.step_rows.proofs.Lists.{copy-turn}
 use Rattle.step_rows.proofs.copy_row.Statement.{statement}
 use Rattle.step_rows.proofs.copy_row.Tie as tie

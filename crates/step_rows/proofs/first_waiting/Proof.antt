@@ -1,7 +1,6 @@
 -- `step_rows::first_waiting` meets its contract. The invariant: who waits at the first i entries is told. Assumes nothing.
-use Prim.Native.Nat.{_-_}
+use Rattle.base_laws.proofs.Kit.{_-_, needs}
 use Rattle.step_rows.proofs.WaitingTurns.{FirstTo, first-begin, first-more, first-all}
-use borrow.Author.Needs.{needs}
 use Rattle.step_rows.proofs.first_waiting.Statement.{statement}
 use Rattle.step_rows.proofs.first_waiting.Tie as tie
 

@@ -1,12 +1,9 @@
 -- `step_rows::held_in` meets its contract. The invariant: the total is what the first i links hold. Assumes nothing.
-use mathlib.Core.Path.{_≡_, sym}
-use Prim.Native.Nat.{_*_, _-_, _≤_}
-use native.Mathlib.Omega.{arith}
+use Rattle.base_laws.proofs.Kit.{_≡_, sym, _*_, _-_, _≤_, arith, needs}
 use Rattle.base_laws.specs.Sum.{sum}
 use Rattle.network_tables.specs.Fields.{enteredIn, leftIn}
 use Rattle.step_rows.proofs.Sums.{sum-none}
 use Rattle.step_rows.proofs.Turns.{held-turn}
-use borrow.Author.Needs.{needs}
 use Rattle.step_rows.proofs.held_in.Statement.{statement}
 use Rattle.step_rows.proofs.held_in.Tie as tie
 

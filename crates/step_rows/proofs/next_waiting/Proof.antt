@@ -1,7 +1,6 @@
 -- `step_rows::next_waiting` meets its contract. The invariant: the first i links have who waits after the step. Assumes nothing.
-use Prim.Native.Nat.{_-_}
+use Rattle.base_laws.proofs.Kit.{_-_, needs}
 use Rattle.step_rows.proofs.WaitingTurns.{Keeping, keeping-first, keeping-enough, keeping-more, keeping-all}
-use borrow.Author.Needs.{needs}
 use Rattle.step_rows.proofs.next_waiting.Statement.{statement}
 use Rattle.step_rows.proofs.next_waiting.Tie as tie
 

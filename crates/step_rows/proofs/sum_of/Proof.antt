@@ -1,9 +1,5 @@
 -- `step_rows::sum_of` meets its contract. The invariant: the total is the sum of the first i numbers. Assumes nothing.
-use mathlib.Core.Path.{_≡_, sym}
-use Prim.Native.Nat.{_+_, _*_, _-_, _≤_}
-use native.Mathlib.Omega.{arith}
-use borrow.Author.Needs.{needs}
-use lib.ListN.{getD}
+use Rattle.base_laws.proofs.Kit.{_≡_, sym, _+_, _*_, _-_, _≤_, arith, needs, getD}
 use Rattle.base_laws.specs.Sum.{sum}
 use Rattle.step_rows.proofs.Sums.{sum-none, sum-next}
 use Rattle.step_rows.proofs.sum_of.Statement.{statement}

@@ -1,6 +1,5 @@
 -- `step_rows::write_row` meets its contract. The part comes back into the ledger between what stands before it and nothing. Assumes nothing.
-use native.Mathlib.Omega.{arith}
-use borrow.Author.Needs.{needs}
+use Rattle.base_laws.proofs.Kit.{arith, needs}
 use Rattle.step_rows.proofs.Lists.{part-copied}
 use Rattle.step_rows.proofs.write_row.Statement.{statement}
 use Rattle.step_rows.proofs.write_row.Tie as tie

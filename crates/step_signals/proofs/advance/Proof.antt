@@ -1,11 +1,7 @@
 -- `step_signals::advance` meets its contract. The loop's invariant: the first i signals are a step on, the others as they were. Assumes nothing.
-use mathlib.Core.Path.{_≡_}
-use Prim.Native.Nat.{_-_, _≤_}
-use native.Mathlib.Omega.{arith}
-use native.Mathlib.Nat.{le-refl}
+use Rattle.base_laws.proofs.Kit.{_≡_, _-_, _≤_, arith, le-refl, needs}
 use Rattle.step_signals.specs.Step.{Advanced}
 use Rattle.step_signals.proofs.Steps.{advanced-none, advanced-more}
-use borrow.Author.Needs.{needs}
 use Rattle.step_signals.proofs.advance.Statement.{statement}
 use Rattle.step_signals.proofs.advance.Tie as tie
 

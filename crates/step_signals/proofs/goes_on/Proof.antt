@@ -1,8 +1,7 @@
 -- `step_signals::goes_on` meets its contract: what it calls gives the definition's parts. Assumes nothing.
-use native.Mathlib.Omega.{arith}
+use Rattle.base_laws.proofs.Kit.{arith, needs}
 use Rattle.base_laws.specs.Test.{_and_}
 use Rattle.step_signals.specs.Step.{goesOn}
-use borrow.Author.Needs.{needs}
 use Rattle.step_signals.proofs.goes_on.Statement.{statement}
 use Rattle.step_signals.proofs.goes_on.Tie as tie
 

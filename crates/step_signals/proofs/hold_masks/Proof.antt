@@ -1,10 +1,7 @@
 -- `step_signals::hold_masks` meets its contract. The loop's invariant: the masks of the first i signals are written. Assumes nothing.
-use mathlib.Core.Path.{_≡_}
-use Prim.Native.Nat.{_-_, _≤_}
-use native.Mathlib.Omega.{arith}
+use Rattle.base_laws.proofs.Kit.{_≡_, _-_, _≤_, arith, needs}
 use Rattle.step_signals.specs.Step.{HeldMasks}
 use Rattle.step_signals.proofs.Steps.{held-none, held-more}
-use borrow.Author.Needs.{needs}
 use Rattle.step_signals.proofs.hold_masks.Statement.{statement}
 use Rattle.step_signals.proofs.hold_masks.Tie as tie
 

@@ -1,10 +1,7 @@
 -- `step_signals::keeps_signal_rules` meets its contract. The loop's invariant: the signals so far keep every rule. Assumes nothing.
-use Prim.Native.Nat.{ℕ, _-_, _≤_}
-use mathlib.Core.Path.{_≡_}
-use native.Mathlib.Omega.{arith}
+use Rattle.base_laws.proofs.Kit.{ℕ, _-_, _≤_, _≡_, arith, needs}
 use Rattle.step_signals.specs.Step.{SignalRulesKept}
 use Rattle.step_signals.proofs.Rules.{kept-more}
-use borrow.Author.Needs.{needs}
 use Rattle.step_signals.proofs.keeps_signal_rules.Statement.{statement}
 use Rattle.step_signals.proofs.keeps_signal_rules.Tie as tie
 

@@ -1,8 +1,5 @@
 -- `step_signals::mask_of` meets its contract. Assumes nothing.
-use borrow.Author.Needs.{needs}
-use mathlib.Core.Path.{_∙_, ap}
-use Prim.Native.Nat.{_^_}
-use native.Mathlib.Omega.{arith}
+use Rattle.base_laws.proofs.Kit.{needs, _∙_, ap, _^_, arith}
 use Rattle.model.proofs.Phases.{bit-shifted}
 use Rattle.step_signals.proofs.mask_of.Statement.{statement}
 use Rattle.step_signals.proofs.mask_of.Tie as tie

@@ -1,10 +1,7 @@
 -- `step_signals::shown_phases` meets its contract. The loop's invariant: the phases of the first i signals are written. Assumes nothing.
-use mathlib.Core.Path.{_≡_}
-use Prim.Native.Nat.{_-_, _≤_}
-use native.Mathlib.Omega.{arith}
+use Rattle.base_laws.proofs.Kit.{_≡_, _-_, _≤_, arith, needs}
 use Rattle.step_signals.specs.Step.{ShownPhases}
 use Rattle.step_signals.proofs.Steps.{shown-none, shown-more}
-use borrow.Author.Needs.{needs}
 use Rattle.step_signals.proofs.shown_phases.Statement.{statement}
 use Rattle.step_signals.proofs.shown_phases.Tie as tie
 

@@ -1,7 +1,6 @@
 -- `step_signals::signal_keeps` meets its contract. Assumes nothing.
-use mathlib.Core.Path.{refl, sym, _∙_}
+use Rattle.base_laws.proofs.Kit.{refl, sym, _∙_, needs}
 use Rattle.step_signals.proofs.Rules.{goes-keeps}
-use borrow.Author.Needs.{needs}
 use Rattle.step_signals.proofs.signal_keeps.Statement.{statement}
 use Rattle.step_signals.proofs.signal_keeps.Tie as tie
 

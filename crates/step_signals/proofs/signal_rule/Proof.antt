@@ -1,7 +1,6 @@
 -- `step_signals::signal_rule` meets its contract. Assumes nothing.
-use native.Mathlib.Omega.{arith}
+use Rattle.base_laws.proofs.Kit.{arith, needs}
 use Rattle.step_signals.specs.Step.{signalRuleHolds}
-use borrow.Author.Needs.{needs}
 use Rattle.step_signals.proofs.signal_rule.Statement.{statement}
 use Rattle.step_signals.proofs.signal_rule.Tie as tie
 

@@ -1,9 +1,8 @@
 -- `step_signals::signal_test` meets its contract: at each place the rule that it calls is the definition's. Assumes nothing.
-use native.Mathlib.Omega.{arith}
+use Rattle.base_laws.proofs.Kit.{arith, needs}
 use Rattle.base_laws.specs.Test.{_or_}
 use Rattle.step_signals.specs.Step.{signalTest}
 use Rattle.step_signals.proofs.Rules.{no-signal-test}
-use borrow.Author.Needs.{needs}
 use Rattle.step_signals.proofs.signal_test.Statement.{statement}
 use Rattle.step_signals.proofs.signal_test.Tie as tie
 

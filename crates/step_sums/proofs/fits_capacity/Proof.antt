@@ -1,10 +1,7 @@
 -- `step_sums::fits_capacity` meets its contract. A sum stands in place of the difference. Assumes nothing.
-use mathlib.Core.Path.{_∙_, ap₂}
-use Prim.Native.Nat.{_+_}
-use lib.Dec.{leb}
+use Rattle.base_laws.proofs.Kit.{_∙_, ap₂, _+_, leb, needs}
 use Rattle.network_tables.specs.Fields.{capacityIn, enteredIn, leftIn}
 use Rattle.step_sums.specs.Sums.{fitsCapacity}
-use borrow.Author.Needs.{needs}
 use Rattle.step_sums.proofs.fits_capacity.Statement.{statement}
 use Rattle.step_sums.proofs.fits_capacity.Tie as tie
 use Rattle.base_laws.proofs.Tests.{leb-over}

@@ -1,11 +1,7 @@
 -- `step_sums::keeps_shares` meets its contract. The loop's invariant: the movements so far keep 16. Assumes nothing.
-use Prim.Native.Nat.{ℕ, _-_, _≤_}
-use mathlib.Core.Path.{_≡_, sym, _∙_}
-use native.Mathlib.Omega.{arith}
+use Rattle.base_laws.proofs.Kit.{ℕ, _-_, _≤_, _≡_, sym, _∙_, arith, not-false, needs}
 use borrow.Author.Count.{below-more}
-use borrow.Author.Tests.{not-false}
 use Rattle.step_sums.specs.Sums.{SharesKept}
-use borrow.Author.Needs.{needs}
 use Rattle.step_sums.proofs.keeps_shares.Statement.{statement}
 use Rattle.step_sums.proofs.keeps_shares.Tie as tie
 

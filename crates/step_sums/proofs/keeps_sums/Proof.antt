@@ -1,9 +1,5 @@
 -- `step_sums::keeps_sums` meets its contract. Assumes nothing.
-use Prim.Native.Nat.{ℕ}
-use mathlib.Core.Path.{_≡_}
-use native.Mathlib.Omega.{arith}
-use borrow.Author.Tests.{not-false}
-use borrow.Author.Needs.{needs}
+use Rattle.base_laws.proofs.Kit.{ℕ, _≡_, arith, not-false, needs}
 use Rattle.step_sums.proofs.keeps_sums.Statement.{statement}
 use Rattle.step_sums.proofs.keeps_sums.Tie as tie
 

@@ -1,9 +1,7 @@
 -- `step_sums::sum_rule` meets its contract. Each way out is one rule of the table. Assumes nothing.
-use Prim.Native.Nat.{_<_}
-use native.Mathlib.Omega.{arith}
+use Rattle.base_laws.proofs.Kit.{_<_, arith, needs}
 use Rattle.step_sums.specs.Sums.{sumRuleHolds}
 use Rattle.step_sums.proofs.Rules.{no-sum-rule}
-use borrow.Author.Needs.{needs}
 use Rattle.step_sums.proofs.sum_rule.Statement.{statement}
 use Rattle.step_sums.proofs.sum_rule.Tie as tie
 

@@ -1,7 +1,5 @@
 -- `text_reader::digits_from` meets its contract. The invariant: what the field says is what its bytes from i on say after `value`, `more` digits at most. Assumes nothing.
-use Prim.Native.Nat.{_-_}
-use lib.ListN.{length}
-use borrow.Author.Needs.{needs}
+use Rattle.base_laws.proofs.Kit.{_-_, length, needs}
 use Rattle.text_reader.proofs.Turns.{Saying, saying-none, rest-past, rest-stop, rest-full, rest-not, rest-big, rest-turn, digit-low, digit-high, has-room}
 use Rattle.text_reader.proofs.digits_from.Statement.{statement}
 use Rattle.text_reader.proofs.digits_from.Tie as tie

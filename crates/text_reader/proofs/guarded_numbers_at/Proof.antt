@@ -1,9 +1,6 @@
 -- `text_reader::guarded_numbers_at` meets its contract. The invariant: k numbers are stored, and the next would be read from i. Assumes nothing.
-use Prim.Native.Nat.{_-_}
-use native.Mathlib.Omega.{arith}
-use lib.ListN.{length, length-set}
+use Rattle.base_laws.proofs.Kit.{_-_, arith, length, length-set, needs}
 use Rattle.text_reader.proofs.Turns.{Stored, stored-none, stored-more, stored-stop, all-past, all-feed, all-other}
-use borrow.Author.Needs.{needs}
 use Rattle.text_reader.proofs.guarded_numbers_at.Statement.{statement}
 use Rattle.text_reader.proofs.guarded_numbers_at.Tie as tie
 

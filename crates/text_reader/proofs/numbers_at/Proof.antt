@@ -1,6 +1,5 @@
 -- `text_reader::numbers_at` meets its contract. Assumes nothing.
-use native.Mathlib.Omega.{arith}
-use borrow.Author.Needs.{needs}
+use Rattle.base_laws.proofs.Kit.{arith, needs}
 use Rattle.text_reader.proofs.Turns.{starts-within, as-other, as-long, as-stops, as-guarded}
 use Rattle.text_reader.proofs.Sentinel.{sentinel-tab, sentinel-last, sentinel-stops, as-sentinel}
 use Rattle.text_reader.proofs.numbers_at.Statement.{statement}

@@ -1,11 +1,7 @@
 -- `text_reader::sentinel_numbers_at` meets its contract. The invariant: k numbers are stored, and a tab stands at i. Assumes nothing.
-use Prim.Native.Nat.{_-_}
-use mathlib.Core.Path.{_≡_}
-use native.Mathlib.Omega.{arith}
-use lib.ListN.{length, getD, length-set}
+use Rattle.base_laws.proofs.Kit.{_-_, _≡_, arith, length, getD, length-set, needs}
 use Rattle.text_reader.proofs.Turns.{Stored, stored-none}
 use Rattle.text_reader.proofs.Sentinel.{all-tab, ended-tab, ended-feed, ended-stop, ended-more, feed-all, feed-early}
-use borrow.Author.Needs.{needs}
 use Rattle.text_reader.proofs.sentinel_numbers_at.Statement.{statement}
 use Rattle.text_reader.proofs.sentinel_numbers_at.Tie as tie
 

@@ -1,7 +1,6 @@
 -- `text_reader::sentinel_tabbed_at` meets its contract. Assumes nothing.
-use native.Mathlib.Omega.{arith}
+use Rattle.base_laws.proofs.Kit.{arith, needs}
 use Rattle.text_reader.proofs.Sentinel.{tab-goes-on, ends-empty, ends-within, ends-tab, ends-feed, ends-other, ends-absent}
-use borrow.Author.Needs.{needs}
 use Rattle.text_reader.proofs.sentinel_tabbed_at.Statement.{statement}
 use Rattle.text_reader.proofs.sentinel_tabbed_at.Tie as tie
 

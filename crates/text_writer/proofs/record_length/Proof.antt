@@ -1,8 +1,5 @@
-use native.Mathlib.Omega.{arith}
-use lib.ListN.{length}
-use Prim.Native.Nat.{_-_}
+use Rattle.base_laws.proofs.Kit.{arith, length, _-_, needs}
 use Rattle.text_writer.proofs.Laws.{Measured, measured-none, measured-more, measured-all, digit-few}
-use borrow.Author.Needs.{needs}
 use Rattle.text_writer.proofs.record_length.Statement.{statement}
 use Rattle.text_writer.proofs.record_length.Tie as tie
 

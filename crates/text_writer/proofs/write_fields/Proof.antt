@@ -1,7 +1,5 @@
-use Prim.Native.Nat.{_-_}
-use lib.ListN.{length}
+use Rattle.base_laws.proofs.Kit.{_-_, length, needs}
 use Rattle.text_writer.proofs.Laws.{Fields, fields-first, fields-again, fields-room, fields-all}
-use borrow.Author.Needs.{needs}
 use Rattle.text_writer.proofs.write_fields.Statement.{statement}
 use Rattle.text_writer.proofs.write_fields.Tie as tie
 

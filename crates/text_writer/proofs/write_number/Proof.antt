@@ -1,6 +1,5 @@
-use native.Mathlib.Omega.{arith}
+use Rattle.base_laws.proofs.Kit.{arith, needs}
 use Rattle.text_writer.proofs.Laws.{numeral-length, wrote-number}
-use borrow.Author.Needs.{needs}
 use Rattle.text_writer.proofs.write_number.Statement.{statement}
 use Rattle.text_writer.proofs.write_number.Tie as tie
 

@@ -1,8 +1,6 @@
 -- `traces::move_all` meets its contract. The measure is how many vehicles are left. Assumes nothing.
-use Prim.Native.Nat.{_-_}
-use lib.ListN.{length}
+use Rattle.base_laws.proofs.Kit.{_-_, length, needs}
 use Rattle.traces.proofs.Turns.{Moving, moving-none, moving-next, moving-done}
-use borrow.Author.Needs.{needs}
 use Rattle.traces.proofs.move_all.Statement.{statement}
 use Rattle.traces.proofs.move_all.Tie as tie
 

@@ -1,10 +1,7 @@
 -- `traces::move_one` meets its contract. The invariant: the target is cut to the lines passed. The measure is what is left of them. Assumes nothing.
-use Prim.Native.Nat.{_≤_, _-_}
-use mathlib.Core.Path.{_≡_}
-use lib.ListN.{length}
+use Rattle.base_laws.proofs.Kit.{_≤_, _-_, _≡_, length, needs}
 use Rattle.traces.specs.Step.{cutToLines}
 use Rattle.traces.proofs.Turns.{no-line, next-line, moves, stays}
-use borrow.Author.Needs.{needs}
 use Rattle.traces.proofs.move_one.Statement.{statement}
 use Rattle.traces.proofs.move_one.Tie as tie
 

@@ -1,11 +1,8 @@
 -- `traces::valid_places` meets its contract. The invariant: the test of all values is that of those not passed. The measure is how many they are. Assumes nothing.
-use Prim.Native.Nat.{_≤_, _-_}
-use mathlib.Core.Path.{_≡_, refl}
-use lib.ListN.{length, drop}
+use Rattle.base_laws.proofs.Kit.{_≤_, _-_, _≡_, refl, length, drop, needs}
 use Rattle.base_laws.specs.Indexed.{every}
 use Rattle.base_laws.proofs.Laws.{every-fails, every-goes-on, every-done}
 use Rattle.traces.specs.Call.{validPlace}
-use borrow.Author.Needs.{needs}
 use Rattle.traces.proofs.valid_places.Statement.{statement}
 use Rattle.traces.proofs.valid_places.Tie as tie
 

@@ -1,11 +1,8 @@
 -- `cases_cells::told::are_same` meets its contract. Assumes nothing.
-use Prim.Native.Nat.{_-_, _≤_}
-use mathlib.Core.Path.{_≡_, refl}
-use native.Mathlib.Omega.{arith}
+use Rattle.base_laws.proofs.Kit.{_-_, _≤_, _≡_, refl, arith, needs}
 use Rattle.cases_files.specs.Below.{allBelow}
 use Rattle.cases_files.proofs.Laws.{all-below-next}
 use Rattle.cases_cells.specs.Told.{sameVolume, sameVolumes}
-use borrow.Author.Needs.{needs}
 use Rattle.cases_cells.proofs.told.are_same.Statement.{statement}
 use Rattle.cases_cells.proofs.told.are_same.Tie as tie
 

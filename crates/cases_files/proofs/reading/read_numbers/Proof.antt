@@ -1,9 +1,5 @@
 -- `cases_files::reading::read_numbers` is safe and ends. Assumes nothing.
-use native.Mathlib.Omega.{arith}
-use Prim.Native.Nat.{_-_, _≤_}
-use mathlib.Core.Path.{_≡_}
-use lib.ListN.{length, length-set}
-use borrow.Author.Needs.{needs}
+use Rattle.base_laws.proofs.Kit.{arith, _-_, _≤_, _≡_, length, length-set, needs}
 use Rattle.cases_files.proofs.reading.read_numbers.Statement.{statement}
 use Rattle.cases_files.proofs.reading.read_numbers.Tie as tie
 

@@ -1,10 +1,7 @@
 -- `cases_plan::checksum::with_numbers` meets its contract. Assumes nothing.
-use mathlib.Core.Path.{refl}
-use Prim.Native.Nat.{_-_, _≤_}
-use lib.ListN.{length}
+use Rattle.base_laws.proofs.Kit.{refl, _-_, _≤_, length, needs}
 use Rattle.cases_plan.specs.Checksum.{withNumber}
 use Rattle.cases_plan.proofs.Sums.{Summed, summed-next, summed-all}
-use borrow.Author.Needs.{needs}
 use Rattle.cases_plan.proofs.checksum.with_numbers.Statement.{statement}
 use Rattle.cases_plan.proofs.checksum.with_numbers.Tie as tie
 

@@ -1,9 +1,5 @@
 -- `cases_plan::compare::fill_ledger` is safe and ends. Assumes nothing.
-use Prim.Native.Nat.{_-_, _≤_}
-use mathlib.Core.Path.{_≡_}
-use native.Mathlib.Omega.{arith}
-use lib.ListN.{length, length-set}
-use borrow.Author.Needs.{needs}
+use Rattle.base_laws.proofs.Kit.{_-_, _≤_, _≡_, arith, length, length-set, needs}
 use Rattle.cases_plan.proofs.compare.fill_ledger.Statement.{statement}
 use Rattle.cases_plan.proofs.compare.fill_ledger.Tie as tie
 

@@ -1,8 +1,7 @@
 -- `cases_plan::outcome::of_comparison` meets its contract. Assumes nothing.
-use mathlib.Core.Path.{sym, ap}
+use Rattle.base_laws.proofs.Kit.{sym, ap, needs}
 use Rattle.cases_plan.specs.Outcome.{comparisonOutcome}
 use Rattle.cases_plan.proofs.Gap.{comparison-told}
-use borrow.Author.Needs.{needs}
 use Rattle.cases_plan.proofs.outcome.of_comparison.Statement.{statement}
 use Rattle.cases_plan.proofs.outcome.of_comparison.Tie as tie
 

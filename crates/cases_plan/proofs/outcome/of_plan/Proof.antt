@@ -1,7 +1,6 @@
 -- `cases_plan::outcome::of_plan` meets its contract. Assumes nothing.
-use mathlib.Core.Path.{sym, ap, _∙_}
+use Rattle.base_laws.proofs.Kit.{sym, ap, _∙_, needs}
 use Rattle.cases_plan.specs.Outcome.{planOutcome}
-use borrow.Author.Needs.{needs}
 use Rattle.cases_plan.proofs.outcome.of_plan.Statement.{statement}
 use Rattle.cases_plan.proofs.outcome.of_plan.Tie as tie
 

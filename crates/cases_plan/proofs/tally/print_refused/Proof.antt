@@ -1,6 +1,5 @@
 -- `cases_plan::tally::print_refused` is safe and ends. Assumes nothing.
-use Prim.Native.Nat.{_-_, _≤_}
-use borrow.Author.Needs.{needs}
+use Rattle.base_laws.proofs.Kit.{_-_, _≤_, needs}
 use Rattle.cases_plan.proofs.tally.print_refused.Statement.{statement}
 use Rattle.cases_plan.proofs.tally.print_refused.Tie as tie
 

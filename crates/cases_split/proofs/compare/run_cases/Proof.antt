@@ -1,6 +1,5 @@
 -- `cases_split::compare::run_cases` is safe and ends. Assumes nothing.
-use Prim.Native.Nat.{_-_, _≤_}
-use borrow.Author.Needs.{needs}
+use Rattle.base_laws.proofs.Kit.{_-_, _≤_, needs}
 use Rattle.cases_split.proofs.compare.run_cases.Statement.{statement}
 use Rattle.cases_split.proofs.compare.run_cases.Tie as tie
 

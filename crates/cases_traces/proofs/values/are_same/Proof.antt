@@ -1,13 +1,9 @@
 -- `cases_traces::values::are_same` meets its contract. Assumes nothing.
-use Prim.Native.Nat.{_-_, _≤_}
-use mathlib.Core.Path.{_≡_, refl}
-use native.Mathlib.Omega.{arith}
-use lib.ListN.{length}
+use Rattle.base_laws.proofs.Kit.{_-_, _≤_, _≡_, refl, arith, length, needs}
 use Rattle.cases_files.specs.Below.{allBelow}
 use Rattle.cases_files.proofs.Laws.{all-below-next}
 use Rattle.cases_traces.specs.Values.{sameAt}
 use Rattle.cases_traces.proofs.Laws.{other-length, same-all}
-use borrow.Author.Needs.{needs}
 use Rattle.cases_traces.proofs.values.are_same.Statement.{statement}
 use Rattle.cases_traces.proofs.values.are_same.Tie as tie
 

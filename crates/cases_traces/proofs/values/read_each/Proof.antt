@@ -1,9 +1,5 @@
 -- `cases_traces::values::read_each` is safe and ends. Assumes nothing.
-use Prim.Native.Nat.{_-_, _≤_}
-use mathlib.Core.Path.{_≡_}
-use native.Mathlib.Omega.{arith}
-use lib.ListN.{length, length-set}
-use borrow.Author.Needs.{needs}
+use Rattle.base_laws.proofs.Kit.{_-_, _≤_, _≡_, arith, length, length-set, needs}
 use Rattle.cases_traces.proofs.values.read_each.Statement.{statement}
 use Rattle.cases_traces.proofs.values.read_each.Tie as tie
 
