@@ -1,4 +1,4 @@
--- The order of floats, signs and infinities included: `le` is transitive, and of two values that are no NaN one is at most the other. Assumes nothing.
+-- The order of floats, signs and infinities included: `le` is transitive, and of two values that are no NaN one is at most the other.
 use Rattle.base_laws.proofs.Kit.{_≡_, refl, sym, ap, _∙_, Bool, true, false, _&&_, _||_, _⊎_, inl, inr, ℕ, _+_, _*_, _≤_, _<_, le-of-eq, le-of-lt, eq-or-lt-of-le, zero-mul, eq-zero-or-pos, mul-pos, arith, ltb-true, ltb-false, eqb-true, lt-ltb, eq-eqb, ltb, eqb}
 use lib.Ieee.{Float, nan, inf, fin, up, down, lt, eq, le, isNan}
 use lib.Ieee.Fits.{down-pos}

@@ -1,4 +1,4 @@
--- Sums and differences of floats: of finite values they are no NaN, and within a bound they are finite. Assumes nothing.
+-- Sums and differences of floats: of finite values they are no NaN, and within a bound they are finite.
 use Rattle.base_laws.proofs.Kit.{_≡_, refl, sym, _∙_, Bool, true, false, cond, _&&_, Bool·beq, ℕ, zero, suc, _+_, _-_, _*_, _^_, _≤_, _<_, mul-pos, mul-le-mul-right, mul-assoc, mul-comm, arith, ltb}
 use lib.Ieee.{Float, nan, inf, fin, Format, binary64, prec, emax, low, up, down, odd, units, round, sum, add, sub, neg, le, isNan}
 use lib.Ieee.Bits.{is-true}

@@ -1,1 +1,1 @@
-// Laws about 64-bit floats that the toolchain's own (lib.Ieee) lack: the order of all values, and sums that stay finite. There is no code.
+// Laws of 64-bit floats that the toolchain's own (lib.Ieee) lack: the order of all values, and sums that stay finite. No code.

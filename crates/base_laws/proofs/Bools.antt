@@ -1,4 +1,4 @@
--- The parts of a test that holds. Assumes nothing.
+-- The parts of a test that holds.
 use mathlib.Core.Path.{_≡_, refl}
 use mathlib.Core.Bool.{Bool, true, false, _&&_, _||_}
 use mathlib.Core.Logic.{_⊎_, inl, inr}

@@ -1,4 +1,4 @@
--- Lists by index, and lists that are filled by rising index. Assumes nothing.
+-- Lists by index, and lists that are filled by rising index.
 use Prim.Native.Nat.{ℕ, zero, suc, _+_, _-_, _≤_, _<_}
 use mathlib.Core.Path.{_≡_, refl, _∙_, sym, ap}
 use mathlib.Core.Bool.{Bool, true, false, not, _&&_}

@@ -1,4 +1,4 @@
--- Laws of sums, and of lists by index. Assumes nothing.
+-- Laws of sums, and of lists by index.
 use mathlib.Core.Path.{_≡_, refl, sym, ap, ap₂, _∙_}
 use mathlib.Core.Bool.{Bool, true, false}
 use mathlib.Core.Logic.{_⊎_, inl, inr}

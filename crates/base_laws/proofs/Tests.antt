@@ -1,4 +1,4 @@
--- The parts of a test that holds, a test from its parts, and equal tests. Assumes nothing.
+-- The parts of a test that holds, a test from its parts, and equal tests.
 use mathlib.Core.Path.{_≡_, refl, sym, ap₂, _∙_}
 use mathlib.Core.Bool.{Bool, true, false, true≢false, not}
 use mathlib.Core.Logic.{_⊎_, inl, inr}

@@ -1,4 +1,4 @@
--- Lists by index. Assumes nothing.
+-- Lists by index.
 use Prim.Native.Nat.{ℕ, zero, suc}
 use mathlib.Core.List.{List, [], _∷_, _++_}
 use mathlib.Core.Bool.{Bool, true, _&&_}

@@ -1,4 +1,4 @@
--- Sums by index, and lists one behind the other. Assumes nothing.
+-- Sums by index, and lists one behind the other.
 use Prim.Native.Nat.{ℕ, zero, suc, _+_}
 use mathlib.Core.Bool.{Bool, true, false}
 use mathlib.Core.List.{List, [], _++_}

@@ -1,4 +1,4 @@
--- Both, and either. They are shut, unlike `_&&_` and `_||_`, so that a proof can read the parts off a test. Assumes nothing.
+-- Both, and either. They are shut, unlike `_&&_` and `_||_`, so that a proof can read the parts off a test.
 use mathlib.Core.Bool.{Bool, true, _&&_, _||_}
 use Prim.Native.Nat.{ℕ, zero, suc}
 use lib.Dec.{leb}

@@ -1,1 +1,2 @@
-// Lists given by their value at each index, and lists whose first values are replaced one after the other. There is no code.
+// Laws of lists by index: lists given by their value at each index, and lists whose first values are replaced one by one. No
+// code.

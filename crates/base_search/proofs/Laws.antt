@@ -1,5 +1,5 @@
 -- The laws of checks in order: they pass exactly when all hold, and a refusal is that of the first broken check. A loop that takes them one by one meets
--- one law for each way through a turn: it stops at a broken check, goes on past one that holds, or has come to the end. Assumes nothing.
+-- one law for each way through a turn: it stops at a broken check, goes on past one that holds, or has come to the end.
 use Rattle.base_laws.proofs.Kit.{_≡_, refl, sym, ap, ap₂, _∙_, Bool, true, false, _⊎_, inl, inr, _↔_, ℕ, zero, suc, _+_, _-_, _≤_, _<_, eq-or-lt-of-le, arith}
 use Rattle.base_search.specs.declared.Refusal.{Refusal}
 use Rattle.base_search.specs.declared.Verdict.{Verdict}

@@ -1,5 +1,4 @@
 -- The search for the first broken rule of a table, a turn at a time: every rule before the one that it is at holds of every item. And tables whose rules agree.
--- Assumes nothing.
 use Rattle.base_laws.proofs.Kit.{ℕ, zero, suc, _+_, _≤_, _<_, _≡_, refl, sym, ap, ap₂, _∙_, Bool, true, false, not, List, [], _∷_, add-one, arith, not-true, not-false, length}
 use borrow.Author.Count.{below-more}
 use Rattle.base_search.specs.declared.Verdict.{Verdict}

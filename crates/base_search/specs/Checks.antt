@@ -1,4 +1,4 @@
--- Checks in order, and the first of them that is broken. Assumes nothing.
+-- Checks in order, and the first of them that is broken.
 use mathlib.Core.Path.{_≡_}
 use mathlib.Core.Bool.{Bool, true, false}
 use mathlib.Core.Logic.{_⊎_}
@@ -52,7 +52,7 @@ FirstBroken (check number line item holds) r = (holds ≡ false) × (r ≡ refus
 FirstBroken (each n f) r = (i : ℕ) × (i < n) × FirstBroken (f i) r × ((k : ℕ) → k < i → Hold (f k))
 FirstBroken (a then b) r = FirstBroken a r ⊎ (Hold a × FirstBroken b r)
 
--- One rule of a table: its refusal number, to how many items it is put, and whether it holds of an item. Items are counted from 0 here, from 1 in a refusal.
+-- One rule of a table: its refusal number, how many items it has, and whether it holds of an item. Items are counted from 0 here, from 1 in a refusal.
 pub record Rule : Type 0 where
   pub number : ℕ
   pub items : ℕ
@@ -69,7 +69,7 @@ unfoldable pub rulesFrom : (ℕ → Rule) → ℕ → ℕ → List Rule
 rulesFrom f zero i = []
 rulesFrom f (suc n) i = f i ∷ rulesFrom f n (i + 1)
 
--- the rules of a table in order, each over rising items, told at one line
+-- the rules of a table in order, each over rising items, reported at one line
 unfoldable pub table : ℕ → List Rule → Checks
 table line rules =
     each (length rules) (λ k. each (ruleAt rules k .items) (λ i. check (ruleAt rules k .number) line (suc i) (ruleAt rules k .holds i)))

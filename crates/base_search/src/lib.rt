@@ -1,11 +1,11 @@
-// A refusal, and the verdict of checks in order. The definition of "the first broken check, in order" stands in specs/; its laws, which the labelled searches
-// of the crates above are proved against, in proofs/.
+// A refusal, and the verdict of checks in order: the first that is broken. The definition stands in specs/; proofs/ has its
+// laws, against which the labelled searches of the crates above are proved.
 
 ghost use mathlib.Core.Path.{_≡_};
 ghost use Prim.Native.Nat.{_<_};
 ghost use Rattle.base_search.specs.Checks.{refusal};
 
-// A refusal (the paper's word): the number of the check that is broken, with the line and the item that it tells, 0 where none is named.
+// A refusal: the number of the broken check, and the line and the item that it names, 0 where it names none.
 pub struct Refusal {
     pub number: u32,
     pub line: u32,

@@ -1,4 +1,4 @@
--- The ways out of the call, by the definitions on the cut network. Assumes nothing.
+-- The ways out of the call, by the definitions on the cut network.
 use Rattle.base_laws.proofs.Kit.{ℕ, suc, _+_, _*_, _-_, _≤_, _<_, _≡_, refl, sym, ap, ap₂, _∙_, Bool, true, false, not, List, [], decLt, add-one, arith, le-leb, lt-leb, eq-eqb, leb, eqb, length, getD, getD-take}
 use Rattle.base_search.specs.declared.Refusal.{Refusal}
 use Rattle.base_search.specs.declared.Verdict.{Verdict}

@@ -1,4 +1,4 @@
--- Rows by the program's tables: a signal's numbers, and a step's volumes by the ledger. Assumes nothing.
+-- Rows by the program's tables: a signal's numbers, and a step's volumes by the ledger.
 use Rattle.base_laws.proofs.Kit.{ℕ, zero, suc, _+_, _*_, _-_, _≤_, _<_, _≡_, refl, sym, ap, _∙_, List, [], _∷_, _++_, append-assoc, add-one, mul-le-mul-right, arith, length, getD, set, take, drop, length-append, length-drop, length-set, take-suc, getD-drop}
 use Rattle.text_reader.specs.Reading.{over}
 use Rattle.model.specs.declared.Signal.{Signal}

@@ -1,4 +1,4 @@
--- The `N`, `G`, `Q` and `M` lines, put by the program's tables. Assumes nothing.
+-- The `N`, `G`, `Q` and `M` lines, put by the program's tables.
 use Rattle.base_laws.proofs.Kit.{ℕ, _+_, _*_, _-_, _≤_, _<_, _≡_, ap, _∙_, List, [], _∷_, arith, length, getD, take, drop}
 use Rattle.text_writer.specs.Records.{recordText}
 use Rattle.model.specs.Table.{letterN, letterG, letterQ, letterM}

@@ -1,4 +1,4 @@
--- Lines that have passed, read again and put as they are. Assumes nothing.
+-- Lines that have passed, read again and put as they are.
 use Rattle.base_laws.proofs.Kit.{ℕ, suc, _+_, _*_, _≤_, _<_, _≡_, refl, ap, _∙_, true, List, _∷_, arith, length, getD, take}
 use Rattle.text_reader.specs.Lines.{lines}
 use Rattle.text_reader.specs.Reading.{Starts, over}

@@ -1,4 +1,4 @@
--- The tram lines that are left behind a boundary, one after another. Assumes nothing.
+-- The tram lines that are left behind a boundary, one after another.
 use Rattle.base_laws.proofs.Kit.{ℕ, suc, _+_, _-_, _≤_, _<_, max, min, _≡_, refl, sym, ap, _∙_, Bool, true, false, cond, List, [], _∷_, _++_, append-nil, decLe, add-one, arith, lt-ltb, le-ltb, le-leb, lt-leb, length, getD, take, drop, length-append, length-take, length-drop, take-suc, take-all, getD-take, getD-drop}
 use Rattle.text_reader.specs.Lines.{Line, lines, noLine, number}
 use Rattle.text_writer.specs.Records.{recordText}

@@ -1,4 +1,4 @@
--- The lines that are put, one block behind another, are the carried network's. Assumes nothing.
+-- The lines that are put, one block behind another, are the carried network's.
 use Rattle.base_laws.proofs.Kit.{ℕ, zero, suc, _+_, _*_, _-_, _≤_, _<_, _≡_, refl, sym, ap, ap₂, _∙_, true, List, [], _∷_, _++_, append-assoc, append-nil, add-one, arith, leb-true, length, getD, take, drop, length-take}
 use Rattle.base_search.specs.declared.Refusal.{Refusal}
 use Rattle.base_search.specs.Checks.{refusal}

@@ -1,4 +1,4 @@
--- What the writing of a carried network asks and promises. Assumes nothing.
+-- What the writing of a carried network asks and promises.
 use Prim.Native.Nat.{ℕ, suc, _*_, _≤_, _<_}
 use mathlib.Core.Path.{_≡_}
 use mathlib.Core.List.{List}

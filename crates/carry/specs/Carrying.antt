@@ -1,4 +1,4 @@
--- What carrying on from a boundary asks and promises of a network that has passed. Assumes nothing.
+-- What carrying on from a boundary asks and promises of a network that has passed.
 use Prim.Native.Nat.{ℕ, suc, _*_, _≤_, _<_}
 use mathlib.Core.Path.{_≡_}
 use mathlib.Core.List.{List}

@@ -1,4 +1,4 @@
--- The lines of the carried network by the program's tables, and what the functions that put them ask and promise. Assumes nothing.
+-- The lines of the carried network by the program's tables, and what the functions that put them ask and promise.
 use Prim.Native.Nat.{ℕ, suc, _+_, _*_, _-_, _≤_, _<_}
 use mathlib.Core.Path.{_≡_}
 use mathlib.Core.Bool.{true}
@@ -72,7 +72,7 @@ pub record VolumesAsked (ledger : List ℕ) (links b n : ℕ) (row : List ℕ) :
   pub before : n < b
   pub size : length row ≡ pastSize
 
--- the steps before boundary b, whose `S` lines start with line `first`, were put as `H` lines, and the next `S` line starts at the place told
+-- the steps before boundary b, whose `S` lines start with line `first`, were put as `H` lines, and the next `S` line starts at the place returned
 abbrev pub StepsPut : List ℕ → ℕ → List ℕ → ℕ → ℕ → ℕ → List ℕ → List ℕ → Places → Type 0
 StepsPut text from ledger links b at old new places =
     (first : ℕ) → Starts text from first → ((n : ℕ) → n < b → isForm (lines text) (first + n) letterS (1 + links) ≡ true)

@@ -1,4 +1,4 @@
--- The tram lines that are left behind a boundary. Assumes nothing.
+-- The tram lines that are left behind a boundary.
 use Prim.Native.Nat.{ℕ, suc, _-_, _≤_, _<_, max}
 use mathlib.Core.Path.{_≡_}
 use mathlib.Core.Bool.{cond}

@@ -1,5 +1,5 @@
-// Carry on from a boundary (T-09): the call `carry_on`. The network from the boundary on is written as text: each line is put behind the one before it, first where
-// there is no room at all, which measures the text, and then, if the buffer has room for all of it, into the buffer.
+// Carrying on from a boundary (T-09): the call `carry_on`. The text is written twice: first where there is no room, which measures
+// it, then into the buffer, if all of it fits.
 ghost use mathlib.Core.Path.{_≡_};
 ghost use mathlib.Core.List.{_∷_};
 ghost use Prim.Native.Nat.{suc, _+_, _*_, _-_, _≤_, _<_, max};
@@ -39,7 +39,7 @@ use network_tables::TIME_TABLE_SIZE;
 use network_tables::TRAM_FIELDS;
 use network_writer::Places;
 
-// Puts lines that have passed as they are: so many of a letter and a number of numbers, from a place of the text on.
+// Writes lines that have passed as they are: so many of a letter and a number of numbers, from a place of the text on.
 fn copy_lines(
     text: &[u8],
     from: usize,
@@ -64,7 +64,7 @@ fn copy_lines(
     end
 }
 
-// Puts the `N` line.
+// Writes the `N` line.
 fn put_counts(counts: Counts, boundary: usize, trams: usize, out: &mut [u8]) -> usize
     requires { ⌜ Few counts × (boundary ≤ counts .steps) × (trams ≤ maxTrams) ⌝ }
     ensures { λ r. ⌜ Put 1 (recordText letterN (countRow counts boundary trams)) 0 (now (out .entry)) (now (out .exit)) r ⌝ }
@@ -101,7 +101,7 @@ fn lines_left(tram: &[u32], boundary: u32) -> usize
     0
 }
 
-// Puts what is left of a tram line behind a boundary.
+// Writes what is left of a tram line behind a boundary.
 fn put_tram(tram: &[u32], boundary: u32, out: &mut [u8], at: usize) -> usize
     requires { ⌜ (length (now tram) ≡ tramFields) × Early 1 at ⌝ }
     ensures { λ r. ⌜ Put 1 (lineTexts letterT (leftOf boundary (now (tram .entry)))) at (now (out .entry)) (now (out .exit)) r ⌝ }
@@ -135,7 +135,7 @@ fn count_trams(text: &[u8], from: usize, count: usize, boundary: usize) -> usize
     left
 }
 
-// Puts the tram lines that are left behind a boundary, in their old order.
+// Writes the tram lines that are left behind a boundary, in their old order.
 fn put_trams(
     text: &[u8],
     from: usize,
@@ -159,7 +159,7 @@ fn put_trams(
     end
 }
 
-// Puts the `G` lines, with the signals as they stand at the boundary: each is the front of its row, as far as its phases go.
+// Writes the `G` lines, with the signals as they stand at the boundary: each is the front of its row, as far as its phases go.
 fn put_signals(signals: &[u32], count: usize, out: &mut [u8], at: usize) -> usize
     requires { ⌜ SignalsAsked (now signals) count at ⌝ }
     ensures { λ r. ⌜ Put count (recordTexts letterG count (λ k. signalNumbers (tableSignal (now (signals .entry)) k))) at (now (out .entry)) (now (out .exit)) r ⌝ }
@@ -175,7 +175,7 @@ fn put_signals(signals: &[u32], count: usize, out: &mut [u8], at: usize) -> usiz
     end
 }
 
-// Puts the `Q` lines, with who waits at the boundary.
+// Writes the `Q` lines, with who waits at the boundary.
 fn put_links(links: &[u32], waiting: &[u32], count: usize, out: &mut [u8], at: usize) -> usize
     requires { ⌜ LinksAsked (now links) (now waiting) count at ⌝ }
     ensures { λ r. ⌜ Put count (recordTexts letterQ count (linkRow (now (links .entry)) (now (waiting .entry)))) at (now (out .entry)) (now (out .exit)) r ⌝ }
@@ -198,7 +198,7 @@ fn put_links(links: &[u32], waiting: &[u32], count: usize, out: &mut [u8], at: u
     end
 }
 
-// Puts the `M` lines.
+// Writes the `M` lines.
 fn put_movements(movements: &[u32], count: usize, out: &mut [u8], at: usize) -> usize
     requires { ⌜ MovementsAsked (now movements) count at ⌝ }
     ensures { λ r. ⌜ Put count (recordTexts letterM count (movementRow (now (movements .entry)))) at (now (out .entry)) (now (out .exit)) r ⌝ }
@@ -233,7 +233,7 @@ fn fill_volumes(ledger: &[u32], links: usize, boundary: usize, n: usize, row: &m
     }
 }
 
-// Puts the steps before the boundary as `H` lines: their lengths by their `S` lines, which start at `from`, and their volumes by the ledger.
+// Writes the steps before the boundary as `H` lines: their lengths by their `S` lines, which start at `from`, and their volumes by the ledger.
 fn put_steps(
     text: &[u8],
     from: usize,
@@ -260,7 +260,7 @@ fn put_steps(
     Places { line, at: end }
 }
 
-// Puts the whole text at the beginning of a buffer: its lines as far as they fit, and tells how long it is.
+// Writes the whole text at the beginning of a buffer, line by line as far as it fits, and returns its length.
 fn put_network(
     network: &[u8],
     reading: Reading,

@@ -1,4 +1,4 @@
--- When the answer and the volumes of a run are those that were stored. Assumes nothing.
+-- When the answer and the volumes of a run are those that were stored.
 use Prim.Native.Nat.{ℕ}
 use mathlib.Core.Bool.{Bool, _&&_}
 use mathlib.Core.List.{List}

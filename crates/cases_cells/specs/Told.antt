@@ -1,4 +1,4 @@
--- The answer and the volumes of a run in the stored form. Assumes nothing.
+-- The answer and the volumes of a run in the stored form.
 use Prim.Native.Nat.{ℕ}
 use mathlib.Core.Bool.{Bool, _&&_}
 use mathlib.Core.List.{List}

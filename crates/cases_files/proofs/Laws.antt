@@ -1,4 +1,4 @@
--- Parts of lists, and tests, a number at a time. Assumes nothing.
+-- Parts of lists, and tests, a number at a time.
 use Rattle.base_laws.proofs.Kit.{ℕ, _+_, _≤_, add-one, _≡_, sym, Bool, _&&_, List, length, length-take-le}
 use Rattle.cases_files.specs.Counts.{Counts}
 use Rattle.cases_files.specs.Below.{allBelow}

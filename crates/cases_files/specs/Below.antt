@@ -1,4 +1,4 @@
--- Tests of numbers below another. Assumes nothing.
+-- Tests of numbers below another.
 use Prim.Native.Nat.{ℕ, zero, suc}
 use mathlib.Core.Bool.{Bool, true, _&&_}
 

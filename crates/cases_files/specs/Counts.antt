@@ -1,4 +1,4 @@
--- How much of a list is in use. Assumes nothing.
+-- How much of a list is in use.
 use Prim.Native.Nat.{ℕ, _≤_}
 use mathlib.Core.Path.{_≡_}
 use mathlib.Core.List.{List}

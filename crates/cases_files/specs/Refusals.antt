@@ -1,4 +1,4 @@
--- When refusals are the same. Assumes nothing.
+-- When refusals are the same.
 use mathlib.Core.Bool.{Bool, _&&_}
 use lib.Dec.{eqb}
 use Rattle.base_search.specs.declared.Refusal.{Refusal}

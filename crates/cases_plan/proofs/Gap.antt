@@ -1,4 +1,4 @@
--- A gap modulo 2^64, as a machine forms it from a word that holds the gap. Assumes nothing.
+-- A gap modulo 2^64, as a machine forms it from a word that holds the gap.
 use Rattle.base_laws.proofs.Kit.{ℕ, suc, _-_, _^_, _≤_, _≡_, ap, true, false, arith, T, ltb-true, le-ltb}
 use lib.IntN.{ℤ, pos, negsuc, natAbs, _-ℤ_}
 use lib.Signed.{ltZ, nonNeg}

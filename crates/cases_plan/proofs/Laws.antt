@@ -1,4 +1,4 @@
--- The answers, a call at a time, and their comparison. Assumes nothing.
+-- The answers, a call at a time, and their comparison.
 use Rattle.base_laws.proofs.Kit.{ℕ, _≡_, ap, sym, _∙_, Bool, true, false, List, arith, ne-eqb, length}
 use Rattle.text_reader.specs.Lines.{lines}
 use Rattle.model.specs.Hold.{planOf}

@@ -1,4 +1,4 @@
--- The checksum, an item at a time. Assumes nothing.
+-- The checksum, an item at a time.
 use Rattle.base_laws.proofs.Kit.{ℕ, _+_, _*_, _/_, _%_, _^_, _<_, _≤_, _≡_, refl, sym, ap, _∙_, List, mod-add-mod, add-mul-mod-self-right, add-one, arith, length, getD, drop, drop-of-length-le, drop-cons}
 use Rattle.cases_plan.specs.Checksum.{withEach}
 

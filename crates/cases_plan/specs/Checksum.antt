@@ -1,4 +1,4 @@
--- FNV-1a of 64 bits over the numbers of two ledgers, each as four bytes, the lowest first, then over the bytes of a buffer. Assumes nothing.
+-- FNV-1a of 64 bits over the numbers of two ledgers, each as four bytes, the lowest first, then over the bytes of a buffer.
 use Prim.Native.Nat.{ℕ, _*_, _/_, _%_, _^_}
 use mathlib.Core.List.{List, [], _∷_}
 use lib.Bits.{bitXor}

@@ -1,4 +1,4 @@
--- The answers of the calls in the stored form. Assumes nothing.
+-- The answers of the calls in the stored form.
 use Prim.Native.Nat.{ℕ, suc, _-_, _^_}
 use mathlib.Core.Bool.{Bool, _&&_}
 use lib.Dec.{eqb}

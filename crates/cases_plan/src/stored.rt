@@ -58,7 +58,7 @@ pub fn read_start(file: i32, start: &mut [u32], given: u32, before: usize) -> us
     size
 }
 
-// Reads what a case asks: its buffer, its call, and the boundary and the link of it. What is told of a file that ends before is zeros.
+// Reads what a case asks: its buffer, its call, and the boundary and the link of it. Of a file that ends before, all is 0.
 pub fn read_asked(file: i32) -> [u8; 28] {
     let mut bytes = [0u8; 28];
     if !reading::read_whole(file, &mut bytes) {
@@ -129,7 +129,7 @@ fn question_of(asked: &[u8; 28], told: &[u8; 44]) -> Question {
     }
 }
 
-// Reads the answer to what is asked. What is told of a file that ends before is that of zeros.
+// Reads the answer to what is asked. Of a file that ends before, it is that of zeros.
 pub fn read_question(file: i32, asked: &[u8; 28]) -> Question {
     let mut told = [0u8; 44];
     if !reading::read_whole(file, &mut told) {

@@ -1,4 +1,4 @@
--- All bytes of a buffer compared, and all of a split. Assumes nothing.
+-- All bytes of a buffer compared, and all of a split.
 use Rattle.base_laws.proofs.Kit.{ℕ, _≤_, _<_, _≡_, Bool, false, List, arith, le-leb, lt-leb, length}
 use Rattle.model_split.specs.declared.SplitAnswer.{SplitAnswer}
 use Rattle.model_split.specs.Splits.{Texts, Buffers, SplitInTwo}

@@ -1,4 +1,4 @@
--- What the definitions say of a split, and when it is what was stored. Assumes nothing.
+-- What the definitions say of a split, and when it is what was stored.
 use Prim.Native.Nat.{ℕ}
 use mathlib.Core.Bool.{Bool, _&&_}
 use mathlib.Core.List.{List}

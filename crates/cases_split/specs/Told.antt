@@ -1,4 +1,4 @@
--- The answer of a split and its texts in the stored form. Assumes nothing.
+-- The answer of a split and its texts in the stored form.
 use Prim.Native.Nat.{ℕ, _+_}
 use mathlib.Core.Bool.{Bool, _&&_}
 use mathlib.Core.List.{List}

@@ -1,4 +1,4 @@
--- A NaN and its bits, and values that are the same. Assumes nothing.
+-- A NaN and its bits, and values that are the same.
 use Rattle.base_laws.proofs.Kit.{ℕ, _%_, _≤_, _≡_, refl, sym, _∙_, Bool, true, false, not, List, arith, T, length, le-ltb, eq-eqb, ne-eqb}
 use lib.Ieee.{Float, nan, inf, fin, binary64, isNan, nanBits, toBits, le}
 use lib.Ieee.Bits.{nanBits-above}

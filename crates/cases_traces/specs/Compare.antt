@@ -1,4 +1,4 @@
--- When the answer and the places of a step are those that were stored. Assumes nothing.
+-- When the answer and the places of a step are those that were stored.
 use mathlib.Core.Bool.{Bool, _&&_}
 use mathlib.Core.List.{List}
 use lib.Ieee.{Float}

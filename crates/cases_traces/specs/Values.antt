@@ -1,4 +1,4 @@
--- When values are the same: by their bits, where a NaN is one value and zeros of either sign are two. Assumes nothing.
+-- When values are the same: by their bits, where a NaN is one value and zeros of either sign are two.
 use Prim.Native.Nat.{ℕ}
 use mathlib.Core.Bool.{Bool, _&&_}
 use mathlib.Core.List.{List}

@@ -1,4 +1,4 @@
--- What a run gives, one law for each way through it. Assumes nothing.
+-- What a run gives, one law for each way through it.
 use Rattle.base_laws.proofs.Kit.{ℕ, _+_, _-_, _≤_, _≡_, sym, ap, _∙_, List, [], _++_, arith, length, take, drop, length-drop, length-take-le, ext-getD, getD-drop}
 use Rattle.base_search.specs.declared.Verdict.the-variants.{Passes, Refused}
 use Rattle.base_search.specs.Checks.{refusal, verdict}

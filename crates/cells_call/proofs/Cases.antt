@@ -1,4 +1,4 @@
--- Texts of corridors, judged and run by computation. Assumes nothing.
+-- Texts of corridors, judged and run by computation.
 use Rattle.base_laws.proofs.Kit.{ℕ, zero, suc, _≡_, refl, List, [], _∷_, map}
 use Prim.Native.Char.{code}
 use Prim.Native.String.{String, _++_}

@@ -1,4 +1,4 @@
--- What a run keeps, by its definitions. Assumes nothing.
+-- What a run keeps, by its definitions.
 use Rattle.base_laws.proofs.Kit.{ℕ, zero, suc, _≡_, refl, _∙_, List, [], _∷_, _++_, append-assoc, append-nil, arith, needs, length, List·getD-append}
 use Rattle.base_search.specs.declared.Verdict.{Verdict}
 use Rattle.base_search.specs.declared.Verdict.the-variants.{Passes, Refused}

@@ -1,4 +1,4 @@
--- A corridor text that is not refused gives a chain that is ready for its steps. Assumes nothing.
+-- A corridor text that is not refused gives a chain that is ready for its steps.
 use Rattle.base_laws.proofs.Kit.{ℕ, zero, suc, _≤_, _<_, _≡_, sym, _∙_, true, _&&_, List, arith, leb-true, ltb-true, leb, ltb, length, getD}
 use Rattle.base_search.specs.declared.Verdict.the-variants.{Passes}
 use Rattle.base_search.specs.Checks.{verdict, Hold}

@@ -1,4 +1,4 @@
--- The call `run_cells` (T-12): its answer, the final volumes, and what it keeps. Assumes nothing.
+-- The call `run_cells` (T-12): its answer, the final volumes, and what it keeps.
 use Prim.Native.Nat.{ℕ, _+_, _-_, _≤_, _<_}
 use mathlib.Core.Path.{_≡_}
 use mathlib.Core.List.{List, [], _∷_, _++_}

@@ -26,7 +26,7 @@ pub struct CellsRun {
     pub volumes: [u32; 64],
 }
 
-// Runs the steps of a corridor text: one for each demand, from the starts on.
+// Runs the steps of a corridor text, one for each demand.
 pub fn run_cells(text: &[u8]) -> CellsRun
     ensures { λ r. ⌜ r .answer ≡ runCells (lines (now (text .entry))) ⌝ }
     ensures { λ r. ⌜ r .volumes ≡ finalVolumes (lines (now (text .entry))) ⌝ }

@@ -1,4 +1,4 @@
--- The `C` lines, as the loop reads them. Assumes nothing.
+-- The `C` lines, as the loop reads them.
 use Rattle.base_laws.proofs.Kit.{ℕ, suc, _+_, _≤_, _<_, _≡_, refl, sym, ap, _∙_, Bool, true, false, cond, _&&_, List, [], _∷_, add-zero, add-one, decLt, arith, lt-ltb, le-ltb, eqb-true, eqb, length, getD, set, drop, length-set, List·getD-eq-default, getD-drop, drop-cons}
 use borrow.Author.Count.{below-none, below-more}
 use Rattle.base_search.specs.declared.Verdict.{Verdict}

@@ -1,4 +1,4 @@
--- The `D` lines, as the loop reads them. Assumes nothing.
+-- The `D` lines, as the loop reads them.
 use Rattle.base_laws.proofs.Kit.{ℕ, suc, _+_, _-_, _≤_, _<_, _≡_, sym, ap, _∙_, Bool, true, false, cond, not, _&&_, _≢_, List, arith, lt-ltb, le-ltb, le-leb, lt-leb, eqb-true, eqb-false, not-true, not-false, eqb, length, getD, set, length-set}
 use borrow.Author.Count.{below-none, below-more}
 use Rattle.base_search.specs.declared.Verdict.the-variants.{Passes, Refused}

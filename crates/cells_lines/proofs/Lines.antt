@@ -1,4 +1,4 @@
--- One line of a corridor's text, as the code reads it. Assumes nothing.
+-- One line of a corridor's text, as the code reads it.
 use Rattle.base_laws.proofs.Kit.{ℕ, _≤_, _<_, _≡_, sym, ap, _∙_, Bool, true, false, not, and-true, List, arith, le-leb, lt-leb, not-true, not-false, leb, eqb, length, getD}
 use Rattle.text_reader.specs.declared.LineRead.{LineRead}
 use Rattle.text_reader.specs.declared.LineRead.the-variants.{Next, Malformed}

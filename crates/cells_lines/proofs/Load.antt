@@ -1,4 +1,4 @@
--- The whole text of a corridor, from its three parts. Assumes nothing.
+-- The whole text of a corridor, from its three parts.
 use Rattle.base_laws.proofs.Kit.{ℕ, suc, _+_, _≡_, sym, ap, _∙_, true, _&&_, _≢_, List, arith, le-leb, lt-leb, eqb, length, getD, take}
 use Rattle.base_search.specs.declared.Verdict.the-variants.{Passes, Refused}
 use Rattle.base_search.specs.Checks.{refusal, _then_, verdict, checked}

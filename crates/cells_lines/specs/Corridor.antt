@@ -1,5 +1,5 @@
 -- The text of a corridor in cells (T-12): 1 to 64 lines `C`, flow limit, holding limit, wave ratio, start; one line `X`, exit limit; 1 to 120 lines `D`, demand.
--- Lines, cells and demands are counted from 0 here, lines from 1 in a refusal. Assumes nothing.
+-- Lines, cells and demands are counted from 0 here, lines from 1 in a refusal.
 use Prim.Native.Nat.{ℕ, suc, _+_, _-_}
 use mathlib.Core.Bool.{Bool, cond, _&&_}
 use mathlib.Core.List.{List, [], _∷_}

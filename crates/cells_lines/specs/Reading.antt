@@ -1,4 +1,4 @@
--- What the functions that read a corridor's text promise. Assumes nothing.
+-- What the functions that read a corridor's text promise.
 use Prim.Native.Nat.{ℕ, _+_, _≤_, _<_}
 use mathlib.Core.Path.{_≡_}
 use mathlib.Core.Bool.{cond}

@@ -7,31 +7,31 @@ ghost use Rattle.cells_lines.specs.Corridor.{letterC, validCell};
 ghost use Rattle.cells_lines.specs.Reading.{volumeAt, CellGot, CellsAsked, CellsGot, DemandsAsked, DemandsGot, RestAsked, RestGot, CorridorGot};
 use text_reader::LineRead;
 
-// What a `C` line says: the place of the next line, or the number of its refusal.
+// The result of a `C` line: the place of the next line, or the number of its refusal.
 pub enum CellRead {
     Passed(usize),
     Refused(u32),
 }
 
-// What the `C` lines say: how many there are and the place of the next line, or a refusal.
+// The result of the `C` lines: how many there are and the place of the next line, or a refusal.
 pub enum CellsRead {
     Passed { cells: usize, next: usize },
     Stopped { number: u32, line: u32 },
 }
 
-// What a line of one volume says: the volume and the place of the next line, unless it is refused.
+// The result of a line of one volume: the volume and the place of the next line, unless it is refused.
 pub enum VolumeRead {
     Passed { volume: u32, next: usize },
     Malformed,
 }
 
-// What the `D` lines say: how many there are, or the line that is refused.
+// The result of the `D` lines: how many there are, or the line that is refused.
 pub enum DemandsRead {
     Passed(usize),
     Stopped(u32),
 }
 
-// What a whole text says: how many cells, the exit limit and how many demands, or a refusal.
+// The result of a whole text: how many cells, the exit limit and how many demands, or a refusal.
 pub enum CorridorRead {
     Loaded {
         cells: usize,

@@ -1,4 +1,4 @@
--- The flows of one step: none takes more than there is, or gives more than a cell has room for. Assumes nothing.
+-- The flows of one step: none takes more than there is, or gives more than a cell has room for.
 use Rattle.base_laws.proofs.Kit.{ℕ, zero, suc, _+_, _-_, _*_, _≤_, _<_, min, _≡_, Bool, true, false, cond, List, mul-le-mul-right, add-one, arith, lt-ltb, le-ltb, ltb, length, getD}
 use Rattle.base_laws.proofs.Laws.{length-list, get-list}
 use Rattle.cells_steps.specs.Steps.{Chain, inflow, outflow, flow, volumeAfter, after, Ready}

@@ -1,4 +1,4 @@
--- Every list of steps keeps the holding limits, and nothing is lost. Assumes nothing.
+-- Every list of steps keeps the holding limits, and nothing is lost.
 use Rattle.base_laws.proofs.Kit.{ℕ, zero, suc, _+_, _≤_, _≡_, refl, _∙_, List, [], _∷_, _++_, arith, length, getD, take, take-suc, take-all}
 use Rattle.base_laws.specs.Indexed.{list}
 use Rattle.cells_steps.specs.Steps.{Chain, flow, volumeAfter, after, volumesAfter, totalIn, totalOut, Ready}

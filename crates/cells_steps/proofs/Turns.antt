@@ -1,4 +1,4 @@
--- One law for each way through the code of a step and of a list of steps. Assumes nothing.
+-- One law for each way through the code of a step and of a list of steps.
 use Rattle.base_laws.proofs.Kit.{ℕ, suc, _+_, _-_, _*_, _≤_, _<_, min, _≡_, refl, sym, ap, _∙_, Bool, true, false, List, [], _∷_, add-one, arith, eqb-true, eqb-false, eqb, length, getD, set, drop, length-set, drop-of-length-le, drop-cons, getD-set-same, getD-set-other}
 use mir.Syntax.{w32}
 use mir.Val.{Fits}

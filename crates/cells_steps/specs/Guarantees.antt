@@ -1,4 +1,4 @@
--- What every list of steps keeps (T-12), a field for each sentence. Assumes nothing.
+-- What every list of steps keeps (T-12), a field for each sentence.
 use Prim.Native.Nat.{ℕ, _+_, _≤_, _<_}
 use mathlib.Core.Path.{_≡_}
 use mathlib.Core.List.{List, [], _∷_}

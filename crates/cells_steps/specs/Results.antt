@@ -1,4 +1,4 @@
--- What the functions that step a chain promise. Assumes nothing.
+-- What the functions that step a chain promise.
 use Prim.Native.Nat.{ℕ}
 use mathlib.Core.Path.{_≡_}
 use mathlib.Core.List.{List}

@@ -1,4 +1,4 @@
--- The steps of a chain of cells (T-12). Cells and borders are counted from 0: border i is the way into cell i, the last border is the way out. Assumes nothing.
+-- The steps of a chain of cells (T-12). Cells and borders are counted from 0: border i is the way into cell i, the last border is the way out.
 use Prim.Native.Nat.{ℕ, zero, suc, _+_, _-_, _*_, _/_, _≤_, _<_, min}
 use mathlib.Core.Path.{_≡_}
 use mathlib.Core.Bool.{cond}

@@ -1,4 +1,4 @@
--- Bits, eight to a byte: a bit that is set, and the others, which stay. Assumes nothing.
+-- Bits, eight to a byte: a bit that is set, and the others, which stay.
 use Rattle.base_laws.proofs.Kit.{ℕ, zero, suc, _+_, _-_, _*_, _/_, _%_, _^_, _≤_, _<_, _≡_, refl, sym, ap, _∙_, _⊎_, inl, inr, _≢_, Bool, true, false, List, [], _∷_, ℕ-discrete, eq-or-lt-of-le, pow-suc, pow-le-pow-right, div-eq-of-lt, div-div-eq-div-mul, arith, eqb, length, getD, set, getD-set-same, getD-set-other}
 use Rattle.base_laws.specs.Sum.{sum, only}
 use Rattle.base_laws.proofs.Sums.{sum-ext, sum-bound}

@@ -1,4 +1,4 @@
--- The call on listings for the paper's corridor, computed. Assumes nothing.
+-- The call on listings for the paper's corridor, computed.
 use Rattle.base_laws.proofs.Kit.{ℕ, _≡_, refl, List, [], _∷_, map}
 use Prim.Native.String.{String}
 use Rattle.base_search.specs.declared.Verdict.{Verdict}

@@ -1,4 +1,4 @@
--- One law for each way through `judge_entry`. Assumes nothing.
+-- One law for each way through `judge_entry`.
 use Rattle.base_laws.proofs.Kit.{ℕ, _-_, _/_, _≤_, _<_, _≡_, refl, sym, ap, _∙_, _≢_, Bool, true, false, not, cond, List, arith, eq-eqb, ne-eqb, eqb-true, eqb-false, not-true, not-false, eqb, length}
 use Rattle.base_laws.specs.Test.{_and_}
 use Rattle.network_tables.specs.declared.Counts.{Counts}

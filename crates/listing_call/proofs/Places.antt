@@ -1,4 +1,4 @@
--- The places of the tables: each variable has its own bit, and each number is of one volume or of the phases of one signal. Assumes nothing.
+-- The places of the tables: each variable has its own bit, and each number is of one volume or of the phases of one signal.
 use Rattle.base_laws.proofs.Kit.{ℕ, suc, _+_, _-_, _*_, _≤_, _<_, _≡_, refl, true, List, decLe, mul-le-mul-left, arith, eq-eqb, eqb-true}
 use Rattle.base_laws.specs.Test.{_and_}
 use Rattle.model.specs.Network.{maxSteps, maxSignals}

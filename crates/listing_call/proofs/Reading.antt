@@ -1,4 +1,4 @@
--- The loop over the lines of a listing: what a line comes to is the verdict on it. Assumes nothing.
+-- The loop over the lines of a listing: what a line comes to is the verdict on it.
 use Rattle.base_laws.proofs.Kit.{ℕ, suc, _+_, _-_, _/_, _≤_, _<_, _≡_, refl, sym, ap, _∙_, Bool, true, false, not, cond, List, arith, eq-eqb, ne-eqb, eqb-true, eqb, length, getD, set}
 use Rattle.base_search.specs.declared.Refusal.{Refusal}
 use Rattle.base_search.specs.declared.Verdict.{Verdict}

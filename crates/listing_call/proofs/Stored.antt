@@ -1,4 +1,4 @@
--- The tables while lines come in: what is kept of the first i lines. Assumes nothing.
+-- The tables while lines come in: what is kept of the first i lines.
 use Rattle.base_laws.proofs.Kit.{ℕ, zero, suc, _+_, _-_, _*_, _/_, _^_, _≤_, _<_, _≡_, refl, sym, ap, ap₂, _∙_, Bool, true, false, cond, List, add-one, ℕ-discrete, zero-div, arith, leb-true, eqb, length, getD, set, length-set, getD-set-same, getD-set-other}
 use Rattle.text_reader.specs.Field.{largest}
 use Rattle.base_laws.specs.Test.{_and_, _or_}

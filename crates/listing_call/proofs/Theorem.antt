@@ -1,4 +1,4 @@
--- Reading the written plan gives just the listing's numbers. Assumes nothing.
+-- Reading the written plan gives just the listing's numbers.
 use Rattle.base_laws.proofs.Kit.{ℕ, zero, suc, _*_, _-_, _%_, _≤_, _<_, _≡_, refl, sym, ap, _∙_, _⊎_, inl, inr, Bool, true, false, not, List, add-one, decLe, eq-or-lt-of-le, div-add-mod', arith, eqb-true, leb-true, eqb, length}
 use Rattle.base_search.specs.Checks.{Hold}
 use Rattle.text_reader.specs.Lines.{Line, lines}

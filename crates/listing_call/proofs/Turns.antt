@@ -1,4 +1,4 @@
--- One law for each way through the functions that judge a line, in the form of what is known there. Assumes nothing.
+-- One law for each way through the functions that judge a line, in the form of what is known there.
 use Rattle.base_laws.proofs.Kit.{ℕ, _+_, _-_, _*_, _/_, _%_, _≤_, _<_, _≡_, refl, sym, ap, _∙_, _≢_, Bool, true, false, not, cond, _||_, List, mul-le-mul, arith, eq-eqb, ne-eqb, le-leb, lt-leb, leb-true, not-true, not-false, eqb, getD}
 use Rattle.text_reader.specs.Field.{largest}
 use Rattle.base_laws.specs.Test.{_and_, _or_, within}

@@ -1,4 +1,4 @@
--- Where the tables hold a network's numbers, what is judged and written by them is what the request says of the network. Assumes nothing.
+-- Where the tables hold a network's numbers, what is judged and written by them is what the request says of the network.
 use Rattle.base_laws.proofs.Kit.{ℕ, zero, suc, _+_, _-_, _*_, _≤_, _<_, _≡_, refl, sym, ap, ap₂, _∙_, Bool, true, false, not, List, [], _∷_, _++_, append-assoc, append-nil, decLe, add-one, arith, length, getD}
 use Rattle.base_search.specs.declared.Verdict.{Verdict}
 use Rattle.base_search.specs.Checks.{each, orElse, checked, verdict}

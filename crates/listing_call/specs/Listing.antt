@@ -1,5 +1,5 @@
 -- Plans straight from the solver (T-01): when a listing is refused, the numbers that it gives, and the plan text that is written of them. The listing is the list of its
--- lines (crate `listing_lines`). Steps, signals, links and movements are counted from 0 here, from 1 in a variable, phases from 1. Assumes nothing.
+-- lines (crate `listing_lines`). Steps, signals, links and movements are counted from 0 here, from 1 in a variable, phases from 1.
 use Prim.Native.Nat.{ℕ, zero, suc, _+_, _*_, _-_, _/_, _%_, _^_}
 use mathlib.Core.Bool.{Bool, true, false, cond, not}
 use mathlib.Core.List.{List, [], _∷_, _++_}
@@ -109,7 +109,7 @@ module _ (listing : List Entry) where
   unfoldable pub value : Variable → ℕ
   value v = valueBefore (length listing) v
 
--- ---- the checks, line by line: `has` tells whether the network has what a variable names, `seconds` the length of each step
+-- ---- the checks, line by line: `has` says whether the network has what a variable names, `seconds` the length of each step
 -- 22: line i is not malformed, the network has its variable, a phase's value is 0 or 1, and no line before sets it
 unfoldable pub formedBy : (Variable → Bool) → List Entry → ℕ → Entry → Bool
 formedBy has listing i (Sets v millionths) = has v and validValue v millionths and not (setBefore listing i v)

@@ -1,4 +1,4 @@
--- What the call promises, and the theorem of the request: reading the written plan gives just the listing's numbers. Assumes nothing.
+-- What the call promises, and the theorem of the request: reading the written plan gives just the listing's numbers.
 use Prim.Native.Nat.{ℕ, _+_, _*_, _-_, _/_, _%_, _^_, _≤_, _<_}
 use mathlib.Core.Path.{_≡_}
 use mathlib.Core.Bool.{true}

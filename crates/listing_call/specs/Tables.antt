@@ -1,5 +1,5 @@
 -- The program's tables of a listing's numbers: the numbers of each step's line, and a bit for each variable that was set. Not of the request: the contracts between the
--- functions speak of these. Assumes nothing.
+-- functions speak of these.
 use Prim.Native.Nat.{ℕ, suc, _+_, _*_, _-_, _/_, _%_, _^_, _≤_, _<_}
 use mathlib.Core.Path.{_≡_}
 use mathlib.Core.Bool.{Bool, true, false, cond}
@@ -69,7 +69,7 @@ Placed (Admitted i n) = (1 ≤ n) × (n ≤ maxSteps) × (1 ≤ i) × (i ≤ max
 Placed (LetOut i n) = (1 ≤ n) × (n ≤ maxSteps) × (1 ≤ i) × (i ≤ maxLinks)
 Placed (Moved j n) = (1 ≤ n) × (n ≤ maxSteps) × (1 ≤ j) × (j ≤ maxMovements)
 
--- ---- what the tables of a network tell: what it has, and how long a step is
+-- ---- what the tables of a network say: what it has, and how long a step is
 unfoldable pub hasPhaseIn : ℕ → ℕ → ℕ → List ℕ → Bool
 hasPhaseIn r k signals phases = within 1 r signals and within 1 k (getD phases (r - 1) 0)
 

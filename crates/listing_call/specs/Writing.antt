@@ -1,4 +1,4 @@
--- What the stages of the call ask and promise. Not of the request. Assumes nothing.
+-- What the stages of the call ask and promise. Not of the request.
 use Prim.Native.Nat.{ℕ}
 use mathlib.Core.Path.{_≡_}
 use mathlib.Core.List.{List}

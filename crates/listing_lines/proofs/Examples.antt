@@ -1,4 +1,4 @@
--- What the definitions say of some lines, computed. Assumes nothing.
+-- What the definitions say of some lines, computed.
 use Rattle.base_laws.proofs.Kit.{ℕ, _≡_, refl, List, [], _∷_, map}
 use Prim.Native.Char.{code}
 use Prim.Native.String.{String}

@@ -1,4 +1,4 @@
--- The laws of a listing's line that the proofs of the functions cite. Assumes nothing.
+-- The laws of a listing's line that the proofs of the functions cite.
 use Rattle.base_laws.proofs.Kit.{ℕ, suc, _+_, _-_, _*_, _^_, _≤_, _<_, _≡_, refl, sym, ap, _∙_, _≢_, Bool, true, false, not, cond, and-false, List, [], _∷_, foldl, add-one, pow-suc, pow-le-pow-right, arith, eq-eqb, ne-eqb, le-leb, lt-leb, lt-ltb, le-ltb, not-true, not-false, length, getD, take, drop, drop-of-length-le, drop-cons, eqb}
 use Rattle.text_reader.specs.Field.{digit, digits, shift, decimal}
 use Rattle.text_reader.proofs.Numerals.{digit-bounds}

@@ -1,4 +1,4 @@
--- From line to line of a listing: what a proof above cites instead of opening the definitions. Assumes nothing.
+-- From line to line of a listing: what a proof above cites instead of opening the definitions.
 use Rattle.base_laws.proofs.Kit.{ℕ, _+_, _-_, _*_, _≤_, _<_, _≡_, refl, sym, ap, _∙_, _≢_, Bool, true, false, cond, List, [], _∷_, add-zero, decLe, ℕ-discrete, arith, eq-eqb, ne-eqb, length, getD, take, drop, drop-of-length-le, length-drop, drop-drop, getD-drop, take-length, eqb}
 use Rattle.text_reader.specs.Lines.{inFront, split}
 use Rattle.listing_lines.specs.declared.Named.{Named}

@@ -1,4 +1,4 @@
--- One law for each way through the functions that take a line apart, in the form of what is known there. Assumes nothing.
+-- One law for each way through the functions that take a line apart, in the form of what is known there.
 use Rattle.base_laws.proofs.Kit.{ℕ, zero, suc, _+_, _-_, _*_, _^_, _≤_, _<_, _≡_, refl, sym, ap, _∙_, _≢_, Bool, true, false, cond, _&&_, and-eq-true-iff, List, [], _∷_, foldl, le-trans, mul-le-mul, pow-le-pow-right, arith, eq-eqb, ne-eqb, leb-true, length, getD, take, drop, length-drop, take-length, length-take-le, eqb, leb}
 use Rattle.text_reader.specs.Field.{digit, digits, shift, decimal}
 use Rattle.text_reader.proofs.Numerals.{digit-bounds}

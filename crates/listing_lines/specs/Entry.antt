@@ -1,5 +1,5 @@
 -- What a line of a solver's listing says (request T-01): a variable, a space and a decimal. All that is above the reader is stated over the list of entries alone,
--- never over bytes. Assumes nothing.
+-- never over bytes.
 use Prim.Native.Nat.{ℕ, suc, _+_, _-_, _*_, _^_, _≤_}
 use mathlib.Core.Path.{_≡_}
 use mathlib.Core.List.{List, [], _∷_}
@@ -47,7 +47,7 @@ plus NoValue w = NoValue
 unfoldable pub fractionOf : List ℕ → Digits
 fractionOf bs = scaled (10 ^ (6 - length bs)) (digitsOf 6 bs)
 
--- a decimal in millionths: one to ten digits, then perhaps a point (byte 46) and one to six more
+-- a decimal in millionths: one to ten digits, then optionally a point (byte 46) and one to six more
 unfoldable pub rateOf : List ℕ → Digits
 rateOf bs =
     plus (scaled 1_000_000 (digitsOf 10 (upTo 46 bs)))

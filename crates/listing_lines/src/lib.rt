@@ -61,7 +61,7 @@ fn is_leading_zero(bytes: &[u8]) -> bool
     bytes[0] == 48
 }
 
-// How many bytes stand before the first of this byte; all, where there is none.
+// The number of bytes before the first such byte; all where there is none.
 fn find(bytes: &[u8], byte: u8) -> usize
     ensures { λ r. ⌜ Found byte (now (bytes .entry)) r ⌝ }
 {
@@ -133,7 +133,7 @@ fn fraction_of(bytes: &[u8]) -> Digits
     }
 }
 
-// A decimal in millionths: one to ten digits, then perhaps a point and one to six more.
+// A decimal in millionths: one to ten digits, then optionally a point and one to six more.
 fn rate_of(bytes: &[u8]) -> Digits
     ensures { λ r. ⌜ r ≡ rateOf (now (bytes .entry)) ⌝ }
 {

@@ -1,5 +1,5 @@
 -- arrived(n) by the step in which the travel time ends; where that is a boundary, and before the timeline has run for the travel time, it is what the paper says;
--- and in an arrival before time 0 no plan has a say. Assumes nothing.
+-- and in an arrival before time 0 no plan has a say.
 use Rattle.base_laws.proofs.Kit.{_≡_, sym, ap, _∙_, _⊎_, inl, inr, List, ℕ, suc, _+_, _*_, _-_, _≤_, _<_, decLe, eq-or-lt-of-le, mul-le-mul-right, arith, leb, le-leb, lt-leb, lt-ltb, le-ltb}
 use Rattle.text_reader.specs.Lines.{Line}
 use Rattle.base_laws.specs.Sum.{sum}

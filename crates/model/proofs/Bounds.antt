@@ -1,6 +1,6 @@
 -- How large the sums of a plan can be, for a program that forms them in words of 32 and 64 bits: right after the limits of its volumes have passed at a step.
 -- At most 23 movements lead into a link, and from one, since (from, to) rises and from is not to. One step may admit all that waits, so what has entered is
--- bounded by what came to the entry and by refusal 30. Assumes nothing.
+-- bounded by what came to the entry and by refusal 30.
 use Rattle.base_laws.proofs.Kit.{_≡_, refl, sym, ap, _∙_, Bool, true, false, cond, _⊎_, inl, inr, ⊎-elim, _≢_, List, ℕ, zero, suc, _+_, _*_, _-_, _≤_, _<_, eq-or-lt-of-le, le-trans, mul-le-mul, mul-le-mul-right, arith, decLe, eqb, ltb, leb-true, ltb-true, eqb-true, eqb-false, not-true, lt-ltb, le-ltb}
 use Rattle.base_search.specs.Checks.{Hold}
 use Rattle.text_reader.specs.Lines.{Line}

@@ -1,4 +1,4 @@
--- The paper's cases c1 to c11, by one computation on the definitions. Assumes nothing.
+-- The paper's cases c1 to c11, by one computation on the definitions.
 use Rattle.base_laws.proofs.Kit.{_≡_, refl, List, [], _∷_, map}
 use Rattle.model.specs.Report.{report}
 use Rattle.model.proofs.Opened.{opened}

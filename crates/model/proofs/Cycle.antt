@@ -1,4 +1,4 @@
--- The cycle clock counts the ordinary seconds of a cycle: of one that begins in the plan, and of the one that runs at time 0. Assumes nothing.
+-- The cycle clock counts the ordinary seconds of a cycle: of one that begins in the plan, and of the one that runs at time 0.
 use Rattle.base_laws.proofs.Kit.{_≡_, refl, sym, ap, _∙_, Bool, true, false, not, _||_, _≢_, List, ℕ, zero, suc, _+_, _-_, _≤_, _<_, le-refl, le-of-lt, ℕ-discrete, arith, leb, leb-true, eq-eqb, ne-eqb}
 use Rattle.text_reader.specs.Lines.{Line}
 use Rattle.model.specs.declared.Signal.{Signal}

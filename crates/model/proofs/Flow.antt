@@ -1,4 +1,4 @@
--- What an accepted plan keeps of the traffic. Assumes nothing.
+-- What an accepted plan keeps of the traffic.
 use Rattle.base_laws.proofs.Kit.{_≡_, refl, sym, ap, _∙_, true, List, [], ℕ, zero, suc, _+_, _*_, _-_, _/_, _≤_, _<_, min, le-refl, le-trans, le-of-mul-le-mul-right, mul-le-mul-left, mul-le-mul-right, mul-div-cancel, le-div-iff-mul-le, decLe, arith, eqb, leb-true}
 use Rattle.text_reader.specs.Lines.{Line}
 use Rattle.base_laws.specs.Sum.{sum, only}

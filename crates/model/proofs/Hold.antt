@@ -1,4 +1,4 @@
--- The plan that an empty text stands for (T-07): what its lines say, and that it is answered as its written text is. Assumes nothing.
+-- The plan that an empty text stands for (T-07): what its lines say, and that it is answered as its written text is.
 use Rattle.base_laws.proofs.Kit.{ℕ, zero, suc, _+_, _*_, _-_, _^_, _≤_, _<_, _≡_, refl, sym, ap, _∙_, Bool, true, false, cond, List, [], _∷_, le-trans, pow-le-pow-right, decLt, arith, lt-ltb, leb-true, le-ltb, ltb, length, getD, List·getD-eq-default}
 use Rattle.base_search.specs.declared.Refusal.{Refusal}
 use Rattle.base_search.specs.declared.Verdict.{Verdict}

@@ -1,4 +1,4 @@
--- Differences of naturals, weighted and summed in the integers. Assumes nothing.
+-- Differences of naturals, weighted and summed in the integers.
 use Rattle.base_laws.proofs.Kit.{_≡_, refl, ap, ℕ, zero, suc, _+_, _*_, _-_, decLe, arith, lt-ltb, le-ltb}
 use lib.IntN.{ℤ, pos, negsuc, negℤ, subℕ, _+ℤ_, _*ℤ_}
 use Rattle.base_laws.specs.Sum.{sum}

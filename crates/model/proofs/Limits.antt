@@ -1,4 +1,4 @@
--- The limits of a valid network's numbers. Assumes nothing.
+-- The limits of a valid network's numbers.
 use Rattle.base_laws.proofs.Kit.{_≡_, refl, ap, true, List, [], ℕ, zero, suc, _+_, _*_, _-_, _≤_, _<_, decLe, arith, leb, leb-true}
 use Rattle.text_reader.specs.Lines.{Line}
 use Rattle.base_laws.specs.Sum.{sum}

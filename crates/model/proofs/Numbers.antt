@@ -1,4 +1,4 @@
--- Every refusal of a call has one of its numbers. Assumes nothing.
+-- Every refusal of a call has one of its numbers.
 use Rattle.base_laws.proofs.Kit.{_≡_, refl, true, List, ℕ, suc, needs, length}
 use Rattle.base_search.specs.declared.Refusal.{Refusal}
 use Rattle.base_search.specs.declared.Verdict.{Verdict}

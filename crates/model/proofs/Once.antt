@@ -1,4 +1,4 @@
--- Between a green of a phase and its next green every other phase has exactly one green. Assumes nothing.
+-- Between a green of a phase and its next green every other phase has exactly one green.
 use Rattle.base_laws.proofs.Kit.{_≡_, refl, sym, _∙_, true, _⊎_, inl, inr, ⊎-elim, _≢_, List, [], _∷_, _++_, List·Memᴰ, Memᴰ·append-left, Memᴰ·append-right, List·Memᴰ·append-cases, List·Memᴰ·cases-cons, List·Memᴰ·not-nil, List·Memᴰ·head, List·Memᴰ·tail, ℕ, zero, suc, _+_, _-_, _≤_, _<_, eq-or-lt-of-le, le-refl, decLe, arith}
 use Rattle.text_reader.specs.Lines.{Line}
 use Rattle.model.specs.Network.{signalCount, signal}

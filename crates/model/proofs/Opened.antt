@@ -1,4 +1,4 @@
--- To unfold `opened` is to unfold every definition of the paper, for a proof by computation. Assumes nothing.
+-- To unfold `opened` is to unfold every definition of the paper, for a proof by computation.
 use Rattle.base_search.specs.Checks.{orElse, firstFrom, checked, verdict, table}
 use Rattle.text_reader.proofs.Opened.{opened as linesOpened}
 use Rattle.text_writer.specs.Records.{numeral, fieldText, fieldTexts, recordText, recordTexts, recordLine, recordLines}

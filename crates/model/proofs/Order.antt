@@ -1,4 +1,4 @@
--- The order of the phases of a signal: from a phase through all others back to it. Assumes nothing.
+-- The order of the phases of a signal: from a phase through all others back to it.
 use Rattle.base_laws.proofs.Kit.{_≡_, refl, sym, ap, _∙_, _⊎_, inl, inr, ⊎-elim, _≢_, List, [], _∷_, _++_, append-nil, ℕ, zero, suc, _+_, _-_, _≤_, _<_, eq-or-lt-of-le, le-refl, arith, eq-eqb, ne-eqb}
 use Rattle.model.specs.Signals.{phaseAfter, nthNext, PhaseOrder}
 use Rattle.model.specs.Guarantees.{rising, others}

@@ -1,4 +1,4 @@
--- A signal's ordinary steps: the last by a boundary, the first after one, and their seconds. Assumes nothing.
+-- A signal's ordinary steps: the last by a boundary, the first after one, and their seconds.
 use Rattle.base_laws.proofs.Kit.{_≡_, refl, sym, ap, _∙_, Bool, true, false, true≢false, List, ℕ, zero, suc, _+_, _-_, _≤_, _<_, le-refl, decLe, arith}
 use Rattle.text_reader.specs.Lines.{Line}
 use Rattle.base_laws.specs.Sum.{sum}

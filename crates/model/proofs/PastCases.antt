@@ -1,4 +1,4 @@
--- Networks with a past, and with vehicles that wait at the start (T-09), by computation on the definitions. Assumes nothing.
+-- Networks with a past, and with vehicles that wait at the start (T-09), by computation on the definitions.
 use Rattle.base_laws.proofs.Kit.{_≡_, refl, List, [], _∷_, map, ℕ, zero, suc, replicate}
 use Prim.Native.String.{String, _++_}
 use Rattle.text_reader.specs.Lines.{lines}

@@ -1,4 +1,4 @@
--- The phase that a mask shows. Assumes nothing.
+-- The phase that a mask shows.
 use Rattle.base_laws.proofs.Kit.{_≡_, sym, ap, _∙_, _⊎_, inl, inr, ℕ, zero, suc, _-_, _*_, _%_, _^_, _≤_, _<_, eq-or-lt-of-le, mod-eq-of-lt, pow-le-pow-right, ℕ-discrete, arith, eq-eqb, ne-eqb}
 use lib.Pow.{pow-lt}
 use Rattle.model.specs.Signals.{phaseOf}

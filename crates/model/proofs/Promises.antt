@@ -1,4 +1,4 @@
--- What a plan's check promises, for any two lists of lines and any ledger. Assumes nothing.
+-- What a plan's check promises, for any two lists of lines and any ledger.
 use Rattle.base_laws.proofs.Kit.{_≡_, refl, List, ℕ, length}
 use Rattle.base_search.specs.declared.Refusal.{Refusal}
 use Rattle.base_search.specs.declared.Verdict.{Verdict}

@@ -1,4 +1,4 @@
--- Between a green of a phase and its next green every other phase has one green, in order, and the red is as long as those. Assumes nothing.
+-- Between a green of a phase and its next green every other phase has one green, in order, and the red is as long as those.
 use Rattle.base_laws.proofs.Kit.{_≡_, refl, sym, ap, _∙_, Bool, true, false, _⊎_, inl, inr, ⊎-elim, _≢_, List, [], _∷_, ℕ, zero, suc, _+_, _*_, _-_, _≤_, _<_, leb-true, eq-or-lt-of-le, le-refl, ℕ-discrete, decLe, arith}
 use Rattle.text_reader.specs.Lines.{Line}
 use Rattle.model.specs.declared.Signal.{Signal}

@@ -1,4 +1,4 @@
--- The rows of a ledger that is written row by row, for a program that writes row m through the part of the ledger that starts at it. Assumes nothing.
+-- The rows of a ledger that is written row by row, for a program that writes row m through the part of the ledger that starts at it.
 use Rattle.base_laws.proofs.Kit.{_≡_, refl, sym, ap, _∙_, _⊎_, inl, inr, List, [], _∷_, _++_, append-assoc, ℕ, zero, suc, _+_, _*_, _-_, _≤_, _<_, eq-or-lt-of-le, mul-le-mul-right, arith, length, getD, take, drop, length-append, length-drop, List·getD-append, getD-append-add, take-at, drop-append-add, drop-drop}
 use Rattle.text_reader.specs.Lines.{Line}
 use Rattle.base_laws.specs.Sum.{joined}

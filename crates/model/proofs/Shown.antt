@@ -1,4 +1,4 @@
--- A signal through the steps of an accepted plan. Assumes nothing.
+-- A signal through the steps of an accepted plan.
 use Rattle.base_laws.proofs.Kit.{_≡_, refl, sym, ap, _∙_, Bool, true, false, cond, not, _≢_, List, ℕ, zero, suc, _+_, _-_, _≤_, _<_, arith, leb-true, eqb-true, eq-eqb, ne-eqb}
 use Rattle.text_reader.specs.Lines.{Line}
 use Rattle.model.specs.declared.Signal.{Signal}

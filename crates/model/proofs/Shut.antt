@@ -1,4 +1,4 @@
--- A shut link of an accepted plan passes nothing. Assumes nothing.
+-- A shut link of an accepted plan passes nothing.
 use Rattle.base_laws.proofs.Kit.{_≡_, refl, sym, _∙_, true, ⊎-elim, List, ℕ, suc, _-_, _/_, _%_, _^_, _≤_, _<_, arith, eqb, leb-true, eqb-true}
 use Rattle.text_reader.specs.Lines.{Line}
 use Rattle.model.specs.Network.{linkCount, signalCount, movementCount, stepCount, signal, signalOf, phaseMask, fromLink}

@@ -1,4 +1,4 @@
--- Texts of the cases, written as strings. Assumes nothing.
+-- Texts of the cases, written as strings.
 use Rattle.base_laws.proofs.Kit.{ℕ, List, [], _∷_}
 use Prim.Native.Char.{code}
 use Prim.Native.String.{String, _++_}

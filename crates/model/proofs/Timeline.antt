@@ -1,4 +1,4 @@
--- The two curves on the timeline: what entered and left a link in the past, in which no plan has a say, and then by the plan. Assumes nothing.
+-- The two curves on the timeline: what entered and left a link in the past, in which no plan has a say, and then by the plan.
 use Rattle.base_laws.proofs.Kit.{_≡_, sym, ap, ap₂, _∙_, List, ℕ, zero, suc, _+_, _-_, _≤_, _<_, arith, lt-ltb, le-ltb}
 use Rattle.text_reader.specs.Lines.{Line}
 use Rattle.base_laws.specs.Sum.{sum}

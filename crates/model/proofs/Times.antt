@@ -1,4 +1,4 @@
--- Laws of the boundaries' times and of the step in which a travel time ends. Assumes nothing.
+-- Laws of the boundaries' times and of the step in which a travel time ends.
 use Rattle.base_laws.proofs.Kit.{_≡_, refl, Bool, true, false, cond, List, ℕ, zero, suc, _+_, _-_, _≤_, _<_, decLe, arith, leb, le-leb, lt-leb}
 use Rattle.text_reader.specs.Lines.{Line}
 use Rattle.base_laws.specs.Sum.{sum}

@@ -1,4 +1,4 @@
--- Texts with trams (T-08), by computation on the definitions. Assumes nothing.
+-- Texts with trams (T-08), by computation on the definitions.
 use Rattle.base_laws.proofs.Kit.{_≡_, refl, List, [], _∷_, map, replicate}
 use Prim.Native.String.{String, _++_}
 use Rattle.text_reader.specs.Lines.{lines}

@@ -1,4 +1,4 @@
--- The doubled travel time of an accepted plan. Assumes nothing.
+-- The doubled travel time of an accepted plan.
 use Rattle.base_laws.proofs.Kit.{_≡_, sym, ap, _∙_, List, ℕ, zero, suc, _+_, _*_, _-_, _≤_, _<_, le-refl, arith}
 use Rattle.text_reader.specs.Lines.{Line}
 use Rattle.base_laws.specs.Sum.{sum}

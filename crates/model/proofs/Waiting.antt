@@ -1,4 +1,4 @@
--- Vehicles that wait at the entry. Assumes nothing.
+-- Vehicles that wait at the entry.
 use Rattle.base_laws.proofs.Kit.{_≡_, refl, true, List, ℕ, zero, suc, _+_, _≤_, _<_, arith, leb-true}
 use Rattle.text_reader.specs.Lines.{Line}
 use Rattle.base_laws.specs.Sum.{sum}

@@ -1,4 +1,4 @@
--- The guarantees on reds are not empty: the paper's corridor has one. Signal 1 shows phase 2 before the plan and in step 4, and phase 1 between. Assumes nothing.
+-- The guarantees on reds are not empty: the paper's corridor has one. Signal 1 shows phase 2 before the plan and in step 4, and phase 1 between.
 use Rattle.base_laws.proofs.Kit.{_≡_, refl, sym, _∙_, true, true≢false, List, ℕ, zero, suc, _≤_, _<_, decLe, arith}
 use Rattle.text_reader.specs.Lines.{Line, lines}
 use Rattle.model.specs.Network.{signal, stepCount}

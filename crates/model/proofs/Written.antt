@@ -1,4 +1,4 @@
--- Which rows a plan's check writes, and the ledger afterwards, number by number. Assumes nothing.
+-- Which rows a plan's check writes, and the ledger afterwards, number by number.
 use Rattle.base_laws.proofs.Kit.{_≡_, refl, ap, _∙_, true, _⊎_, inl, inr, ⊎-elim, List, _++_, ℕ, zero, suc, _+_, _*_, _-_, _≤_, _<_, le-refl, mul-le-mul-right, decLe, arith, leb-true, length, getD, drop, getD-append-add, getD-drop}
 use Rattle.base_search.specs.declared.Refusal.{Refusal}
 use Rattle.base_search.specs.declared.Verdict.{Verdict}

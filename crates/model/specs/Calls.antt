@@ -1,4 +1,4 @@
--- The calls: their answers, and the ledger after a plan's check. Assumes nothing.
+-- The calls: their answers, and the ledger after a plan's check.
 use Prim.Native.Nat.{ℕ, suc, _+_, _*_, _-_, _/_}
 use mathlib.Core.Bool.{Bool, true, false, cond}
 use mathlib.Core.List.{List, [], _++_}
@@ -23,7 +23,7 @@ unfoldable pub checkNetwork : List Line → Verdict
 checkNetwork network = verdict (networkChecks network)
 
 -- ---- check a plan
--- an accepted plan is told with the four totals
+-- an accepted plan is returned with the four totals
 unfoldable pub planAnswer : List Line → List Line → Verdict → PlanAnswer
 planAnswer network plan Passes = plan-answer.Accepted (totals network plan (stepCount network))
 planAnswer network plan (Refused r) = plan-answer.Refused r

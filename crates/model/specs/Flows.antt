@@ -1,5 +1,5 @@
 -- What the lines of a plan text say on a network, and the traffic reckoned from them. Step n leads from boundary n to boundary n + 1; n counts the plan's steps and
--- boundaries, m the timeline's. Assumes nothing.
+-- boundaries, m the timeline's.
 use Prim.Native.Nat.{ℕ, zero, suc, _+_, _*_, _-_}
 use mathlib.Core.List.{List, [], _∷_, _++_}
 use mathlib.Core.Bool.{Bool, cond}

@@ -1,4 +1,4 @@
--- What a plan text stands for (T-07): an empty one means that the network holds. Assumes nothing.
+-- What a plan text stands for (T-07): an empty one means that the network holds.
 use Prim.Native.Nat.{ℕ, _+_, _*_, _-_, _^_}
 use mathlib.Core.Path.{_≡_}
 use mathlib.Core.List.{List, [], _∷_}

@@ -1,6 +1,6 @@
 -- What the lines of a network text say ("The two texts"). Lines, signals, links, movements and steps are counted from 0 here, phases from 1.
 -- The timeline is the past steps (`H` lines) and behind them the plan's (`S` lines), lines whose first number is a length. Step m of the timeline leads from its
--- boundary m to m + 1; step n and boundary n of the plan are its step and boundary `onTimeline n`. Assumes nothing.
+-- boundary m to m + 1; step n and boundary n of the plan are its step and boundary `onTimeline n`.
 use Prim.Native.Nat.{ℕ, zero, suc, _+_, _*_, _-_}
 use mathlib.Core.List.{List, [], _∷_}
 use mathlib.Core.Bool.{cond, Bool}

@@ -1,4 +1,4 @@
--- What the program `plancheck` prints ("One corridor, whole"). Assumes nothing.
+-- What the program `plancheck` prints ("One corridor, whole").
 use Prim.Native.Nat.{ℕ, suc}
 use mathlib.Core.List.{List, [], _∷_, _++_}
 use Rattle.base_search.specs.declared.Verdict.{Verdict}

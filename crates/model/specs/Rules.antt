@@ -1,4 +1,4 @@
--- The rules, each a test: refusals 2 to 6, 28 and 30 of a network's values, and rules 10 to 18, 25 to 27 and 29 of step n. Assumes nothing.
+-- The rules, each a test: refusals 2 to 6, 28 and 30 of a network's values, and rules 10 to 18, 25 to 27 and 29 of step n.
 use Prim.Native.Nat.{ℕ, zero, suc, _+_, _*_, _-_, _^_}
 use mathlib.Core.Bool.{Bool, true, not, cond}
 use mathlib.Core.List.{List, []}

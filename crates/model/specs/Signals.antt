@@ -1,4 +1,4 @@
--- A signal through a step: rules 10 to 14 of one signal, and what it shows afterwards. Assumes nothing.
+-- A signal through a step: rules 10 to 14 of one signal, and what it shows afterwards.
 use Prim.Native.Nat.{ℕ, zero, suc, _+_, _-_, _/_, _%_, _^_, _≤_, _<_}
 use mathlib.Core.Path.{_≡_}
 use mathlib.Core.Logic.{_≢_}

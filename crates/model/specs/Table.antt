@@ -1,5 +1,4 @@
--- The checks of each call, in the paper's order ("The calls and how each declines"). A line is told by its number from 1, 0 where none is named.
--- Assumes nothing.
+-- The checks of each call, in the paper's order ("The calls and how each declines"). A line has its number from 1, and 0 where none is named.
 use Prim.Native.Nat.{ℕ, suc, _+_, _*_}
 use mathlib.Core.Bool.{Bool}
 use mathlib.Core.List.{List, [], _∷_}
@@ -61,7 +60,7 @@ module _ (network : List Line) where
       then check 1 (suc (signalLine network r)) 0 (isForm network (signalLine network r) letterG (6 + 2 * signal network r .phases))
       then check 3 (suc (signalLine network r)) (suc r) (validSignal (signal network r))
 
-  -- the phase of `T` line k, told at that line
+  -- the phase of `T` line k, reported at that line
   unfoldable pub tramPhaseChecks : ℕ → Checks
   tramPhaseChecks k = check 28 (suc (tramLine network k)) 0 (validTramPhase network k)
 
@@ -73,7 +72,7 @@ module _ (network : List Line) where
   unfoldable pub movementChecks : ℕ → Checks
   movementChecks j = recordChecks network (movementLine network j) letterM 4 5 (suc j) (validMovement network j)
 
-  -- the shares of link i, told at its last movement, whose line from 1 is `movementLine` of its number from 1
+  -- the shares of link i, reported at its last movement, whose line from 1 is `movementLine` of its number from 1
   unfoldable pub shareChecks : ℕ → Checks
   shareChecks i =
       check 5 (movementLine network (lastMovement network (movementCount network) i)) (lastMovement network (movementCount network) i) (validShares network i)

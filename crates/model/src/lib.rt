@@ -1,4 +1,5 @@
-// The types of the plan check's answers and of a signal. What they mean stands in specs/.
+// The definitions of the plan check (specs/) and the theorems about them (proofs/). In code only the types of its answers and
+// of a signal.
 use base_search::Refusal;
 
 // A signal (the paper's light): its `G` line, with the phase that it shows, for how many seconds, and the seconds since phase 1 last began.
@@ -28,7 +29,7 @@ pub enum PlanAnswer {
     Refused(Refusal),
 }
 
-// The answer to what stands on one link: the paper's standing and moving.
+// The state of one link: queued and in transit, the paper's standing and moving.
 pub enum LinkAnswer {
     State { queued: u32, in_transit: u32 },
     Refused(Refusal),

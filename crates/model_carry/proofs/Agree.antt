@@ -1,4 +1,4 @@
--- What stands at boundary a looks at the plan's lines before it, and at no others. Assumes nothing.
+-- What stands at boundary a looks at the plan's lines before it, and at no others.
 use Rattle.base_laws.proofs.Kit.{_≡_, refl, ap, ap₂, List, ℕ, zero, suc, _+_, _-_, _≤_, _<_, decLe, arith, eqb, lt-ltb, le-ltb}
 use Rattle.text_reader.specs.Lines.{Line}
 use Rattle.base_laws.specs.Sum.{only}

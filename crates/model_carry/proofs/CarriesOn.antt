@@ -1,4 +1,4 @@
--- The theorem of T-09, whole. Assumes nothing.
+-- The theorem of T-09, whole.
 use Rattle.base_laws.proofs.Kit.{_≡_, _∙_, _↔_, List, [], _++_, ℕ, _+_, _-_, _≤_, _<_, arith, length, take, drop, leb-true, eqb-true}
 use Rattle.base_search.specs.declared.Verdict.the-variants.{Passes}
 use Rattle.base_search.specs.Checks.{verdict, Hold}

@@ -1,4 +1,4 @@
--- Where the clipped tram lines come from, and that refusal 28 does not arise of them. Assumes nothing.
+-- Where the clipped tram lines come from, and that refusal 28 does not arise of them.
 use Rattle.base_laws.proofs.Kit.{_≡_, refl, Bool, true, false, cond, not, List, [], _∷_, ℕ, zero, suc, _-_, _≤_, _<_, min, max, arith, ltb, eqb, length, getD, leb-true, le-leb, ltb-true, lt-ltb}
 use Rattle.text_reader.specs.Lines.{Line, noLine, number, numberOf}
 use Rattle.text_writer.specs.Records.{recordLine}

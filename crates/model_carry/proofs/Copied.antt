@@ -1,4 +1,4 @@
--- The numbers that are written, for a program that copies them from the network's lines, from the rows of a ledger, and line by line. Assumes nothing.
+-- The numbers that are written, for a program that copies them from the network's lines, from the rows of a ledger, and line by line.
 use Rattle.base_laws.proofs.Kit.{_≡_, refl, sym, ap, ap₂, _∙_, Bool, true, false, cond, List, [], _∷_, _++_, append-assoc, ℕ, zero, suc, _+_, _*_, _-_, _<_, arith, length, getD, length-append, List·getD-append, getD-append-seam}
 use Rattle.text_reader.specs.Lines.{Line}
 use Rattle.text_writer.specs.Records.{recordText, recordTexts}

@@ -1,4 +1,4 @@
--- The cut network by the whole: for a program that judges the plan of b lines by the tables of the whole network. Assumes nothing.
+-- The cut network by the whole: for a program that judges the plan of b lines by the tables of the whole network.
 use Rattle.base_laws.proofs.Kit.{_≡_, refl, sym, ap, ap₂, _∙_, List, _++_, ℕ, zero, suc, _+_, _*_, _≤_, _<_, arith, leb, eqb, length, getD, drop, leb-true, le-leb}
 use Rattle.base_search.specs.Checks.{Hold, each, orElse, checked, verdict}
 use Rattle.base_search.proofs.Laws.{or-else-passes, first-same, hold-of-passes, passes-of-hold}

@@ -1,4 +1,4 @@
--- A network and a plan that go on from boundary a of another: every curve, signal, rule, row and time is that of the other, a steps later. Assumes nothing.
+-- A network and a plan that go on from boundary a of another: every curve, signal, rule, row and time is that of the other, a steps later.
 use Rattle.base_laws.proofs.Kit.{_≡_, refl, ap, ap₂, _∙_, cond, List, ℕ, zero, suc, _+_, _*_, _-_, _≤_, _<_, decLe, arith, leb, eqb, lt-ltb, le-ltb}
 use Rattle.text_reader.specs.Lines.{Line}
 use Rattle.model.specs.declared.Signal.{Signal}

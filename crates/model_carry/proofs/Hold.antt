@@ -1,4 +1,4 @@
--- An empty plan means hold (T-07): the lines that it stands for on the whole network are those on the cut network and those on the carried one. Assumes nothing.
+-- An empty plan means hold (T-07): the lines that it stands for on the whole network are those on the cut network and those on the carried one.
 use Rattle.base_laws.proofs.Kit.{_≡_, sym, ap, ap₂, _∙_, List, [], _∷_, _++_, append-assoc, append-nil, ℕ, zero, suc, _+_, _*_, _-_, _≤_, _<_, decLt, arith, le-ltb, take, drop, getD-take, take-at, drop-at}
 use Rattle.base_search.specs.Checks.{verdict, Hold}
 use Rattle.base_search.specs.declared.Verdict.the-variants.{Passes}

@@ -1,4 +1,4 @@
--- Refusals told some lines later. Assumes nothing.
+-- Refusals told some lines later.
 use Rattle.base_laws.proofs.Kit.{_≡_, refl, Bool, true, false, ℕ, zero, suc, _+_, _≤_, _<_, arith}
 use Rattle.base_search.specs.declared.Verdict.{Verdict}
 use Rattle.base_search.specs.declared.Verdict.the-variants.{Passes, Refused}

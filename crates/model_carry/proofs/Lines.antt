@@ -1,4 +1,4 @@
--- A line of the plan is judged on what is left of a network as it is on the whole, and told so many lines later. Assumes nothing.
+-- A line of the plan is judged on what is left of a network as it is on the whole, and told so many lines later.
 use Rattle.base_laws.proofs.Kit.{_≡_, refl, sym, ap₂, _∙_, List, ℕ, suc, _+_, _*_, _<_, arith, length, getD}
 use Rattle.base_search.specs.Checks.{Rule, ruleAt, orElse, verdict, table}
 use Rattle.base_search.proofs.Table.{SameRules, same-table}

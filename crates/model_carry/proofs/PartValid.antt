@@ -1,4 +1,4 @@
--- A part of a valid network, after steps that keep every rule, is valid: none of 1 to 6, 28 and 30 arises of it. Assumes nothing.
+-- A part of a valid network, after steps that keep every rule, is valid: none of 1 to 6, 28 and 30 arises of it.
 use Rattle.base_laws.proofs.Kit.{_≡_, refl, sym, ap, ap₂, _∙_, true, cond, List, [], ℕ, zero, suc, _+_, _*_, _-_, _^_, _≤_, _<_, arith, leb, ltb, eqb, length, getD, drop, getD-drop, leb-true, le-leb}
 use Rattle.base_search.specs.Checks.{Hold}
 use Rattle.text_reader.specs.Lines.{Line, noLine, number, numberOf, isRecord}

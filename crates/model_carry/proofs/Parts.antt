@@ -1,4 +1,4 @@
--- What the lines of a part of a network say: it goes on from its first boundary. Assumes nothing.
+-- What the lines of a part of a network say: it goes on from its first boundary.
 use Rattle.base_laws.proofs.Kit.{_≡_, refl, sym, ap, ap₂, _∙_, _⊎_, inl, inr, List, [], _∷_, _++_, ℕ, zero, suc, _+_, _*_, _-_, _≤_, _<_, eq-or-lt-of-le, decLe, arith, length, getD, length-append, List·getD-append, List·getD-eq-default, getD-append-add}
 use Rattle.text_reader.specs.Lines.{Line}
 use Rattle.model.specs.declared.Signal.{Signal}

@@ -1,4 +1,4 @@
--- Where the theorem of T-09 would fail under another reading, by computation on the definitions. Assumes nothing.
+-- Where the theorem of T-09 would fail under another reading, by computation on the definitions.
 use Rattle.base_laws.proofs.Kit.{_≡_, refl, List, take, drop}
 use Prim.Native.String.{String, _++_}
 use Rattle.base_search.specs.declared.Verdict.{Verdict}

@@ -1,4 +1,4 @@
--- A signal that keeps rules 10, 13 and 14 in its ordinary steps stays one that refusal 3 lets pass. Assumes nothing.
+-- A signal that keeps rules 10, 13 and 14 in its ordinary steps stays one that refusal 3 lets pass.
 use Rattle.base_laws.proofs.Kit.{_≡_, refl, _∙_, Bool, true, false, cond, not, _||_, and-eq-true-iff, _⊎_, inl, inr, List, ℕ, zero, suc, _^_, _≤_, _<_, arith, leb, eqb, getD, leb-true, le-leb, eqb-true, eqb-false, eq-eqb, not-true}
 use Rattle.text_reader.specs.Lines.{Line}
 use Rattle.model.specs.declared.Signal.{Signal}

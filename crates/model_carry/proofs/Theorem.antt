@@ -1,4 +1,4 @@
--- The theorem of T-09. Assumes nothing.
+-- The theorem of T-09.
 use Rattle.base_laws.proofs.Kit.{_≡_, refl, sym, ap, ap₂, _∙_, _↔_, List, [], ℕ, suc, _+_, _*_, _-_, _≤_, _<_, mul-le-mul-right, arith, length, getD, take, drop, length-drop, getD-take, getD-drop, length-take-le, le-leb, eq-eqb}
 use Rattle.base_search.specs.declared.Verdict.{Verdict}
 use Rattle.base_search.specs.declared.Verdict.the-variants.{Passes, Refused}

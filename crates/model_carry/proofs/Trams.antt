@@ -1,4 +1,4 @@
--- Tram lines clipped to the steps a + 1 to c: in those steps they ask what all lines ask, and refusal 28 does not arise of them. Assumes nothing.
+-- Tram lines clipped to the steps a + 1 to c: in those steps they ask what all lines ask, and refusal 28 does not arise of them.
 use Rattle.base_laws.proofs.Kit.{_≡_, refl, sym, ap, _∙_, Bool, true, false, cond, List, [], _∷_, map, ℕ, suc, _+_, _-_, _≤_, _<_, min, max, decLe, arith, eqb, le-leb, lt-leb, leb-true, leb-false}
 use Rattle.text_reader.specs.Lines.{Line, number, numberOf}
 use Rattle.text_writer.specs.Records.{recordLine}

@@ -1,4 +1,4 @@
--- To carry on twice is to carry on once. Assumes nothing.
+-- To carry on twice is to carry on once.
 use Rattle.base_laws.proofs.Kit.{_≡_, refl, sym, ap, ap₂, _∙_, Bool, true, false, cond, List, [], _∷_, _++_, map, ℕ, zero, suc, _+_, _-_, _≤_, _<_, min, max, le-trans, decLe, arith, leb, length, getD, List·getD-append, getD-append-add, le-leb, lt-leb, leb-true, leb-false}
 use Rattle.base_search.specs.declared.Verdict.the-variants.{Passes}
 use Rattle.base_search.specs.Checks.{Hold, verdict}

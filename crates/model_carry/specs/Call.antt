@@ -1,5 +1,5 @@
 -- The call that carries on from boundary b: when it declines, and what it writes. The plan is the list of the lines that its text stands for on the cut network
--- (`plannedOn`). Assumes nothing.
+-- (`plannedOn`).
 use Prim.Native.Nat.{ℕ, _-_}
 use mathlib.Core.Bool.{cond}
 use mathlib.Core.List.{List, [], _∷_, _++_}

@@ -1,4 +1,4 @@
--- The theorem of T-09. Assumes nothing.
+-- The theorem of T-09.
 use Prim.Native.Nat.{ℕ, suc, _+_, _*_, _-_, _≤_, _<_}
 use mathlib.Core.Path.{_≡_}
 use mathlib.Core.Logic.{_↔_}
@@ -21,7 +21,7 @@ use Rattle.model_text.specs.declared.TextAnswer.the-variants.{Written}
 use Rattle.model_carry.specs.Part.{cut, carriedText}
 use Rattle.model_carry.specs.Call.{carryNumbers, carryChecks, carryOn, carryLedger, carryBuffer}
 
--- a verdict whose line is told so many lines later
+-- a verdict with its line so many lines later
 unfoldable pub later : ℕ → Verdict → Verdict
 later a Passes = Passes
 later a (Refused r) = Refused (refusal (r .number) (a + r .line) (r .item))
@@ -33,7 +33,7 @@ Accepts network plan size = verdict (planChecks network plan size) ≡ Passes
 abbrev pub Carries : List Line → List Line → ℕ → ℕ → ℕ → Type 0
 Carries network plan b size room = verdict (carryChecks network plan b size room) ≡ Passes
 
--- the network that the text says which the call writes for a plan of b lines
+-- the network of the text that the call writes for a plan of b lines
 abbrev pub next : List Line → List Line → ℕ → List Line
 next network plan b = lines (carriedText network plan b)
 
@@ -56,7 +56,7 @@ pub record CarriesOn (network : List Line) : Type 0 where
   pub times : (plan : List Line) (b size room : ℕ) → Parted network plan b size room → Accepts network plan size
       → doubledTime (cut network b) (take b plan) b + doubledTime (next network (take b plan) b) (drop b plan) (stepCount network - b)
       ≡ doubledTime network plan (stepCount network)
-  -- a refusal of the whole is that of its part, told b lines later in the rest
+  -- a refusal of the whole is that of its part, b lines later in the rest
   pub refused : (plan : List Line) (b size room : ℕ) → Parted network plan b size room
       → verdict (planChecks network plan size)
       ≡ orElse (verdict (carryChecks network (take b plan) b size room)) (later b (verdict (planChecks (next network (take b plan) b) (drop b plan) size)))

@@ -1,6 +1,6 @@
 -- The part of a network between two boundaries a and c of the plan is a network itself (T-09): its tram lines are clipped to the steps a + 1 to c, dropped if emptied,
 -- and renumbered; its signals stand as they do at a; at its entries waits what waits at a; and each step that was run is a past step. The network cut to b steps is
--- its part from 0 to b, in which no plan has a say; the carried network is its part from b to K. Assumes nothing.
+-- its part from 0 to b, in which no plan has a say; the carried network is its part from b to K.
 use Prim.Native.Nat.{ℕ, suc, _+_, _-_, min, max}
 use mathlib.Core.Bool.{Bool, cond}
 use mathlib.Core.List.{List, [], _∷_}

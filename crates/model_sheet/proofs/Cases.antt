@@ -1,4 +1,4 @@
--- Sheets kept and broken, and plans written, by computation on the definitions. Assumes nothing.
+-- Sheets kept and broken, and plans written, by computation on the definitions.
 use Rattle.base_laws.proofs.Kit.{ℕ, _≡_, refl, List, [], _∷_}
 use Prim.Native.String.{String, _++_}
 use Rattle.base_search.specs.declared.Verdict.{Verdict}

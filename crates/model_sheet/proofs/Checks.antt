@@ -1,4 +1,4 @@
--- What 33 and 35 say of a signal once they hold. Assumes nothing.
+-- What 33 and 35 say of a signal once they hold.
 use Rattle.base_laws.proofs.Kit.{_≡_, true, List, ℕ, _≤_, _<_, arith, leb-true, ltb-true, leb, getD}
 use Rattle.base_search.specs.Checks.{Hold}
 use Rattle.text_reader.specs.Lines.{Line}

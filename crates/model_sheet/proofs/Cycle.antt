@@ -1,4 +1,4 @@
--- The repeated cycle of one line of a sheet, through a step that holds no end of a run. Assumes nothing.
+-- The repeated cycle of one line of a sheet, through a step that holds no end of a run.
 use Rattle.base_laws.proofs.Kit.{_≡_, refl, sym, ap, _∙_, Bool, true, false, cond, _⊎_, inl, inr, _≢_, ℕ, zero, suc, _+_, _%_, _≤_, _<_, eq-or-lt-of-le, mod-lt, mod-eq-of-lt, mod-self, mod-add-mod, add-assoc, decLe, arith, leb, le-leb, lt-leb}
 use Rattle.base_laws.specs.Sum.{sum}
 use Rattle.model_sheet.specs.Cycle.{phaseFrom, placeAt, phaseAt}

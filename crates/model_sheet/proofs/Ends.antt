@@ -1,4 +1,4 @@
--- 35's test by steps is the request's sentence: no run that ends before the horizon ends on no boundary. Assumes nothing.
+-- 35's test by steps is the request's sentence: no run that ends before the horizon ends on no boundary.
 use Rattle.base_laws.proofs.Kit.{_≡_, sym, ap, _∙_, true, _⊎_, inl, inr, _↔_, List, ℕ, zero, suc, _+_, _-_, _≤_, _<_, eq-or-lt-of-le, decLe, arith, leb, leb-true, le-leb}
 use Rattle.text_reader.specs.Lines.{Line}
 use Rattle.base_laws.specs.Test.{every}

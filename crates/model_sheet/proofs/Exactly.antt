@@ -1,4 +1,4 @@
--- A plan keeps a sheet exactly when no check 34 is broken. Assumes nothing.
+-- A plan keeps a sheet exactly when no check 34 is broken.
 use Rattle.base_laws.proofs.Kit.{_≡_, refl, sym, ap, _∙_, Bool, true, false, not, true≢false, _⊎_, inl, inr, _≢_, _↔_, List, ℕ, zero, suc, _+_, _-_, _≤_, _<_, decLe, arith, eqb, eqb-true, eqb-false, eq-eqb, not-true}
 use Rattle.base_search.specs.Checks.{Hold}
 use Rattle.text_reader.specs.Lines.{Line}

@@ -1,4 +1,4 @@
--- A refusal 34 names the first broken run: the least line of its last ordinary step, then the lowest signal. Assumes nothing.
+-- A refusal 34 names the first broken run: the least line of its last ordinary step, then the lowest signal.
 use Rattle.base_laws.proofs.Kit.{_≡_, refl, sym, ap, _∙_, true, false, not, _⊎_, inl, inr, List, ℕ, suc, _-_, _≤_, _<_, decLe, ℕ-discrete, arith, eqb, eqb-true, eqb-false, not-false}
 use Rattle.base_search.specs.declared.Refusal.{Refusal}
 use Rattle.base_search.specs.Checks.{Hold, FirstBroken}

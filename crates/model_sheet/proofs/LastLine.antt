@@ -1,4 +1,4 @@
--- The last ordinary step, and the run that shows at a boundary. Assumes nothing.
+-- The last ordinary step, and the run that shows at a boundary.
 use Rattle.base_laws.proofs.Kit.{_≡_, refl, sym, ap, _∙_, Bool, true, false, cond, not, true≢false, _⊎_, inl, inr, _≢_, List, ℕ, zero, suc, _+_, _≤_, _<_, eq-or-lt-of-le, decLe, arith, leb, eqb, leb-true, le-leb, eqb-true, eqb-false, eq-eqb, ne-eqb}
 use Rattle.text_reader.specs.Lines.{Line}
 use Rattle.model.specs.declared.Signal.{Signal}

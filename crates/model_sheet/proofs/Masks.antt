@@ -1,4 +1,4 @@
--- The masks that are written for a sheet keep it. Assumes nothing.
+-- The masks that are written for a sheet keep it.
 use Rattle.base_laws.proofs.Kit.{_≡_, refl, sym, ap, _∙_, true, false, not, true≢false, _⊎_, inl, inr, _≢_, List, [], _∷_, ℕ, zero, suc, _+_, _*_, _-_, _^_, _≤_, _<_, eq-or-lt-of-le, arith, eqb, length, getD, take, drop, length-take, getD-take, getD-drop, not-true, lt-ltb}
 use Rattle.text_reader.specs.Lines.{Line, noLine, number}
 use Rattle.text_writer.proofs.Records.{entry-back}

@@ -1,4 +1,4 @@
--- One pass over the steps, a first broken run for each signal and the least of them, gives the verdict of the checks. Assumes nothing.
+-- One pass over the steps, a first broken run for each signal and the least of them, gives the verdict of the checks.
 use Rattle.base_laws.proofs.Kit.{_≡_, refl, sym, ap, _∙_, Bool, true, false, cond, not, true≢false, _⊎_, inl, inr, _≢_, List, ℕ, zero, suc, _≤_, _<_, eq-or-lt-of-le, decLe, ℕ-discrete, arith, ltb, eqb, eqb-true, eqb-false, eq-eqb, ne-eqb, ltb-true, not-true, lt-ltb}
 use Rattle.base_search.specs.declared.Verdict.{Verdict}
 use Rattle.base_search.specs.declared.Verdict.the-variants.{Passes, Refused}

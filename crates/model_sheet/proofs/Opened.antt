@@ -1,4 +1,4 @@
--- To unfold `opened` is to unfold every definition, for a proof by computation. Assumes nothing.
+-- To unfold `opened` is to unfold every definition, for a proof by computation.
 use Rattle.text_reader.specs.Reading.{over}
 use Rattle.text_writer.specs.Records.{numeral, fieldText, fieldTexts, recordText, recordTexts, recordLine, recordLines}
 use Rattle.model.proofs.Opened.{opened as model-opened}

@@ -1,4 +1,4 @@
--- What the two calls promise holds of their answers. Assumes nothing.
+-- What the two calls promise holds of their answers.
 use Rattle.base_laws.proofs.Kit.{_≡_, refl, sym, _∙_, true, _↔_, List, ℕ, suc, _<_, length, take}
 use Rattle.base_search.specs.declared.Refusal.{Refusal}
 use Rattle.base_search.specs.declared.Verdict.{Verdict}

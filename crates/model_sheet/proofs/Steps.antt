@@ -1,4 +1,4 @@
--- Times and ordinary seconds. Assumes nothing.
+-- Times and ordinary seconds.
 use Rattle.base_laws.proofs.Kit.{_≡_, refl, true, false, List, ℕ, zero, suc, _+_, _-_, _≤_, arith}
 use Rattle.text_reader.specs.Lines.{Line}
 use Rattle.base_laws.specs.Sum.{sum}

@@ -1,4 +1,4 @@
--- The plan that is written for a sheet: it reads back, refusal 9 does not arise of it, and its masks keep the sheet without its offsets. Assumes nothing.
+-- The plan that is written for a sheet: it reads back, refusal 9 does not arise of it, and its masks keep the sheet without its offsets.
 use Rattle.base_laws.proofs.Kit.{_≡_, sym, ap, _∙_, true, List, ℕ, suc, _+_, _*_, _-_, _^_, _≤_, _<_, le-trans, pow-le-pow-right, decLt, arith, eq-eqb, le-leb, lt-ltb, le-ltb, length, getD, List·getD-eq-default}
 use Rattle.base_search.specs.Checks.{Hold}
 use Rattle.text_reader.specs.Field.{largest}

@@ -1,4 +1,4 @@
--- The two calls: their answers, and what they write. A plan is given by the lines that its text stands for. Assumes nothing.
+-- The two calls: their answers, and what they write. A plan is given by the lines that its text stands for.
 use Prim.Native.Nat.{ℕ}
 use mathlib.Core.List.{List, [], _∷_, _++_}
 use lib.ListN.{length}
@@ -27,7 +27,7 @@ module _ (network sheet plan : List Line) where
   unfoldable pub keepChecks : ℕ → Checks
   keepChecks size = acceptChecks size then runChecks network sheet plan
 
-  -- a plan that keeps the sheet is told with its four totals
+  -- a plan that keeps the sheet is returned with its four totals
   unfoldable pub checkSheet : ℕ → PlanAnswer
   checkSheet size = planAnswer network plan (verdict (keepChecks size))
 

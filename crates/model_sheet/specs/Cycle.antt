@@ -1,4 +1,4 @@
--- The repeated cycle of a sheet with offsets, and the plan that is written for it. Assumes nothing.
+-- The repeated cycle of a sheet with offsets, and the plan that is written for it.
 use Prim.Native.Nat.{ℕ, zero, suc, _+_, _*_, _-_, _%_, _^_, _≤_, _<_}
 use mathlib.Core.Path.{_≡_}
 use mathlib.Core.Bool.{Bool, cond, not}

@@ -1,5 +1,5 @@
 -- A plan keeps a sheet (T-10; C19, C20). The greens are those of the guarantees, over ordinary steps, and a step is named by the boundary at which it ends: a green
--- whose first step ends at boundary a + 1 begins in the plan, at time t(a). Assumes nothing.
+-- whose first step ends at boundary a + 1 begins in the plan, at time t(a).
 use Prim.Native.Nat.{ℕ, suc, _≤_, _<_}
 use mathlib.Core.Path.{_≡_}
 use mathlib.Core.Bool.{true}
@@ -19,7 +19,7 @@ Kept network sheet plan =
     → greatestCycle network r ≤ time network a
     → between a b (ordinaryLength network r) ≡ duration sheet r q
 
--- A run of signal r whose last ordinary step ends at boundary b, told at line b, is broken.
+-- A run of signal r whose last ordinary step ends at boundary b, reported at line b, is broken.
 pub record Broken (network sheet plan : List Line) (r b : ℕ) : Type 0 where
   pub phase : ℕ
   pub start : ℕ
@@ -31,7 +31,7 @@ pub record Broken (network sheet plan : List Line) (r b : ℕ) : Type 0 where
   pub late : greatestCycle network r ≤ time network start
   pub other : between start b (ordinaryLength network r) ≡ duration sheet r phase → ⊥
 
--- The run of signal r that is told at this line is broken, and no broken run comes before it: earliest first, then lowest signal.
+-- The run of signal r that is reported at this line is broken, and no broken run comes before it: earliest first, then lowest signal.
 pub record FirstRun (network sheet plan : List Line) (line r : ℕ) : Type 0 where
   pub signal-there : r < signalCount network
   pub broken : Broken network sheet plan r line

@@ -1,4 +1,4 @@
--- What the two calls promise. Assumes nothing.
+-- What the two calls promise.
 use Prim.Native.Nat.{ℕ, suc, _+_, _*_, _-_, _^_, _≤_, _<_}
 use mathlib.Core.Path.{_≡_}
 use mathlib.Core.Logic.{_↔_}

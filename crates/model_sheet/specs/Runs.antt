@@ -1,4 +1,4 @@
--- 34 as checks, and the same in one pass over the steps. Assumes nothing.
+-- 34 as checks, and the same in one pass over the steps.
 use Prim.Native.Nat.{ℕ, zero, suc}
 use mathlib.Core.Bool.{Bool, false, cond, not}
 use mathlib.Core.List.{List}
@@ -42,7 +42,7 @@ module _ (network sheet plan : List Line) where
   runChecks = each (stepCount network) (λ n. each (signalCount network) (λ r. check 34 (suc n) (suc r) (rule34 n r)))
 
   -- ---- in one pass
-  -- the line of the first broken run of signal r that the first n steps leave, told at its last ordinary step; 0 for none
+  -- the line of the first broken run of signal r that the first n steps leave: that of its last ordinary step; 0 for none
   unfoldable pub found : ℕ → ℕ → ℕ
   found zero r = 0
   found (suc n) r = cond (eqb (found n r) 0) (cond (keepsSheet n r) 0 (lastLine network n r)) (found n r)

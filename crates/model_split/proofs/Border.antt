@@ -1,4 +1,4 @@
--- What 40 and 41 say: the kind of border movements, and the signals of a half. Assumes nothing.
+-- What 40 and 41 say: the kind of border movements, and the signals of a half.
 use Rattle.base_laws.proofs.Kit.{_≡_, refl, sym, _∙_, Bool, true, false, cond, not, _⊎_, inl, inr, List, ℕ, suc, _-_, _≤_, _<_, arith, eqb, leb-true, eqb-true, eq-eqb, not-true}
 use Rattle.text_reader.specs.Lines.{Line}
 use Rattle.base_laws.specs.Sum.{sum, only}

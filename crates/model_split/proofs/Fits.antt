@@ -1,4 +1,4 @@
--- Every number that is read from a text fits a field, and so does every number that is written of a half. Assumes nothing.
+-- Every number that is read from a text fits a field, and so does every number that is written of a half.
 use Rattle.base_laws.proofs.Kit.{_≡_, Bool, true, false, cond, _⊎_, inl, inr, List, [], _++_, ℕ, zero, suc, _+_, _*_, _-_, _≤_, _<_, decLe, arith, eqb, length, getD, List·getD-append, List·getD-eq-default, getD-append-add}
 use Rattle.base_search.specs.Checks.{Hold}
 use Rattle.text_reader.specs.Field.{largest}

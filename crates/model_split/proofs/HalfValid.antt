@@ -1,4 +1,4 @@
--- A half of a valid network that can be split is valid, as long as the border volumes that it takes for demands are. Assumes nothing.
+-- A half of a valid network that can be split is valid, as long as the border volumes that it takes for demands are.
 use Rattle.base_laws.proofs.Kit.{_≡_, refl, sym, ap, _∙_, Bool, true, false, not, _⊎_, inl, inr, List, [], ℕ, zero, suc, _+_, _*_, _-_, _≤_, _<_, decLe, arith, leb, ltb, eqb, length, getD, leb-true, eqb-true, eq-eqb, ne-eqb, le-leb, lt-ltb}
 use Rattle.base_search.specs.Checks.{Hold}
 use Rattle.text_reader.specs.Lines.{Line, noLine, number, isRecord}

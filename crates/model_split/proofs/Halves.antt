@@ -1,4 +1,4 @@
--- Where the whole keeps its rules a half keeps its own; and where a half does, the whole keeps them of the half's links, signals and movements. Assumes nothing.
+-- Where the whole keeps its rules a half keeps its own; and where a half does, the whole keeps them of the half's links, signals and movements.
 use Rattle.base_laws.proofs.Kit.{_≡_, sym, _∙_, Bool, true, _⊎_, inl, inr, List, ℕ, suc, _+_, _*_, _-_, _≤_, _<_, mul-le-mul, arith, leb-true, le-leb}
 use Rattle.text_reader.specs.Lines.{Line}
 use Rattle.base_laws.specs.Sum.{sum}

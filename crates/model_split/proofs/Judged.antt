@@ -1,4 +1,4 @@
--- A plan is accepted exactly when its network's checks hold, its lines have their form and each of its steps keeps every rule. Assumes nothing.
+-- A plan is accepted exactly when its network's checks hold, its lines have their form and each of its steps keeps every rule.
 use Rattle.base_laws.proofs.Kit.{_≡_, refl, true, List, ℕ, suc, _+_, _*_, _≤_, _<_, length, leb-true, eqb-true, eq-eqb, le-leb}
 use Rattle.base_search.specs.Checks.{Hold}
 use Rattle.base_search.proofs.Table.{AllKept, kept-hold}

@@ -1,4 +1,4 @@
--- The lines of a half say the half's numbers. Assumes nothing.
+-- The lines of a half say the half's numbers.
 use Rattle.base_laws.proofs.Kit.{_≡_, refl, sym, _∙_, Bool, true, List, [], _++_, ℕ, suc, _+_, _*_, _≤_, _<_, decLe, arith, length, getD, length-append, List·getD-append, List·getD-eq-default, getD-append-add}
 use Rattle.text_reader.specs.Lines.{Line}
 use Rattle.text_writer.proofs.Records.{lines-count, entry-back, form-back}

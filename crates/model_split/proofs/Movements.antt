@@ -1,4 +1,4 @@
--- The movements of a valid network: their pairs rise, and whether one leaves a link. Assumes nothing.
+-- The movements of a valid network: their pairs rise, and whether one leaves a link.
 use Rattle.base_laws.proofs.Kit.{_≡_, refl, ap, _∙_, true, false, cond, _⊎_, inl, inr, List, ℕ, zero, suc, _≤_, _<_, eq-or-lt-of-le, arith, ltb, eqb, ltb-true, eqb-true, eqb-false}
 use Rattle.text_reader.specs.Lines.{Line}
 use Rattle.base_laws.specs.Test.{_and_}

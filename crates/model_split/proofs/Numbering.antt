@@ -1,4 +1,4 @@
--- Laws of numbering anew. Assumes nothing.
+-- Laws of numbering anew.
 use Rattle.base_laws.proofs.Kit.{_≡_, refl, sym, ap, _∙_, Bool, true, false, cond, _⊎_, inl, inr, [], _∷_, _++_, ℕ, zero, suc, _+_, _-_, _≤_, _<_, eq-or-lt-of-le, decLe, arith, eqb, length, getD, length-append, List·getD-append, getD-append-seam, eq-eqb, ne-eqb, eqb-true, eqb-false}
 use Rattle.base_laws.specs.Sum.{sum, only}
 use Rattle.model_split.specs.Numbering.{rank, picked}

@@ -1,4 +1,4 @@
--- To unfold `opened` is to unfold every definition of the call, for a proof by computation. Assumes nothing.
+-- To unfold `opened` is to unfold every definition of the call, for a proof by computation.
 use Rattle.text_reader.specs.Reading.{over}
 use Rattle.model.proofs.Opened.{opened as modelOpened}
 use Rattle.model_text.specs.NetworkText.{countNumbers, networkLines, networkText}

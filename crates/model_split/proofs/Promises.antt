@@ -1,4 +1,4 @@
--- What the call promises beside the theorem: what it wrote, and that the number of a refusal is one that can arise. Assumes nothing.
+-- What the call promises beside the theorem: what it wrote, and that the number of a refusal is one that can arise.
 use Rattle.base_laws.proofs.Kit.{_≡_, refl, sym, ap, _∙_, List, ℕ, length, take, take-at, needs}
 use Rattle.base_search.specs.declared.Refusal.{Refusal}
 use Rattle.base_search.specs.declared.Verdict.{Verdict}

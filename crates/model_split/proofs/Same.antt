@@ -1,4 +1,4 @@
--- A network and a plan that are one half of another: every curve, signal and rule of its links, signals and movements is that of the whole. Assumes nothing.
+-- A network and a plan that are one half of another: every curve, signal and rule of its links, signals and movements is that of the whole.
 use Rattle.base_laws.proofs.Kit.{_≡_, refl, sym, ap, ap₂, _∙_, Bool, true, false, cond, not, _⊎_, inl, inr, List, ℕ, zero, suc, _+_, _*_, _-_, _≤_, _<_, min, decLe, arith, leb, eqb, le-leb, lt-leb, le-ltb, ne-eqb, eqb-true}
 use Rattle.text_reader.specs.Field.{largest}
 use Rattle.text_reader.specs.Lines.{Line}

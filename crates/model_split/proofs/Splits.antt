@@ -1,4 +1,4 @@
--- The theorem of T-14, of texts. Assumes nothing.
+-- The theorem of T-14, of texts.
 use Rattle.base_laws.proofs.Kit.{_≡_, refl, sym, _∙_, _↔_, true, not, List, ℕ, suc, _+_, _*_, _≤_, _<_, arith, getD, eqb-true}
 use Rattle.base_search.specs.declared.Verdict.the-variants.{Passes}
 use Rattle.base_search.specs.Checks.{Hold, verdict}

@@ -1,4 +1,4 @@
--- Tests either way, an index that one holds of, and sums over what one holds of. Assumes nothing.
+-- Tests either way, an index that one holds of, and sums over what one holds of.
 use Rattle.base_laws.proofs.Kit.{_≡_, refl, sym, _∙_, Bool, true, false, not, _⊎_, inl, inr, ℕ, zero, suc, _+_, _<_, eq-or-lt-of-le, arith}
 use Rattle.base_laws.specs.Sum.{sum, only}
 use Rattle.base_laws.specs.Test.{_or_}

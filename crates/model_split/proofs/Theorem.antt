@@ -1,4 +1,4 @@
--- The whole is accepted exactly when both halves are and the let-out and admitted border volumes match, all by their lines. Assumes nothing.
+-- The whole is accepted exactly when both halves are and the let-out and admitted border volumes match, all by their lines.
 use Rattle.base_laws.proofs.Kit.{_≡_, refl, sym, _∙_, Bool, true, false, cond, not, _⊎_, inl, inr, List, ℕ, suc, _+_, _*_, _-_, _≤_, _<_, min, arith, eqb, leb-true, le-leb, eqb-true, eq-eqb}
 use Rattle.base_search.specs.Checks.{Hold}
 use Rattle.text_reader.specs.Field.{largest}

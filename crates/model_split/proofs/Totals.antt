@@ -1,4 +1,4 @@
--- The totals of two halves, by their lines, add up to those of the whole, and each link's curves are those of the whole. Assumes nothing.
+-- The totals of two halves, by their lines, add up to those of the whole, and each link's curves are those of the whole.
 use Rattle.base_laws.proofs.Kit.{_≡_, refl, sym, ap, ap₂, _∙_, Bool, true, false, not, _⊎_, inl, inr, List, ℕ, suc, _+_, _*_, _≤_, _<_, arith, eqb}
 use Rattle.text_reader.specs.Lines.{Line}
 use Rattle.base_laws.specs.Sum.{sum, only}

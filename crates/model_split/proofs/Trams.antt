@@ -1,4 +1,4 @@
--- The tram lines of a half ask of its signals what all lines ask. Assumes nothing.
+-- The tram lines of a half ask of its signals what all lines ask.
 use Rattle.base_laws.proofs.Kit.{_≡_, refl, sym, ap, _∙_, true, false, cond, _⊎_, inl, inr, List, [], _∷_, _++_, map, ℕ, zero, suc, _-_, _≤_, _<_, arith, take, take-suc, take-all, leb-true, ne-eqb}
 use Rattle.text_reader.specs.Lines.{Line, noLine, number, numberOf}
 use Rattle.text_writer.specs.Records.{recordLine}

@@ -1,4 +1,4 @@
--- The call that splits (T-14): when it declines, and what it writes. The plan is the list of the lines that its text stands for (`planOf`). Assumes nothing.
+-- The call that splits (T-14): when it declines, and what it writes. The plan is the list of the lines that its text stands for (`planOf`).
 use Prim.Native.Nat.{ℕ, suc, _+_, _*_, _-_, _^_, _/_, _%_}
 use mathlib.Core.Bool.{Bool, not}
 use mathlib.Core.List.{List, [], _∷_, _++_}

@@ -1,4 +1,4 @@
--- A network and a plan in two halves, by the set of links in the first (T-14). Links, signals, movements and steps are counted from 0. Assumes nothing.
+-- A network and a plan in two halves, by the set of links in the first (T-14). Links, signals, movements and steps are counted from 0.
 use Prim.Native.Nat.{ℕ, suc, _+_, _*_, _-_, min}
 use mathlib.Core.Bool.{Bool, not, cond}
 use mathlib.Core.List.{List, [], _∷_, _++_}

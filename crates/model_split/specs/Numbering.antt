@@ -1,4 +1,4 @@
--- Numbering anew what a test holds of. Assumes nothing.
+-- New numbers for what a test holds of.
 use Prim.Native.Nat.{ℕ, zero, suc, _+_}
 use mathlib.Core.Bool.{Bool, cond}
 use mathlib.Core.List.{List, [], _∷_, _++_}

@@ -1,4 +1,4 @@
--- The theorem of T-14. Assumes nothing.
+-- The theorem of T-14.
 use Prim.Native.Nat.{ℕ, suc, _+_, _*_, _-_, _≤_, _<_}
 use mathlib.Core.Path.{_≡_}
 use mathlib.Core.Logic.{_↔_}

@@ -1,7 +1,8 @@
-// Two boxes, one corridor (T-14): the types of the call's answer. Its definitions stand in specs/, the theorem in specs/Splits.antt.
+// A network and a plan in two halves (T-14): the definitions (specs/) and the theorem (specs/Splits.antt). In code only the
+// types of the answer.
 use base_search::Refusal;
 
-// How long the four texts are: the network and the plan of the first half, then of the second.
+// The lengths of the four texts: the network and the plan of the first half, then of the second.
 pub struct Lengths {
     pub network_1: usize,
     pub plan_1: usize,
@@ -9,7 +10,7 @@ pub struct Lengths {
     pub plan_2: usize,
 }
 
-// How long the texts are that were written.
+// The lengths of the written texts, or a refusal.
 pub enum SplitAnswer {
     Written(Lengths),
     Refused(Refusal),

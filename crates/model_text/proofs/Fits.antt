@@ -1,4 +1,4 @@
--- Every number of a valid network fits a field, so that a valid network that is given by its numbers reads back from its text. Assumes nothing.
+-- Every number of a valid network fits a field, so that a valid network that is given by its numbers reads back from its text.
 use Rattle.base_laws.proofs.Kit.{_≡_, refl, true, cond, List, [], ℕ, zero, suc, _+_, _*_, _-_, _/_, _%_, _^_, _≤_, _<_, le-trans, pow-le-pow-right, decLe, arith, leb, ltb, eqb, getD, leb-true, ltb-true, eqb-true, ne-eqb}
 use Rattle.base_search.specs.Checks.{Hold}
 use Rattle.text_reader.specs.Field.{largest}

@@ -1,4 +1,4 @@
--- A network's checks hold exactly when every line has its form, nothing follows, and no value is refused. Assumes nothing.
+-- A network's checks hold exactly when every line has its form, nothing follows, and no value is refused.
 use Rattle.base_laws.proofs.Kit.{_≡_, refl, _∙_, true, _&&_, and-eq-true-iff, List, [], _∷_, ℕ, zero, suc, _+_, _*_, _≤_, _<_, arith, eqb, length, getD, take, drop, length-take, length-drop, List·getD-eq-default, getD-take, getD-drop, eqb-true, eq-eqb, le-leb}
 use Rattle.base_search.specs.Checks.{Hold}
 use Rattle.text_reader.specs.declared.Field.{Field}

@@ -1,4 +1,4 @@
--- What the lines of a network that is given by its numbers say, and that its text reads back as them. Assumes nothing.
+-- What the lines of a network that is given by its numbers say, and that its text reads back as them.
 use Rattle.base_laws.proofs.Kit.{_≡_, refl, sym, ap, _∙_, true, List, [], _∷_, _++_, map, ℕ, zero, suc, _+_, _<_, arith, length, getD, length-append, List·getD-append, getD-append-add, take-at}
 use Rattle.text_reader.specs.Lines.{Line, noLine, number, isRecord, lines}
 use Rattle.text_writer.specs.Records.{recordLine, recordLines}

@@ -1,4 +1,4 @@
--- Numbers that agree make one list, and networks whose numbers agree have one text. Assumes nothing.
+-- Numbers that agree make one list, and networks whose numbers agree have one text.
 use Rattle.base_laws.proofs.Kit.{_≡_, refl, ap₂, List, [], _∷_, _++_, ℕ, zero, suc, _<_, arith}
 use Rattle.text_writer.specs.Records.{recordText, recordTexts}
 use Rattle.base_laws.specs.Indexed.{list}

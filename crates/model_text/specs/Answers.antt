@@ -24,7 +24,7 @@ bytesAfter text (verdicts.Refused r) old = old
 abbrev pub roomVerdict : ℕ → List ℕ → List ℕ → Verdict
 roomVerdict number text old = checked (leb (length text) (length old)) number 0 0
 
--- a verdict was told of a text, and the buffer is as it says
+-- a verdict was returned of a text, and the buffer is as it says
 pub record Told (text : List ℕ) (v : Verdict) (old : List ℕ) (answer : TextAnswer) (new : List ℕ) : Type 0 where
   pub answered : answer ≡ textAnswer text v
   pub holds : new ≡ bytesAfter text v old

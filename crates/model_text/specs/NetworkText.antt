@@ -1,4 +1,4 @@
--- A network by its numbers, as lines and as the text that is written of them. Assumes nothing.
+-- A network by its numbers, as lines and as the text that is written of them.
 use Prim.Native.Nat.{ℕ}
 use mathlib.Core.List.{List, [], _∷_, _++_}
 use lib.ListN.{length, getD}

@@ -1,4 +1,4 @@
--- The stages of a network's reading, one after another: where one is refused, so is the network; and what each asks of those before it. Assumes nothing.
+-- The stages of a network's reading, one after another: where one is refused, so is the network; and what each asks of those before it.
 use Rattle.base_laws.proofs.Kit.{ℕ, _≡_, sym, ap, _∙_, List, length}
 use Rattle.base_search.specs.declared.Refusal.{Refusal}
 use Rattle.base_search.specs.declared.Verdict.{Verdict}

@@ -1,4 +1,4 @@
--- The counts that a network's reading holds are those that the call tells. Assumes nothing.
+-- The counts that a network's reading holds are those that the call tells.
 use Rattle.base_laws.proofs.Kit.{ℕ, _≡_, refl, sym, ap, _∙_, List, arith}
 use Rattle.base_search.specs.declared.Refusal.{Refusal}
 use Rattle.base_search.specs.declared.Verdict.{Verdict}

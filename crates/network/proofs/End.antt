@@ -1,4 +1,4 @@
--- What comes after the `S` lines: the end of the text. Assumes nothing.
+-- What comes after the `S` lines: the end of the text.
 use Rattle.base_laws.proofs.Kit.{ℕ, suc, _+_, _-_, _≤_, _≡_, refl, sym, _∙_, Bool, true, false, List, arith, length}
 use Rattle.base_search.specs.declared.Refusal.{Refusal}
 use Rattle.base_search.specs.declared.Verdict.the-variants.{Passes}

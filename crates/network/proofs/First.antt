@@ -1,4 +1,4 @@
--- The `T` lines, the `G` lines and the trams' phases, one after another. Assumes nothing.
+-- The `T` lines, the `G` lines and the trams' phases, one after another.
 use Rattle.base_laws.proofs.Kit.{ℕ, _≡_, refl, sym, ap, _∙_, List, length}
 use Rattle.base_search.specs.declared.Refusal.{Refusal}
 use Rattle.base_search.specs.declared.Verdict.{Verdict}

@@ -1,4 +1,4 @@
--- The `H` lines, the `S` lines, the end of the text and the past, one after another. Assumes nothing.
+-- The `H` lines, the `S` lines, the end of the text and the past, one after another.
 use Rattle.base_laws.proofs.Kit.{ℕ, _≤_, _<_, _≡_, sym, _∙_, true, List, arith, leb-true, replicate, length-replicate, getD-replicate}
 use Rattle.base_search.specs.declared.Refusal.{Refusal}
 use Rattle.base_search.specs.declared.Verdict.the-variants as verdicts

@@ -1,4 +1,4 @@
--- The call `count_network`: what a valid network has, as its `N` line says. Assumes nothing.
+-- The call `count_network`: what a valid network has, as its `N` line says.
 use mathlib.Core.Path.{_≡_}
 use mathlib.Core.List.{List}
 use Rattle.base_search.specs.declared.Refusal.{Refusal}

@@ -1,4 +1,4 @@
--- What the reading of a whole network asks and holds. Assumes nothing.
+-- What the reading of a whole network asks and holds.
 use Prim.Native.Nat.{ℕ, suc, _≤_, _<_}
 use mathlib.Core.Path.{_≡_}
 use mathlib.Core.List.{List}

@@ -1,5 +1,5 @@
 // Reads a whole network text into tables and judges it: refusals 1 to 6, 28 and 30.
-// The call that tells what a valid network has, by its `N` line.
+// Also the call that returns what a valid network has, by its `N` line.
 ghost use mathlib.Core.Path.{_≡_};
 ghost use Rattle.text_reader.specs.Lines.{lines};
 ghost use Rattle.text_reader.specs.Padding.{PaddingIgnored};
@@ -24,7 +24,7 @@ use network_tables::Stage;
 use network_tables::TIME_TABLE_SIZE;
 use network_tables::TRAM_TABLE_SIZE;
 
-// After the `S` lines: refusal 1 for a surplus line, told at the line after the last.
+// After the `S` lines: refusal 1 for a surplus line, reported at the line after the last.
 fn check_end(text: &[u8], reading: Reading) -> Stage
     requires { ⌜ EndAsked (now text) reading ⌝ }
     ensures { λ r. ⌜ Judged (endChecks (lines (now (text .entry)))) (λ after. after ≡ reading) r ⌝ }
@@ -36,7 +36,7 @@ fn check_end(text: &[u8], reading: Reading) -> Stage
     Stage::Refused(Refusal::new(1, counts.step_line(counts.steps) + 1, 0))
 }
 
-// The `T` and the `G` lines, then the trams' phases, which are told at their `T` lines: the table of these is needed no longer.
+// The `T` and the `G` lines, then the trams' phases, which are reported at their `T` lines. After that no table of these is needed.
 fn read_trams_and_signals(
     text: &[u8],
     reading: Reading,

@@ -1,4 +1,4 @@
--- The test of a link by its table is the paper's test of the link, and the turns of the loop over the `Q` lines. Assumes nothing.
+-- The test of a link by its table is the paper's test of the link, and the turns of the loop over the `Q` lines.
 use Rattle.base_laws.proofs.Kit.{ℕ, suc, _+_, _-_, _*_, _%_, _^_, _≤_, _<_, _≡_, refl, sym, _∙_, Bool, true, false, cond, not, _&&_, and-true, and-false, List, add-one, arith, le-leb, lt-leb, eqb-false, leb-true, ne-eqb, not-true, not-false, leb, ltb, eqb, getD}
 use Rattle.base_search.specs.declared.Refusal.{Refusal}
 use Rattle.base_search.specs.Checks.{refusal}

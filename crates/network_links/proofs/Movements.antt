@@ -1,4 +1,4 @@
--- The tests of movements by their table are the paper's, and the turns of the loops over the `M` lines and over the links' shares. Assumes nothing.
+-- The tests of movements by their table are the paper's, and the turns of the loops over the `M` lines and over the links' shares.
 use Rattle.base_laws.proofs.Kit.{ℕ, zero, suc, _+_, _-_, _*_, _≤_, _<_, _≡_, refl, sym, ap, fun-ext, _∙_, Bool, true, false, not, _&&_, _||_, List, add-one, arith, eq-eqb, ne-eqb, not-true, not-false, leb, ltb, eqb, eqb·suc-zero}
 use Rattle.base_search.specs.declared.Refusal.{Refusal}
 use Rattle.base_search.specs.Checks.{refusal, each, checked, verdict}

@@ -1,4 +1,4 @@
--- The test of a link by the table of the `Q` lines. Assumes nothing.
+-- The test of a link by the table of the `Q` lines.
 use Prim.Native.Nat.{ℕ, _-_, _^_, _≤_, _<_}
 use mathlib.Core.Path.{_≡_}
 use mathlib.Core.Bool.{Bool, cond}

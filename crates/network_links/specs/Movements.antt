@@ -1,4 +1,4 @@
--- The tests of movements by the table of the `M` lines. Links are numbered from 1. Assumes nothing.
+-- The tests of movements by the table of the `M` lines. Links are numbered from 1.
 use Prim.Native.Nat.{ℕ, zero, suc, _+_, _-_, _≤_, _<_}
 use mathlib.Core.Path.{_≡_}
 use mathlib.Core.Bool.{Bool, not, cond}
@@ -39,7 +39,7 @@ shareSumIn movements m link = sum m (λ j. only (eqb (linkIn movements 0 j) link
 unfoldable pub validSharesIn : List ℕ → ℕ → ℕ → Bool
 validSharesIn movements m link = eqb (lastMovementIn movements m link) 0 or eqb (shareSumIn movements m link) 1000
 
--- told at the link's last movement, whose line from 1 is the place of the movement after it
+-- reported at the link's last movement, whose line from 1 is the place of the movement after it
 unfoldable pub shareChecksIn : List ℕ → Counts → ℕ → Checks
 shareChecksIn movements counts i =
     check 5 (movementLineIn counts (lastMovementIn movements (counts .movements) (suc i))) (lastMovementIn movements (counts .movements) (suc i))

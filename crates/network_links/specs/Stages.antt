@@ -1,4 +1,4 @@
--- What the stages of a network's reading that judge links and movements ask, and what is held where they pass. Assumes nothing.
+-- What the stages of a network's reading that judge links and movements ask, and what is held where they pass.
 use Prim.Native.Nat.{ℕ}
 use mathlib.Core.Path.{_≡_}
 use mathlib.Core.List.{List}

@@ -182,7 +182,7 @@ fn valid_shares(movements: &[u32], count: usize, link: usize, sum: u64) -> bool
     last_movement(movements, count, link) == 0
 }
 
-// Refusal 5 after all `M` lines: the shares by rising link, told at the link's last movement.
+// Refusal 5 after all `M` lines: the shares by rising link, reported at the link's last movement.
 pub fn check_shares(movements: &[u32], reading: Reading) -> Stage
     requires { ⌜ SharesAsked (now movements) (reading .counts) ⌝ }
     ensures { λ r. ⌜ Judged (each (reading .counts .links) (shareChecksIn (now (movements .entry)) (reading .counts))) (λ after. after ≡ reading) r ⌝ }

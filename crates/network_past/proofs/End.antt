@@ -1,4 +1,4 @@
--- 30 after all lines. Assumes nothing.
+-- 30 after all lines.
 use Rattle.base_laws.proofs.Kit.{ℕ, _+_, _*_, _-_, _≤_, _<_, _≡_, refl, sym, ap, _∙_, Bool, true, false, not, List, [], add-one, arith, leb-true, not-true, not-false, length, replicate, length-replicate, getD-replicate}
 use Rattle.base_search.specs.declared.Refusal.{Refusal}
 use Rattle.base_search.specs.Checks.{refusal, verdict}

@@ -1,4 +1,4 @@
--- The turns of the loop over the `H` lines. Assumes nothing.
+-- The turns of the loop over the `H` lines.
 use Rattle.base_laws.proofs.Kit.{ℕ, suc, _+_, _*_, _≤_, _<_, _≡_, refl, sym, ap, _∙_, Bool, true, false, List, add-one, arith, leb-true, leb, length, getD, set}
 use Rattle.base_search.specs.declared.Refusal.{Refusal}
 use Rattle.base_search.specs.Checks.{refusal, verdict}

@@ -1,4 +1,4 @@
--- What is read of the `H` lines, and refusal 30 by the program's tables. Assumes nothing.
+-- What is read of the `H` lines, and refusal 30 by the program's tables.
 use Prim.Native.Nat.{ℕ, _+_, _*_, _≤_, _<_}
 use mathlib.Core.Path.{_≡_}
 use mathlib.Core.Bool.{Bool}

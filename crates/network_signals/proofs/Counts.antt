@@ -1,4 +1,4 @@
--- The returns of the function that reads the `N` line, each in the form of a need. Assumes nothing.
+-- The returns of the function that reads the `N` line, each in the form of a need.
 use Rattle.base_laws.proofs.Kit.{ℕ, _+_, _<_, _≡_, sym, ap, _∙_, Bool, true, false, not, List, arith, leb-true, not-true, not-false, getD}
 use Rattle.base_search.specs.declared.Refusal.{Refusal}
 use Rattle.base_search.specs.Checks.{refusal}

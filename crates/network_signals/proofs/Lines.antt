@@ -1,4 +1,4 @@
--- The calls and the returns of the function that reads one `G` line, each in the form of a need. Assumes nothing.
+-- The calls and the returns of the function that reads one `G` line, each in the form of a need.
 use Rattle.base_laws.proofs.Kit.{ℕ, suc, _+_, _*_, _≤_, _≡_, sym, ap, _∙_, Bool, true, false, not, List, decLe, add-one, arith, leb-true, not-true, not-false, leb, length, getD}
 use Rattle.base_search.specs.declared.Refusal.{Refusal}
 use Rattle.base_search.specs.declared.Verdict.the-variants as verdicts

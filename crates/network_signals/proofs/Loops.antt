@@ -1,4 +1,4 @@
--- The turns and the returns of the loops over the `G` lines, each in the form of a need. Assumes nothing.
+-- The turns and the returns of the loops over the `G` lines, each in the form of a need.
 use Rattle.base_laws.proofs.Kit.{ℕ, _+_, _-_, _*_, _≤_, _<_, _≡_, refl, ap, _∙_, ⊎-elim, List, _++_, decLe, eq-or-lt-of-le, le-of-suc-le-suc, add-one, arith, le-leb, leb, length, take, drop, getD, set, length-set, List·getD-eq-default, List·getD-append, getD-set-same, getD-set-other, getD-take, getD-drop}
 use Rattle.base_search.specs.declared.Refusal.{Refusal}
 use Rattle.base_search.specs.Checks.{verdict}

@@ -1,4 +1,4 @@
--- `G` lines that have passed are loaded again into a table of zeros. Assumes nothing.
+-- `G` lines that have passed are loaded again into a table of zeros.
 use Rattle.base_laws.proofs.Kit.{ℕ, _≡_, ap, _∙_, List, decLe, arith, length, getD, replicate, length-replicate, getD-replicate, List·getD-eq-default}
 use Rattle.base_search.specs.Checks.{Hold}
 use Rattle.base_search.proofs.Laws.{passes-of-hold}

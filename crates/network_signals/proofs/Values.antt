@@ -1,4 +1,4 @@
--- A signal by its numbers: the tests of its values, one turn of a loop over its phases, and what the shortest time says. Assumes nothing.
+-- A signal by its numbers: the tests of its values, one turn of a loop over its phases, and what the shortest time says.
 use Rattle.base_laws.proofs.Kit.{ℕ, zero, suc, _+_, _-_, _≤_, _<_, _≡_, refl, sym, ap, _∙_, fun-ext, Bool, true, false, _&&_, _||_, not, cond, and-true, and-false, and-assoc, List, add-one, arith, lt-leb, leb-true, leb-false, le-leb, ltb-true, ltb-false, leb, ltb, eqb, getD}
 use Rattle.text_reader.specs.Lines.{Line}
 use Rattle.model.specs.declared.Signal.{Signal}

@@ -1,4 +1,4 @@
--- What is read of the `N` line. Assumes nothing.
+-- What is read of the `N` line.
 use Prim.Native.Nat.{ℕ}
 use mathlib.Core.Bool.{Bool}
 use mathlib.Core.List.{List}

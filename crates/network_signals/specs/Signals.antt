@@ -1,4 +1,4 @@
--- What is read of the `G` lines. Assumes nothing.
+-- What is read of the `G` lines.
 use Prim.Native.Nat.{ℕ, zero, suc}
 use mathlib.Core.Bool.{Bool, cond}
 use mathlib.Core.List.{List}

@@ -1,4 +1,4 @@
--- What the functions that read `G` lines ask, and what is held where the lines pass. Assumes nothing.
+-- What the functions that read `G` lines ask, and what is held where the lines pass.
 use Prim.Native.Nat.{ℕ, suc, _≤_, _<_}
 use mathlib.Core.Path.{_≡_}
 use mathlib.Core.List.{List}

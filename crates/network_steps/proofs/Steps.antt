@@ -1,4 +1,4 @@
--- The `S` lines as they are read: one line, and the turns of the loop over all of them. Assumes nothing.
+-- The `S` lines as they are read: one line, and the turns of the loop over all of them.
 use Rattle.base_laws.proofs.Kit.{ℕ, suc, _+_, _*_, _≤_, _<_, _≡_, refl, sym, ap, _∙_, Bool, true, false, not, List, ℕ-discrete, add-one, arith, not-true, not-false, length, getD, set, length-set, getD-set-same, getD-set-other}
 use Rattle.base_search.specs.declared.Refusal.{Refusal}
 use Rattle.base_search.specs.Checks.{refusal}

@@ -1,4 +1,4 @@
--- The numbers of one `S` line, its length and then the demand of each link, and what the functions that read such lines ask and promise. Assumes nothing.
+-- The numbers of one `S` line, its length and then the demand of each link, and what the functions that read such lines ask and promise.
 use Prim.Native.Nat.{ℕ, _+_, _≤_, _<_}
 use mathlib.Core.Path.{_≡_}
 use mathlib.Core.Bool.{Bool, true}

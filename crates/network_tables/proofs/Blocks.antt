@@ -1,4 +1,4 @@
--- The lines of a block, read one after another: one law for each way through a turn of the loop. Assumes nothing.
+-- The lines of a block, read one after another: one law for each way through a turn of the loop.
 use Rattle.base_laws.proofs.Kit.{ℕ, suc, _+_, _*_, _≤_, _<_, _≡_, ap, _∙_, Bool, true, false, _⊎_, inl, inr, List, eq-or-lt-of-le, mul-le-mul-left, mul-suc, sub-zero, add-one, arith, length, getD}
 use Rattle.base_search.specs.declared.Refusal.{Refusal}
 use Rattle.base_search.specs.declared.Verdict.the-variants.{Passes, Refused}

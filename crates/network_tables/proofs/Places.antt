@@ -1,5 +1,4 @@
 -- The places of lines by the program's counts are the paper's, and each block of lines starts where the one before it ends; a record is a line of its text.
--- Assumes nothing.
 use Rattle.base_laws.proofs.Kit.{ℕ, _<_, _≡_, Bool, true, false, List, decLe, arith, length, getD, List·getD-eq-default}
 use Rattle.text_reader.specs.Lines.{Line, noLine, isRecord}
 use Rattle.model.specs.Network.{linkCount, signalCount, movementCount, tramCount, pastCount, onTimeline, tramLine, signalLine, linkLine, movementLine, timelineLine, stepLine}

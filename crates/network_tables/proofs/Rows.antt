@@ -1,4 +1,4 @@
--- A line that is read into a row of a table. Assumes nothing.
+-- A line that is read into a row of a table.
 use Rattle.base_laws.proofs.Kit.{ℕ, _+_, _-_, _≤_, _<_, _≡_, sym, ap, _∙_, Bool, List, _++_, arith, length, take, drop, getD, length-append, length-take, length-drop, List·getD-append, length-take-le, getD-take, getD-drop, getD-append-add}
 use Rattle.text_reader.specs.declared.LineRead.{LineRead}
 use Rattle.text_reader.specs.Lines.{startsAs, number}

@@ -1,4 +1,4 @@
--- A signal in the table of the `G` lines: its times, and what a write to its row keeps. Assumes nothing.
+-- A signal in the table of the `G` lines: its times, and what a write to its row keeps.
 use Rattle.base_laws.proofs.Kit.{ℕ, zero, suc, _+_, _*_, _<_, _≡_, refl, sym, _∙_, _≢_, cond, List, arith, ℕ-discrete, ne-eqb, eqb, length, getD, set, length-set, getD-set-same, getD-set-other}
 use Rattle.model.specs.Network.{maxSignals}
 use Rattle.network_tables.specs.Fields.{signalFields, signalTableSize, signalBy, tableSignal}

@@ -1,4 +1,4 @@
--- What a stage of a network's reading promises, by the verdict on its checks; and one stage after another. Assumes nothing.
+-- What a stage of a network's reading promises, by the verdict on its checks; and one stage after another.
 use Rattle.base_laws.proofs.Kit.{ℕ, _≡_, sym, ap, _∙_, List, arith}
 use Rattle.base_search.specs.declared.Refusal.{Refusal}
 use Rattle.base_search.specs.declared.Verdict.the-variants as verdicts

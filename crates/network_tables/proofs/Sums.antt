@@ -1,4 +1,4 @@
--- The turns of the loop that adds a line's numbers to sums. Assumes nothing.
+-- The turns of the loop that adds a line's numbers to sums.
 use Rattle.base_laws.proofs.Kit.{ℕ, _+_, _≤_, _<_, _≡_, refl, _∙_, true, false, List, ℕ-discrete, arith, length, getD, set, length-set, getD-set-same, getD-set-other}
 use Rattle.network_tables.specs.Sums.{Summed}
 

@@ -1,4 +1,4 @@
--- What stands at a place of the program's tables, by its name in the paper. Assumes nothing.
+-- What stands at a place of the program's tables, by its name in the paper.
 use Rattle.base_laws.proofs.Kit.{ℕ, _+_, _*_, _<_, _≡_, sym, ap, _∙_, List, arith, getD}
 use Rattle.text_reader.specs.Lines.{Line}
 use Rattle.model.specs.Network.{linkCount, signalCount, movementCount, capacity, travelTime, exitRate, signalOf, phaseMask, standing, waitingAtStart, fromLink, toLink, rate, share, stepLine, timelineLength, pastEntries, pastExits, stepLength, demand}

@@ -1,4 +1,4 @@
--- Lines of one letter that follow each other in a network text, and how far they are read. Assumes nothing.
+-- Lines of one letter that follow each other in a network text, and how far they are read.
 use Prim.Native.Nat.{ℕ, suc, _+_, _*_, _-_, _≤_, _<_}
 use mathlib.Core.Path.{_≡_}
 use mathlib.Core.Bool.{Bool}

@@ -1,5 +1,5 @@
 -- The numbers of the program's tables by their names in the paper. Links, movements and signals are counted from 0; a link's signal and a movement's links are
--- named from 1. Assumes nothing.
+-- named from 1.
 use Prim.Native.Nat.{ℕ, suc, _+_, _*_, _≤_, _<_}
 use mathlib.Core.List.{List, [], _∷_}
 use lib.ListN.{length, getD}

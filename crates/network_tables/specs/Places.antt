@@ -1,5 +1,5 @@
 -- The places of lines in a network text and of numbers in a `P` line, from 0, by the counts of the `N` line. Not of the paper: that they are its places stands in
--- proofs/Tables.antt. Assumes nothing.
+-- proofs/Tables.antt.
 use Prim.Native.Nat.{ℕ, _+_, _*_, _≤_}
 use Rattle.model.specs.Network.{maxLinks, maxSignals, maxMovements, maxSteps, maxTrams, maxPast}
 use Rattle.network_tables.specs.declared.Counts.{Counts}

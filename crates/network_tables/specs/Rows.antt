@@ -1,4 +1,4 @@
--- What the reading of one line's numbers into a table promises, over the lines of the text: `i` is the line that starts at the place. Assumes nothing.
+-- What the reading of one line's numbers into a table promises, over the lines of the text: `i` is the line that starts at the place.
 use Prim.Native.Nat.{ℕ, suc, _+_, _≤_, _<_}
 use mathlib.Core.Path.{_≡_}
 use mathlib.Core.Bool.{Bool, true, false}

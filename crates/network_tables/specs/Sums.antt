@@ -1,4 +1,4 @@
--- The numbers of a line added to sums of 32 bits. Assumes nothing.
+-- The numbers of a line added to sums of 32 bits.
 use Prim.Native.Nat.{ℕ, _+_, _≤_, _<_}
 use mathlib.Core.Path.{_≡_}
 use mathlib.Core.Bool.{Bool, true, false}

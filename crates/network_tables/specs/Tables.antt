@@ -1,5 +1,4 @@
 -- What the program's tables hold of a network text while it is judged. Not of the paper: the contracts between the crates of the program speak of these.
--- Assumes nothing.
 use Prim.Native.Nat.{ℕ, _+_, _*_, _≤_, _<_}
 use mathlib.Core.Path.{_≡_}
 use mathlib.Core.Logic.{_≢_}

@@ -1,4 +1,4 @@
-// The program's tables of a network and a plan while they are judged: their sizes, and each number of them by its name in the paper. Links, signals, movements
+// The program's tables of a network and a plan: their sizes, and each number by its name in the paper. Links, signals, movements
 // and steps are counted from 0 here.
 ghost use mathlib.Core.Path.{_≡_};
 ghost use Prim.Native.Nat.{_+_, _*_, _<_, _≤_};
@@ -25,7 +25,7 @@ pub const MAX_TRAMS: usize = 16;
 
 pub const MAX_PAST: usize = 120;
 
-// How many numbers a `T`, a `G`, a `Q`, an `M`, an `H`, an `S` and a `P` line have at most.
+// The most numbers that a `T`, `G`, `Q`, `M`, `H`, `S` and `P` line have.
 pub const TRAM_FIELDS: usize = 4;
 
 pub const SIGNAL_FIELDS: usize = 6 + 2 * 8;
@@ -76,7 +76,7 @@ pub struct Reading {
     pub timed: bool,
 }
 
-// What the reading of some lines of a network text says: they pass, or one of them is refused.
+// The result of reading some lines of a network text: they pass, or one of them is refused.
 pub enum Stage {
     Passed(Reading),
     Refused(Refusal),
@@ -179,7 +179,7 @@ pub fn read_row(
     text_reader::line_at(text, at, letter, &mut table[start..end])
 }
 
-// Reads the beginning of a line of this letter, `width` numbers whatever follows them, into the table's row that starts at `start`.
+// Reads the first `width` numbers of a line of this letter, whatever follows them, into the table's row that starts at `start`.
 pub fn read_head(
     text: &[u8],
     at: usize,
@@ -195,7 +195,7 @@ pub fn read_head(
     text_reader::head_at(text, at, letter, &mut table[start..end])
 }
 
-// Adds the numbers of a line that stand behind its first to sums, up to the first sum that does not fit 32 bits; whether all do.
+// Adds the numbers of a line, but for its first, to sums, up to the first sum that does not fit 32 bits. Returns whether all fit.
 pub fn add_numbers(line: &[u32], count: usize, sums: &mut [u32]) -> bool
     requires { ⌜ (count < length (now line)) × (count ≤ length (now sums)) ⌝ }
     ensures { λ r. ⌜ Summed (now (line .entry)) count (now (sums .entry)) r (now (sums .exit)) ⌝ }
@@ -249,7 +249,7 @@ pub fn shown_for(signals: &[u32], r: usize) -> u32
     signals[SIGNAL_FIELDS * r + 4]
 }
 
-// The least and the greatest time of the phase whose times stand at a place, from 0.
+// The least and the greatest time of a phase, counted from 0.
 pub fn least_time(signals: &[u32], r: usize, place: usize) -> u32
     requires { ⌜ (r < maxSignals) × (place < 8) × (length (now signals) ≡ signalTableSize) ⌝ }
     ensures { λ x. ⌜ x ≡ getD (tableSignal (now (signals .entry)) r .least) place 0 ⌝ }
@@ -264,7 +264,7 @@ pub fn greatest_time(signals: &[u32], r: usize, place: usize) -> u32
     signals[SIGNAL_FIELDS * r + (7 + 2 * place)]
 }
 
-// Where a signal's row starts stands its least cycle.
+// The first number of a signal's row.
 const LEAST_CYCLE: usize = 0;
 
 // A signal by value, by the 22 numbers from a place on.
@@ -310,7 +310,7 @@ pub fn signal_in(signals: &[u32], r: usize) -> Signal
     signal_from(signals, SIGNAL_FIELDS * r)
 }
 
-// Has a signal show a phase, for so many seconds, with its cycle clock at so many.
+// Sets the phase that a signal shows, the seconds that it has shown, and the cycle clock.
 pub fn show(signals: &mut [u32], r: usize, phase: u32, shown_for: u32, cycle_clock: u32)
     requires { ⌜ (r < maxSignals) × (length (now signals) ≡ signalTableSize) ⌝ }
     ensures { λ _. ⌜ SignalLaid (now (signals .entry)) r (showing (tableSignal (now (signals .entry)) r) phase «shown_for» «cycle_clock») (now (signals .exit)) ⌝ }

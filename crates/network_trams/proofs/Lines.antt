@@ -1,4 +1,4 @@
--- The turns and the returns of the loops over the `T` lines of a network, each in the form of a need. Assumes nothing.
+-- The turns and the returns of the loops over the `T` lines of a network, each in the form of a need.
 use Rattle.base_laws.proofs.Kit.{ℕ, suc, _+_, _-_, _*_, _≤_, _<_, _≡_, refl, sym, ap, _∙_, Bool, true, false, not, true≢false, List, arith, leb-true, not-true, not-false}
 use Rattle.base_search.specs.declared.Refusal.{Refusal}
 use Rattle.base_search.specs.Checks.{refusal, each, checked, verdict, Hold}

@@ -1,4 +1,4 @@
--- The tests of tram lines by their table, one turn of a loop over them, and that they are the paper's. Assumes nothing.
+-- The tests of tram lines by their table, one turn of a loop over them, and that they are the paper's.
 use Rattle.base_laws.proofs.Kit.{ℕ, suc, _+_, _-_, _≤_, _<_, _≡_, refl, ap, Bool, true, not, _&&_, _||_, List, add-one, arith, leb, ltb, eqb, getD}
 use Rattle.text_reader.specs.Lines.{Line, number}
 use Rattle.base_laws.specs.Test.{_and_, _or_, within, every}

@@ -1,4 +1,4 @@
--- What trams ask of the signals in a step, by the table of the `T` lines. Assumes nothing.
+-- What trams ask of the signals in a step, by the table of the `T` lines.
 use Prim.Native.Nat.{ℕ, zero, suc, _-_, _≤_, _<_}
 use mathlib.Core.Path.{_≡_}
 use mathlib.Core.Bool.{Bool, true, _&&_, cond}

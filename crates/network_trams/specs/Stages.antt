@@ -1,4 +1,4 @@
--- What the reading of the `T` lines asks, and what is held where they pass. Assumes nothing.
+-- What the reading of the `T` lines asks, and what is held where they pass.
 use Prim.Native.Nat.{ℕ}
 use mathlib.Core.Path.{_≡_}
 use mathlib.Core.List.{List}

@@ -1,4 +1,4 @@
--- The tests of tram lines by the table of the `T` lines. Assumes nothing.
+-- The tests of tram lines by the table of the `T` lines.
 use Prim.Native.Nat.{ℕ, suc, _-_, _≤_, _<_}
 use mathlib.Core.Path.{_≡_}
 use mathlib.Core.Bool.{Bool, not}
@@ -12,7 +12,7 @@ use Rattle.network_tables.specs.declared.Counts.{Counts}
 use Rattle.network_tables.specs.Places.{tramLineIn}
 use Rattle.network_tables.specs.Fields.{tramTableSize, tramIn}
 
--- lines j and k are not for one signal in one step
+-- lines j and k have no step in common for one signal
 unfoldable pub apartIn : List ℕ → ℕ → ℕ → Bool
 apartIn trams j k =
     not (eqb (tramIn trams j 0) (tramIn trams k 0)) or ltb (tramIn trams j 3) (tramIn trams k 2) or ltb (tramIn trams k 3) (tramIn trams j 2)
@@ -30,7 +30,7 @@ validTramIn trams signals steps k =
 unfoldable pub validPhaseIn : List ℕ → List ℕ → ℕ → Bool
 validPhaseIn trams phases k = within 1 (tramIn trams k 1) (getD phases (tramIn trams k 0 - 1) 0)
 
--- told at that line
+-- reported at that line
 unfoldable pub phaseChecksIn : List ℕ → List ℕ → Counts → ℕ → Checks
 phaseChecksIn trams phases counts k = check 28 (suc (tramLineIn counts k)) 0 (validPhaseIn trams phases k)
 
@@ -39,7 +39,7 @@ pub record TramsKnown (trams : List ℕ) (k : ℕ) : Type 0 where
   pub room : length trams ≡ tramTableSize
   pub few : k < maxTrams
 
--- the signal of line k is one of those whose phases are told
+-- the signal of line k is one of those whose numbers of phases are known
 pub record PhaseAsked (trams phases : List ℕ) (k : ℕ) : Type 0 where
   pub known : TramsKnown trams k
   pub first : 1 ≤ tramIn trams k 0

@@ -14,7 +14,7 @@ use network_tables::Stage;
 use network_tables::TRAM_FIELDS;
 use text_reader::LineRead;
 
-// Whether two `T` lines are not for one signal in one step.
+// Whether two `T` lines have no step in common for one signal.
 fn is_apart(trams: &[u32], j: usize, k: usize) -> bool
     requires { ⌜ TramsKnown (now trams) j ⌝ }
     requires { ⌜ TramsKnown (now trams) k ⌝ }
@@ -87,7 +87,7 @@ fn valid_phase(trams: &[u32], phases: &[u32], k: usize) -> bool
     (1 <= phase) & (phase <= phases[signal - 1])
 }
 
-// Refusal 28 after the last `G` line: each `T` line's phase is one of its signal, told at the `T` line.
+// Refusal 28 after the last `G` line: each `T` line's phase is one of its signal, reported at the `T` line.
 pub fn check_tram_phases(trams: &[u32], phases: &[u32], reading: Reading) -> Stage
     requires { ⌜ PhasesAsked (now trams) (now phases) (reading .counts) ⌝ }
     ensures { λ r. ⌜ Judged (each (reading .counts .trams) (phaseChecksIn (now (trams .entry)) (now (phases .entry)) (reading .counts))) (λ after. after ≡ reading) r ⌝ }

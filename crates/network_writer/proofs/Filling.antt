@@ -1,4 +1,4 @@
--- Numbers that go to the front of a row, one after another. Assumes nothing.
+-- Numbers that go to the front of a row, one after another.
 use Rattle.base_laws.proofs.Kit.{ℕ, suc, _+_, _≤_, _<_, _≡_, refl, sym, ap, _∙_, List, [], _∷_, _++_, add-one, arith, length, getD, set, take, drop, length-append, length-set, length-take-le, take-suc, take-length, take-at, drop-cons, set-at, append-snoc}
 use Rattle.text_reader.specs.Reading.{over}
 

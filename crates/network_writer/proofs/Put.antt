@@ -1,4 +1,4 @@
--- Lines that are put one behind another. Assumes nothing.
+-- Lines that are put one behind another.
 use Rattle.base_laws.proofs.Kit.{ℕ, suc, _+_, _*_, _≤_, _<_, _≡_, refl, sym, ap, ap₂, _∙_, List, [], _++_, add-one, arith, length, take, length-append, take-append-drop, take-at, length-take-le}
 use Rattle.text_reader.specs.Reading.{over}
 use Rattle.text_writer.specs.Records.{recordText, recordTexts}

@@ -1,4 +1,4 @@
--- Lines that have passed, read again. Assumes nothing.
+-- Lines that have passed, read again.
 use Rattle.base_laws.proofs.Kit.{ℕ, zero, suc, _+_, _≤_, _<_, _≡_, refl, ap₂, _∙_, List, [], _∷_, _++_, arith, length, getD, take, take-suc}
 use Rattle.text_reader.specs.declared.LineRead.{LineRead}
 use Rattle.text_reader.specs.declared.LineRead.the-variants.{Next, Malformed}

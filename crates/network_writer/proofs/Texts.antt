@@ -1,4 +1,4 @@
--- Lines of one letter by a list of their numbers, and a text at the beginning of a buffer. Assumes nothing.
+-- Lines of one letter by a list of their numbers, and a text at the beginning of a buffer.
 use Rattle.base_laws.proofs.Kit.{ℕ, zero, suc, _+_, _≤_, _<_, _≡_, refl, sym, ap, _∙_, List, [], _∷_, _++_, append-assoc, append-nil, arith, le-leb, lt-leb, length, getD}
 use Rattle.base_search.specs.declared.Refusal.{Refusal}
 use Rattle.base_search.specs.Checks.{refusal, checked}

@@ -1,4 +1,4 @@
--- A text put line by line at a place of a buffer, as far as there is room. Assumes nothing.
+-- A text put line by line at a place of a buffer, as far as there is room.
 use Prim.Native.Nat.{ℕ, _+_, _*_, _≤_}
 use mathlib.Core.Path.{_≡_}
 use mathlib.Core.List.{List}
@@ -11,7 +11,7 @@ use Rattle.network_tables.specs.Fields.{lineSize}
 abbrev pub longest : ℕ
 longest = 2 + 21 * lineSize
 
--- A text of so many lines was put at a place: it is written there if it ends within the buffer, and where it ends is told in any case.
+-- A text of so many lines was put at a place: it is written there if it ends within the buffer, and where it ends is returned in any case.
 pub record Put (count : ℕ) (text : List ℕ) (at : ℕ) (old new : List ℕ) (end : ℕ) : Type 0 where
   pub ends : end ≡ at + length text
   pub few : length text ≤ longest * count
@@ -22,7 +22,7 @@ pub record Put (count : ℕ) (text : List ℕ) (at : ℕ) (old new : List ℕ) (
 abbrev pub Early : ℕ → ℕ → Type 0
 Early count at = at + longest * count ≤ 1_000_000
 
--- the text was put at the beginning of a buffer: it is written there if it fits, and its length is told in any case
+-- the text was put at the beginning of a buffer: it is written there if it fits, and its length is returned in any case
 pub record PutWhole (text old new : List ℕ) (size : ℕ) : Type 0 where
   pub long : size ≡ length text
   pub is : size ≤ length old → new ≡ over text old

@@ -1,4 +1,4 @@
--- A line that has passed, read again. Assumes nothing.
+-- A line that has passed, read again.
 use Prim.Native.Nat.{ℕ}
 use mathlib.Core.Path.{_≡_}
 use mathlib.Core.Bool.{true}

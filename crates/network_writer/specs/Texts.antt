@@ -1,4 +1,4 @@
--- The text of lines of one letter, by a list of their numbers. Assumes nothing.
+-- The text of lines of one letter, by a list of their numbers.
 use Prim.Native.Nat.{ℕ}
 use mathlib.Core.List.{List, [], _∷_, _++_}
 use Rattle.text_writer.specs.Records.{recordText}

@@ -1,5 +1,5 @@
-// Lines of a text that has passed, read again, and lines put one behind another at a place of a buffer, as far as there is room: where the text would end is told in
-// any case, so that a text is measured by putting it where there is none. A plan's text is written that way by a table of its numbers.
+// Lines of a text that has passed, read again, and lines written one behind another into a buffer, as far as there is room. Where
+// the text would end is returned in any case, so that a text is measured by writing it where there is no room. A plan's text is written that way by a table of its numbers.
 ghost use mathlib.Core.Path.{_≡_};
 ghost use Prim.Native.Nat.{_≤_, _<_};
 ghost use lib.ListN.{length};
@@ -37,7 +37,7 @@ fn widen(row: &[u32], numbers: &mut [u64])
     }
 }
 
-// Puts a line of these numbers at a place, if it ends within the buffer, and tells where it ends.
+// Writes a line of these numbers at a place if it ends within the buffer, and returns where it ends.
 pub fn put_line(letter: u8, row: &[u32], out: &mut [u8], at: usize) -> usize
     requires { ⌜ (length (now row) ≤ lineSize) × Early 1 at ⌝ }
     ensures { λ r. ⌜ Put 1 (recordText letter (now (row .entry))) at (now (out .entry)) (now (out .exit)) r ⌝ }
@@ -113,7 +113,7 @@ fn fill_row(numbers: &[u32], columns: usize, counts: Counts, n: usize, row: &mut
     }
 }
 
-// Puts a plan's text at the beginning of a buffer: its lines as far as they fit, and tells how long it is.
+// Writes a plan's text at the beginning of a buffer: its lines as far as they fit, and tells how long it is.
 fn put_plan(numbers: &[u32], columns: usize, counts: Counts, out: &mut [u8]) -> usize
     requires { ⌜ PlanAsked (now numbers) columns counts ⌝ }
     ensures { λ r. ⌜ PutWhole (planLines (now (numbers .entry)) columns counts) (now (out .entry)) (now (out .exit)) r ⌝ }

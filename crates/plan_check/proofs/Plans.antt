@@ -1,4 +1,4 @@
--- The whole check of a plan. Assumes nothing.
+-- The whole check of a plan.
 use Rattle.base_laws.proofs.Kit.{ℕ, suc, _+_, _*_, _≤_, _<_, _≡_, refl, sym, ap, _∙_, true, false, List, add-one, le-leb, lt-leb, leb, length}
 use Rattle.base_search.specs.declared.Refusal.{Refusal}
 use Rattle.base_search.specs.declared.Verdict.the-variants as verdicts

@@ -1,4 +1,4 @@
--- What the check of a plan promises. Assumes nothing.
+-- What the check of a plan promises.
 use Prim.Native.Nat.{ℕ}
 use mathlib.Core.Path.{_≡_}
 use mathlib.Core.List.{List}

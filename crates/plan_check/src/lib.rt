@@ -1,4 +1,4 @@
-// The plan check: the call `check_plan`, and what it does once a network has passed, for other calls that judge plans.
+// The plan check: the call `check_plan`, and the judging of a plan on a network that has passed, for other calls.
 ghost use mathlib.Core.Path.{_≡_};
 ghost use lib.ListN.{length};
 ghost use Rattle.text_reader.specs.Lines.{lines};

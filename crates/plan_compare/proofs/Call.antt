@@ -1,4 +1,4 @@
--- The ways out of a comparison. Assumes nothing.
+-- The ways out of a comparison.
 use Rattle.base_laws.proofs.Kit.{ℕ, _<_, _≡_, refl, sym, _∙_, List, le-refl, arith, length}
 use lib.IntN.{ℤ, subℕ}
 use mir.Syntax.{w64}

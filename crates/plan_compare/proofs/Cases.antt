@@ -1,4 +1,4 @@
--- Comparisons of plans, by computation on the definitions. Assumes nothing.
+-- Comparisons of plans, by computation on the definitions.
 use Rattle.base_laws.proofs.Kit.{ℕ, _≡_, refl, List, [], _∷_, map, replicate}
 use Prim.Native.String.{String, _++_}
 use lib.IntN.{ℤ, pos, negsuc}

@@ -1,4 +1,4 @@
--- The curves of two plan texts, read again: one law for each way through a turn, and that they are the curves of the plans that the texts mean. Assumes nothing.
+-- The curves of two plan texts, read again: one law for each way through a turn, and that they are the curves of the plans that the texts mean.
 use Rattle.base_laws.proofs.Kit.{ℕ, suc, _+_, _*_, _≤_, _<_, _≡_, refl, sym, ap, ap₂, _∙_, Bool, true, _&&_, List, decLt, mul-le-mul-left, add-one, arith, leb, length, getD, lt-ltb, le-ltb}
 use Rattle.base_search.specs.Checks.{Hold}
 use Rattle.text_reader.specs.declared.LineRead.{LineRead}

@@ -1,4 +1,4 @@
--- The difference of two naturals in the integers: its sign, its negation and zero. Assumes nothing.
+-- The difference of two naturals in the integers: its sign, its negation and zero.
 use Rattle.base_laws.proofs.Kit.{ℕ, zero, suc, _-_, _≤_, _<_, _≡_, refl, ap, _↔_, decLt, arith, le-leb, lt-ltb, le-ltb}
 use lib.IntN.{ℤ, pos, negℤ, _-ℤ_, subℕ}
 use lib.Signed.{_≤ℤ_, _<ℤ_, leZ-yes, ltZ-yes, clashℤ}

@@ -1,4 +1,4 @@
--- How two plans stand to each other by their curves. Assumes nothing.
+-- How two plans stand to each other by their curves.
 use Rattle.base_laws.proofs.Kit.{suc, _≡_, refl, Bool, true, false, List, le-antisymm, arith, leb, le-leb, leb-true, leb-false}
 use Rattle.text_reader.specs.Lines.{Line}
 use Rattle.model.specs.Network.{stepCount}

@@ -1,4 +1,4 @@
--- What a comparison promises of its answer. Assumes nothing.
+-- What a comparison promises of its answer.
 use Rattle.base_laws.proofs.Kit.{ℕ, _≤_, _<_, _≡_, refl, ap₂, _∙_, List, le-antisymm, arith}
 use lib.IntN.{ℤ, subℕ}
 use Rattle.base_search.specs.declared.Refusal.{Refusal}

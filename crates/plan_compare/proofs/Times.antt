@@ -1,5 +1,4 @@
 -- The doubled times of two accepted plans, by their curves: term by term, since of two plans the one that has let out more has as many fewer under way.
--- Assumes nothing.
 use Rattle.base_laws.proofs.Kit.{ℕ, zero, suc, _+_, _*_, _≤_, _<_, List, mul-le-mul-left, mul-lt-mul-of-pos-left, arith}
 use Rattle.text_reader.specs.Lines.{Line}
 use Rattle.base_laws.specs.Sum.{sum}

@@ -1,4 +1,4 @@
--- Which of two plans is ahead (T-11): their curves of let-out volume, their order by these, and the answer of the call. Assumes nothing.
+-- Which of two plans is ahead (T-11): their curves of let-out volume, their order by these, and the answer of the call.
 use Prim.Native.Nat.{ℕ, suc}
 use mathlib.Core.Bool.{Bool, true, false}
 use mathlib.Core.List.{List}
@@ -38,7 +38,7 @@ module _ (network : List Line) where
   unfoldable pub order : List Line → List Line → Order
   order first second = orderBy (isNeverFewer first second) (isNeverFewer second first)
 
--- two accepted plans are told by their order and the gap, the doubled time of the first minus that of the second; a refusal of the first comes before the second's ..
+-- two accepted plans are compared by their order and the gap, the doubled time of the first minus that of the second; a refusal of the first comes before the second's ..
 unfoldable pub plansAnswer : Order → PlanAnswer → PlanAnswer → ComparisonAnswer
 plansAnswer order (plan-answer.Accepted t) (plan-answer.Accepted u) = Compared order (subℕ (t .«doubled_time») (u .«doubled_time»))
 plansAnswer order (plan-answer.Accepted t) (plan-answer.Refused r) = Refused 2 r

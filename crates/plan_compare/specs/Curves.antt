@@ -1,4 +1,4 @@
--- The curves as the program reads them again from the two plan texts, line after line. Assumes nothing.
+-- The curves as the program reads them again from the two plan texts, line after line.
 use Prim.Native.Nat.{ℕ, suc, _+_, _*_, _≤_, _<_}
 use mathlib.Core.Path.{_≡_}
 use mathlib.Core.Bool.{Bool, true}

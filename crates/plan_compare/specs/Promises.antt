@@ -1,4 +1,4 @@
--- What a comparison of two plans promises, and the theorem of T-11. Assumes nothing.
+-- What a comparison of two plans promises, and the theorem of T-11.
 use Prim.Native.Nat.{ℕ, _≤_, _<_}
 use mathlib.Core.Path.{_≡_}
 use mathlib.Core.Logic.{_↔_}

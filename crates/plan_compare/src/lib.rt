@@ -93,7 +93,7 @@ fn order_by(first: bool, second: bool) -> Order
     }
 }
 
-// The order of two plan texts, by one pass over both. The ledgers can't tell it: what has left a link was let out or moved.
+// The order of two plan texts, by one pass over both. The ledgers don't have it: what has left a link was let out or moved.
 fn order_of_texts(first: &[u8], second: &[u8], counts: Counts) -> Order
     requires { ⌜ Formed counts (now first) × Formed counts (now second) ⌝ }
     ensures { λ r. ⌜ r ≡ linesOrder counts (now (first .entry)) (now (second .entry)) ⌝ }

@@ -1,4 +1,4 @@
--- On the ledger that the check of an accepted plan leaves, the state of every link is told at every boundary, never 21, and it is that of the plan. Assumes nothing.
+-- On the ledger that the check of an accepted plan leaves, the state of every link is told at every boundary, never 21, and it is that of the plan.
 use Rattle.base_laws.proofs.Kit.{ℕ, suc, _+_, _*_, _-_, _/_, _≤_, _<_, _≡_, refl, sym, ap, _∙_, Bool, true, false, List, [], mul-comm, div-mul-le-self, div-le-of-le-mul, le-div-iff-mul-le, lt-div-mul-add, decLe, arith, leb-true, ltb-true, ltb-false, le-leb, lt-leb, leb, ltb, eqb, length}
 use Rattle.base_search.specs.Checks.{Hold}
 use Rattle.base_search.proofs.Laws.{passes-of-hold}

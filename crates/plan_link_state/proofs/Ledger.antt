@@ -1,4 +1,4 @@
--- What is read of one link in the past and in a ledger. Assumes nothing.
+-- What is read of one link in the past and in a ledger.
 use Rattle.base_laws.proofs.Kit.{ℕ, suc, _+_, _*_, _-_, _/_, _≤_, _<_, _≡_, refl, sym, ap, ap₂, _∙_, Bool, true, false, not, cond, List, [], mul-le-mul-right, mul-comm, le-div-iff-mul-le, div-le-of-le-mul, decLe, arith, le-leb, lt-leb, ltb-true, ltb-false, not-true, not-false, leb, ltb, eqb, length, getD}
 use Rattle.base_search.specs.Checks.{refusal}
 use Rattle.text_reader.specs.Lines.{Line, lines}

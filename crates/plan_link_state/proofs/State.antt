@@ -1,4 +1,4 @@
--- The state of a link by the tables of a network is the paper's. Assumes nothing.
+-- The state of a link by the tables of a network is the paper's.
 use Rattle.base_laws.proofs.Kit.{ℕ, suc, _+_, _*_, _-_, _≤_, _<_, _≡_, refl, sym, ap, _∙_, Bool, true, false, cond, List, add-one, mul-le-mul-right, arith, le-leb, lt-leb, leb, length}
 use Rattle.base_search.specs.declared.Refusal.{Refusal}
 use Rattle.base_search.specs.declared.Verdict.{Verdict}

@@ -1,4 +1,4 @@
--- The state of a link by the tables of a network that has passed and a ledger. Assumes nothing.
+-- The state of a link by the tables of a network that has passed and a ledger.
 use Prim.Native.Nat.{ℕ, suc, _+_, _*_, _-_, _/_, _≤_, _<_}
 use mathlib.Core.Path.{_≡_}
 use mathlib.Core.Bool.{true, false, cond}

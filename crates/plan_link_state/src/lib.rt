@@ -1,4 +1,4 @@
-// The call that tells the state of one link by a network text and a ledger.
+// The state of one link by a network text and a ledger: the call `link_state`.
 ghost use mathlib.Core.Path.{_≡_};
 ghost use Prim.Native.Nat.{_+_, _≤_};
 ghost use Rattle.text_reader.specs.Lines.{lines};

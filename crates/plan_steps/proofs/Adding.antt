@@ -1,4 +1,4 @@
--- The totals, one step after another. Assumes nothing.
+-- The totals, one step after another.
 use Rattle.base_laws.proofs.Kit.{ℕ, suc, _+_, _*_, _-_, _≤_, _<_, _≡_, ap, _∙_, true, List, decLe, mul-le-mul-right, arith, getD}
 use Rattle.base_search.specs.declared.Verdict.the-variants.{Passes}
 use Rattle.base_search.specs.Checks.{verdict, Hold}

@@ -1,4 +1,4 @@
--- The ledger while its rows are written one after another. Assumes nothing.
+-- The ledger while its rows are written one after another.
 use Rattle.base_laws.proofs.Kit.{ℕ, _+_, _*_, _-_, _≤_, _≡_, sym, ap, _∙_, List, _++_, mul-le-mul-right, arith, drop, drop-drop, drop-at}
 use Rattle.text_reader.specs.Lines.{Line}
 use Rattle.base_laws.specs.Sum.{joined}

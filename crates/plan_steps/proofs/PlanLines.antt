@@ -1,4 +1,4 @@
--- The `P` line of a step that was read, or made where the plan's text is empty, is that of the plan which the text means. Assumes nothing.
+-- The `P` line of a step that was read, or made where the plan's text is empty, is that of the plan which the text means.
 use Rattle.base_laws.proofs.Kit.{ℕ, suc, _+_, _*_, _-_, _^_, _≤_, _<_, _≡_, refl, sym, ap, _∙_, true, false, List, decLt, arith, eq-eqb, eqb, length, getD}
 use Rattle.text_reader.specs.declared.LineRead.{LineRead}
 use Rattle.text_reader.specs.declared.LineRead.the-variants.{Next, Malformed}

@@ -1,4 +1,4 @@
--- The steps of a plan, taken one after another. Assumes nothing.
+-- The steps of a plan, taken one after another.
 use Rattle.base_laws.proofs.Kit.{ℕ, zero, suc, _+_, _*_, _-_, _≤_, _<_, _≡_, refl, sym, ap, _∙_, Bool, true, false, cond, List, [], decLe, decLt, mul-le-mul-right, add-one, arith, le-leb, eqb, length, getD, replicate, length-replicate, getD-replicate, List·getD-eq-default}
 use Rattle.base_search.specs.declared.Refusal.{Refusal}
 use Rattle.base_search.specs.declared.Verdict.the-variants.{Passes, Refused}

@@ -1,4 +1,4 @@
--- What is known between the calls of one step. Assumes nothing.
+-- What is known between the calls of one step.
 use Rattle.base_laws.proofs.Kit.{ℕ, suc, _+_, _*_, _-_, _≤_, _<_, _≡_, refl, sym, ap, ap₂, _∙_, Bool, true, false, cond, _⊎_, inl, inr, List, _++_, add-one, eq-or-lt-of-le, mul-le-mul-right, decLe, arith, length, take, drop, replicate, length-append, length-drop, length-replicate, getD-replicate, length-take-le, leb-true}
 use Rattle.base_search.specs.declared.Refusal.{Refusal}
 use Rattle.base_search.specs.declared.Verdict.{Verdict}

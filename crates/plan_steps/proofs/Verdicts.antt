@@ -1,4 +1,4 @@
--- The verdict on a plan, by how far its lines have been judged. Assumes nothing.
+-- The verdict on a plan, by how far its lines have been judged.
 use Rattle.base_laws.proofs.Kit.{ℕ, suc, _+_, _*_, _<_, _≡_, _∙_, Bool, true, false, List, eqb, length}
 use Rattle.base_search.specs.declared.Refusal.{Refusal}
 use Rattle.base_search.specs.declared.Verdict.the-variants.{Passes, Refused}

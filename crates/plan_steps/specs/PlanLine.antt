@@ -1,4 +1,4 @@
--- The `P` line of a step, read from the plan's text or, where that is empty, made (T-07). Assumes nothing.
+-- The `P` line of a step, read from the plan's text or, where that is empty, made (T-07).
 use Prim.Native.Nat.{ℕ, _<_}
 use mathlib.Core.Path.{_≡_}
 use mathlib.Core.List.{List}

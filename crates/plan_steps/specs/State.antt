@@ -1,4 +1,4 @@
--- What taking the steps of a plan one after another asks and promises. Assumes nothing.
+-- What taking the steps of a plan one after another asks and promises.
 use Prim.Native.Nat.{ℕ, suc, _+_, _*_, _≤_, _<_}
 use mathlib.Core.Path.{_≡_}
 use mathlib.Core.Bool.{cond}

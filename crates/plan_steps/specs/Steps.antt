@@ -1,4 +1,4 @@
--- What taking the steps of a plan one after another asks and promises: the first of them, and all. Assumes nothing.
+-- What taking the steps of a plan one after another asks and promises: the first of them, and all.
 use Prim.Native.Nat.{ℕ, suc, _*_, _≤_, _<_}
 use mathlib.Core.Path.{_≡_}
 use mathlib.Core.List.{List}

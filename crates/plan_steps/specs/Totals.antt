@@ -1,4 +1,4 @@
--- The totals with one step more, by the program's tables. Assumes nothing.
+-- The totals with one step more, by the program's tables.
 use Prim.Native.Nat.{ℕ, _+_, _*_, _-_, _≤_}
 use mathlib.Core.Path.{_≡_}
 use mathlib.Core.List.{List}

@@ -1,4 +1,4 @@
--- The numbers that the C library gives for each answer: a refusal's number, line and item, or number 0 and the values. Assumes nothing.
+-- The numbers that the C library gives for each answer: a refusal's number, line and item, or number 0 and the values.
 use Prim.Native.Nat.{ℕ}
 use mathlib.Core.Bool.{cond}
 use mathlib.Core.List.{List}

@@ -1,4 +1,4 @@
--- What was read is short enough, and what was written fits its buffer. Assumes nothing.
+-- What was read is short enough, and what was written fits its buffer.
 use Rattle.base_laws.proofs.Kit.{ℕ, _+_, _≤_, _≡_, sym, ap, List, _++_, arith, length, take, drop, length-append, length-take-le}
 use Rattle.plancheck_io.specs.Read.{Within}
 use Rattle.plancheck_io.specs.declared.FileRead.{FileRead}

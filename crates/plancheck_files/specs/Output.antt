@@ -1,4 +1,4 @@
--- What the program prints. Nothing can say what a file holds: a text is what was read of it. Assumes nothing.
+-- What the program prints. Nothing can say what a file holds: a text is what was read of it.
 use Prim.Native.Nat.{ℕ}
 use mathlib.Core.Path.{_≡_}
 use mathlib.Core.List.{List}

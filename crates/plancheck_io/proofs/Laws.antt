@@ -1,4 +1,4 @@
--- What came fits. Assumes nothing.
+-- What came fits.
 use Rattle.base_laws.proofs.Kit.{ℕ, _+_, _≤_, _≡_}
 use Rattle.plancheck_io.specs.Read.{Fits}
 use Rattle.plancheck_io.specs.declared.Part.{Part}

@@ -1,4 +1,4 @@
--- What is promised of a file that was read. Assumes nothing.
+-- What is promised of a file that was read.
 use Prim.Native.Nat.{ℕ, _+_, _<_, _≤_}
 use Rattle.plancheck_io.specs.declared.FileRead.{FileRead}
 use Rattle.plancheck_io.specs.declared.FileRead.the-variants.{Read, NotRead}

@@ -1,4 +1,4 @@
--- The laws of writing an answer: `A` and the `B` records behind it, or `R`. Assumes nothing.
+-- The laws of writing an answer: `A` and the `B` records behind it, or `R`.
 use Rattle.base_laws.proofs.Kit.{ℕ, suc, _≤_, _≡_, List, [], _∷_, _++_, arith, length, getD}
 use Rattle.base_search.specs.declared.Refusal.{Refusal}
 use Rattle.text_writer.specs.Records.{recordText}

@@ -1,4 +1,4 @@
--- The laws of writing the `B` records: one behind the other, each from its row of the ledger. Assumes nothing.
+-- The laws of writing the `B` records: one behind the other, each from its row of the ledger.
 use Rattle.base_laws.proofs.Kit.{ℕ, zero, suc, _+_, _-_, _*_, _≤_, _<_, _≡_, refl, sym, ap, _∙_, List, [], _∷_, _++_, add-one, mul-le-mul, mul-le-mul-right, arith, length, getD, take, drop, set, length-set, take-append-drop, length-take-le, take-suc, take-length}
 use Rattle.text_writer.specs.Records.{recordText, recordTexts}
 use Rattle.text_writer.specs.Writing.{putAt, Wrote}

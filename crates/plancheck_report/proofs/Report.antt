@@ -1,5 +1,4 @@
 -- A plan's answer and its ledger tell the whole report: a ledger of 5,808 numbers is long enough for every network, so that refusal 8 can't come.
--- Assumes nothing.
 use Rattle.base_laws.proofs.Kit.{ℕ, suc, _*_, _≤_, _≡_, refl, sym, ap, ap₂, _∙_, List, _++_, mul-le-mul, arith, le-leb, length}
 use Rattle.base_search.specs.declared.Refusal.{Refusal}
 use Rattle.base_search.specs.declared.Verdict.{Verdict}

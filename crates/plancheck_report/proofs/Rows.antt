@@ -1,4 +1,4 @@
--- The rows that a plan's check has written are those that its report prints. Assumes nothing.
+-- The rows that a plan's check has written are those that its report prints.
 use Rattle.base_laws.proofs.Kit.{ℕ, suc, _*_, _≤_, _<_, _≡_, sym, ap, _∙_, List, _∷_, mul-le-mul-right, arith, length, take, drop, length-drop, ext-getD, getD-take, getD-drop, length-take-le}
 use Rattle.text_reader.specs.Lines.{Line}
 use Rattle.text_writer.specs.Records.{recordTexts}

@@ -1,4 +1,4 @@
--- The text of a plan's answer, with the rows as they stand in a ledger. Assumes nothing.
+-- The text of a plan's answer, with the rows as they stand in a ledger.
 use Prim.Native.Nat.{ℕ, _≤_}
 use mathlib.Core.Path.{_≡_}
 use mathlib.Core.List.{List, [], _∷_, _++_}

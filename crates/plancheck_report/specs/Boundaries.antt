@@ -1,4 +1,4 @@
--- The `B` records of an accepted plan, as its rows stand in a ledger, and what their writing asks. Assumes nothing.
+-- The `B` records of an accepted plan, as its rows stand in a ledger, and what their writing asks.
 use Prim.Native.Nat.{ℕ, suc, _+_, _*_, _≤_}
 use mathlib.Core.Path.{_≡_}
 use mathlib.Core.List.{List, _∷_}

@@ -1,4 +1,4 @@
--- All steps of an accepted plan, and the whole call. Assumes nothing.
+-- All steps of an accepted plan, and the whole call.
 use Rattle.base_laws.proofs.Kit.{ℕ, zero, suc, _≤_, _<_, _≡_, refl, sym, ap, ap₂, _∙_, cond, List, arith, length, replicate, length-replicate, getD-replicate}
 use Rattle.base_search.specs.declared.Refusal.{Refusal}
 use Rattle.base_search.specs.declared.Verdict.{Verdict}

@@ -1,4 +1,4 @@
--- One step of an accepted plan, gone through again. Assumes nothing.
+-- One step of an accepted plan, gone through again.
 use Rattle.base_laws.proofs.Kit.{ℕ, suc, _+_, _-_, _≤_, _<_, _≡_, refl, sym, ap, ap₂, _∙_, Bool, true, false, cond, not, _&&_, _||_, true≢false, List, add-one, decLt, arith, eqb-true, leb, eqb, length, getD, replicate, length-replicate, getD-replicate, List·getD-eq-default}
 use Rattle.base_search.specs.Checks.{Hold}
 use Rattle.text_reader.specs.declared.LineRead.{LineRead}

@@ -1,4 +1,4 @@
--- What is watched of the signals, through a step and at the end: one law for each way. Assumes nothing.
+-- What is watched of the signals, through a step and at the end: one law for each way.
 use Rattle.base_laws.proofs.Kit.{ℕ, _+_, _≤_, _<_, _≡_, refl, sym, ap₂, _∙_, Bool, true, false, cond, not, _&&_, List, le-refl, add-one, arith, eq-eqb, ne-eqb, leb, eqb, length, getD, set, length-set, getD-set-same, getD-set-other}
 use borrow.Author.Count.{below-more}
 use Rattle.base_search.specs.declared.Verdict.the-variants.{Passes, Refused}

@@ -1,4 +1,4 @@
--- What the stages of the call ask and promise. Assumes nothing.
+-- What the stages of the call ask and promise.
 use Prim.Native.Nat.{ℕ, _+_, _*_, _≤_, _<_}
 use mathlib.Core.Path.{_≡_}
 use mathlib.Core.List.{List}

@@ -1,4 +1,4 @@
--- What is watched of each signal while the steps of an accepted plan are gone through: the numbers of 34 in one pass, by the program's tables. Assumes nothing.
+-- What is watched of each signal while the steps of an accepted plan are gone through: the numbers of 34 in one pass, by the program's tables.
 use Prim.Native.Nat.{ℕ, _+_, _*_, _-_, _≤_, _<_}
 use mathlib.Core.Path.{_≡_}
 use mathlib.Core.Bool.{false, cond, not}
@@ -25,7 +25,7 @@ watchIn watches r = getD watches r noWatch
 unfoldable pub firstBroken : Watch → ℕ → ℕ → ℕ
 firstBroken w seconds lasts = cond (eqb (w .broken) 0) (cond (w .tested and not (eqb seconds lasts)) (w .line) 0) (w .broken)
 
--- after an ordinary step, told at a line, that starts at time t and shows q, of a signal that is s before it; the phase that s shows lasts so many seconds
+-- after an ordinary step, at a line, that starts at time t and shows q, of a signal that is s before it; the phase that s shows lasts so many seconds
 unfoldable pub watchAfter : Watch → Signal → ℕ → ℕ → ℕ → ℕ → Watch
 watchAfter w s q line t lasts =
     cond (eqb q (s .shown)) (record { tested = w .tested; line = line; broken = w .broken })

@@ -1,5 +1,5 @@
-// Whether an accepted plan keeps a fixed-time sheet (T-10): the call `check_sheet`. The plan's own check comes first; then its steps are gone through once more, and
-// of each signal a few numbers are watched: no table of runs is kept.
+// Whether an accepted plan keeps a fixed-time sheet (T-10): the call `check_sheet`. The plan's own check comes first; then one pass
+// over its steps watches a few numbers of each signal. No table of runs is kept.
 ghost use mathlib.Core.Path.{_≡_};
 ghost use mathlib.Core.Bool.{cond};
 ghost use Prim.Native.Nat.{_<_, _≤_};
@@ -62,7 +62,7 @@ fn first_broken(watch: Watch, seconds: u32, duration: u32) -> u32
     0
 }
 
-// The watch of signal `i` after an ordinary step that shows a phase, told at a line and starting at a time; `duration` is that of the phase which the signal shows
+// The watch of signal `i` after an ordinary step that shows a phase, at a line and starting at a time; `duration` is that of the phase which the signal shows
 // before.
 fn watch_after(
     watch: Watch,

@@ -1,4 +1,4 @@
--- The lines of a sheet, read and judged one after another: one law for each way through a turn of a loop. Assumes nothing.
+-- The lines of a sheet, read and judged one after another: one law for each way through a turn of a loop.
 use Rattle.base_laws.proofs.Kit.{ℕ, zero, suc, _+_, _*_, _≤_, _<_, _≡_, refl, sym, ap, ap₂, _∙_, Bool, true, false, not, _⊎_, inl, inr, List, add-one, eq-or-lt-of-le, arith, leb-true, not-true, not-false, leb, ltb, eqb, length, getD}
 use Rattle.base_search.specs.declared.Refusal.{Refusal}
 use Rattle.base_search.specs.declared.Verdict.the-variants.{Passes, Refused}

@@ -1,4 +1,4 @@
--- A sheet that is read for the signals of a network. Assumes nothing.
+-- A sheet that is read for the signals of a network.
 use Rattle.base_laws.proofs.Kit.{ℕ, suc, _+_, _*_, _≤_, _<_, _≡_, ap, _∙_, List, arith, eqb, length, getD}
 use Rattle.base_search.specs.declared.Verdict.{Verdict}
 use Rattle.base_search.specs.declared.Verdict.the-variants.{Passes}

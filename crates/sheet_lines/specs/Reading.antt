@@ -1,4 +1,4 @@
--- What the reading of a sheet into a table asks and promises. Assumes nothing.
+-- What the reading of a sheet into a table asks and promises.
 use Prim.Native.Nat.{ℕ, _+_, _*_, _≤_, _<_}
 use mathlib.Core.Path.{_≡_}
 use mathlib.Core.List.{List}

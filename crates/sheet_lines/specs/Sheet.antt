@@ -1,5 +1,5 @@
 -- A fixed-time sheet (T-10; C19, C20 of source document 002): line r is that of signal r, `F` and one duration a phase; to write a plan the offset after them, the
--- seconds of the cycle, phase 1 first, that have run at time 0. Signals are counted from 0 here, phases from 1. Assumes nothing.
+-- seconds of the cycle, phase 1 first, that have run at time 0. Signals are counted from 0 here, phases from 1.
 use Prim.Native.Nat.{ℕ, zero, suc, _+_, _-_}
 use mathlib.Core.Bool.{Bool, true}
 use mathlib.Core.List.{List}
@@ -40,7 +40,7 @@ endOf sheet r k = sum k (entry sheet r)
 abbrev pub phasesOf : List Line → ℕ → ℕ
 phasesOf network r = signal network r .phases
 
--- 33 of a sheet for so many signals, line by line; its lines have so many offsets: none to be kept by a plan, one to write a plan
+-- 33 of a sheet for so many signals, line by line; its lines have so many offsets: none to check a plan, one to write a plan
 module _ (signals : ℕ → Signal) (count : ℕ) (sheet : List Line) (offsets : ℕ) where
   unfoldable pub sheetLineChecks : ℕ → Checks
   sheetLineChecks r =

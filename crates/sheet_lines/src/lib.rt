@@ -47,7 +47,7 @@ fn valid_numbers(table: &[u32], start: usize, signals: &[u32], r: usize, offsets
     table[start + phases] < sum
 }
 
-// Reads a sheet for so many signals, whose lines have so many offsets: none to be kept by a plan, one to write a plan.
+// Reads a sheet for `count` signals; its lines have `offsets` offsets: none to check a plan, one to write a plan.
 pub fn read_sheet(
     text: &[u8],
     signals: &[u32],

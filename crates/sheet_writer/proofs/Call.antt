@@ -1,4 +1,4 @@
--- Where the tables hold a network's and a sheet's numbers, what is judged and written by them is what the request says. Assumes nothing.
+-- Where the tables hold a network's and a sheet's numbers, what is judged and written by them is what the request says.
 use Rattle.base_laws.proofs.Kit.{ℕ, zero, suc, _+_, _*_, _-_, _%_, _^_, _≤_, _<_, _≡_, refl, sym, ap, ap₂, _∙_, true, cond, List, _∷_, _++_, [], add-one, decLt, arith, lt-ltb, le-ltb, leb, ltb, length, replicate}
 use Rattle.base_search.specs.declared.Refusal.{Refusal}
 use Rattle.base_search.specs.declared.Verdict.{Verdict}

@@ -1,4 +1,4 @@
--- The masks of one signal, step by step, and those of all signals: one law for each way through a turn. Assumes nothing.
+-- The masks of one signal, step by step, and those of all signals: one law for each way through a turn.
 use Rattle.base_laws.proofs.Kit.{ℕ, zero, suc, _+_, _*_, _-_, _^_, _≤_, _<_, _≡_, refl, sym, ap, _∙_, Bool, true, false, not, true≢false, _⊎_, inl, inr, _≢_, List, add-one, eq-or-lt-of-le, arith, le-leb, lt-leb, not-true, not-false, eq-eqb, ne-eqb, eqb, length, getD, set, length-set, getD-set-same, getD-set-other}
 use Rattle.base_search.specs.declared.Refusal.{Refusal}
 use Rattle.base_search.specs.declared.Verdict.the-variants.{Passes, Refused}

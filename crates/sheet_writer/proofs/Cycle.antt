@@ -1,4 +1,4 @@
--- The run of a cycle, from its offset on and from step to step: one law for each way through a turn. Assumes nothing.
+-- The run of a cycle, from its offset on and from step to step: one law for each way through a turn.
 use Rattle.base_laws.proofs.Kit.{ℕ, suc, _+_, _-_, _%_, _≤_, _<_, _≡_, sym, ap, _∙_, _⊎_, inl, inr, _≢_, add-one, mod-eq-of-lt, decLe, ℕ-discrete, arith, le-leb, lt-leb, eq-eqb, ne-eqb, leb}
 use Rattle.base_laws.specs.Sum.{sum}
 use Rattle.model.specs.Signals.{phaseAfter}

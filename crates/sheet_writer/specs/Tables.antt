@@ -1,5 +1,5 @@
 -- A sheet's cycles by the program's tables: one line's numbers from a place of the table on, the times of the boundaries, and the masks, eight a step. Not of the
--- request. Assumes nothing.
+-- request.
 use Prim.Native.Nat.{ℕ, suc, _+_, _*_, _-_, _^_, _≤_, _<_}
 use mathlib.Core.Path.{_≡_}
 use mathlib.Core.Bool.{Bool, true}

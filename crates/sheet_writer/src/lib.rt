@@ -1,5 +1,5 @@
-// A plan for a fixed-time sheet with offsets (T-10): the call `plan_from_sheet`. The phase that a signal's cycle shows is carried from step to step; no remainder
-// is taken.
+// A plan for a fixed-time sheet with offsets (T-10): the call `plan_from_sheet`. The phase that a signal's cycle shows goes from
+// step to step, without a remainder.
 ghost use mathlib.Core.Path.{_≡_};
 ghost use Prim.Native.Nat.{_+_, _*_, _≤_};
 ghost use lib.ListN.{length};

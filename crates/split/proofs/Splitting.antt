@@ -1,4 +1,4 @@
--- The ways out of the call, by the definitions. Assumes nothing.
+-- The ways out of the call, by the definitions.
 use Rattle.base_laws.proofs.Kit.{ℕ, _^_, _/_, _≤_, _<_, _≡_, refl, sym, _∙_, Bool, true, false, not, List, [], arith, not-true, not-false, replicate, length-replicate}
 use Rattle.base_search.specs.declared.Refusal.{Refusal}
 use Rattle.base_search.specs.declared.Verdict.{Verdict}

@@ -1,4 +1,4 @@
--- The texts of both halves, measured and then written. Assumes nothing.
+-- The texts of both halves, measured and then written.
 use Rattle.base_laws.proofs.Kit.{ℕ, _≤_, _≡_, refl, sym, ap, _∙_, Bool, true, false, not, _&&_, inl, inr, List, arith, not-true, not-false, leb-true, leb, length}
 use Rattle.base_search.specs.declared.Refusal.{Refusal}
 use Rattle.base_search.specs.Checks.{refusal}

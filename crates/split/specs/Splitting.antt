@@ -1,4 +1,4 @@
--- What the call asks and promises of a network that has passed. Assumes nothing.
+-- What the call asks and promises of a network that has passed.
 use Prim.Native.Nat.{ℕ, _^_, _/_}
 use mathlib.Core.Path.{_≡_}
 use mathlib.Core.Bool.{Bool, true, false}

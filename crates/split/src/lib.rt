@@ -22,7 +22,7 @@ struct HalfLengths {
     plan: usize,
 }
 
-// Puts the network and the plan of one half at the beginning of two buffers: their lines as far as they fit, and tells how long they are.
+// Writes the network and the plan of one half at the beginning of two buffers, as far as they fit, and returns their lengths.
 fn put_half(
     network: &[u8],
     plan: &[u8],

@@ -1,4 +1,4 @@
--- The movements of a network that has passed, and the turns of the loop over its steps. Assumes nothing.
+-- The movements of a network that has passed, and the turns of the loop over its steps.
 use Rattle.base_laws.proofs.Kit.{_≡_, refl, ap, _∙_, Bool, true, false, not, List, ℕ, zero, suc, _+_, _-_, _≤_, _<_, add-one, arith, eqb, length}
 use Rattle.base_search.specs.Checks.{Hold}
 use Rattle.text_reader.specs.Lines.{Line, lines}

@@ -1,4 +1,4 @@
--- The form of a plan's lines: a line read is that of the plan which its text means, and the turns of the loop over all lines. Assumes nothing.
+-- The form of a plan's lines: a line read is that of the plan which its text means, and the turns of the loop over all lines.
 use Rattle.base_laws.proofs.Kit.{ℕ, suc, _+_, _-_, _≤_, _<_, _≡_, sym, ap, _∙_, Bool, true, false, not, List, decLe, add-one, arith, not-true, not-false, eqb, length, getD, replicate, length-replicate, List·getD-eq-default}
 use borrow.Author.Count.{below-more}
 use Rattle.base_search.specs.declared.Refusal.{Refusal}

@@ -1,4 +1,4 @@
--- 41 by the tables is that of the definitions. Assumes nothing.
+-- 41 by the tables is that of the definitions.
 use Rattle.base_laws.proofs.Kit.{_≡_, refl, ap, _∙_, Bool, true, false, not, _||_, List, ℕ, _-_, _≤_, _<_, decLt, arith, eq-eqb, eqb, length, getD}
 use Rattle.base_laws.specs.Test.{_or_, every}
 use Rattle.model.specs.Network.{maxSignals, linkCount, signalOf}

@@ -1,4 +1,4 @@
--- 40 by the tables is that of the definitions, where the tables are a network's and its halves'. Assumes nothing.
+-- 40 by the tables is that of the definitions, where the tables are a network's and its halves'.
 use Rattle.base_laws.proofs.Kit.{_≡_, refl, sym, ap, ap₂, _∙_, Bool, not, _&&_, List, ℕ, zero, suc, _+_, _-_, _^_, _/_, _<_, decLt, div-lt-iff-lt-mul, div-eq-of-lt, arith, lt-ltb, le-ltb, eq-eqb, ne-eqb, leb, ltb, eqb}
 use Rattle.base_search.specs.Checks.{Hold}
 use Rattle.text_reader.specs.Lines.{Line, lines}

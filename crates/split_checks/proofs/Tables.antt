@@ -1,4 +1,4 @@
--- The tests of links and movements by the tables: what the functions ask and give. Assumes nothing.
+-- The tests of links and movements by the tables: what the functions ask and give.
 use Rattle.base_laws.proofs.Kit.{_≡_, refl, sym, _∙_, Bool, true, false, not, _&&_, _||_, List, ℕ, _+_, _-_, _<_, arith, eq-eqb, ne-eqb, eqb, getD}
 use Rattle.base_laws.specs.Test.{_and_, _or_, every}
 use Rattle.network_tables.specs.Fields.{waitingAtStartIn, exitRateIn, signalIn, linkIn, demandIn}

@@ -1,4 +1,4 @@
--- Tests of rising indices, taken one by one up to the first that fails, and equal tests. Assumes nothing.
+-- Tests of rising indices, taken one by one up to the first that fails, and equal tests.
 use Rattle.base_laws.proofs.Kit.{_≡_, refl, sym, _∙_, Bool, true, false, not, _&&_, _⊎_, inl, inr, ℕ, zero, suc, _+_, _≤_, _<_, add-one, arith, not-true, not-false, le-leb, ne-eqb, leb, eqb}
 use Rattle.base_laws.specs.Test.{_and_, _or_, every}
 use Rattle.base_laws.proofs.Tests.{and-left, and-right, or-cases, every-at, and-both, or-left, or-right, either-way, not-both, true-not, every-of}

@@ -1,4 +1,4 @@
--- What the tests of 40 and 41 ask of a network that has passed, and what they tell. Assumes nothing.
+-- What the tests of 40 and 41 ask of a network that has passed, and what they find.
 use Prim.Native.Nat.{ℕ, _^_, _/_}
 use mathlib.Core.Path.{_≡_}
 use mathlib.Core.Bool.{Bool}

@@ -1,4 +1,4 @@
--- The form of a plan's lines (9), by the counts and the signals of a network that has passed. A text without bytes means hold. Assumes nothing.
+-- The form of a plan's lines (9), by the counts and the signals of a network that has passed. A text without bytes means hold.
 use Prim.Native.Nat.{ℕ, suc, _+_, _*_, _≤_, _<_}
 use mathlib.Core.Path.{_≡_}
 use mathlib.Core.Bool.{Bool, true, false}
@@ -37,7 +37,7 @@ isFormed networkText planText n =
     isForm (planOf networkText planText) n letterP
     (signalCount (lines networkText) + (2 * linkCount (lines networkText) + movementCount (lines networkText)))
 
--- what is told of the line at a place, whatever the network and the step
+-- what is found of the line at a place, whatever the network and the step
 pub record LineForm (planText : List ℕ) (at : ℕ) (signals : List ℕ) (counts : Counts) (result : LineRead) : Type 0 where
   pub malformed : result ≡ Malformed → (networkText : List ℕ) → OnNetwork networkText signals counts → (n : ℕ) → n < stepCount (lines networkText)
       → PlanAt planText at n → isFormed networkText planText n ≡ false

@@ -1,4 +1,4 @@
--- What 40 and 41 ask of links and movements, by the tables of a network and of its first half. Assumes nothing.
+-- What 40 and 41 ask of links and movements, by the tables of a network and of its first half.
 use Prim.Native.Nat.{ℕ, _+_, _-_, _≤_, _<_}
 use mathlib.Core.Path.{_≡_}
 use mathlib.Core.Bool.{Bool, not}
@@ -35,7 +35,7 @@ rightKindIn links movements half count j =
 unfoldable pub demandFreeIn : (ℕ → ℕ) → List ℕ → List ℕ → ℕ → Bool
 demandFreeIn demands movements half j = not (crossesIn movements half j) or eqb (demands (linkIn movements 1 j - 1)) 0
 
--- a link that has this number in the first half, 0 where it is not there, and this signal, 0 for none, is not in that half, or has no signal or one of that half
+-- a link with this number in the first half, 0 if absent, and this signal, 0 for none: it is absent, or has no signal or one of that half
 unfoldable pub ownSignalBy : List ℕ → ℕ → ℕ → Bool
 ownSignalBy half number signal = eqb number 0 or eqb signal 0 or isIn half (signalsAt + (signal - 1))
 

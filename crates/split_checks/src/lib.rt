@@ -108,7 +108,7 @@ fn demand_free(step: &[u32], movements: &[u32], half: &[u32], count: usize, j: u
     (split_tables::links_in(movements, half, j) != 1) | (network_tables::demand(step, to) == 0)
 }
 
-// Whether all movements are, in one step.
+// The same of all movements, in one step.
 fn step_free(step: &[u32], movements: &[u32], half: &[u32], count: usize) -> bool
     requires { ⌜ MovementsAsked (now movements) (now half) count × (length (now step) ≡ stepSize) ⌝ }
     ensures { λ r. ⌜ r ≡ every count (demandFreeIn (demandIn (now (step .entry))) (now (movements .entry)) (now (half .entry))) ⌝ }
@@ -123,7 +123,7 @@ fn step_free(step: &[u32], movements: &[u32], half: &[u32], count: usize) -> boo
     true
 }
 
-// Whether they are in all steps, whose `S` lines have passed and start at a place.
+// The same in all steps, whose `S` lines have passed and start at a place.
 fn steps_free(network: &[u8], from: usize, counts: Counts, movements: &[u32], half: &[u32]) -> bool
     requires { ⌜ StepsAsked (now network) from counts (now movements) (now half) ⌝ }
     ensures { λ r. ⌜ r ≡ every (stepCount (lines (now (network .entry)))) (stepFree (lines (now (network .entry))) (now (movements .entry)) (now (half .entry))) ⌝ }
@@ -164,7 +164,7 @@ pub fn can_split(
         & steps_free(network, reading.steps_at, counts, movements, first)
 }
 
-// Whether a link with this number in the first half, 0 where it is not there, has no signal or one of that half.
+// Whether a link is absent from the first half (`number` is 0), or has no signal or one of that half.
 fn own_signal(half: &[u32], number: u32, signal: usize) -> bool
     requires { ⌜ (length (now half) ≡ halfSize) × (signal ≤ maxSignals) ⌝ }
     ensures { λ r. ⌜ r ≡ ownSignalBy (now (half .entry)) number signal ⌝ }

@@ -1,4 +1,4 @@
--- Both halves numbered by the set of links in the first. Assumes nothing.
+-- Both halves numbered by the set of links in the first.
 use Rattle.base_laws.proofs.Kit.{ℕ, zero, suc, _+_, _-_, _/_, _%_, _^_, _<_, _≡_, refl, ap, ap₂, _∙_, Bool, true, false, not, List, decLe, mod-lt, arith, eqb, length, getD, replicate, length-replicate, getD-replicate, List·getD-eq-default}
 use Rattle.text_reader.specs.Lines.{Line}
 use Rattle.base_laws.specs.Test.{_or_}

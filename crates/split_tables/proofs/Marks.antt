@@ -1,4 +1,4 @@
--- Marks, and those that have one numbered anew. Assumes nothing.
+-- Marks, and those that have one numbered anew.
 use Rattle.base_laws.proofs.Kit.{ℕ, suc, _+_, _-_, _/_, _%_, _^_, _≤_, _<_, _≡_, refl, sym, ap, _∙_, _≢_, Bool, true, false, not, List, ℕ-discrete, pow-suc, div-div-eq-div-mul, add-one, arith, eq-eqb, ne-eqb, eqb, length, getD, set, length-set, getD-set-same, getD-set-other}
 use Rattle.base_laws.specs.Test.{_and_, _or_, every}
 use Rattle.base_laws.specs.Sum.{only}

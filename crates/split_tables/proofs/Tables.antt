@@ -1,4 +1,4 @@
--- What a half's table says of its links, signals and movements. Assumes nothing.
+-- What a half's table says of its links, signals and movements.
 use Rattle.base_laws.proofs.Kit.{ℕ, suc, _+_, _-_, _<_, _≡_, refl, ap, _∙_, Bool, true, false, not, cond, List, arith, ne-eqb, eqb, getD}
 use Rattle.text_reader.specs.Lines.{Line}
 use Rattle.base_laws.specs.Test.{_and_}

@@ -1,4 +1,4 @@
--- Both halves numbered by the set of links in the first. Assumes nothing.
+-- Both halves numbered by the set of links in the first.
 use Prim.Native.Nat.{ℕ, suc, _+_, _≤_, _<_}
 use mathlib.Core.Path.{_≡_}
 use mathlib.Core.List.{List}

@@ -1,4 +1,4 @@
--- Marks of links, signals and movements, and those that have one numbered anew. Assumes nothing.
+-- Marks of links, signals and movements, and new numbers for those that have one.
 use Prim.Native.Nat.{ℕ, suc, _+_, _-_, _/_, _%_, _^_, _≤_, _<_}
 use mathlib.Core.Path.{_≡_}
 use mathlib.Core.Bool.{Bool, not, cond}
@@ -16,7 +16,7 @@ use Rattle.split_tables.specs.Tables.{halfSize, isIn, linksIn}
 abbrev pub LinksMarked : ℕ → ℕ → List ℕ → Type 0
 LinksMarked set count marks = (i : ℕ) → i < count → getD marks i 0 ≡ set / 2 ^ i % 2
 
--- the signal of a link with this number in the half, 0 for none, is marked if the link is outside it
+-- marks the signal of a link, if it has one and is outside the half: `number` is its index there, 0 if absent
 unfoldable pub signalMarked : ℕ → ℕ → List ℕ → List ℕ
 signalMarked number signal marks = cond (eqb number 0 and not (eqb signal 0)) (set marks (signal - 1) 1) marks
 
@@ -38,7 +38,7 @@ SignalsMarked links half count marks = (r : ℕ) → r < maxSignals → getD mar
 abbrev pub MovementsMarked : List ℕ → List ℕ → ℕ → List ℕ → Type 0
 MovementsMarked movements half count marks = (j : ℕ) → j < count → getD marks j 0 ≡ linksIn movements half j
 
--- ---- those that have a mark, numbered anew
+-- ---- new numbers for those that have a mark
 abbrev pub hasMark : List ℕ → ℕ → ℕ → Bool
 hasMark marks mark k = eqb (getD marks k 0) mark
 

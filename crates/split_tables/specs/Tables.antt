@@ -1,4 +1,4 @@
--- The table of one half of a network (T-14): the new number of each link, signal and movement, from 1, and 0 for what is not in the half. Assumes nothing.
+-- The table of one half of a network (T-14): the new number of each link, signal and movement, from 1, and 0 for what is not in the half.
 use Prim.Native.Nat.{ℕ, suc, _+_, _-_, _≤_, _<_}
 use mathlib.Core.Path.{_≡_}
 use mathlib.Core.Bool.{Bool, not}

@@ -55,7 +55,7 @@ pub fn count_in(half: &[u32], start: usize, count: usize) -> usize
     found
 }
 
-// Marks each link with its bit in a set, and gives what is left of the set above the last.
+// Marks each link with its bit in a set, and returns the bits above the last link.
 fn mark_links(set: u32, count: usize, marks: &mut [u32]) -> u32
     requires { ⌜ count ≤ length (now marks) ⌝ }
     ensures { λ r. ⌜ (r ≡ set / 2 ^ count) × LinksMarked set count (now (marks .exit)) ⌝ }
@@ -70,7 +70,8 @@ fn mark_links(set: u32, count: usize, marks: &mut [u32]) -> u32
     rest
 }
 
-// Marks the signal of a link with 1, unless the link is in the half, whose number there this is, or has no signal.
+// Marks the signal of a link with 1, unless the link is in the half or has no signal. `number` is the link's index in the half, from
+// 1, and 0 if absent.
 fn mark_signal(number: u32, signal: usize, marks: &mut [u32])
     requires { ⌜ signal ≤ length (now marks) ⌝ }
     ensures { λ _. ⌜ now (marks .exit) ≡ signalMarked number signal (now (marks .entry)) ⌝ }
@@ -109,7 +110,7 @@ fn mark_movements(movements: &[u32], half: &[u32], count: usize, marks: &mut [u3
     }
 }
 
-// Gives those that have this mark new numbers from 1 on, in their old order, in a table from `start` on.
+// Numbers the items that have this mark from 1 on, in their old order, in a table from `start` on.
 fn number_marked(marks: &[u32], mark: u32, count: usize, half: &mut [u32], start: usize)
     requires { ⌜ NumberAsked (now marks) count (now half) start ⌝ }
     ensures { λ _. ⌜ Numbered (now (marks .entry)) mark count start (now (half .entry)) (now (half .exit)) ⌝ }
@@ -135,8 +136,8 @@ fn number_movements(movements: &[u32], count: usize, half: &mut [u32])
     number_marked(&marks, 2, count, half, MOVEMENTS_AT);
 }
 
-// Numbers both halves of a network by the set of links in the first, in tables of zeros. A signal with a link in the second half goes there. What is left of the set
-// above the last link is given.
+// Numbers both halves of a network by the set of links in the first, in tables of zeros. A signal with a link in the second half goes there. Returns the
+// bits of the set above the last link.
 pub fn number_halves(
     set: u32,
     counts: Counts,

@@ -1,4 +1,4 @@
--- The numbers of border movements, added up one after another. Assumes nothing.
+-- The numbers of border movements, added up one after another.
 use Rattle.base_laws.proofs.Kit.{ℕ, suc, _+_, _*_, _-_, _≤_, _<_, _≡_, refl, ap₂, _∙_, _≢_, Bool, true, false, List, ℕ-discrete, add-one, arith, eq-eqb, ne-eqb, eqb, length, getD, set, length-set, getD-set-same, getD-set-other}
 use Rattle.text_reader.specs.Field.{largest}
 use Rattle.base_laws.specs.Test.{_and_}

@@ -1,4 +1,4 @@
--- Numbers put into a row, one behind another. Assumes nothing.
+-- Numbers put into a row, one behind another.
 use Rattle.base_laws.proofs.Kit.{ℕ, _+_, _≤_, _<_, _≡_, refl, sym, ap, _∙_, _≢_, Bool, not, cond, List, [], _∷_, _++_, append-assoc, append-nil, add-one, arith, eq-eqb, ne-eqb, eqb, length, set, drop, length-append, length-drop, length-set}
 use Rattle.text_reader.specs.Reading.{over}
 use Rattle.network_writer.proofs.Filling.{over-next}

@@ -1,4 +1,4 @@
--- The `N`, `T`, `G`, `Q` and `M` lines of a half, put by the program's tables. Assumes nothing.
+-- The `N`, `T`, `G`, `Q` and `M` lines of a half, put by the program's tables.
 use Rattle.base_laws.proofs.Kit.{ℕ, suc, _+_, _*_, _-_, _≤_, _<_, _≡_, refl, ap, _∙_, _≢_, not, cond, List, [], _∷_, add-one, arith, eq-eqb, ne-eqb, eqb, length, getD, take}
 use Rattle.text_reader.specs.Lines.{lines}
 use Rattle.text_reader.specs.Reading.{Starts}

@@ -1,4 +1,4 @@
--- Lines of what is in the half, put one behind another. Assumes nothing.
+-- Lines of what is in the half, put one behind another.
 use Rattle.base_laws.proofs.Kit.{ℕ, zero, suc, _+_, _≤_, _<_, _≡_, refl, ap, ap₂, _∙_, _≢_, Bool, true, false, not, cond, List, [], _∷_, _++_, append-nil, add-one, arith, eq-eqb, ne-eqb, eqb, getD}
 use Rattle.text_writer.specs.Records.{recordText, recordTexts}
 use Rattle.network_writer.specs.Put.{Put, Early}

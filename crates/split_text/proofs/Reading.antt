@@ -1,4 +1,4 @@
--- The `P` line that was read again is that of the plan. Assumes nothing.
+-- The `P` line that was read again is that of the plan.
 use Rattle.base_laws.proofs.Kit.{ℕ, suc, _<_, _≡_, refl, ap, List, arith, length, getD}
 use Rattle.text_reader.specs.declared.LineRead.{LineRead}
 use Rattle.text_reader.specs.declared.LineRead.the-variants.{Next, Malformed}

@@ -1,4 +1,4 @@
--- The `S` and the `P` line of a step, read, filled and put. Assumes nothing.
+-- The `S` and the `P` line of a step, read, filled and put.
 use Rattle.base_laws.proofs.Kit.{ℕ, zero, suc, _+_, _*_, _≤_, _<_, _≡_, refl, ap, _∙_, Bool, List, [], _∷_, arith, length, getD, set, take, replicate, length-replicate}
 use Rattle.text_reader.specs.Lines.{Line, lines}
 use Rattle.text_reader.specs.Reading.{over}

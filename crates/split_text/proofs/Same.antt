@@ -1,4 +1,4 @@
--- The rows that are put by the tables are those of the half. Assumes nothing.
+-- The rows that are put by the tables are those of the half.
 use Rattle.base_laws.proofs.Kit.{ℕ, suc, _+_, _*_, _-_, _≤_, _<_, _≡_, refl, sym, ap, _∙_, _⊎_, inl, inr, Bool, true, List, _∷_, _++_, ℕ-discrete, arith, eq-eqb, ne-eqb, eqb, getD}
 use Rattle.base_search.specs.Checks.{Hold}
 use Rattle.text_reader.specs.Field.{largest}

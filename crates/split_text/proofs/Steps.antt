@@ -1,4 +1,4 @@
--- The `S` lines and the `P` lines of all steps, put one behind another. Assumes nothing.
+-- The `S` lines and the `P` lines of all steps, put one behind another.
 use Rattle.base_laws.proofs.Kit.{ℕ, _+_, _≤_, _<_, _≡_, _∙_, List, add-one, arith, length}
 use Rattle.text_reader.specs.Lines.{lines}
 use Rattle.text_reader.specs.Reading.{Starts}

@@ -1,4 +1,4 @@
--- The lines that are put, one block behind another, are the half's. Assumes nothing.
+-- The lines that are put, one block behind another, are the half's.
 use Rattle.base_laws.proofs.Kit.{ℕ, _+_, _*_, _≤_, _≡_, refl, ap, _∙_, List, _++_, arith, leb-true, length}
 use Rattle.text_reader.specs.Lines.{Line, lines}
 use Rattle.text_reader.specs.Reading.{over}

@@ -1,4 +1,4 @@
--- The numbers of border movements added up at each link, by the program's tables. Assumes nothing.
+-- The numbers of border movements added up at each link, by the program's tables.
 use Prim.Native.Nat.{ℕ, suc, _+_, _*_, _-_, _≤_, _<_}
 use mathlib.Core.Path.{_≡_}
 use mathlib.Core.Bool.{cond}

@@ -1,4 +1,4 @@
--- Numbers put into a row, one behind another. Assumes nothing.
+-- Numbers put into a row, one behind another.
 use Prim.Native.Nat.{ℕ, _+_, _*_, _≤_, _<_}
 use mathlib.Core.Path.{_≡_}
 use mathlib.Core.List.{List, _++_}
@@ -8,7 +8,7 @@ use Rattle.text_reader.specs.Reading.{over}
 use Rattle.model.specs.Network.{maxMovements}
 use Rattle.split_tables.specs.Tables.{halfSize}
 
--- numbers were put into a row behind those that stand in front of it already, and the place behind them is told
+-- numbers were put into a row behind those that stand in front of it already, and the place behind them is returned
 pub record Filled (numbers : List ℕ) (at : ℕ) (old new : List ℕ) (end : ℕ) : Type 0 where
   pub ends : end ≡ at + length numbers
   pub size : length new ≡ length old

@@ -1,4 +1,4 @@
--- What the writing of a half asks and promises. Assumes nothing.
+-- What the writing of a half asks and promises.
 use Prim.Native.Nat.{ℕ, suc, _+_, _*_, _<_}
 use mathlib.Core.Path.{_≡_}
 use mathlib.Core.Bool.{true}
@@ -40,7 +40,7 @@ pub record Held (networkText planText signals movements : List ℕ) (counts : Co
   pub forms : (n : ℕ) → n < stepCount (lines networkText)
       → isForm (planOf networkText planText) n letterP (signalCount (lines networkText) + (2 * linkCount (lines networkText) + movementCount (lines networkText))) ≡ true
 
--- the `P` line at a place was read, and the next starts at the place told
+-- the `P` line at a place was read, and the next starts at the place returned
 pub record PlanLineRead (planText : List ℕ) (at : ℕ) (signals : List ℕ) (counts : Counts) (before : List ℕ) (next : ℕ) (after : List ℕ) : Type 0 where
   pub result : LineRead
   pub got : LineGot planText at signals counts before result after
@@ -58,7 +58,7 @@ pub record StepAsked (networkText planText signals movements : List ℕ) (counts
   pub plan-starts : PlanAt planText (places .plan) n
   pub early : Early 1 (places .at)
 
--- the `S` line of step n was put, and the next lines start at the places told
+-- the `S` line of step n was put, and the next lines start at the places returned
 abbrev pub StepPut : List ℕ → List ℕ → List ℕ → StepPlaces → List ℕ → List ℕ → StepPlaces → Type 0
 StepPut networkText planText half places old new next =
     (set : ℕ) (h : Half) → OneHalf (lines networkText) set h half → (n : ℕ) → n < stepCount (lines networkText)

@@ -1,4 +1,4 @@
--- The lines of a half by the program's tables, and what the functions that put them ask. Assumes nothing.
+-- The lines of a half by the program's tables, and what the functions that put them ask.
 use Prim.Native.Nat.{ℕ, _+_, _*_, _-_, _≤_, _<_}
 use mathlib.Core.Path.{_≡_}
 use mathlib.Core.Bool.{Bool, true, not, cond}

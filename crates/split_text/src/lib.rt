@@ -1,5 +1,6 @@
-// One half of a network and of a plan (T-14), written as text by the half's table: the numbers of what is in the half, in their old order, and the numbers of border
-// movements that are added to them. Each line is put behind the one before it as far as there is room, and where the text would end is told in any case.
+// The texts of one half of a network and of a plan (T-14), written by the half's table: the numbers of what is in the half, in
+// their old order, with those of border movements added. Lines are written as far as there is room; where a text would end is
+// returned in any case.
 ghost use mathlib.Core.Path.{_≡_};
 ghost use mathlib.Core.Bool.{cond, not};
 ghost use mathlib.Core.List.{[], _∷_};
@@ -33,7 +34,7 @@ use split_tables::MOVEMENTS_AT;
 use split_tables::SIGNALS_AT;
 use text_reader::LineRead;
 
-// Puts a line, if what it is of has a number in the half.
+// Writes the line if its item belongs to this half.
 fn put_kept(number: u32, letter: u8, row: &[u32], out: &mut [u8], at: usize) -> usize
     requires { ⌜ (length (now row) ≤ lineSize) × Early 1 at ⌝ }
     ensures { λ r. ⌜ Put 1 (lineTexts letter (cond (not (eqb number 0)) (now (row .entry) ∷ []) [])) at (now (out .entry)) (now (out .exit)) r ⌝ }
@@ -75,7 +76,7 @@ fn count_trams(text: &[u8], from: usize, count: usize, half: &[u32]) -> usize
     found
 }
 
-// Puts the `N` line.
+// Writes the `N` line.
 fn put_counts(counts: Counts, trams: usize, half: &[u32], out: &mut [u8]) -> usize
     requires { ⌜ CountsAsked counts trams (now half) ⌝ }
     ensures { λ r. ⌜ Put 1 (recordText letterN (countRow counts trams (now (half .entry)))) 0 (now (out .entry)) (now (out .exit)) r ⌝ }
@@ -94,7 +95,7 @@ fn put_counts(counts: Counts, trams: usize, half: &[u32], out: &mut [u8]) -> usi
     network_writer::put_line(b'N', &row, out, 0)
 }
 
-// Puts the `T` lines that follow their signal into the half.
+// Writes the `T` lines that follow their signal into the half.
 fn put_trams(
     text: &[u8],
     from: usize,
@@ -120,7 +121,7 @@ fn put_trams(
     end
 }
 
-// Puts the `G` lines of the half's signals as they are; the table of all signals says how many phases each has.
+// Writes the `G` lines of the half's signals as they are; the table of all signals says how many phases each has.
 fn put_signals(
     text: &[u8],
     from: usize,
@@ -146,7 +147,7 @@ fn put_signals(
     end
 }
 
-// Puts the `Q` lines of the half's links, with the rates of border movements added to their exit rates.
+// Writes the `Q` lines of the half's links, with the rates of border movements added to their exit rates.
 fn put_links(
     links: &[u32],
     rates: &[u64],
@@ -180,7 +181,7 @@ fn put_links(
     end
 }
 
-// Puts the `M` lines of the movements inside the half.
+// Writes the `M` lines of the movements inside the half.
 fn put_movements(movements: &[u32], count: usize, half: &[u32], out: &mut [u8], at: usize) -> usize
     requires { ⌜ MovementsAsked (now movements) count (now half) at ⌝ }
     ensures { λ r. ⌜ Put count (lineTexts letterM (picked count (λ j. isIn (now (half .entry)) (movementsAt + j)) (movementRow (now (movements .entry)) (now (half .entry))))) at (now (out .entry)) (now (out .exit)) r ⌝ }
@@ -247,7 +248,7 @@ fn add_border(
     }
 }
 
-// Puts a value into a row at a place, if its number in the half is not 0, and tells the place behind it.
+// Writes a value into a row if its item belongs to this half, and returns the place behind it.
 fn fill_one(number: u32, value: u32, row: &mut [u32], at: usize) -> usize
     requires { ⌜ (at < length (now row)) × (length (now row) ≤ 1000) ⌝ }
     ensures { λ r. ⌜ Filled (cond (not (eqb number 0)) (value ∷ []) []) at (now (row .entry)) (now (row .exit)) r ⌝ }
@@ -259,7 +260,7 @@ fn fill_one(number: u32, value: u32, row: &mut [u32], at: usize) -> usize
     at + 1
 }
 
-// Puts the values of those that are in the half into a row from a place on, in their old order, and tells the place behind them.
+// Writes the values of the items of this half into a row, in their old order, and returns the place behind them.
 fn fill_kept(
     values: &[u32],
     start: usize,
@@ -322,7 +323,7 @@ fn read_plan(plan: &[u8], at: usize, signals: &[u32], counts: Counts, line: &mut
     }
 }
 
-// Puts the `S` line of the next step, with the volumes of border movements as demand.
+// Writes the `S` line of the next step, with the volumes of border movements as demand.
 fn put_step(
     network: &[u8],
     plan: &[u8],
@@ -363,7 +364,7 @@ fn put_step(
     }
 }
 
-// Puts the `P` line of the next step, with the volumes of border movements added to what is admitted and let out.
+// Writes the `P` line of the next step, with the volumes of border movements added to what is admitted and let out.
 fn put_plan_line(
     plan: &[u8],
     signals: &[u32],
@@ -420,7 +421,7 @@ fn put_plan_line(
     Places { line: next, at }
 }
 
-// Puts the `S` lines.
+// Writes the `S` lines.
 fn put_steps(
     network: &[u8],
     from: usize,
@@ -448,7 +449,7 @@ fn put_steps(
     places.at
 }
 
-// Puts the half's plan at the beginning of a buffer: its lines as far as they fit, and tells how long it is.
+// Writes the half's plan at the beginning of a buffer, as far as it fits, and returns its length.
 pub fn put_plan(
     plan: &[u8],
     signals: &[u32],
@@ -469,7 +470,7 @@ pub fn put_plan(
     places.at
 }
 
-// Puts the half's network at the beginning of a buffer: its lines as far as they fit, and tells how long it is.
+// Writes the half's network at the beginning of a buffer, as far as it fits, and returns its length.
 pub fn put_network(
     network: &[u8],
     plan: &[u8],

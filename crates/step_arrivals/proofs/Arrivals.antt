@@ -1,4 +1,4 @@
--- Laws of the steps by a table of times: the step in which a travel time ends is found by going up, and moves on from one boundary to the next. Assumes nothing.
+-- Laws of the steps by a table of times: the step in which a travel time ends is found by going up, and moves on from one boundary to the next.
 use Rattle.base_laws.proofs.Kit.{ℕ, zero, suc, _+_, _*_, _-_, _≤_, _<_, _≡_, Bool, true, false, cond, _⊎_, inl, inr, List, eq-or-lt-of-le, mul-le-mul, add-one, decLe, arith, le-leb, lt-leb, leb, getD}
 use mir.Syntax.{w64}
 use mir.Val.{Fits}

@@ -1,4 +1,4 @@
--- The steps by the table of times are the paper's, where the table holds a network's times. Assumes nothing.
+-- The steps by the table of times are the paper's, where the table holds a network's times.
 use Rattle.base_laws.proofs.Kit.{ℕ, zero, suc, _+_, _-_, _≤_, _<_, _≡_, refl, ap, List, add-one, arith}
 use Rattle.base_search.specs.Checks.{Hold}
 use Rattle.text_reader.specs.Lines.{Line}

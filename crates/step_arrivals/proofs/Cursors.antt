@@ -1,4 +1,4 @@
--- The arrival step of each link, moved on one link after another. Assumes nothing.
+-- The arrival step of each link, moved on one link after another.
 use Rattle.base_laws.proofs.Kit.{ℕ, _+_, _≤_, _<_, _≡_, refl, ap, _∙_, _⊎_, inl, inr, List, eq-or-lt-of-le, arith, getD, set, length-set, getD-set-same, getD-set-other}
 use Rattle.network_tables.specs.Fields.{travelTimeIn}
 use Rattle.step_arrivals.specs.Arrivals.{arrivalStepIn, Cursor, ArrivalsAsked, Arrived}

@@ -1,4 +1,4 @@
--- The times of the timeline's boundaries as they are set. Assumes nothing.
+-- The times of the timeline's boundaries as they are set.
 use Rattle.base_laws.proofs.Kit.{ℕ, _+_, _≤_, _<_, _≡_, refl, sym, ap, _∙_, Bool, true, _&&_, List, ℕ-discrete, add-one, arith, leb-true, leb, length, getD, set, length-set, getD-set-same, getD-set-other}
 use Rattle.text_reader.specs.Lines.{Line}
 use Rattle.base_laws.specs.Sum.{sum}

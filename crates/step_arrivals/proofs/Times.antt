@@ -1,4 +1,4 @@
--- The turns of the loop that has the times start at time 0, and that they are the paper's. Assumes nothing.
+-- The turns of the loop that has the times start at time 0, and that they are the paper's.
 use Rattle.base_laws.proofs.Kit.{ℕ, suc, _+_, _-_, _≤_, _<_, _≡_, refl, _∙_, List, ℕ-discrete, arith, length, getD, set, length-set, getD-set-same, getD-set-other}
 use Rattle.base_search.specs.Checks.{Hold}
 use Rattle.text_reader.specs.Lines.{Line}

@@ -1,5 +1,5 @@
 -- The step of the timeline in which a travel time ends, by a table that has the time of each boundary. Not of the paper: that these are the paper's, where the
--- table holds a network's times, stands in proofs/Boundaries.antt. Assumes nothing.
+-- table holds a network's times, stands in proofs/Boundaries.antt.
 use Prim.Native.Nat.{ℕ, zero, suc, _+_, _*_, _-_, _≤_, _<_}
 use mathlib.Core.Path.{_≡_}
 use mathlib.Core.Bool.{cond}

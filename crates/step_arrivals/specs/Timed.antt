@@ -1,4 +1,4 @@
--- The times of the timeline's boundaries, set one after another while its lines are read, as long as its lengths are valid. Assumes nothing.
+-- The times of the timeline's boundaries, set one after another while its lines are read, as long as its lengths are valid.
 use Prim.Native.Nat.{ℕ, _+_, _*_, _≤_, _<_}
 use mathlib.Core.Path.{_≡_}
 use mathlib.Core.Bool.{Bool, true}

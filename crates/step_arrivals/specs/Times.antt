@@ -1,4 +1,4 @@
--- The times of a plan's boundaries, by the table of the timeline's. Assumes nothing.
+-- The times of a plan's boundaries, by the table of the timeline's.
 use Prim.Native.Nat.{ℕ, _+_, _-_, _≤_}
 use mathlib.Core.Path.{_≡_}
 use mathlib.Core.List.{List}

@@ -1,6 +1,6 @@
-// When what entered a link has gone its travel time: the step in which the travel time before a boundary ends, by a table of the times of the timeline's
-// boundaries, and what has arrived by then. Steps and boundaries are the timeline's here.
-// The times of a plan's boundaries, counted from time 0, made of those of the timeline's.
+// When vehicles arrive: the step in which a link's travel time before a boundary ends, and what has arrived by then. Steps and
+// boundaries are the timeline's here, by a table of its boundaries' times; the times of the plan's own boundaries, from time 0
+// on, are made from it.
 ghost use mathlib.Core.Path.{_≡_};
 ghost use Prim.Native.Nat.{_+_, _-_, _<_, _≤_};
 ghost use lib.ListN.{length};
@@ -15,7 +15,7 @@ fn minus(a: u32, b: u32) -> u32
     if a < b { 0 } else { a - b }
 }
 
-// Sets the time at the end of step `m`, if that lasts 1 to 60 seconds and so do all before it; else the table is left as it is.
+// Sets the time at the end of step `m`, if it and all steps before it last 1 to 60 seconds; else the table is kept.
 pub fn next_time(times: &mut [u32], m: usize, seconds: u32, timed: bool) -> bool
     requires { ⌜ TimeAsked (now times) m timed ⌝ }
     ensures { λ r. ⌜ TimeSet (now (times .entry)) m seconds timed r (now (times .exit)) ⌝ }
@@ -84,7 +84,7 @@ pub fn next_arrivals(
     }
 }
 
-// Has the table of the timeline's times start at time 0: at place `n` the time of the plan's boundary `n`.
+// Moves the table of times to time 0: place `n` gets the time of the plan's boundary `n`.
 pub fn from_start(times: &mut [u32], past: usize, steps: usize)
     requires { ⌜ ShiftAsked (now times) past steps ⌝ }
     ensures { λ _. ⌜ Shifted (now (times .entry)) past steps (now (times .exit)) ⌝ }

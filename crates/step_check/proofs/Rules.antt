@@ -1,4 +1,4 @@
--- The thirteen rules by their families. Assumes nothing.
+-- The thirteen rules by their families.
 use Rattle.base_laws.proofs.Kit.{ℕ, zero, suc, _-_, _≤_, _<_, _≡_, refl, _∙_, Bool, cond, List, [], _∷_, decLe, arith, lt-ltb, le-ltb, ltb, length, getD}
 use Rattle.base_search.specs.declared.Verdict.the-variants.{Passes}
 use Rattle.base_search.specs.Checks.{ruleAt, rulesFrom, verdict, table}

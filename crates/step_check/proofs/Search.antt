@@ -1,4 +1,4 @@
--- The search for the first broken rule, a turn at a time: the row after the step is formed at place 10, and every rule before a place is kept. Assumes nothing.
+-- The search for the first broken rule, a turn at a time: the row after the step is formed at place 10, and every rule before a place is kept.
 use Rattle.base_laws.proofs.Kit.{ℕ, _+_, _≤_, _<_, _≡_, refl, sym, ap, _∙_, Bool, true, false, not, List, _++_, decLe, ℕ-discrete, arith, length, drop-at}
 use Rattle.base_search.specs.declared.Verdict.{Verdict}
 use Rattle.base_search.specs.declared.Verdict.the-variants.{Passes, Refused}

@@ -1,5 +1,5 @@
 // The judgement of one step of a plan: rules 10 to 18, 25 to 27 and 29 in their order, each over rising items. Most steps keep all of them, which one pass over
-// signals, links and movements tells; only where it does not, the rules are searched for the first that is broken. The sums of rules 16 to 18 are formed only once
+// signals, links and movements finds; otherwise the rules are searched for the first that is broken. The sums of rules 16 to 18 are formed only once
 // the limits of the volumes (15, 25 to 27) are kept, so that they fit.
 ghost use mathlib.Core.Path.{_≡_};
 ghost use Prim.Native.Nat.{_+_, _*_, _≤_, _<_};
@@ -96,7 +96,7 @@ fn form_row_for(
     }
 }
 
-// The first rule that the step to a boundary breaks, by the rules in their order, each over rising items; the plan's line that tells it has the boundary's number.
+// The first rule that the step to a boundary breaks, by the rules in their order, each over rising items; it names the plan's line with the boundary's number.
 fn first_break(
     signals: &[u32],
     line: &[u32],

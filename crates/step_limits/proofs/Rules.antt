@@ -1,4 +1,4 @@
--- The limits by their places. Assumes nothing.
+-- The limits by their places.
 use Rattle.base_laws.proofs.Kit.{ℕ, _≤_, _≡_, sym, true, List, [], _∷_, List·getD-eq-default}
 use Rattle.network_tables.specs.declared.Counts.{Counts}
 use Rattle.step_limits.specs.Limits.{admitsOffer, letsOutRate, movesRate, movesOpen, limitRuleHolds}

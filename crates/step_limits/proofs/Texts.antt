@@ -1,4 +1,4 @@
--- The limits by the program's tables are those of the paper, where the tables hold what the texts say. Assumes nothing.
+-- The limits by the program's tables are those of the paper, where the tables hold what the texts say.
 use Rattle.base_laws.proofs.Kit.{_≡_, refl, sym, ap₂, _∙_, List, ℕ, _*_, _-_, _≤_, _<_, le-trans, decLe, arith, leb-true, eq-eqb, leb, getD}
 use Rattle.text_reader.specs.Lines.{Line}
 use Rattle.base_laws.specs.Test.{_or_, within}

@@ -1,5 +1,5 @@
 -- Rules 15 and 25 to 27 at one step, as tests of the program's tables: the numbers of the step's `P` line, its length and who is at each entry in it, the links and movements
--- of the network, and the phase that each signal shows in the step. Links, movements and signals are counted from 0, a link's signal and a movement's links from 1. Assumes nothing.
+-- of the network, and the phase that each signal shows in the step. Links, movements and signals are counted from 0, a link's signal and a movement's links from 1.
 use mathlib.Core.Path.{_≡_}
 use mathlib.Core.Bool.{Bool, true}
 use mathlib.Core.List.{List, [], _∷_}

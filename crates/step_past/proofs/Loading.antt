@@ -1,4 +1,4 @@
--- Row 0 and the curves at boundary 0, one `H` line after another. Assumes nothing.
+-- Row 0 and the curves at boundary 0, one `H` line after another.
 use Rattle.base_laws.proofs.Kit.{ℕ, suc, _+_, _*_, _-_, _/_, _%_, _≤_, _<_, _≡_, refl, ap, _∙_, Bool, true, false, not, List, [], ℕ-discrete, add-one, arith, not-true, not-false, length, getD}
 use Rattle.text_reader.specs.declared.LineRead.{LineRead}
 use Rattle.text_reader.specs.declared.LineRead.the-variants.{Next, Malformed}

@@ -1,4 +1,4 @@
--- The `H` lines read again for one link. Assumes nothing.
+-- The `H` lines read again for one link.
 use Rattle.base_laws.proofs.Kit.{ℕ, suc, _+_, _*_, _≤_, _<_, _≡_, sym, ap, _∙_, Bool, true, false, List, [], add-one, arith, length, getD}
 use mir.Syntax.{w32}
 use mir.Val.{Fits}

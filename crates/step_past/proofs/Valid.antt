@@ -1,4 +1,4 @@
--- The past of a network that has passed. Assumes nothing.
+-- The past of a network that has passed.
 use Rattle.base_laws.proofs.Kit.{ℕ, _+_, _≤_, _<_, _≡_, sym, ap, List, [], arith}
 use Rattle.base_search.specs.Checks.{Hold}
 use Rattle.text_reader.specs.Lines.{Line}

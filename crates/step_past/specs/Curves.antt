@@ -1,4 +1,4 @@
--- What entered the links in the past, by the `H` lines of a network text whose forms have passed: no plan has a say in it. Assumes nothing.
+-- What entered the links in the past, by the `H` lines of a network text whose forms have passed: no plan has a say in it.
 use Prim.Native.Nat.{ℕ, suc, _+_, _*_, _-_, _≤_, _<_}
 use mathlib.Core.Path.{_≡_}
 use mathlib.Core.Bool.{Bool, true, false}

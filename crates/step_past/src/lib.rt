@@ -1,6 +1,6 @@
-// What entered the links in the past, by the `H` lines, which have passed and are read again: row 0, and for each link what had entered it by the start and by
-// the end of the past step in which its travel time ends. No table of the past is kept: each link has the place of the `H` line that is next for it, and a
-// line is read once for all links that it is next for.
+// What entered the links in the past, by the `H` lines: row 0, and for each link what had entered it by the start and by the end
+// of the past step in which its travel time ends. No table of the past is kept: each link has the place of the `H` line that is
+// next for it, and a line is read once for all links that it is next for.
 ghost use Rattle.step_past.specs.Curves.{ReadAsked, CurveTo, StartAsked, Started, KeepAsked, Kept, KeepAllAsked, KeptAll, PastAsked, PastLoaded, LinkAsked, LinkMoved, LinksAsked, LinksMoved, MoveAsked, PastMoveAsked, Moved, NextAsked, NextGot};
 use network_tables::Counts;
 use network_tables::PAST_SIZE;

@@ -1,4 +1,4 @@
--- The rows of a ledger, read through a part of it or from a row that is lent. Assumes nothing.
+-- The rows of a ledger, read through a part of it or from a row that is lent.
 use Rattle.base_laws.proofs.Kit.{_≡_, refl, sym, ap, _∙_, List, [], _∷_, _++_, ℕ, zero, suc, _+_, _*_, _-_, _/_, _%_, _≤_, _<_, decLe, ℕ-discrete, arith, length, getD, take, drop, List·getD-append, getD-drop, getD-take, getD-append-add, ext-getD}
 use Rattle.text_reader.specs.Lines.{Line}
 use Rattle.base_laws.specs.Sum.{joined}

@@ -1,4 +1,4 @@
--- Rows as lists of pairs, and a row that goes into the middle of a list. Assumes nothing.
+-- Rows as lists of pairs, and a row that goes into the middle of a list.
 use Rattle.base_laws.proofs.Kit.{_≡_, refl, ap, sym, _∙_, _⊎_, inl, inr, ⊎-elim, List, [], _∷_, _++_, append-assoc, append-nil, ℕ, zero, suc, _+_, _*_, _-_, _/_, _≤_, _<_, mul-suc, eq-or-lt-of-le, le-of-suc-le-suc, add-one, decLe, arith, length, getD, take, drop, set, length-append, length-drop, List·getD-append, drop-of-length-le, append-snoc, take-all, drop-cons, drop-drop, set-at, getD-append-add, getD-at, getD-drop, ext-getD, take-suc, take-at, length-take-le}
 use Rattle.step_rows.specs.Rows.{pairs}
 

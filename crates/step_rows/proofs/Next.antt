@@ -1,4 +1,4 @@
--- The row after a step, from the row that the step's line begins. Assumes nothing.
+-- The row after a step, from the row that the step's line begins.
 use Rattle.base_laws.proofs.Kit.{_≡_, ap, sym, _∙_, List, _++_, ℕ, _+_, _*_, _<_, arith, length, getD, drop, List·getD-append}
 use Rattle.network_tables.specs.declared.Counts.{Counts}
 use Rattle.step_rows.specs.Rows.{baseEntered, baseLeft, nextEntered, nextLeft, nextRow, pairs, Base, Fits, Room, Added}

@@ -1,4 +1,4 @@
--- One movement more is added to a row: what it must find, and what it leaves. Assumes nothing.
+-- One movement more is added to a row: what it must find, and what it leaves.
 use Rattle.base_laws.proofs.Kit.{_≡_, refl, ap, _∙_, _⊎_, inl, inr, ⊎-elim, Bool, true, false, List, ℕ, suc, _+_, _*_, _≤_, _<_, add-zero, arith, eqb-true, eqb-false, eq-eqb, ne-eqb, eqb, length, getD, set, length-set, getD-set-same, getD-set-other}
 use Rattle.network_tables.specs.declared.Counts.{Counts}
 use Rattle.base_laws.specs.Sum.{sum, only}

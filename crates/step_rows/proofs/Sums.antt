@@ -1,4 +1,4 @@
--- A sum from its start, by one term more. Assumes nothing.
+-- A sum from its start, by one term more.
 use Rattle.base_laws.proofs.Kit.{_≡_, refl, ℕ, _+_, add-one}
 use Rattle.base_laws.specs.Sum.{sum}
 

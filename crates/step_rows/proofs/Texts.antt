@@ -1,4 +1,4 @@
--- What the program's tables give is what the two texts say: the row after a step is the paper's. Assumes nothing.
+-- What the program's tables give is what the two texts say: the row after a step is the paper's.
 use Rattle.base_laws.proofs.Kit.{_≡_, ap, ap₂, sym, _∙_, List, _++_, ℕ, suc, _+_, _*_, _-_, _≤_, _<_, arith, eqb, length, getD, take, take-at}
 use Rattle.text_reader.specs.Lines.{Line}
 use Rattle.network_tables.specs.declared.Counts.{Counts}

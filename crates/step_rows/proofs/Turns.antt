@@ -1,4 +1,4 @@
--- One turn of each loop over a row. Assumes nothing.
+-- One turn of each loop over a row.
 use Rattle.base_laws.proofs.Kit.{_≡_, sym, ap, ap₂, _∙_, List, _++_, ℕ, _+_, _*_, _-_, _<_, arith, getD, drop, set, set-getD}
 use Rattle.base_laws.specs.Sum.{sum}
 use Rattle.network_tables.specs.declared.Counts.{Counts}

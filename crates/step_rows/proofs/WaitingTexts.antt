@@ -1,4 +1,4 @@
--- What the tables say of those who wait is what the two texts say. Assumes nothing.
+-- What the tables say of those who wait is what the two texts say.
 use Rattle.base_laws.proofs.Kit.{ℕ, suc, _+_, _≤_, _<_, _≡_, sym, _∙_, true, List, decLe, arith, leb-true, le-leb, lt-leb, leb, length}
 use Rattle.base_search.specs.Checks.{Hold}
 use Rattle.text_reader.specs.Lines.{Line}

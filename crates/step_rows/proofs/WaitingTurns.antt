@@ -1,4 +1,4 @@
--- One turn of each loop over the entries. Assumes nothing.
+-- One turn of each loop over the entries.
 use Rattle.base_laws.proofs.Kit.{ℕ, _+_, _-_, _≤_, _<_, _≡_, refl, _∙_, _⊎_, inl, inr, List, eq-or-lt-of-le, ℕ-discrete, arith, length, set, length-set, getD-set-same, getD-set-other}
 use Rattle.network_tables.specs.declared.Counts.{Counts}
 use Rattle.network_tables.specs.Fields.{waitingAtStartIn, demandIn, admittedIn}

@@ -1,5 +1,5 @@
 -- The row after a step, from the row before it and the numbers of the step's `P` line, as the program's tables hold them. Links, movements and signals
--- are counted from 0 here; a movement names its links from 1. Assumes nothing.
+-- are counted from 0 here; a movement names its links from 1.
 use mathlib.Core.Path.{_≡_}
 use mathlib.Core.List.{List, [], _∷_, _++_}
 use Prim.Native.Nat.{ℕ, zero, suc, _+_, _*_, _≤_, _<_}

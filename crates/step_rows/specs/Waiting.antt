@@ -1,5 +1,5 @@
--- The vehicles that wait at the entries, by the program's tables: one number a link, who waited at the start and the demand of the steps so far, that was not admitted. While a step is judged,
--- they stand in the numbers of its `S` line, added to each link's demand. Assumes nothing.
+-- The vehicles that wait at the entries, by the program's tables: one number a link, of who waited at the start or came since and was
+-- not admitted. While a step is judged, they stand in the numbers of its `S` line, added to each link's demand.
 use Prim.Native.Nat.{ℕ, suc, _+_, _-_, _≤_, _<_}
 use mathlib.Core.Path.{_≡_}
 use mathlib.Core.List.{List}

@@ -1,5 +1,6 @@
-// The row of the ledger after a step, its writing through a part of the lent ledger, and the sums that go into the totals.
-// The vehicles that wait at the entries: on each link who waited at the start, and the demand of the steps so far, that was not admitted. The table of those who wait has one number a link.
+// The row of the ledger after a step, its writing through a part of the lent ledger, the sums that go into the totals, and who
+// waits at the entries. The table of those who wait has one number a link: who waited at the start and came since, and was not
+// admitted.
 ghost use mathlib.Core.Path.{_≡_};
 ghost use mathlib.Core.List.{_++_};
 ghost use Prim.Native.Nat.{_+_, _*_, _-_, _<_, _≤_};
@@ -36,7 +37,7 @@ pub fn from_link(movements: &[u32], counts: Counts, j: usize) -> usize
     link_index(movements, j, 0)
 }
 
-// Adds a volume to a number of the row, which is not touched where the volume is 0, as most are.
+// Adds a volume to a number of the row. Most volumes are 0, and then the row is not touched.
 fn add_at(row: &mut [u32], at: usize, volume: u32)
     requires { ⌜ (at < length (now row)) × (getD (now row) at 0 + volume < 4294967296) ⌝ }
     ensures { λ _. ⌜ now (row .exit) ≡ set (now (row .entry)) at (getD (now (row .entry)) at 0 + volume) ⌝ }
@@ -85,7 +86,7 @@ pub fn next_row(previous: &[u32], line: &[u32], movements: &[u32], counts: Count
     add_movements(row, line, movements, counts);
 }
 
-// The first count numbers of a row go to the front of a part of the ledger.
+// Copies the first `count` numbers of a row to the front of a part of the ledger.
 fn copy_row(part: &mut [u32], row: &[u32], count: usize)
     requires { ⌜ (count ≤ length (now row)) × (count ≤ length (now part)) ⌝ }
     ensures { λ _. ⌜ now (part .exit) ≡ take count (now (row .entry)) ++ drop count (now (part .entry)) ⌝ }
@@ -97,7 +98,7 @@ fn copy_row(part: &mut [u32], row: &[u32], count: usize)
     }
 }
 
-// A row goes into the ledger from index at on, through the part of the lent ledger that starts there; all else keeps what it held.
+// Writes a row into the ledger from index `at` on, through the part of the lent ledger that starts there; all else is kept.
 pub fn write_row(ledger: &mut [u32], at: usize, row: &[u32], count: usize)
     requires { ⌜ (count ≤ length (now row)) × (at + count ≤ length (now ledger)) ⌝ }
     ensures { λ _. ⌜ now (ledger .exit) ≡ take at (now (ledger .entry)) ++ (take count (now (row .entry)) ++ drop (at + count) (now (ledger .entry))) ⌝ }
@@ -105,7 +106,7 @@ pub fn write_row(ledger: &mut [u32], at: usize, row: &[u32], count: usize)
     copy_row(&mut ledger[at..], row, count);
 }
 
-// The sum of count numbers of a line from index first on: what a step admits, or lets out, on all links.
+// The sum of `count` numbers of a line from index `first` on: what a step admits, or lets out, on all links.
 pub fn sum_of(line: &[u32], first: usize, count: usize) -> u64
     requires { ⌜ (count ≤ maxLinks) × (first + count ≤ length (now line)) ⌝ }
     ensures { λ r. ⌜ (r ≡ sum count (λ i. getD (now (line .entry)) (first + i) 0)) × (r ≤ 4294967295 * count) ⌝ }

@@ -1,4 +1,4 @@
--- A number with one set bit: its count of ones is 1 exactly where it is a power of two, and its trailing zeros are the exponent. Assumes nothing.
+-- A number with one set bit: its count of ones is 1 exactly where it is a power of two, and its trailing zeros are the exponent.
 use Rattle.base_laws.proofs.Kit.{_≡_, refl, sym, ap, _∙_, subst, _⊎_, inl, inr, ⊎-elim, ℕ, zero, suc, _+_, _*_, _/_, _%_, _^_, _<_, pow-suc, mod-lt, zero-lt-suc, div-add-mod', arith, add-one}
 use lib.Arith.{lt-one}
 use lib.Pow.{shr-lt, pow-pos}

@@ -1,4 +1,4 @@
--- The phase that a mask shows, from its count of ones and its trailing zeros. Assumes nothing.
+-- The phase that a mask shows, from its count of ones and its trailing zeros.
 use Rattle.base_laws.proofs.Kit.{_≡_, refl, sym, ap, _∙_, ℕ, _+_, _-_, _^_, _≤_, _<_, ℕ-discrete, arith}
 use lib.Pow.{pow-lt}
 use lib.Count.{ones, trailingZeros}

@@ -1,4 +1,4 @@
--- The rules of a signal by their places, and that they keep it ready for the next step. Assumes nothing.
+-- The rules of a signal by their places, and that they keep it ready for the next step.
 use Rattle.base_laws.proofs.Kit.{ℕ, zero, suc, _+_, _-_, _≤_, _<_, _≡_, refl, sym, _∙_, Bool, true, false, not, _&&_, _||_, List, le-trans, arith, leb, eqb, getD, List·getD-eq-default, leb-true, eqb-true, not-false}
 use borrow.Author.Count.{below-more}
 use Rattle.model.specs.declared.Signal.{Signal}

@@ -1,4 +1,4 @@
--- All signals through a step, one after the other. Assumes nothing.
+-- All signals through a step, one after the other.
 use Rattle.base_laws.proofs.Kit.{ℕ, _+_, _-_, _^_, _<_, _≡_, refl, ap, _∙_, List, le-refl, arith, length, getD, set, length-set, getD-set-same, getD-set-other, ne-eqb}
 use borrow.Author.Count.{below-more}
 use Rattle.network_tables.specs.Fields.{signalTableSize, tableSignal}

@@ -1,4 +1,4 @@
--- Signals whose clocks can be carried through a step. Assumes nothing.
+-- Signals whose clocks can be carried through a step.
 use Prim.Native.Nat.{ℕ, _≤_, _<_}
 use mathlib.Core.Path.{_≡_}
 use mathlib.Core.List.{List}

@@ -1,4 +1,4 @@
--- Rules 10, 29 and 11 to 14 by the program's tables, and all signals through a step. A tram asks a phase of a signal, 0 in an ordinary step. Assumes nothing.
+-- Rules 10, 29 and 11 to 14 by the program's tables, and all signals through a step. A tram asks a phase of a signal, 0 in an ordinary step.
 use Prim.Native.Nat.{ℕ, _+_, _-_, _^_, _≤_, _<_}
 use mathlib.Core.Path.{_≡_}
 use mathlib.Core.Bool.{Bool, true, not, cond}

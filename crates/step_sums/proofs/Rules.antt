@@ -1,4 +1,4 @@
--- Rules 16 to 18 by their places. Assumes nothing.
+-- Rules 16 to 18 by their places.
 use Rattle.base_laws.proofs.Kit.{ℕ, _≤_, _≡_, sym, true, List, [], _∷_, List·getD-eq-default}
 use Rattle.network_tables.specs.declared.Counts.{Counts}
 use Rattle.step_sums.specs.Sums.{keepsShare, leavesArrived, fitsCapacity, sumRuleHolds}

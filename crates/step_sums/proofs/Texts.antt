@@ -1,4 +1,4 @@
--- Rules 16 to 18 by the program's tables are those of the paper, where the tables hold what the texts say. Assumes nothing.
+-- Rules 16 to 18 by the program's tables are those of the paper, where the tables hold what the texts say.
 use Rattle.base_laws.proofs.Kit.{_≡_, sym, ap, ap₂, _∙_, List, [], _++_, ℕ, suc, _+_, _*_, _-_, _≤_, _<_, decLe, ℕ-discrete, add-one, arith, lt-ltb, le-ltb, eq-eqb, ne-eqb, leb, length}
 use Rattle.base_search.specs.Checks.{Hold}
 use Rattle.text_reader.specs.Lines.{Line, lines}

@@ -1,5 +1,5 @@
 -- Rules 16 to 18 at one step, as tests of the program's tables: the numbers of the step's `P` line, the links and movements of the network, the rows before and
--- after the step, the ledger, the times of the timeline's boundaries, the step of the timeline in which the travel time of each link ends, and its curve where that is a past one. Links and movements are counted from 0, a movement's links from 1. Assumes nothing.
+-- after the step, the ledger, the times of the timeline's boundaries, the step of the timeline in which the travel time of each link ends, and its curve where that is a past one. Links and movements are counted from 0, a movement's links from 1.
 use mathlib.Core.Path.{_≡_}
 use mathlib.Core.Bool.{Bool, true, cond}
 use mathlib.Core.List.{List, [], _∷_}

@@ -1,4 +1,4 @@
--- The greatest lengths of texts, in bytes, that the header of the C functions tells. A number that is read may be padded to ten digits (T-03); none that is written is
+-- The greatest lengths of texts, in bytes, of the header of the C functions. A number that is read may be padded to ten digits (T-03); none that is written is
 -- padded.
 use Prim.Native.Nat.{ℕ, _≤_}
 use mathlib.Core.Path.{_≡_}

@@ -1,1 +1,1 @@
-// How long the texts are at most that pass, and those that are written: the lengths that the header tells. There is no code.
+// How long a text can be that passes or is written: the greatest lengths of the header, as theorems. No code.

@@ -1,4 +1,4 @@
--- The first line of some bytes, read byte by byte: what `split` says of it by whether a tab, a line feed or another byte comes first. Assumes nothing.
+-- The first line of some bytes, read byte by byte: what `split` says of it by whether a tab, a line feed or another byte comes first.
 use Rattle.base_laws.proofs.Kit.{ℕ, suc, _+_, _<_, _≡_, refl, sym, ap, _∙_, _≢_, Bool, true, false, List, [], _∷_, map, arith, eq-eqb, ne-eqb, lt-ltb, ltb-true, ℕ-discrete, eqb, ltb, eqb·suc-zero, length, drop, getD}
 use Rattle.text_reader.specs.declared.Field.{Field}
 use Rattle.text_reader.specs.Field.{fieldOf}

@@ -1,4 +1,4 @@
--- What the definitions say of some texts, computed. Assumes nothing.
+-- What the definitions say of some texts, computed.
 use Rattle.base_laws.proofs.Kit.{ℕ, _≡_, refl, Bool, true, false, List, [], _∷_}
 use Rattle.text_reader.specs.declared.Field.{Field}
 use Rattle.text_reader.specs.declared.Field.the-variants.{Number, NoNumber}

@@ -1,4 +1,4 @@
--- What a proof above cites of lines and their places instead of opening the definitions. Assumes nothing.
+-- What a proof above cites of lines and their places instead of opening the definitions.
 use Rattle.base_laws.proofs.Kit.{ℕ, zero, suc, _+_, _-_, _≤_, _<_, _≡_, refl, sym, ap, _∙_, Bool, true, false, cond, _&&_, and-eq-true-iff, List, [], _∷_, map, append-nil, add-one, add-zero, arith, eqb-true, eqb-false, eq-eqb, ne-eqb, leb-true, le-leb, eqb, leb, length, take, drop, getD, length-drop, drop-of-length-le, List·getD-eq-default, drop-drop, getD-drop}
 use Rattle.text_reader.specs.declared.Field.{Field}
 use Rattle.text_reader.specs.declared.Field.the-variants.{Number, NoNumber}

@@ -1,4 +1,4 @@
--- What a field says, digit by digit. Assumes nothing.
+-- What a field says, digit by digit.
 use Rattle.base_laws.proofs.Kit.{ℕ, suc, _+_, _-_, _*_, _≤_, _<_, _≡_, refl, true, false, and-eq-true-iff, and-false, List, [], _∷_, foldl, le-trans, arith, le-leb, lt-leb, leb-true, leb, leb·zero, leb·suc-zero, leb·suc-suc, length}
 use Rattle.text_reader.specs.declared.Field.the-variants.{Number, NoNumber}
 use Rattle.text_reader.specs.Field.{digit, digits, shift, decimal, largest, isNumeral, fieldOf}

@@ -1,4 +1,4 @@
--- To unfold `opened` is to unfold every definition of a text's lines, for a proof by computation. Assumes nothing.
+-- To unfold `opened` is to unfold every definition of a text's lines, for a proof by computation.
 use Rattle.text_reader.specs.Field.{digit, digits, shift, decimal, isNumeral, fieldOf}
 use Rattle.text_reader.specs.Lines.{inFront, split, letterOf, lineOf, linesOf, lines, isNumber, allNumbers, isRecord, startsAs, numberOf, number}
 

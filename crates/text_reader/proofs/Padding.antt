@@ -1,4 +1,4 @@
--- Texts that differ only in padding have the same lines, so all that is stated over lines is the same for both. Assumes nothing.
+-- Texts that differ only in padding have the same lines, so all that is stated over lines is the same for both.
 use Rattle.base_laws.proofs.Kit.{ℕ, suc, _<_, _≡_, refl, sym, ap, _∙_, inl, inr, _≢_, List, [], _∷_, _++_, map, foldl, append-nil, Bool, true, false, _&&_, and-eq-true-iff, arith, ℕ-discrete, ne-eqb, le-leb, eqb, leb, eqb·suc-zero, length, drop, getD}
 use Rattle.text_reader.specs.Field.{digit, digits, shift, decimal, isNumeral, fieldOf}
 use Rattle.text_reader.specs.Lines.{inFront, split, lineOf, linesOf, lines}

@@ -1,5 +1,4 @@
 -- The laws of the functions that read a text which a line feed ends: behind a byte that is no line feed the text goes on. Each is in the form of a need.
--- Assumes nothing.
 use Rattle.base_laws.proofs.Kit.{ℕ, suc, _+_, _-_, _*_, _≤_, _<_, _≡_, refl, sym, ap, _∙_, _≢_, Bool, true, false, cond, not, and-eq-true-iff, List, [], _∷_, arith, add-zero, decLe, ℕ-discrete, eq-eqb, eqb-true, ne-eqb, eqb, leb, length, getD, set, length-set, List·getD-eq-default}
 use Rattle.text_reader.specs.declared.Tabbed.{Tabbed}
 use Rattle.text_reader.specs.declared.Tabbed.the-variants.{Found, Absent}

@@ -1,4 +1,4 @@
--- A quoted text as its bytes, for worked examples in ASCII. Assumes nothing.
+-- A quoted text as its bytes, for worked examples in ASCII.
 use Rattle.base_laws.proofs.Kit.{ℕ, List, [], _∷_}
 use Prim.Native.Char.{code}
 use Prim.Native.String.{String, [] as nil, _∷_ as _then_}

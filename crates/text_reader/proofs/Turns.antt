@@ -1,5 +1,4 @@
 -- The laws of the functions that go by places, each in the form of a need: what a loop's head, the tests and the calls say gives what is asked.
--- Assumes nothing.
 use Rattle.base_laws.proofs.Kit.{ℕ, suc, _+_, _-_, _*_, _≤_, _<_, _≡_, refl, sym, ap, _∙_, _≢_, Bool, true, false, cond, not, _&&_, and-false, and-eq-true-iff, List, [], _∷_, arith, ℕ-discrete, eq-eqb, ne-eqb, eqb-true, eqb-false, le-leb, lt-leb, leb-true, leb-false, not-true, not-false, eqb, leb, eqb·suc-zero, length, drop, getD, set, drop-of-length-le, List·getD-eq-default, drop-cons}
 use Rattle.text_reader.specs.declared.Field.{Field}
 use Rattle.text_reader.specs.declared.Field.the-variants.{NoNumber}

@@ -1,4 +1,4 @@
--- A field that says a number, by its bytes. Assumes nothing.
+-- A field that says a number, by its bytes.
 use Prim.Native.Nat.{ℕ, _+_, _-_, _*_}
 use mathlib.Core.List.{List, [], _∷_, foldl}
 use mathlib.Core.Bool.{Bool, true, cond, _&&_}

@@ -1,5 +1,5 @@
 -- The lines of a text of tab-separated records (the paper's house format). The definitions of the checks and the answers of the calls are stated over these lines
--- alone, so that texts with equal lines get equal answers; inner contracts name places too, each tied to a line by `Starts`. Assumes nothing.
+-- alone, so that texts with equal lines get equal answers; inner contracts name places too, each tied to a line by `Starts`.
 use Prim.Native.Nat.{ℕ}
 use mathlib.Core.List.{List, [], _∷_, map}
 use mathlib.Core.Bool.{Bool, true, false, cond, _&&_}

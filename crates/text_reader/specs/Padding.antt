@@ -1,4 +1,4 @@
--- Texts that differ only in padding: zeros that stand in front of numbers. Assumes nothing.
+-- Texts that differ only in padding: zeros that stand in front of numbers.
 use Prim.Native.Nat.{ℕ}
 use mathlib.Core.Path.{_≡_}
 use mathlib.Core.Logic.{_⊎_}

@@ -1,4 +1,4 @@
--- What the reader's functions promise, by places in a text. Assumes nothing.
+-- What the reader's functions promise, by places in a text.
 use Prim.Native.Nat.{ℕ, zero, suc, _+_, _-_, _<_}
 use mathlib.Core.Path.{_≡_}
 use mathlib.Core.List.{List, [], _∷_, _++_, foldl}
@@ -102,7 +102,7 @@ unfoldable pub tabbedAt : List ℕ → ℕ → Tabbed
 tabbedAt text at =
     cond (eqb (getD text at 0) 9) (located (at + 1 + length (fieldAt text (at + 1))) (fieldOf (fieldAt text (at + 1)))) Absent
 
--- a number was found, and the byte that ends it is told; or none was
+-- a number was found, with the byte that ends it; or none was
 unfoldable pub EndsAs : List ℕ → Tabbed → Ended → Type 0
 EndsAs text found (ByTab v next) = (found ≡ Found v next) × (getD text next 0 ≡ 9)
 EndsAs text found (ByLineFeed v next) = (found ≡ Found v next) × (getD text next 0 ≡ 10)

@@ -1,4 +1,4 @@
-// A reader of tab-separated records: numbers, lines and the end of a text, by places.
+// Reads tab-separated records: numbers, lines and the end of a text, by places.
 ghost use mathlib.Core.Path.{_≡_};
 ghost use Prim.Native.Nat.{_+_, _-_, _*_, _≤_, _<_};
 ghost use lib.ListN.{length, getD};
@@ -8,7 +8,7 @@ ghost use Rattle.text_reader.specs.Field.{digit, largest};
 ghost use Rattle.text_reader.specs.Lines.{startsAs};
 ghost use Rattle.text_reader.specs.Reading.{lineAt, leadingAs, fieldAt, separator, restAt, DigitsRead, startsWith, tabBeforeSentinel, tabbedAt, EndsAs, recordAt, atEnd, Got, GotNumbers, GotNumbersAs};
 
-// What a field says: the contracts alone speak of it.
+// What a field says; only contracts speak of it.
 pub enum Field {
     Number(u32),
     NoNumber,
@@ -33,7 +33,7 @@ enum Ended {
     Neither,
 }
 
-// Whether the numbers that were asked for are the last of their line: then the place of the next line, else that more follows or that one is missing.
+// Whether the numbers that were asked for are the last of their line: the place of the next line; or more follows, or one is missing.
 enum Numbers {
     Last(usize),
     More,

@@ -1,4 +1,4 @@
--- The laws of writing: what is written one behind the other is one text. Assumes nothing.
+-- The laws of writing: what is written one behind the other is one text.
 use Rattle.base_laws.proofs.Kit.{ℕ, zero, suc, _+_, _-_, _*_, _/_, _%_, _^_, _≤_, _<_, _≡_, refl, sym, ap, ap₂, _∙_, List, [], _∷_, _++_, append-assoc, append-nil, add-one, decLe, pow-suc, arith, lt-ltb, le-ltb, length, getD, take, drop, set, length-append, length-set, length-drop, take-append-drop, take-at, drop-at, drop-drop, length-take-le, set-at, take-suc, append-snoc, set-split, take-length}
 use Rattle.text_writer.specs.Records.{numeral, fieldText, fieldTexts, recordText, recordTexts}
 use Rattle.text_writer.specs.Writing.{putAt, digits, Wrote}

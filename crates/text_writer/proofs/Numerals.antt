@@ -1,4 +1,4 @@
--- A written numeral reads back as its number. Assumes nothing.
+-- A written numeral reads back as its number.
 use Rattle.base_laws.proofs.Kit.{ℕ, zero, suc, _+_, _-_, _*_, _/_, _%_, _^_, _≤_, _<_, _≡_, refl, sym, ap, _∙_, _≢_, Bool, true, false, _&&_, List, [], _∷_, _++_, foldl, decLe, pow-suc, arith, le-leb, length, getD, length-append, List·getD-append}
 use Rattle.text_reader.specs.declared.Field.the-variants.{Number}
 use Rattle.text_reader.specs.Field.{digit, digits, shift, decimal, largest, isNumeral, fieldOf}

@@ -1,4 +1,4 @@
--- The `lines` of a written text are the records written. Assumes nothing.
+-- The `lines` of a written text are the records written.
 use Rattle.base_laws.proofs.Kit.{ℕ, zero, suc, _+_, _≤_, _<_, _≡_, refl, sym, ap, ap₂, _∙_, _⊎_, inl, inr, _≢_, Bool, true, false, _&&_, List, [], _∷_, _++_, map, append-assoc, append-nil, eq-or-lt-of-le, arith, eq-eqb, length, getD, length-append, List·getD-append, getD-append-add}
 use Rattle.text_reader.specs.declared.Field.{Field}
 use Rattle.text_reader.specs.declared.Field.the-variants.{Number, NoNumber}

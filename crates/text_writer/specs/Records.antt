@@ -1,4 +1,4 @@
--- Records as they are written, and the lines that they are. Assumes nothing.
+-- Records as they are written, and the lines that they are.
 use Prim.Native.Nat.{ℕ, zero, suc, _+_, _/_, _%_}
 use mathlib.Core.Bool.{true, cond}
 use mathlib.Core.List.{List, [], _∷_, _++_, map}

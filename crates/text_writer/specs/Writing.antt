@@ -1,4 +1,4 @@
--- What the writer's functions promise of a lent buffer. Assumes nothing.
+-- What the writer's functions promise of a lent buffer.
 use Prim.Native.Nat.{ℕ, zero, suc, _+_, _/_, _%_}
 use mathlib.Core.Path.{_≡_}
 use mathlib.Core.List.{List, [], _∷_, _++_}

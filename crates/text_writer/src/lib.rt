@@ -1,4 +1,5 @@
-// The writer of tab-separated records, beside the reader `records`: no leading zeros, room for just the text is enough, and the bytes behind the text are kept.
+// Writes tab-separated records, beside the reader `text_reader`: without leading zeros, into room for just the text; the bytes
+// behind it are kept.
 ghost use mathlib.Core.Path.{_≡_};
 ghost use Prim.Native.Nat.{ℕ, _+_, _*_, _≤_};
 ghost use mathlib.Core.List.{[], _∷_};

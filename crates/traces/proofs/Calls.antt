@@ -1,4 +1,4 @@
--- What a call gives, one law for each way through it. Assumes nothing.
+-- What a call gives, one law for each way through it.
 use Rattle.base_laws.proofs.Kit.{_≡_, refl, _∙_, sym, Bool, true, false, not, _&&_, List, arith, not-true, not-false, eqb-true, leb, length, ℕ}
 use lib.Ieee.{Float}
 use Rattle.base_search.specs.declared.Verdict.{Verdict}

@@ -1,4 +1,4 @@
--- Worked steps, by computation. Assumes nothing.
+-- Worked steps, by computation.
 use Rattle.base_laws.proofs.Kit.{ℕ, _≡_, refl, false, List, [], _∷_}
 use lib.IntN.{pos}
 use lib.Ieee.{Float, nan, inf, binary64, ofInt, ofBits, neg, lt, le, add, sub}

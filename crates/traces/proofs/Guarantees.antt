@@ -1,4 +1,4 @@
--- A step that is not refused keeps what `Keeps` says. Assumes nothing.
+-- A step that is not refused keeps what `Keeps` says.
 use Rattle.base_laws.proofs.Kit.{ℕ, zero, suc, _*_, _<_, _≡_, refl, true, false, _&&_, List, arith, eqb-true, leb, length, getD}
 use lib.Ieee.{Float, nan, binary64, add, sub, round, isNan}
 use lib.Ieee.Scale.{finite}

@@ -1,4 +1,4 @@
--- Where one vehicle ends: its target is at most each obstacle. Assumes nothing.
+-- Where one vehicle ends: its target is at most each obstacle.
 use Rattle.base_laws.proofs.Kit.{ℕ, zero, suc, _<_, _≡_, refl, Bool, true, false, cond, _⊎_, inl, inr, List, eq-or-lt-of-le, le-of-suc-le-suc, arith, length, getD}
 use lib.Ieee.{Float, nan, binary64, add, sub, lt, le, isNan}
 use lib.Ieee.Scale.{finite}

@@ -1,4 +1,4 @@
--- One law for each way through the code of a step. Assumes nothing.
+-- One law for each way through the code of a step.
 use Rattle.base_laws.proofs.Kit.{ℕ, _+_, _≤_, _<_, _≡_, refl, _∙_, ap, true, false, List, add-one, arith, length, getD, set, length-set}
 use lib.Ieee.{Float, nan, binary64, add, sub, lt, le}
 use Rattle.base_laws.specs.Indexed.{list, filled}

@@ -1,4 +1,4 @@
--- Refusal 38: what a valid value is. Assumes nothing.
+-- Refusal 38: what a valid value is.
 use Rattle.base_laws.proofs.Kit.{_≡_, refl, Bool, true, false, _&&_, List}
 use lib.Ieee.{Float, nan, inf, fin, neg, le, ofInt}
 use lib.Ieee.Scale.{finite}

@@ -1,4 +1,4 @@
--- The call `step_vehicles` (T-13): its refusals, its answer, and the places after it. Assumes nothing.
+-- The call `step_vehicles` (T-13): its refusals, its answer, and the places after it.
 use Prim.Native.Nat.{ℕ}
 use mathlib.Core.Bool.{Bool, _&&_, not}
 use mathlib.Core.List.{List, [], _∷_}

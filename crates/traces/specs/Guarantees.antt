@@ -1,4 +1,4 @@
--- What a step keeps (T-13), a field for each sentence, in the words of the call alone. Assumes nothing.
+-- What a step keeps (T-13), a field for each sentence, in the words of the call alone.
 use Prim.Native.Nat.{ℕ, suc, _<_}
 use mathlib.Core.Path.{_≡_}
 use mathlib.Core.Bool.{true}

@@ -1,5 +1,5 @@
 -- A step of vehicles along a street (T-13). A value is a 64-bit float: `add binary64` and `sub binary64` are the exact sum and difference, rounded once.
--- Vehicles and lines are counted from 0; the first vehicle leads. Assumes nothing.
+-- Vehicles and lines are counted from 0; the first vehicle leads.
 use Prim.Native.Nat.{ℕ, zero, suc}
 use mathlib.Core.Bool.{cond}
 use mathlib.Core.List.{List}

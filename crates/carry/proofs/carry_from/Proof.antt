@@ -1,4 +1,4 @@
--- `carry::carry_from` meets its contract: one law for each way out. Assumes nothing.
+-- `carry::carry_from` meets its contract: one law for each way out.
 use Rattle.base_laws.proofs.Kit.{_+_, _*_, _≤_, mul-le-mul-right, arith, needs}
 use Rattle.carry.proofs.Carrying.{too-early, too-late, ledger-short, asked}
 use Rattle.carry.proofs.carry_from.Statement.{statement}

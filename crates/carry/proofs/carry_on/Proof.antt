@@ -1,4 +1,4 @@
--- `carry::carry_on` meets its contract. Assumes nothing.
+-- `carry::carry_on` meets its contract.
 use Rattle.base_laws.proofs.Kit.{refl, needs}
 use Rattle.network.proofs.Rooms.{zero-rooms}
 use Rattle.carry.proofs.Carrying.{network-refused, promised}

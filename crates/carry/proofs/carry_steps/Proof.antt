@@ -1,4 +1,4 @@
--- `carry::carry_steps` meets its contract: one law for each way out. Assumes nothing.
+-- `carry::carry_steps` meets its contract: one law for each way out.
 use Rattle.base_laws.proofs.Kit.{sym, _∙_, arith, needs}
 use Rattle.carry.proofs.Carrying.{not-true, not-false, steps-asked, step-refused, more-lines, write-asked, carried-told}
 use Rattle.carry.proofs.carry_steps.Statement.{statement}

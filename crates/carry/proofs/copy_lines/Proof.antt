@@ -1,4 +1,4 @@
--- `carry::copy_lines` meets its contract. Assumes nothing.
+-- `carry::copy_lines` meets its contract.
 use Rattle.base_laws.proofs.Kit.{arith, _-_, needs}
 use Rattle.carry.proofs.Reading.{CopiedTo, copied-none, copied-part, copied-asked, copied-next, copied-all}
 use Rattle.carry.proofs.copy_lines.Statement.{statement}

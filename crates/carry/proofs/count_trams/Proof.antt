@@ -1,4 +1,4 @@
--- `carry::count_trams` meets its contract. Assumes nothing.
+-- `carry::count_trams` meets its contract.
 use Rattle.base_laws.proofs.Kit.{_-_, needs}
 use Rattle.carry.proofs.Trams.{CountedTo, counted-none, tram-size, counted-next, counted-all}
 use Rattle.carry.proofs.count_trams.Statement.{statement}

@@ -1,4 +1,4 @@
--- `carry::fill_volumes` meets its contract. Assumes nothing.
+-- `carry::fill_volumes` meets its contract.
 use Rattle.base_laws.proofs.Kit.{length-set, _-_, needs}
 use Rattle.carry.proofs.Filling.{VolumesTo, volumes-none, held-before, held-after, entered-rises, left-rises, volumes-next, volumes-all}
 use Rattle.carry.proofs.fill_volumes.Statement.{statement}

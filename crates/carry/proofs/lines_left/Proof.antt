@@ -1,4 +1,4 @@
--- `carry::lines_left` meets its contract. Assumes nothing.
+-- `carry::lines_left` meets its contract.
 use Rattle.carry.proofs.Trams.{one-left, none-left}
 use borrow.Author.Needs.{needs}
 use Rattle.carry.proofs.lines_left.Statement.{statement}

@@ -1,4 +1,4 @@
--- `carry::put_counts` meets its contract. Assumes nothing.
+-- `carry::put_counts` meets its contract.
 use Rattle.carry.proofs.Lines.{counts-put}
 use borrow.Author.Needs.{needs}
 use Rattle.carry.proofs.put_counts.Statement.{statement}

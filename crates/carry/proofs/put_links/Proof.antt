@@ -1,4 +1,4 @@
--- `carry::put_links` meets its contract. Assumes nothing.
+-- `carry::put_links` meets its contract.
 use Rattle.base_laws.proofs.Kit.{refl, arith, _-_, needs}
 use Rattle.carry.proofs.Lines.{links-next}
 use Rattle.carry.specs.Rows.{linkRow}

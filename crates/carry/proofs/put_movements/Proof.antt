@@ -1,4 +1,4 @@
--- `carry::put_movements` meets its contract. Assumes nothing.
+-- `carry::put_movements` meets its contract.
 use Rattle.base_laws.proofs.Kit.{arith, _-_, needs}
 use Rattle.carry.proofs.Lines.{movements-next}
 use Rattle.carry.specs.Rows.{movementRow}

@@ -1,4 +1,4 @@
--- `carry::put_network` meets its contract. Assumes nothing.
+-- `carry::put_network` meets its contract.
 use Rattle.carry.proofs.Whole.{trams-asked, counts-asked, trams-ready, signals-ready, links-ready, movements-ready, past-ready, steps-ready, rest-ready, all-size, all-put}
 use native.Mathlib.Omega.{arith}
 use Rattle.carry.proofs.put_network.Statement.{statement}

@@ -1,4 +1,4 @@
--- `carry::put_signals` meets its contract. Assumes nothing.
+-- `carry::put_signals` meets its contract.
 use Rattle.base_laws.proofs.Kit.{_-_, arith, needs}
 use Rattle.model.specs.Table.{letterG}
 use Rattle.network_tables.specs.Fields.{tableSignal}

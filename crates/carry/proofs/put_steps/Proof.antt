@@ -1,4 +1,4 @@
--- `carry::put_steps` meets its contract. Assumes nothing.
+-- `carry::put_steps` meets its contract.
 use Rattle.base_laws.proofs.Kit.{arith, _-_, needs}
 use Rattle.carry.proofs.Reading.{StepsTo, steps-none, volumes-asked, steps-part, steps-asked, steps-next, steps-all}
 use Rattle.carry.proofs.put_steps.Statement.{statement}

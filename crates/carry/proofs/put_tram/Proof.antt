@@ -1,4 +1,4 @@
--- `carry::put_tram` meets its contract. Assumes nothing.
+-- `carry::put_tram` meets its contract.
 use Rattle.carry.proofs.Trams.{none-put, one-put}
 use borrow.Author.Needs.{needs}
 use Rattle.carry.proofs.put_tram.Statement.{statement}

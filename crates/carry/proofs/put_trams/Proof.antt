@@ -1,4 +1,4 @@
--- `carry::put_trams` meets its contract. Assumes nothing.
+-- `carry::put_trams` meets its contract.
 use Rattle.carry.proofs.Trams.{TramsPut, trams-none, tram-size, tram-early, trams-next, trams-all}
 use Rattle.base_laws.proofs.Kit.{_-_, needs}
 use Rattle.carry.proofs.put_trams.Statement.{statement}

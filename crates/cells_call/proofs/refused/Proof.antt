@@ -1,4 +1,4 @@
--- `cells_call::refused` meets its contract. Assumes nothing.
+-- `cells_call::refused` meets its contract.
 use Rattle.base_laws.specs.Indexed.{list}
 use Rattle.cells_call.specs.Call.{padded}
 use borrow.Author.Needs.{needs}

@@ -1,4 +1,4 @@
--- `cells_call::run_cells` meets its contract. Assumes nothing.
+-- `cells_call::run_cells` meets its contract.
 use Rattle.base_laws.specs.Indexed.{list}
 use Rattle.cells_call.proofs.Calls.{part-length, few-cells, cells-fit, steps-fit, loaded-ready, loaded-steps, promised, run-refused, run-loaded}
 use borrow.Author.Needs.{needs}

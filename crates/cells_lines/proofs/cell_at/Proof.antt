@@ -1,4 +1,4 @@
--- `cells_lines::cell_at` meets its contract. Assumes nothing.
+-- `cells_lines::cell_at` meets its contract.
 use Rattle.cells_lines.proofs.Lines.{cell-malformed, cell-beyond, cell-above, cell-passed}
 use borrow.Author.Needs.{needs}
 use Rattle.cells_lines.proofs.cell_at.Statement.{statement}

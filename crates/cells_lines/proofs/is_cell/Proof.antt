@@ -1,4 +1,4 @@
--- `cells_lines::is_cell` meets its contract. Assumes nothing.
+-- `cells_lines::is_cell` meets its contract.
 use Rattle.cells_lines.proofs.Lines.{head-none}
 use borrow.Author.Needs.{needs}
 use Rattle.cells_lines.proofs.is_cell.Statement.{statement}

@@ -1,4 +1,4 @@
--- `cells_lines::load_corridor` meets its contract. Assumes nothing.
+-- `cells_lines::load_corridor` meets its contract.
 use Rattle.cells_lines.proofs.Load.{corridor-stopped, corridor-asked, corridor-read}
 use borrow.Author.Needs.{needs}
 use Rattle.cells_lines.proofs.load_corridor.Statement.{statement}

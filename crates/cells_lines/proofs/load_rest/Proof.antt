@@ -1,4 +1,4 @@
--- `cells_lines::load_rest` meets its contract. Assumes nothing.
+-- `cells_lines::load_rest` meets its contract.
 use Rattle.cells_lines.proofs.Load.{rest-no-cells, rest-no-exit, rest-asked, rest-refused, rest-loaded}
 use borrow.Author.Needs.{needs}
 use Rattle.cells_lines.proofs.load_rest.Statement.{statement}

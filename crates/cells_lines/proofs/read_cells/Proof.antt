@@ -1,4 +1,4 @@
--- `cells_lines::read_cells` meets its contract. The measure: the 65th line is the last that is looked at. Assumes nothing.
+-- `cells_lines::read_cells` meets its contract. The measure: the 65th line is the last that is looked at.
 use Rattle.base_laws.proofs.Kit.{_-_, needs}
 use Rattle.cells_lines.proofs.Cells.{CellsReading, cells-none, cells-all, cells-too-many, cells-refused, cells-more}
 use Rattle.cells_lines.proofs.read_cells.Statement.{statement}

@@ -1,4 +1,4 @@
--- `cells_lines::read_demands` meets its contract. The measure: the 121st line is the last that is looked at. Assumes nothing.
+-- `cells_lines::read_demands` meets its contract. The measure: the 121st line is the last that is looked at.
 use Rattle.base_laws.proofs.Kit.{_-_, needs}
 use Rattle.cells_lines.proofs.Demands.{DemandsReading, demands-none, demands-too-many, demands-malformed, demands-more, demands-empty, demands-all}
 use Rattle.cells_lines.proofs.read_demands.Statement.{statement}

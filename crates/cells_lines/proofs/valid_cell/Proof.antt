@@ -1,4 +1,4 @@
--- `cells_lines::valid_cell` meets its contract. Assumes nothing.
+-- `cells_lines::valid_cell` meets its contract.
 use Rattle.cells_lines.specs.Corridor.{validCell}
 use borrow.Author.Needs.{needs}
 use Rattle.cells_lines.proofs.valid_cell.Statement.{statement}

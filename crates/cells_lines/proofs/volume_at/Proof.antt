@@ -1,4 +1,4 @@
--- `cells_lines::volume_at` meets its contract. Assumes nothing.
+-- `cells_lines::volume_at` meets its contract.
 use Rattle.cells_lines.proofs.Lines.{volume-malformed, volume-beyond, volume-passed}
 use borrow.Author.Needs.{needs}
 use Rattle.cells_lines.proofs.volume_at.Statement.{statement}

@@ -1,4 +1,4 @@
--- `cells_steps::flow_from` meets its contract. Assumes nothing.
+-- `cells_steps::flow_from` meets its contract.
 use Rattle.cells_steps.proofs.Turns.{is-held, is-slow, flows-on, flows-less, flows-out-of}
 use borrow.Author.Needs.{needs}
 use Rattle.cells_steps.proofs.flow_from.Statement.{statement}

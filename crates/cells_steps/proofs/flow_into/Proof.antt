@@ -1,4 +1,4 @@
--- `cells_steps::flow_into` meets its contract. Assumes nothing.
+-- `cells_steps::flow_into` meets its contract.
 use Rattle.cells_steps.specs.Steps.{inflow}
 use borrow.Author.Needs.{needs}
 use Rattle.cells_steps.proofs.flow_into.Statement.{statement}

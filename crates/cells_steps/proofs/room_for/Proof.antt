@@ -1,4 +1,4 @@
--- `cells_steps::room_for` meets its contract. Assumes nothing.
+-- `cells_steps::room_for` meets its contract.
 use Rattle.base_laws.proofs.Kit.{_-_, arith, needs}
 use Rattle.cells_steps.proofs.Flows.{scaled}
 use Rattle.cells_steps.proofs.room_for.Statement.{statement}

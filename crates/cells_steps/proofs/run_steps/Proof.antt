@@ -1,4 +1,4 @@
--- `cells_steps::run_steps` meets its contract. The measure is how many demands are left. Assumes nothing.
+-- `cells_steps::run_steps` meets its contract. The measure is how many demands are left.
 use Rattle.base_laws.proofs.Kit.{_-_, length, needs}
 use Rattle.cells_steps.specs.Steps.{chainOf}
 use Rattle.cells_steps.proofs.Turns.{Running, running-none, running-ready, running-more, running-done}

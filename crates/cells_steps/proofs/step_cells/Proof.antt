@@ -1,4 +1,4 @@
--- `cells_steps::step_cells` meets its contract. The measure is how many cells are left. Assumes nothing.
+-- `cells_steps::step_cells` meets its contract. The measure is how many cells are left.
 use Rattle.base_laws.proofs.Kit.{_-_, length, needs}
 use Rattle.cells_steps.specs.Steps.{chainOf}
 use Rattle.cells_steps.proofs.Turns.{is-held, is-slow, Going, going-none, going-fits, going-more, going-done}

@@ -1,4 +1,4 @@
--- `listing_call::has_phase` meets its contract. Assumes nothing.
+-- `listing_call::has_phase` meets its contract.
 use Rattle.base_laws.proofs.Kit.{arith, needs}
 use Rattle.listing_call.proofs.Turns.{phase-none, within-some, phase-is}
 use Rattle.listing_call.proofs.has_phase.Statement.{statement}

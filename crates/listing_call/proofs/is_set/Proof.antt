@@ -1,4 +1,4 @@
--- `listing_call::is_set` meets its contract. Assumes nothing.
+-- `listing_call::is_set` meets its contract.
 use Rattle.listing_call.proofs.Bits.{set-test}
 use borrow.Author.Needs.{needs}
 use Rattle.listing_call.proofs.is_set.Statement.{statement}

@@ -1,4 +1,4 @@
--- `listing_call::is_valid_value` meets its contract. Assumes nothing.
+-- `listing_call::is_valid_value` meets its contract.
 use Rattle.listing_call.proofs.Turns.{valid-shown, valid-admitted, valid-let-out, valid-moved}
 use borrow.Author.Needs.{needs}
 use Rattle.listing_call.proofs.is_valid_value.Statement.{statement}

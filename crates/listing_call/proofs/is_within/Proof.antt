@@ -1,4 +1,4 @@
--- `listing_call::is_within` meets its contract. Assumes nothing.
+-- `listing_call::is_within` meets its contract.
 use Rattle.base_laws.specs.Test.{_and_, within}
 use Rattle.listing_call.proofs.is_within.Statement.{statement}
 use Rattle.listing_call.proofs.is_within.Tie as tie

@@ -1,4 +1,4 @@
--- `listing_call::item_place` meets its contract. Assumes nothing.
+-- `listing_call::item_place` meets its contract.
 use Rattle.base_laws.proofs.Kit.{arith, needs}
 use Rattle.listing_call.proofs.Turns.{within-some, item-none, item-asked, item-is}
 use Rattle.listing_call.proofs.item_place.Statement.{statement}

@@ -1,4 +1,4 @@
--- `listing_call::judge_entry` meets its contract. Assumes nothing.
+-- `listing_call::judge_entry` meets its contract.
 use Rattle.listing_call.proofs.Judge.{judge-none, judge-inside, judge-seconds, judge-short, judge-value, judge-seen, judge-whole, judge-broken}
 use borrow.Author.Needs.{needs}
 use Rattle.listing_call.proofs.judge_entry.Statement.{statement}

@@ -1,4 +1,4 @@
--- `listing_call::number_of` meets its contract. Assumes nothing.
+-- `listing_call::number_of` meets its contract.
 use Rattle.listing_call.proofs.Turns.{number-one, number-zero, number-admitted, number-let-out, number-moved}
 use borrow.Author.Needs.{needs}
 use Rattle.listing_call.proofs.number_of.Statement.{statement}

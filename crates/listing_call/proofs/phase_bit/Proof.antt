@@ -1,4 +1,4 @@
--- `listing_call::phase_bit` meets its contract. Assumes nothing.
+-- `listing_call::phase_bit` meets its contract.
 use Rattle.base_laws.proofs.Kit.{arith, needs}
 use Rattle.listing_call.proofs.Turns.{within-some, phase-bit-none, phase-bit-is}
 use Rattle.listing_call.proofs.phase_bit.Statement.{statement}

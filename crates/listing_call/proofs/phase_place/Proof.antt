@@ -1,4 +1,4 @@
--- `listing_call::phase_place` meets its contract. Assumes nothing.
+-- `listing_call::phase_place` meets its contract.
 use Rattle.base_laws.proofs.Kit.{arith, needs}
 use Rattle.listing_call.proofs.Turns.{phase-place-none, phase-some, phase-asked, phase-place-is}
 use Rattle.listing_call.proofs.phase_place.Statement.{statement}

@@ -1,4 +1,4 @@
--- `listing_call::place_in` meets its contract. Assumes nothing.
+-- `listing_call::place_in` meets its contract.
 use Rattle.base_laws.proofs.Kit.{arith, needs}
 use Rattle.listing_call.proofs.Turns.{place-none, place-at, within-some}
 use Rattle.listing_call.proofs.place_in.Statement.{statement}

@@ -1,4 +1,4 @@
--- `listing_call::place_of` meets its contract. Assumes nothing.
+-- `listing_call::place_of` meets its contract.
 use Rattle.listing_call.proofs.Turns.{of-shown, of-admitted, of-let-out, of-moved}
 use borrow.Author.Needs.{needs}
 use Rattle.listing_call.proofs.place_of.Statement.{statement}

@@ -1,4 +1,4 @@
--- `listing_call::plan_from_listing` meets its contract. Assumes nothing.
+-- `listing_call::plan_from_listing` meets its contract.
 use Rattle.listing_call.proofs.Call.{plan-refused, times-asked, plan-asked, plan-written, padding-too}
 use borrow.Author.Needs.{needs}
 use Rattle.listing_call.proofs.plan_from_listing.Statement.{statement}

@@ -1,4 +1,4 @@
--- `listing_call::power` meets its contract. Assumes nothing.
+-- `listing_call::power` meets its contract.
 use Rattle.listing_call.proofs.Bits.{power-is}
 use borrow.Author.Needs.{needs}
 use Rattle.listing_call.proofs.power.Statement.{statement}

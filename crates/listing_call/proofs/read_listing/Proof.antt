@@ -1,4 +1,4 @@
--- `listing_call::read_listing` meets its contract. Assumes nothing.
+-- `listing_call::read_listing` meets its contract.
 use Rattle.base_laws.proofs.Kit.{_-_, arith, length, needs}
 use Rattle.listing_call.proofs.Reading.{Reading, reading-none, reading-done, reading-bad, reading-asked, reading-stop, reading-more, line-forward, store-place, store-fits, store-bit}
 use Rattle.listing_call.proofs.read_listing.Statement.{statement}

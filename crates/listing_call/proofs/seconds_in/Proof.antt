@@ -1,4 +1,4 @@
--- `listing_call::seconds_in` meets its contract. Assumes nothing.
+-- `listing_call::seconds_in` meets its contract.
 use Rattle.listing_call.specs.Tables.{secondsIn}
 use borrow.Author.Needs.{needs}
 use Rattle.listing_call.proofs.seconds_in.Statement.{statement}

@@ -1,4 +1,4 @@
--- `listing_call::set_bit` meets its contract. Assumes nothing.
+-- `listing_call::set_bit` meets its contract.
 use Rattle.base_laws.proofs.Kit.{_/_, arith, needs}
 use Rattle.listing_call.proofs.Bits.{set-is, set-fits}
 use Rattle.listing_call.proofs.set_bit.Statement.{statement}

@@ -1,4 +1,4 @@
--- `listing_call::volume_of` meets its contract. Assumes nothing.
+-- `listing_call::volume_of` meets its contract.
 use Rattle.base_laws.proofs.Kit.{arith, needs}
 use Rattle.listing_call.proofs.Turns.{product-fits, volume-broken, volume-big, volume-whole}
 use Rattle.listing_call.proofs.volume_of.Statement.{statement}

@@ -1,4 +1,4 @@
--- `listing_call::write_listing` meets its contract. Assumes nothing.
+-- `listing_call::write_listing` meets its contract.
 use Rattle.listing_call.proofs.Call.{empty-asked, write-kept, write-passed, write-stopped}
 use Rattle.base_laws.proofs.Kit.{refl, needs}
 use Rattle.listing_call.specs.Tables.{numberTableSize, seenSize}

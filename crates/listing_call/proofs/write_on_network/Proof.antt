@@ -1,4 +1,4 @@
--- `listing_call::write_on_network` meets its contract. Assumes nothing.
+-- `listing_call::write_on_network` meets its contract.
 use Rattle.listing_call.proofs.Call.{signals-asked, signals-stopped, tables-asked, network-written}
 use Rattle.base_laws.proofs.Kit.{refl, needs}
 use Rattle.listing_call.proofs.write_on_network.Statement.{statement}

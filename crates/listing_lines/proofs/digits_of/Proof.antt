@@ -1,4 +1,4 @@
--- `listing_lines::digits_of` meets its contract. Assumes nothing.
+-- `listing_lines::digits_of` meets its contract.
 use Rattle.base_laws.proofs.Kit.{_-_, length, needs}
 use Rattle.listing_lines.proofs.Laws.{Said, digits-none, digits-long, said-none, said-not, said-small, digit-low, said-more, said-all}
 use Rattle.listing_lines.proofs.digits_of.Statement.{statement}

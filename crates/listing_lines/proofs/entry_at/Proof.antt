@@ -1,4 +1,4 @@
--- `listing_lines::entry_at` meets its contract. Assumes nothing.
+-- `listing_lines::entry_at` meets its contract.
 use Rattle.listing_lines.proofs.Lines.{read-past, read-cut, read-sets, read-bad}
 use borrow.Author.Needs.{needs}
 use Rattle.listing_lines.proofs.entry_at.Statement.{statement}

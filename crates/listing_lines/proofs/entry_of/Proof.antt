@@ -1,4 +1,4 @@
--- `listing_lines::entry_of` meets its contract. Assumes nothing.
+-- `listing_lines::entry_of` meets its contract.
 use Rattle.listing_lines.proofs.Turns.{part-size, entry-none, entry-name, entry-sets, entry-rate}
 use borrow.Author.Needs.{needs}
 use Rattle.listing_lines.proofs.entry_of.Statement.{statement}

@@ -1,4 +1,4 @@
--- `listing_lines::find` meets its contract. Assumes nothing.
+-- `listing_lines::find` meets its contract.
 use Rattle.base_laws.proofs.Kit.{_-_, length, needs}
 use Rattle.listing_lines.proofs.Laws.{Finding, find-none, find-hit, find-more, find-past}
 use Rattle.listing_lines.proofs.find.Statement.{statement}

@@ -1,4 +1,4 @@
--- `listing_lines::fraction_of` meets its contract. Assumes nothing.
+-- `listing_lines::fraction_of` meets its contract.
 use Rattle.base_laws.proofs.Kit.{arith, needs}
 use Rattle.listing_lines.proofs.Turns.{fraction-none, fraction-is, fraction-fits}
 use Rattle.listing_lines.proofs.fraction_of.Statement.{statement}

@@ -1,4 +1,4 @@
--- `listing_lines::index_of` meets its contract. Assumes nothing.
+-- `listing_lines::index_of` meets its contract.
 use Rattle.listing_lines.proofs.Turns.{index-zero, index-is}
 use borrow.Author.Needs.{needs}
 use Rattle.listing_lines.proofs.index_of.Statement.{statement}

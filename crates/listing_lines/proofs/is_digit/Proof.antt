@@ -1,4 +1,4 @@
--- `listing_lines::is_digit` meets its contract. Assumes nothing.
+-- `listing_lines::is_digit` meets its contract.
 use Rattle.text_reader.specs.Field.{digit}
 use borrow.Author.Tests.{le-leb, lt-leb}
 use Rattle.listing_lines.proofs.is_digit.Statement.{statement}

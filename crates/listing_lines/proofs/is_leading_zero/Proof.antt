@@ -1,4 +1,4 @@
--- `listing_lines::is_leading_zero` meets its contract. Assumes nothing.
+-- `listing_lines::is_leading_zero` meets its contract.
 use Rattle.listing_lines.proofs.Laws.{zero-short, zero-first}
 use borrow.Author.Needs.{needs}
 use Rattle.listing_lines.proofs.is_leading_zero.Statement.{statement}

@@ -1,4 +1,4 @@
--- `listing_lines::pair_of` meets its contract. Assumes nothing.
+-- `listing_lines::pair_of` meets its contract.
 use Rattle.listing_lines.proofs.Turns.{part-size, pair-none, pair-bad, pair-both, pair-second}
 use borrow.Author.Needs.{needs}
 use Rattle.listing_lines.proofs.pair_of.Statement.{statement}

@@ -1,4 +1,4 @@
--- `listing_lines::phase_in` meets its contract. Assumes nothing.
+-- `listing_lines::phase_in` meets its contract.
 use Rattle.listing_lines.proofs.Turns.{part-size, phase-none, phase-bad, phase-known, phase-second}
 use borrow.Author.Needs.{needs}
 use Rattle.listing_lines.proofs.phase_in.Statement.{statement}

@@ -1,4 +1,4 @@
--- `listing_lines::rate_of` meets its contract. Assumes nothing.
+-- `listing_lines::rate_of` meets its contract.
 use Rattle.base_laws.proofs.Kit.{arith, needs}
 use Rattle.listing_lines.proofs.Turns.{fraction-small, ten-small, part-size, rate-bad, rate-whole, rate-part, rate-part-bad}
 use Rattle.listing_lines.proofs.rate_of.Statement.{statement}

@@ -1,4 +1,4 @@
--- `listing_lines::variable_in` meets its contract. Assumes nothing.
+-- `listing_lines::variable_in` meets its contract.
 use Rattle.listing_lines.proofs.Turns.{in-phase, in-bad, in-admitted, in-let-out, in-moved, in-none}
 use borrow.Author.Needs.{needs}
 use Rattle.listing_lines.proofs.variable_in.Statement.{statement}

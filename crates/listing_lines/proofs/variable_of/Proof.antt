@@ -1,4 +1,4 @@
--- `listing_lines::variable_of` meets its contract. Assumes nothing.
+-- `listing_lines::variable_of` meets its contract.
 use Rattle.listing_lines.proofs.Turns.{of-letter, of-short, of-rest}
 use borrow.Author.Needs.{needs}
 use Rattle.listing_lines.proofs.variable_of.Statement.{statement}

@@ -1,4 +1,4 @@
--- `network::check_end` meets its contract. Assumes nothing.
+-- `network::check_end` meets its contract.
 use borrow.Author.Needs.{needs}
 use Rattle.network.proofs.End.{text-ended, surplus-line}
 use Rattle.network.proofs.check_end.Statement.{statement}

@@ -1,4 +1,4 @@
--- `network::check_network` meets its contract. Assumes nothing.
+-- `network::check_network` meets its contract.
 use borrow.Author.Needs.{needs}
 use Rattle.network.proofs.Chain.{answer-passes, answer-refused}
 use Rattle.network.proofs.check_network.Statement.{statement}

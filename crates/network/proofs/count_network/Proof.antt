@@ -1,4 +1,4 @@
--- `network::count_network` meets its contract. Assumes nothing.
+-- `network::count_network` meets its contract.
 use borrow.Author.Needs.{needs}
 use Rattle.network.proofs.Counting.{few, counted-told, refused-told}
 use Rattle.network.proofs.count_network.Statement.{statement}

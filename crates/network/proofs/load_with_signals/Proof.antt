@@ -1,4 +1,4 @@
--- `network::load_with_signals` meets its contract. Assumes nothing.
+-- `network::load_with_signals` meets its contract.
 use borrow.Author.Needs.{needs}
 use Rattle.network.proofs.Chain.{counts-stop, signals-asked, signals-stop, links-asked, links-stop, movements-asked, movements-stop, shares-ready, shares-stop, timeline-asked, network-judged}
 use Rattle.network.proofs.load_with_signals.Statement.{statement}

@@ -1,4 +1,4 @@
--- `network::read_timeline` meets its contract. Assumes nothing.
+-- `network::read_timeline` meets its contract.
 use Rattle.base_laws.proofs.Kit.{arith, needs}
 use Rattle.network.proofs.Timeline.{forms-asked, forms-stop, steps-asked, steps-stop, end-asked, end-stop, past-asked, timeline-judged}
 use Rattle.network.proofs.read_timeline.Statement.{statement}

@@ -1,4 +1,4 @@
--- `network::read_trams_and_signals` meets its contract. Assumes nothing.
+-- `network::read_trams_and_signals` meets its contract.
 use borrow.Author.Needs.{needs}
 use Rattle.network.proofs.First.{trams-asked, trams-stop, signals-asked, signals-stop, tram-phases-asked, first-judged}
 use Rattle.network.proofs.read_trams_and_signals.Statement.{statement}

@@ -1,4 +1,4 @@
--- `network_links::check_shares` meets its contract. Assumes nothing.
+-- `network_links::check_shares` meets its contract.
 use Rattle.base_laws.proofs.Kit.{_-_, refl, needs}
 use Rattle.network_tables.specs.Blocks.{PassedTo}
 use Rattle.network_tables.proofs.Blocks.{passed-none}

@@ -1,4 +1,4 @@
--- `network_links::last_movement` meets its contract. Assumes nothing.
+-- `network_links::last_movement` meets its contract.
 use Rattle.base_laws.proofs.Kit.{_-_, _≤_, ⊎-elim, _≡_, refl, needs}
 use Rattle.network_links.specs.Movements.{lastMovementIn}
 use Rattle.network_links.proofs.Movements.{last-here, last-other, last-all}

@@ -1,4 +1,4 @@
--- `network_links::pair_rises` meets its contract. Assumes nothing.
+-- `network_links::pair_rises` meets its contract.
 use borrow.Author.Needs.{needs}
 use Rattle.network_links.proofs.Movements.{pair-first, pair-later}
 use Rattle.network_links.proofs.pair_rises.Statement.{statement}

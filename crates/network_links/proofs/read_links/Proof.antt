@@ -1,4 +1,4 @@
--- `network_links::read_links` meets its contract. Assumes nothing.
+-- `network_links::read_links` meets its contract.
 use Rattle.base_laws.proofs.Kit.{_-_, needs}
 use Rattle.text_reader.specs.Lines.{lines}
 use Rattle.network_tables.specs.Fields.{linkFields, linkTableSize}

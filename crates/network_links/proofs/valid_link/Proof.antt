@@ -1,4 +1,4 @@
--- `network_links::valid_link` meets its contract. Assumes nothing.
+-- `network_links::valid_link` meets its contract.
 use borrow.Author.Needs.{needs}
 use Rattle.network_links.proofs.Links.{fewer-known, link-above, link-within}
 use Rattle.network_links.proofs.valid_link.Statement.{statement}

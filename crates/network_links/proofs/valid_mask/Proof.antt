@@ -1,4 +1,4 @@
--- `network_links::valid_mask` meets its contract. Assumes nothing.
+-- `network_links::valid_mask` meets its contract.
 use Rattle.base_laws.proofs.Kit.{_-_, arith, needs}
 use Rattle.network_links.proofs.Links.{mask-none, mask-some}
 use Rattle.network_links.proofs.valid_mask.Statement.{statement}

@@ -1,4 +1,4 @@
--- `network_links::valid_movement` meets its contract. Assumes nothing.
+-- `network_links::valid_movement` meets its contract.
 use borrow.Author.Needs.{needs}
 use Rattle.network_links.proofs.Movements.{movement-tested}
 use Rattle.network_links.proofs.valid_movement.Statement.{statement}

@@ -1,4 +1,4 @@
--- `network_past::check_past` meets its contract. Assumes nothing.
+-- `network_past::check_past` meets its contract.
 use Rattle.network_past.proofs.End.{untimed, past-asked, overflow, links-asked, link-bad, past-good}
 use borrow.Author.Needs.{needs}
 use Rattle.network_past.proofs.check_past.Statement.{statement}

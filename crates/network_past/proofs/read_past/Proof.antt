@@ -1,4 +1,4 @@
--- `network_past::read_past` meets its contract. The invariant: m lines have passed, and are timed as long as their lengths are valid. Assumes nothing.
+-- `network_past::read_past` meets its contract. The invariant: m lines have passed, and are timed as long as their lengths are valid.
 use Rattle.base_laws.proofs.Kit.{_-_, refl, needs}
 use Rattle.network_past.proofs.Forms.{FormsTo, forms-begin, forms-malformed, time-asked, forms-next, forms-done}
 use Rattle.network_past.proofs.read_past.Statement.{statement}

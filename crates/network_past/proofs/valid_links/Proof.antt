@@ -1,4 +1,4 @@
--- `network_past::valid_links` meets its contract. The invariant: whether the first i links are valid. Assumes nothing.
+-- `network_past::valid_links` meets its contract. The invariant: whether the first i links are valid.
 use Rattle.base_laws.proofs.Kit.{_-_, _≤_, _≡_, needs}
 use Rattle.base_laws.specs.Test.{_and_}
 use Rattle.network_past.specs.Past.{validLinksIn}

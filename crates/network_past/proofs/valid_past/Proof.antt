@@ -1,4 +1,4 @@
--- `network_past::valid_past` meets its contract. Assumes nothing.
+-- `network_past::valid_past` meets its contract.
 use Rattle.base_laws.proofs.Kit.{refl, needs}
 use Rattle.base_laws.specs.Test.{_and_}
 use Rattle.network_past.specs.Past.{validPastIn}

@@ -1,4 +1,4 @@
--- `network_signals::counts_from` meets its contract. Assumes nothing.
+-- `network_signals::counts_from` meets its contract.
 use borrow.Author.Needs.{needs}
 use Rattle.network_signals.proofs.counts_from.Statement.{statement}
 use Rattle.network_signals.proofs.counts_from.Tie as tie

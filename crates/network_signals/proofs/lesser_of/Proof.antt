@@ -1,4 +1,4 @@
--- `network_signals::lesser_of` meets its contract. Each return by its test. Assumes nothing.
+-- `network_signals::lesser_of` meets its contract. Each return by its test.
 use borrow.Author.Tests.{lt-ltb, le-ltb}
 use Rattle.network_signals.proofs.lesser_of.Statement.{statement}
 use Rattle.network_signals.proofs.lesser_of.Tie as tie

@@ -1,4 +1,4 @@
--- `network_signals::load_signals` meets its contract. Assumes nothing.
+-- `network_signals::load_signals` meets its contract.
 use Rattle.base_laws.proofs.Kit.{_-_, arith, needs}
 use Rattle.network_signals.proofs.Loops.{LoadedTo, loaded-none, loaded-asked, loaded-stop, loaded-next, loaded-all}
 use Rattle.network_signals.proofs.load_signals.Statement.{statement}

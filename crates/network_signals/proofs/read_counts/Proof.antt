@@ -1,4 +1,4 @@
--- `network_signals::read_counts` meets its contract. Assumes nothing.
+-- `network_signals::read_counts` meets its contract.
 use borrow.Author.Needs.{needs}
 use Rattle.network_signals.proofs.Counts.{counts-malformed, counts-invalid, counts-passed}
 use Rattle.network_signals.proofs.read_counts.Statement.{statement}

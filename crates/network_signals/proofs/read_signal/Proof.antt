@@ -1,4 +1,4 @@
--- `network_signals::read_signal` meets its contract. Assumes nothing.
+-- `network_signals::read_signal` meets its contract.
 use Rattle.base_laws.proofs.Kit.{arith, needs}
 use Rattle.network_signals.proofs.Lines.{stop-head, stop-phases, whole-fits, stop-form, few-phases, stop-values, pass-line}
 use Rattle.network_signals.proofs.read_signal.Statement.{statement}

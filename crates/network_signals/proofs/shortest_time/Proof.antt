@@ -1,5 +1,5 @@
 -- `network_signals::shortest_time` meets its contract. The loop's invariant: `shortest` is the least of `so_far` and the
--- greatest times of the first k phases. Assumes nothing.
+-- greatest times of the first k phases.
 use Rattle.base_laws.proofs.Kit.{_≤_, _-_, _≡_, refl, arith, needs}
 use Rattle.network_signals.specs.Signals.{shortestTime}
 use Rattle.network_signals.proofs.Values.{shortest-more}

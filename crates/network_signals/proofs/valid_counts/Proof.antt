@@ -1,4 +1,4 @@
--- `network_signals::valid_counts` meets its contract. Assumes nothing.
+-- `network_signals::valid_counts` meets its contract.
 use mathlib.Core.Path.{refl}
 use Rattle.base_laws.specs.Test.{_and_, within}
 use Rattle.network_signals.specs.Counts.{validCountsIn}

@@ -1,4 +1,4 @@
--- `network_signals::valid_signal` meets its contract. Each return by where the shown phase stands. Assumes nothing.
+-- `network_signals::valid_signal` meets its contract. Each return by where the shown phase stands.
 use Rattle.base_laws.proofs.Kit.{sym, arith, needs}
 use Rattle.network_signals.proofs.Values.{shown-below, shown-above, shown-within}
 use Rattle.network_signals.proofs.valid_signal.Statement.{statement}

@@ -1,4 +1,4 @@
--- `network_signals::valid_time` meets its contract. The times of one phase are tested as they are defined. Assumes nothing.
+-- `network_signals::valid_time` meets its contract. The times of one phase are tested as they are defined.
 use borrow.Author.Needs.{needs}
 use Rattle.base_laws.specs.Test.{_and_, within}
 use Rattle.network_signals.specs.Signals.{validTime}

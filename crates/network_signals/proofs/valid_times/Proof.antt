@@ -1,4 +1,4 @@
--- `network_signals::valid_times` meets its contract. The loop's invariant: the times of the first k phases are tested. Assumes nothing.
+-- `network_signals::valid_times` meets its contract. The loop's invariant: the times of the first k phases are tested.
 use Rattle.base_laws.proofs.Kit.{_≤_, _-_, _≡_, refl, arith, needs}
 use Rattle.base_laws.specs.Test.{every}
 use Rattle.network_signals.specs.Signals.{validTimes}

@@ -1,4 +1,4 @@
--- `network_steps::load_step` meets its contract. Assumes nothing.
+-- `network_steps::load_step` meets its contract.
 use borrow.Author.Needs.{needs}
 use Rattle.network_steps.proofs.Steps.{load-next, load-never}
 use Rattle.network_steps.proofs.load_step.Statement.{statement}

@@ -1,4 +1,4 @@
--- `network_steps::read_steps` meets its contract. The invariant: n lines have passed, and their times and demands are reckoned. Assumes nothing.
+-- `network_steps::read_steps` meets its contract. The invariant: n lines have passed, and their times and demands are reckoned.
 use Rattle.base_laws.proofs.Kit.{_-_, refl, needs}
 use Rattle.network_steps.proofs.Steps.{StepsTo, steps-begin, steps-malformed, steps-invalid, time-asked, add-asked, steps-next, steps-done}
 use Rattle.network_steps.proofs.read_steps.Statement.{statement}

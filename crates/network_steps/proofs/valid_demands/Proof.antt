@@ -1,4 +1,4 @@
--- `network_steps::valid_demands` meets its contract. Assumes nothing.
+-- `network_steps::valid_demands` meets its contract.
 use Rattle.base_laws.proofs.Kit.{_-_, _≤_, _≡_, true, needs}
 use Rattle.network_steps.specs.Steps.{validDemandsIn}
 use Rattle.network_steps.proofs.Values.{demands-none, demands-broken, demands-on, demands-all}

@@ -1,4 +1,4 @@
--- `network_steps::valid_step` meets its contract. Assumes nothing.
+-- `network_steps::valid_step` meets its contract.
 use borrow.Author.Needs.{needs}
 use Rattle.base_laws.specs.Test.{_and_, within}
 use Rattle.network_steps.specs.Steps.{validStepIn}

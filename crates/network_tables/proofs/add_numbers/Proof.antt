@@ -1,4 +1,4 @@
--- `network_tables::add_numbers` meets its contract. The invariant: the first k sums have their numbers. Assumes nothing.
+-- `network_tables::add_numbers` meets its contract. The invariant: the first k sums have their numbers.
 use Rattle.base_laws.proofs.Kit.{_-_, needs}
 use Rattle.network_tables.proofs.Sums.{SummedTo, sums-begin, sums-over, sums-next, sums-done}
 use Rattle.network_tables.proofs.add_numbers.Statement.{statement}

@@ -1,4 +1,4 @@
--- `network_tables::greatest_cycle` meets its contract. Assumes nothing.
+-- `network_tables::greatest_cycle` meets its contract.
 use Rattle.network_tables.specs.Fields.{tableSignal}
 use borrow.Author.Needs.{needs}
 use Rattle.network_tables.proofs.greatest_cycle.Statement.{statement}

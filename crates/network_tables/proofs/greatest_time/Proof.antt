@@ -1,4 +1,4 @@
--- `network_tables::greatest_time` meets its contract. Assumes nothing.
+-- `network_tables::greatest_time` meets its contract.
 use Rattle.network_tables.proofs.Signals.{greatest-time-in}
 use borrow.Author.Needs.{needs}
 use Rattle.network_tables.proofs.greatest_time.Statement.{statement}

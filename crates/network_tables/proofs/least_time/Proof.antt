@@ -1,4 +1,4 @@
--- `network_tables::least_time` meets its contract. Assumes nothing.
+-- `network_tables::least_time` meets its contract.
 use Rattle.network_tables.proofs.Signals.{least-time-in}
 use borrow.Author.Needs.{needs}
 use Rattle.network_tables.proofs.least_time.Statement.{statement}

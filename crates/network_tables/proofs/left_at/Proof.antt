@@ -1,4 +1,4 @@
--- `network_tables::left_at` meets its contract. Assumes nothing.
+-- `network_tables::left_at` meets its contract.
 use borrow.Author.Needs.{needs}
 use Rattle.network_tables.proofs.left_at.Statement.{statement}
 use Rattle.network_tables.proofs.left_at.Tie as tie

@@ -1,4 +1,4 @@
--- `network_tables::phase_count` meets its contract. Assumes nothing.
+-- `network_tables::phase_count` meets its contract.
 use Rattle.network_tables.specs.Fields.{tableSignal}
 use borrow.Author.Needs.{needs}
 use Rattle.network_tables.proofs.phase_count.Statement.{statement}

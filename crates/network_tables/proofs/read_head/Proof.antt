@@ -1,4 +1,4 @@
--- `network_tables::read_head` meets its contract. Assumes nothing.
+-- `network_tables::read_head` meets its contract.
 use borrow.Author.Needs.{needs}
 use Rattle.network_tables.proofs.Rows.{head-read}
 use Rattle.network_tables.proofs.read_head.Statement.{statement}

@@ -1,4 +1,4 @@
--- `network_tables::read_row` meets its contract. Assumes nothing.
+-- `network_tables::read_row` meets its contract.
 use borrow.Author.Needs.{needs}
 use Rattle.network_tables.proofs.Rows.{row-read}
 use Rattle.network_tables.proofs.read_row.Statement.{statement}

@@ -1,4 +1,4 @@
--- `network_tables::row_start` meets its contract: the product fits, since both factors are small. Assumes nothing.
+-- `network_tables::row_start` meets its contract: the product fits, since both factors are small.
 use Rattle.base_laws.proofs.Kit.{needs, mul-le-mul-right, arith}
 use Rattle.network_tables.proofs.row_start.Statement.{statement}
 use Rattle.network_tables.proofs.row_start.Tie as tie

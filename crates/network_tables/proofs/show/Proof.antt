@@ -1,4 +1,4 @@
--- `network_tables::show` meets its contract. Assumes nothing.
+-- `network_tables::show` meets its contract.
 use Rattle.base_laws.proofs.Kit.{arith, length-set, needs}
 use Rattle.network_tables.proofs.Signals.{shown-laid}
 use Rattle.network_tables.proofs.show.Statement.{statement}

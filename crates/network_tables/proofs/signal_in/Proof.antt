@@ -1,4 +1,4 @@
--- `network_tables::signal_in` meets its contract. Assumes nothing.
+-- `network_tables::signal_in` meets its contract.
 use Rattle.network_tables.specs.Fields.{tableSignal}
 use borrow.Author.Needs.{needs}
 use Rattle.network_tables.proofs.signal_in.Statement.{statement}

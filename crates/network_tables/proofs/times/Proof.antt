@@ -1,4 +1,4 @@
--- `network_tables::times` meets its contract. The product of two numbers of 32 bits has at most 64. Assumes nothing.
+-- `network_tables::times` meets its contract. The product of two numbers of 32 bits has at most 64.
 use borrow.Author.Needs.{needs}
 use Rattle.network_tables.proofs.Product.{below}
 use Rattle.network_tables.proofs.times.Statement.{statement}

@@ -1,4 +1,4 @@
--- `network_trams::check_tram_phases` meets its contract. Assumes nothing.
+-- `network_trams::check_tram_phases` meets its contract.
 use Rattle.base_laws.proofs.Kit.{_-_, needs}
 use Rattle.network_tables.specs.Blocks.{PassedTo}
 use Rattle.network_tables.proofs.Blocks.{passed-none}

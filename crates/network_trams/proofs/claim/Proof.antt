@@ -1,4 +1,4 @@
--- `network_trams::claim` meets its contract. Assumes nothing.
+-- `network_trams::claim` meets its contract.
 use borrow.Author.Needs.{needs}
 use Rattle.network_trams.proofs.Claims.{claim-made, claim-none}
 use Rattle.network_trams.proofs.claim.Statement.{statement}

@@ -1,4 +1,4 @@
--- `network_trams::is_apart` meets its contract. Assumes nothing.
+-- `network_trams::is_apart` meets its contract.
 use borrow.Author.Needs.{needs}
 use Rattle.network_trams.proofs.Tested.{apart-tested}
 use Rattle.network_trams.proofs.is_apart.Statement.{statement}

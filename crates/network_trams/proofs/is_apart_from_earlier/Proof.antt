@@ -1,4 +1,4 @@
--- `network_trams::is_apart_from_earlier` meets its contract. Assumes nothing.
+-- `network_trams::is_apart_from_earlier` meets its contract.
 use Rattle.base_laws.proofs.Kit.{_≤_, _-_, _≡_, needs}
 use Rattle.network_trams.specs.Trams.{apartFrom}
 use Rattle.network_trams.proofs.Tested.{apart-none, apart-more, apart-all}

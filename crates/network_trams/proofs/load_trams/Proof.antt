@@ -1,4 +1,4 @@
--- `network_trams::load_trams` meets its contract. Assumes nothing.
+-- `network_trams::load_trams` meets its contract.
 use Rattle.base_laws.proofs.Kit.{_-_, needs}
 use Rattle.text_reader.specs.Lines.{lines}
 use Rattle.network_tables.specs.Fields.{tramFields, tramTableSize}

@@ -1,4 +1,4 @@
--- `network_trams::tram_phases` meets its contract. Assumes nothing.
+-- `network_trams::tram_phases` meets its contract.
 use borrow.Author.Needs.{needs}
 use Rattle.network_trams.proofs.Claims.{ClaimsFrom, claims-begin, claim-asked, claims-next, claims-done}
 use Rattle.network_trams.proofs.tram_phases.Statement.{statement}

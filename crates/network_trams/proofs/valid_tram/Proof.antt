@@ -1,4 +1,4 @@
--- `network_trams::valid_tram` meets its contract. Assumes nothing.
+-- `network_trams::valid_tram` meets its contract.
 use borrow.Author.Needs.{needs}
 use Rattle.network_trams.proofs.Tested.{tram-tested}
 use Rattle.network_trams.proofs.valid_tram.Statement.{statement}

@@ -1,4 +1,4 @@
--- `network_writer::put_line` meets its contract. Assumes nothing.
+-- `network_writer::put_line` meets its contract.
 use Rattle.base_laws.proofs.Kit.{arith, needs}
 use Rattle.network_writer.proofs.Put.{row-size, row-few, line-counted, line-short, line-room, line-wrote}
 use Rattle.network_writer.proofs.put_line.Statement.{statement}

@@ -1,4 +1,4 @@
--- `network_writer::read_again` meets its contract. Assumes nothing.
+-- `network_writer::read_again` meets its contract.
 use Rattle.network_writer.proofs.Reading.{again-next, again-never}
 use borrow.Author.Needs.{needs}
 use Rattle.network_writer.proofs.read_again.Statement.{statement}

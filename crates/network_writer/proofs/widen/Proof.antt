@@ -1,4 +1,4 @@
--- `network_writer::widen` meets its contract. Assumes nothing.
+-- `network_writer::widen` meets its contract.
 use Rattle.base_laws.proofs.Kit.{length, _-_, needs}
 use Rattle.network_writer.proofs.Filling.{WideTo, wide-none, wide-next, wide-all}
 use Rattle.network_writer.proofs.widen.Statement.{statement}

@@ -1,4 +1,4 @@
--- `plan_check::check_plan` meets its contract. Assumes nothing.
+-- `plan_check::check_plan` meets its contract.
 use Rattle.plan_check.proofs.Plans.{plan-refused, plan-promised}
 use Rattle.base_laws.proofs.Kit.{refl, needs}
 use Rattle.network.proofs.Rooms.{zero-rooms}

@@ -1,4 +1,4 @@
--- `plan_check::judge_plan` meets its contract. Assumes nothing.
+-- `plan_check::judge_plan` meets its contract.
 use borrow.Author.Needs.{needs}
 use Rattle.plan_check.proofs.judge_plan.Statement.{statement}
 use Rattle.plan_check.proofs.judge_plan.Tie as tie

@@ -1,4 +1,4 @@
--- `plan_check::judge_with_signals` meets its contract: one law for each way out. Assumes nothing.
+-- `plan_check::judge_with_signals` meets its contract: one law for each way out.
 use Rattle.base_laws.proofs.Kit.{_+_, _*_, _≤_, mul-le-mul-right, arith, needs}
 use Rattle.plan_check.proofs.Plans.{plan-short, run-asked, plan-run}
 use Rattle.plan_check.proofs.judge_with_signals.Statement.{statement}

@@ -1,4 +1,4 @@
--- `plan_compare::compare_on_network` meets its contract. Assumes nothing.
+-- `plan_compare::compare_on_network` meets its contract.
 use borrow.Author.Needs.{needs}
 use Rattle.plan_compare.proofs.Call.{first-refused, second-refused, texts-formed, time-words, both-accepted}
 use Rattle.plan_compare.proofs.compare_on_network.Statement.{statement}

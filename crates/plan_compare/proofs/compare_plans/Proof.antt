@@ -1,4 +1,4 @@
--- `plan_compare::compare_plans` meets its contract. Assumes nothing.
+-- `plan_compare::compare_plans` meets its contract.
 use Rattle.base_laws.proofs.Kit.{refl, needs}
 use Rattle.network.proofs.Rooms.{zero-rooms}
 use Rattle.plan_compare.proofs.Call.{network-refused, got-promised}

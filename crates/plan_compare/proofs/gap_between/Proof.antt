@@ -1,4 +1,4 @@
--- `plan_compare::gap_between` meets its contract. Assumes nothing.
+-- `plan_compare::gap_between` meets its contract.
 use Rattle.base_laws.proofs.Kit.{_∙_, needs}
 use mir.Facts.{toZ-ofZ}
 use Rattle.plan_compare.proofs.Gap.{gap-formed, gap-fits}

@@ -1,4 +1,4 @@
--- `plan_compare::next_boundary` meets its contract. Assumes nothing.
+-- `plan_compare::next_boundary` meets its contract.
 use Rattle.plan_compare.proofs.Curves.{next-empty, next-malformed, next-read}
 use Rattle.base_laws.proofs.Kit.{arith, needs}
 use Rattle.plan_compare.proofs.next_boundary.Statement.{statement}

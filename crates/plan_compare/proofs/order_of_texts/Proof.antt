@@ -1,4 +1,4 @@
--- `plan_compare::order_of_texts` meets its contract. Assumes nothing.
+-- `plan_compare::order_of_texts` meets its contract.
 use Rattle.base_laws.proofs.Kit.{_-_, _∙_, arith, needs}
 use Rattle.plan_compare.specs.Curves.{ReadTo}
 use Rattle.plan_compare.proofs.Curves.{next-asked, read-none, read-next, read-all}

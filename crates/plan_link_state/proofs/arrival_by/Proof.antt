@@ -1,4 +1,4 @@
--- `plan_link_state::arrival_by` meets its contract. Assumes nothing.
+-- `plan_link_state::arrival_by` meets its contract.
 use Rattle.base_laws.specs.Test.{_or_}
 use Rattle.plan_link_state.proofs.Ledger.{cursor-first, over-asked, step-room, elapsed-room, short, arrival-told}
 use borrow.Author.Needs.{needs}

@@ -1,4 +1,4 @@
--- `plan_link_state::entered_over` meets its contract. One law for each way out. Assumes nothing.
+-- `plan_link_state::entered_over` meets its contract. One law for each way out.
 use Rattle.base_laws.proofs.Kit.{arith, needs}
 use Rattle.plan_link_state.proofs.Ledger.{times-room, since-fits, no-past, read-asked, past-told, in-plan, row-few, row-held, plan-told}
 use Rattle.plan_link_state.proofs.entered_over.Statement.{statement}

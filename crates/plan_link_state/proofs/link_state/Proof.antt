@@ -1,4 +1,4 @@
--- `plan_link_state::link_state` meets its contract. Assumes nothing.
+-- `plan_link_state::link_state` meets its contract.
 use Rattle.plan_link_state.proofs.State.{tabled, told-by, refused-told}
 use borrow.Author.Needs.{needs}
 use Rattle.plan_link_state.proofs.link_state.Statement.{statement}

@@ -1,4 +1,4 @@
--- `plan_link_state::state_by` meets its contract. One law for each way out. Assumes nothing.
+-- `plan_link_state::state_by` meets its contract. One law for each way out.
 use Rattle.plan_link_state.proofs.State.{short-told, past-told, below-told, above-told, row-held, arrival-asked, arrival-lasts, found-told}
 use borrow.Author.Needs.{needs}
 use Rattle.plan_link_state.proofs.state_by.Statement.{statement}

@@ -1,4 +1,4 @@
--- `plan_steps::add_step` meets its contract. Assumes nothing.
+-- `plan_steps::add_step` meets its contract.
 use Rattle.plan_steps.proofs.Adding.{all-out, enough-inside, totals-made}
 use borrow.Author.Needs.{needs}
 use Rattle.plan_steps.proofs.add_step.Statement.{statement}

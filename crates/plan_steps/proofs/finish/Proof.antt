@@ -1,4 +1,4 @@
--- `plan_steps::finish` meets its contract. Assumes nothing.
+-- `plan_steps::finish` meets its contract.
 use Rattle.plan_steps.proofs.Runs.{finish-end, finish-more}
 use Rattle.base_laws.proofs.Kit.{ap, _∙_, needs}
 use Rattle.model.specs.declared.PlanAnswer.the-variants as plan-answer

@@ -1,4 +1,4 @@
--- `plan_steps::next_state` meets its contract: what it calls gives the parts of the state. Assumes nothing.
+-- `plan_steps::next_state` meets its contract: what it calls gives the parts of the state.
 use Rattle.base_laws.proofs.Kit.{refl, needs}
 use Rattle.plan_steps.proofs.Adding.{outside-sum}
 use Rattle.plan_steps.proofs.next_state.Statement.{statement}

@@ -1,4 +1,4 @@
--- `plan_steps::run_steps` meets its contract: one law for each way out. Assumes nothing.
+-- `plan_steps::run_steps` meets its contract: one law for each way out.
 use Rattle.plan_steps.proofs.Runs.{steps-asked, run-few, run-refused, run-finished}
 use borrow.Author.Needs.{needs}
 use Rattle.plan_steps.proofs.run_steps.Statement.{statement}

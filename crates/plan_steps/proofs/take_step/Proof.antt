@@ -1,4 +1,4 @@
--- `plan_steps::take_step` meets its contract: one law for each call and each way out. Assumes nothing.
+-- `plan_steps::take_step` meets its contract: one law for each call and each way out.
 use Rattle.base_laws.proofs.Kit.{sym, arith, needs}
 use Rattle.plan_steps.proofs.Steps.{tram-asked, step-few, place-small, line-asked, load-asked, add-asked, step-malformed, arrivals-asked, judge-asked, step-refused, write-asked, waits-asked, advance-asked, next-asked, step-kept}
 use Rattle.plan_steps.proofs.take_step.Statement.{statement}

@@ -1,4 +1,4 @@
--- `plan_steps::take_steps` meets its contract. The invariant: the state at a boundary is reached, and the ledger has the rows up to it. Assumes nothing.
+-- `plan_steps::take_steps` meets its contract. The invariant: the state at a boundary is reached, and the ledger has the rows up to it.
 use Rattle.base_laws.proofs.Kit.{_-_, refl, sym, arith, needs}
 use Rattle.plan_steps.specs.Steps.{Running}
 use Rattle.plan_steps.proofs.Runs.{trams-asked, past-asked, first-waiting-asked, held-asked, sum-asked, running-first, steps-since, running-asked, steps-stopped, running-less, running-next, steps-taken}

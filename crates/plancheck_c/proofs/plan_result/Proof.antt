@@ -1,4 +1,4 @@
--- `plancheck_c::plan_result` meets its contract. Assumes nothing.
+-- `plancheck_c::plan_result` meets its contract.
 use Rattle.base_laws.proofs.Kit.{sym, ap, needs}
 use Rattle.plancheck_c.specs.Results.{planResult}
 use Rattle.plancheck_c.proofs.plan_result.Statement.{statement}

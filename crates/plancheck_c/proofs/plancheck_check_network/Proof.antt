@@ -1,4 +1,4 @@
--- `plancheck_c::plancheck_check_network` meets its contract. Assumes nothing.
+-- `plancheck_c::plancheck_check_network` meets its contract.
 use Rattle.base_laws.proofs.Kit.{ap, _∙_, needs}
 use Rattle.plancheck_c.specs.Results.{verdictResult}
 use Rattle.plancheck_c.proofs.Numbers.{network-tells}

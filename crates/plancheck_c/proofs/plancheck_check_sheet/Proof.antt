@@ -1,4 +1,4 @@
--- `plancheck_c::plancheck_check_sheet` meets its contract. Assumes nothing.
+-- `plancheck_c::plancheck_check_sheet` meets its contract.
 use Rattle.base_laws.proofs.Kit.{ℕ, List, _≡_, ap, _∙_, needs}
 use Rattle.model.specs.declared.PlanAnswer.{PlanAnswer}
 use Rattle.model_sheet.specs.Promises.{SheetPromises}

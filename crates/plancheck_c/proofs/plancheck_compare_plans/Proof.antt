@@ -1,4 +1,4 @@
--- `plancheck_c::plancheck_compare_plans` meets its contract. Assumes nothing.
+-- `plancheck_c::plancheck_compare_plans` meets its contract.
 use Rattle.base_laws.proofs.Kit.{List, ℕ, _≡_, sym, ap, _∙_, needs}
 use lib.IntN.{ℤ}
 use mir.Syntax.{w64}

@@ -1,4 +1,4 @@
--- `plancheck_c::plancheck_link_state` meets its contract. Assumes nothing.
+-- `plancheck_c::plancheck_link_state` meets its contract.
 use Rattle.base_laws.proofs.Kit.{sym, ap, _∙_, needs}
 use Rattle.plancheck_c.specs.Results.{linkResult}
 use Rattle.plancheck_c.proofs.Numbers.{link-tells}

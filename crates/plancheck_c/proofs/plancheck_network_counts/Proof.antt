@@ -1,4 +1,4 @@
--- `plancheck_c::plancheck_network_counts` meets its contract. Assumes nothing.
+-- `plancheck_c::plancheck_network_counts` meets its contract.
 use Rattle.base_laws.proofs.Kit.{sym, ap, _∙_, needs}
 use Rattle.plancheck_c.specs.Results.{countsResult}
 use Rattle.plancheck_c.proofs.Numbers.{counts-tells}

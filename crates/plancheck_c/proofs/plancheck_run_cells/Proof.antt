@@ -1,4 +1,4 @@
--- `plancheck_c::plancheck_run_cells` meets its contract. Assumes nothing.
+-- `plancheck_c::plancheck_run_cells` meets its contract.
 use Rattle.base_laws.proofs.Kit.{ℕ, List, sym, ap₂, _∙_, needs}
 use Rattle.cells_call.specs.declared.CellsAnswer.{CellsAnswer}
 use Rattle.cells_call.specs.Call.{RunKeeps}

@@ -1,4 +1,4 @@
--- `plancheck_c::plancheck_split` meets its contract. Assumes nothing.
+-- `plancheck_c::plancheck_split` meets its contract.
 use Rattle.base_laws.proofs.Kit.{ℕ, List, _≡_, sym, ap, _∙_, needs}
 use Rattle.model_split.specs.declared.SplitAnswer.{SplitAnswer}
 use Rattle.model_split.specs.Splits.{Texts, Buffers, SplitInTwo}

@@ -1,4 +1,4 @@
--- `plancheck_c::plancheck_step_vehicles` meets its contract. Assumes nothing.
+-- `plancheck_c::plancheck_step_vehicles` meets its contract.
 use Rattle.base_laws.proofs.Kit.{List, _≡_, ap, _∙_, needs}
 use Rattle.base_search.specs.declared.Verdict.{Verdict}
 use Rattle.traces.specs.Guarantees.{StepKeeps}

@@ -1,4 +1,4 @@
--- `plancheck_c::verdict_result` meets its contract. Assumes nothing.
+-- `plancheck_c::verdict_result` meets its contract.
 use Rattle.base_laws.proofs.Kit.{sym, ap, needs}
 use Rattle.plancheck_c.specs.Results.{verdictResult}
 use Rattle.plancheck_c.proofs.verdict_result.Statement.{statement}

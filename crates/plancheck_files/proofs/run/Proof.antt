@@ -1,4 +1,4 @@
--- `plancheck_files::run` is safe and ends: what was written fits the buffer. Assumes nothing.
+-- `plancheck_files::run` is safe and ends: what was written fits the buffer.
 use Rattle.base_laws.proofs.Kit.{sym, length-take-le, needs}
 use Rattle.plancheck_files.proofs.Laws.{end-within}
 use Rattle.plancheck_files.proofs.run.Statement.{statement}

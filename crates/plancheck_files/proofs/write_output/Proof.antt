@@ -1,4 +1,4 @@
--- `plancheck_files::write_output` meets its contract, for each way in which the files were read. Assumes nothing.
+-- `plancheck_files::write_output` meets its contract, for each way in which the files were read.
 use Rattle.plancheck_files.proofs.Laws.{text-length}
 use Rattle.plancheck_files.specs.Output.{output}
 use borrow.Author.Needs.{needs}

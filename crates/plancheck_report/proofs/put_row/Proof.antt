@@ -1,4 +1,4 @@
--- `plancheck_report::put_row` meets its contract. The invariant: the first k numbers of the row are there. Assumes nothing.
+-- `plancheck_report::put_row` meets its contract. The invariant: the first k numbers of the row are there.
 use Rattle.base_laws.proofs.Kit.{_-_, length, needs}
 use Rattle.plancheck_report.proofs.Boundaries.{Put, put-first, put-again, put-all}
 use Rattle.plancheck_report.proofs.put_row.Statement.{statement}

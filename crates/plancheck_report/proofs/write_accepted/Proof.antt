@@ -1,4 +1,4 @@
--- `plancheck_report::write_accepted` meets its contract: the `B` records stand behind the `A` record. Assumes nothing.
+-- `plancheck_report::write_accepted` meets its contract: the `B` records stand behind the `A` record.
 use Rattle.plancheck_report.proofs.Answer.{rows-asked, accepted-wrote}
 use Rattle.text_writer.proofs.Laws.{record-fits}
 use borrow.Author.Needs.{needs}

@@ -1,4 +1,4 @@
--- `plancheck_report::write_answer` meets its contract, answer by answer. Assumes nothing.
+-- `plancheck_report::write_answer` meets its contract, answer by answer.
 use Rattle.plancheck_report.proofs.Answer.{accepted-told, refused-told}
 use borrow.Author.Needs.{needs}
 use Rattle.plancheck_report.proofs.write_answer.Statement.{statement}

@@ -1,4 +1,4 @@
--- `plancheck_report::write_boundary` meets its contract: what is lent to `write_record` is the number, the time and the row. Assumes nothing.
+-- `plancheck_report::write_boundary` meets its contract: what is lent to `write_record` is the number, the time and the row.
 use Rattle.base_laws.proofs.Kit.{ap, length, arith, needs}
 use Rattle.plancheck_report.proofs.Boundaries.{fields-read}
 use Rattle.text_writer.proofs.Laws.{record-fits}

@@ -1,4 +1,4 @@
--- `plancheck_report::write_judged` meets its contract: the answer and the ledger of the judgement tell the report. Assumes nothing.
+-- `plancheck_report::write_judged` meets its contract: the answer and the ledger of the judgement tell the report.
 use Rattle.base_laws.proofs.Kit.{ℕ, length-replicate, needs}
 use Rattle.plancheck_report.specs.Boundaries.{ledgerSize}
 use Rattle.plancheck_report.proofs.Report.{times-asked, answer-asked, report-wrote}

@@ -1,4 +1,4 @@
--- `plancheck_report::write_not_read` meets its contract. Assumes nothing.
+-- `plancheck_report::write_not_read` meets its contract.
 use Rattle.model.specs.Report.{notRead}
 use Rattle.text_writer.proofs.Laws.{record-fits}
 use borrow.Author.Needs.{needs}

@@ -1,4 +1,4 @@
--- `plancheck_report::write_refusal` meets its contract. Assumes nothing.
+-- `plancheck_report::write_refusal` meets its contract.
 use Rattle.plancheck_report.proofs.Answer.{refusal-wrote}
 use Rattle.text_writer.proofs.Laws.{record-fits}
 use borrow.Author.Needs.{needs}

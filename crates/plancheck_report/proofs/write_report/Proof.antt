@@ -1,4 +1,4 @@
--- `plancheck_report::write_report` meets its contract. Assumes nothing.
+-- `plancheck_report::write_report` meets its contract.
 use Rattle.base_laws.proofs.Kit.{refl, needs}
 use Rattle.network.proofs.Rooms.{zero-rooms}
 use Rattle.plancheck_report.proofs.Report.{refused-wrote, padding-too}

@@ -1,4 +1,4 @@
--- `plancheck_report::write_rows` meets its contract. The invariant: the records of the first n boundaries are written. Assumes nothing.
+-- `plancheck_report::write_rows` meets its contract. The invariant: the records of the first n boundaries are written.
 use Rattle.base_laws.proofs.Kit.{suc, _-_, arith, needs}
 use Rattle.plancheck_report.proofs.Boundaries.{Written, start-small, row-within, rows-first, rows-again, rows-all}
 use Rattle.plancheck_report.proofs.write_rows.Statement.{statement}

@@ -1,4 +1,4 @@
--- `sheet_check::check_on_network` meets its contract. Assumes nothing.
+-- `sheet_check::check_on_network` meets its contract.
 use Rattle.sheet_check.proofs.Call.{read-asked, sheet-refused, plan-refused, pass-asked, runs-kept, runs-broken}
 use borrow.Author.Needs.{needs}
 use Rattle.sheet_check.proofs.check_on_network.Statement.{statement}

@@ -1,4 +1,4 @@
--- `sheet_check::check_sheet` meets its contract. Assumes nothing.
+-- `sheet_check::check_sheet` meets its contract.
 use Rattle.base_laws.proofs.Kit.{refl, needs}
 use Rattle.network.proofs.Rooms.{zero-rooms}
 use Rattle.sheet_check.proofs.Call.{network-refused, padding-too}

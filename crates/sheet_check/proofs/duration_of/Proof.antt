@@ -1,4 +1,4 @@
--- `sheet_check::duration_of` meets its contract. Assumes nothing.
+-- `sheet_check::duration_of` meets its contract.
 use Rattle.base_laws.proofs.Kit.{refl, needs}
 use Rattle.sheet_check.proofs.duration_of.Statement.{statement}
 use Rattle.sheet_check.proofs.duration_of.Tie as tie

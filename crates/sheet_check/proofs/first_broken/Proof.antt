@@ -1,4 +1,4 @@
--- `sheet_check::first_broken` meets its contract. Assumes nothing.
+-- `sheet_check::first_broken` meets its contract.
 use Rattle.sheet_check.proofs.Watching.{broken-before, broken-now, broken-not}
 use borrow.Author.Needs.{needs}
 use Rattle.sheet_check.proofs.first_broken.Statement.{statement}

@@ -1,4 +1,4 @@
--- `sheet_check::first_run` meets its contract. The loop's invariant: the least line of the first i signals, and its signal.  Assumes nothing.
+-- `sheet_check::first_run` meets its contract. The loop's invariant: the least line of the first i signals, and its signal.
 use Rattle.base_laws.proofs.Kit.{_-_, arith, needs}
 use Rattle.sheet_check.specs.Watch.{watchIn}
 use Rattle.sheet_check.proofs.Watching.{Found, found-none, found-more, found-nothing, found-told}

@@ -1,4 +1,4 @@
--- `sheet_check::is_earlier` meets its contract. Assumes nothing.
+-- `sheet_check::is_earlier` meets its contract.
 use Rattle.base_laws.specs.Test.{_and_, _or_}
 use Rattle.model_sheet.specs.Runs.{earlier}
 use borrow.Author.Needs.{needs}

@@ -1,4 +1,4 @@
--- `sheet_check::next_watch` meets its contract. Assumes nothing.
+-- `sheet_check::next_watch` meets its contract.
 use Rattle.sheet_check.proofs.Watching.{watch-on, watch-still}
 use borrow.Author.Needs.{needs}
 use Rattle.sheet_check.proofs.next_watch.Statement.{statement}

@@ -1,4 +1,4 @@
--- `sheet_check::pass_plan` meets its contract. The loop's invariant: the steps up to a boundary are gone through. Assumes nothing.
+-- `sheet_check::pass_plan` meets its contract. The loop's invariant: the steps up to a boundary are gone through.
 use Rattle.base_laws.proofs.Kit.{_-_, arith, needs}
 use Rattle.sheet_check.proofs.Call.{Passing, trams-asked, passing-first, passing-asked, passing-next, signals-few, passing-all}
 use Rattle.sheet_check.proofs.pass_plan.Statement.{statement}

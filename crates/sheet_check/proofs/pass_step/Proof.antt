@@ -1,4 +1,4 @@
--- `sheet_check::pass_step` meets its contract. Assumes nothing.
+-- `sheet_check::pass_step` meets its contract.
 use Rattle.base_laws.proofs.Kit.{refl, arith, needs}
 use Rattle.sheet_check.proofs.Step.{step-few, time-few, signals-at, line-asked, load-asked, tram-asked, signals-few, line-size, seconds-few, step-never, watch-asked, advance-asked, step-gone}
 use Rattle.sheet_check.proofs.pass_step.Statement.{statement}

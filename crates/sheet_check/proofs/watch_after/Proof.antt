@@ -1,4 +1,4 @@
--- `sheet_check::watch_after` meets its contract. Assumes nothing.
+-- `sheet_check::watch_after` meets its contract.
 use Rattle.sheet_check.proofs.Watching.{watch-same, watch-other}
 use borrow.Author.Needs.{needs}
 use Rattle.sheet_check.proofs.watch_after.Statement.{statement}

@@ -1,4 +1,4 @@
--- `sheet_check::watch_signals` meets its contract. The loop's invariant: the watches of the first i signals are a step on. Assumes nothing.
+-- `sheet_check::watch_signals` meets its contract. The loop's invariant: the watches of the first i signals are a step on.
 use Rattle.base_laws.proofs.Kit.{_-_, _≤_, _≡_, arith, needs}
 use Rattle.sheet_check.specs.Watch.{Watched}
 use Rattle.sheet_check.proofs.Watching.{watched-none, watched-more, duration-asked}

@@ -1,4 +1,4 @@
--- `sheet_lines::is_within` meets its contract. Assumes nothing.
+-- `sheet_lines::is_within` meets its contract.
 use Rattle.base_laws.specs.Test.{_and_, within}
 use borrow.Author.Needs.{needs}
 use Rattle.sheet_lines.proofs.is_within.Statement.{statement}

@@ -1,4 +1,4 @@
--- `sheet_lines::read_sheet` meets its contract. The loop's invariant: the first r lines are read. Assumes nothing.
+-- `sheet_lines::read_sheet` meets its contract. The loop's invariant: the first r lines are read.
 use Rattle.base_laws.proofs.Kit.{_-_, arith, needs}
 use Rattle.sheet_lines.proofs.Lines.{ReadTo, read-none, row-room, read-malformed, numbers-asked, read-invalid, read-next, read-all, read-surplus}
 use Rattle.sheet_lines.proofs.read_sheet.Statement.{statement}

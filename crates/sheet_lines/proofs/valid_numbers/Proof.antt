@@ -1,4 +1,4 @@
--- `sheet_lines::valid_numbers` meets its contract. The loop's invariant: the durations of the first k phases are valid and summed. Assumes nothing.
+-- `sheet_lines::valid_numbers` meets its contract. The loop's invariant: the durations of the first k phases are valid and summed.
 use Rattle.base_laws.proofs.Kit.{_-_, _≡_, refl, arith, needs}
 use Rattle.network_tables.specs.Fields.{tableSignal}
 use Rattle.sheet_lines.specs.Reading.{numberIn}

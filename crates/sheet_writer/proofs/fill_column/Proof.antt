@@ -1,4 +1,4 @@
--- `sheet_writer::fill_column` meets its contract. The loop's invariant: the first n steps fit, and their masks are set. Assumes nothing.
+-- `sheet_writer::fill_column` meets its contract. The loop's invariant: the first n steps fit, and their masks are set.
 use Rattle.base_laws.proofs.Kit.{_-_, needs}
 use Rattle.sheet_lines.specs.Reading.{numberIn}
 use Rattle.sheet_writer.proofs.Columns.{ColumnTo, column-none, place-inside, phase-few, column-broken, column-asked, column-more, column-all}

@@ -1,4 +1,4 @@
--- `sheet_writer::fill_masks` meets its contract. The loop's invariant: 35 of the first r signals passes, and their masks are held. Assumes nothing.
+-- `sheet_writer::fill_masks` meets its contract. The loop's invariant: 35 of the first r signals passes, and their masks are held.
 use Rattle.base_laws.proofs.Kit.{_-_, arith, needs}
 use Rattle.text_reader.specs.Lines.{lines}
 use Rattle.sheet_writer.proofs.Columns.{MasksTo, masks-none, column-wanted, masks-tram, masks-off, masks-next, masks-all}

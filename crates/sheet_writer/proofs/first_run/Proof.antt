@@ -1,4 +1,4 @@
--- `sheet_writer::first_run` meets its contract. The loop's invariant: the first k durations are off the offset. Assumes nothing.
+-- `sheet_writer::first_run` meets its contract. The loop's invariant: the first k durations are off the offset.
 use Rattle.base_laws.proofs.Kit.{_-_, needs}
 use Rattle.sheet_lines.specs.Reading.{numberIn}
 use Rattle.sheet_writer.proofs.Cycle.{Run-off, off-none, off-more, off-run}

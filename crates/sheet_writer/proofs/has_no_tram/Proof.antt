@@ -1,4 +1,4 @@
--- `sheet_writer::has_no_tram` meets its contract. The loop's invariant: none of the first k lines is for the signal. Assumes nothing.
+-- `sheet_writer::has_no_tram` meets its contract. The loop's invariant: none of the first k lines is for the signal.
 use Rattle.base_laws.proofs.Kit.{_-_, _≡_, length, needs}
 use Rattle.network_tables.specs.Fields.{tramFields}
 use Rattle.sheet_writer.proofs.Columns.{TramsTo, trams-none, trams-never, trams-hit, trams-next, trams-all}

@@ -1,4 +1,4 @@
--- `sheet_writer::next_run` meets its contract. Assumes nothing.
+-- `sheet_writer::next_run` meets its contract.
 use Rattle.sheet_writer.proofs.Cycle.{next-on, next-over, after-few}
 use Rattle.base_laws.proofs.Kit.{arith, needs}
 use Rattle.sheet_writer.proofs.next_run.Statement.{statement}

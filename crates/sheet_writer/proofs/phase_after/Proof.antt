@@ -1,4 +1,4 @@
--- `sheet_writer::phase_after` meets its contract. Assumes nothing.
+-- `sheet_writer::phase_after` meets its contract.
 use Rattle.base_laws.proofs.Kit.{eq-eqb, ne-eqb, needs}
 use Rattle.sheet_writer.proofs.phase_after.Statement.{statement}
 use Rattle.sheet_writer.proofs.phase_after.Tie as tie

@@ -1,4 +1,4 @@
--- `sheet_writer::plan_from_sheet` meets its contract. Assumes nothing.
+-- `sheet_writer::plan_from_sheet` meets its contract.
 use Rattle.sheet_writer.proofs.Call.{times-asked, call-asked, call-refused, call-written, padding-too}
 use borrow.Author.Needs.{needs}
 use Rattle.sheet_writer.proofs.plan_from_sheet.Statement.{statement}

@@ -1,4 +1,4 @@
--- `sheet_writer::seconds_in` meets its contract. Assumes nothing.
+-- `sheet_writer::seconds_in` meets its contract.
 use Rattle.base_laws.proofs.Kit.{arith, needs}
 use Rattle.sheet_writer.proofs.seconds_in.Statement.{statement}
 use Rattle.sheet_writer.proofs.seconds_in.Tie as tie

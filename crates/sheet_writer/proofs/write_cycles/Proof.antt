@@ -1,4 +1,4 @@
--- `sheet_writer::write_cycles` meets its contract. Assumes nothing.
+-- `sheet_writer::write_cycles` meets its contract.
 use Rattle.sheet_writer.proofs.Call.{cycles-stopped, masks-asked, cycles-written}
 use borrow.Author.Needs.{needs}
 use Rattle.sheet_writer.proofs.write_cycles.Statement.{statement}

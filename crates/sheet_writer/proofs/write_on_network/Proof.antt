@@ -1,4 +1,4 @@
--- `sheet_writer::write_on_network` meets its contract. Assumes nothing.
+-- `sheet_writer::write_on_network` meets its contract.
 use Rattle.base_laws.proofs.Kit.{refl, needs}
 use Rattle.sheet_writer.proofs.Call.{load-asked, cycle-asked, cycles-asked, sheet-stopped, sheet-written}
 use Rattle.sheet_writer.proofs.write_on_network.Statement.{statement}

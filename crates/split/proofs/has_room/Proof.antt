@@ -1,4 +1,4 @@
--- `split::has_room` meets its contract. Assumes nothing.
+-- `split::has_room` meets its contract.
 use Rattle.split.proofs.Writing.{room-is}
 use borrow.Author.Needs.{needs}
 use Rattle.split.proofs.has_room.Statement.{statement}

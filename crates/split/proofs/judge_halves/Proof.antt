@@ -1,4 +1,4 @@
--- `split::judge_halves` meets its contract. One law for each way out. Assumes nothing.
+-- `split::judge_halves` meets its contract. One law for each way out.
 use Rattle.split.proofs.Splitting.{split-asked, parts-asked, form-asked, no-split, no-parts, form-judged}
 use borrow.Author.Needs.{needs}
 use Rattle.split.proofs.judge_halves.Statement.{statement}

@@ -1,4 +1,4 @@
--- `split::measure` meets its contract. The texts are put where there is no room. Assumes nothing.
+-- `split::measure` meets its contract. The texts are put where there is no room.
 use Rattle.split.proofs.Writing.{first-asked, second-asked, measured}
 use borrow.Author.Needs.{needs}
 use Rattle.split.proofs.measure.Statement.{statement}

@@ -1,4 +1,4 @@
--- `split::put_half` meets its contract. Assumes nothing.
+-- `split::put_half` meets its contract.
 use Rattle.split.proofs.Writing.{plan-asked, half-put}
 use borrow.Author.Needs.{needs}
 use Rattle.split.proofs.put_half.Statement.{statement}

@@ -1,4 +1,4 @@
--- `split::split` meets its contract. Assumes nothing.
+-- `split::split` meets its contract.
 use Rattle.split.proofs.Splitting.{loaded-passed, network-refused, promised}
 use borrow.Author.Needs.{needs}
 use Rattle.split.proofs.split.Statement.{statement}

@@ -1,4 +1,4 @@
--- `split::split_loaded` meets its contract. Assumes nothing.
+-- `split::split_loaded` meets its contract.
 use Rattle.base_laws.proofs.Kit.{refl, needs}
 use Rattle.split.proofs.Splitting.{halves-asked, signals-asked, judge-asked, judged-refused, write-asked, all-judged}
 use Rattle.split.proofs.split_loaded.Statement.{statement}

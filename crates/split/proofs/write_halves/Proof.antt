@@ -1,4 +1,4 @@
--- `split::write_halves` meets its contract. Assumes nothing.
+-- `split::write_halves` meets its contract.
 use Rattle.model_split.specs.Splits.{roomOf}
 use Rattle.split.specs.Splitting.{buffers}
 use Rattle.split.proofs.Writing.{first-asked, second-asked, too-short, all-written}

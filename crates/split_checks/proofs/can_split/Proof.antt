@@ -1,4 +1,4 @@
--- `split_checks::can_split` meets its contract. Assumes nothing.
+-- `split_checks::can_split` meets its contract.
 use Rattle.split_checks.proofs.Split.{kinds-asked, steps-asked, split-told}
 use borrow.Author.Needs.{needs}
 use Rattle.split_checks.proofs.can_split.Statement.{statement}

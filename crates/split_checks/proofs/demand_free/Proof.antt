@@ -1,4 +1,4 @@
--- `split_checks::demand_free` meets its contract. Assumes nothing.
+-- `split_checks::demand_free` meets its contract.
 use Rattle.split_tables.proofs.Tables.{movement-asked}
 use Rattle.split_checks.proofs.Tables.{place-asked, free-told}
 use borrow.Author.Needs.{needs}

@@ -1,4 +1,4 @@
--- `split_checks::line_form` meets its contract. Assumes nothing.
+-- `split_checks::line_form` meets its contract.
 use Rattle.split_checks.proofs.Plan.{line-asked, line-told}
 use borrow.Author.Needs.{needs}
 use Rattle.split_checks.proofs.line_form.Statement.{statement}

@@ -1,4 +1,4 @@
--- `split_checks::nobody_waits` meets its contract. Assumes nothing.
+-- `split_checks::nobody_waits` meets its contract.
 use Rattle.base_laws.proofs.Kit.{_-_, _≤_, _≡_, true, needs}
 use Rattle.base_laws.specs.Test.{every}
 use Rattle.split_checks.specs.Tables.{noneWaitIn}

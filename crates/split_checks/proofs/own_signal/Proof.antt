@@ -1,4 +1,4 @@
--- `split_checks::own_signal` meets its contract. Assumes nothing.
+-- `split_checks::own_signal` meets its contract.
 use Rattle.split_checks.proofs.Tables.{none-owned, own-told}
 use borrow.Author.Needs.{needs}
 use Rattle.split_checks.proofs.own_signal.Statement.{statement}

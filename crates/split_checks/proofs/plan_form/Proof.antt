@@ -1,4 +1,4 @@
--- `split_checks::plan_form` meets its contract. Assumes nothing.
+-- `split_checks::plan_form` meets its contract.
 use Rattle.base_laws.proofs.Kit.{_-_, needs}
 use Rattle.split_checks.specs.Plan.{FormsTo}
 use Rattle.split_checks.proofs.Plan.{forms-none, forms-stop, forms-next, forms-more, forms-all}

@@ -1,4 +1,4 @@
--- `split_checks::right_kind` meets its contract. Assumes nothing.
+-- `split_checks::right_kind` meets its contract.
 use Rattle.split_tables.proofs.Tables.{movement-asked}
 use Rattle.split_checks.proofs.Tables.{place-asked, inside-kind, border-kind}
 use borrow.Author.Needs.{needs}

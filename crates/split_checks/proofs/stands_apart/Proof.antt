@@ -1,4 +1,4 @@
--- `split_checks::stands_apart` meets its contract. Assumes nothing.
+-- `split_checks::stands_apart` meets its contract.
 use Rattle.split_tables.proofs.Tables.{movement-asked}
 use Rattle.split_checks.proofs.Tables.{apart-told}
 use borrow.Author.Needs.{needs}

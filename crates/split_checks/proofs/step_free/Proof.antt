@@ -1,4 +1,4 @@
--- `split_checks::step_free` meets its contract. Assumes nothing.
+-- `split_checks::step_free` meets its contract.
 use Rattle.base_laws.proofs.Kit.{_-_, _≤_, _≡_, true, needs}
 use Rattle.base_laws.specs.Test.{every}
 use Rattle.network_tables.specs.Fields.{demandIn}

@@ -1,4 +1,4 @@
--- `split_checks::steps_free` meets its contract. Assumes nothing.
+-- `split_checks::steps_free` meets its contract.
 use Rattle.base_laws.proofs.Kit.{_-_, needs}
 use Rattle.split_checks.proofs.Network.{StepsTo, steps-none, free-asked, load-asked, steps-fail, steps-next, steps-all}
 use Rattle.split_checks.proofs.steps_free.Statement.{statement}

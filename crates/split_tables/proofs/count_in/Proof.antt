@@ -1,4 +1,4 @@
--- `split_tables::count_in` meets its contract. Assumes nothing.
+-- `split_tables::count_in` meets its contract.
 use Rattle.base_laws.proofs.Kit.{_-_, arith, needs}
 use Rattle.split_tables.proofs.Marks.{CountedTo, counted-none, counted-small, counted-next, counted-all}
 use Rattle.split_tables.proofs.count_in.Statement.{statement}

@@ -1,4 +1,4 @@
--- `split_tables::links_in` meets its contract. Assumes nothing.
+-- `split_tables::links_in` meets its contract.
 use Rattle.base_laws.proofs.Kit.{arith, needs}
 use Rattle.split_tables.proofs.Marks.{links-made}
 use Rattle.split_tables.proofs.links_in.Statement.{statement}

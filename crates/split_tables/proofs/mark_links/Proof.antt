@@ -1,4 +1,4 @@
--- `split_tables::mark_links` meets its contract. Assumes nothing.
+-- `split_tables::mark_links` meets its contract.
 use Rattle.base_laws.proofs.Kit.{_-_, arith, needs}
 use Rattle.split_tables.proofs.Marks.{BitsTo, bits-none, bits-next, bits-all}
 use Rattle.split_tables.proofs.mark_links.Statement.{statement}

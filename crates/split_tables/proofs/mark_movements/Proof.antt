@@ -1,4 +1,4 @@
--- `split_tables::mark_movements` meets its contract. Assumes nothing.
+-- `split_tables::mark_movements` meets its contract.
 use Rattle.base_laws.proofs.Kit.{_-_, arith, needs}
 use Rattle.split_tables.proofs.Tables.{movement-asked}
 use Rattle.split_tables.proofs.Marks.{MarkedTo, marked-none, marked-next, marked-all}

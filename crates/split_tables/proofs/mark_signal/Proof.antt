@@ -1,4 +1,4 @@
--- `split_tables::mark_signal` meets its contract. Assumes nothing.
+-- `split_tables::mark_signal` meets its contract.
 use Rattle.base_laws.proofs.Kit.{arith, needs}
 use Rattle.split_tables.proofs.Marks.{signal-in, signal-none, signal-marked}
 use Rattle.split_tables.proofs.mark_signal.Statement.{statement}

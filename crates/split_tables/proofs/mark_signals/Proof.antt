@@ -1,4 +1,4 @@
--- `split_tables::mark_signals` meets its contract. Assumes nothing.
+-- `split_tables::mark_signals` meets its contract.
 use Rattle.base_laws.proofs.Kit.{_-_, arith, needs}
 use Rattle.split_tables.proofs.Marks.{SignalsTo, signals-none, signal-room, signals-next, signals-all}
 use Rattle.split_tables.proofs.mark_signals.Statement.{statement}

@@ -1,4 +1,4 @@
--- `split_tables::number_halves` meets its contract. Assumes nothing.
+-- `split_tables::number_halves` meets its contract.
 use Rattle.base_laws.proofs.Kit.{refl, arith, needs}
 use Rattle.split_tables.proofs.Halves.{links-asked, marks-asked, signals-asked, inside-asked, halves-numbered}
 use Rattle.split_tables.proofs.number_halves.Statement.{statement}

@@ -1,4 +1,4 @@
--- `split_tables::number_marked` meets its contract. Assumes nothing.
+-- `split_tables::number_marked` meets its contract.
 use Rattle.base_laws.proofs.Kit.{_-_, ⊎-elim, arith, needs}
 use Rattle.split_tables.proofs.Marks.{NumberedTo, numbered-none, last-small, place-within, numbered-more, numbered-other, numbered-all}
 use Rattle.split_tables.proofs.number_marked.Statement.{statement}

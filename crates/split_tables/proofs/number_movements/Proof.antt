@@ -1,4 +1,4 @@
--- `split_tables::number_movements` meets its contract. Assumes nothing.
+-- `split_tables::number_movements` meets its contract.
 use Rattle.split_tables.proofs.Halves.{movements-asked, movements-numbered}
 use borrow.Author.Needs.{needs}
 use Rattle.split_tables.proofs.number_movements.Statement.{statement}

@@ -1,4 +1,4 @@
--- `split_tables::one_if` meets its contract. Assumes nothing.
+-- `split_tables::one_if` meets its contract.
 use Rattle.split_tables.proofs.Marks.{one-none, one-some}
 use borrow.Author.Needs.{needs}
 use Rattle.split_tables.proofs.one_if.Statement.{statement}

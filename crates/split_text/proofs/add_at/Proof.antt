@@ -1,4 +1,4 @@
--- `split_text::add_at` meets its contract. Assumes nothing.
+-- `split_text::add_at` meets its contract.
 use Rattle.base_laws.proofs.Kit.{arith, needs}
 use Rattle.split_text.proofs.Border.{added-not, added-one}
 use Rattle.split_text.proofs.add_at.Statement.{statement}

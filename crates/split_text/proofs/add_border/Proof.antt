@@ -1,4 +1,4 @@
--- `split_text::add_border` meets its contract. Assumes nothing.
+-- `split_text::add_border` meets its contract.
 use Rattle.base_laws.proofs.Kit.{_-_, arith, needs}
 use Rattle.split_text.proofs.Border.{BorderTo, border-none, border-movement, border-room, border-next, border-all}
 use Rattle.split_text.proofs.add_border.Statement.{statement}

@@ -1,4 +1,4 @@
--- `split_text::count_trams` meets its contract. Assumes nothing.
+-- `split_text::count_trams` meets its contract.
 use Rattle.base_laws.proofs.Kit.{arith, _-_, needs}
 use Rattle.split_text.proofs.Lines.{TramsFound, found-none, signal-named, found-next, found-all}
 use Rattle.split_text.proofs.count_trams.Statement.{statement}

@@ -1,4 +1,4 @@
--- `split_text::fill_kept` meets its contract. Assumes nothing.
+-- `split_text::fill_kept` meets its contract.
 use Rattle.base_laws.proofs.Kit.{_+_, _-_, arith, getD, needs}
 use Rattle.split_tables.specs.Tables.{isIn}
 use Rattle.split_text.proofs.Filling.{FilledTo, filled-none, filled-end, filled-next, filled-all}

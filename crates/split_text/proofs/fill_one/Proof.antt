@@ -1,4 +1,4 @@
--- `split_text::fill_one` meets its contract. Assumes nothing.
+-- `split_text::fill_one` meets its contract.
 use Rattle.split_text.proofs.Filling.{one-left, one-filled}
 use borrow.Author.Needs.{needs}
 use Rattle.split_text.proofs.fill_one.Statement.{statement}

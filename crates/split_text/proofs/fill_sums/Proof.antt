@@ -1,4 +1,4 @@
--- `split_text::fill_sums` meets its contract. Assumes nothing.
+-- `split_text::fill_sums` meets its contract.
 use Rattle.base_laws.proofs.Kit.{_+_, _-_, arith, getD, needs}
 use Rattle.model_split.specs.Halves.{inField}
 use Rattle.split_tables.specs.Tables.{isIn}

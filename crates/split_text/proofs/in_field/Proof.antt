@@ -1,4 +1,4 @@
--- `split_text::in_field` meets its contract. Assumes nothing.
+-- `split_text::in_field` meets its contract.
 use Rattle.split_text.proofs.Border.{field-cut, field-same}
 use borrow.Author.Needs.{needs}
 use Rattle.split_text.proofs.in_field.Statement.{statement}

@@ -1,4 +1,4 @@
--- `split_text::put_counts` meets its contract. Assumes nothing.
+-- `split_text::put_counts` meets its contract.
 use Rattle.split_text.proofs.Lines.{counts-put}
 use borrow.Author.Needs.{needs}
 use Rattle.split_text.proofs.put_counts.Statement.{statement}

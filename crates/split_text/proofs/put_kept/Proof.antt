@@ -1,4 +1,4 @@
--- `split_text::put_kept` meets its contract. Assumes nothing.
+-- `split_text::put_kept` meets its contract.
 use Rattle.split_text.proofs.Picked.{kept-none, kept-one}
 use borrow.Author.Needs.{needs}
 use Rattle.split_text.proofs.put_kept.Statement.{statement}

@@ -1,4 +1,4 @@
--- `split_text::put_links` meets its contract. Assumes nothing.
+-- `split_text::put_links` meets its contract.
 use Rattle.base_laws.proofs.Kit.{arith, _-_, needs}
 use Rattle.model.specs.Table.{letterQ}
 use Rattle.split_tables.specs.Tables.{isIn}

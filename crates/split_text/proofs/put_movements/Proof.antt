@@ -1,4 +1,4 @@
--- `split_text::put_movements` meets its contract. Assumes nothing.
+-- `split_text::put_movements` meets its contract.
 use Rattle.base_laws.proofs.Kit.{arith, _+_, _-_, needs}
 use Rattle.model.specs.Table.{letterM}
 use Rattle.split_tables.specs.Tables.{movementsAt, isIn}

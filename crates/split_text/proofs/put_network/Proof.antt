@@ -1,4 +1,4 @@
--- `split_text::put_network` meets its contract. Assumes nothing.
+-- `split_text::put_network` meets its contract.
 use Rattle.base_laws.proofs.Kit.{refl, needs}
 use Rattle.split_text.proofs.Rows.{rates-asked}
 use Rattle.split_text.proofs.Whole.{trams-asked, trams-ready, signals-ready, links-ready, movements-ready, steps-ready, all-put}

@@ -1,4 +1,4 @@
--- `split_text::put_plan` meets its contract. Assumes nothing.
+-- `split_text::put_plan` meets its contract.
 use Rattle.base_laws.proofs.Kit.{_-_, needs}
 use Rattle.split_text.proofs.Steps.{PlanTo, plan-none, plan-line-asked, plan-next, plan-size, plan-all}
 use Rattle.split_text.proofs.put_plan.Statement.{statement}

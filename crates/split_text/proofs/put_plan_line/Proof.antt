@@ -1,4 +1,4 @@
--- `split_text::put_plan_line` meets its contract. Assumes nothing.
+-- `split_text::put_plan_line` meets its contract.
 use Rattle.base_laws.proofs.Kit.{refl, sym, arith, needs}
 use Rattle.network_tables.specs.Fields.{lineSize}
 use Rattle.split_text.proofs.Reading.{plan-asked}

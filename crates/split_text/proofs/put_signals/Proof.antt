@@ -1,4 +1,4 @@
--- `split_text::put_signals` meets its contract. Assumes nothing.
+-- `split_text::put_signals` meets its contract.
 use Rattle.base_laws.proofs.Kit.{arith, _-_, needs}
 use Rattle.split_text.proofs.Picked.{picks-all}
 use Rattle.split_text.proofs.Lines.{SignalsPut, signals-none, width-small, signal-part, signal-early, signals-next}

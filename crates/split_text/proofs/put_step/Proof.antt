@@ -1,4 +1,4 @@
--- `split_text::put_step` meets its contract. Assumes nothing.
+-- `split_text::put_step` meets its contract.
 use Rattle.base_laws.proofs.Kit.{refl, arith, needs}
 use Rattle.split_text.proofs.Reading.{plan-asked}
 use Rattle.split_text.proofs.Rows.{step-fits, volumes-asked, sums-asked, demands-asked, step-put}

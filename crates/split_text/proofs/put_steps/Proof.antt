@@ -1,4 +1,4 @@
--- `split_text::put_steps` meets its contract. Assumes nothing.
+-- `split_text::put_steps` meets its contract.
 use Rattle.base_laws.proofs.Kit.{_-_, needs}
 use Rattle.split_text.proofs.Steps.{StepsTo, steps-none, step-asked, steps-next, steps-size, steps-all}
 use Rattle.split_text.proofs.put_steps.Statement.{statement}

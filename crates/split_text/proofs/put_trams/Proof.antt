@@ -1,4 +1,4 @@
--- `split_text::put_trams` meets its contract. Assumes nothing.
+-- `split_text::put_trams` meets its contract.
 use Rattle.base_laws.proofs.Kit.{arith, _-_, needs}
 use Rattle.split_text.proofs.Picked.{picks-early, picks-all}
 use Rattle.split_text.proofs.Lines.{TramsPut, trams-none, signal-named, trams-next}

@@ -1,4 +1,4 @@
--- `split_text::read_plan` meets its contract. Assumes nothing.
+-- `split_text::read_plan` meets its contract.
 use Rattle.split_text.proofs.Reading.{plan-next, plan-never}
 use borrow.Author.Needs.{needs}
 use Rattle.split_text.proofs.read_plan.Statement.{statement}

@@ -1,4 +1,4 @@
--- `split_text::signal_number` meets its contract. Assumes nothing.
+-- `split_text::signal_number` meets its contract.
 use Rattle.split_text.proofs.Lines.{number-none, number-some}
 use borrow.Author.Needs.{needs}
 use Rattle.split_text.proofs.signal_number.Statement.{statement}

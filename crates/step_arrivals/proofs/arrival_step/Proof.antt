@@ -1,4 +1,4 @@
--- `step_arrivals::arrival_step` meets its contract. The cursor is never past the step to be found. Assumes nothing.
+-- `step_arrivals::arrival_step` meets its contract. The cursor is never past the step to be found.
 use Rattle.base_laws.proofs.Kit.{_-_, _≡_, length, getD, needs}
 use Rattle.step_arrivals.specs.Arrivals.{Cursor}
 use Rattle.step_arrivals.proofs.Arrivals.{arrival-here, arrival-on}

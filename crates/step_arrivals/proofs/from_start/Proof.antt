@@ -1,4 +1,4 @@
--- `step_arrivals::from_start` meets its contract. The invariant: the first n places have their times. Assumes nothing.
+-- `step_arrivals::from_start` meets its contract. The invariant: the first n places have their times.
 use Rattle.base_laws.proofs.Kit.{suc, _-_, _≡_, getD, needs}
 use Rattle.step_arrivals.proofs.Times.{ShiftedTo, shift-begin, shift-since, shift-next, shift-all}
 use Rattle.step_arrivals.proofs.from_start.Statement.{statement}

@@ -1,4 +1,4 @@
--- `step_arrivals::next_arrivals` meets its contract. The invariant: the cursors of the first i links have been moved on. Assumes nothing.
+-- `step_arrivals::next_arrivals` meets its contract. The invariant: the cursors of the first i links have been moved on.
 use Rattle.base_laws.proofs.Kit.{_-_, needs}
 use Rattle.step_arrivals.proofs.Cursors.{Moving, moving-first, moving-cursor, moving-more, moving-all}
 use Rattle.step_arrivals.proofs.next_arrivals.Statement.{statement}

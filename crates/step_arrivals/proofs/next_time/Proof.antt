@@ -1,4 +1,4 @@
--- `step_arrivals::next_time` meets its contract. Assumes nothing.
+-- `step_arrivals::next_time` meets its contract.
 use Rattle.base_laws.proofs.Kit.{ℕ, _≡_, refl, arith, needs}
 use Rattle.base_laws.specs.Test.{_and_, within}
 use Rattle.step_arrivals.proofs.Timed.{time-room, time-fits}

@@ -1,4 +1,4 @@
--- `step_arrivals::scaled_arrived` meets its contract. Assumes nothing.
+-- `step_arrivals::scaled_arrived` meets its contract.
 use Rattle.base_laws.proofs.Kit.{_+_, _*_, ap, ap₂, _∙_, arith, needs}
 use Rattle.step_arrivals.proofs.Arrivals.{scaled-fits}
 use Rattle.step_arrivals.proofs.scaled_arrived.Statement.{statement}

@@ -1,4 +1,4 @@
--- `step_check::first_break` meets its contract. The loops' invariants: nothing is found so far, and every rule before the one at hand is kept. Assumes nothing.
+-- `step_check::first_break` meets its contract. The loops' invariants: nothing is found so far, and every rule before the one at hand is kept.
 use Rattle.base_laws.proofs.Kit.{_-_, _≤_, _≡_, refl, arith, needs}
 use Rattle.base_search.specs.declared.Verdict.the-variants.{Passes}
 use Rattle.base_search.proofs.Table.{RulesKept, ItemsKept, rules-none}

@@ -1,4 +1,4 @@
--- `step_check::form_row_for` meets its contract. Assumes nothing.
+-- `step_check::form_row_for` meets its contract.
 use Rattle.base_laws.proofs.Kit.{refl, needs}
 use Rattle.step_check.proofs.form_row_for.Statement.{statement}
 use Rattle.step_check.proofs.form_row_for.Tie as tie

@@ -1,4 +1,4 @@
--- `step_check::judge_step` meets its contract: by the pass, or by the search after it. Assumes nothing.
+-- `step_check::judge_step` meets its contract: by the pass, or by the search after it.
 use Rattle.step_check.proofs.Pass.{asked-again, judged-again}
 use borrow.Author.Needs.{needs}
 use Rattle.step_check.proofs.judge_step.Statement.{statement}

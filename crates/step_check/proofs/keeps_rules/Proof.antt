@@ -1,4 +1,4 @@
--- `step_check::keeps_rules` meets its contract. Assumes nothing.
+-- `step_check::keeps_rules` meets its contract.
 use Rattle.base_laws.proofs.Kit.{not-false, needs}
 use Rattle.step_check.proofs.Pass.{pass-stops, pass-ends}
 use Rattle.step_check.proofs.keeps_rules.Statement.{statement}

@@ -1,4 +1,4 @@
--- `step_check::rule_holds` meets its contract: each way out is one family of rules. Assumes nothing.
+-- `step_check::rule_holds` meets its contract: each way out is one family of rules.
 use Rattle.base_laws.proofs.Kit.{arith, needs}
 use Rattle.step_check.proofs.Rules.{items-signal, items-limit, items-sum, holds-signal, holds-limit, holds-sum}
 use Rattle.step_check.proofs.rule_holds.Statement.{statement}

@@ -1,4 +1,4 @@
--- `step_limits::admits_offer` meets its contract. Assumes nothing.
+-- `step_limits::admits_offer` meets its contract.
 use Rattle.step_limits.specs.Limits.{admitsOffer}
 use borrow.Author.Needs.{needs}
 use Rattle.step_limits.proofs.admits_offer.Statement.{statement}

@@ -1,4 +1,4 @@
--- `step_limits::is_open` meets its contract. Without a signal the first test decides, with one the second. Assumes nothing.
+-- `step_limits::is_open` meets its contract. Without a signal the first test decides, with one the second.
 use Rattle.base_laws.proofs.Kit.{_≡_, sym, ap, ap₂, _∙_, _-_, arith, getD, needs}
 use Rattle.model.specs.Signals.{opens}
 use Rattle.network_tables.specs.Fields.{signalIn}

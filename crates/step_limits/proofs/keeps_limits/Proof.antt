@@ -1,4 +1,4 @@
--- `step_limits::keeps_limits` meets its contract. Assumes nothing.
+-- `step_limits::keeps_limits` meets its contract.
 use Rattle.base_laws.proofs.Kit.{ℕ, _≡_, arith, not-false, needs}
 use Rattle.step_limits.proofs.keeps_limits.Statement.{statement}
 use Rattle.step_limits.proofs.keeps_limits.Tie as tie

@@ -1,4 +1,4 @@
--- `step_limits::keeps_link_limits` meets its contract. The loop's invariant: the links so far keep 15 and 25. Assumes nothing.
+-- `step_limits::keeps_link_limits` meets its contract. The loop's invariant: the links so far keep 15 and 25.
 use Rattle.base_laws.proofs.Kit.{ℕ, _-_, _≤_, _≡_, sym, _∙_, arith, not-false, needs}
 use borrow.Author.Count.{below-more}
 use Rattle.step_limits.specs.Limits.{LinkLimitsKept}

@@ -1,4 +1,4 @@
--- `step_limits::keeps_movement_limits` meets its contract. The loop's invariant: the movements so far keep 26 and 27. Assumes nothing.
+-- `step_limits::keeps_movement_limits` meets its contract. The loop's invariant: the movements so far keep 26 and 27.
 use Rattle.base_laws.proofs.Kit.{ℕ, _-_, _≤_, _≡_, arith, not-false, needs}
 use borrow.Author.Count.{below-more}
 use Rattle.step_limits.specs.Limits.{MovementLimitsKept}

@@ -1,4 +1,4 @@
--- `step_limits::lets_out_rate` meets its contract. Assumes nothing.
+-- `step_limits::lets_out_rate` meets its contract.
 use Rattle.base_laws.proofs.Kit.{_∙_, ap₂, _*_, leb, needs}
 use Rattle.network_tables.specs.Fields.{lengthIn}
 use Rattle.step_limits.specs.Limits.{letsOutRate}

@@ -1,4 +1,4 @@
--- `step_limits::limit_rule` meets its contract. Each way out is one test of the table. Assumes nothing.
+-- `step_limits::limit_rule` meets its contract. Each way out is one test of the table.
 use Rattle.base_laws.proofs.Kit.{_<_, arith, needs}
 use Rattle.step_limits.specs.Limits.{limitRuleHolds}
 use Rattle.step_limits.proofs.Rules.{no-limit-rule}

@@ -1,4 +1,4 @@
--- `step_limits::moves_open` meets its contract. Assumes nothing.
+-- `step_limits::moves_open` meets its contract.
 use Rattle.step_limits.proofs.Turns.{nothing-moves, moves-open-is}
 use Rattle.base_laws.proofs.Kit.{arith, needs}
 use Rattle.step_limits.proofs.moves_open.Statement.{statement}

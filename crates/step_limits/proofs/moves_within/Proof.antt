@@ -1,4 +1,4 @@
--- `step_limits::moves_within` meets its contract. Assumes nothing.
+-- `step_limits::moves_within` meets its contract.
 use Rattle.base_laws.proofs.Kit.{ℕ, _≡_, arith, needs}
 use Rattle.step_limits.proofs.Turns.{still-keeps, moving-keeps}
 use Rattle.step_limits.proofs.moves_within.Statement.{statement}

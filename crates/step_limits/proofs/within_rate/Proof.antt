@@ -1,4 +1,4 @@
--- `step_limits::within_rate` meets its contract. Assumes nothing.
+-- `step_limits::within_rate` meets its contract.
 use Rattle.base_laws.proofs.Kit.{mul-le-mul-right, arith, needs}
 use Rattle.step_limits.proofs.within_rate.Statement.{statement}
 use Rattle.step_limits.proofs.within_rate.Tie as tie

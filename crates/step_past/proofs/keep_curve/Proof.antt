@@ -1,4 +1,4 @@
--- `step_past::keep_curve` meets its contract. Assumes nothing.
+-- `step_past::keep_curve` meets its contract.
 use Rattle.step_past.proofs.Keeping.{keep-none, keep-set}
 use Rattle.base_laws.proofs.Kit.{length-set, needs}
 use Rattle.step_past.proofs.keep_curve.Statement.{statement}

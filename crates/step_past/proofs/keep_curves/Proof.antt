@@ -1,4 +1,4 @@
--- `step_past::keep_curves` meets its contract. The invariant: the curves of the first i links are kept. Assumes nothing.
+-- `step_past::keep_curves` meets its contract. The invariant: the curves of the first i links are kept.
 use Rattle.base_laws.proofs.Kit.{_-_, needs}
 use Rattle.step_past.proofs.Keeping.{KeepingTo, keep-begin, keep-asked, keep-next, keep-done}
 use Rattle.step_past.proofs.keep_curves.Statement.{statement}

@@ -1,4 +1,4 @@
--- `step_past::load_past` meets its contract. The invariant: the row at boundary m of the timeline, and the curves of the links whose travel time ends before it. Assumes nothing.
+-- `step_past::load_past` meets its contract. The invariant: the row at boundary m of the timeline, and the curves of the links whose travel time ends before it.
 use Rattle.base_laws.proofs.Kit.{_-_, arith, needs}
 use Rattle.step_past.proofs.Loading.{PastTo, start-asked, arrivals-asked, past-begin, past-malformed, sums-asked, past-over, keep-asked, past-next-line, past-done}
 use Rattle.step_past.proofs.load_past.Statement.{statement}

@@ -1,4 +1,4 @@
--- `step_past::next_arrivals` meets its contract. The invariant: the first i links are moved on. Assumes nothing.
+-- `step_past::next_arrivals` meets its contract. The invariant: the first i links are moved on.
 use Rattle.base_laws.proofs.Kit.{_-_, needs}
 use Rattle.step_past.proofs.Moving.{MovedTo, moved-none, move-asked, moved-more, moved-all}
 use Rattle.step_past.proofs.next_arrivals.Statement.{statement}

@@ -1,4 +1,4 @@
--- `step_past::read_on` meets its contract. The invariant: the curve of the lines read so far. Assumes nothing.
+-- `step_past::read_on` meets its contract. The invariant: the curve of the lines read so far.
 use Rattle.base_laws.proofs.Kit.{_-_, needs}
 use Rattle.step_past.proofs.Reading.{ReadTo, read-begin, read-never, stop-fits, read-next, read-done}
 use Rattle.step_past.proofs.read_on.Statement.{statement}

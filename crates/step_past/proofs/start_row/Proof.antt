@@ -1,4 +1,4 @@
--- `step_past::start_row` meets its contract. The invariant: the first i links are at their start. Assumes nothing.
+-- `step_past::start_row` meets its contract. The invariant: the first i links are at their start.
 use Rattle.base_laws.proofs.Kit.{_-_, length-set, needs}
 use Rattle.step_past.proofs.Keeping.{StartingTo, start-begin, start-next, start-done}
 use Rattle.step_past.proofs.start_row.Statement.{statement}

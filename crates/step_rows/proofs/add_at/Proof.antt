@@ -1,4 +1,4 @@
--- `step_rows::add_at` meets its contract. Assumes nothing.
+-- `step_rows::add_at` meets its contract.
 use Rattle.base_laws.proofs.Kit.{arith, needs}
 use Rattle.step_rows.proofs.Turns.{nothing-added}
 use Rattle.step_rows.proofs.add_at.Statement.{statement}

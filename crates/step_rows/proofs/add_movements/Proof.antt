@@ -1,4 +1,4 @@
--- `step_rows::add_movements` meets its contract. The invariant: the first j movements have been added to the row. Each store has room, since what is added so far is at most what all movements add. Assumes nothing.
+-- `step_rows::add_movements` meets its contract. The invariant: the first j movements have been added to the row. Each store has room, since what is added so far is at most what all movements add.
 use Rattle.base_laws.proofs.Kit.{_≡_, _-_, _≤_, arith, needs}
 use Rattle.step_rows.proofs.Scatter.{added-none, room-to, room-second, added-turn}
 use Rattle.step_rows.specs.Rows.{Added}

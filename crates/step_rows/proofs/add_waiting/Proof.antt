@@ -1,4 +1,4 @@
--- `step_rows::add_waiting` meets its contract. The invariant: those who wait have been added to the demand of the first i links. Assumes nothing.
+-- `step_rows::add_waiting` meets its contract. The invariant: those who wait have been added to the demand of the first i links.
 use Rattle.base_laws.proofs.Kit.{_-_, needs}
 use Rattle.step_rows.proofs.WaitingTurns.{Adding, adding-first, adding-fits, adding-more, adding-all}
 use Rattle.step_rows.proofs.add_waiting.Statement.{statement}

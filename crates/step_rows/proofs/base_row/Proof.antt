@@ -1,4 +1,4 @@
--- `step_rows::base_row` meets its contract. The invariant: the row has begun with the first i links. Assumes nothing.
+-- `step_rows::base_row` meets its contract. The invariant: the row has begun with the first i links.
 use Rattle.base_laws.proofs.Kit.{_++_, _≡_, _*_, _-_, _≤_, arith, length, drop, length-set, needs}
 use Rattle.network_tables.specs.Fields.{rowSize}
 use Rattle.step_rows.specs.Rows.{pairs, baseEntered, baseLeft}

@@ -1,4 +1,4 @@
--- `step_rows::copy_row` meets its contract. The invariant: the first k numbers are the row's, the others the part's. Assumes nothing.
+-- `step_rows::copy_row` meets its contract. The invariant: the first k numbers are the row's, the others the part's.
 use Rattle.base_laws.proofs.Kit.{_≡_, refl, _++_, _-_, _≤_, arith, needs, length, take, drop, length-set}
 use Rattle.step_rows.proofs.Lists.{copy-turn}
 use Rattle.step_rows.proofs.copy_row.Statement.{statement}

@@ -1,4 +1,4 @@
--- `step_rows::first_waiting` meets its contract. The invariant: who waits at the first i entries is told. Assumes nothing.
+-- `step_rows::first_waiting` meets its contract. The invariant: who waits at the first i entries is told.
 use Rattle.base_laws.proofs.Kit.{_-_, needs}
 use Rattle.step_rows.proofs.WaitingTurns.{FirstTo, first-begin, first-more, first-all}
 use Rattle.step_rows.proofs.first_waiting.Statement.{statement}

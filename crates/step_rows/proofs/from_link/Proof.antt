@@ -1,4 +1,4 @@
--- `step_rows::from_link` meets its contract. Assumes nothing.
+-- `step_rows::from_link` meets its contract.
 use native.Mathlib.Omega.{arith}
 use Rattle.step_rows.proofs.from_link.Statement.{statement}
 use Rattle.step_rows.proofs.from_link.Tie as tie

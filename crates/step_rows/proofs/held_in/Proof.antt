@@ -1,4 +1,4 @@
--- `step_rows::held_in` meets its contract. The invariant: the total is what the first i links hold. Assumes nothing.
+-- `step_rows::held_in` meets its contract. The invariant: the total is what the first i links hold.
 use Rattle.base_laws.proofs.Kit.{_≡_, sym, _*_, _-_, _≤_, arith, needs}
 use Rattle.base_laws.specs.Sum.{sum}
 use Rattle.network_tables.specs.Fields.{enteredIn, leftIn}

@@ -1,4 +1,4 @@
--- `step_rows::next_row` meets its contract. The row that the line begins has room for the movements, and with them it is the next row. Assumes nothing.
+-- `step_rows::next_row` meets its contract. The row that the line begins has room for the movements, and with them it is the next row.
 use borrow.Author.Needs.{needs}
 use Rattle.step_rows.proofs.Next.{next-base, next-room, next-is}
 use Rattle.step_rows.proofs.next_row.Statement.{statement}

@@ -1,4 +1,4 @@
--- `step_rows::next_waiting` meets its contract. The invariant: the first i links have who waits after the step. Assumes nothing.
+-- `step_rows::next_waiting` meets its contract. The invariant: the first i links have who waits after the step.
 use Rattle.base_laws.proofs.Kit.{_-_, needs}
 use Rattle.step_rows.proofs.WaitingTurns.{Keeping, keeping-first, keeping-enough, keeping-more, keeping-all}
 use Rattle.step_rows.proofs.next_waiting.Statement.{statement}

@@ -1,4 +1,4 @@
--- `step_rows::sum_of` meets its contract. The invariant: the total is the sum of the first i numbers. Assumes nothing.
+-- `step_rows::sum_of` meets its contract. The invariant: the total is the sum of the first i numbers.
 use Rattle.base_laws.proofs.Kit.{_≡_, sym, _+_, _*_, _-_, _≤_, arith, needs, getD}
 use Rattle.base_laws.specs.Sum.{sum}
 use Rattle.step_rows.proofs.Sums.{sum-none, sum-next}

@@ -1,4 +1,4 @@
--- `step_signals::advance` meets its contract. The loop's invariant: the first i signals are a step on, the others as they were. Assumes nothing.
+-- `step_signals::advance` meets its contract. The loop's invariant: the first i signals are a step on, the others as they were.
 use Rattle.base_laws.proofs.Kit.{_≡_, _-_, _≤_, arith, le-refl, needs}
 use Rattle.step_signals.specs.Step.{Advanced}
 use Rattle.step_signals.proofs.Steps.{advanced-none, advanced-more}

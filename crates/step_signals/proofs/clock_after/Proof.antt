@@ -1,4 +1,4 @@
--- `step_signals::clock_after` meets its contract: what it calls gives the definition's parts. Assumes nothing.
+-- `step_signals::clock_after` meets its contract: what it calls gives the definition's parts.
 use borrow.Author.Needs.{needs}
 use Rattle.step_signals.proofs.clock_after.Statement.{statement}
 use Rattle.step_signals.proofs.clock_after.Tie as tie

@@ -1,4 +1,4 @@
--- `step_signals::goes_on` meets its contract: what it calls gives the definition's parts. Assumes nothing.
+-- `step_signals::goes_on` meets its contract: what it calls gives the definition's parts.
 use Rattle.base_laws.proofs.Kit.{arith, needs}
 use Rattle.base_laws.specs.Test.{_and_}
 use Rattle.step_signals.specs.Step.{goesOn}

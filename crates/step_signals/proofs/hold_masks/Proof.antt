@@ -1,4 +1,4 @@
--- `step_signals::hold_masks` meets its contract. The loop's invariant: the masks of the first i signals are written. Assumes nothing.
+-- `step_signals::hold_masks` meets its contract. The loop's invariant: the masks of the first i signals are written.
 use Rattle.base_laws.proofs.Kit.{_≡_, _-_, _≤_, arith, needs}
 use Rattle.step_signals.specs.Step.{HeldMasks}
 use Rattle.step_signals.proofs.Steps.{held-none, held-more}

@@ -1,4 +1,4 @@
--- `step_signals::keeps_all` meets its contract: what it calls gives the definition's parts. Assumes nothing.
+-- `step_signals::keeps_all` meets its contract: what it calls gives the definition's parts.
 use Rattle.base_laws.specs.Test.{_and_, _or_}
 use Rattle.step_signals.specs.Step.{keepsAll}
 use borrow.Author.Needs.{needs}

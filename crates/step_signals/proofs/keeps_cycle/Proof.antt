@@ -1,4 +1,4 @@
--- `step_signals::keeps_cycle` meets its contract: what it calls gives the definition's parts. Assumes nothing.
+-- `step_signals::keeps_cycle` meets its contract: what it calls gives the definition's parts.
 use borrow.Author.Needs.{needs}
 use Rattle.step_signals.proofs.keeps_cycle.Statement.{statement}
 use Rattle.step_signals.proofs.keeps_cycle.Tie as tie

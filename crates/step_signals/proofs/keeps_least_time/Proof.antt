@@ -1,4 +1,4 @@
--- `step_signals::keeps_least_time` meets its contract: what it calls gives the definition's parts. Assumes nothing.
+-- `step_signals::keeps_least_time` meets its contract: what it calls gives the definition's parts.
 use borrow.Author.Needs.{needs}
 use Rattle.step_signals.proofs.keeps_least_time.Statement.{statement}
 use Rattle.step_signals.proofs.keeps_least_time.Tie as tie

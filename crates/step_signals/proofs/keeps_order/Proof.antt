@@ -1,4 +1,4 @@
--- `step_signals::keeps_order` meets its contract: what it calls gives the definition's parts. Assumes nothing.
+-- `step_signals::keeps_order` meets its contract: what it calls gives the definition's parts.
 use borrow.Author.Needs.{needs}
 use Rattle.step_signals.proofs.keeps_order.Statement.{statement}
 use Rattle.step_signals.proofs.keeps_order.Tie as tie

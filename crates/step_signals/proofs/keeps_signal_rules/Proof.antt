@@ -1,4 +1,4 @@
--- `step_signals::keeps_signal_rules` meets its contract. The loop's invariant: the signals so far keep every rule. Assumes nothing.
+-- `step_signals::keeps_signal_rules` meets its contract. The loop's invariant: the signals so far keep every rule.
 use Rattle.base_laws.proofs.Kit.{ℕ, _-_, _≤_, _≡_, arith, needs}
 use Rattle.step_signals.specs.Step.{SignalRulesKept}
 use Rattle.step_signals.proofs.Rules.{kept-more}

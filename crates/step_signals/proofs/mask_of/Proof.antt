@@ -1,4 +1,4 @@
--- `step_signals::mask_of` meets its contract. Assumes nothing.
+-- `step_signals::mask_of` meets its contract.
 use Rattle.base_laws.proofs.Kit.{needs, _∙_, ap, _^_, arith}
 use Rattle.model.proofs.Phases.{bit-shifted}
 use Rattle.step_signals.proofs.mask_of.Statement.{statement}

@@ -1,4 +1,4 @@
--- `step_signals::next_phase` meets its contract: each arm is the definition's case of that phase. Assumes nothing.
+-- `step_signals::next_phase` meets its contract: each arm is the definition's case of that phase.
 use Rattle.base_laws.proofs.Kit.{_≡_, ℕ, suc, _+_, _≤_, arith, eq-eqb, ne-eqb}
 use Rattle.step_signals.proofs.next_phase.Statement.{statement}
 use Rattle.step_signals.proofs.next_phase.Tie as tie

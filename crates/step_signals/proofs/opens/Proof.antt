@@ -1,4 +1,4 @@
--- `step_signals::opens` meets its contract. Assumes nothing.
+-- `step_signals::opens` meets its contract.
 use Rattle.model.specs.Signals.{opens}
 use borrow.Author.Needs.{needs}
 use Rattle.step_signals.proofs.opens.Statement.{statement}

@@ -1,4 +1,4 @@
--- `step_signals::phase_of` meets its contract: each way out is one law on the two counts. Assumes nothing.
+-- `step_signals::phase_of` meets its contract: each way out is one law on the two counts.
 use Rattle.step_signals.proofs.Phase.{phase-one, phase-past, phase-many}
 use borrow.Author.Needs.{needs}
 use Rattle.step_signals.proofs.phase_of.Statement.{statement}

@@ -1,4 +1,4 @@
--- `step_signals::shown_phases` meets its contract. The loop's invariant: the phases of the first i signals are written. Assumes nothing.
+-- `step_signals::shown_phases` meets its contract. The loop's invariant: the phases of the first i signals are written.
 use Rattle.base_laws.proofs.Kit.{_≡_, _-_, _≤_, arith, needs}
 use Rattle.step_signals.specs.Step.{ShownPhases}
 use Rattle.step_signals.proofs.Steps.{shown-none, shown-more}

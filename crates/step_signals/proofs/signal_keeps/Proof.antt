@@ -1,4 +1,4 @@
--- `step_signals::signal_keeps` meets its contract. Assumes nothing.
+-- `step_signals::signal_keeps` meets its contract.
 use Rattle.base_laws.proofs.Kit.{refl, sym, _∙_, needs}
 use Rattle.step_signals.proofs.Rules.{goes-keeps}
 use Rattle.step_signals.proofs.signal_keeps.Statement.{statement}

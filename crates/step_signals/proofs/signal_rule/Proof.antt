@@ -1,4 +1,4 @@
--- `step_signals::signal_rule` meets its contract. Assumes nothing.
+-- `step_signals::signal_rule` meets its contract.
 use Rattle.base_laws.proofs.Kit.{arith, needs}
 use Rattle.step_signals.specs.Step.{signalRuleHolds}
 use Rattle.step_signals.proofs.signal_rule.Statement.{statement}

@@ -1,4 +1,4 @@
--- `step_signals::signal_test` meets its contract: at each place the rule that it calls is the definition's. Assumes nothing.
+-- `step_signals::signal_test` meets its contract: at each place the rule that it calls is the definition's.
 use Rattle.base_laws.proofs.Kit.{arith, needs}
 use Rattle.base_laws.specs.Test.{_or_}
 use Rattle.step_signals.specs.Step.{signalTest}

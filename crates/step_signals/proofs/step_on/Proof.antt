@@ -1,4 +1,4 @@
--- `step_signals::step_on` meets its contract. Assumes nothing.
+-- `step_signals::step_on` meets its contract.
 use Rattle.step_signals.proofs.Steps.{signal-on, signal-still}
 use borrow.Author.Needs.{needs}
 use Rattle.step_signals.proofs.step_on.Statement.{statement}

@@ -1,4 +1,4 @@
--- `step_sums::entered_after` meets its contract. Assumes nothing.
+-- `step_sums::entered_after` meets its contract.
 use Rattle.step_sums.proofs.Turns.{row-after, after-past, after-last, after-earlier}
 use borrow.Author.Needs.{needs}
 use Rattle.step_sums.proofs.entered_after.Statement.{statement}

@@ -1,4 +1,4 @@
--- `step_sums::entered_before` meets its contract. Assumes nothing.
+-- `step_sums::entered_before` meets its contract.
 use Rattle.step_sums.proofs.Turns.{row-before, before-past, before-later}
 use borrow.Author.Needs.{needs}
 use Rattle.step_sums.proofs.entered_before.Statement.{statement}

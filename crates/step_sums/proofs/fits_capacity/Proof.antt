@@ -1,4 +1,4 @@
--- `step_sums::fits_capacity` meets its contract. A sum stands in place of the difference. Assumes nothing.
+-- `step_sums::fits_capacity` meets its contract. A sum stands in place of the difference.
 use Rattle.base_laws.proofs.Kit.{_∙_, ap₂, _+_, leb, needs}
 use Rattle.network_tables.specs.Fields.{capacityIn, enteredIn, leftIn}
 use Rattle.step_sums.specs.Sums.{fitsCapacity}

@@ -1,4 +1,4 @@
--- `step_sums::keeps_link_sums` meets its contract. The loop's invariant: the links so far keep 17 and 18. Assumes nothing.
+-- `step_sums::keeps_link_sums` meets its contract. The loop's invariant: the links so far keep 17 and 18.
 use Rattle.base_laws.proofs.Kit.{ℕ, _-_, _≤_, _≡_, sym, _∙_, arith, not-false, needs}
 use borrow.Author.Count.{below-more}
 use Rattle.step_sums.specs.Sums.{LinkSumsKept}

@@ -1,4 +1,4 @@
--- `step_sums::keeps_share` meets its contract. What left in the row holds beside the row before and the let-out volume is the sum of the movements. Assumes nothing.
+-- `step_sums::keeps_share` meets its contract. What left in the row holds beside the row before and the let-out volume is the sum of the movements.
 use Rattle.step_sums.proofs.Turns.{share-room, no-share, share-is}
 use borrow.Author.Needs.{needs}
 use Rattle.step_sums.proofs.keeps_share.Statement.{statement}

@@ -1,4 +1,4 @@
--- `step_sums::keeps_sums` meets its contract. Assumes nothing.
+-- `step_sums::keeps_sums` meets its contract.
 use Rattle.base_laws.proofs.Kit.{ℕ, _≡_, arith, not-false, needs}
 use Rattle.step_sums.proofs.keeps_sums.Statement.{statement}
 use Rattle.step_sums.proofs.keeps_sums.Tie as tie

@@ -1,4 +1,4 @@
--- `step_sums::leaves_arrived` meets its contract. Assumes nothing.
+-- `step_sums::leaves_arrived` meets its contract.
 use Rattle.step_sums.specs.Sums.{leavesArrived}
 use Rattle.step_sums.proofs.Turns.{seconds-small, elapsed-small, arrived-before}
 use borrow.Author.Needs.{needs}

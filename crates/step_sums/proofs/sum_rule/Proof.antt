@@ -1,4 +1,4 @@
--- `step_sums::sum_rule` meets its contract. Each way out is one rule of the table. Assumes nothing.
+-- `step_sums::sum_rule` meets its contract. Each way out is one rule of the table.
 use Rattle.base_laws.proofs.Kit.{_<_, arith, needs}
 use Rattle.step_sums.specs.Sums.{sumRuleHolds}
 use Rattle.step_sums.proofs.Rules.{no-sum-rule}

@@ -1,4 +1,4 @@
--- `text_reader::digits_from` meets its contract. The invariant: what the field says is what its bytes from i on say after `value`, `more` digits at most. Assumes nothing.
+-- `text_reader::digits_from` meets its contract. The invariant: what the field says is what its bytes from i on say after `value`, `more` digits at most.
 use Rattle.base_laws.proofs.Kit.{_-_, length, needs}
 use Rattle.text_reader.proofs.Turns.{Saying, saying-none, rest-past, rest-stop, rest-full, rest-not, rest-big, rest-turn, digit-low, digit-high, has-room}
 use Rattle.text_reader.proofs.digits_from.Statement.{statement}

@@ -1,4 +1,4 @@
--- `text_reader::ends_at` meets its contract. Assumes nothing.
+-- `text_reader::ends_at` meets its contract.
 use Rattle.text_reader.proofs.Turns.{ends-past, ends-test}
 use borrow.Author.Needs.{needs}
 use Rattle.text_reader.proofs.ends_at.Statement.{statement}

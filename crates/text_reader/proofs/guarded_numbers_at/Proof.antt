@@ -1,4 +1,4 @@
--- `text_reader::guarded_numbers_at` meets its contract. The invariant: k numbers are stored, and the next would be read from i. Assumes nothing.
+-- `text_reader::guarded_numbers_at` meets its contract. The invariant: k numbers are stored, and the next would be read from i.
 use Rattle.base_laws.proofs.Kit.{_-_, arith, length, length-set, needs}
 use Rattle.text_reader.proofs.Turns.{Stored, stored-none, stored-more, stored-stop, all-past, all-feed, all-other}
 use Rattle.text_reader.proofs.guarded_numbers_at.Statement.{statement}

@@ -1,4 +1,4 @@
--- `text_reader::has_room` meets its contract. Assumes nothing.
+-- `text_reader::has_room` meets its contract.
 use Rattle.text_reader.proofs.Turns.{room-small, room-large, room-last}
 use Rattle.text_reader.proofs.has_room.Statement.{statement}
 use Rattle.text_reader.proofs.has_room.Tie as tie

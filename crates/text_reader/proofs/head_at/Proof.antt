@@ -1,4 +1,4 @@
--- `text_reader::head_at` meets its contract. Assumes nothing.
+-- `text_reader::head_at` meets its contract.
 use borrow.Author.Needs.{needs}
 use Rattle.text_reader.proofs.Turns.{last-head, more-head, missing-head}
 use Rattle.text_reader.proofs.head_at.Statement.{statement}

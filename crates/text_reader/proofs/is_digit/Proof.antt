@@ -1,4 +1,4 @@
--- `text_reader::is_digit` meets its contract. Assumes nothing.
+-- `text_reader::is_digit` meets its contract.
 use Rattle.text_reader.specs.Field.{digit}
 use Rattle.text_reader.proofs.Tests.{tests}
 use Rattle.text_reader.proofs.is_digit.Statement.{statement}

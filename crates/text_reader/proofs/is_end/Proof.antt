@@ -1,4 +1,4 @@
--- `text_reader::is_end` meets its contract. Assumes nothing.
+-- `text_reader::is_end` meets its contract.
 use Rattle.text_reader.proofs.Turns.{end-test}
 use Rattle.text_reader.proofs.is_end.Statement.{statement}
 use Rattle.text_reader.proofs.is_end.Tie as tie

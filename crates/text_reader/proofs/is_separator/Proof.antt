@@ -1,4 +1,4 @@
--- `text_reader::is_separator` meets its contract. Assumes nothing.
+-- `text_reader::is_separator` meets its contract.
 use Rattle.text_reader.specs.Reading.{separator}
 use Rattle.text_reader.proofs.Tests.{tests}
 use Rattle.text_reader.proofs.is_separator.Statement.{statement}

@@ -1,4 +1,4 @@
--- `text_reader::line_at` meets its contract. Assumes nothing.
+-- `text_reader::line_at` meets its contract.
 use borrow.Author.Needs.{needs}
 use Rattle.text_reader.proofs.Turns.{last-line, more-line, missing-line}
 use Rattle.text_reader.proofs.line_at.Statement.{statement}

@@ -1,4 +1,4 @@
--- `text_reader::numbers_at` meets its contract. Assumes nothing.
+-- `text_reader::numbers_at` meets its contract.
 use Rattle.base_laws.proofs.Kit.{arith, needs}
 use Rattle.text_reader.proofs.Turns.{starts-within, as-other, as-long, as-stops, as-guarded}
 use Rattle.text_reader.proofs.Sentinel.{sentinel-tab, sentinel-last, sentinel-stops, as-sentinel}

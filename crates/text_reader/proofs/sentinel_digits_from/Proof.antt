@@ -1,4 +1,4 @@
--- `text_reader::sentinel_digits_from` meets its contract. The invariant: the k bytes from `from` on are digits that say `value`, and the text goes on behind them. Assumes nothing.
+-- `text_reader::sentinel_digits_from` meets its contract. The invariant: the k bytes from `from` on are digits that say `value`, and the text goes on behind them.
 use Rattle.base_laws.proofs.Kit.{_+_, _-_, length, needs}
 use Rattle.text_reader.proofs.Turns.{digit-low, digit-high, has-room}
 use Rattle.text_reader.proofs.Sentinel.{Run, run-none, run-stop, run-big, run-more, run-full}

@@ -1,4 +1,4 @@
--- `text_reader::sentinel_numbers_at` meets its contract. The invariant: k numbers are stored, and a tab stands at i. Assumes nothing.
+-- `text_reader::sentinel_numbers_at` meets its contract. The invariant: k numbers are stored, and a tab stands at i.
 use Rattle.base_laws.proofs.Kit.{_-_, _≡_, arith, length, getD, length-set, needs}
 use Rattle.text_reader.proofs.Turns.{Stored, stored-none}
 use Rattle.text_reader.proofs.Sentinel.{all-tab, ended-tab, ended-feed, ended-stop, ended-more, feed-all, feed-early}

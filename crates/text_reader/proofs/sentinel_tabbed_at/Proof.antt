@@ -1,4 +1,4 @@
--- `text_reader::sentinel_tabbed_at` meets its contract. Assumes nothing.
+-- `text_reader::sentinel_tabbed_at` meets its contract.
 use Rattle.base_laws.proofs.Kit.{arith, needs}
 use Rattle.text_reader.proofs.Sentinel.{tab-goes-on, ends-empty, ends-within, ends-tab, ends-feed, ends-other, ends-absent}
 use Rattle.text_reader.proofs.sentinel_tabbed_at.Statement.{statement}

@@ -1,4 +1,4 @@
--- `text_reader::starts_with` meets its contract. Assumes nothing.
+-- `text_reader::starts_with` meets its contract.
 use borrow.Author.Needs.{needs}
 use Rattle.text_reader.proofs.Turns.{starts-past, starts-separator, starts-test}
 use Rattle.text_reader.proofs.starts_with.Statement.{statement}

@@ -1,4 +1,4 @@
--- `text_reader::tab_before_sentinel` meets its contract. Assumes nothing.
+-- `text_reader::tab_before_sentinel` meets its contract.
 use borrow.Author.Needs.{needs}
 use Rattle.text_reader.proofs.Sentinel.{sentinel-past, sentinel-other, sentinel-test}
 use Rattle.text_reader.proofs.tab_before_sentinel.Statement.{statement}

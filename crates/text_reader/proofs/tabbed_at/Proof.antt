@@ -1,4 +1,4 @@
--- `text_reader::tabbed_at` meets its contract. Assumes nothing.
+-- `text_reader::tabbed_at` meets its contract.
 use Rattle.text_reader.proofs.Turns.{tabbed-past, tabbed-other, tabbed-none, tabbed-rest}
 use borrow.Author.Needs.{needs}
 use Rattle.text_reader.proofs.tabbed_at.Statement.{statement}

@@ -1,4 +1,4 @@
--- `traces::cut_at` meets its contract. Assumes nothing.
+-- `traces::cut_at` meets its contract.
 use Rattle.traces.proofs.Turns.{stop-nearer, target-nearer}
 use borrow.Author.Needs.{needs}
 use Rattle.traces.proofs.cut_at.Statement.{statement}

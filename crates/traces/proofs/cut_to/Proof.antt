@@ -1,4 +1,4 @@
--- `traces::cut_to` meets its contract. Assumes nothing.
+-- `traces::cut_to` meets its contract.
 use Rattle.traces.proofs.Turns.{cut-none, cut-leader, cut-line}
 use borrow.Author.Needs.{needs}
 use Rattle.traces.proofs.cut_to.Statement.{statement}

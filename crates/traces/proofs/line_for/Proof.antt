@@ -1,4 +1,4 @@
--- `traces::line_for` meets its contract. Assumes nothing.
+-- `traces::line_for` meets its contract.
 use Rattle.traces.proofs.Turns.{line-ahead, line-behind}
 use borrow.Author.Needs.{needs}
 use Rattle.traces.proofs.line_for.Statement.{statement}

@@ -1,4 +1,4 @@
--- `traces::move_all` meets its contract. The measure is how many vehicles are left. Assumes nothing.
+-- `traces::move_all` meets its contract. The measure is how many vehicles are left.
 use Rattle.base_laws.proofs.Kit.{_-_, length, needs}
 use Rattle.traces.proofs.Turns.{Moving, moving-none, moving-next, moving-done}
 use Rattle.traces.proofs.move_all.Statement.{statement}

@@ -1,4 +1,4 @@
--- `traces::move_one` meets its contract. The invariant: the target is cut to the lines passed. The measure is what is left of them. Assumes nothing.
+-- `traces::move_one` meets its contract. The invariant: the target is cut to the lines passed. The measure is what is left of them.
 use Rattle.base_laws.proofs.Kit.{_≤_, _-_, _≡_, length, needs}
 use Rattle.traces.specs.Step.{cutToLines}
 use Rattle.traces.proofs.Turns.{no-line, next-line, moves, stays}

@@ -1,4 +1,4 @@
--- `traces::step_vehicles` meets its contract. Assumes nothing.
+-- `traces::step_vehicles` meets its contract.
 use Rattle.traces.proofs.Calls.{promised, one-advance-each, counts-refused, values-refused, all-stepped}
 use borrow.Author.Needs.{needs}
 use Rattle.traces.proofs.step_vehicles.Statement.{statement}

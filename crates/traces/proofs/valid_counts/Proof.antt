@@ -1,4 +1,4 @@
--- `traces::valid_counts` meets its contract. Assumes nothing.
+-- `traces::valid_counts` meets its contract.
 use Rattle.traces.specs.Call.{validCounts}
 use borrow.Author.Needs.{needs}
 use Rattle.traces.proofs.valid_counts.Statement.{statement}

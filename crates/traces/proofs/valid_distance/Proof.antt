@@ -1,4 +1,4 @@
--- `traces::valid_distance` meets its contract. Assumes nothing.
+-- `traces::valid_distance` meets its contract.
 use lib.Ieee.{ofBits, ofInt}
 use Rattle.traces.specs.Call.{validDistance}
 use borrow.Author.Needs.{needs}

@@ -1,4 +1,4 @@
--- `traces::valid_distances` meets its contract. The invariant: the test of all values is that of those not passed. The measure is how many they are. Assumes nothing.
+-- `traces::valid_distances` meets its contract. The invariant: the test of all values is that of those not passed. The measure is how many they are.
 use Rattle.base_laws.proofs.Kit.{_≤_, _-_, _≡_, refl, length, drop, needs}
 use Rattle.base_laws.specs.Indexed.{every}
 use Rattle.base_laws.proofs.Laws.{every-fails, every-goes-on, every-done}

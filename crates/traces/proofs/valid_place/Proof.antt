@@ -1,4 +1,4 @@
--- `traces::valid_place` meets its contract. Assumes nothing.
+-- `traces::valid_place` meets its contract.
 use lib.Ieee.{neg, ofBits, ofInt}
 use Rattle.traces.specs.Call.{million}
 use Rattle.traces.proofs.Values.{valid-place-is}

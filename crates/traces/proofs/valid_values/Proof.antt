@@ -1,4 +1,4 @@
--- `traces::valid_values` meets its contract. Assumes nothing.
+-- `traces::valid_values` meets its contract.
 use Rattle.traces.proofs.Values.{valid-values-is}
 use borrow.Author.Needs.{needs}
 use Rattle.traces.proofs.valid_values.Statement.{statement}

@@ -1,4 +1,4 @@
--- `cases_cells::compare::judge` meets its contract. Assumes nothing.
+-- `cases_cells::compare::judge` meets its contract.
 use borrow.Author.Needs.{needs}
 use Rattle.cases_cells.proofs.compare.judge.Statement.{statement}
 use Rattle.cases_cells.proofs.compare.judge.Tie as tie

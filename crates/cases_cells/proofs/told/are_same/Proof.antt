@@ -1,4 +1,4 @@
--- `cases_cells::told::are_same` meets its contract. Assumes nothing.
+-- `cases_cells::told::are_same` meets its contract.
 use Rattle.base_laws.proofs.Kit.{_-_, _≤_, _≡_, refl, arith, needs}
 use Rattle.cases_files.specs.Below.{allBelow}
 use Rattle.cases_files.proofs.Laws.{all-below-next}

@@ -1,4 +1,4 @@
--- `cases_cells::told::numbers_of` meets its contract. Assumes nothing.
+-- `cases_cells::told::numbers_of` meets its contract.
 use borrow.Author.Needs.{needs}
 use Rattle.cases_cells.proofs.told.numbers_of.Statement.{statement}
 use Rattle.cases_cells.proofs.told.numbers_of.Tie as tie

@@ -1,4 +1,4 @@
--- `cases_files::reading::numbers_within` meets its contract. Assumes nothing.
+-- `cases_files::reading::numbers_within` meets its contract.
 use native.Mathlib.Omega.{arith}
 use Rattle.cases_files.proofs.Laws.{counts}
 use Rattle.cases_files.proofs.reading.numbers_within.Statement.{statement}

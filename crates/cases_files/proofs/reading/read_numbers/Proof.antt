@@ -1,4 +1,4 @@
--- `cases_files::reading::read_numbers` is safe and ends. Assumes nothing.
+-- `cases_files::reading::read_numbers` is safe and ends.
 use Rattle.base_laws.proofs.Kit.{arith, _-_, _≤_, _≡_, length, length-set, needs}
 use Rattle.cases_files.proofs.reading.read_numbers.Statement.{statement}
 use Rattle.cases_files.proofs.reading.read_numbers.Tie as tie

@@ -1,4 +1,4 @@
--- `cases_plan::answers::answer_plan` meets its contract. Assumes nothing.
+-- `cases_plan::answers::answer_plan` meets its contract.
 use Rattle.cases_plan.proofs.Laws.{answered-network, answered-plan, answered-sheet, answered-link}
 use borrow.Author.Needs.{needs}
 use Rattle.cases_plan.proofs.answers.answer_plan.Statement.{statement}

@@ -1,4 +1,4 @@
--- `cases_plan::answers::answer_text` meets its contract. Assumes nothing.
+-- `cases_plan::answers::answer_text` meets its contract.
 use Rattle.cases_plan.proofs.Laws.{answered-listing, answered-written, answered-carry}
 use borrow.Author.Needs.{needs}
 use Rattle.cases_plan.proofs.answers.answer_text.Statement.{statement}

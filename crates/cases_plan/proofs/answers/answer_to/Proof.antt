@@ -1,4 +1,4 @@
--- `cases_plan::answers::answer_to` meets its contract. Assumes nothing.
+-- `cases_plan::answers::answer_to` meets its contract.
 use Rattle.cases_plan.proofs.Laws.{answered-text, answered-comparison, answered-alone}
 use borrow.Author.Needs.{needs}
 use Rattle.cases_plan.proofs.answers.answer_to.Statement.{statement}

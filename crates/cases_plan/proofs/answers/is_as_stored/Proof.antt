@@ -1,4 +1,4 @@
--- `cases_plan::answers::is_as_stored` meets its contract. Assumes nothing.
+-- `cases_plan::answers::is_as_stored` meets its contract.
 use Rattle.cases_plan.specs.Compare.{asStored}
 use borrow.Author.Needs.{needs}
 use Rattle.cases_plan.proofs.answers.is_as_stored.Statement.{statement}

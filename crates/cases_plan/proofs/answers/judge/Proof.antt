@@ -1,4 +1,4 @@
--- `cases_plan::answers::judge` meets its contract. Assumes nothing.
+-- `cases_plan::answers::judge` meets its contract.
 use Rattle.cases_plan.proofs.Laws.{stored-as}
 use borrow.Author.Needs.{needs}
 use Rattle.cases_plan.proofs.answers.judge.Statement.{statement}

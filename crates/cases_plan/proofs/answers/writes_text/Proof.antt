@@ -1,4 +1,4 @@
--- `cases_plan::answers::writes_text` meets its contract. Assumes nothing.
+-- `cases_plan::answers::writes_text` meets its contract.
 use Rattle.cases_plan.specs.Compare.{writesText}
 use borrow.Author.Needs.{needs}
 use Rattle.cases_plan.proofs.answers.writes_text.Statement.{statement}

@@ -1,4 +1,4 @@
--- `cases_plan::checksum::checksum` meets its contract. Assumes nothing.
+-- `cases_plan::checksum::checksum` meets its contract.
 use Rattle.cases_plan.specs.Checksum.{checksumOf}
 use borrow.Author.Needs.{needs}
 use Rattle.cases_plan.proofs.checksum.checksum.Statement.{statement}

@@ -1,4 +1,4 @@
--- `cases_plan::checksum::times_prime` meets its contract. Assumes nothing.
+-- `cases_plan::checksum::times_prime` meets its contract.
 use Rattle.cases_plan.proofs.Sums.{times-prime-parts}
 use borrow.Author.Needs.{needs}
 use Rattle.cases_plan.proofs.checksum.times_prime.Statement.{statement}

@@ -1,4 +1,4 @@
--- `cases_plan::checksum::with_byte` meets its contract. Assumes nothing.
+-- `cases_plan::checksum::with_byte` meets its contract.
 use Rattle.cases_plan.specs.Checksum.{withByte}
 use borrow.Author.Needs.{needs}
 use Rattle.cases_plan.proofs.checksum.with_byte.Statement.{statement}

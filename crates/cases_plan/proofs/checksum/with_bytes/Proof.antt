@@ -1,4 +1,4 @@
--- `cases_plan::checksum::with_bytes` meets its contract. Assumes nothing.
+-- `cases_plan::checksum::with_bytes` meets its contract.
 use Rattle.base_laws.proofs.Kit.{refl, ap, _∙_, _-_, _≤_, length, needs}
 use Rattle.cases_plan.specs.Checksum.{withByte}
 use Rattle.cases_plan.proofs.Sums.{Summed, summed-next, summed-all}

@@ -1,4 +1,4 @@
--- `cases_plan::compare::fill_ledger` is safe and ends. Assumes nothing.
+-- `cases_plan::compare::fill_ledger` is safe and ends.
 use Rattle.base_laws.proofs.Kit.{_-_, _≤_, _≡_, arith, length, length-set, needs}
 use Rattle.cases_plan.proofs.compare.fill_ledger.Statement.{statement}
 use Rattle.cases_plan.proofs.compare.fill_ledger.Tie as tie

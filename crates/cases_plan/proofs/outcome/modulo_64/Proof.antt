@@ -1,4 +1,4 @@
--- `cases_plan::outcome::modulo_64` meets its contract. Assumes nothing.
+-- `cases_plan::outcome::modulo_64` meets its contract.
 use Rattle.cases_plan.proofs.Gap.{below, not-below}
 use Rattle.cases_plan.proofs.outcome.modulo_64.Statement.{statement}
 use Rattle.cases_plan.proofs.outcome.modulo_64.Tie as tie

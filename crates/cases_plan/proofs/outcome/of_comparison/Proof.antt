@@ -1,4 +1,4 @@
--- `cases_plan::outcome::of_comparison` meets its contract. Assumes nothing.
+-- `cases_plan::outcome::of_comparison` meets its contract.
 use Rattle.base_laws.proofs.Kit.{sym, ap, needs}
 use Rattle.cases_plan.specs.Outcome.{comparisonOutcome}
 use Rattle.cases_plan.proofs.Gap.{comparison-told}

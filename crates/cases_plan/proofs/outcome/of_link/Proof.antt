@@ -1,4 +1,4 @@
--- `cases_plan::outcome::of_link` meets its contract. Assumes nothing.
+-- `cases_plan::outcome::of_link` meets its contract.
 use borrow.Author.Needs.{needs}
 use Rattle.cases_plan.proofs.outcome.of_link.Statement.{statement}
 use Rattle.cases_plan.proofs.outcome.of_link.Tie as tie

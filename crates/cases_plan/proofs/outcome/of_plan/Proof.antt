@@ -1,4 +1,4 @@
--- `cases_plan::outcome::of_plan` meets its contract. Assumes nothing.
+-- `cases_plan::outcome::of_plan` meets its contract.
 use Rattle.base_laws.proofs.Kit.{sym, ap, _∙_, needs}
 use Rattle.cases_plan.specs.Outcome.{planOutcome}
 use Rattle.cases_plan.proofs.outcome.of_plan.Statement.{statement}

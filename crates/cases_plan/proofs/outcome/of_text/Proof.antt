@@ -1,4 +1,4 @@
--- `cases_plan::outcome::of_text` meets its contract. Assumes nothing.
+-- `cases_plan::outcome::of_text` meets its contract.
 use borrow.Author.Needs.{needs}
 use Rattle.cases_plan.proofs.outcome.of_text.Statement.{statement}
 use Rattle.cases_plan.proofs.outcome.of_text.Tie as tie

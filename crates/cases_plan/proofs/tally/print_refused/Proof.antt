@@ -1,4 +1,4 @@
--- `cases_plan::tally::print_refused` is safe and ends. Assumes nothing.
+-- `cases_plan::tally::print_refused` is safe and ends.
 use Rattle.base_laws.proofs.Kit.{_-_, _≤_, needs}
 use Rattle.cases_plan.proofs.tally.print_refused.Statement.{statement}
 use Rattle.cases_plan.proofs.tally.print_refused.Tie as tie

@@ -1,4 +1,4 @@
--- `cases_split::compare::is_as_stored` meets its contract. Assumes nothing.
+-- `cases_split::compare::is_as_stored` meets its contract.
 use Rattle.cases_split.specs.Compare.{asStored}
 use borrow.Author.Needs.{needs}
 use Rattle.cases_split.proofs.compare.is_as_stored.Statement.{statement}

@@ -1,4 +1,4 @@
--- `cases_split::compare::judge` meets its contract. Assumes nothing.
+-- `cases_split::compare::judge` meets its contract.
 use Rattle.cases_split.proofs.Laws.{as-told}
 use borrow.Author.Needs.{needs}
 use Rattle.cases_split.proofs.compare.judge.Statement.{statement}

@@ -1,4 +1,4 @@
--- `cases_split::told::refusal_of` meets its contract. Assumes nothing.
+-- `cases_split::told::refusal_of` meets its contract.
 use borrow.Author.Needs.{needs}
 use Rattle.cases_split.proofs.told.refusal_of.Statement.{statement}
 use Rattle.cases_split.proofs.told.refusal_of.Tie as tie

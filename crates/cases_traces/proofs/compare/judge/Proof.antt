@@ -1,4 +1,4 @@
--- `cases_traces::compare::judge` meets its contract. Assumes nothing.
+-- `cases_traces::compare::judge` meets its contract.
 use borrow.Author.Needs.{needs}
 use Rattle.cases_traces.proofs.compare.judge.Statement.{statement}
 use Rattle.cases_traces.proofs.compare.judge.Tie as tie

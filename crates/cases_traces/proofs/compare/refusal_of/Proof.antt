@@ -1,4 +1,4 @@
--- `cases_traces::compare::refusal_of` meets its contract. Assumes nothing.
+-- `cases_traces::compare::refusal_of` meets its contract.
 use borrow.Author.Needs.{needs}
 use Rattle.cases_traces.proofs.compare.refusal_of.Statement.{statement}
 use Rattle.cases_traces.proofs.compare.refusal_of.Tie as tie

@@ -1,4 +1,4 @@
--- `cases_traces::compare::run_cases` is safe and ends. Assumes nothing.
+-- `cases_traces::compare::run_cases` is safe and ends.
 use Rattle.base_laws.proofs.Kit.{_-_, _≤_, needs}
 use Rattle.cases_traces.proofs.compare.run_cases.Statement.{statement}
 use Rattle.cases_traces.proofs.compare.run_cases.Tie as tie

@@ -1,4 +1,4 @@
--- `cases_traces::values::bits_of` meets its contract. Assumes nothing.
+-- `cases_traces::values::bits_of` meets its contract.
 use Rattle.cases_traces.proofs.Laws.{no-nan, bits-of-nan}
 use borrow.Author.Needs.{needs}
 use Rattle.cases_traces.proofs.values.bits_of.Statement.{statement}

@@ -1,4 +1,4 @@
--- `cases_traces::values::is_same` meets its contract. Assumes nothing.
+-- `cases_traces::values::is_same` meets its contract.
 use borrow.Author.Needs.{needs}
 use Rattle.cases_traces.proofs.values.is_same.Statement.{statement}
 use Rattle.cases_traces.proofs.values.is_same.Tie as tie

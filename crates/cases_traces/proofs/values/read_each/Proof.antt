@@ -1,4 +1,4 @@
--- `cases_traces::values::read_each` is safe and ends. Assumes nothing.
+-- `cases_traces::values::read_each` is safe and ends.
 use Rattle.base_laws.proofs.Kit.{_-_, _≤_, _≡_, arith, length, length-set, needs}
 use Rattle.cases_traces.proofs.values.read_each.Statement.{statement}
 use Rattle.cases_traces.proofs.values.read_each.Tie as tie

@@ -1,4 +1,4 @@
--- `cases_traces::values::value_of` is safe and ends. Assumes nothing.
+-- `cases_traces::values::value_of` is safe and ends.
 use Rattle.cases_traces.proofs.Laws.{no-nan-of-bits}
 use borrow.Author.Needs.{needs}
 use Rattle.cases_traces.proofs.values.value_of.Statement.{statement}

@@ -1,4 +1,4 @@
--- `cases_traces::values::within` meets its contract. Assumes nothing.
+-- `cases_traces::values::within` meets its contract.
 use native.Mathlib.Omega.{arith}
 use Rattle.cases_files.proofs.Laws.{counts}
 use Rattle.cases_traces.proofs.values.within.Statement.{statement}
