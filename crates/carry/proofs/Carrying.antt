@@ -1,23 +1,22 @@
 -- The ways out of the call, by the definitions on the cut network.
-use Rattle.base_laws.proofs.Kit.{ℕ, suc, _+_, _*_, _-_, _≤_, _<_, _≡_, refl, sym, ap, ap₂, _∙_, Bool, true, false, not, List, [], decLt, add-one, arith, le-leb, lt-leb, eq-eqb, leb, eqb, length, getD, getD-take}
+use Rattle.base_laws.proofs.Kit.{ℕ, suc, _+_, _*_, _-_, _≤_, _<_, _≡_, refl, sym, ap, _∙_, Bool, true, false, not, List, [], decLt, add-one, arith, le-leb, lt-leb, eq-eqb, leb, eqb, length, getD, getD-take}
 use Rattle.base_search.specs.declared.Refusal.{Refusal}
-use Rattle.base_search.specs.declared.Verdict.{Verdict}
 use Rattle.base_search.specs.declared.Verdict.the-variants as verdicts
 use Rattle.base_search.specs.Checks.{refusal, verdict, orElse, checked, each, Hold}
 use Rattle.base_search.proofs.Laws.{passes-of-hold, hold-of-passes, or-else-passes, or-else-refused, checked-passes, checked-refused, first-stop, first-passes}
 use Rattle.text_reader.specs.Lines.{Line, noLine, lines, number}
 use Rattle.text_reader.specs.Padding.{PaddingIgnored}
-use Rattle.text_reader.specs.Reading.{Starts, atEnd}
+use Rattle.text_reader.specs.Reading.{atEnd}
 use Rattle.text_reader.proofs.Laws.{some-lines, no-lines, starts-end, end-of-none}
 use Rattle.text_reader.proofs.Padding.{same-lines}
 use Rattle.base_laws.specs.Test.{_and_, within}
 use Rattle.model.specs.Network.{entry, maxLinks, linkCount, stepCount}
-use Rattle.model.specs.Flows.{offered, waits}
+use Rattle.model.specs.Flows.{waits}
 use Rattle.model.specs.Table.{networkChecks, lineChecks, planChecks}
-use Rattle.model.specs.Hold.{holdLines, meant, planOf}
-use Rattle.model.specs.Calls.{isPassed, written, ledgerAfter}
+use Rattle.model.specs.Hold.{meant, planOf}
+use Rattle.model.specs.Calls.{written, ledgerAfter}
 use Rattle.model.specs.Guarantees.{RowDue}
-use Rattle.model.proofs.Hold.{meant-lines, plan-of-text, plan-of-empty, hold-count}
+use Rattle.model.proofs.Hold.{meant-lines, plan-of-text, hold-count}
 use Rattle.model.proofs.Rows.{written-none}
 use Rattle.model.proofs.Written.{refused-fails, rows-none, rows-until}
 use Rattle.network_tables.specs.declared.Reading.{Reading}

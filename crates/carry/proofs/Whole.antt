@@ -14,7 +14,6 @@ use Rattle.model.specs.Network.{entry, linkCount, signalCount, movementCount, s
 use Rattle.model.specs.Rules.{tramExists, validTram, validPhases}
 use Rattle.model.specs.Flows.{signalAt, timelineInflow, timelineOutflow, entered, left}
 use Rattle.model.specs.Table.{isForm, letterN, letterT, letterG, letterQ, letterM, letterH, letterS}
-use Rattle.model.specs.Calls.{written}
 use Rattle.base_laws.proofs.Tests.{and-left, and-right}
 use Rattle.model.proofs.Accepted.{ValidNetwork, valid-network}
 use Rattle.model.proofs.Shown.{same-phases}

@@ -1,5 +1,5 @@
 -- The checksum, an item at a time.
-use Rattle.base_laws.proofs.Kit.{ℕ, _+_, _*_, _/_, _%_, _^_, _<_, _≤_, _≡_, refl, sym, ap, _∙_, List, mod-add-mod, add-mul-mod-self-right, add-one, arith, length, getD, drop, drop-of-length-le, drop-cons}
+use Rattle.base_laws.proofs.Kit.{ℕ, _+_, _*_, _/_, _%_, _^_, _<_, _≤_, _≡_, sym, ap, _∙_, List, mod-add-mod, add-mul-mod-self-right, add-one, arith, length, getD, drop, drop-of-length-le, drop-cons}
 use Rattle.cases_plan.specs.Checksum.{withEach}
 
 -- a product by the prime, 2^40 + 435, in parts that fit 64 bits

@@ -1,5 +1,5 @@
 -- The stages of the call.
-use Rattle.base_laws.proofs.Kit.{ℕ, zero, suc, _+_, _-_, _≤_, _<_, _≡_, refl, sym, ap, _∙_, List, add-one, arith, needs, length, getD, take, replicate, length-replicate}
+use Rattle.base_laws.proofs.Kit.{ℕ, zero, suc, _+_, _-_, _≡_, refl, sym, ap, _∙_, List, add-one, arith, needs, length, getD, take, replicate, length-replicate}
 use Rattle.base_search.specs.declared.Refusal.{Refusal}
 use Rattle.base_search.specs.declared.Verdict.{Verdict}
 use Rattle.base_search.specs.declared.Verdict.the-variants as verdicts

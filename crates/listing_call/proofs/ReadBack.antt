@@ -1,5 +1,5 @@
 -- Reading the written plan gives just the listing's numbers.
-use Rattle.base_laws.proofs.Kit.{ℕ, zero, suc, _+_, _*_, _-_, _≤_, _<_, _≡_, refl, sym, ap, _∙_, _⊎_, inl, inr, Bool, true, false, cond, List, [], _∷_, _++_, eq-or-lt-of-le, arith, leb-true, eqb, length, getD, length-append, List·getD-append, getD-append-add}
+use Rattle.base_laws.proofs.Kit.{ℕ, zero, suc, _+_, _*_, _-_, _≤_, _<_, _≡_, refl, sym, ap, _∙_, Bool, true, false, cond, List, [], _∷_, _++_, arith, leb-true, eqb, length, getD, length-append, List·getD-append, getD-append-add}
 use Rattle.base_search.specs.Checks.{Hold}
 use Rattle.text_reader.specs.Field.{largest}
 use Rattle.text_reader.specs.Lines.{Line, lines, noLine, number}

@@ -1,5 +1,5 @@
 -- Where the tables hold a network's numbers, what is judged and written by them is what the request says of the network.
-use Rattle.base_laws.proofs.Kit.{ℕ, zero, suc, _+_, _-_, _*_, _≤_, _<_, _≡_, refl, sym, ap, ap₂, _∙_, Bool, true, false, not, List, [], _∷_, _++_, append-assoc, append-nil, decLe, add-one, arith, length, getD}
+use Rattle.base_laws.proofs.Kit.{ℕ, suc, _+_, _-_, _*_, _≤_, _<_, _≡_, refl, sym, ap, ap₂, _∙_, Bool, true, false, not, List, _++_, decLe, add-one, arith, length, getD}
 use Rattle.base_search.specs.declared.Verdict.{Verdict}
 use Rattle.base_search.specs.Checks.{each, orElse, checked, verdict}
 use Rattle.base_search.proofs.Laws.{first-same}
@@ -8,7 +8,6 @@ use Rattle.text_writer.specs.Records.{recordTexts}
 use Rattle.text_writer.proofs.Laws.{records-same}
 use Rattle.base_laws.specs.Test.{_and_, within}
 use Rattle.base_laws.specs.Sum.{sum}
-use Rattle.base_laws.specs.Indexed.{list}
 use Rattle.model.specs.Network.{linkCount, signalCount, movementCount, stepCount, signal, stepLength, time}
 use Rattle.model.specs.Table.{letterP}
 use Rattle.base_laws.proofs.Tests.{and-right}

@@ -6,15 +6,6 @@ use Rattle.listing_lines.specs.declared.Digits.the-variants.{Value, NoVa
 use Rattle.listing_lines.specs.Entry.{upTo, after, digitsOf, leadingZero, Found}
 
 -- ---- up to a byte
-upTo-within : (c : ℕ) (bs : List ℕ) → length (upTo c bs) ≤ length bs
-unfolding upTo
-upTo-within c [] = omega arith
-upTo-within c (b ∷ bs) = by (eqb b c) (upTo-within c bs)
-  where
-    by : (t : Bool) → length (upTo c bs) ≤ length bs → length (cond t [] (b ∷ upTo c bs)) ≤ suc (length bs)
-    by true h = omega arith
-    by false h = omega arith
-
 pub upTo-take : (c : ℕ) (bs : List ℕ) → take (length (upTo c bs)) bs ≡ upTo c bs
 unfolding upTo
 upTo-take c [] = refl

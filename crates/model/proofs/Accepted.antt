@@ -1,5 +1,5 @@
 -- What checks that hold say, by index: a valid network, and steps each of which keeps every rule.
-use Rattle.base_laws.proofs.Kit.{_≡_, true, List, ℕ, suc, _<_, arith}
+use Rattle.base_laws.proofs.Kit.{_≡_, true, List, ℕ, _<_, arith}
 use Rattle.base_search.specs.Checks.{Hold, table}
 use Rattle.text_reader.specs.Lines.{Line}
 use Rattle.model.specs.Network.{linkCount, signalCount, movementCount, stepCount, tramCount, signal}

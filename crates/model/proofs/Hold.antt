@@ -1,5 +1,5 @@
 -- The plan that an empty text stands for (T-07): what its lines say, and that it is answered as its written text is.
-use Rattle.base_laws.proofs.Kit.{ℕ, zero, suc, _+_, _*_, _-_, _^_, _≤_, _<_, _≡_, refl, sym, ap, _∙_, Bool, true, false, cond, List, [], _∷_, le-trans, pow-le-pow-right, decLt, arith, lt-ltb, leb-true, le-ltb, ltb, length, getD, List·getD-eq-default}
+use Rattle.base_laws.proofs.Kit.{ℕ, zero, suc, _+_, _*_, _-_, _^_, _≤_, _<_, _≡_, refl, sym, ap, _∙_, Bool, true, false, cond, List, [], _∷_, le-trans, pow-le-pow-right, decLt, arith, lt-ltb, leb-true, le-ltb, ltb, length, List·getD-eq-default}
 use Rattle.base_search.specs.declared.Refusal.{Refusal}
 use Rattle.base_search.specs.declared.Verdict.{Verdict}
 use Rattle.base_search.specs.declared.Verdict.the-variants.{Passes, Refused}
@@ -11,7 +11,6 @@ use Rattle.text_reader.proofs.Laws.{some-lines, no-lines}
 use Rattle.text_writer.proofs.Records.{Small, text-back, lines-count, entry-back, form-back}
 use Rattle.base_laws.specs.Test.{within}
 use Rattle.base_laws.specs.Sum.{only}
-use Rattle.base_laws.specs.Indexed.{list}
 use Rattle.model.specs.Network.{entry, linkCount, signalCount, movementCount, stepCount, signal, stepLength, ordinary}
 use Rattle.model.specs.Signals.{after}
 use Rattle.model.specs.Flows.{shownMask, shownIn, signalAt}

@@ -13,7 +13,6 @@ pub mod PartValid
 pub mod Theorem
 pub mod Cut
 pub mod Twice
-pub mod Copied
 pub mod Hold
 pub mod CarriesOn
 pub mod Promises

@@ -1,10 +1,9 @@
 -- To carry on twice is to carry on once.
-use Rattle.base_laws.proofs.Kit.{_≡_, refl, sym, ap, ap₂, _∙_, Bool, true, false, cond, List, [], _∷_, _++_, map, ℕ, zero, suc, _+_, _-_, _≤_, _<_, min, max, le-trans, decLe, arith, leb, length, getD, List·getD-append, getD-append-add, le-leb, lt-leb, leb-true, leb-false}
+use Rattle.base_laws.proofs.Kit.{_≡_, refl, sym, ap, ap₂, _∙_, Bool, true, false, cond, List, [], _∷_, _++_, map, ℕ, suc, _+_, _-_, _≤_, _<_, min, max, le-trans, arith, leb, length, getD, List·getD-append, getD-append-add, lt-leb, leb-true, leb-false}
 use Rattle.base_search.specs.declared.Verdict.the-variants.{Passes}
 use Rattle.base_search.specs.Checks.{Hold, verdict}
 use Rattle.text_reader.specs.Lines.{Line, noLine, number, numberOf}
 use Rattle.text_writer.specs.Records.{recordLine}
-use Rattle.base_laws.specs.Sum.{joined}
 use Rattle.model.specs.Network.{linkCount, movementCount, stepCount, pastCount, onTimeline, trams, timelineLength, stepLength, demand}
 use Rattle.model.specs.Table.{letterT, networkChecks, lineChecks}
 use Rattle.model.proofs.Accepted.{ValidNetwork, valid-network}

@@ -6,7 +6,7 @@ use Rattle.base_laws.specs.Test.{_and_}
 use Rattle.model.specs.Network.{signal, stepLength, time, ordinary}
 use Rattle.model.specs.Flows.{shownIn}
 use Rattle.model.specs.Guarantees.{isOrdinary, NoneBetween}
-use Rattle.model.proofs.Shown.{phase, run, phase-suc, same-signal, still, run-new, run-on}
+use Rattle.model.proofs.Shown.{phase, run, phase-suc, same-signal, run-new, run-on}
 use Rattle.model_sheet.specs.Runs.{leaves, isTested, lastLine}
 use Rattle.model_sheet.proofs.Steps.{ordinarySeconds, seconds-none, seconds-suc, length-ordinary, length-tram}
 
@@ -102,9 +102,6 @@ module _ (network plan : List Line) (r : ℕ) where
       → isTested network plan (suc n) r ≡ leb (signal network r .«greatest_cycle») (time network n)
   unfolding isTested
   tested-other n h e = rw (leaves-is n h e)
-
-  pub last-shown : (n : ℕ) → shownBy (lastLine network n r) ≡ shownBy n
-  last-shown n = ap (λ (s : Signal). s .shown) (sym (still network plan r (lastLine network n r) n (last-le network r n) (last-none network r n)))
 
   -- ---- the run that shows at boundary n, if it is tested
   pub record Begun (n : ℕ) : Type 0 where

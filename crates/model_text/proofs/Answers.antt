@@ -1,9 +1,8 @@
 -- The verdict by the answer of a call that writes a text, and the text by the buffer.
-use Rattle.base_laws.proofs.Kit.{ℕ, _≡_, refl, sym, ap, _∙_, List, length, take, take-at}
+use Rattle.base_laws.proofs.Kit.{ℕ, _≡_, refl, sym, _∙_, List, length, take, take-at}
 use Rattle.base_search.specs.declared.Refusal.{Refusal}
 use Rattle.base_search.specs.declared.Verdict.{Verdict}
 use Rattle.base_search.specs.declared.Verdict.the-variants as verdicts
-use Rattle.base_search.specs.Checks.{orElse}
 use Rattle.text_reader.specs.Reading.{over}
 use Rattle.model_text.specs.declared.TextAnswer.{TextAnswer}
 use Rattle.model_text.specs.declared.TextAnswer.the-variants.{Written, Refused}
@@ -29,11 +28,6 @@ module _ (text : List ℕ) where
   unfolding bytesAfter
   kept-of verdicts.Passes old r h = cc
   kept-of (verdicts.Refused q) old r h = refl
-
-  -- a refusal is told, and the buffer is as it was
-  pub told-refused : {v : Verdict} {old : List ℕ} {r : Refusal} → v ≡ verdicts.Refused r → Told text v old (Refused r) old
-  unfolding textAnswer bytesAfter
-  told-refused e = rw e (record { answered = refl; holds = refl })
 
   -- what was written stands at the beginning of the buffer
   pub told-written : {v : Verdict} {old new : List ℕ} {answer : TextAnswer} → Told text v old answer new → (end : ℕ) → answer ≡ Written end

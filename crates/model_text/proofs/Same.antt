@@ -1,7 +1,6 @@
 -- Numbers that agree make one list, and networks whose numbers agree have one text.
-use Rattle.base_laws.proofs.Kit.{_≡_, refl, ap₂, List, [], _∷_, _++_, ℕ, zero, suc, _<_, arith}
+use Rattle.base_laws.proofs.Kit.{_≡_, refl, ap₂, List, _++_, ℕ, zero, suc, _<_, arith}
 use Rattle.text_writer.specs.Records.{recordText, recordTexts}
-use Rattle.base_laws.specs.Indexed.{list}
 use Rattle.model.specs.Table.{letterG, letterQ, letterM, letterH, letterS}
 use Rattle.model_text.specs.NetworkText.{NetworkNumbers, countNumbers, networkText}
 

@@ -1,5 +1,5 @@
 -- 30 of one link by the program's tables is the paper's.
-use Rattle.base_laws.proofs.Kit.{ℕ, suc, _+_, _*_, _-_, _≤_, _<_, _≡_, sym, ap, ap₂, _∙_, true, List, [], decLe, arith, le-leb, lt-leb, leb, length, getD}
+use Rattle.base_laws.proofs.Kit.{ℕ, suc, _+_, _*_, _-_, _≤_, _<_, _≡_, sym, ap, ap₂, _∙_, true, List, [], decLe, arith, le-leb, leb, length, getD}
 use Rattle.text_reader.specs.Lines.{Line, lines}
 use Rattle.base_laws.specs.Sum.{sum}
 use Rattle.base_laws.specs.Test.{_and_}

@@ -1,5 +1,5 @@
 -- The phases that trams ask in a step, by their table: one line after another, from the last to the first, and that they are the paper's.
-use Rattle.base_laws.proofs.Kit.{ℕ, zero, suc, _+_, _-_, _≤_, _<_, _≡_, refl, sym, ap, _∙_, Bool, true, false, _&&_, cond, _≢_, List, _∷_, ℕ-discrete, add-one, arith, leb-true, eq-eqb, ne-eqb, leb, eqb, length, getD, set, take, drop, length-set, length-take, length-drop, drop-of-length-le, getD-set-same, getD-set-other, getD-take, getD-drop, drop-cons}
+use Rattle.base_laws.proofs.Kit.{ℕ, zero, suc, _+_, _-_, _≤_, _<_, _≡_, refl, ap, _∙_, Bool, true, false, _&&_, cond, _≢_, List, _∷_, ℕ-discrete, add-one, arith, leb-true, eq-eqb, ne-eqb, leb, length, getD, set, take, drop, length-set, length-take, length-drop, drop-of-length-le, getD-set-same, getD-set-other, getD-take, getD-drop, drop-cons}
 use Rattle.text_reader.specs.Lines.{Line, noLine, number}
 use Rattle.base_laws.specs.Test.{_and_, within}
 use Rattle.model.specs.Network.{maxSignals, maxSteps, entry, signalCount, tramCount, tramLine, trams, covers, tramPhase}

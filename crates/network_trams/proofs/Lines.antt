@@ -7,7 +7,7 @@ use Rattle.text_reader.specs.declared.LineRead.{LineRead}
 use Rattle.text_reader.specs.declared.LineRead.the-variants.{Next, Malformed}
 use Rattle.text_reader.specs.Lines.{lines, number}
 use Rattle.base_laws.specs.Test.{_and_, within}
-use Rattle.model.specs.Network.{entry, signalCount, tramCount, tramLine, signal}
+use Rattle.model.specs.Network.{entry, signalCount, tramCount, tramLine}
 use Rattle.model.specs.Rules.{tramExists, tram, validTram, validTramPhase}
 use Rattle.model.specs.Table.{letterT, tramChecks, tramPhaseChecks}
 use Rattle.base_laws.proofs.Tests.{and-left, and-right}

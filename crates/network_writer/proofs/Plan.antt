@@ -1,5 +1,5 @@
 -- A plan's lines, put one behind another by the table of its numbers.
-use Rattle.base_laws.proofs.Kit.{ℕ, suc, _+_, _*_, _-_, _≤_, _<_, _≡_, refl, sym, ap, ap₂, _∙_, List, [], _∷_, _++_, decLe, mul-le-mul-left, add-one, arith, lt-ltb, le-ltb, length, getD, set, take, length-set}
+use Rattle.base_laws.proofs.Kit.{ℕ, _+_, _*_, _-_, _≤_, _<_, _≡_, refl, sym, ap, ap₂, _∙_, List, [], _∷_, _++_, decLe, mul-le-mul-left, add-one, arith, lt-ltb, le-ltb, length, getD, set, take, length-set}
 use Rattle.text_reader.specs.Reading.{over}
 use Rattle.text_writer.specs.Records.{recordText}
 use Rattle.base_laws.specs.Indexed.{list}

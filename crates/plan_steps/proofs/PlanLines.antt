@@ -1,12 +1,12 @@
 -- The `P` line of a step that was read, or made where the plan's text is empty, is that of the plan which the text means.
-use Rattle.base_laws.proofs.Kit.{ℕ, suc, _+_, _*_, _-_, _^_, _≤_, _<_, _≡_, refl, sym, ap, _∙_, true, false, List, decLt, arith, eq-eqb, eqb, length, getD}
+use Rattle.base_laws.proofs.Kit.{ℕ, suc, _+_, _*_, _-_, _^_, _≤_, _<_, _≡_, sym, ap, _∙_, true, false, List, decLt, arith, eq-eqb, eqb, length, getD}
 use Rattle.text_reader.specs.declared.LineRead.{LineRead}
 use Rattle.text_reader.specs.declared.LineRead.the-variants.{Next, Malformed}
 use Rattle.text_reader.specs.Lines.{Line, lines}
 use Rattle.text_reader.specs.Reading.{Starts, atEnd}
 use Rattle.text_reader.proofs.Laws.{starts-end, end-of-none}
 use Rattle.model.specs.declared.Signal.{Signal}
-use Rattle.model.specs.Network.{entry, linkCount, signalCount, movementCount, stepCount, signal}
+use Rattle.model.specs.Network.{linkCount, signalCount, movementCount, stepCount, signal}
 use Rattle.model.specs.Hold.{holdLines, planOf}
 use Rattle.model.proofs.Accepted.{ValidNetwork}
 use Rattle.model.proofs.Hold.{plan-of-text, plan-of-empty, hold-mask, hold-volume, hold-form, hold-count, hold-shown}

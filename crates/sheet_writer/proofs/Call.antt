@@ -1,5 +1,5 @@
 -- Where the tables hold a network's and a sheet's numbers, what is judged and written by them is what the request says.
-use Rattle.base_laws.proofs.Kit.{ℕ, zero, suc, _+_, _*_, _-_, _%_, _^_, _≤_, _<_, _≡_, refl, sym, ap, ap₂, _∙_, true, cond, List, _∷_, _++_, [], add-one, decLt, arith, lt-ltb, le-ltb, leb, ltb, length, replicate}
+use Rattle.base_laws.proofs.Kit.{ℕ, zero, suc, _+_, _*_, _-_, _%_, _^_, _≤_, _<_, _≡_, refl, sym, ap, ap₂, _∙_, true, cond, List, add-one, decLt, arith, lt-ltb, le-ltb, leb, ltb, length, replicate}
 use Rattle.base_search.specs.declared.Refusal.{Refusal}
 use Rattle.base_search.specs.declared.Verdict.{Verdict}
 use Rattle.base_search.specs.declared.Verdict.the-variants as verdicts
@@ -11,7 +11,6 @@ use Rattle.text_reader.proofs.Padding.{same-lines}
 use Rattle.text_writer.proofs.Laws.{records-same}
 use Rattle.base_laws.specs.Test.{_and_}
 use Rattle.base_laws.specs.Sum.{sum, only}
-use Rattle.base_laws.specs.Indexed.{list}
 use Rattle.model.specs.Network.{maxSignals, entry, linkCount, signalCount, movementCount, stepCount, tramCount, tramLine, signal, stepLength, time}
 use Rattle.model.specs.Table.{isForm, letterP, letterT, tramChecks, networkChecks}
 use Rattle.base_laws.proofs.Tests.{every-same}

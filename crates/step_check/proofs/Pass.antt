@@ -1,5 +1,5 @@
 -- The pass over all rules, and the search after a pass that says nothing.
-use Rattle.base_laws.proofs.Kit.{ℕ, _*_, _≡_, refl, sym, ap, _∙_, Bool, true, false, List, _++_, arith, length, drop-at}
+use Rattle.base_laws.proofs.Kit.{ℕ, _≡_, refl, sym, ap, _∙_, Bool, true, false, List, _++_, arith, length, drop-at}
 use Rattle.base_search.specs.declared.Verdict.{Verdict}
 use Rattle.network_tables.specs.declared.Counts.{Counts}
 use Rattle.network_tables.specs.Fields.{lengthIn}

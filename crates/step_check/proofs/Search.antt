@@ -2,7 +2,7 @@
 use Rattle.base_laws.proofs.Kit.{ℕ, _+_, _≤_, _<_, _≡_, refl, sym, ap, _∙_, Bool, true, false, not, List, _++_, decLe, ℕ-discrete, arith, length, drop-at}
 use Rattle.base_search.specs.declared.Verdict.{Verdict}
 use Rattle.base_search.specs.declared.Verdict.the-variants.{Passes, Refused}
-use Rattle.base_search.specs.Checks.{refusal, verdict, table}
+use Rattle.base_search.specs.Checks.{refusal}
 use Rattle.base_search.proofs.Table.{RulesKept, ItemsKept, items-none, items-more, rules-more, items-broken, rules-all}
 use Rattle.network_tables.specs.declared.Counts.{Counts}
 use Rattle.step_rows.specs.Rows.{nextRow, Fits}

@@ -1,5 +1,5 @@
 -- What the tests of the code say of rule 27, and of a movement that keeps its limits.
-use Rattle.base_laws.proofs.Kit.{_≡_, sym, ap, ap₂, _∙_, Bool, true, false, not, _||_, or-true, or-false, List, ℕ, _+_, _*_, _-_, arith, eq-eqb, ne-eqb, le-leb, not-false, leb, eqb, getD}
+use Rattle.base_laws.proofs.Kit.{_≡_, sym, ap, _∙_, Bool, true, false, not, _||_, or-true, or-false, List, ℕ, _+_, _*_, _-_, arith, eq-eqb, ne-eqb, le-leb, not-false, leb, getD}
 use Rattle.base_laws.specs.Test.{_or_}
 use Rattle.model.specs.Signals.{opens}
 use Rattle.network_tables.specs.declared.Counts.{Counts}

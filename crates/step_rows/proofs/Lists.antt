@@ -1,5 +1,5 @@
 -- Rows as lists of pairs, and a row that goes into the middle of a list.
-use Rattle.base_laws.proofs.Kit.{_≡_, refl, ap, sym, _∙_, _⊎_, inl, inr, ⊎-elim, List, [], _∷_, _++_, append-assoc, append-nil, ℕ, zero, suc, _+_, _*_, _-_, _/_, _≤_, _<_, mul-suc, eq-or-lt-of-le, le-of-suc-le-suc, add-one, decLe, arith, length, getD, take, drop, set, length-append, length-drop, List·getD-append, drop-of-length-le, append-snoc, take-all, drop-cons, drop-drop, set-at, getD-append-add, getD-at, getD-drop, ext-getD, take-suc, take-at, length-take-le}
+use Rattle.base_laws.proofs.Kit.{_≡_, refl, ap, sym, _∙_, _⊎_, inl, inr, ⊎-elim, List, [], _∷_, _++_, append-assoc, append-nil, ℕ, zero, suc, _+_, _*_, _-_, _/_, _≤_, _<_, mul-suc, eq-or-lt-of-le, le-of-suc-le-suc, add-one, decLe, arith, length, getD, take, drop, set, length-append, length-drop, List·getD-append, drop-of-length-le, append-snoc, take-all, drop-cons, drop-drop, set-at, getD-append-add, getD-at, getD-drop, ext-getD, take-suc, length-take-le}
 use Rattle.step_rows.specs.Rows.{pairs}
 
 pub length-pairs : (e l : ℕ → ℕ) (n : ℕ) → length (pairs e l n) ≡ 2 * n
@@ -96,7 +96,3 @@ part-copied d s a n {p} h e =
     let t : take (length d - a) (drop a d) ≡ drop a d = take-all (length d - a) (drop a d) (simp length-drop (omega arith)) in
     let z : drop (length d - a) (drop a d) ≡ [] = drop-of-length-le (drop a d) {i = length d - a} (simp length-drop (omega arith)) in
     rw (z, append-nil, e, t, drop-drop)
-
--- the first n numbers of a list that begins with p, copied into the front of another
-pub front-copied : (d p q : List ℕ) (n : ℕ) {s out : List ℕ} → length p ≡ n → s ≡ p ++ q → out ≡ take 0 d ++ (take n s ++ drop (0 + n) d) → out ≡ p ++ drop n d
-front-copied d p q n h e o = let z : 0 + n ≡ n = omega arith in o ∙ rw (e, z, take-at p q n h)

@@ -1,5 +1,5 @@
 -- What the tests of the code say of rules 16 to 18.
-use Rattle.base_laws.proofs.Kit.{_≡_, ap, ap₂, sym, _∙_, _⊎_, inl, inr, true, List, ℕ, suc, _+_, _*_, _-_, _≤_, _<_, eq-or-lt-of-le, mul-le-mul-right, decLe, arith, le-leb, lt-leb, lt-ltb, le-ltb, eq-eqb, ne-eqb, leb, getD}
+use Rattle.base_laws.proofs.Kit.{_≡_, ap, ap₂, sym, _∙_, _⊎_, inl, inr, true, List, ℕ, suc, _+_, _*_, _-_, _≤_, _<_, eq-or-lt-of-le, mul-le-mul-right, arith, le-leb, lt-ltb, le-ltb, eq-eqb, ne-eqb, leb, getD}
 use Rattle.network_tables.specs.declared.Counts.{Counts}
 use Rattle.network_tables.specs.Fields.{travelTimeIn, linkIn, shareIn, letOutIn, movedIn, enteredIn, leftIn, enteredAt, RowHeld}
 use Rattle.step_arrivals.specs.Arrivals.{secondsIn, elapsedIn, Rising}

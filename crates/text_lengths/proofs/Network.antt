@@ -1,5 +1,5 @@
 -- No valid network text is longer than 71,988 bytes: with one step there are at most eight tram lines, and with more there are fewer past steps, whose lines are longer.
-use Rattle.base_laws.proofs.Kit.{ℕ, _+_, _*_, _≤_, _<_, _≡_, List, le-refl, decLe, arith, leb-true, length}
+use Rattle.base_laws.proofs.Kit.{ℕ, _+_, _*_, _≤_, _≡_, List, le-refl, decLe, arith, leb-true, length}
 use Rattle.base_search.specs.Checks.{Hold}
 use Rattle.text_reader.specs.Lines.{Line, lines}
 use Rattle.text_reader.proofs.Lengths.{takes-none, takes-more, takes-run, takes-all}

@@ -1,6 +1,6 @@
 -- No plan text that is written from a listing is longer than 151,920 bytes, and none written for a sheet longer than 30,960: a mask has at most three digits, a volume
 -- ten, and a volume of 0 one.
-use Rattle.base_laws.proofs.Kit.{ℕ, zero, suc, _+_, _*_, _-_, _^_, _≤_, _<_, _≡_, sym, List, _++_, append-assoc, append-nil, pow-le-pow-right, decLt, arith, lt-ltb, le-ltb, ltb, length, getD, length-append, List·getD-eq-default, getD-append-add}
+use Rattle.base_laws.proofs.Kit.{ℕ, suc, _+_, _*_, _-_, _^_, _≤_, _<_, _≡_, List, _++_, pow-le-pow-right, decLt, arith, lt-ltb, le-ltb, ltb, length, getD, length-append, List·getD-eq-default, getD-append-add}
 use Rattle.base_search.specs.Checks.{Hold}
 use Rattle.text_reader.specs.Lines.{Line}
 use Rattle.text_writer.specs.Records.{recordText}

@@ -1,5 +1,5 @@
 -- `plan_link_state::state_from` meets its contract: one law for each way out.
-use Rattle.base_laws.proofs.Kit.{arith, needs}
+use Rattle.base_laws.proofs.Kit.{needs}
 use Rattle.plan_link_state.proofs.Ledger.{falls-inside, left-above, arrived-above, arrived-entered, left-arrived, state-told}
 use Rattle.plan_link_state.proofs.state_from.Statement.{statement}
 use Rattle.plan_link_state.proofs.state_from.Tie as tie

@@ -1,6 +1,5 @@
 -- `plan_steps::read_line` meets its contract.
 use Rattle.base_laws.proofs.Kit.{refl, arith, needs}
-use Rattle.network_tables.specs.Rows.{RowRead}
 use Rattle.plan_steps.proofs.read_line.Statement.{statement}
 use Rattle.plan_steps.proofs.read_line.Tie as tie
 

@@ -1,5 +1,5 @@
 -- `step_signals::goes_on` meets its contract: what it calls gives the definition's parts.
-use Rattle.base_laws.proofs.Kit.{arith, needs}
+use Rattle.base_laws.proofs.Kit.{needs}
 use Rattle.base_laws.specs.Test.{_and_}
 use Rattle.step_signals.specs.Step.{goesOn}
 use Rattle.step_signals.proofs.goes_on.Statement.{statement}

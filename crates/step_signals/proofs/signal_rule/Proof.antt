@@ -1,5 +1,5 @@
 -- `step_signals::signal_rule` meets its contract.
-use Rattle.base_laws.proofs.Kit.{arith, needs}
+use Rattle.base_laws.proofs.Kit.{needs}
 use Rattle.step_signals.specs.Step.{signalRuleHolds}
 use Rattle.step_signals.proofs.signal_rule.Statement.{statement}
 use Rattle.step_signals.proofs.signal_rule.Tie as tie
