@@ -147,7 +147,7 @@ extern "C" {
 
 /* The version of the calls, of their answers and of the texts (CHANGELOG.md); plancheck_version tells the library's. */
 #define PLANCHECK_VERSION_MAJOR 0
-#define PLANCHECK_VERSION_MINOR 2
+#define PLANCHECK_VERSION_MINOR 3
 #define PLANCHECK_VERSION_PATCH 0
 
 /* Limits of a network. Links and steps are at least 1; there may be no signals, movements, tram lines and past steps. Past

@@ -58,7 +58,7 @@ countsResult (counts-answer.Refused r) =
 
 -- the version of the calls, of their answers and of the texts (CHANGELOG.md)
 abbrev pub version : VersionResult
-version = record { major = 0; minor = 2; patch = 0 }
+version = record { major = 0; minor = 3; patch = 0 }
 
 abbrev pub planResult : PlanAnswer → PlanResult
 planResult (plan-answer.Accepted t) =

@@ -207,7 +207,7 @@ pub extern "C" fn plancheck_version() -> VersionResult
 {
     VersionResult {
         major: 0,
-        minor: 2,
+        minor: 3,
         patch: 0,
     }
 }
