@@ -105,13 +105,13 @@
  *     call                          stack     lent, beside what it reads
  *     plancheck_check_network        5,696    nothing
  *     plancheck_network_counts       5,696    nothing
- *     plancheck_check_plan           6,144    the ledger: 4 * PLANCHECK_LEDGER_LEN(L, K), 23,232 at most
+ *     plancheck_check_plan           6,416    the ledger: 4 * PLANCHECK_LEDGER_LEN(L, K), 23,232 at most
  *     plancheck_link_state           5,760    nothing
- *     plancheck_carry_on             6,416    the ledger: 4 * PLANCHECK_LEDGER_LEN(L, b); the buffer for the text
- *     plancheck_plan_from_listing   67,200    the buffer: PLANCHECK_WRITTEN_PLAN_MAX, 151,920, at most
- *     plancheck_compare_plans        7,008    two ledgers: each 4 * PLANCHECK_LEDGER_LEN(L, K), 23,232 at most
- *     plancheck_check_sheet          7,472    the ledger: 4 * PLANCHECK_LEDGER_LEN(L, K), 23,232 at most
- *     plancheck_plan_from_sheet      7,952    the buffer: 30,960 at most
+ *     plancheck_carry_on             6,480    the ledger: 4 * PLANCHECK_LEDGER_LEN(L, b); the buffer for the text
+ *     plancheck_plan_from_listing   66,304    the buffer: PLANCHECK_WRITTEN_PLAN_MAX, 151,920, at most
+ *     plancheck_compare_plans        7,280    two ledgers: each 4 * PLANCHECK_LEDGER_LEN(L, K), 23,232 at most
+ *     plancheck_check_sheet          7,984    the ledger: 4 * PLANCHECK_LEDGER_LEN(L, K), 23,232 at most
+ *     plancheck_plan_from_sheet      9,968    the buffer: 30,960 at most
  *     plancheck_split                7,664    four buffers: each half at most the greatest network and plan text
  *     plancheck_run_cells            2,208    nothing
  *     plancheck_step_vehicles            8    nothing: the places are changed where they stand
