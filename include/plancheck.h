@@ -116,8 +116,8 @@
  *     plancheck_run_cells            2,208    nothing
  *     plancheck_step_vehicles            8    nothing: the places are changed where they stand
  *     plancheck_version                  8    nothing
- * On a Cortex-M0 plancheck_check_network takes 6,116, plancheck_network_counts 6,148, plancheck_check_plan 6,868,
- * plancheck_check_sheet 8,652, plancheck_link_state 6,220 and plancheck_carry_on 6,764 of stack (box/measure).
+ * On a Cortex-M0 plancheck_check_network takes 6,084, plancheck_network_counts 6,116, plancheck_check_plan 7,164,
+ * plancheck_check_sheet 9,164, plancheck_link_state 6,188 and plancheck_carry_on 7,060 of stack (box/measure).
  * plancheck_plan_from_listing is for an engineer's machine, not for a box. The texts of a box are at most
  * PLANCHECK_NETWORK_TEXT_MAX and PLANCHECK_PLAN_TEXT_MAX.
  *
