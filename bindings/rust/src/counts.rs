@@ -72,7 +72,7 @@ pub struct Version {
 ///
 /// ```
 /// let version = plancheck::library_version();
-/// assert_eq!((version.major, version.minor), (0, 2));
+/// assert_eq!((version.major, version.minor, version.patch), (0, 3, 0));
 /// ```
 #[must_use]
 pub fn library_version() -> Version {
