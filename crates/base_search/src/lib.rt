@@ -1,11 +1,12 @@
 // A refusal, and the verdict of checks in order: the first that is broken. The definition stands in specs/; proofs/ has its
 // laws, against which the labelled searches of the crates above are proved.
+#![tactic(auto)]
 
 ghost use Rattle.std.specs.Prelude.{◌≡◌, ◌<◌};
 ghost use Rattle.base_search.specs.Checks.{refusal};
 
 // A refusal: the number of the broken check, and the line and the item that it names, 0 where it names none.
-#[derive(Drop)]
+#[derive(Clone, Copy)]
 pub struct Refusal {
     pub number: u32,
     pub line: u32,
@@ -26,7 +27,7 @@ impl Refusal {
 }
 
 // What checks say: all pass, or the refusal of the first that does not.
-#[derive(Drop)]
+#[derive(Clone, Copy)]
 pub enum Verdict {
     Passes,
     Refused(Refusal),

@@ -7,7 +7,7 @@ use cases_files::tally;
 use cells_call::CellsAnswer;
 
 // Number, line and item of a refusal, or number of cells, flow in and flow out; 0 where there is none.
-#[derive(Drop)]
+#[derive(Clone, Copy)]
 pub struct Numbers {
     pub number: u32,
     pub line: u32,

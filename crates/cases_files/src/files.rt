@@ -4,7 +4,7 @@ use crate::reading::read_whole;
 use crate::tally::{print, print_field};
 
 // How many cases the file says that it has; 0 where what it begins with is malformed.
-#[derive(Drop)]
+#[derive(Clone, Copy)]
 pub struct Header {
     pub is_valid: bool,
     pub count: u32,

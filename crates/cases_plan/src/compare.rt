@@ -14,7 +14,7 @@ const LEDGER_ROOM: usize = 5888;
 const BUFFER_ROOM: usize = 102400;
 
 // How much of each text, and of the given numbers, is in use; a case may go on with what the case before gave.
-#[derive(Drop)]
+#[derive(Clone, Copy)]
 struct Sizes {
     network: usize,
     plan: usize,
@@ -23,7 +23,7 @@ struct Sizes {
 }
 
 // The numbers of a case, by its own from 0.
-#[derive(Drop)]
+#[derive(Clone, Copy)]
 struct Case {
     number: u32,
     sizes: Sizes,

@@ -10,7 +10,7 @@ use plan_compare::{ComparisonAnswer, Order};
 // The kind is 0 for a network accepted, 1 for a plan accepted, 2 for a state, 3 for a refusal, 4 for a text written, 5 for two plans compared;
 // the numbers are the totals, queued and in transit, the refusal's number, line, item and plan, the text's length, or order and gap; 0 where
 // there is none.
-#[derive(Drop)]
+#[derive(Clone, Copy)]
 pub struct Outcome {
     pub kind: u32,
     pub first: u64,

@@ -5,7 +5,7 @@ use cases_files::reading;
 use cases_files::reading::{NOTHING, SAME};
 
 // The ledger of a case: its length, what it holds past the given numbers, and how many are given.
-#[derive(Drop)]
+#[derive(Clone, Copy)]
 pub struct LedgerForm {
     pub size: usize,
     pub fill: u32,
@@ -15,7 +15,7 @@ pub struct LedgerForm {
 // The call of a case (1 check a network, 2 check a plan, 3 state of one link, 4 plan from a listing, 5 carry on from a boundary, 6 check a
 // sheet, 7 plan from a sheet, 8 compare two plans; 0 where the file is malformed) and the buffer that it is given, its length and what each
 // byte is, with what the other implementation answers and the checksum of the ledgers and the buffer that it leaves.
-#[derive(Drop)]
+#[derive(Clone, Copy)]
 pub struct Question {
     pub buffer_size: usize,
     pub buffer_fill: u32,

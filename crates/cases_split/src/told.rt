@@ -20,7 +20,7 @@ pub const NETWORK_2: usize = 2 * ROOM;
 pub const PLAN_2: usize = 3 * ROOM;
 
 // What was stored of a split, by its number from 0: the set of links, the refusal, one of the number 0 where the texts are written, and how long they are.
-#[derive(Drop)]
+#[derive(Clone, Copy)]
 pub struct Stored {
     pub number: u32,
     pub first_half: u32,

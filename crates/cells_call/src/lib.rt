@@ -1,4 +1,5 @@
 // A corridor in cells (T-12): the call `run_cells`.
+#![tactic(auto)]
 ghost use Rattle.std.specs.Prelude.{◌≡◌, ◌≤◌, []};
 ghost use Rattle.base_search.specs.Checks.{refusal};
 ghost use Rattle.text_reader.specs.Lines.{lines};
@@ -10,7 +11,7 @@ use cells_lines::CorridorRead;
 use cells_steps::Totals;
 
 // The answer of a run.
-#[derive(Drop)]
+#[derive(Clone, Copy)]
 pub enum CellsAnswer {
     Ran {
         cells: u32,
@@ -21,7 +22,7 @@ pub enum CellsAnswer {
 }
 
 // An answer with the final volumes: 0 past the cells, and all 0 where the text is refused.
-#[derive(Drop)]
+#[derive(Clone, Copy)]
 pub struct CellsRun {
     pub answer: CellsAnswer,
     pub volumes: [u32; 64],

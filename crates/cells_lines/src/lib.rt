@@ -1,4 +1,5 @@
 // The text of a corridor in cells (T-12): its `C`, `X` and `D` lines, read into tables; refusals 36 and 37.
+#![tactic(auto)]
 ghost use Rattle.std.specs.Prelude.{◌≡◌, eqb, length, get_or};
 ghost use Rattle.text_reader.specs.Reading.{line_at};
 ghost use Rattle.cells_lines.specs.Corridor.{letter_c, valid_cell};
@@ -7,35 +8,35 @@ ghost use Rattle.cells_lines.specs.Reading.{volume_at, CellGot, CellsAsked, Cell
 use text_reader::LineRead;
 
 // The result of a `C` line: the place of the next line, or the number of its refusal.
-#[derive(Drop)]
+#[derive(Clone, Copy)]
 pub enum CellRead {
     Passed(usize),
     Refused(u32),
 }
 
 // The result of the `C` lines: how many there are and the place of the next line, or a refusal.
-#[derive(Drop)]
+#[derive(Clone, Copy)]
 pub enum CellsRead {
     Passed { cells: usize, next: usize },
     Stopped { number: u32, line: u32 },
 }
 
 // The result of a line of one volume: the volume and the place of the next line, unless it is refused.
-#[derive(Drop)]
+#[derive(Clone, Copy)]
 pub enum VolumeRead {
     Passed { volume: u32, next: usize },
     Malformed,
 }
 
 // The result of the `D` lines: how many there are, or the line that is refused.
-#[derive(Drop)]
+#[derive(Clone, Copy)]
 pub enum DemandsRead {
     Passed(usize),
     Stopped(u32),
 }
 
 // The result of a whole text: how many cells, the exit limit and how many demands, or a refusal.
-#[derive(Drop)]
+#[derive(Clone, Copy)]
 pub enum CorridorRead {
     Loaded {
         cells: usize,

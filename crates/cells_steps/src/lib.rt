@@ -1,17 +1,18 @@
 // The steps of a chain of cells over lent volumes (T-12). All flows of a step use the volumes before it.
+#![tactic(auto)]
 ghost use Rattle.std.specs.Prelude.{◌≡◌, ◌-◌, ◌*◌, ◌/◌, ◌≤◌, ◌<◌, min, length, get_or};
 ghost use Rattle.cells_steps.specs.Steps.{chain_of, inflow, outflow, Ready};
 ghost use Rattle.cells_steps.specs.Results.{Stepped, Ran};
 
 // What flows into the first cell and out of the last in one step.
-#[derive(Drop)]
+#[derive(Clone, Copy)]
 pub struct Passed {
     pub flow_in: u32,
     pub flow_out: u32,
 }
 
 // The same over all steps.
-#[derive(Drop)]
+#[derive(Clone, Copy)]
 pub struct Totals {
     pub flow_in: u64,
     pub flow_out: u64,

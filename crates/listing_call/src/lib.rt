@@ -1,4 +1,5 @@
 // Plans straight from the solver (T-01): reads a listing on a network, and writes the plan text that it gives.
+#![tactic(auto)]
 ghost use Rattle.std.specs.Prelude.{◌≡◌, ◌+◌, ◌*◌, ◌/◌, ◌≤◌, ◌<◌, length, eqb};
 ghost use Rattle.text_reader.specs.Lines.{lines};
 ghost use Rattle.text_reader.specs.Padding.{PaddingIgnored};
@@ -26,7 +27,7 @@ const NUMBER_TABLE_SIZE: usize = MAX_STEPS * LINE_SIZE;
 const SEEN_SIZE: usize = MAX_STEPS * STEP_BITS / 8;
 
 // Where a variable stands in the tables: its step, counted from 0, its bit and its number.
-#[derive(Drop)]
+#[derive(Clone, Copy)]
 enum Place {
     At {
         step: usize,
@@ -37,14 +38,14 @@ enum Place {
 }
 
 // What a line adds to its number, where that is whole and fits a field.
-#[derive(Drop)]
+#[derive(Clone, Copy)]
 enum Number {
     Whole(u32),
     NoNumber,
 }
 
 // What a line comes to: its variable's bit is set and its number grows, or a refusal's number.
-#[derive(Drop)]
+#[derive(Clone, Copy)]
 enum Outcome {
     Store {
         bit: usize,

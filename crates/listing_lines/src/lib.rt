@@ -1,10 +1,11 @@
 // One line of a solver's listing: a variable, a space and a decimal. Reads bytes; knows no network.
+#![tactic(auto)]
 ghost use Rattle.std.specs.Prelude.{◌≡◌, ◌+◌, ◌-◌, ◌*◌, ◌^◌, ◌≤◌};
 ghost use Rattle.text_reader.specs.Field.{digit};
 ghost use Rattle.listing_lines.specs.Entry.{Found, digits_of, fraction_of, rate_of, leading_zero, index_of, pair_of, phase_in, variable_in, variable_of, entry_of, read_at};
 
 // A variable, by the numbers in its name, counted from 1.
-#[derive(Drop)]
+#[derive(Clone, Copy)]
 pub enum Variable {
     Shown { signal: u64, phase: u64, step: u64 },
     Admitted { link: u64, step: u64 },
@@ -13,14 +14,14 @@ pub enum Variable {
 }
 
 // What a line says: it sets a variable to some millionths, or it is malformed.
-#[derive(Drop)]
+#[derive(Clone, Copy)]
 pub enum Entry {
     Sets { variable: Variable, millionths: u64 },
     Malformed,
 }
 
 // What a line says, and where the next one starts.
-#[derive(Drop)]
+#[derive(Clone, Copy)]
 pub enum EntryRead {
     Sets {
         variable: Variable,
@@ -31,21 +32,21 @@ pub enum EntryRead {
 }
 
 // What the first field of a line says.
-#[derive(Drop)]
+#[derive(Clone, Copy)]
 pub enum Named {
     Known(Variable),
     Unknown,
 }
 
 // What digits say.
-#[derive(Drop)]
+#[derive(Clone, Copy)]
 pub enum Digits {
     Value(u64),
     NoValue,
 }
 
 // Two numbers of a name.
-#[derive(Drop)]
+#[derive(Clone, Copy)]
 enum Pair {
     Both { first: u64, second: u64 },
     NoPair,

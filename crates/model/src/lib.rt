@@ -1,10 +1,11 @@
 // The definitions of the plan check (specs/) and the theorems about them (proofs/). In code only the types of its answers and
 // of a signal.
+#![tactic(auto)]
 use base_search::Refusal;
 
 // A signal (the paper's light): its `G` line, with the phase that it shows, for how many seconds, and the seconds since phase 1 last began.
 // `least` and `greatest` have phase k's times at k - 1.
-#[derive(Drop)]
+#[derive(Clone, Copy)]
 pub struct Signal {
     pub least_cycle: u32,
     pub greatest_cycle: u32,
@@ -17,7 +18,7 @@ pub struct Signal {
 }
 
 // The four totals: volumes admitted and let out, what the network holds at the end, and the doubled travel time.
-#[derive(Drop)]
+#[derive(Clone, Copy)]
 pub struct Totals {
     pub admitted: u64,
     pub let_out: u64,
@@ -26,14 +27,14 @@ pub struct Totals {
 }
 
 // The answer of a plan's check.
-#[derive(Drop)]
+#[derive(Clone, Copy)]
 pub enum PlanAnswer {
     Accepted(Totals),
     Refused(Refusal),
 }
 
 // The state of one link: queued and in transit, the paper's standing and moving.
-#[derive(Drop)]
+#[derive(Clone, Copy)]
 pub enum LinkAnswer {
     State { queued: u32, in_transit: u32 },
     Refused(Refusal),

@@ -1,9 +1,10 @@
 // A network and a plan in two halves (T-14): the definitions (specs/) and the theorem (specs/Splits.antt). In code only the
 // types of the answer.
+#![tactic(auto)]
 use base_search::Refusal;
 
 // The lengths of the four texts: the network and the plan of the first half, then of the second.
-#[derive(Drop)]
+#[derive(Clone, Copy)]
 pub struct Lengths {
     pub network_1: usize,
     pub plan_1: usize,
@@ -12,7 +13,7 @@ pub struct Lengths {
 }
 
 // The lengths of the written texts, or a refusal.
-#[derive(Drop)]
+#[derive(Clone, Copy)]
 pub enum SplitAnswer {
     Written(Lengths),
     Refused(Refusal),

@@ -1,5 +1,6 @@
 // Reads a whole network text into tables and judges it: refusals 1 to 6, 28 and 30.
 // Also the call that returns what a valid network has, by its `N` line.
+#![tactic(auto)]
 ghost use Rattle.std.specs.Prelude.{◌≡◌};
 ghost use Rattle.text_reader.specs.Lines.{lines};
 ghost use Rattle.text_reader.specs.Padding.{PaddingIgnored};
@@ -139,7 +140,7 @@ pub fn check_network(text: &[u8]) -> Verdict
 }
 
 // How many links, signals, movements, steps, tram lines and past steps; or the network's refusal.
-#[derive(Drop)]
+#[derive(Clone, Copy)]
 pub enum CountsAnswer {
     Counted {
         links: u32,

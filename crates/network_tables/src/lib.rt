@@ -1,5 +1,6 @@
 // The program's tables of a network and a plan: their sizes, and each number by its name in the paper. Links, signals, movements
 // and steps are counted from 0 here.
+#![tactic(auto)]
 ghost use Rattle.std.specs.Prelude.{◌≡◌, ◌+◌, ◌*◌, ◌<◌, ◌≤◌, length, get_or};
 ghost use Rattle.model.specs.Network.{max_links, max_signals, max_movements, max_steps, max_trams, max_past};
 ghost use Rattle.network_tables.specs.Places.{tram_line_in, signal_line_in, link_line_in, movement_line_in, timeline_line_in, step_line_in, plan_width, Few};
@@ -53,7 +54,7 @@ pub const TIME_TABLE_SIZE: usize = MAX_STEPS + 1;
 pub const ROW_SIZE: usize = 2 * MAX_LINKS;
 
 // The counts of an `N` line.
-#[derive(Drop)]
+#[derive(Clone, Copy)]
 pub struct Counts {
     pub links: usize,
     pub signals: usize,
@@ -65,7 +66,7 @@ pub struct Counts {
 
 // How far a network text has been read while its lines pass: its counts, the place of the next line, the places where its `T`, its `G`, its `H` and its `S` lines
 // start, the shortest of all greatest times, and whether the lengths of the past steps and the number of all steps are valid (30).
-#[derive(Drop)]
+#[derive(Clone, Copy)]
 pub struct Reading {
     pub counts: Counts,
     pub next: usize,
@@ -78,7 +79,7 @@ pub struct Reading {
 }
 
 // The result of reading some lines of a network text: they pass, or one of them is refused.
-#[derive(Drop)]
+#[derive(Clone, Copy)]
 pub enum Stage {
     Passed(Reading),
     Refused(Refusal),

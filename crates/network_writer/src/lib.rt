@@ -1,5 +1,6 @@
 // Lines of a text that has passed, read again, and lines written one behind another into a buffer, as far as there is room. Where
 // the text would end is returned in any case, so that a text is measured by writing it where there is no room. A plan's text is written that way by a table of its numbers.
+#![tactic(auto)]
 ghost use Rattle.std.specs.Prelude.{◌≡◌, ◌≤◌, ◌<◌, length};
 ghost use Rattle.text_reader.specs.Reading.{over};
 ghost use Rattle.text_writer.specs.Records.{record_text};
@@ -16,7 +17,7 @@ use network_tables::{Counts, LINE_SIZE, MAX_LINKS, MAX_SIGNALS};
 use text_reader::LineRead;
 
 // Where the next line is read, and where the next is put.
-#[derive(Drop)]
+#[derive(Clone, Copy)]
 pub struct Places {
     pub line: usize,
     pub at: usize,

@@ -1,4 +1,5 @@
 // Which of two plans is ahead: the call `compare_plans`.
+#![tactic(auto)]
 ghost use Rattle.std.specs.Prelude.{◌≡◌, ◌+◌, ◌<◌, length};
 ghost use Rattle.std.proofs.Math.IntN.{sub_ℕ};
 ghost use Rattle.text_reader.specs.Lines.{lines};
@@ -20,7 +21,7 @@ use network_tables::{
 use text_reader::LineRead;
 
 // How the first of two plans stands to the second, by all vehicles let out up to each boundary.
-#[derive(Drop)]
+#[derive(Clone, Copy)]
 pub enum Order {
     Ahead,
     Behind,
@@ -30,14 +31,14 @@ pub enum Order {
 
 // The answer of a comparison: the order of two accepted plans and the doubled time of the first minus that of the second; or a refusal and the plan that it
 // means, 1 or 2, or 0 for the network.
-#[derive(Drop)]
+#[derive(Clone, Copy)]
 pub enum ComparisonAnswer {
     Compared { order: Order, gap: i64 },
     Refused { plan: u32, refusal: Refusal },
 }
 
 // What a plan has let out up to a boundary, and where the line of the next step starts.
-#[derive(Drop)]
+#[derive(Clone, Copy)]
 struct Curve {
     boundary: usize,
     at: usize,

@@ -1,4 +1,5 @@
 // The state of one link by a network text and a ledger: the call `link_state`.
+#![tactic(auto)]
 ghost use Rattle.std.specs.Prelude.{◌≡◌, ◌+◌, ◌≤◌};
 ghost use Rattle.text_reader.specs.Lines.{lines};
 ghost use Rattle.text_reader.specs.Padding.{PaddingIgnored};
@@ -15,7 +16,7 @@ use step_past::Curve;
 
 // What has arrived at a link's end × the length of the step in which the travel time ends; that length; and whether the entered count does not fall over a step
 // inside which it ends.
-#[derive(Drop)]
+#[derive(Clone, Copy)]
 struct Arrival {
     scaled: u64,
     seconds: u32,

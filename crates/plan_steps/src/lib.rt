@@ -1,4 +1,5 @@
 // The steps of a plan, taken one after another: each is read, judged and, where every rule is kept, written into the ledger.
+#![tactic(auto)]
 ghost use Rattle.std.specs.Prelude.{◌≡◌, ◌+◌, ◌*◌, ◌≤◌};
 ghost use Rattle.plan_steps.specs.State.{NextAsked, NextGot, StepAsked, StepGot, finished};
 ghost use Rattle.plan_steps.specs.Steps.{StepsAsked, StepsGot, RunAsked, RunGot};
@@ -15,7 +16,7 @@ use text_reader::LineRead;
 
 // The state at a boundary: where the `S` and the `P` line of the next step start, the totals so far, and how many wait outside. The signals stand in a table that
 // is lent, since a copy of them a step costs more than the rest of the step's state.
-#[derive(Drop)]
+#[derive(Clone, Copy)]
 pub struct State {
     pub boundary: usize,
     pub step_at: usize,
@@ -25,7 +26,7 @@ pub struct State {
 }
 
 // What a step comes to: the verdict on it, and where it passes the state after it.
-#[derive(Drop)]
+#[derive(Clone, Copy)]
 pub struct Taken {
     pub verdict: Verdict,
     pub state: State,

@@ -1,4 +1,5 @@
 // The C library: the calls over slices, each a pointer and a length, with answers by value. include/plancheck.h declares them.
+#![tactic(auto)]
 ghost use Rattle.std.specs.Prelude.{◌≡◌, length};
 ghost use Rattle.base_search.specs.Checks.{◌then◌};
 ghost use Rattle.text_reader.specs.Lines.{lines};
@@ -39,7 +40,7 @@ use plan_compare::{ComparisonAnswer, Order};
 
 // The answer of a network's check or of a step of vehicles; number 0: the network is valid, the vehicles have moved.
 #[repr(C)]
-#[derive(Drop)]
+#[derive(Clone, Copy)]
 pub struct NetworkResult {
     pub number: u32,
     pub line: u32,
@@ -48,7 +49,7 @@ pub struct NetworkResult {
 
 // What a network has; number 0: it is valid, with these counts.
 #[repr(C)]
-#[derive(Drop)]
+#[derive(Clone, Copy)]
 pub struct CountsResult {
     pub number: u32,
     pub line: u32,
@@ -63,7 +64,7 @@ pub struct CountsResult {
 
 // The version of the calls, of their answers and of the texts.
 #[repr(C)]
-#[derive(Drop)]
+#[derive(Clone, Copy)]
 pub struct VersionResult {
     pub major: u32,
     pub minor: u32,
@@ -72,7 +73,7 @@ pub struct VersionResult {
 
 // The answer of a plan's check; number 0: the plan is accepted, with these totals.
 #[repr(C)]
-#[derive(Drop)]
+#[derive(Clone, Copy)]
 pub struct PlanResult {
     pub number: u32,
     pub line: u32,
@@ -85,7 +86,7 @@ pub struct PlanResult {
 
 // The state of a link; number 0: the link holds these volumes.
 #[repr(C)]
-#[derive(Drop)]
+#[derive(Clone, Copy)]
 pub struct LinkResult {
     pub number: u32,
     pub line: u32,
@@ -96,7 +97,7 @@ pub struct LinkResult {
 
 // The answer of a call that writes a text; number 0: it is written, so many bytes.
 #[repr(C)]
-#[derive(Drop)]
+#[derive(Clone, Copy)]
 pub struct TextResult {
     pub number: u32,
     pub line: u32,
@@ -106,7 +107,7 @@ pub struct TextResult {
 
 // The answer of a run of cells; number 0: so many cells, these totals, and the volumes after the last step, 0 past the cells.
 #[repr(C)]
-#[derive(Drop)]
+#[derive(Clone, Copy)]
 pub struct CellsResult {
     pub number: u32,
     pub line: u32,
@@ -120,7 +121,7 @@ pub struct CellsResult {
 // The answer of a comparison of two plans; number 0: both are accepted, the first is ahead (order 1), behind (2), equal (3) or crossing (4), and its doubled time
 // is by so much the greater. Else the plan that the refusal means, 0 for the network.
 #[repr(C)]
-#[derive(Drop)]
+#[derive(Clone, Copy)]
 pub struct ComparisonResult {
     pub number: u32,
     pub line: u32,
@@ -132,7 +133,7 @@ pub struct ComparisonResult {
 
 // The answer of a split; number 0: the four texts are written, so many bytes each.
 #[repr(C)]
-#[derive(Drop)]
+#[derive(Clone, Copy)]
 pub struct SplitResult {
     pub number: u32,
     pub line: u32,

@@ -1,4 +1,5 @@
 // Runs the program's function on stored folders: the cases c1 to c11 of the paper, c1 with a past, and files that are missing, not to be read, too long, or as long as can be.
+#![tactic(auto)]
 
 // Prints a case's name, and then what the program prints of its two files.
 fn case(name: &[u8], network: &[u8], plan: &[u8]) {

@@ -1,4 +1,5 @@
 // Reads the two files of a plan's check and prints what the proved library writes of them: only reading the files and writing the bytes is not proved.
+#![tactic(auto)]
 ghost use Rattle.std.specs.Prelude.{◌≤◌, length};
 ghost use Rattle.text_writer.specs.Writing.{Wrote};
 ghost use Rattle.plancheck_files.specs.Output.{output, ReadInto};

@@ -1,16 +1,17 @@
 // Reads a whole file into a lent buffer. Nothing can say what a file holds; only how much of the buffer was filled is promised.
+#![tactic(auto)]
 ghost use Rattle.std.specs.Prelude.{◌<◌, ◌≤◌, ◌≡◌, length};
 ghost use Rattle.plancheck_io.specs.Read.{Fits, Within};
 
 // How many bytes were read; or the file can't be opened or read, or is longer than the buffer less one byte.
-#[derive(Drop)]
+#[derive(Clone, Copy)]
 pub enum FileRead {
     Read(usize),
     NotRead,
 }
 
 // What one read gave.
-#[derive(Drop)]
+#[derive(Clone, Copy)]
 enum Part {
     Came(usize),
     Failed,

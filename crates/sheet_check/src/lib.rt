@@ -1,5 +1,6 @@
 // Whether an accepted plan keeps a fixed-time sheet (T-10): the call `check_sheet`. The plan's own check comes first; then one pass
 // over its steps watches a few numbers of each signal. No table of runs is kept.
+#![tactic(auto)]
 ghost use Rattle.std.specs.Prelude.{◌≡◌, cond, ◌<◌, ◌≤◌, length};
 ghost use Rattle.text_reader.specs.Lines.{lines};
 ghost use Rattle.text_reader.specs.Padding.{PaddingIgnored};
@@ -24,7 +25,7 @@ use text_reader::LineRead;
 
 // What is watched of a signal: whether the run that it shows is to be tested, the line of its last ordinary step, and the line of its first broken run, 0 for
 // none.
-#[derive(Drop)]
+#[derive(Clone, Copy)]
 pub struct Watch {
     pub tested: bool,
     pub line: u32,
@@ -32,7 +33,7 @@ pub struct Watch {
 }
 
 // How far the steps are gone through: the boundary and its time, where the `S` and the `P` line of the next step start, and what is watched of the signals.
-#[derive(Drop)]
+#[derive(Clone, Copy)]
 pub struct Pass {
     pub boundary: usize,
     pub time: u32,

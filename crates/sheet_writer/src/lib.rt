@@ -1,5 +1,6 @@
 // A plan for a fixed-time sheet with offsets (T-10): the call `plan_from_sheet`. The phase that a signal's cycle shows goes from
 // step to step, without a remainder.
+#![tactic(auto)]
 ghost use Rattle.std.specs.Prelude.{◌≡◌, ◌+◌, ◌*◌, ◌≤◌, length};
 ghost use Rattle.text_reader.specs.Lines.{lines};
 ghost use Rattle.text_reader.specs.Padding.{PaddingIgnored};
@@ -23,7 +24,7 @@ use text_reader::LineRead;
 const MASK_TABLE_SIZE: usize = MAX_SIGNALS * MAX_STEPS;
 
 // The run of a cycle that shows: its phase, and the seconds for which it still shows.
-#[derive(Drop)]
+#[derive(Clone, Copy)]
 pub struct Run {
     pub phase: u32,
     pub remaining: u32,

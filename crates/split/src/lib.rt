@@ -1,4 +1,5 @@
 // Two boxes, one corridor (T-14): the call `split`.
+#![tactic(auto)]
 ghost use Rattle.std.specs.Prelude.{◌≡◌};
 ghost use Rattle.text_reader.specs.Padding.{PaddingIgnored};
 ghost use Rattle.model_split.specs.Splits.{SplitInTwo};
@@ -13,7 +14,7 @@ use network_tables::{
 use split_tables::HALF_SIZE;
 
 // How long the network and the plan of one half are.
-#[derive(Drop)]
+#[derive(Clone, Copy)]
 struct HalfLengths {
     network: usize,
     plan: usize,

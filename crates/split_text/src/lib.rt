@@ -1,6 +1,7 @@
 // The texts of one half of a network and of a plan (T-14), written by the half's table: the numbers of what is in the half, in
 // their old order, with those of border movements added. Lines are written as far as there is room; where a text would end is
 // returned in any case.
+#![tactic(auto)]
 ghost use Rattle.std.specs.Prelude.{◌≡◌, cond, not, [], ◌∷◌, ◌+◌, ◌≤◌, ◌-◌, ◌<◌, eqb, length, get_or};
 ghost use Rattle.text_reader.specs.Lines.{lines};
 ghost use Rattle.text_writer.specs.Records.{record_text};
@@ -297,7 +298,7 @@ fn fill_sums(
 }
 
 // Where the next `S` line and the next `P` line are read, and where the next line is put.
-#[derive(Drop)]
+#[derive(Clone, Copy)]
 pub struct StepPlaces {
     pub step: usize,
     pub plan: usize,

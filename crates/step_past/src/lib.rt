@@ -1,13 +1,14 @@
 // What entered the links in the past, by the `H` lines: row 0, and for each link what had entered it by the start and by the end
 // of the past step in which its travel time ends. No table of the past is kept: each link has the place of the `H` line that is
 // next for it, and a line is read once for all links that it is next for.
+#![tactic(auto)]
 ghost use Rattle.step_past.specs.Curves.{ReadAsked, CurveTo, StartAsked, Started, KeepAsked, Kept, KeepAllAsked, KeptAll, PastAsked, PastLoaded, LinkAsked, LinkMoved, LinksAsked, LinksMoved, MoveAsked, PastMoveAsked, Moved, NextAsked, NextGot};
 
 use network_tables::{Counts, PAST_SIZE};
 use text_reader::LineRead;
 
 // One link's curve of entries: what had entered it by the start, and by the end, of the last `H` line that is read for it, and the place of the next line.
-#[derive(Drop)]
+#[derive(Clone, Copy)]
 pub struct Curve {
     pub start: u32,
     pub stop: u32,
@@ -148,7 +149,7 @@ pub fn load_past(
 
 // An `H` line that is read while links are moved on to a boundary: the step before its own, where the next line starts, and the seconds from the start of the
 // line's step to the boundary.
-#[derive(Drop)]
+#[derive(Clone, Copy)]
 pub struct PastLine {
     pub from: usize,
     pub next: usize,

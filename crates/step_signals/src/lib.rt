@@ -1,6 +1,7 @@
 // A signal (the paper's light) through a step: the phase that its mask shows, rules 10, 29 and 11 to 14, and the signal after the step. `asked` is the phase
 // that a tram asks of a signal, 0 in an ordinary step.
 // The definitions stand in specs/ of crate model.
+#![tactic(auto)]
 ghost use Rattle.std.specs.Prelude.{◌≡◌, true, cond, ◌-◌, ◌^◌, ◌≤◌, ◌<◌, length};
 ghost use Rattle.model.specs.Network.{max_signals};
 ghost use Rattle.model.specs.Signals.{phase_of, opens, least_time, greatest_time, next_phase, begins_cycle, shown_for_after, clock_after, keeps_order, keeps_least_time, keeps_greatest_time, keeps_cycle, after};

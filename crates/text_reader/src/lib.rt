@@ -1,32 +1,34 @@
 // Reads tab-separated records: numbers, lines and the end of a text, by places.
+#![tactic(auto)]
+
 ghost use Rattle.std.specs.Prelude.{◌≡◌, ◌+◌, ◌-◌, ◌*◌, ◌≤◌, ◌<◌, length, get_or, [], eqb, leb};
 ghost use Rattle.text_reader.specs.Field.{digit, largest};
 ghost use Rattle.text_reader.specs.Lines.{starts_as};
 ghost use Rattle.text_reader.specs.Reading.{line_at, leading_as, field_at, separator, rest_at, DigitsRead, starts_with, tab_before_sentinel, tabbed_at, EndsAs, record_at, at_end, Got, GotNumbers, GotNumbersAs};
 
 // What a field says; only contracts speak of it.
-#[derive(Drop)]
+#[derive(Clone, Copy)]
 pub enum Field {
     Number(u32),
     NoNumber,
 }
 
 // The place of the next line, where the line has the form that was asked for.
-#[derive(Drop)]
+#[derive(Clone, Copy)]
 pub enum LineRead {
     Next(usize),
     Malformed,
 }
 
 // The number of the field after a tab, and the place where that field ends.
-#[derive(Drop)]
+#[derive(Clone, Copy)]
 enum Tabbed {
     Found { value: u32, next: usize },
     Absent,
 }
 
 // The number of the field after a tab, and the place of the tab or the line feed that ends that field.
-#[derive(Drop)]
+#[derive(Clone, Copy)]
 enum Ended {
     ByTab { value: u32, next: usize },
     ByLineFeed { value: u32, next: usize },
@@ -34,7 +36,7 @@ enum Ended {
 }
 
 // Whether the numbers that were asked for are the last of their line: the place of the next line; or more follows, or one is missing.
-#[derive(Drop)]
+#[derive(Clone, Copy)]
 enum Numbers {
     Last(usize),
     More,

@@ -1,4 +1,5 @@
 // Time-distance traces: vehicles along a street, in metres as 64-bit floats. `step_vehicles` moves them by one step. Each sum and difference is rounded once.
+#![tactic(auto)]
 ghost use Rattle.std.specs.Prelude.{◌≡◌, length};
 ghost use Rattle.base_search.specs.Checks.{refusal};
 ghost use Rattle.base_laws.specs.Indexed.{list, every};
@@ -9,14 +10,14 @@ ghost use Rattle.traces.specs.Guarantees.{StepKeeps};
 use base_search::{Refusal, Verdict};
 
 // A vehicle: its place before the step, and how far it would advance.
-#[derive(Drop)]
+#[derive(Clone, Copy)]
 pub struct Vehicle {
     pub place: f64,
     pub advance: f64,
 }
 
 // What may stop a vehicle: nothing, the leader's last place (one spacing behind it), or a red line at or ahead of it.
-#[derive(Drop)]
+#[derive(Clone, Copy)]
 pub enum Obstacle {
     OpenRoad,
     LeaderPlace(f64),
