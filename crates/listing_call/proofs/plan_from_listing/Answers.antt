@@ -1,0 +1,21 @@
+-- `listing_call::plan_from_listing` meets its contract.
+use Rattle.listing_call.proofs.Call.{plan-refused, times-asked, plan-asked, plan-written, padding-too}
+use Rattle.listing_call.proofs.plan_from_listing.Goals as goal
+
+pub from_start-requires : goal.from_start-requires
+from_start-requires c = search times-asked
+
+pub write_on_network-requires : goal.write_on_network-requires
+write_on_network-requires c = search plan-asked
+
+pub returns-in-Passed-clause-plan_got : goal.returns-in-Passed-clause-plan_got
+returns-in-Passed-clause-plan_got c = (padding-too _ (search plan-written)).0
+
+pub returns-in-Passed-clause-padding_ignored : goal.returns-in-Passed-clause-padding_ignored
+returns-in-Passed-clause-padding_ignored c = (padding-too _ (search plan-written)).1
+
+pub returns-in-Refused-clause-plan_got : goal.returns-in-Refused-clause-plan_got
+returns-in-Refused-clause-plan_got c = (padding-too _ (search plan-refused)).0
+
+pub returns-in-Refused-clause-padding_ignored : goal.returns-in-Refused-clause-padding_ignored
+returns-in-Refused-clause-padding_ignored c = (padding-too _ (search plan-refused)).1

@@ -1,0 +1,10 @@
+-- `network_signals::load_signals` meets its contract.
+use Rattle.base_laws.proofs.Kit.{◌-◌}
+use Rattle.network_signals.proofs.Loops.{LoadedTo}
+use Rattle.network_signals.proofs.load_signals.Given as goal
+
+abbrev pub invariant-loop-r : goal.invariant-loop-r
+invariant-loop-r l = LoadedTo l.text l.signals l.place l.r
+
+abbrev pub decreases-loop-r : goal.decreases-loop-r
+decreases-loop-r l = l.counts.signals - l.r

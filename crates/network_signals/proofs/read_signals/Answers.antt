@@ -1,0 +1,58 @@
+use Rattle.base_laws.proofs.Kit.{◌-◌, arith}
+use Rattle.network_signals.proofs.Loops.{signals-begin, signal-asked, signals-stop, signal-few, signals-next, signals-done, table-next}
+use Rattle.network_signals.proofs.read_signals.Goals as goal
+
+pub loop-r-init : goal.loop-r-init
+loop-r-init c = signals-begin c.requires
+
+pub overflow_mul-start : goal.overflow_mul-start
+overflow_mul-start c = omega (arith, c.loop-r-test.true, c.requires.counted.few.signals)
+
+pub overflow_add-end : goal.overflow_add-end
+overflow_add-end c = omega (arith, c.loop-r-test.true, c.requires.counted.few.signals)
+
+pub slice_bounds-read_signal-end : goal.slice_bounds-read_signal-end
+slice_bounds-read_signal-end c = omega (arith, c.loop-r-test.true, c.loop-r.invariant.table.size, c.requires.counted.few.signals)
+
+pub read_signal-stage-requires : goal.read_signal-stage-requires
+read_signal-stage-requires c = signal-asked c.requires c.loop-r.invariant c.loop-r-test.true c.moved_to.ensures
+
+pub returns-in_default : goal.returns-in_default
+returns-in_default c =
+    signals-stop c.requires c.loop-r.invariant c.loop-r-test.true
+    c.read_signal-stage.ensures c.in_default.is
+
+pub signal_in-signal-requires : goal.signal_in-signal-requires
+signal_in-signal-requires c =
+    let turn = c.before.before.before.before.before.before.before.before.before.before.before in
+    let few = turn.before.before.before.before.before.requires.counted.few.signals in
+    let below = c.loop-r-test.true in
+    (omega arith, (table-next turn.loop.invariant.table (omega arith) c.read_signal-stage.new.1.1.1.0 c.read_signal-stage.auto.1.1.1.0 (c.read_signal-stage.ensures.held _ c.in-Passed.is).signals).size)
+
+pub offset_bounds-phases-r : goal.offset_bounds-phases-r
+offset_bounds-phases-r c = omega (arith, c.loop-r-test.true, c.requires.counted.few.signals)
+
+pub bounds-phases-r : goal.bounds-phases-r
+bounds-phases-r c =
+    omega
+    (arith, c.loop-r-test.true, c.requires.counted.few.signals, c.loop-r.invariant.room)
+
+pub shortest_time-shortest-requires : goal.shortest_time-shortest-requires
+shortest_time-shortest-requires c =
+    signal-few c.requires c.loop-r.invariant c.loop-r-test.true
+    c.read_signal-stage.ensures c.read_signal-stage.auto.1.1.1.0
+    c.in-Passed.is c.signal_in-signal.ensures
+
+pub overflow_add-r : goal.overflow_add-r
+overflow_add-r c =
+    let turn = c.before.before.before.before.before.before.before.before.before.before.before.before.before in
+    omega (arith, c.loop-r-test.true, turn.before.before.before.before.before.requires.counted.few.signals)
+
+pub loop-r-preserved : goal.loop-r-preserved
+loop-r-preserved c =
+    let turn = c.before.before.before.before.before.before.before.before.before.before.before.before.before in
+    signals-next turn.before.before.before.before.before.requires turn.loop.invariant c.loop-r-test.true c.read_signal-stage.ensures
+    c.read_signal-stage.auto.1.1.1.0 c.in-Passed.is c.signal_in-signal.ensures c.shortest_time-shortest.ensures
+
+pub returns : goal.returns
+returns c = signals-done c.requires c.loop-r.invariant c.loop-r-test.false

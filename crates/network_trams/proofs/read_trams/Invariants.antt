@@ -1,0 +1,12 @@
+-- `network_trams::read_trams` meets its contract.
+use Rattle.base_laws.proofs.Kit.{◌-◌}
+use Rattle.text_reader.specs.Lines.{lines}
+use Rattle.network_tables.specs.Fields.{tram_fields, tram_table_size}
+use Rattle.network_tables.specs.Blocks.{TableTo, tram_block}
+use Rattle.network_trams.proofs.read_trams.Given as goal
+
+abbrev pub invariant-loop-k : goal.invariant-loop-k
+invariant-loop-k l = TableTo l.text (tram_block (lines l.text)) tram_fields tram_table_size l.place l.k l.trams
+
+abbrev pub decreases-loop-k : goal.decreases-loop-k
+decreases-loop-k l = l.counts.trams - l.k

@@ -1,0 +1,12 @@
+use Rattle.base_laws.proofs.Kit.{◌-◌}
+use Rattle.plancheck_report.proofs.Boundaries.{put_first, put-again, put_all}
+use Rattle.plancheck_report.proofs.put_row.Goals as goal
+
+pub loop-k-init : goal.loop-k-init
+loop-k-init c = search put_first
+
+pub loop-k-preserved : goal.loop-k-preserved
+loop-k-preserved c = search put-again
+
+pub returns : goal.returns
+returns c = search put_all

@@ -1,0 +1,10 @@
+-- `plancheck_report::put_row` meets its contract. The invariant: the first k numbers of the row are there.
+use Rattle.base_laws.proofs.Kit.{◌-◌, length}
+use Rattle.plancheck_report.proofs.Boundaries.{Put}
+use Rattle.plancheck_report.proofs.put_row.Given as goal
+
+abbrev pub invariant-loop-k : goal.invariant-loop-k
+invariant-loop-k l = Put l.row l.initial.fields l.fields l.k
+
+abbrev pub decreases-loop-k : goal.decreases-loop-k
+decreases-loop-k l = length l.row - l.k

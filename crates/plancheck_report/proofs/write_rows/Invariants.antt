@@ -1,0 +1,10 @@
+-- `plancheck_report::write_rows` meets its contract. The invariant: the records of the first n boundaries are written.
+use Rattle.base_laws.proofs.Kit.{suc, ◌-◌}
+use Rattle.plancheck_report.proofs.Boundaries.{Written}
+use Rattle.plancheck_report.proofs.write_rows.Given as goal
+
+abbrev pub invariant-loop-n : goal.invariant-loop-n
+invariant-loop-n l = Written l.counts l.times l.ledger l.at l.initial.out l.out l.next l.n
+
+abbrev pub decreases-loop-n : goal.decreases-loop-n
+decreases-loop-n l = suc l.counts.steps - l.n

@@ -1,0 +1,22 @@
+-- `sheet_writer::plan_from_sheet` meets its contract.
+use Rattle.std.proofs.Common.{rules}
+use Rattle.sheet_writer.proofs.Call.{times-asked, call-asked, call-refused, call-written, padding-too}
+use Rattle.sheet_writer.proofs.plan_from_sheet.Goals as goal
+
+pub from_start-requires : goal.from_start-requires
+from_start-requires c = search (times-asked, rules)
+
+pub write_on_network-requires : goal.write_on_network-requires
+write_on_network-requires c = search (call-asked, rules)
+
+pub returns-in-Passed-clause-write_promises : goal.returns-in-Passed-clause-write_promises
+returns-in-Passed-clause-write_promises c = (padding-too _ _ (search (call-written, rules))).0
+
+pub returns-in-Passed-clause-padding_ignored : goal.returns-in-Passed-clause-padding_ignored
+returns-in-Passed-clause-padding_ignored c = (padding-too _ _ (search (call-written, rules))).1
+
+pub returns-in-Refused-clause-write_promises : goal.returns-in-Refused-clause-write_promises
+returns-in-Refused-clause-write_promises c = (padding-too _ _ (search (call-refused, rules))).0
+
+pub returns-in-Refused-clause-padding_ignored : goal.returns-in-Refused-clause-padding_ignored
+returns-in-Refused-clause-padding_ignored c = (padding-too _ _ (search (call-refused, rules))).1

@@ -1,0 +1,10 @@
+-- `step_past::keep_curves` meets its contract. The invariant: the curves of the first i links are kept.
+use Rattle.base_laws.proofs.Kit.{◌-◌}
+use Rattle.step_past.proofs.Keeping.{KeepingTo}
+use Rattle.step_past.proofs.keep_curves.Given as goal
+
+abbrev pub invariant-loop-i : goal.invariant-loop-i
+invariant-loop-i l = KeepingTo l.fields l.row l.arrivals l.links l.m l.next l.initial.curves l.initial.places l.curves l.places l.i
+
+abbrev pub decreases-loop-i : goal.decreases-loop-i
+decreases-loop-i l = l.links - l.i

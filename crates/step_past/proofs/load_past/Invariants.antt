@@ -1,0 +1,10 @@
+-- `step_past::load_past` meets its contract. The invariant: the row at boundary m of the timeline, and the curves of the links whose travel time ends before it.
+use Rattle.base_laws.proofs.Kit.{◌-◌}
+use Rattle.step_past.proofs.Loading.{PastTo}
+use Rattle.step_past.proofs.load_past.Given as goal
+
+abbrev pub invariant-loop-m : goal.invariant-loop-m
+invariant-loop-m l = PastTo l.text l.counts l.initial.row l.arrivals l.row l.curves l.places l.fields l.place l.m
+
+abbrev pub decreases-loop-m : goal.decreases-loop-m
+decreases-loop-m l = l.counts.past - l.m

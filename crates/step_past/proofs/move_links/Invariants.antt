@@ -1,0 +1,10 @@
+-- `step_past::move_links` meets its contract. The invariant: the links before i are moved on by the line.
+use Rattle.base_laws.proofs.Kit.{◌-◌}
+use Rattle.step_past.proofs.Moving.{MovingTo}
+use Rattle.step_past.proofs.move_links.Given as goal
+
+abbrev pub invariant-loop-i : goal.invariant-loop-i
+invariant-loop-i l = MovingTo l.fields l.counts l.links l.line l.first l.initial.arrivals l.initial.curves l.initial.places l.arrivals l.curves l.places l.i
+
+abbrev pub decreases-loop-i : goal.decreases-loop-i
+decreases-loop-i l = l.counts.links - l.i

@@ -1,0 +1,10 @@
+-- `step_past::read_on` meets its contract. The invariant: the curve of the lines read so far.
+use Rattle.base_laws.proofs.Kit.{◌-◌}
+use Rattle.step_past.proofs.Reading.{ReadTo}
+use Rattle.step_past.proofs.read_on.Given as goal
+
+abbrev pub invariant-loop-m : goal.invariant-loop-m
+invariant-loop-m l = ReadTo l.text l.i l.to l.fields l.start l.stop l.place l.m
+
+abbrev pub decreases-loop-m : goal.decreases-loop-m
+decreases-loop-m l = l.to - l.m

@@ -1,0 +1,10 @@
+-- `step_rows::first_waiting` meets its contract. The invariant: who waits at the first i entries is told.
+use Rattle.base_laws.proofs.Kit.{◌-◌}
+use Rattle.step_rows.proofs.WaitingTurns.{FirstTo}
+use Rattle.step_rows.proofs.first_waiting.Given as goal
+
+abbrev pub invariant-loop-i : goal.invariant-loop-i
+invariant-loop-i l = FirstTo l.links l.count l.waiting l.i
+
+abbrev pub decreases-loop-i : goal.decreases-loop-i
+decreases-loop-i l = l.count - l.i

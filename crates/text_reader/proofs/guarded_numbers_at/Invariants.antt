@@ -1,0 +1,10 @@
+-- `text_reader::guarded_numbers_at` meets its contract. The invariant: k numbers are stored, and the next would be read from i.
+use Rattle.base_laws.proofs.Kit.{◌-◌, length}
+use Rattle.text_reader.proofs.Turns.{Stored}
+use Rattle.text_reader.proofs.guarded_numbers_at.Given as goal
+
+abbrev pub invariant-loop-k : goal.invariant-loop-k
+invariant-loop-k l = Stored l.text l.at l.initial.out l.out l.i l.k
+
+abbrev pub decreases-loop-k : goal.decreases-loop-k
+decreases-loop-k l = length l.out - l.k
