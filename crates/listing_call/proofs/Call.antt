@@ -1,5 +1,5 @@
 -- The stages of the call.
-use Rattle.base_laws.proofs.Kit.{ℕ, zero, suc, ◌+◌, ◌-◌, ◌≡◌, refl, sym, ap, ◌∙◌, List, add-one, arith, needs, length, get_or, take, replicate, length-replicate}
+use Rattle.base_laws.proofs.Kit.{ℕ, zero, suc, ◌+◌, ◌-◌, ◌≡◌, refl, sym, ap, ◌∙◌, List, add-one, arith, rules, length, get_or, take, replicate, length-replicate}
 use Rattle.base_search.specs.declared.Refusal.{Refusal}
 use Rattle.base_search.specs.declared.Verdict.{Verdict}
 use Rattle.base_search.specs.declared.Verdict.TheVariants as verdicts
@@ -148,7 +148,7 @@ module _ (text : List ℕ) (reading : Reading) (times : List ℕ) (a : NetworkAs
 -- ---- the whole call
 pub write-numbered : (network : List Line) (listing : List Entry) (size : ℕ) → Numbered listing_numbers (write_checks network listing size)
 unfolding Numbered is_one_of all_of write_checks listing_checks entry_checks_by
-write-numbered network listing size = (network-among network listing_numbers refl, search needs)
+write-numbered network listing size = (network-among network listing_numbers refl, search rules)
 
 answer-number : (network : List Line) (listing : List Entry) (size : ℕ) (r : Refusal) → plan_from_listing network listing size ≡ Refused r → CanArise listing_numbers r.number
 unfolding plan_from_listing

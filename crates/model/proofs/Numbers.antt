@@ -1,5 +1,5 @@
 -- Every refusal of a call has one of its numbers.
-use Rattle.base_laws.proofs.Kit.{◌≡◌, refl, true, List, ℕ, suc, needs, length}
+use Rattle.base_laws.proofs.Kit.{◌≡◌, refl, true, List, ℕ, suc, rules, length}
 use Rattle.base_search.specs.declared.Refusal.{Refusal}
 use Rattle.base_search.specs.declared.Verdict.{Verdict}
 use Rattle.base_search.specs.declared.Verdict.TheVariants.{Passes, Refused}
@@ -17,7 +17,7 @@ use Rattle.base_laws.proofs.Tests.{every-at}
 -- ---- the checks of the three calls
 pub network-numbered : (network : List Line) → Numbered network_numbers (network_checks network)
 unfolding Numbered is_one_of network_checks count_checks tram_checks signal_checks tram_phase_checks link_checks movement_checks share_checks past_checks step_checks
-network-numbered network = search needs depth 14
+network-numbered network = search rules depth 14
 
 pub network-among : (network : List Line) (numbers : List ℕ) → all_of network_numbers numbers ≡ true → Numbered numbers (network_checks network)
 network-among network numbers h = wider network_numbers numbers h (network_checks network) (network-numbered network)
@@ -33,14 +33,14 @@ line-numbered network plan n = (refl, table-numbered plan_numbers (suc n) _ refl
 
 pub plan-numbered : (network plan : List Line) (size : ℕ) → Numbered plan_numbers (plan_checks network plan size)
 unfolding Numbered is_one_of all_of plan_checks ledger_checks plan_line_checks
-plan-numbered network plan size = (network-among network plan_numbers refl, search (needs, line-numbered network plan))
+plan-numbered network plan size = (network-among network plan_numbers refl, search (rules, line-numbered network plan))
 
 pub plan-among : (network plan : List Line) (size : ℕ) (numbers : List ℕ) → all_of plan_numbers numbers ≡ true → Numbered numbers (plan_checks network plan size)
 plan-among network plan size numbers h = wider plan_numbers numbers h (plan_checks network plan size) (plan-numbered network plan size)
 
 pub state-numbered : (network : List Line) (ledger : List ℕ) (boundary link : ℕ) → Numbered state_numbers (state_checks network ledger boundary link)
 unfolding Numbered is_one_of all_of state_checks ledger_checks
-state-numbered network ledger boundary link = (network-among network state_numbers refl, search needs)
+state-numbered network ledger boundary link = (network-among network state_numbers refl, search rules)
 
 -- ---- refusals of a network and of a link's state
 of-link : (network : List Line) (ledger : List ℕ) (boundary link : ℕ) (v : Verdict) (r : Refusal) → link_answer network ledger boundary link v ≡ link-answer.Refused r → v ≡ Refused r

@@ -1,5 +1,5 @@
 -- What the call promises beside the theorem: what it wrote, and that the number of a refusal is one that can arise.
-use Rattle.base_laws.proofs.Kit.{◌≡◌, refl, sym, ap, ◌∙◌, List, ℕ, length, take, take_at, needs}
+use Rattle.base_laws.proofs.Kit.{◌≡◌, refl, sym, ap, ◌∙◌, List, ℕ, length, take, take_at, rules}
 use Rattle.base_search.specs.declared.Refusal.{Refusal}
 use Rattle.base_search.specs.declared.Verdict.{Verdict}
 use Rattle.base_search.specs.declared.Verdict.TheVariants.{Passes, Refused}
@@ -20,7 +20,7 @@ use Rattle.model_split.proofs.Splits.{splits}
 module _ (network plan : List Line) (set : ℕ) where
   pub split-numbered : (room : Lengths) → Numbered split_numbers (split_checks network plan set room)
   unfolding Numbered is_one_of all_of split_checks part_checks form_checks
-  split-numbered room = ((network-among network split_numbers refl, search needs), refl)
+  split-numbered room = ((network-among network split_numbers refl, search rules), refl)
 
   parts-pass : (room : Lengths) → verdict (split_checks network plan set room) ≡ Passes → verdict (part_checks network plan set) ≡ Passes
   unfolding split_checks verdict
