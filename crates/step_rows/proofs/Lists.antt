@@ -14,6 +14,7 @@ pairs-ext e l e' l' (suc n) a b = rw (pairs-ext e l e' l' n (λ i h. a i (omega 
 
 pub pairs-entered : (e l : ℕ → ℕ) (n i : ℕ) → i < n → get_or (pairs e l n) (2 * i) 0 ≡ e i
 unfolding pairs
+pairs-entered e l zero i h = elim h [ ]
 pairs-entered e l (suc n) i h =
     ⊎_elim
     (λ (q : i ≡ n). rw q (get_or_at (pairs e l n) (e n) (l n ∷ []) 0 (2 * n) (length_pairs e l n)))
@@ -22,6 +23,7 @@ pairs-entered e l (suc n) i h =
 
 pub pairs-left : (e l : ℕ → ℕ) (n i : ℕ) → i < n → get_or (pairs e l n) (2 * i + 1) 0 ≡ l i
 unfolding pairs
+pairs-left e l zero i h = elim h [ ]
 pairs-left e l (suc n) i h =
     ⊎_elim
     (λ (q : i ≡ n).

@@ -26,7 +26,7 @@ pub check_past-requires : goal.check_past-requires
 check_past-requires c = past-asked c.requires c.read_past-stage.ensures c.in-Passed.is c.read_steps-stage.ensures c.in-Passed-stage.is c.check_end-stage.ensures c.in-Passed-stage-2.is
 
 pub shape_of-times : goal.shape_of-times
-shape_of-times c = omega (arith, c.read_past-stage.auto.1.1.0, c.read_steps-stage.auto.1.1.0)
+shape_of-times c = omega (arith, c.read_past-stage.auto.times, c.read_steps-stage.auto.times)
 
 pub returns : goal.returns
 returns c = timeline-judged c.requires c.read_past-stage.ensures c.in-Passed.is c.read_steps-stage.ensures c.in-Passed-stage.is c.check_end-stage.ensures c.in-Passed-stage-2.is c.check_past.ensures

@@ -20,14 +20,11 @@ pub valid_signal-requires : goal.valid_signal-requires
 valid_signal-requires c = search (few-phases, rules)
 
 pub new-requires-then-not-valid_signal : goal.new-requires-then-not-valid_signal
-new-requires-then-not-valid_signal c =
-    let head = c.before.before.before.before.before.before.before.before.before.before.before.before.before.before.before.before.before.before in
-    omega (arith, head.before.before.signal-line.ensures, head.before.before.before.before.before.before.requires.few, head.before.before.before.before.before.before.requires.counted.few.trams)
+new-requires-then-not-valid_signal c = omega (arith, c.signal_line-line.ensures, c.requires.few, c.requires.counted.few.trams)
 
 pub returns-then-not-valid_signal : goal.returns-then-not-valid_signal
 returns-then-not-valid_signal c =
-    let head = c.before.before.before.before.before.before.before.before.before.before.before.before.before.before.before.before.before.before.before in
-    stop-values head.before.before.before.before.before.before.requires head.read_head.ensures head.before.before.signal-line.ensures
+    stop-values c.requires c.read_head.ensures c.signal_line-line.ensures
     c.if-not-read_head.false-raw c.index-phases.ensures.0 c.valid_phases.ensures
     c.if-not-valid_phases.false-raw c.read_row-read.ensures c.in-Next.is c.signal_from.ensures
     c.valid_signal.ensures c.if-not-valid_signal.true-raw c.new-then-not-valid_signal.ensures
@@ -37,8 +34,7 @@ shape_of-fields c = omega (arith, c.read_row-read.ensures.size, c.read_head.ensu
 
 pub returns : goal.returns
 returns c =
-    let head = c.before.before.before.before.before.before.before.before.before.before.before.before.before.before.before.before.before.before.before in
-    pass-line head.before.before.before.before.before.before.requires head.read_head.ensures head.before.before.signal-line.ensures
+    pass-line c.requires c.read_head.ensures c.signal_line-line.ensures
     c.if-not-read_head.false-raw c.index-phases.ensures.0 c.valid_phases.ensures
     c.if-not-valid_phases.false-raw c.read_row-read.ensures c.in-Next.is c.signal_from.ensures
     c.valid_signal.ensures c.if-not-valid_signal.false-raw c.moved_to.ensures

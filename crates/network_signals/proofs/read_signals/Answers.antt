@@ -24,10 +24,9 @@ returns-in_default c =
 
 pub signal_in-signal-requires : goal.signal_in-signal-requires
 signal_in-signal-requires c =
-    let turn = c.before.before.before.before.before.before.before.before.before.before.before in
-    let few = turn.before.before.before.before.before.requires.counted.few.signals in
+    let few = c.requires.counted.few.signals in
     let below = c.loop-r-test.true in
-    (omega arith, (table-next turn.loop.invariant.table (omega arith) c.read_signal-stage.new.1.1.1.0 c.read_signal-stage.auto.1.1.1.0 (c.read_signal-stage.ensures.held _ c.in-Passed.is).signals).size)
+    (omega arith, (table-next c.loop-r.invariant.table (omega arith) c.read_signal-stage.new.fields c.read_signal-stage.auto.fields (c.read_signal-stage.ensures.held _ c.in-Passed.is).signals).size)
 
 pub offset_bounds-phases-r : goal.offset_bounds-phases-r
 offset_bounds-phases-r c = omega (arith, c.loop-r-test.true, c.requires.counted.few.signals)
@@ -40,19 +39,16 @@ bounds-phases-r c =
 pub shortest_time-shortest-requires : goal.shortest_time-shortest-requires
 shortest_time-shortest-requires c =
     signal-few c.requires c.loop-r.invariant c.loop-r-test.true
-    c.read_signal-stage.ensures c.read_signal-stage.auto.1.1.1.0
+    c.read_signal-stage.ensures c.read_signal-stage.auto.fields
     c.in-Passed.is c.signal_in-signal.ensures
 
 pub overflow_add-r : goal.overflow_add-r
-overflow_add-r c =
-    let turn = c.before.before.before.before.before.before.before.before.before.before.before.before.before in
-    omega (arith, c.loop-r-test.true, turn.before.before.before.before.before.requires.counted.few.signals)
+overflow_add-r c = omega (arith, c.loop-r-test.true, c.requires.counted.few.signals)
 
 pub loop-r-preserved : goal.loop-r-preserved
 loop-r-preserved c =
-    let turn = c.before.before.before.before.before.before.before.before.before.before.before.before.before in
-    signals-next turn.before.before.before.before.before.requires turn.loop.invariant c.loop-r-test.true c.read_signal-stage.ensures
-    c.read_signal-stage.auto.1.1.1.0 c.in-Passed.is c.signal_in-signal.ensures c.shortest_time-shortest.ensures
+    signals-next c.requires c.loop-r.invariant c.loop-r-test.true c.read_signal-stage.ensures
+    c.read_signal-stage.auto.fields c.in-Passed.is c.signal_in-signal.ensures c.shortest_time-shortest.ensures
 
 pub returns : goal.returns
 returns c = signals-done c.requires c.loop-r.invariant c.loop-r-test.false

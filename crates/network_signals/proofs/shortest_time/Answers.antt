@@ -9,10 +9,10 @@ unfolding shortest_time
 loop-k-init c = (search rules, refl, refl)
 
 pub loop-k-preserved : goal.loop-k-preserved
-loop-k-preserved c = (search rules, refl, shortest-more c.args.t1 c.loop-k.k c.args.so_far _ _ c.loop-k.invariant.2 c.lesser_of-shortest.ensures)
+loop-k-preserved c = (search rules, refl, shortest-more c.args.signal c.loop-k.k c.args.so_far _ _ c.loop-k.invariant.2 c.lesser_of-shortest.ensures)
 
 pub returns : goal.returns
 returns c =
-    let s = c.args.t1 in
+    let s = c.args.signal in
     let e : c.loop-k.k ≡ s.phases = omega arith in
     rw e at c.loop-k.invariant.2

@@ -4,12 +4,12 @@ use Rattle.network_signals.proofs.Values.{shown-below, shown-above, shown-within
 use Rattle.network_signals.proofs.valid_signal.Goals as goal
 
 pub returns-then-signal-lt1 : goal.returns-then-signal-lt1
-returns-then-signal-lt1 c = sym (shown-below c.args.t1 c.if-signal-lt1.true)
+returns-then-signal-lt1 c = sym (shown-below c.args.signal c.if-signal-lt1.true)
 
 pub returns-then-signal : goal.returns-then-signal
-returns-then-signal c = sym (shown-above c.args.t1 c.if-signal.true)
+returns-then-signal c = sym (shown-above c.args.signal c.if-signal.true)
 
 pub returns : goal.returns
 returns c =
-    let s = c.args.t1 in
+    let s = c.args.signal in
     shown-within s (omega arith) (omega arith) _ c.valid_times.ensures

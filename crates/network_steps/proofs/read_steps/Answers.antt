@@ -17,15 +17,12 @@ next_time-requires c = search (time-asked, rules)
 
 pub add_demands-requires : goal.add_demands-requires
 add_demands-requires c =
-    let turn = c.before.before.before.before.before.before.before.before.before.before.before.before.before.before.before.before.before.before.before.before.before in
-    add-asked turn.before.before.before.before.before.requires turn.loop.invariant (search rules) c.read_row-read.ensures
+    add-asked c.requires c.loop-n.invariant (search rules) c.read_row-read.ensures
     c.in-Next.is c.valid_step.ensures c.if-not-valid_step.false-raw
 
 pub loop-n-preserved : goal.loop-n-preserved
 loop-n-preserved c =
-    let row = c.before.before.before.before.before.before.before.before.before.before.before.before.before.before.before.before.before.before.before in
-    let turn = row.before.before.before.before.before in
-    steps_next turn.before.before.before.before.before.requires turn.loop.invariant (search rules) row.read-row.ensures
+    steps_next c.requires c.loop-n.invariant (search rules) c.read_row-read.ensures
     c.in-Next.is c.valid_step.ensures c.if-not-valid_step.false-raw
     c.step_length-seconds.ensures refl c.next_time.ensures c.add_demands.ensures
 

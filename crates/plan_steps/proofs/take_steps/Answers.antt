@@ -49,13 +49,13 @@ pub loop-taken-preserved : goal.loop-taken-preserved
 loop-taken-preserved c = running-next c.loop-taken.invariant c.take_step-taken.ensures (omega arith) c.in-Passes.is
 
 pub shape_of-signals-in_default : goal.shape_of-signals-in_default
-shape_of-signals-in_default c = omega (arith, c.take_step-taken.auto.1.1.1.1.1.1.1.0, c.loop-taken.invariant.state-at.signals-at.size, c.requires.signal-table.size)
+shape_of-signals-in_default c = omega (arith, c.take_step-taken.auto.signals, c.loop-taken.invariant.state-at.signals-at.size, c.requires.signal-table.size)
 
 pub shape_of-waiting-in_default : goal.shape_of-waiting-in_default
-shape_of-waiting-in_default c = omega (arith, c.take_step-taken.auto.1.1.1.1.1.1.1.1.1.1.1.0, c.loop-taken.invariant.state-at.waiting-at.size, c.requires.waiting-size)
+shape_of-waiting-in_default c = omega (arith, c.take_step-taken.auto.waiting, c.loop-taken.invariant.state-at.waiting-at.size, c.requires.waiting-size)
 
 pub shape_of-ledger-in_default : goal.shape_of-ledger-in_default
-shape_of-ledger-in_default c = omega (arith, c.take_step-taken.auto.1.1.1.1.1.1.1.1.1.1.1.1.0, c.loop-taken.invariant.long, c.load_past.ensures.size)
+shape_of-ledger-in_default c = omega (arith, c.take_step-taken.auto.ledger, c.loop-taken.invariant.long, c.load_past.ensures.size)
 
 pub returns-in_default : goal.returns-in_default
 returns-in_default c = steps-since c.requires c.load_past.ensures (steps-stopped c.loop-taken.invariant c.take_step-taken.ensures (omega arith) c.in_default.is)

@@ -5,62 +5,8 @@ use Rattle.plancheck_c.specs.Results.{plan_result}
 use Rattle.plancheck_c.proofs.Numbers.{sheet-tells}
 use Rattle.plancheck_c.proofs.plancheck_check_sheet.Goals as goal
 
-pub returns-clause-value : goal.returns-clause-value
-returns-clause-value c =
+pub returns : goal.returns
+returns c =
     let e = c.check_sheet.ensures in
     let is = c.plan_result.ensures in
-    let told = is ∙ ap plan_result e.0.told in (
-      told,
-      (
-        promised _ _ is e.0,
-        (
-          sheet-tells _ _ _ _ told,
-          λ padded_network n padded_plan p padded_sheet s. promised _ _ is (e.1 padded_network n padded_plan p padded_sheet s),
-        ),
-      ),
-    )
-
-pub returns-clause-sheet_promises : goal.returns-clause-sheet_promises
-returns-clause-sheet_promises c =
-    let e = c.check_sheet.ensures in
-    let is = c.plan_result.ensures in
-    let told = is ∙ ap plan_result e.0.told in (
-      told,
-      (
-        promised _ _ is e.0,
-        (
-          sheet-tells _ _ _ _ told,
-          λ padded_network n padded_plan p padded_sheet s. promised _ _ is (e.1 padded_network n padded_plan p padded_sheet s),
-        ),
-      ),
-    )
-
-pub returns-clause-number_tells : goal.returns-clause-number_tells
-returns-clause-number_tells c =
-    let e = c.check_sheet.ensures in
-    let is = c.plan_result.ensures in
-    let told = is ∙ ap plan_result e.0.told in (
-      told,
-      (
-        promised _ _ is e.0,
-        (
-          sheet-tells _ _ _ _ told,
-          λ padded_network n padded_plan p padded_sheet s. promised _ _ is (e.1 padded_network n padded_plan p padded_sheet s),
-        ),
-      ),
-    )
-
-pub returns-clause-padding_ignored : goal.returns-clause-padding_ignored
-returns-clause-padding_ignored c =
-    let e = c.check_sheet.ensures in
-    let is = c.plan_result.ensures in
-    let told = is ∙ ap plan_result e.0.told in (
-      told,
-      (
-        promised _ _ is e.0,
-        (
-          sheet-tells _ _ _ _ told,
-          λ padded_network n padded_plan p padded_sheet s. promised _ _ is (e.1 padded_network n padded_plan p padded_sheet s),
-        ),
-      ),
-    )
+    let told = is ∙ ap plan_result e.0.told in record { value = told; sheet_promises = promised _ _ is e.0; number_tells = sheet-tells _ _ _ _ told; padding_ignored = λ padded_network n padded_plan p padded_sheet s. promised _ _ is (e.1 padded_network n padded_plan p padded_sheet s) }

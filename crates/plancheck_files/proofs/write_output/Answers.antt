@@ -7,7 +7,7 @@ pub slice_bounds-write_report-end : goal.slice_bounds-write_report-end
 slice_bounds-write_report-end c = text-length c.requires.read_into c.in-Read.is
 
 pub slice_bounds-write_report-end-in-Read-plan_read : goal.slice_bounds-write_report-end-in-Read-plan_read
-slice_bounds-write_report-end-in-Read-plan_read c = text-length c.requires.read_into_2.0 c.in-Read-plan_read.is
+slice_bounds-write_report-end-in-Read-plan_read c = text-length c.requires.read_into_2 c.in-Read-plan_read.is
 
 pub returns-in-NotRead : goal.returns-in-NotRead
 unfolding output

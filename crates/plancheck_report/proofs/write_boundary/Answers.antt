@@ -6,19 +6,15 @@ use Rattle.plancheck_report.proofs.write_boundary.Goals as goal
 
 pub slice_bounds-write_record-end : goal.slice_bounds-write_record-end
 slice_bounds-write_record-end c =
-    let s = c.before.before.before.before.before.before.before.before in
-    let f = fields_read s.args.n c.wide.result s.args.time s.args.row.now _ c.put_row.new.0 (omega arith) c.wide.ensures.0 c.put_row.ensures in
+    let f = fields_read c.args.n c.wide.result c.args.time c.args.row.now _ c.put_row.new.0 (omega arith) c.wide.ensures.0 c.put_row.ensures in
     omega (arith, ap length f)
 
 pub write_record-requires : goal.write_record-requires
 write_record-requires c =
-    let s = c.before.before.before.before.before.before.before.before in
-    let f = fields_read s.args.n c.wide.result s.args.time s.args.row.now _ c.put_row.new.0 (omega arith) c.wide.ensures.0 c.put_row.ensures in
+    let f = fields_read c.args.n c.wide.result c.args.time c.args.row.now _ c.put_row.new.0 (omega arith) c.wide.ensures.0 c.put_row.ensures in
     record-fits _ _ _ _ (omega (arith, ap length f))
 
 pub returns : goal.returns
 returns c =
-    let b = c.before.before.before.before.before.before in
-    let s = b.before.before.before.before.before in
-    let f = fields_read s.args.n b.before.before.wide.result s.args.time s.args.row.now _ b.put-row.new.0 (omega arith) b.before.before.wide.ensures.0 b.put-row.ensures in
+    let f = fields_read c.args.n c.wide.result c.args.time c.args.row.now _ c.put_row.new.0 (omega arith) c.wide.ensures.0 c.put_row.ensures in
     rw f at c.write_record.ensures

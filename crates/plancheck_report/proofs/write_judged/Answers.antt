@@ -8,13 +8,7 @@ pub from_start-requires : goal.from_start-requires
 from_start-requires c = times-asked c.requires.loaded_with_signals
 
 pub write_answer-requires : goal.write_answer-requires
-write_answer-requires c =
-    let j = c.before.before.before.before.before.before.before.before.before.before.before in
-    let s = j.before.before.before.before.before.before.before.before.before.before.before in
-    answer-asked (length-replicate {A = ℕ} ledger_size 0) s.requires.0 j.judge-with-signals.ensures c.from_start.ensures s.requires.1
+write_answer-requires c = answer-asked (length-replicate {A = ℕ} ledger_size 0) c.requires.loaded_with_signals c.judge_with_signals-answer.ensures c.from_start.ensures c.requires.in_bounds
 
 pub returns : goal.returns
-returns c =
-    let j = c.before.before.before.before.before.before.before.before.before.before.before.before.before.before in
-    let s = j.before.before.before.before.before.before.before.before.before.before.before in
-    report-wrote (length-replicate {A = ℕ} ledger_size 0) s.requires.0 j.judge-with-signals.ensures c.from_start.ensures c.write_answer.ensures
+returns c = report-wrote (length-replicate {A = ℕ} ledger_size 0) c.requires.loaded_with_signals c.judge_with_signals-answer.ensures c.from_start.ensures c.write_answer.ensures

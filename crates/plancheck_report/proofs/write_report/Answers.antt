@@ -15,21 +15,13 @@ pub write_judged-requires-clause-in_bounds : goal.write_judged-requires-clause-i
 write_judged-requires-clause-in_bounds c = c.requires
 
 pub returns-in-Refused-clause-wrote : goal.returns-in-Refused-clause-wrote
-returns-in-Refused-clause-wrote c =
-    let s = c.before.before.before.before.before.before.before.before.before.before.before.before.before.before.before.before.before.before.before in
-    padding-too s.args.network.now s.args.plan.now (refused-wrote s.args.network.now s.args.plan.now c.load_with_signals.ensures c.in-Refused.is c.write_refusal.ensures)
+returns-in-Refused-clause-wrote c = (padding-too c.args.network.now c.args.plan.now (refused-wrote c.args.network.now c.args.plan.now c.load_with_signals.ensures c.in-Refused.is c.write_refusal.ensures)).0
 
 pub returns-in-Refused-clause-padding_ignored : goal.returns-in-Refused-clause-padding_ignored
-returns-in-Refused-clause-padding_ignored c =
-    let s = c.before.before.before.before.before.before.before.before.before.before.before.before.before.before.before.before.before.before.before in
-    padding-too s.args.network.now s.args.plan.now (refused-wrote s.args.network.now s.args.plan.now c.load_with_signals.ensures c.in-Refused.is c.write_refusal.ensures)
+returns-in-Refused-clause-padding_ignored c = (padding-too c.args.network.now c.args.plan.now (refused-wrote c.args.network.now c.args.plan.now c.load_with_signals.ensures c.in-Refused.is c.write_refusal.ensures)).1
 
 pub returns-in-Passed-clause-wrote : goal.returns-in-Passed-clause-wrote
-returns-in-Passed-clause-wrote c =
-    let s = c.before.before.before.before.before.before.before.before.before.before.before.before.before.before.before.before.before.before.before.before.before.before.before.before.before in
-    padding-too s.args.network.now s.args.plan.now c.write_judged.ensures
+returns-in-Passed-clause-wrote c = (padding-too c.args.network.now c.args.plan.now c.write_judged.ensures).0
 
 pub returns-in-Passed-clause-padding_ignored : goal.returns-in-Passed-clause-padding_ignored
-returns-in-Passed-clause-padding_ignored c =
-    let s = c.before.before.before.before.before.before.before.before.before.before.before.before.before.before.before.before.before.before.before.before.before.before.before.before.before in
-    padding-too s.args.network.now s.args.plan.now c.write_judged.ensures
+returns-in-Passed-clause-padding_ignored c = (padding-too c.args.network.now c.args.plan.now c.write_judged.ensures).1

@@ -12,17 +12,14 @@ returns-in-Refused c = search (sheet-refused, rules)
 pub returns-in_default-answer : goal.returns-in_default-answer
 returns-in_default-answer c = search (plan-refused, rules)
 
-pub pass_plan-requires : goal.pass_plan-requires
-pass_plan-requires c =
-    let s = c.before.before.before.before.before.before.before.before.before.before.before.before.before in
-    record { pass_asked = pass-asked s.before.before.before.before.before.before.before.before.before.before.before.requires s.read-sheet.ensures c.in_default.is c.judge_plan-answer.ensures c.in-Accepted.is; signal_table = s.before.before.before.before.before.before.before.before.before.before.before.requires.signal-table }
+pub pass_plan-requires-clause-pass_asked : goal.pass_plan-requires-clause-pass_asked
+pass_plan-requires-clause-pass_asked c = pass-asked c.requires c.read_sheet-read.ensures c.in_default.is c.judge_plan-answer.ensures c.in-Accepted.is
+
+pub pass_plan-requires-clause-signal_table : goal.pass_plan-requires-clause-signal_table
+pass_plan-requires-clause-signal_table c = c.requires.signal-table
 
 pub returns-in-Passes : goal.returns-in-Passes
-returns-in-Passes c =
-    let s = c.before.before.before.before.before.before.before.before.before.before.before.before.before.before.before.before in
-    runs-kept s.before.before.before.before.before.before.before.before.before.before.before.requires s.read-sheet.ensures c.in_default.is c.judge_plan-answer.ensures c.in-Accepted.is c.pass_plan.ensures c.in-Passes.is
+returns-in-Passes c = runs-kept c.requires c.read_sheet-read.ensures c.in_default.is c.judge_plan-answer.ensures c.in-Accepted.is c.pass_plan.ensures c.in-Passes.is
 
 pub returns-in-Refused-pass_plan : goal.returns-in-Refused-pass_plan
-returns-in-Refused-pass_plan c =
-    let s = c.before.before.before.before.before.before.before.before.before.before.before.before.before.before.before.before.before in
-    runs-broken s.before.before.before.before.before.before.before.before.before.before.before.requires s.read-sheet.ensures c.in_default.is c.judge_plan-answer.ensures c.in-Accepted.is c.pass_plan.ensures c.in-Refused-pass_plan.is
+returns-in-Refused-pass_plan c = runs-broken c.requires c.read_sheet-read.ensures c.in_default.is c.judge_plan-answer.ensures c.in-Accepted.is c.pass_plan.ensures c.in-Refused-pass_plan.is

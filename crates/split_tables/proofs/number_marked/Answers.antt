@@ -1,6 +1,7 @@
-use Rattle.base_laws.proofs.Kit.{◌-◌, ⊎_elim, arith}
+use Rattle.base_laws.proofs.Kit.{arith}
 use Rattle.split_tables.proofs.Marks.{numbered-none, last-small, place-within, numbered_more, numbered-other, numbered-all}
 use Rattle.split_tables.proofs.number_marked.Goals as goal
+use Rattle.split_tables.proofs.number_marked.Goals.{then-marks-k, else-marks-k}
 
 pub loop-k-init : goal.loop-k-init
 loop-k-init c = numbered-none c.requires
@@ -21,7 +22,10 @@ pub overflow_add-k : goal.overflow_add-k
 overflow_add-k c = omega (arith, c.requires.room)
 
 pub loop-k-preserved : goal.loop-k-preserved
-loop-k-preserved c = ⊎_elim (λ w. rw (w.1, w.2) (numbered_more c.requires c.loop-k.invariant (omega arith) w.0.taken)) (λ w. rw (w.1, w.2) (numbered-other c.requires c.loop-k.invariant (omega arith) w.0.left)) c.if-marks-k.branch
+loop-k-preserved c = elim c.if-marks-k.branch [
+      then-marks-k w ↦ rw (w.last-is, w.half-is) (numbered_more c.requires c.loop-k.invariant (omega arith) w.if-marks-k.true)
+    | else-marks-k w ↦ rw (w.last-is, w.half-is) (numbered-other c.requires c.loop-k.invariant (omega arith) w.if-marks-k.false)
+    ]
 
 pub shape_of-half : goal.shape_of-half
 shape_of-half c = omega (arith, c.loop-k.invariant.size)

@@ -12,10 +12,10 @@ pub form_row_for-requires : goal.form_row_for-requires
 form_row_for-requires c = let o = c.judge.invariant in fits-at _ _ _ _ _ _ _ _ _ _ _ _ _ _ _ c.requires o.3 o.2
 
 pub loop-item-init : goal.loop-item-init
-loop-item-init c = let o = c.judge.invariant in (omega arith, o.1, items-first _ _ _ _ _ _ _ _ _ _ _ _ _ _ _ c.requires o.3 (row-turn c.judge.invariant.2 c.form_row_for.ensures c.form_row_for.auto.1.1.1.1.1.0))
+loop-item-init c = let o = c.judge.invariant in (omega arith, o.1, items-first _ _ _ _ _ _ _ _ _ _ _ _ _ _ _ c.requires o.3 (row-turn c.judge.invariant.2 c.form_row_for.ensures c.form_row_for.auto.row))
 
 pub rule_holds-requires : goal.rule_holds-requires
-rule_holds-requires c = let o = c.judge.invariant in record { rule_tables = tables-at _ _ _ _ _ _ _ _ _ _ _ _ _ _ _ c.requires o.3 (row-turn c.judge.invariant.2 c.form_row_for.ensures c.form_row_for.auto.1.1.1.1.1.0); k_bound = (omega arith, omega (arith, c.rule_items-items.ensures)) }
+rule_holds-requires c = let o = c.judge.invariant in record { rule_tables = tables-at _ _ _ _ _ _ _ _ _ _ _ _ _ _ _ c.requires o.3 (row-turn c.judge.invariant.2 c.form_row_for.ensures c.form_row_for.auto.row); k_bound = (omega arith, omega (arith, c.rule_items-items.ensures)) }
 
 pub overflow_cast-found : goal.overflow_cast-found
 overflow_cast-found c = let h = c.requires.few-steps in search rules
@@ -26,12 +26,12 @@ overflow_cast-found-then-not-rule_holds c = let few = few-items c.args.counts c.
 pub loop-item-preserved : goal.loop-item-preserved
 loop-item-preserved c =
     let w = c.loop-item.invariant in
-    (omega arith, w.1, item-kept _ _ _ _ _ _ _ _ _ _ _ _ _ _ _ (row-turn c.judge.invariant.2 c.form_row_for.ensures c.form_row_for.auto.1.1.1.1.1.0) (omega arith) w.2 c.rule_holds.ensures c.if-not-rule_holds.false-raw)
+    (omega arith, w.1, item-kept _ _ _ _ _ _ _ _ _ _ _ _ _ _ _ (row-turn c.judge.invariant.2 c.form_row_for.ensures c.form_row_for.auto.row) (omega arith) w.2 c.rule_holds.ensures c.if-not-rule_holds.false-raw)
 
 pub judge-preserved : goal.judge-preserved
 judge-preserved c =
     let w = c.loop-item.invariant in
-    let row = row-turn c.judge.invariant.2 c.form_row_for.ensures c.form_row_for.auto.1.1.1.1.1.0 in
+    let row = row-turn c.judge.invariant.2 c.form_row_for.ensures c.form_row_for.auto.row in
     (omega arith, w.1, row_next row, rule-kept _ _ _ _ _ _ _ _ _ _ _ _ _ _ _ row (omega arith) w.2 (omega (arith, c.rule_items-items.ensures)))
 
 pub shape_of-row-after-judge : goal.shape_of-row-after-judge
@@ -41,9 +41,9 @@ pub returns-after-judge : goal.returns-after-judge
 returns-after-judge c = let o = c.judge.invariant in none-broken _ _ _ _ _ _ _ _ _ _ _ _ _ _ _ (omega arith) o.1 o.3 o.2
 
 pub shape_of-row-then-not-rule_holds : goal.shape_of-row-then-not-rule_holds
-shape_of-row-then-not-rule_holds c = let h = (row-turn c.judge.invariant.2 c.form_row_for.ensures c.form_row_for.auto.1.1.1.1.1.0).size in search rules
+shape_of-row-then-not-rule_holds c = let h = (row-turn c.judge.invariant.2 c.form_row_for.ensures c.form_row_for.auto.row).size in search rules
 
 pub returns-then-not-rule_holds : goal.returns-then-not-rule_holds
 returns-then-not-rule_holds c =
     let w = c.loop-item.invariant in
-    broken-here _ _ _ _ _ _ _ _ _ _ _ _ _ _ _ (row-turn c.judge.invariant.2 c.form_row_for.ensures c.form_row_for.auto.1.1.1.1.1.0) (omega arith) w.2 (omega (arith, c.rule_items-items.ensures)) c.rule_holds.ensures c.if-not-rule_holds.true-raw c.rule_number.ensures
+    broken-here _ _ _ _ _ _ _ _ _ _ _ _ _ _ _ (row-turn c.judge.invariant.2 c.form_row_for.ensures c.form_row_for.auto.row) (omega arith) w.2 (omega (arith, c.rule_items-items.ensures)) c.rule_holds.ensures c.if-not-rule_holds.true-raw c.rule_number.ensures

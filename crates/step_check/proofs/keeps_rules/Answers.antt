@@ -17,5 +17,5 @@ keeps_sums-requires c = rw c.next_row.ensures (c.requires.sums (c.keeps_limits.e
 
 pub returns : goal.returns
 returns c =
-    pass-ends _ _ _ _ _ _ _ _ _ _ _ _ _ _ _ c.next_row.ensures c.next_row.auto.1.1.1.1.0 (c.keeps_signal_rules.ensures (not-false _ c.if-not-keeps_signal_rules.false-raw))
+    pass-ends _ _ _ _ _ _ _ _ _ _ _ _ _ _ _ c.next_row.ensures c.next_row.auto.row (c.keeps_signal_rules.ensures (not-false _ c.if-not-keeps_signal_rules.false-raw))
     (c.keeps_limits.ensures (not-false _ c.if-not-keeps_limits.false-raw)) c.keeps_sums.ensures

@@ -11,9 +11,9 @@ bounds-part-k c = omega (arith, c.loop-k.invariant.2)
 
 pub loop-k-preserved : goal.loop-k-preserved
 loop-k-preserved c =
-    let s = c.before.before.before in (
+    (
       search rules,
-      copy-turn s.args.part.now s.args.row.now c.loop-k.k (omega arith) (omega arith) c.loop-k.invariant.1,
+      copy-turn c.args.part.now c.args.row.now c.loop-k.k (omega arith) (omega arith) c.loop-k.invariant.1,
       simp length-set c.loop-k.invariant.2,
     )
 

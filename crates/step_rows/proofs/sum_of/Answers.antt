@@ -11,9 +11,9 @@ overflow_add-total c = omega (arith, c.loop-i.invariant, c.requires)
 
 pub loop-i-preserved : goal.loop-i-preserved
 loop-i-preserved c =
-    let s = c.before.before.before.before.before in (
+    (
       search rules,
-      omega (arith, sum-next c.loop-i.i (λ k. get_or s.args.line.now (s.args.first + k) 0)),
+      omega (arith, sum-next c.loop-i.i (λ k. get_or c.args.line.now (c.args.first + k) 0)),
       omega (arith, c.wide-total.ensures),
     )
 

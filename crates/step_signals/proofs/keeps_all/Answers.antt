@@ -5,4 +5,4 @@ use Rattle.step_signals.proofs.keeps_all.Goals as goal
 
 pub returns : goal.returns
 unfolding keeps_all ◌and◌ ◌or◌
-returns c = rw (c.keeps_cycle.ensures, c.keeps_order.ensures, c.shown_for_after.ensures, c.requires.seconds_bound.1.0, c.requires.seconds_bound.1.1)
+returns c = rw (c.keeps_cycle.ensures, c.keeps_order.ensures, c.shown_for_after.ensures, c.requires.least_value.0, c.requires.least_value.1)

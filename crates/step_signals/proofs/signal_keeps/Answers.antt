@@ -17,7 +17,7 @@ pub greatest_time-greatest-requires : goal.greatest_time-greatest-requires
 greatest_time-greatest-requires c = let phase = c.place_of-2.ensures in search rules
 
 pub keeps_all-requires : goal.keeps_all-requires
-keeps_all-requires c = let is = c.signal_in-signal.ensures in record { ready = rw is c.requires.ready_in.ready; seconds_bound = (c.requires.phase_bound.1, (c.least_time-least.ensures ∙ rw (c.place_of.ensures, is) refl, c.greatest_time-greatest.ensures ∙ rw (c.place_of-2.ensures, is) refl)); least_value =  }
+keeps_all-requires c = let is = c.signal_in-signal.ensures in record { ready = rw is c.requires.ready_in.ready; seconds_bound = c.requires.seconds_bound; least_value = (c.least_time-least.ensures ∙ rw (c.place_of.ensures, is) refl, c.greatest_time-greatest.ensures ∙ rw (c.place_of-2.ensures, is) refl) }
 
 pub returns : goal.returns
 returns c = rw (c.keeps_all.ensures, c.signal_in-signal.ensures)
