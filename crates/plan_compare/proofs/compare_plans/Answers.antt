@@ -27,16 +27,16 @@ pub returns-in-Refused-clause-padding_ignored : goal.returns-in-Refused-clause-p
 returns-in-Refused-clause-padding_ignored c = (got-promised (search (network-refused, rules))).1.1.1.1
 
 pub returns-in-Passed-clause-value : goal.returns-in-Passed-clause-value
-returns-in-Passed-clause-value c = (got-promised (search rules)).0
+returns-in-Passed-clause-value c = (got-promised c.compare_on_network.ensures).0
 
 pub returns-in-Passed-clause-first_ledger_after : goal.returns-in-Passed-clause-first_ledger_after
-returns-in-Passed-clause-first_ledger_after c = (got-promised (search rules)).1.0
+returns-in-Passed-clause-first_ledger_after c = (got-promised c.compare_on_network.ensures).1.0
 
 pub returns-in-Passed-clause-second_ledger_after : goal.returns-in-Passed-clause-second_ledger_after
-returns-in-Passed-clause-second_ledger_after c = (got-promised (search rules)).1.1.0
+returns-in-Passed-clause-second_ledger_after c = (got-promised c.compare_on_network.ensures).1.1.0
 
 pub returns-in-Passed-clause-comparison_promises : goal.returns-in-Passed-clause-comparison_promises
-returns-in-Passed-clause-comparison_promises c = (got-promised (search rules)).1.1.1.0
+returns-in-Passed-clause-comparison_promises c = (got-promised c.compare_on_network.ensures).1.1.1.0
 
 pub returns-in-Passed-clause-padding_ignored : goal.returns-in-Passed-clause-padding_ignored
-returns-in-Passed-clause-padding_ignored c = (got-promised (search rules)).1.1.1.1
+returns-in-Passed-clause-padding_ignored c = (got-promised c.compare_on_network.ensures).1.1.1.1
