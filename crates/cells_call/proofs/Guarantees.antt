@@ -1,5 +1,6 @@
 -- What a run keeps, by its definitions.
-use Rattle.base_laws.proofs.Kit.{ℕ, zero, suc, ◌≡◌, refl, ◌∙◌, List, [], ◌∷◌, ◌++◌, append_assoc, append-nil, arith, needs, length, List·getD-append}
+use Rattle.std.proofs.Common.{rules}
+use Rattle.base_laws.proofs.Kit.{ℕ, zero, suc, ◌≡◌, refl, ◌∙◌, List, [], ◌∷◌, ◌++◌, append_assoc, append-nil, arith, length, List·getD-append}
 use Rattle.base_search.specs.declared.Verdict.{Verdict}
 use Rattle.base_search.specs.declared.Verdict.TheVariants.{Passes, Refused}
 use Rattle.base_search.specs.Checks.{verdict}
@@ -40,7 +41,7 @@ module _ (text : List Line) where
 
   pub corridor-numbered : Numbered cells_numbers (corridor_checks text)
   unfolding Numbered is_one_of corridor_checks cell_checks exit_check demand_checks demand_check
-  corridor-numbered = search needs depth 9
+  corridor-numbered = search rules depth 9
 
   pub run-keeps : RunKeeps text (run_cells text) (final_volumes text)
   unfolding run_cells answer_of final_volumes volumes_of

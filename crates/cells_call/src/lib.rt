@@ -1,5 +1,6 @@
 // A corridor in cells (T-12): the call `run_cells`.
 #![tactic(auto)]
+
 ghost use Rattle.std.specs.Prelude.{◌≡◌, ◌≤◌, []};
 ghost use Rattle.base_search.specs.Checks.{refusal};
 ghost use Rattle.text_reader.specs.Lines.{lines};

@@ -1,5 +1,6 @@
 // The text of a corridor in cells (T-12): its `C`, `X` and `D` lines, read into tables; refusals 36 and 37.
 #![tactic(auto)]
+
 ghost use Rattle.std.specs.Prelude.{◌≡◌, eqb, length, get_or};
 ghost use Rattle.text_reader.specs.Reading.{line_at};
 ghost use Rattle.cells_lines.specs.Corridor.{letter_c, valid_cell};

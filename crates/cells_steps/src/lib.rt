@@ -1,5 +1,6 @@
 // The steps of a chain of cells over lent volumes (T-12). All flows of a step use the volumes before it.
 #![tactic(auto)]
+
 ghost use Rattle.std.specs.Prelude.{◌≡◌, ◌-◌, ◌*◌, ◌/◌, ◌≤◌, ◌<◌, min, length, get_or};
 ghost use Rattle.cells_steps.specs.Steps.{chain_of, inflow, outflow, Ready};
 ghost use Rattle.cells_steps.specs.Results.{Stepped, Ran};

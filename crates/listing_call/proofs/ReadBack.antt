@@ -25,10 +25,10 @@ use Rattle.listing_call.proofs.Stored.{volume-none}
 -- ---- lists of small numbers
 small-both : (a b : List ℕ) → Small a → Small b → Small (a ++ b)
 small-both [] b s t = t
-small-both (x ∷ a) b s t = λ k. elim k [ zero ↦ s 0 | suc j ↦ small-both a b (λ i. s (suc i)) t j ]
+small-both (x ∷ a) b s t = λ k. elim k as (λ k. get_or ((x ∷ a) ++ b) k 0 ≤ largest) [ zero ↦ s 0 | suc j ↦ small-both a b (λ i. s (suc i)) t j ]
 
 small_one : (x : ℕ) → x ≤ largest → Small (x ∷ [])
-small_one x h = λ k. elim k [ zero ↦ h | suc j ↦ omega arith ]
+small_one x h = λ k. elim k as (λ k. get_or (x ∷ []) k 0 ≤ largest) [ zero ↦ h | suc j ↦ omega arith ]
 
 small-list : (n : ℕ) (f : ℕ → ℕ) → ((k : ℕ) → k < n → f k ≤ largest) → Small (list n f)
 unfolding list

@@ -1,5 +1,6 @@
 // One line of a solver's listing: a variable, a space and a decimal. Reads bytes; knows no network.
 #![tactic(auto)]
+
 ghost use Rattle.std.specs.Prelude.{◌≡◌, ◌+◌, ◌-◌, ◌*◌, ◌^◌, ◌≤◌};
 ghost use Rattle.text_reader.specs.Field.{digit};
 ghost use Rattle.listing_lines.specs.Entry.{Found, digits_of, fraction_of, rate_of, leading_zero, index_of, pair_of, phase_in, variable_in, variable_of, entry_of, read_at};

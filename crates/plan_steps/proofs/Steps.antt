@@ -147,7 +147,7 @@ module _ {network_text plan_text : List ℕ} {counts : Counts} {table links move
   room_after : 2 * suc (suc n) * link_count net ≤ length ledger
   room_after = asked.room
 
-  room-before : 2 * n * counts.links ≤ length ledger
+  pub room-before : 2 * n * counts.links ≤ length ledger
   room-before = rw counted.links (omega (arith, room_after))
 
   row_room : 2 * link_count net ≤ length ledger - 2 * n * counts.links

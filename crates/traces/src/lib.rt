@@ -1,5 +1,6 @@
 // Time-distance traces: vehicles along a street, in metres as 64-bit floats. `step_vehicles` moves them by one step. Each sum and difference is rounded once.
 #![tactic(auto)]
+
 ghost use Rattle.std.specs.Prelude.{◌≡◌, length};
 ghost use Rattle.base_search.specs.Checks.{refusal};
 ghost use Rattle.base_laws.specs.Indexed.{list, every};

@@ -20,7 +20,7 @@ pub returns-then-not-is_end : goal.returns-then-not-is_end
 returns-then-not-is_end c = rw c.new.ensures (more-lines _ _ _ _ c.requires c.take_steps-taken.ensures c.in_default.is (sym c.is_end.ensures ∙ not-true _ c.if-not-is_end.true-raw))
 
 pub write_carried-requires : goal.write_carried-requires
-write_carried-requires c = write-asked _ c.args.plan.now _ c.args.carried.now c.requires c.take_steps-taken.ensures c.in_default.is c.take_steps-taken.auto.1.1.1.1.1.1.1.1.1.0
+write_carried-requires c = write-asked _ c.args.plan.now _ c.args.carried.now c.requires c.take_steps-taken.ensures c.in_default.is c.take_steps-taken.auto.ledger
 
 pub returns : goal.returns
 returns c = carried-told _ _ _ _ c.requires c.take_steps-taken.ensures c.in_default.is (sym c.is_end.ensures ∙ not-false _ c.if-not-is_end.false-raw) c.write_carried.ensures

@@ -44,29 +44,29 @@ pub ran-requires : goal.ran-requires
 ran-requires c = search (few-cells, rules)
 
 pub returns-in-Refused-clause-answer_value : goal.returns-in-Refused-clause-answer_value
-returns-in-Refused-clause-answer_value c = (promised _ _ (search (run-refused, rules))).0
+returns-in-Refused-clause-answer_value c = (promised c.args.text.now c.refused.result (search (run-refused, rules))).0
 
 pub returns-in-Refused-clause-volumes_value : goal.returns-in-Refused-clause-volumes_value
-returns-in-Refused-clause-volumes_value c = (promised _ _ (search (run-refused, rules))).1
+returns-in-Refused-clause-volumes_value c = (promised c.args.text.now c.refused.result (search (run-refused, rules))).1.0
 
 pub returns-in-Refused-clause-run_keeps : goal.returns-in-Refused-clause-run_keeps
-returns-in-Refused-clause-run_keeps c = (promised _ _ (search (run-refused, rules))).2
+returns-in-Refused-clause-run_keeps c = (promised c.args.text.now c.refused.result (search (run-refused, rules))).1.1.0
 
 pub returns-in-Refused-clause-padding_ignored : goal.returns-in-Refused-clause-padding_ignored
-returns-in-Refused-clause-padding_ignored c = (promised _ _ (search (run-refused, rules))).3
+returns-in-Refused-clause-padding_ignored c = (promised c.args.text.now c.refused.result (search (run-refused, rules))).1.1.1
 
 pub returns-in-Loaded-clause-answer_value : goal.returns-in-Loaded-clause-answer_value
 unfolding list
-returns-in-Loaded-clause-answer_value c = (promised _ _ (search (run-loaded, rules))).0
+returns-in-Loaded-clause-answer_value c = (promised c.args.text.now c.ran.result (search (run-loaded, rules))).0
 
 pub returns-in-Loaded-clause-volumes_value : goal.returns-in-Loaded-clause-volumes_value
 unfolding list
-returns-in-Loaded-clause-volumes_value c = (promised _ _ (search (run-loaded, rules))).1
+returns-in-Loaded-clause-volumes_value c = (promised c.args.text.now c.ran.result (search (run-loaded, rules))).1.0
 
 pub returns-in-Loaded-clause-run_keeps : goal.returns-in-Loaded-clause-run_keeps
 unfolding list
-returns-in-Loaded-clause-run_keeps c = (promised _ _ (search (run-loaded, rules))).2
+returns-in-Loaded-clause-run_keeps c = (promised c.args.text.now c.ran.result (search (run-loaded, rules))).1.1.0
 
 pub returns-in-Loaded-clause-padding_ignored : goal.returns-in-Loaded-clause-padding_ignored
 unfolding list
-returns-in-Loaded-clause-padding_ignored c = (promised _ _ (search (run-loaded, rules))).3
+returns-in-Loaded-clause-padding_ignored c = (promised c.args.text.now c.ran.result (search (run-loaded, rules))).1.1.1

@@ -1,5 +1,4 @@
 use Rattle.std.proofs.Common.{rules}
-use Rattle.base_laws.proofs.Kit.{◌-◌}
 use Rattle.cells_lines.proofs.Cells.{cells-none, cells-all, cells-too-many, cells-refused, cells-more}
 use Rattle.cells_lines.proofs.read_cells.Goals as goal
 

@@ -1,5 +1,4 @@
 use Rattle.std.proofs.Common.{rules}
-use Rattle.base_laws.proofs.Kit.{◌-◌}
 use Rattle.cells_lines.proofs.Demands.{demands-none, demands-too-many, demands-malformed, demands-more, demands-empty, demands-all}
 use Rattle.cells_lines.proofs.read_demands.Goals as goal
 

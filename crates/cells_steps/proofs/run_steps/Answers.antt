@@ -1,5 +1,4 @@
 use Rattle.std.proofs.Common.{rules}
-use Rattle.base_laws.proofs.Kit.{◌-◌}
 use Rattle.cells_steps.proofs.Turns.{running_none, running-ready, running_more, running-done}
 use Rattle.cells_steps.proofs.run_steps.Goals as goal
 

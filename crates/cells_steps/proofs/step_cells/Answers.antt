@@ -1,5 +1,4 @@
 use Rattle.std.proofs.Common.{rules}
-use Rattle.base_laws.proofs.Kit.{◌-◌}
 use Rattle.cells_steps.proofs.Turns.{is_held, is-slow, going-none, going-fits, going_more, going_done}
 use Rattle.cells_steps.proofs.step_cells.Goals as goal
 

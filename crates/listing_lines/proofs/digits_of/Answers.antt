@@ -1,4 +1,3 @@
-use Rattle.base_laws.proofs.Kit.{◌-◌}
 use Rattle.listing_lines.proofs.Laws.{digits-none, digits_long, said-none, said-not, said-small, digit_low, said_more, said_all}
 use Rattle.listing_lines.proofs.digits_of.Goals as goal
 

@@ -1,4 +1,3 @@
-use Rattle.base_laws.proofs.Kit.{◌-◌}
 use Rattle.listing_lines.proofs.Laws.{find_none, find-hit, find-more, find_past}
 use Rattle.listing_lines.proofs.find.Goals as goal
 

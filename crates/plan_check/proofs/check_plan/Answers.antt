@@ -15,28 +15,28 @@ pub returns-in-Refused-clause-value : goal.returns-in-Refused-clause-value
 returns-in-Refused-clause-value c = (plan-promised (plan-refused _ _ _ c.load_with_signals.ensures c.in-Refused.is)).0
 
 pub returns-in-Refused-clause-ledger_after : goal.returns-in-Refused-clause-ledger_after
-returns-in-Refused-clause-ledger_after c = (plan-promised (plan-refused _ _ _ c.load_with_signals.ensures c.in-Refused.is)).1
+returns-in-Refused-clause-ledger_after c = (plan-promised (plan-refused _ _ _ c.load_with_signals.ensures c.in-Refused.is)).1.0
 
 pub returns-in-Refused-clause-promises : goal.returns-in-Refused-clause-promises
-returns-in-Refused-clause-promises c = (plan-promised (plan-refused _ _ _ c.load_with_signals.ensures c.in-Refused.is)).2
+returns-in-Refused-clause-promises c = (plan-promised (plan-refused _ _ _ c.load_with_signals.ensures c.in-Refused.is)).1.1.0
 
 pub returns-in-Refused-clause-empty_holds : goal.returns-in-Refused-clause-empty_holds
-returns-in-Refused-clause-empty_holds c = (plan-promised (plan-refused _ _ _ c.load_with_signals.ensures c.in-Refused.is)).3
+returns-in-Refused-clause-empty_holds c = (plan-promised (plan-refused _ _ _ c.load_with_signals.ensures c.in-Refused.is)).1.1.1.0
 
 pub returns-in-Refused-clause-padding_ignored : goal.returns-in-Refused-clause-padding_ignored
-returns-in-Refused-clause-padding_ignored c = (plan-promised (plan-refused _ _ _ c.load_with_signals.ensures c.in-Refused.is)).4
+returns-in-Refused-clause-padding_ignored c = (plan-promised (plan-refused _ _ _ c.load_with_signals.ensures c.in-Refused.is)).1.1.1.1
 
 pub returns-in-Passed-clause-value : goal.returns-in-Passed-clause-value
 returns-in-Passed-clause-value c = (plan-promised c.judge_with_signals.ensures).0
 
 pub returns-in-Passed-clause-ledger_after : goal.returns-in-Passed-clause-ledger_after
-returns-in-Passed-clause-ledger_after c = (plan-promised c.judge_with_signals.ensures).1
+returns-in-Passed-clause-ledger_after c = (plan-promised c.judge_with_signals.ensures).1.0
 
 pub returns-in-Passed-clause-promises : goal.returns-in-Passed-clause-promises
-returns-in-Passed-clause-promises c = (plan-promised c.judge_with_signals.ensures).2
+returns-in-Passed-clause-promises c = (plan-promised c.judge_with_signals.ensures).1.1.0
 
 pub returns-in-Passed-clause-empty_holds : goal.returns-in-Passed-clause-empty_holds
-returns-in-Passed-clause-empty_holds c = (plan-promised c.judge_with_signals.ensures).3
+returns-in-Passed-clause-empty_holds c = (plan-promised c.judge_with_signals.ensures).1.1.1.0
 
 pub returns-in-Passed-clause-padding_ignored : goal.returns-in-Passed-clause-padding_ignored
-returns-in-Passed-clause-padding_ignored c = (plan-promised c.judge_with_signals.ensures).4
+returns-in-Passed-clause-padding_ignored c = (plan-promised c.judge_with_signals.ensures).1.1.1.1

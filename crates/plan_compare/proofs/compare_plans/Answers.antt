@@ -15,28 +15,28 @@ pub returns-in-Refused-clause-value : goal.returns-in-Refused-clause-value
 returns-in-Refused-clause-value c = (got-promised (search (network-refused, rules))).0
 
 pub returns-in-Refused-clause-first_ledger_after : goal.returns-in-Refused-clause-first_ledger_after
-returns-in-Refused-clause-first_ledger_after c = (got-promised (search (network-refused, rules))).1
+returns-in-Refused-clause-first_ledger_after c = (got-promised (search (network-refused, rules))).1.0
 
 pub returns-in-Refused-clause-second_ledger_after : goal.returns-in-Refused-clause-second_ledger_after
-returns-in-Refused-clause-second_ledger_after c = (got-promised (search (network-refused, rules))).2
+returns-in-Refused-clause-second_ledger_after c = (got-promised (search (network-refused, rules))).1.1.0
 
 pub returns-in-Refused-clause-comparison_promises : goal.returns-in-Refused-clause-comparison_promises
-returns-in-Refused-clause-comparison_promises c = (got-promised (search (network-refused, rules))).3
+returns-in-Refused-clause-comparison_promises c = (got-promised (search (network-refused, rules))).1.1.1.0
 
 pub returns-in-Refused-clause-padding_ignored : goal.returns-in-Refused-clause-padding_ignored
-returns-in-Refused-clause-padding_ignored c = (got-promised (search (network-refused, rules))).4
+returns-in-Refused-clause-padding_ignored c = (got-promised (search (network-refused, rules))).1.1.1.1
 
 pub returns-in-Passed-clause-value : goal.returns-in-Passed-clause-value
-returns-in-Passed-clause-value c = (got-promised (search rules)).0
+returns-in-Passed-clause-value c = (got-promised c.compare_on_network.ensures).0
 
 pub returns-in-Passed-clause-first_ledger_after : goal.returns-in-Passed-clause-first_ledger_after
-returns-in-Passed-clause-first_ledger_after c = (got-promised (search rules)).1
+returns-in-Passed-clause-first_ledger_after c = (got-promised c.compare_on_network.ensures).1.0
 
 pub returns-in-Passed-clause-second_ledger_after : goal.returns-in-Passed-clause-second_ledger_after
-returns-in-Passed-clause-second_ledger_after c = (got-promised (search rules)).2
+returns-in-Passed-clause-second_ledger_after c = (got-promised c.compare_on_network.ensures).1.1.0
 
 pub returns-in-Passed-clause-comparison_promises : goal.returns-in-Passed-clause-comparison_promises
-returns-in-Passed-clause-comparison_promises c = (got-promised (search rules)).3
+returns-in-Passed-clause-comparison_promises c = (got-promised c.compare_on_network.ensures).1.1.1.0
 
 pub returns-in-Passed-clause-padding_ignored : goal.returns-in-Passed-clause-padding_ignored
-returns-in-Passed-clause-padding_ignored c = (got-promised (search rules)).4
+returns-in-Passed-clause-padding_ignored c = (got-promised c.compare_on_network.ensures).1.1.1.1

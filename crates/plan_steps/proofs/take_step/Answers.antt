@@ -1,7 +1,7 @@
 -- `plan_steps::take_step` meets its contract: one law for each call and each way out.
 use Rattle.std.proofs.Common.{rules}
 use Rattle.base_laws.proofs.Kit.{sym, arith}
-use Rattle.plan_steps.proofs.Steps.{tram-asked, step-few, place-small, line-asked, load-asked, add-asked, step-malformed, arrivals-asked, judge-asked, step-refused, write-asked, waits_asked, advance-asked, next-asked, step_kept}
+use Rattle.plan_steps.proofs.Steps.{tram-asked, step-few, room-before, place-small, line-asked, load-asked, add-asked, step-malformed, arrivals-asked, judge-asked, step-refused, write-asked, waits_asked, advance-asked, next-asked, step_kept}
 use Rattle.plan_steps.proofs.take_step.Goals as goal
 
 pub load_step-step_end-requires : goal.load_step-step_end-requires
@@ -44,7 +44,7 @@ pub next_arrivals-requires : goal.next_arrivals-requires
 next_arrivals-requires c = arrivals-asked c.requires c.load_step-step_end.ensures c.add_waiting.ensures c.read_line-read.ensures c.in-Next.is
 
 pub judge_step-verdict-requires-clause-n_lt_max_steps : goal.judge_step-verdict-requires-clause-n_lt_max_steps
-judge_step-verdict-requires-clause-n_lt_max_steps c = (judge-asked c.requires c.load_step-step_end.ensures c.add_waiting.ensures c.read_line-read.ensures c.in-Next.is c.shown_phases.ensures c.tram_phases.ensures c.next_arrivals.ensures _ (search rules)).0
+judge_step-verdict-requires-clause-n_lt_max_steps c = (step-few c.requires, room-before c.requires)
 
 pub judge_step-verdict-requires-clause-judge_asked : goal.judge_step-verdict-requires-clause-judge_asked
 judge_step-verdict-requires-clause-judge_asked c = (judge-asked c.requires c.load_step-step_end.ensures c.add_waiting.ensures c.read_line-read.ensures c.in-Next.is c.shown_phases.ensures c.tram_phases.ensures c.next_arrivals.ensures _ (search rules)).1

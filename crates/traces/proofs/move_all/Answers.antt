@@ -1,5 +1,4 @@
 use Rattle.std.proofs.Common.{rules}
-use Rattle.base_laws.proofs.Kit.{◌-◌}
 use Rattle.traces.proofs.Turns.{moving-none, moving-next, moving-done}
 use Rattle.traces.proofs.move_all.Goals as goal
 

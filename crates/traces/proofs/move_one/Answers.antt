@@ -1,5 +1,4 @@
 use Rattle.std.proofs.Common.{rules}
-use Rattle.base_laws.proofs.Kit.{◌-◌}
 use Rattle.traces.proofs.Turns.{no_line, next-line, moves, stays}
 use Rattle.traces.proofs.move_one.Goals as goal
 

@@ -1,5 +1,5 @@
 use Rattle.std.proofs.Common.{rules}
-use Rattle.base_laws.proofs.Kit.{◌-◌, refl}
+use Rattle.base_laws.proofs.Kit.{refl}
 use Rattle.base_laws.proofs.Laws.{every-fails, every-goes-on, every-done}
 use Rattle.traces.proofs.valid_places.Goals as goal
 

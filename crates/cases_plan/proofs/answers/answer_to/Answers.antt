@@ -6,13 +6,13 @@ pub returns-then-writes_text-clause-value : goal.returns-then-writes_text-clause
 returns-then-writes_text-clause-value c = (answered-text _ _ _ _ _ _ _ _ _ _ c.writes_text.ensures c.if-writes_text.true c.answer_text.ensures).0
 
 pub returns-then-writes_text-clause-ledger_after : goal.returns-then-writes_text-clause-ledger_after
-returns-then-writes_text-clause-ledger_after c = (answered-text _ _ _ _ _ _ _ _ _ _ c.writes_text.ensures c.if-writes_text.true c.answer_text.ensures).1
+returns-then-writes_text-clause-ledger_after c = (answered-text _ _ _ _ _ _ _ _ _ _ c.writes_text.ensures c.if-writes_text.true c.answer_text.ensures).1.0
 
 pub returns-then-writes_text-clause-second_ledger_after : goal.returns-then-writes_text-clause-second_ledger_after
-returns-then-writes_text-clause-second_ledger_after c = (answered-text _ _ _ _ _ _ _ _ _ _ c.writes_text.ensures c.if-writes_text.true c.answer_text.ensures).2
+returns-then-writes_text-clause-second_ledger_after c = (answered-text _ _ _ _ _ _ _ _ _ _ c.writes_text.ensures c.if-writes_text.true c.answer_text.ensures).1.1.0
 
 pub returns-then-writes_text-clause-buffer_after : goal.returns-then-writes_text-clause-buffer_after
-returns-then-writes_text-clause-buffer_after c = (answered-text _ _ _ _ _ _ _ _ _ _ c.writes_text.ensures c.if-writes_text.true c.answer_text.ensures).3
+returns-then-writes_text-clause-buffer_after c = (answered-text _ _ _ _ _ _ _ _ _ _ c.writes_text.ensures c.if-writes_text.true c.answer_text.ensures).1.1.1
 
 pub returns-then-question-eq8-clause-value : goal.returns-then-question-eq8-clause-value
 returns-then-question-eq8-clause-value c =
@@ -38,10 +38,10 @@ pub returns-clause-value : goal.returns-clause-value
 returns-clause-value c = (answered-alone _ _ _ _ _ _ _ _ _ c.writes_text.ensures c.if-writes_text.false c.if-question-eq8.false c.answer_plan.ensures).0
 
 pub returns-clause-ledger_after : goal.returns-clause-ledger_after
-returns-clause-ledger_after c = (answered-alone _ _ _ _ _ _ _ _ _ c.writes_text.ensures c.if-writes_text.false c.if-question-eq8.false c.answer_plan.ensures).1
+returns-clause-ledger_after c = (answered-alone _ _ _ _ _ _ _ _ _ c.writes_text.ensures c.if-writes_text.false c.if-question-eq8.false c.answer_plan.ensures).1.0
 
 pub returns-clause-second_ledger_after : goal.returns-clause-second_ledger_after
-returns-clause-second_ledger_after c = (answered-alone _ _ _ _ _ _ _ _ _ c.writes_text.ensures c.if-writes_text.false c.if-question-eq8.false c.answer_plan.ensures).2
+returns-clause-second_ledger_after c = (answered-alone _ _ _ _ _ _ _ _ _ c.writes_text.ensures c.if-writes_text.false c.if-question-eq8.false c.answer_plan.ensures).1.1.0
 
 pub returns-clause-buffer_after : goal.returns-clause-buffer_after
-returns-clause-buffer_after c = (answered-alone _ _ _ _ _ _ _ _ _ c.writes_text.ensures c.if-writes_text.false c.if-question-eq8.false c.answer_plan.ensures).3
+returns-clause-buffer_after c = (answered-alone _ _ _ _ _ _ _ _ _ c.writes_text.ensures c.if-writes_text.false c.if-question-eq8.false c.answer_plan.ensures).1.1.1
