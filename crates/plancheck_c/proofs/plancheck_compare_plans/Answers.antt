@@ -38,12 +38,26 @@ returns-in-Compared c =
     let given = c.in-Compared.is in
     let fits = compared-word (e.comparison_promises.compared _ _ given) in
     let is = compared-result c.in-Compared.order _ _ c.order_number.ensures fits ∙ sym (ap comparison_result given) in
-    let told = is ∙ ap comparison_result e.value in record { value = told; first_ledger_after = e.first_ledger_after; second_ledger_after = e.second_ledger_after; comparison_promises = promised _ _ is e.comparison_promises; number_tells = compared-tells _ _ _ _ _ told; padding_ignored = λ padded_network n padded_first f padded_second s.
-                  got _ _ is (e.padding_ignored padded_network n padded_first f padded_second s) }
+    let told = is ∙ ap comparison_result e.value in record {
+      value = told;
+      first_ledger_after = e.first_ledger_after;
+      second_ledger_after = e.second_ledger_after;
+      comparison_promises = promised _ _ is e.comparison_promises;
+      number_tells = compared-tells _ _ _ _ _ told;
+      padding_ignored = λ padded_network n padded_first f padded_second s.
+          got _ _ is (e.padding_ignored padded_network n padded_first f padded_second s);
+    }
 
 pub returns-in-Refused : goal.returns-in-Refused
 returns-in-Refused c =
     let e = c.compare_plans.ensures in
     let is = sym (ap comparison_result c.in-Refused.is) in
-    let told = is ∙ ap comparison_result e.value in record { value = told; first_ledger_after = e.first_ledger_after; second_ledger_after = e.second_ledger_after; comparison_promises = promised _ _ is e.comparison_promises; number_tells = compared-tells _ _ _ _ _ told; padding_ignored = λ padded_network n padded_first f padded_second s.
-                  got _ _ is (e.padding_ignored padded_network n padded_first f padded_second s) }
+    let told = is ∙ ap comparison_result e.value in record {
+      value = told;
+      first_ledger_after = e.first_ledger_after;
+      second_ledger_after = e.second_ledger_after;
+      comparison_promises = promised _ _ is e.comparison_promises;
+      number_tells = compared-tells _ _ _ _ _ told;
+      padding_ignored = λ padded_network n padded_first f padded_second s.
+          got _ _ is (e.padding_ignored padded_network n padded_first f padded_second s);
+    }

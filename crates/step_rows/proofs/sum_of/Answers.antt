@@ -10,12 +10,11 @@ pub overflow_add-total : goal.overflow_add-total
 overflow_add-total c = omega (arith, c.loop-i.invariant, c.requires)
 
 pub loop-i-preserved : goal.loop-i-preserved
-loop-i-preserved c =
-    (
-      search rules,
-      omega (arith, sum-next c.loop-i.i (λ k. get_or c.args.line.now (c.args.first + k) 0)),
-      omega (arith, c.wide-total.ensures),
-    )
+loop-i-preserved c = (
+  search rules,
+  omega (arith, sum-next c.loop-i.i (λ k. get_or c.args.line.now (c.args.first + k) 0)),
+  omega (arith, c.wide-total.ensures),
+)
 
 pub returns : goal.returns
 returns c =
