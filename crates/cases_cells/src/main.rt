@@ -2,27 +2,33 @@
 // that differs, how many cases each file has, how many agreed, by refusal number, and how many differ. The two cases of wrong_answer.bin have a wrong
 // answer on purpose: they must be reported as different.
 #![tactic(auto)]
+
 mod compare;
 mod told;
 
 use cases_files::refusals::COUNTERS;
 use cases_files::{files, refusals, tally};
+use std::fs::File;
+use std::rt::Files;
 
 // Compares the cases of a file, and prints how many it has.
-fn compare_file(path: &[u8], counts: &mut [u64; COUNTERS]) {
-    let file = os::open_read(path);
+fn compare_file(rt: &(impl Files + Print), path: &str, counts: &mut [u64; COUNTERS]) {
+    let Ok(mut file) = File::open(rt, path) else {
+        files::print_malformed(rt, path);
+        return;
+    };
     // "CELLCASE", version 1
-    let header = files::read_header(file, 4995408168982693187, 1);
-    let is_read = compare::run_cases(file, header.count, counts);
-    files::finish(path, file, header, is_read);
+    let header = files::read_header(&mut file, 4995408168982693187, 1);
+    let is_read = compare::run_cases(rt, &mut file, header.count, counts);
+    files::finish(rt, path, file, header, is_read);
 }
 
-fn main() {
+fn main(rt: HostRuntime) {
     let mut counts = [0u64; COUNTERS];
-    compare_file(b"cases.bin", &mut counts);
-    compare_file(b"wrong_answer.bin", &mut counts);
-    tally::print_count(b"accepted", counts[0]);
-    tally::print_count(b"36", counts[1]);
-    tally::print_count(b"37", counts[2]);
-    tally::print_count(b"different", counts[refusals::DIFFERENT]);
+    compare_file(&rt, "cases.bin", &mut counts);
+    compare_file(&rt, "wrong_answer.bin", &mut counts);
+    tally::print_count(&rt, "accepted", counts[0]);
+    tally::print_count(&rt, "36", counts[1]);
+    tally::print_count(&rt, "37", counts[2]);
+    tally::print_count(&rt, "different", counts[refusals::DIFFERENT]);
 }

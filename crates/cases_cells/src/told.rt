@@ -81,23 +81,24 @@ pub fn are_same(volumes: &[u32; 64], stored: &[u32; 64]) -> bool
     same
 }
 
-fn print_numbers(numbers: Numbers) {
+fn print_numbers(rt: &impl Print, numbers: Numbers) {
     tally::print_three(
+        rt,
         numbers.number as u64,
         numbers.line as u64,
         numbers.item as u64,
     );
-    tally::print_three(numbers.cells as u64, numbers.flow_in, numbers.flow_out);
+    tally::print_three(rt, numbers.cells as u64, numbers.flow_in, numbers.flow_out);
 }
 
 // A case that differs, by its number from 0: what the library gave, and what was stored, without the volumes.
-pub fn print_unless(same: bool, number: u32, given: Numbers, stored: Numbers) {
+pub fn print_unless(rt: &impl Print, same: bool, number: u32, given: Numbers, stored: Numbers) {
     if same {
         return;
     }
-    tally::print_given(number);
-    print_numbers(given);
-    tally::print_stored();
-    print_numbers(stored);
-    tally::print(b"\n");
+    tally::print_given(rt, number);
+    print_numbers(rt, given);
+    tally::print_stored(rt);
+    print_numbers(rt, stored);
+    tally::print(rt, "\n");
 }

@@ -1,8 +1,10 @@
 // Reads the parts that the stored forms have in common.
-ghost use Rattle.std.specs.Prelude.{length};
+ghost use Rattle.std.specs.Prelude.{◌≡◌, true, length};
+ghost use Rattle.std.specs.Io.KnownBytes.{Consumes};
 ghost use Rattle.cases_files.specs.Counts.{Counts};
 
 use crate::numbers::number_at;
+use std::io::Read;
 
 // For the length of a text, or of given numbers: the same ones as in the case before.
 pub const SAME: u32 = 4294967295;
@@ -29,13 +31,14 @@ pub fn numbers_within(size: usize, numbers: &[u32]) -> usize
 }
 
 // Fills a buffer from the file; false where the file ends before or can't be read.
-pub fn read_whole(file: i32, buffer: &mut [u8]) -> bool {
-    let size = buffer.len();
-    io::read_full(file, buffer) == size
+pub fn read_whole<R: Read>(file: &mut R, buffer: &mut [u8]) -> bool
+    ensures { result ≡ true → Consumes (R.remaining file.old) (R.remaining file.new) buffer.new }
+{
+    file.read_exact(buffer).is_ok()
 }
 
 // Fills a slice with numbers from the file; false where the file ends before or can't be read.
-pub fn read_numbers(file: i32, numbers: &mut [u32]) -> bool {
+pub fn read_numbers(file: &mut impl Read, numbers: &mut [u32]) -> bool {
     let mut i = 0;
     while i < numbers.len() {
         let mut bytes = [0u8; 4];
@@ -49,7 +52,7 @@ pub fn read_numbers(file: i32, numbers: &mut [u32]) -> bool {
 }
 
 // Reads a text of a case, or goes on with that of the case before: the text's length.
-pub fn read_text(file: i32, text: &mut [u8], before: usize) -> usize {
+pub fn read_text(file: &mut impl Read, text: &mut [u8], before: usize) -> usize {
     let mut bytes = [0u8; 4];
     if !read_whole(file, &mut bytes) {
         return NOTHING;

@@ -42,8 +42,9 @@ pub fn place_of(number: u32, one: u32, other: u32) -> usize {
     DIFFERENT
 }
 
-fn print_refusal(refusal: Refusal) {
+fn print_refusal(rt: &impl Print, refusal: Refusal) {
     tally::print_three(
+        rt,
         refusal.number as u64,
         refusal.line as u64,
         refusal.item as u64,
@@ -51,13 +52,13 @@ fn print_refusal(refusal: Refusal) {
 }
 
 // A case that differs, by its number from 0: the refusal that the library gave, and the one that was stored.
-pub fn print_unless(same: bool, number: u32, given: Refusal, stored: Refusal) {
+pub fn print_unless(rt: &impl Print, same: bool, number: u32, given: Refusal, stored: Refusal) {
     if same {
         return;
     }
-    tally::print_given(number);
-    print_refusal(given);
-    tally::print_stored();
-    print_refusal(stored);
-    tally::print(b"\n");
+    tally::print_given(rt, number);
+    print_refusal(rt, given);
+    tally::print_stored(rt);
+    print_refusal(rt, stored);
+    tally::print(rt, "\n");
 }

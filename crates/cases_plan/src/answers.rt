@@ -103,6 +103,7 @@ fn is_as_stored(given: Outcome, sum: u64, question: Question) -> bool
 
 // Judges a case by the library, on the ledgers and the buffer as they are before the call: whether all is as stored. Where it is not, the case is printed.
 pub fn judge(
+    rt: &impl Print,
     number: u32,
     network: &[u8],
     plan: &[u8],
@@ -127,6 +128,6 @@ pub fn judge(
     let sum = checksum::checksum(ledger, second_ledger, buffer);
     let same = is_as_stored(given, sum, question);
     let answer = question.answer;
-    tally::print_unless(same, number, given, sum, answer, question.checksum);
+    tally::print_unless(rt, same, number, given, sum, answer, question.checksum);
     same
 }

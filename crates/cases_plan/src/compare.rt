@@ -3,6 +3,7 @@ use crate::stored::{LedgerForm, Question};
 use crate::tally::COUNTERS;
 use crate::{answers, stored, tally};
 use cases_files::reading;
+use std::io::Read;
 
 // Room for the longest texts whose numbers are padded, and for the longest ledger.
 const NETWORK_ROOM: usize = 73728;
@@ -48,6 +49,7 @@ fn fill_ledger(ledger: &mut [u32], start: &[u32], fill: u32) {
 
 // Judges a case on its texts, and on ledgers and a buffer that are what they are before the call.
 fn judge_filled(
+    rt: &impl Print,
     case: Case,
     network: &[u8],
     plan: &[u8],
@@ -72,6 +74,7 @@ fn judge_filled(
         return tally::PASSED_OVER;
     }
     if answers::judge(
+        rt,
         case.number,
         network,
         plan,
@@ -100,7 +103,14 @@ fn is_valid(sizes: Sizes, form: LedgerForm, second_form: LedgerForm, question: Q
 }
 
 // Takes what a case uses of each buffer, and judges it: the place at which it is counted; none where a number of it is not valid.
-fn run_read(case: Case, network: &[u8], plan: &[u8], second: &[u8], start: &[u32]) -> usize {
+fn run_read(
+    rt: &impl Print,
+    case: Case,
+    network: &[u8],
+    plan: &[u8],
+    second: &[u8],
+    start: &[u32],
+) -> usize {
     let sizes = case.sizes;
     let form = case.form;
     let second_form = case.second_form;
@@ -116,6 +126,7 @@ fn run_read(case: Case, network: &[u8], plan: &[u8], second: &[u8], start: &[u32
     let second_size = reading::within(sizes.second, second);
     let start_size = reading::numbers_within(sizes.start, start);
     judge_filled(
+        rt,
         case,
         &network[..network_size],
         &plan[..plan_size],
@@ -127,7 +138,8 @@ fn run_read(case: Case, network: &[u8], plan: &[u8], second: &[u8], start: &[u32
 
 // Reads one case, judges and counts it: how much of each text is then in use; nothing where the file is malformed.
 fn run_case(
-    file: i32,
+    rt: &impl Print,
+    file: &mut impl Read,
     number: u32,
     before: Sizes,
     network: &mut [u8; NETWORK_ROOM],
@@ -157,7 +169,7 @@ fn run_case(
         second_form,
         question,
     };
-    let place = run_read(case, network, plan, &second, start);
+    let place = run_read(rt, case, network, plan, &second, start);
     if place == reading::NOTHING {
         return nothing();
     }
@@ -175,7 +187,12 @@ fn nothing() -> Sizes {
 }
 
 // Reads, judges and counts the cases of an open file behind its header; false where the file is malformed.
-pub fn run_cases(file: i32, count: u32, counts: &mut [u64; COUNTERS]) -> bool {
+pub fn run_cases(
+    rt: &impl Print,
+    file: &mut impl Read,
+    count: u32,
+    counts: &mut [u64; COUNTERS],
+) -> bool {
     let mut network = [0u8; NETWORK_ROOM];
     let mut plan = [0u8; PLAN_ROOM];
     let mut start = [0u32; LEDGER_ROOM];
@@ -183,6 +200,7 @@ pub fn run_cases(file: i32, count: u32, counts: &mut [u64; COUNTERS]) -> bool {
     let mut done = 0;
     while done < count {
         sizes = run_case(
+            rt,
             file,
             done,
             sizes,

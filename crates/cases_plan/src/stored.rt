@@ -3,6 +3,7 @@ use crate::outcome::Outcome;
 use cases_files::numbers::{long_number_at, number_at};
 use cases_files::reading;
 use cases_files::reading::{NOTHING, SAME};
+use std::io::Read;
 
 // The ledger of a case: its length, what it holds past the given numbers, and how many are given.
 #[derive(Clone, Copy)]
@@ -27,7 +28,7 @@ pub struct Question {
 }
 
 // Reads the form of a case's ledger.
-pub fn read_ledger(file: i32) -> LedgerForm {
+pub fn read_ledger(file: &mut impl Read) -> LedgerForm {
     let mut bytes = [0u8; 12];
     if !reading::read_whole(file, &mut bytes) {
         return LedgerForm {
@@ -44,7 +45,7 @@ pub fn read_ledger(file: i32) -> LedgerForm {
 }
 
 // Reads the given numbers at the start of a case's ledger, or goes on with those of the case before: how many there are.
-pub fn read_start(file: i32, start: &mut [u32], given: u32, before: usize) -> usize {
+pub fn read_start(file: &mut impl Read, start: &mut [u32], given: u32, before: usize) -> usize {
     if given == SAME {
         return before;
     }
@@ -59,7 +60,7 @@ pub fn read_start(file: i32, start: &mut [u32], given: u32, before: usize) -> us
 }
 
 // Reads what a case asks: its buffer, its call, and the boundary and the link of it. Of a file that ends before, all is 0.
-pub fn read_asked(file: i32) -> [u8; 28] {
+pub fn read_asked(file: &mut impl Read) -> [u8; 28] {
     let mut bytes = [0u8; 28];
     if !reading::read_whole(file, &mut bytes) {
         return [0u8; 28];
@@ -73,7 +74,7 @@ fn call_of(asked: &[u8; 28]) -> u32 {
 }
 
 // Reads the text that follows what is asked, the sheet that a plan is checked by or a second plan: its length; 0 for a call that has no such text.
-pub fn read_second(file: i32, text: &mut [u8], asked: &[u8; 28]) -> usize {
+pub fn read_second(file: &mut impl Read, text: &mut [u8], asked: &[u8; 28]) -> usize {
     let call = call_of(asked);
     if (call == 6) | (call == 8) {
         return reading::read_text(file, text, NOTHING);
@@ -82,7 +83,7 @@ pub fn read_second(file: i32, text: &mut [u8], asked: &[u8; 28]) -> usize {
 }
 
 // Reads the form of the second plan's ledger, of which no number is given; that of no numbers for a call that has no such ledger.
-pub fn read_second_ledger(file: i32, asked: &[u8; 28]) -> LedgerForm {
+pub fn read_second_ledger(file: &mut impl Read, asked: &[u8; 28]) -> LedgerForm {
     let mut bytes = [0u8; 8];
     if call_of(asked) != 8 {
         return LedgerForm {
@@ -130,7 +131,7 @@ fn question_of(asked: &[u8; 28], told: &[u8; 44]) -> Question {
 }
 
 // Reads the answer to what is asked. Of a file that ends before, it is that of zeros.
-pub fn read_question(file: i32, asked: &[u8; 28]) -> Question {
+pub fn read_question(file: &mut impl Read, asked: &[u8; 28]) -> Question {
     let mut told = [0u8; 44];
     if !reading::read_whole(file, &mut told) {
         return question_of(&[0u8; 28], &[0u8; 44]);

@@ -37,47 +37,49 @@ pub fn place_of(call: u32, outcome: Outcome) -> usize {
 }
 
 // The rest of a line of the table: how many cases of each call were accepted (0) or refused with a number.
-fn print_line(counts: &[u64; COUNTERS], number: usize)
+fn print_line(rt: &impl Print, counts: &[u64; COUNTERS], number: usize)
     requires { number < 36 }
 {
-    print_field(counts[number]);
-    print_field(counts[ANSWERS + number]);
-    print_field(counts[2 * ANSWERS + number]);
-    print_field(counts[3 * ANSWERS + number]);
-    print_field(counts[4 * ANSWERS + number]);
-    print_field(counts[5 * ANSWERS + number]);
-    print_field(counts[6 * ANSWERS + number]);
-    print_field(counts[7 * ANSWERS + number]);
-    print(b"\n");
+    print_field(rt, counts[number]);
+    print_field(rt, counts[ANSWERS + number]);
+    print_field(rt, counts[2 * ANSWERS + number]);
+    print_field(rt, counts[3 * ANSWERS + number]);
+    print_field(rt, counts[4 * ANSWERS + number]);
+    print_field(rt, counts[5 * ANSWERS + number]);
+    print_field(rt, counts[6 * ANSWERS + number]);
+    print_field(rt, counts[7 * ANSWERS + number]);
+    print(rt, "\n");
 }
 
-fn print_refused(counts: &[u64; COUNTERS]) {
+fn print_refused(rt: &impl Print, counts: &[u64; COUNTERS]) {
     let mut number = 1;
     while number < ANSWERS {
-        print_number(number as u64);
-        print_line(counts, number);
+        print_number(rt, number as u64);
+        print_line(rt, counts, number);
         number += 1;
     }
 }
 
 // The table of the cases that agreed, and how many were passed over and differ.
-pub fn print_table(counts: &[u64; COUNTERS]) {
+pub fn print_table(rt: &impl Print, counts: &[u64; COUNTERS]) {
     print(
-        b"answer\tcheck_network\tcheck_plan\tlink_state\tplan_from_listing\tcarry_on\tcheck_sheet\tplan_from_sheet\tcompare_plans\naccepted",
+        rt,
+        "answer\tcheck_network\tcheck_plan\tlink_state\tplan_from_listing\tcarry_on\tcheck_sheet\tplan_from_sheet\tcompare_plans\naccepted",
     );
-    print_line(counts, 0);
-    print_refused(counts);
-    print_count(b"passed over", counts[PASSED_OVER]);
-    print_count(b"different", counts[DIFFERENT]);
+    print_line(rt, counts, 0);
+    print_refused(rt, counts);
+    print_count(rt, "passed over", counts[PASSED_OVER]);
+    print_count(rt, "different", counts[DIFFERENT]);
 }
 
-fn print_outcome(outcome: Outcome, checksum: u64) {
-    print_three(outcome.kind as u64, outcome.first, outcome.second);
-    print_three(outcome.third, outcome.fourth, checksum);
+fn print_outcome(rt: &impl Print, outcome: Outcome, checksum: u64) {
+    print_three(rt, outcome.kind as u64, outcome.first, outcome.second);
+    print_three(rt, outcome.third, outcome.fourth, checksum);
 }
 
 // A case that differs, by its number from 0: what the library gave, and what was stored.
 pub fn print_unless(
+    rt: &impl Print,
     same: bool,
     number: u32,
     given: Outcome,
@@ -88,9 +90,9 @@ pub fn print_unless(
     if same {
         return;
     }
-    print_given(number);
-    print_outcome(given, sum);
-    print_stored();
-    print_outcome(stored, stored_sum);
-    print(b"\n");
+    print_given(rt, number);
+    print_outcome(rt, given, sum);
+    print_stored(rt);
+    print_outcome(rt, stored, stored_sum);
+    print(rt, "\n");
 }

@@ -9,9 +9,11 @@ use crate::{counts, told};
 use cases_files::numbers::number_at;
 use cases_files::{reading, refusals, tally};
 use model_split::{Lengths, SplitAnswer};
+use std::io::Read;
 
 // Whether the answer, and every byte of the four buffers after the call, are what was stored. Where they are not, the refusals are printed.
 fn is_as_stored(
+    rt: &impl Print,
     answer: SplitAnswer,
     stored: Stored,
     network_1: &[u8],
@@ -31,12 +33,13 @@ fn is_as_stored(
     let same_second = told::holds(network_2, told, told::NETWORK_2)
         & told::holds(plan_2, told, told::PLAN_2);
     let same = same_answer & (same_first & same_second);
-    refusals::print_unless(same, stored.number, given, refusal);
+    refusals::print_unless(rt, same, stored.number, given, refusal);
     same
 }
 
 // Splits by the library: whether all is as stored.
 fn judge(
+    rt: &impl Print,
     stored: Stored,
     network: &[u8],
     plan: &[u8],
@@ -57,11 +60,14 @@ fn judge(
         network_2,
         plan_2,
     );
-    is_as_stored(answer, stored, network_1, plan_1, network_2, plan_2, told)
+    is_as_stored(
+        rt, answer, stored, network_1, plan_1, network_2, plan_2, told,
+    )
 }
 
 // Judges a case on buffers of these lengths that hold one byte everywhere before the call.
 fn judge_filled(
+    rt: &impl Print,
     stored: Stored,
     network: &[u8],
     plan: &[u8],
@@ -78,6 +84,7 @@ fn judge_filled(
     let room_3 = reading::within(rooms.network_2, &network_2);
     let room_4 = reading::within(rooms.plan_2, &plan_2);
     judge(
+        rt,
         stored,
         network,
         plan,
@@ -90,7 +97,14 @@ fn judge_filled(
 }
 
 // Reads the texts that were stored and judges a case, whose own texts have been read: the place at which it is counted; none where the file is malformed.
-fn run_read(file: i32, number: u32, network: &[u8], plan: &[u8], head: &[u8; 36]) -> usize {
+fn run_read(
+    rt: &impl Print,
+    file: &mut impl Read,
+    number: u32,
+    network: &[u8],
+    plan: &[u8],
+    head: &[u8; 36],
+) -> usize {
     let rest = head[20];
     let rooms = told::rooms_at(head);
     let mut told = [rest; FOUR_ROOMS];
@@ -105,14 +119,14 @@ fn run_read(file: i32, number: u32, network: &[u8], plan: &[u8], head: &[u8; 36]
         refusal,
         lengths,
     };
-    if judge_filled(stored, network, plan, rooms, rest, &told) {
+    if judge_filled(rt, stored, network, plan, rooms, rest, &told) {
         return counts::place_of(refusal.number);
     }
     counts::DIFFERENT
 }
 
 // Reads one case and judges it: the place at which it is counted; none where the file is malformed.
-fn run_case(file: i32, number: u32) -> usize {
+fn run_case(rt: &impl Print, file: &mut impl Read, number: u32) -> usize {
     let mut network = [0u8; ROOM];
     let mut plan = [0u8; ROOM];
     let mut head = [0u8; 36];
@@ -125,6 +139,7 @@ fn run_case(file: i32, number: u32) -> usize {
     let network_used = reading::within(network_size, &network);
     let plan_used = reading::within(plan_size, &plan);
     run_read(
+        rt,
         file,
         number,
         &network[..network_used],
@@ -134,10 +149,15 @@ fn run_case(file: i32, number: u32) -> usize {
 }
 
 // Reads, judges and counts the cases of an open file behind its header; false where the file is malformed.
-pub fn run_cases(file: i32, count: u32, counts: &mut [u64; COUNTERS]) -> bool {
+pub fn run_cases(
+    rt: &impl Print,
+    file: &mut impl Read,
+    count: u32,
+    counts: &mut [u64; COUNTERS],
+) -> bool {
     let mut done = 0;
     while done < count {
-        let place = run_case(file, done);
+        let place = run_case(rt, file, done);
         if place == reading::NOTHING {
             return false;
         }

@@ -26,12 +26,12 @@ pub fn place_of(number: u32) -> usize {
 }
 
 // The counts, a line each.
-pub fn print_counts(counts: &[u64; COUNTERS]) {
-    print_count(b"written", counts[0]);
-    print_count(b"network", counts[1]);
-    print_count(b"9", counts[2]);
-    print_count(b"40", counts[3]);
-    print_count(b"41", counts[4]);
-    print_count(b"42", counts[5]);
-    print_count(b"different", counts[DIFFERENT]);
+pub fn print_counts(rt: &impl Print, counts: &[u64; COUNTERS]) {
+    print_count(rt, "written", counts[0]);
+    print_count(rt, "network", counts[1]);
+    print_count(rt, "9", counts[2]);
+    print_count(rt, "40", counts[3]);
+    print_count(rt, "41", counts[4]);
+    print_count(rt, "42", counts[5]);
+    print_count(rt, "different", counts[DIFFERENT]);
 }

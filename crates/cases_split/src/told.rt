@@ -6,6 +6,7 @@ use base_search::Refusal;
 use cases_files::numbers::number_at;
 use cases_files::reading;
 use model_split::{Lengths, SplitAnswer};
+use std::io::Read;
 
 // Room for every text and buffer of the stored cases, and for the four that a split leaves.
 pub const ROOM: usize = 8192;
@@ -93,7 +94,7 @@ pub fn rooms_at(head: &[u8; 36]) -> Lengths {
     }
 }
 
-fn read_told(file: i32, told: &mut [u8], from: usize) -> usize {
+fn read_told(file: &mut impl Read, told: &mut [u8], from: usize) -> usize {
     if told.len() < from {
         return reading::NOTHING;
     }
@@ -101,7 +102,7 @@ fn read_told(file: i32, told: &mut [u8], from: usize) -> usize {
 }
 
 // Reads the four texts of a case, each to a room of its own: their lengths.
-pub fn read_texts(file: i32, told: &mut [u8]) -> Lengths {
+pub fn read_texts(file: &mut impl Read, told: &mut [u8]) -> Lengths {
     Lengths {
         network_1: read_told(file, told, 0),
         plan_1: read_told(file, told, PLAN_1),

@@ -8,6 +8,7 @@ use base_search::{Refusal, Verdict};
 use cases_files::numbers::{long_number_at, number_at};
 use cases_files::refusals::COUNTERS;
 use cases_files::{reading, refusals, tally};
+use std::io::Read;
 
 // Room for some vehicles and lines too many.
 const ROOM: usize = 80;
@@ -28,6 +29,7 @@ fn refusal_of(verdict: Verdict) -> Refusal
 
 // Takes a step by the library: whether the answer and every place are those that were stored. Where they are not, the answers are printed.
 fn judge(
+    rt: &impl Print,
     number: u32,
     places: &mut [f64],
     advances: &[f64],
@@ -40,12 +42,13 @@ fn judge(
 {
     let given = refusal_of(traces::step_vehicles(places, advances, red_lines, spacing));
     let same = refusals::is_same(given, stored) & values::are_same(places, told);
-    refusals::print_unless(same, number, given, stored);
+    refusals::print_unless(rt, same, number, given, stored);
     same
 }
 
 // Takes what a case uses of each buffer, and judges it: the place at which it is counted.
 fn run_read(
+    rt: &impl Print,
     number: u32,
     head: &[u8; 20],
     answer: &[u8; 12],
@@ -60,6 +63,7 @@ fn run_read(
     let told_size = values::within(number_at(head, 0) as usize, told);
     let stored = refusals::refusal_at(answer, 0);
     if judge(
+        rt,
         number,
         &mut places[..vehicles],
         &advances[..advances_size],
@@ -74,7 +78,7 @@ fn run_read(
 }
 
 // Reads one case and judges it: the place at which it is counted; none where the file is malformed.
-fn run_case(file: i32, number: u32) -> usize {
+fn run_case(rt: &impl Print, file: &mut impl Read, number: u32) -> usize {
     let mut head = [0u8; 20];
     let mut answer = [0u8; 12];
     let mut places = [0f64; ROOM];
@@ -91,6 +95,7 @@ fn run_case(file: i32, number: u32) -> usize {
         return reading::NOTHING;
     }
     run_read(
+        rt,
         number,
         &head,
         &answer,
@@ -102,10 +107,15 @@ fn run_case(file: i32, number: u32) -> usize {
 }
 
 // Reads, judges and counts the cases of an open file behind its header; false where the file is malformed.
-pub fn run_cases(file: i32, count: u32, counts: &mut [u64; COUNTERS]) -> bool {
+pub fn run_cases(
+    rt: &impl Print,
+    file: &mut impl Read,
+    count: u32,
+    counts: &mut [u64; COUNTERS],
+) -> bool {
     let mut done = 0;
     while done < count {
-        let place = run_case(file, done);
+        let place = run_case(rt, file, done);
         if place == reading::NOTHING {
             return false;
         }

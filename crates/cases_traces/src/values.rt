@@ -8,6 +8,7 @@ ghost use Rattle.cases_traces.specs.Values.{same_value, same_values};
 
 use cases_files::numbers::long_number_at;
 use cases_files::reading;
+use std::io::Read;
 
 // The bits of an infinity, and the weight of the sign: without the sign, a NaN's bits are a number above the former.
 const INFINITY: u64 = 9218868437227405312;
@@ -67,7 +68,7 @@ pub fn within(size: usize, values: &[f64]) -> usize
 }
 
 // Fills a slice from the file; false where the file ends before or can't be read.
-fn read_each(file: i32, values: &mut [f64]) -> bool {
+fn read_each(file: &mut impl Read, values: &mut [f64]) -> bool {
     let mut i = 0;
     while i < values.len() {
         let mut bytes = [0u8; 8];
@@ -81,7 +82,7 @@ fn read_each(file: i32, values: &mut [f64]) -> bool {
 }
 
 // Reads so many values to the start of a buffer; false where it has no room for them, too.
-pub fn read_values(file: i32, values: &mut [f64], count: u32) -> bool {
+pub fn read_values(file: &mut impl Read, values: &mut [f64], count: u32) -> bool {
     let size = within(count as usize, values);
     if size < count as usize {
         return false;

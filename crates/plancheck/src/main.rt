@@ -1,5 +1,6 @@
 // Checks the plan of `plan.tsv` on the network of `network.tsv`, both in the folder that it is run in.
 #![tactic(auto)]
-fn main() {
-    plancheck_files::run(b"network.tsv", b"plan.tsv");
+
+fn main(rt: HostRuntime) {
+    plancheck_files::run(&rt, "network.tsv", "plan.tsv");
 }

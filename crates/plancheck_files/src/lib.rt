@@ -1,10 +1,12 @@
 // Reads the two files of a plan's check and prints what the proved library writes of them: only reading the files and writing the bytes is not proved.
 #![tactic(auto)]
+
 ghost use Rattle.std.specs.Prelude.{◌≤◌, length};
 ghost use Rattle.text_writer.specs.Writing.{Wrote};
 ghost use Rattle.plancheck_files.specs.Output.{output, ReadInto};
 
 use plancheck_io::FileRead;
+use std::rt::Files;
 
 // Writes what is to be printed of two files, of which each was read into the start of a buffer, or was not read.
 fn write_output(
@@ -31,13 +33,14 @@ fn write_output(
 }
 
 // Checks the plan of one file on the network of another, and prints the report, or which of the two was not read. The network has at most 16,384
-// bytes and the plan 24,576; a buffer has room for one byte more, by which a file that is too long is known.
-pub fn run(network_path: &[u8], plan_path: &[u8]) {
+// bytes and the plan 24,576; a buffer has room for one byte more, by which a file that is too long is known. Nothing is done about an output that takes
+// no more.
+pub fn run(rt: &(impl Files + Print), network_path: &str, plan_path: &str) {
     let mut network = [0u8; 16385];
     let mut plan = [0u8; 24577];
     let mut out = [0u8; 131072];
-    let network_read = plancheck_io::read_file(network_path, &mut network);
-    let plan_read = plancheck_io::read_file(plan_path, &mut plan);
+    let network_read = plancheck_io::read_file(rt, network_path, &mut network);
+    let plan_read = plancheck_io::read_file(rt, plan_path, &mut plan);
     let end = write_output(network_read, &network, plan_read, &plan, &mut out);
-    io::write_all(1, &out[..end]);
+    let _ = rt.write_all(&out[..end]);
 }

@@ -1,7 +1,13 @@
-// Reads a whole file into a lent buffer. Nothing can say what a file holds; only how much of the buffer was filled is promised.
+// Reads a whole file into a lent buffer. Nothing can say what a file holds: of a reader whose bytes are known, it is promised that all of them were read,
+// and of any other only how much of the buffer was filled.
 #![tactic(auto)]
-ghost use Rattle.std.specs.Prelude.{◌<◌, ◌≤◌, ◌≡◌, length};
-ghost use Rattle.plancheck_io.specs.Read.{Fits, Within};
+
+ghost use Rattle.std.specs.Prelude.{◌<◌, ◌≤◌, ◌≡◌, length, take, drop};
+ghost use Rattle.plancheck_io.specs.Read.{Fits, CameFrom, Within, IsWhole};
+
+use std::fs::File;
+use std::io::Read;
+use std::rt::Files;
 
 // How many bytes were read; or the file can't be opened or read, or is longer than the buffer less one byte.
 #[derive(Clone, Copy)]
@@ -18,25 +24,22 @@ enum Part {
 }
 
 // One read into the buffer from a place on: how many bytes came, 0 at the end of the file.
-fn read_more(file: i32, buffer: &mut [u8], from: usize) -> Part
+fn read_more<R: Read>(file: &mut R, buffer: &mut [u8], from: usize) -> Part
     requires { from ≤ length buffer.old }
-    ensures { Fits from (length buffer.old) result }
+    ensures fits { Fits from (length buffer.old) result }
+    ensures front { take from buffer.new ≡ take from buffer.old }
+    ensures came { CameFrom (R.remaining file.old) (R.remaining file.new) (drop from buffer.new) result }
 {
-    let room = buffer.len() - from;
-    let got = libc::read(file, &mut buffer[from..]);
-    if got < 0 {
-        return Part::Failed;
+    match file.read(&mut buffer[from..]) {
+        Ok(count) => Part::Came(count),
+        Err(_) => Part::Failed,
     }
-    let count = io::count(got, buffer);
-    if room < count {
-        return Part::Failed;
-    }
-    Part::Came(count)
 }
 
 // Reads to the end of an open file. A buffer that fills up has room for one byte too few: the file is too long.
-fn read_open(file: i32, buffer: &mut [u8]) -> FileRead
-    ensures { Within (length buffer.old) result }
+pub fn read_open<R: Read>(file: &mut R, buffer: &mut [u8]) -> FileRead
+    ensures within { Within (length buffer.old) result }
+    ensures whole { IsWhole (R.remaining file.old) buffer.new result }
 {
     let mut done: usize = 0;
     while done < buffer.len() {
@@ -56,14 +59,11 @@ fn read_open(file: i32, buffer: &mut [u8]) -> FileRead
 }
 
 // Reads the file at a path.
-pub fn read_file(path: &[u8], buffer: &mut [u8]) -> FileRead
+pub fn read_file(files: &impl Files, path: &str, buffer: &mut [u8]) -> FileRead
     ensures { Within (length buffer.old) result }
 {
-    let file = os::open_read(path);
-    if file < 0 {
-        return FileRead::NotRead;
+    match File::open(files, path) {
+        Ok(mut file) => read_open(&mut file, buffer),
+        Err(_) => FileRead::NotRead,
     }
-    let answer = read_open(file, buffer);
-    libc::close(file);
-    answer
 }

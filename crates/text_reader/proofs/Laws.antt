@@ -45,12 +45,13 @@ unfolding leading all_numbers is_number number_of
 leading-all zero fs h e = (refl, λ k l. absurd (omega arith))
 leading-all (suc n) [] h e = absurd (omega arith)
 leading-all (suc n) (Number v ∷ fs) h e =
-    let rest = leading-all n fs (omega arith) e in
-    (ap suc rest.0,
-    λ k. elim k as (λ k. k < suc n → get_or (leading (suc n) (Number v ∷ fs)) k 0 ≡ number_of (get_or (Number v ∷ fs) k NoNumber)) [
-      zero ↦ λ l. refl
-    | suc j ↦ λ l. rest.1 j (omega arith)
-    ])
+    let rest = leading-all n fs (omega arith) e in (
+      ap suc rest.0,
+      λ k. elim k as (λ k. k < suc n → get_or (leading (suc n) (Number v ∷ fs)) k 0 ≡ number_of (get_or (Number v ∷ fs) k NoNumber)) [
+        | zero ↦ λ l. refl
+        | suc j ↦ λ l. rest.1 j (omega arith)
+      ],
+    )
 leading-all (suc n) (NoNumber ∷ fs) h e = let z : ◌≡◌ {A = ℕ} 0 1 = cc in absurd (omega arith)
 
 module _ (letter n : ℕ) (line : Line) where

@@ -6,7 +6,7 @@ use Rattle.split.proofs.write_halves.Goals as goal
 
 pub returns-then-not-has_room : goal.returns-then-not-has_room
 unfolding room_of
-returns-then-not-has_room c = let a = c.args in too_short _ _ c.measure-lengths.ensures (buffers a.network-1.now a.plan-1.now a.network-2.now a.plan-2.now) c.has_room.ensures c.if-not-has_room.true-raw c.new.ensures
+returns-then-not-has_room c = let a = c.args in too_short _ _ c.measure-lengths.ensures (buffers a.network_1.now a.plan_1.now a.network_2.now a.plan_2.now) c.has_room.ensures c.if-not-has_room.true-raw c.new.ensures
 
 pub put_half-requires : goal.put_half-requires
 put_half-requires c = first-asked c.requires

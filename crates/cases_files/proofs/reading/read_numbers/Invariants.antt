@@ -3,7 +3,7 @@ use Rattle.base_laws.proofs.Kit.{◌-◌, ◌≤◌, ◌≡◌, length}
 use Rattle.cases_files.proofs.reading.read_numbers.Given as goal
 
 abbrev pub invariant-loop-i : goal.invariant-loop-i
-invariant-loop-i l = (length l.numbers ≡ length l.initial.numbers) × (l.i ≤ length l.initial.numbers)
+invariant-loop-i g l = (length l.numbers ≡ length l.initial.numbers) × (l.i ≤ length l.initial.numbers)
 
 abbrev pub decreases-loop-i : goal.decreases-loop-i
-decreases-loop-i l = length l.initial.numbers - l.i
+decreases-loop-i g l = length l.initial.numbers - l.i

@@ -4,4 +4,4 @@ use Rattle.cases_split.proofs.compare.is_as_stored.Goals as goal
 
 pub returns : goal.returns
 unfolding as_stored
-returns c = cc
+returns g c = cc

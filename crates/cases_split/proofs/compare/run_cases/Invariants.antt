@@ -3,7 +3,7 @@ use Rattle.base_laws.proofs.Kit.{◌-◌, ◌≤◌}
 use Rattle.cases_split.proofs.compare.run_cases.Given as goal
 
 abbrev pub invariant-loop-done : goal.invariant-loop-done
-invariant-loop-done l = l.done ≤ l.count
+invariant-loop-done g l = l.done ≤ l.count
 
 abbrev pub decreases-loop-done : goal.decreases-loop-done
-decreases-loop-done l = l.count - l.done
+decreases-loop-done g l = l.count - l.done
