@@ -1,5 +1,5 @@
 use Rattle.std.proofs.Common.{rules}
-use Rattle.base_laws.proofs.Kit.{◌≡◌, refl, ◌-◌, arith, length-set}
+use Rattle.base_laws.proofs.Kit.{◌≡◌, refl, arith, length-set}
 use Rattle.step_rows.proofs.Lists.{copy-turn}
 use Rattle.step_rows.proofs.copy_row.Goals as goal
 
