@@ -1,5 +1,5 @@
 -- `step_arrivals::scaled_arrived` meets its contract.
-use Rattle.base_laws.proofs.Kit.{◌+◌, ◌*◌, ap, ap₂, ◌∙◌, arith}
+use Rattle.base_laws.proofs.Kit.{◌*◌, ap, ap₂, ◌∙◌, arith}
 use Rattle.step_arrivals.proofs.Arrivals.{scaled_fits}
 use Rattle.step_arrivals.proofs.scaled_arrived.Goals as goal
 
