@@ -1,6 +1,7 @@
 // Carrying on from a boundary (T-09): the call `carry_on`. The text is written twice: first where there is no room, which measures
 // it, then into the buffer, if all of it fits.
 #![tactic(auto)]
+
 ghost use Rattle.std.specs.Prelude.{◌≡◌, ◌∷◌, suc, ◌+◌, ◌*◌, ◌-◌, ◌≤◌, ◌<◌, max, length, get_or};
 ghost use Rattle.text_reader.specs.Lines.{lines};
 ghost use Rattle.text_reader.specs.Padding.{PaddingIgnored};

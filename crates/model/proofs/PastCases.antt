@@ -8,7 +8,7 @@ use Rattle.model.specs.declared.LinkAnswer.TheVariants as link-answer
 use Rattle.model.specs.Calls.{link_state, ledger_after}
 use Rattle.model.specs.Report.{report}
 use Rattle.model.proofs.Opened.{opened}
-use Rattle.model.proofs.Texts.{bytes, Group}
+use Rattle.model.proofs.Texts.{bytes}
 
 -- one link, and one step of 10 seconds: the count of `H` lines, the `Q` line's numbers, these lines and what follows, the demand left open
 abbrev on_link : String → String → String → String → String
@@ -30,11 +30,17 @@ abbrev repeated : ℕ → String → String
 repeated zero line = ""
 repeated (suc n) line = line ++ repeated n line
 
+-- networks that are printed alike of one plan
+pub record PastGroup : Type 0 where
+  pub networks : List String
+  pub plan : String
+  pub prints : String
+
 -- one step in which so much is admitted and let out
 abbrev one_step : String → String
 one_step volumes = "P\t" ++ volumes ++ "\n"
 
-abbrev past_groups : List Group
+abbrev past_groups : List PastGroup
 past_groups =
     -- ---- row 0 and arrivals include the past; what waits may be admitted in step 1 and is in the time; the time counts the plan's steps alone
     record { networks = street "9000" "10" ∷ []; plan = one_step "5300\t2600"; prints = "A\t5300\t2600\t5300\t82000\nB\t0\t0\t3100\t500\nB\t1\t10\t8400\t3100\n" }
@@ -84,8 +90,8 @@ past_groups =
     }
     ∷ []
 
-pub past_cases : map (λ (g : Group). map (λ (network : String). report (bytes network) (bytes g.plan)) g.networks) past_groups
-    ≡ map (λ (g : Group). map (λ (network : String). bytes g.prints) g.networks) past_groups
+pub past_cases : map (λ (g : PastGroup). map (λ (network : String). report (bytes network) (bytes g.plan)) g.networks) past_groups
+    ≡ map (λ (g : PastGroup). map (λ (network : String). bytes g.prints) g.networks) past_groups
 unfolding opened
 past_cases = refl
 

@@ -14,12 +14,6 @@ pub record Case : Type 0 where
   pub plan : String
   pub prints : String
 
--- networks that are printed alike of one plan
-pub record Group : Type 0 where
-  pub networks : List String
-  pub plan : String
-  pub prints : String
-
 -- the corridor of the paper, with its shown seconds, cycle clock, and first link's capacity and travel time left open
 abbrev pub corridor : String → String → String → String → String
 corridor shown_for clock capacity travel =

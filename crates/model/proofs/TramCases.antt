@@ -5,7 +5,7 @@ use Rattle.text_reader.specs.Lines.{lines}
 use Rattle.model.specs.Calls.{ledger_after}
 use Rattle.model.specs.Report.{report}
 use Rattle.model.proofs.Opened.{opened}
-use Rattle.model.proofs.Texts.{bytes, Group, plan_with}
+use Rattle.model.proofs.Texts.{bytes, plan_with}
 use Rattle.model.proofs.MoreCases.{idle, idle_report, idle_steps}
 
 -- the corridor with its count of `T` lines, these lines and its `G` line left open
@@ -20,11 +20,17 @@ two = "G\t20\t60\t2\t2\t10\t20\t10\t30\t10\t30\n"
 abbrev four : String
 four = "G\t40\t120\t4\t1\t10\t10\t10\t30\t10\t30\t10\t30\t10\t30\n"
 
+-- networks that are printed alike of one plan
+pub record TramGroup : Type 0 where
+  pub networks : List String
+  pub plan : String
+  pub prints : String
+
 -- two signals and one step
 abbrev two_signals : String → String
 two_signals text = "N\t1\t2\t0\t1\t1\t0\n" ++ text ++ "Q\t0\t10\t0\t0\t0\t0\t0\nS\t10\t0\n"
 
-abbrev tram_groups : List Group
+abbrev tram_groups : List TramGroup
 tram_groups =
     -- ---- 1: a `T` line is missing, has three or five numbers, another letter; form before values
     record {
@@ -97,8 +103,8 @@ tram_groups =
     ∷ record { networks = with_trams "1\t0\nT\t1\t1\t2\t2\n" two ∷ []; plan = plan_with "1" "1" "2" "0" "5001"; prints = "R\t26\t2\t1\n" }
     ∷ []
 
-pub tram-cases : map (λ (g : Group). map (λ (network : String). report (bytes network) (bytes g.plan)) g.networks) tram_groups
-    ≡ map (λ (g : Group). map (λ (network : String). bytes g.prints) g.networks) tram_groups
+pub tram-cases : map (λ (g : TramGroup). map (λ (network : String). report (bytes network) (bytes g.plan)) g.networks) tram_groups
+    ≡ map (λ (g : TramGroup). map (λ (network : String). bytes g.prints) g.networks) tram_groups
 unfolding opened
 tram-cases = refl
 

@@ -1,6 +1,7 @@
 // The definitions of the plan check (specs/) and the theorems about them (proofs/). In code only the types of its answers and
 // of a signal.
 #![tactic(auto)]
+
 use base_search::Refusal;
 
 // A signal (the paper's light): its `G` line, with the phase that it shows, for how many seconds, and the seconds since phase 1 last began.

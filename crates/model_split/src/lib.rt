@@ -1,6 +1,7 @@
 // A network and a plan in two halves (T-14): the definitions (specs/) and the theorem (specs/Splits.antt). In code only the
 // types of the answer.
 #![tactic(auto)]
+
 use base_search::Refusal;
 
 // The lengths of the four texts: the network and the plan of the first half, then of the second.

@@ -1,6 +1,7 @@
 // Reads a whole network text into tables and judges it: refusals 1 to 6, 28 and 30.
 // Also the call that returns what a valid network has, by its `N` line.
 #![tactic(auto)]
+
 ghost use Rattle.std.specs.Prelude.{◌≡◌};
 ghost use Rattle.text_reader.specs.Lines.{lines};
 ghost use Rattle.text_reader.specs.Padding.{PaddingIgnored};

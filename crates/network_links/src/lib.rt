@@ -1,5 +1,6 @@
 // The `Q` and `M` lines of a network text and the sums of the shares: refusals 1, 4 and 5.
 #![tactic(auto)]
+
 ghost use Rattle.std.specs.Prelude.{◌≡◌, ◌+◌, ◌≤◌, ◌<◌};
 ghost use Rattle.base_search.specs.Checks.{each};
 ghost use Rattle.text_reader.specs.Lines.{lines};

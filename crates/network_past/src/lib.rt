@@ -1,5 +1,6 @@
 // The `H` lines of a network text: their form (refusal 1), and what they must keep once all lines have passed (refusal 30).
 #![tactic(auto)]
+
 ghost use Rattle.std.specs.Prelude.{◌≡◌};
 ghost use Rattle.text_reader.specs.Lines.{lines};
 ghost use Rattle.network_tables.specs.Tables.{Judged};

@@ -1,5 +1,6 @@
 // The `N` line and the `G` lines of a network text: refusals 1, 2 and 3.
 #![tactic(auto)]
+
 ghost use Rattle.std.specs.Prelude.{◌≡◌, ◌≤◌, length};
 ghost use Rattle.text_reader.specs.Lines.{lines};
 ghost use Rattle.base_laws.specs.Test.{within};

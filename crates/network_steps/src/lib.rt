@@ -1,5 +1,6 @@
 // The `S` lines of a network text: their form and values (refusals 1 and 6), the time of each boundary, and the demand of each link in all steps.
 #![tactic(auto)]
+
 ghost use Rattle.std.specs.Prelude.{◌≡◌, ◌≤◌, length};
 ghost use Rattle.text_reader.specs.Lines.{lines};
 ghost use Rattle.model.specs.Network.{max_links};

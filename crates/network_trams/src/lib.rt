@@ -1,5 +1,6 @@
 // The `T` lines of a network text: refusals 1 and 28, their table, and the phases that trams ask in a step by it.
 #![tactic(auto)]
+
 ghost use Rattle.std.specs.Prelude.{◌≡◌, ◌<◌};
 ghost use Rattle.text_reader.specs.Lines.{lines};
 ghost use Rattle.base_search.specs.Checks.{each};

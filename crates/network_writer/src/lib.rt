@@ -1,6 +1,7 @@
 // Lines of a text that has passed, read again, and lines written one behind another into a buffer, as far as there is room. Where
 // the text would end is returned in any case, so that a text is measured by writing it where there is no room. A plan's text is written that way by a table of its numbers.
 #![tactic(auto)]
+
 ghost use Rattle.std.specs.Prelude.{◌≡◌, ◌≤◌, ◌<◌, length};
 ghost use Rattle.text_reader.specs.Reading.{over};
 ghost use Rattle.text_writer.specs.Records.{record_text};

@@ -1,5 +1,6 @@
 // The plan check: the call `check_plan`, and the judging of a plan on a network that has passed, for other calls.
 #![tactic(auto)]
+
 ghost use Rattle.std.specs.Prelude.{◌≡◌, length};
 ghost use Rattle.text_reader.specs.Lines.{lines};
 ghost use Rattle.text_reader.specs.Padding.{PaddingIgnored};

@@ -1,5 +1,6 @@
 // Which of two plans is ahead: the call `compare_plans`.
 #![tactic(auto)]
+
 ghost use Rattle.std.specs.Prelude.{◌≡◌, ◌+◌, ◌<◌, length};
 ghost use Rattle.std.proofs.Math.IntN.{sub_ℕ};
 ghost use Rattle.text_reader.specs.Lines.{lines};

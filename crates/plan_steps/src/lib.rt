@@ -1,5 +1,6 @@
 // The steps of a plan, taken one after another: each is read, judged and, where every rule is kept, written into the ledger.
 #![tactic(auto)]
+
 ghost use Rattle.std.specs.Prelude.{◌≡◌, ◌+◌, ◌*◌, ◌≤◌};
 ghost use Rattle.plan_steps.specs.State.{NextAsked, NextGot, StepAsked, StepGot, finished};
 ghost use Rattle.plan_steps.specs.Steps.{StepsAsked, StepsGot, RunAsked, RunGot};

@@ -1,5 +1,6 @@
 // The C library: the calls over slices, each a pointer and a length, with answers by value. include/plancheck.h declares them.
 #![tactic(auto)]
+
 ghost use Rattle.std.specs.Prelude.{◌≡◌, length};
 ghost use Rattle.base_search.specs.Checks.{◌then◌};
 ghost use Rattle.text_reader.specs.Lines.{lines};

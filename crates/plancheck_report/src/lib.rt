@@ -1,5 +1,6 @@
 // Writes what the program `plancheck` prints into a lent buffer: the whole text is proved, and the bytes behind it are kept.
 #![tactic(auto)]
+
 ghost use Rattle.std.specs.Prelude.{◌≡◌, ◌∷◌, ◌++◌, ◌+◌, ◌≤◌, length};
 ghost use Rattle.text_reader.specs.Padding.{PaddingIgnored};
 ghost use Rattle.text_writer.specs.Records.{record_text};

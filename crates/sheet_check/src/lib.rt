@@ -1,6 +1,7 @@
 // Whether an accepted plan keeps a fixed-time sheet (T-10): the call `check_sheet`. The plan's own check comes first; then one pass
 // over its steps watches a few numbers of each signal. No table of runs is kept.
 #![tactic(auto)]
+
 ghost use Rattle.std.specs.Prelude.{◌≡◌, cond, ◌<◌, ◌≤◌, length};
 ghost use Rattle.text_reader.specs.Lines.{lines};
 ghost use Rattle.text_reader.specs.Padding.{PaddingIgnored};

@@ -1,5 +1,6 @@
 // The lines of a fixed-time sheet (T-10), read into a table: refusal 33.
 #![tactic(auto)]
+
 ghost use Rattle.std.specs.Prelude.{◌≡◌};
 ghost use Rattle.base_laws.specs.Test.{within};
 ghost use Rattle.network_tables.specs.Fields.{table_signal};

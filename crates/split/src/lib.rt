@@ -1,5 +1,6 @@
 // Two boxes, one corridor (T-14): the call `split`.
 #![tactic(auto)]
+
 ghost use Rattle.std.specs.Prelude.{◌≡◌};
 ghost use Rattle.text_reader.specs.Padding.{PaddingIgnored};
 ghost use Rattle.model_split.specs.Splits.{SplitInTwo};

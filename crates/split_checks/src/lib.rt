@@ -1,5 +1,6 @@
 // Whether a network that has passed can be split by the tables of its halves (T-14: 40, 41), and the form of a plan's lines (9).
 #![tactic(auto)]
+
 ghost use Rattle.std.specs.Prelude.{◌≡◌, ◌-◌, ◌≤◌, ◌<◌, length};
 ghost use Rattle.text_reader.specs.Lines.{lines};
 ghost use Rattle.base_laws.specs.Test.{every};

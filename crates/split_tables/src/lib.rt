@@ -1,5 +1,6 @@
 // The tables of a network's two halves (T-14): the new number of each link, signal and movement in a half, from 1, and 0 for what is not in it.
 #![tactic(auto)]
+
 ghost use Rattle.std.specs.Prelude.{◌≡◌, not, ◌+◌, ◌/◌, ◌^◌, ◌≤◌, eqb, length};
 ghost use Rattle.base_laws.specs.Sum.{only};
 ghost use Rattle.model_split.specs.Numbering.{rank};

@@ -2,6 +2,7 @@
 // their old order, with those of border movements added. Lines are written as far as there is room; where a text would end is
 // returned in any case.
 #![tactic(auto)]
+
 ghost use Rattle.std.specs.Prelude.{◌≡◌, cond, not, [], ◌∷◌, ◌+◌, ◌≤◌, ◌-◌, ◌<◌, eqb, length, get_or};
 ghost use Rattle.text_reader.specs.Lines.{lines};
 ghost use Rattle.text_writer.specs.Records.{record_text};

@@ -2,6 +2,7 @@
 // boundaries are the timeline's here, by a table of its boundaries' times; the times of the plan's own boundaries, from time 0
 // on, are made from it.
 #![tactic(auto)]
+
 ghost use Rattle.std.specs.Prelude.{◌≡◌, ◌+◌, ◌-◌, ◌<◌, ◌≤◌, length};
 ghost use Rattle.step_arrivals.specs.Arrivals.{arrival_step_in, seconds_in, elapsed_in, scaled_in, Cursor, ArrivalsAsked, Arrived};
 ghost use Rattle.step_arrivals.specs.Timed.{TimeAsked, TimeSet};

@@ -2,6 +2,7 @@
 // signals, links and movements finds; otherwise the rules are searched for the first that is broken. The sums of rules 16 to 18 are formed only once
 // the limits of the volumes (15, 25 to 27) are kept, so that they fit.
 #![tactic(auto)]
+
 ghost use Rattle.std.specs.Prelude.{◌≡◌, ◌+◌, ◌*◌, ◌≤◌, ◌<◌, length};
 ghost use Rattle.model.specs.Network.{max_steps};
 ghost use Rattle.step_rows.specs.Rows.{Fits};

@@ -1,5 +1,6 @@
 // Rules 15 and 25 to 27 of the plan check: the limits of the volumes of a step's `P` line, admitted, let out and moved.
 #![tactic(auto)]
+
 ghost use Rattle.std.specs.Prelude.{◌≡◌, ℕ, ◌*◌, ◌<◌, ◌≤◌, leb, length, get_or, true};
 ghost use Rattle.model.specs.Network.{max_links, max_signals};
 ghost use Rattle.network_tables.specs.Places.{Few};

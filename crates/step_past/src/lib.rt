@@ -2,6 +2,7 @@
 // of the past step in which its travel time ends. No table of the past is kept: each link has the place of the `H` line that is
 // next for it, and a line is read once for all links that it is next for.
 #![tactic(auto)]
+
 ghost use Rattle.step_past.specs.Curves.{ReadAsked, CurveTo, StartAsked, Started, KeepAsked, Kept, KeepAllAsked, KeptAll, PastAsked, PastLoaded, LinkAsked, LinkMoved, LinksAsked, LinksMoved, MoveAsked, PastMoveAsked, Moved, NextAsked, NextGot};
 
 use network_tables::{Counts, PAST_SIZE};

@@ -2,6 +2,7 @@
 // waits at the entries. The table of those who wait has one number a link: who waited at the start and came since, and was not
 // admitted.
 #![tactic(auto)]
+
 ghost use Rattle.std.specs.Prelude.{◌≡◌, ◌++◌, ◌+◌, ◌*◌, ◌-◌, ◌<◌, ◌≤◌, length, get_or, set, take, drop};
 ghost use Rattle.model.specs.Network.{max_links, max_movements};
 ghost use Rattle.base_laws.specs.Sum.{sum};

@@ -2,6 +2,7 @@
 // that a tram asks of a signal, 0 in an ordinary step.
 // The definitions stand in specs/ of crate model.
 #![tactic(auto)]
+
 ghost use Rattle.std.specs.Prelude.{◌≡◌, true, cond, ◌-◌, ◌^◌, ◌≤◌, ◌<◌, length};
 ghost use Rattle.model.specs.Network.{max_signals};
 ghost use Rattle.model.specs.Signals.{phase_of, opens, least_time, greatest_time, next_phase, begins_cycle, shown_for_after, clock_after, keeps_order, keeps_least_time, keeps_greatest_time, keeps_cycle, after};

@@ -1,5 +1,6 @@
 // Rules 16 to 18 of the plan check, by sums of volumes: shares, arrivals and capacities, once the row after the step is formed.
 #![tactic(auto)]
+
 ghost use Rattle.std.specs.Prelude.{◌≡◌, ◌+◌, ◌*◌, ◌<◌, ◌≤◌, length, true};
 ghost use Rattle.model.specs.Network.{max_links};
 ghost use Rattle.network_tables.specs.Places.{Few};

@@ -1,6 +1,7 @@
 // Writes tab-separated records, beside the reader `text_reader`: without leading zeros, into room for just the text; the bytes
 // behind it are kept.
 #![tactic(auto)]
+
 ghost use Rattle.std.specs.Prelude.{◌≡◌, ℕ, ◌+◌, ◌*◌, ◌≤◌, [], ◌∷◌, length};
 ghost use Rattle.text_writer.specs.Records.{numeral, field_text, field_texts, record_text};
 ghost use Rattle.text_writer.specs.Writing.{put_at, digits, Wrote};

@@ -1,5 +1,5 @@
 use Rattle.std.proofs.Common.{rules}
-use Rattle.base_laws.proofs.Kit.{arith, ◌-◌}
+use Rattle.base_laws.proofs.Kit.{arith}
 use Rattle.carry.proofs.Reading.{copied_none, copied-part, copied-asked, copied_next, copied_all}
 use Rattle.carry.proofs.copy_lines.Goals as goal
 

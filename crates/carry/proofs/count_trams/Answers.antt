@@ -1,5 +1,4 @@
 use Rattle.std.proofs.Common.{rules}
-use Rattle.base_laws.proofs.Kit.{◌-◌}
 use Rattle.carry.proofs.Trams.{counted_none, tram-size, counted_next, counted-all}
 use Rattle.carry.proofs.count_trams.Goals as goal
 

@@ -1,5 +1,5 @@
 use Rattle.std.proofs.Common.{rules}
-use Rattle.base_laws.proofs.Kit.{length-set, ◌-◌}
+use Rattle.base_laws.proofs.Kit.{length-set}
 use Rattle.carry.proofs.Filling.{volumes-none, held-before, held_after, entered-rises, left-rises, volumes-next, volumes-all}
 use Rattle.carry.proofs.fill_volumes.Goals as goal
 

@@ -1,5 +1,5 @@
 use Rattle.std.proofs.Common.{rules}
-use Rattle.base_laws.proofs.Kit.{refl, arith, ◌-◌}
+use Rattle.base_laws.proofs.Kit.{refl, arith}
 use Rattle.carry.proofs.Lines.{links-next}
 use Rattle.network_writer.proofs.Put.{rows_none, rows-early, rows_all}
 use Rattle.carry.proofs.put_links.Goals as goal

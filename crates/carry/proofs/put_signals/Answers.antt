@@ -1,4 +1,4 @@
-use Rattle.base_laws.proofs.Kit.{◌-◌, arith}
+use Rattle.base_laws.proofs.Kit.{arith}
 use Rattle.network_writer.proofs.Put.{rows_none, rows_all}
 use Rattle.carry.proofs.Lines.{signal-few, signal-within, signal-early, signals-next}
 use Rattle.carry.proofs.put_signals.Goals as goal

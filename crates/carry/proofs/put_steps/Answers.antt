@@ -1,5 +1,5 @@
 use Rattle.std.proofs.Common.{rules}
-use Rattle.base_laws.proofs.Kit.{arith, ◌-◌}
+use Rattle.base_laws.proofs.Kit.{arith}
 use Rattle.carry.proofs.Reading.{steps-none, volumes-asked, steps-part, steps-asked, steps_next, steps_all}
 use Rattle.carry.proofs.put_steps.Goals as goal
 

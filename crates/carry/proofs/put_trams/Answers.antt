@@ -1,6 +1,5 @@
 use Rattle.std.proofs.Common.{rules}
 use Rattle.carry.proofs.Trams.{trams-none, tram-size, tram-early, trams-next, trams-all}
-use Rattle.base_laws.proofs.Kit.{◌-◌}
 use Rattle.carry.proofs.put_trams.Goals as goal
 
 pub loop-k-init : goal.loop-k-init

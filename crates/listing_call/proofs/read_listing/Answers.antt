@@ -1,4 +1,4 @@
-use Rattle.base_laws.proofs.Kit.{◌-◌, arith}
+use Rattle.base_laws.proofs.Kit.{arith}
 use Rattle.listing_call.proofs.Reading.{reading-none, reading-done, reading-bad, reading-asked, reading-stop, reading-more, line-forward, store-place, store-fits, store-bit}
 use Rattle.listing_call.proofs.read_listing.Goals as goal
 

@@ -1,5 +1,4 @@
 use Rattle.std.proofs.Common.{rules}
-use Rattle.base_laws.proofs.Kit.{◌-◌}
 use Rattle.network_links.proofs.Shares.{sums-begin, add-asked, sums_next, sums-done}
 use Rattle.network_links.proofs.add_shares.Goals as goal
 

@@ -1,5 +1,5 @@
 use Rattle.std.proofs.Common.{rules}
-use Rattle.base_laws.proofs.Kit.{◌-◌, refl}
+use Rattle.base_laws.proofs.Kit.{refl}
 use Rattle.network_tables.proofs.Blocks.{passed_none}
 use Rattle.network_links.proofs.Movements.{shares-broken, shares-next, shares-done}
 use Rattle.network_links.proofs.Shares.{sums-asked, sum-at}

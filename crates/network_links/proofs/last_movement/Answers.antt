@@ -11,9 +11,9 @@ loop-j-init c = (search rules, refl, search rules)
 
 pub loop-j-preserved : goal.loop-j-preserved
 loop-j-preserved c = elim c.if-index-link.branch [
-      then-index-link w ↦ search (last-here, rules)
-    | else-index-link w ↦ search (last-other, rules)
-    ]
+  | then-index-link w ↦ search (last-here, rules)
+  | else-index-link w ↦ search (last-other, rules)
+]
 
 pub returns : goal.returns
 returns c = search (last-all, rules)

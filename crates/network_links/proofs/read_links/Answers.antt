@@ -1,5 +1,4 @@
 use Rattle.std.proofs.Common.{rules}
-use Rattle.base_laws.proofs.Kit.{◌-◌}
 use Rattle.network_links.proofs.Links.{links-begin, links-malformed, link-asked, links-invalid, links-next, links-done}
 use Rattle.network_links.proofs.read_links.Goals as goal
 

@@ -1,5 +1,4 @@
 use Rattle.std.proofs.Common.{rules}
-use Rattle.base_laws.proofs.Kit.{◌-◌}
 use Rattle.network_links.proofs.Movements.{movements-begin, movements-malformed, movement-asked, movements-invalid, movements-next, movements-done}
 use Rattle.network_links.proofs.read_movements.Goals as goal
 

@@ -1,5 +1,5 @@
 use Rattle.std.proofs.Common.{rules}
-use Rattle.base_laws.proofs.Kit.{◌-◌, refl}
+use Rattle.base_laws.proofs.Kit.{refl}
 use Rattle.network_past.proofs.Forms.{forms-begin, forms-malformed, time-asked, forms-next, forms-done}
 use Rattle.network_past.proofs.read_past.Goals as goal
 

@@ -1,5 +1,4 @@
 use Rattle.std.proofs.Common.{rules}
-use Rattle.base_laws.proofs.Kit.{◌-◌}
 use Rattle.base_laws.specs.Test.{◌and◌}
 use Rattle.network_past.proofs.End.{links-none, links-more, links-all}
 use Rattle.network_past.proofs.valid_links.Goals as goal

@@ -1,5 +1,5 @@
 use Rattle.std.proofs.Common.{rules}
-use Rattle.base_laws.proofs.Kit.{◌-◌, arith}
+use Rattle.base_laws.proofs.Kit.{arith}
 use Rattle.network_signals.proofs.Loops.{loaded-none, loaded-asked, loaded-stop, loaded-next, loaded-all}
 use Rattle.network_signals.proofs.load_signals.Goals as goal
 

@@ -1,4 +1,4 @@
-use Rattle.base_laws.proofs.Kit.{◌-◌, arith}
+use Rattle.base_laws.proofs.Kit.{arith}
 use Rattle.network_signals.proofs.Loops.{signals-begin, signal-asked, signals-stop, signal-few, signals-next, signals-done, table-next}
 use Rattle.network_signals.proofs.read_signals.Goals as goal
 

@@ -1,5 +1,5 @@
 use Rattle.std.proofs.Common.{rules}
-use Rattle.base_laws.proofs.Kit.{◌-◌, ◌≡◌, refl, arith}
+use Rattle.base_laws.proofs.Kit.{◌≡◌, refl, arith}
 use Rattle.network_signals.specs.Signals.{shortest_time}
 use Rattle.network_signals.proofs.Values.{shortest-more}
 use Rattle.network_signals.proofs.shortest_time.Goals as goal

@@ -1,5 +1,5 @@
 use Rattle.std.proofs.Common.{rules}
-use Rattle.base_laws.proofs.Kit.{◌-◌, ◌≡◌, refl, arith}
+use Rattle.base_laws.proofs.Kit.{◌≡◌, refl, arith}
 use Rattle.base_laws.specs.Test.{every}
 use Rattle.network_signals.proofs.Values.{times_more}
 use Rattle.network_signals.proofs.valid_times.Goals as goal

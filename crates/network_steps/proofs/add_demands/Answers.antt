@@ -1,5 +1,4 @@
 use Rattle.std.proofs.Common.{rules}
-use Rattle.base_laws.proofs.Kit.{◌-◌}
 use Rattle.network_steps.proofs.Steps.{add_begin, add-fits, add-next, add_done}
 use Rattle.network_steps.proofs.add_demands.Goals as goal
 

@@ -1,5 +1,5 @@
 use Rattle.std.proofs.Common.{rules}
-use Rattle.base_laws.proofs.Kit.{◌-◌, refl}
+use Rattle.base_laws.proofs.Kit.{refl}
 use Rattle.network_steps.proofs.Steps.{steps-begin, steps-malformed, steps-invalid, time-asked, add-asked, steps_next, steps-done}
 use Rattle.network_steps.proofs.read_steps.Goals as goal
 

@@ -1,5 +1,4 @@
 use Rattle.std.proofs.Common.{rules}
-use Rattle.base_laws.proofs.Kit.{◌-◌}
 use Rattle.network_steps.proofs.Values.{demands-none, demands-broken, demands-on, demands-all}
 use Rattle.network_steps.proofs.valid_demands.Goals as goal
 

@@ -1,5 +1,4 @@
 use Rattle.std.proofs.Common.{rules}
-use Rattle.base_laws.proofs.Kit.{◌-◌}
 use Rattle.network_tables.proofs.Sums.{sums-begin, sums-over, sums_next, sums-done}
 use Rattle.network_tables.proofs.add_numbers.Goals as goal
 

@@ -1,5 +1,4 @@
 use Rattle.std.proofs.Common.{rules}
-use Rattle.base_laws.proofs.Kit.{◌-◌}
 use Rattle.network_tables.proofs.Blocks.{passed_none}
 use Rattle.network_trams.proofs.Lines.{phase-asked, phases-broken, phases-next, phases-done}
 use Rattle.network_trams.proofs.check_tram_phases.Goals as goal

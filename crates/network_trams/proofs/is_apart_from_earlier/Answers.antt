@@ -1,5 +1,4 @@
 use Rattle.std.proofs.Common.{rules}
-use Rattle.base_laws.proofs.Kit.{◌-◌}
 use Rattle.network_trams.proofs.Tested.{apart_none, apart_more, apart-all}
 use Rattle.network_trams.proofs.is_apart_from_earlier.Goals as goal
 

@@ -1,5 +1,4 @@
 use Rattle.std.proofs.Common.{rules}
-use Rattle.base_laws.proofs.Kit.{◌-◌}
 use Rattle.network_trams.proofs.Lines.{load-begin, load-never, load-next, load-done}
 use Rattle.network_trams.proofs.load_trams.Goals as goal
 

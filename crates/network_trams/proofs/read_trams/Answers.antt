@@ -1,5 +1,4 @@
 use Rattle.std.proofs.Common.{rules}
-use Rattle.base_laws.proofs.Kit.{◌-◌}
 use Rattle.network_trams.proofs.Lines.{trams-begin, trams-malformed, tram-known, trams-invalid, trams-next, trams-done}
 use Rattle.network_trams.proofs.read_trams.Goals as goal
 

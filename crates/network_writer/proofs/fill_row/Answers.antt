@@ -1,5 +1,4 @@
 use Rattle.std.proofs.Common.{rules}
-use Rattle.base_laws.proofs.Kit.{◌-◌}
 use Rattle.network_writer.proofs.Plan.{row-none, column-asked, number-asked, row_inside, row_more, row-all}
 use Rattle.network_writer.proofs.fill_row.Goals as goal
 

@@ -1,5 +1,5 @@
 use Rattle.std.proofs.Common.{rules}
-use Rattle.base_laws.proofs.Kit.{◌-◌, arith}
+use Rattle.base_laws.proofs.Kit.{arith}
 use Rattle.network_writer.proofs.Plan.{plan-none, row-asked, plan-fits, plan-part, plan-early, plan-next, plan-all}
 use Rattle.network_writer.proofs.put_plan.Goals as goal
 

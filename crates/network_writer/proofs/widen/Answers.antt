@@ -1,5 +1,4 @@
 use Rattle.std.proofs.Common.{rules}
-use Rattle.base_laws.proofs.Kit.{◌-◌}
 use Rattle.network_writer.proofs.Filling.{wide-none, wide-next, wide-all}
 use Rattle.network_writer.proofs.widen.Goals as goal
 

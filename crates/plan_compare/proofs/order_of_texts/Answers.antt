@@ -1,4 +1,4 @@
-use Rattle.base_laws.proofs.Kit.{◌-◌, ◌∙◌, arith}
+use Rattle.base_laws.proofs.Kit.{◌∙◌, arith}
 use Rattle.plan_compare.proofs.Curves.{next-asked, read_none, read_next, read_all}
 use Rattle.plan_compare.proofs.order_of_texts.Goals as goal
 

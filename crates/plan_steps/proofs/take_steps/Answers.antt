@@ -1,5 +1,5 @@
 use Rattle.std.proofs.Common.{rules}
-use Rattle.base_laws.proofs.Kit.{◌-◌, refl, sym, arith}
+use Rattle.base_laws.proofs.Kit.{refl, sym, arith}
 use Rattle.plan_steps.proofs.Runs.{trams-asked, past-asked, first-waiting-asked, held-asked, sum-asked, running-first, steps-since, running-asked, steps-stopped, running-less, running-next, steps-taken}
 use Rattle.plan_steps.proofs.take_steps.Goals as goal
 

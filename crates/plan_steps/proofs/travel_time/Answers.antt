@@ -1,4 +1,3 @@
-
 use Rattle.base_laws.proofs.Kit.{◌+◌, ◌≤◌, refl, mul-le-mul_right, arith}
 use Rattle.plan_steps.proofs.travel_time.Goals as goal
 

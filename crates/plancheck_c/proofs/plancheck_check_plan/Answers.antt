@@ -1,13 +1,29 @@
 -- `plancheck_c::plancheck_check_plan` meets its contract.
--- what is promised of an answer is promised of the answer that its result is read as
-use Rattle.base_laws.proofs.Kit.{ap, ◌∙◌}
-use Rattle.plancheck_c.specs.Results.{plan_result}
+use Rattle.base_laws.proofs.Kit.{ℕ, List, ◌≡◌, ap, ◌∙◌}
+use Rattle.model.specs.declared.PlanAnswer.{PlanAnswer}
+use Rattle.model.specs.Guarantees.{plan_numbers, Promises}
+use Rattle.model.specs.Hold.{EmptyHolds}
+use Rattle.plancheck_c.specs.Results.{plan_result, plan_answer_of}
 use Rattle.plancheck_c.proofs.Numbers.{plan-tells}
+use Rattle.plancheck_c.proofs.Read.{of-plan}
+use Rattle.plancheck_c.specs.declared.PlanResult.{PlanResult}
+use Rattle.base_search.specs.declared.Refusal.{Refusal}
+use Rattle.base_search.specs.Numbers.{CanArise}
+use Rattle.model.specs.declared.PlanAnswer.TheVariants as plan-answer
+use Rattle.text_reader.specs.Lines.{Line}
 use Rattle.plancheck_c.proofs.plancheck_check_plan.Goals as goal
+
+-- what is promised of an answer is promised of the answer that its result is read as
+module _ (a : PlanAnswer) (r : PlanResult) (is : r ≡ plan_result a) {before after : List ℕ} where
+  promised : {network plan : List Line} → Promises network plan before after a → Promises network plan before after (plan_answer_of r)
+  promised {network} {plan} g = of-plan (λ (x : PlanAnswer). Promises network plan before after x) a r is g.refused-number g
+
+  empty : {network plan : List ℕ} → ((q : Refusal) → a ≡ plan-answer.Refused q → CanArise plan_numbers q.number) → EmptyHolds network plan before after a → EmptyHolds network plan before after (plan_answer_of r)
+  empty {network} {plan} h g = of-plan (λ (x : PlanAnswer). EmptyHolds network plan before after x) a r is h g
 
 pub returns : goal.returns
 returns c =
     let e = c.check_plan.ensures in
     let is = c.plan_result.ensures in
-    let told = is ∙ ap plan_result e.0 in
-    let numbers = e.1.1.0.refused-number in record { value = told; ledger_after = e.1.0; promises = promised _ _ is e.1.1.0; empty_holds = empty _ _ is numbers e.1.1.1.0; number_tells = plan-tells _ _ _ told; padding_ignored = λ padded_network n padded_plan p. let got = e.1.1.1.1 padded_network n padded_plan p in (is ∙ ap plan_result got.answered, got.written-rows) }
+    let told = is ∙ ap plan_result e.value in
+    let numbers = e.promises.refused-number in record { value = told; ledger_after = e.ledger_after; promises = promised _ _ is e.promises; empty_holds = empty _ _ is numbers e.empty_holds; number_tells = plan-tells _ _ _ told; padding_ignored = λ padded_network n padded_plan p. let got = e.padding_ignored padded_network n padded_plan p in (is ∙ ap plan_result got.answered, got.written-rows) }

@@ -1,12 +1,21 @@
 -- `plancheck_c::plancheck_check_sheet` meets its contract.
--- what is promised of an answer is promised of the answer that its result is read as
-use Rattle.base_laws.proofs.Kit.{ap, ◌∙◌}
-use Rattle.plancheck_c.specs.Results.{plan_result}
+use Rattle.base_laws.proofs.Kit.{ℕ, List, ◌≡◌, ap, ◌∙◌}
+use Rattle.model.specs.declared.PlanAnswer.{PlanAnswer}
+use Rattle.model_sheet.specs.Promises.{SheetPromises}
+use Rattle.plancheck_c.specs.Results.{plan_result, plan_answer_of}
 use Rattle.plancheck_c.proofs.Numbers.{sheet-tells}
+use Rattle.plancheck_c.proofs.Read.{of-plan}
+use Rattle.plancheck_c.specs.declared.PlanResult.{PlanResult}
+use Rattle.text_reader.specs.Lines.{Line}
 use Rattle.plancheck_c.proofs.plancheck_check_sheet.Goals as goal
+
+-- what is promised of an answer is promised of the answer that its result is read as
+module _ (a : PlanAnswer) (r : PlanResult) (is : r ≡ plan_result a) where
+  promised : {network sheet plan : List Line} {before after : List ℕ} → SheetPromises network sheet plan before after a → SheetPromises network sheet plan before after (plan_answer_of r)
+  promised {network} {sheet} {plan} {before} {after} g = of-plan (λ (x : PlanAnswer). SheetPromises network sheet plan before after x) a r is g.refused-number g
 
 pub returns : goal.returns
 returns c =
     let e = c.check_sheet.ensures in
     let is = c.plan_result.ensures in
-    let told = is ∙ ap plan_result e.0.told in record { value = told; sheet_promises = promised _ _ is e.0; number_tells = sheet-tells _ _ _ _ told; padding_ignored = λ padded_network n padded_plan p padded_sheet s. promised _ _ is (e.1 padded_network n padded_plan p padded_sheet s) }
+    let told = is ∙ ap plan_result e.sheet_promises.told in record { value = told; sheet_promises = promised _ _ is e.sheet_promises; number_tells = sheet-tells _ _ _ _ told; padding_ignored = λ padded_network n padded_plan p padded_sheet s. promised _ _ is (e.padding_ignored padded_network n padded_plan p padded_sheet s) }

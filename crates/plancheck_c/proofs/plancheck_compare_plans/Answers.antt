@@ -1,15 +1,32 @@
 -- `plancheck_c::plancheck_compare_plans` meets its contract.
-use Rattle.base_laws.proofs.Kit.{ℕ, ◌≡◌, sym, ap, ◌∙◌}
+use Rattle.base_laws.proofs.Kit.{List, ℕ, ◌≡◌, sym, ap, ◌∙◌}
 use lib.IntN.{ℤ}
 use mir.Syntax.{w64}
 use mir.Val.{SFits, to_z, of_z}
 use mir.Facts.{to_z-of_z}
 use Rattle.plan_compare.specs.declared.Order.{Order}
+use Rattle.plan_compare.specs.declared.ComparisonAnswer.{ComparisonAnswer}
 use Rattle.plan_compare.specs.declared.ComparisonAnswer.TheVariants as comparison-answer
+use Rattle.plan_compare.specs.Promises.{ComparisonPromises, ComparisonGot}
 use Rattle.plan_compare.proofs.Call.{compared-word}
-use Rattle.plancheck_c.specs.Results.{order_number, comparison_result}
+use Rattle.plancheck_c.specs.Results.{order_number, comparison_result, comparison_answer_of}
 use Rattle.plancheck_c.proofs.Numbers.{compared-tells}
+use Rattle.plancheck_c.proofs.Read.{of-comparison}
+use Rattle.plancheck_c.specs.declared.ComparisonResult.{ComparisonResult}
+use Rattle.text_reader.specs.Lines.{Line}
 use Rattle.plancheck_c.proofs.plancheck_compare_plans.Goals as goal
+
+-- what is promised of an answer is promised of the answer that its result is read as
+module _ (a : ComparisonAnswer) (r : ComparisonResult) (is : r ≡ comparison_result a) where
+  promised : {network first second : List Line} {first_size second_size : ℕ} → ComparisonPromises network first second first_size second_size a
+      → ComparisonPromises network first second first_size second_size (comparison_answer_of r)
+  promised {network} {first} {second} {first_size} {second_size} g =
+      of-comparison (λ (x : ComparisonAnswer). ComparisonPromises network first second first_size second_size x) a r is g.refused-number g
+
+  got : {network first second first_old second_old first_new second_new : List ℕ} → ComparisonGot network first second first_old second_old a first_new second_new
+      → ComparisonGot network first second first_old second_old (comparison_answer_of r) first_new second_new
+  got {network} {first} {second} {first_old} {second_old} {first_new} {second_new} g =
+      of-comparison (λ (x : ComparisonAnswer). ComparisonGot network first second first_old second_old x first_new second_new) a r is g.promised.refused-number g
 
 compared-result : (o : Order) (gap : ℤ) (n : ℕ) → n ≡ order_number o → SFits w64 gap
     → record { number = 0; line = 0; item = 0; plan = 0; order = n; gap = to_z w64 (of_z w64 gap) } ≡ comparison_result (comparison-answer.Compared o gap)
@@ -19,14 +36,28 @@ pub returns-in-Compared : goal.returns-in-Compared
 returns-in-Compared c =
     let e = c.compare_plans.ensures in
     let given = c.in-Compared.is in
-    let fits = compared-word (e.1.1.1.0.compared _ _ given) in
+    let fits = compared-word (e.comparison_promises.compared _ _ given) in
     let is = compared-result c.in-Compared.order _ _ c.order_number.ensures fits ∙ sym (ap comparison_result given) in
-    let told = is ∙ ap comparison_result e.0 in record { value = told; first_ledger_after = e.1.0; second_ledger_after = e.1.1.0; comparison_promises = promised _ _ is e.1.1.1.0; number_tells = compared-tells _ _ _ _ _ told; padding_ignored = λ padded_network n padded_first f padded_second s.
-                  got _ _ is (e.1.1.1.1 padded_network n padded_first f padded_second s) }
+    let told = is ∙ ap comparison_result e.value in record {
+      value = told;
+      first_ledger_after = e.first_ledger_after;
+      second_ledger_after = e.second_ledger_after;
+      comparison_promises = promised _ _ is e.comparison_promises;
+      number_tells = compared-tells _ _ _ _ _ told;
+      padding_ignored = λ padded_network n padded_first f padded_second s.
+          got _ _ is (e.padding_ignored padded_network n padded_first f padded_second s);
+    }
 
 pub returns-in-Refused : goal.returns-in-Refused
 returns-in-Refused c =
     let e = c.compare_plans.ensures in
     let is = sym (ap comparison_result c.in-Refused.is) in
-    let told = is ∙ ap comparison_result e.0 in record { value = told; first_ledger_after = e.1.0; second_ledger_after = e.1.1.0; comparison_promises = promised _ _ is e.1.1.1.0; number_tells = compared-tells _ _ _ _ _ told; padding_ignored = λ padded_network n padded_first f padded_second s.
-                  got _ _ is (e.1.1.1.1 padded_network n padded_first f padded_second s) }
+    let told = is ∙ ap comparison_result e.value in record {
+      value = told;
+      first_ledger_after = e.first_ledger_after;
+      second_ledger_after = e.second_ledger_after;
+      comparison_promises = promised _ _ is e.comparison_promises;
+      number_tells = compared-tells _ _ _ _ _ told;
+      padding_ignored = λ padded_network n padded_first f padded_second s.
+          got _ _ is (e.padding_ignored padded_network n padded_first f padded_second s);
+    }

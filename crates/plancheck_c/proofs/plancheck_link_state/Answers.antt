@@ -8,12 +8,12 @@ pub returns-in-State : goal.returns-in-State
 returns-in-State c =
     let got = c.link_state.ensures in
     let is = c.in-State.is in
-    let told = sym (ap link_result (sym got.0 ∙ is)) in
-    record { value = told; number_tells = link-tells _ _ _ _ told; padding_ignored = λ padded same. sym (ap link_result (sym (got.1.1 padded same) ∙ is)) }
+    let told = sym (ap link_result (sym got.value ∙ is)) in
+    record { value = told; number_tells = link-tells _ _ _ _ told; padding_ignored = λ padded same. sym (ap link_result (sym (got.padding_ignored padded same) ∙ is)) }
 
 pub returns-in-Refused : goal.returns-in-Refused
 returns-in-Refused c =
     let got = c.link_state.ensures in
     let is = c.in-Refused.is in
-    let told = sym (ap link_result (sym got.0 ∙ is)) in
-    record { value = told; number_tells = link-tells _ _ _ _ told; padding_ignored = λ padded same. sym (ap link_result (sym (got.1.1 padded same) ∙ is)) }
+    let told = sym (ap link_result (sym got.value ∙ is)) in
+    record { value = told; number_tells = link-tells _ _ _ _ told; padding_ignored = λ padded same. sym (ap link_result (sym (got.padding_ignored padded same) ∙ is)) }

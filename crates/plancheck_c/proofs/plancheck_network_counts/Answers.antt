@@ -8,12 +8,12 @@ pub returns-in-Counted : goal.returns-in-Counted
 returns-in-Counted c =
     let got = c.count_network.ensures in
     let is = c.in-Counted.is in
-    let told = sym (ap counts_result (sym got.0 ∙ is)) in
-    record { value = told; number_tells = counts-tells _ told; padding_ignored = λ padded same. sym (ap counts_result (sym (got.1.1 padded same) ∙ is)) }
+    let told = sym (ap counts_result (sym got.value ∙ is)) in
+    record { value = told; number_tells = counts-tells _ told; padding_ignored = λ padded same. sym (ap counts_result (sym (got.padding_ignored padded same) ∙ is)) }
 
 pub returns-in-Refused : goal.returns-in-Refused
 returns-in-Refused c =
     let got = c.count_network.ensures in
     let is = c.in-Refused.is in
-    let told = sym (ap counts_result (sym got.0 ∙ is)) in
-    record { value = told; number_tells = counts-tells _ told; padding_ignored = λ padded same. sym (ap counts_result (sym (got.1.1 padded same) ∙ is)) }
+    let told = sym (ap counts_result (sym got.value ∙ is)) in
+    record { value = told; number_tells = counts-tells _ told; padding_ignored = λ padded same. sym (ap counts_result (sym (got.padding_ignored padded same) ∙ is)) }

@@ -1,12 +1,21 @@
 -- `plancheck_c::plancheck_plan_from_sheet` meets its contract.
--- what is promised of an answer is promised of the answer that its result is read as
-use Rattle.base_laws.proofs.Kit.{ap, ◌∙◌}
-use Rattle.plancheck_c.specs.Results.{text_result}
+use Rattle.base_laws.proofs.Kit.{ℕ, List, ◌≡◌, ap, ◌∙◌}
+use Rattle.text_reader.specs.Lines.{Line}
+use Rattle.model_text.specs.declared.TextAnswer.{TextAnswer}
+use Rattle.model_sheet.specs.Promises.{WritePromises}
+use Rattle.plancheck_c.specs.declared.TextResult.{TextResult}
+use Rattle.plancheck_c.specs.Results.{text_result, text_answer_of}
 use Rattle.plancheck_c.proofs.Numbers.{sheet-plan-tells}
+use Rattle.plancheck_c.proofs.Read.{of-text}
 use Rattle.plancheck_c.proofs.plancheck_plan_from_sheet.Goals as goal
+
+-- what is promised of an answer is promised of the answer that its result is read as
+module _ (a : TextAnswer) (r : TextResult) (is : r ≡ text_result a) where
+  promised : {network sheet : List Line} {old new : List ℕ} → WritePromises network sheet old a new → WritePromises network sheet old (text_answer_of r) new
+  promised {network} {sheet} {old} {new} g = of-text (λ (x : TextAnswer). WritePromises network sheet old x new) a r is g.refused-number g
 
 pub returns : goal.returns
 returns c =
     let e = c.plan_from_sheet.ensures in
     let is = c.text_result.ensures in
-    let told = is ∙ ap text_result e.0.told in record { value = told; write_promises = promised _ _ is e.0; number_tells = sheet-plan-tells _ _ _ told; padding_ignored = λ padded_network n padded_sheet s. promised _ _ is (e.1 padded_network n padded_sheet s) }
+    let told = is ∙ ap text_result e.write_promises.told in record { value = told; write_promises = promised _ _ is e.write_promises; number_tells = sheet-plan-tells _ _ _ told; padding_ignored = λ padded_network n padded_sheet s. promised _ _ is (e.padding_ignored padded_network n padded_sheet s) }

@@ -1,4 +1,3 @@
-use Rattle.base_laws.proofs.Kit.{◌-◌}
 use Rattle.plancheck_report.proofs.Boundaries.{put_first, put-again, put_all}
 use Rattle.plancheck_report.proofs.put_row.Goals as goal
 

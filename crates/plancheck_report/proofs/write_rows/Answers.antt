@@ -1,4 +1,4 @@
-use Rattle.base_laws.proofs.Kit.{◌-◌, arith}
+use Rattle.base_laws.proofs.Kit.{arith}
 use Rattle.plancheck_report.proofs.Boundaries.{start_small, row_within, rows-first, rows-again, rows_all}
 use Rattle.plancheck_report.proofs.write_rows.Goals as goal
 

@@ -1,5 +1,5 @@
 use Rattle.std.proofs.Common.{rules}
-use Rattle.base_laws.proofs.Kit.{◌-◌, arith}
+use Rattle.base_laws.proofs.Kit.{arith}
 use Rattle.sheet_check.proofs.Watching.{found_none, found-more, found_nothing, found-told}
 use Rattle.sheet_check.proofs.first_run.Goals as goal
 

@@ -1,5 +1,5 @@
 use Rattle.std.proofs.Common.{rules}
-use Rattle.base_laws.proofs.Kit.{◌-◌, arith}
+use Rattle.base_laws.proofs.Kit.{arith}
 use Rattle.sheet_check.proofs.Call.{trams-asked, passing-first, passing-asked, passing-next, signals-few, passing-all}
 use Rattle.sheet_check.proofs.pass_plan.Goals as goal
 

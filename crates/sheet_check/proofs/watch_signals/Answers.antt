@@ -1,5 +1,5 @@
 use Rattle.std.proofs.Common.{rules}
-use Rattle.base_laws.proofs.Kit.{◌-◌, ◌≡◌, arith}
+use Rattle.base_laws.proofs.Kit.{◌≡◌, arith}
 use Rattle.sheet_check.proofs.Watching.{watched-none, watched-more, duration-asked}
 use Rattle.sheet_check.proofs.watch_signals.Goals as goal
 

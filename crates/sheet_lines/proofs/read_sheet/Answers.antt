@@ -1,5 +1,5 @@
 use Rattle.std.proofs.Common.{rules}
-use Rattle.base_laws.proofs.Kit.{◌-◌, arith}
+use Rattle.base_laws.proofs.Kit.{arith}
 use Rattle.sheet_lines.proofs.Lines.{read_none, row_room, read-malformed, numbers-asked, read-invalid, read_next, read_all, read-surplus}
 use Rattle.sheet_lines.proofs.read_sheet.Goals as goal
 

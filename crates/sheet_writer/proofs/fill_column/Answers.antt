@@ -1,5 +1,4 @@
 use Rattle.std.proofs.Common.{rules}
-use Rattle.base_laws.proofs.Kit.{◌-◌}
 use Rattle.sheet_writer.proofs.Columns.{column-none, place_inside, phase-few, column-broken, column-asked, column-more, column-all}
 use Rattle.sheet_writer.proofs.fill_column.Goals as goal
 

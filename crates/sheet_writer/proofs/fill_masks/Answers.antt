@@ -1,5 +1,5 @@
 use Rattle.std.proofs.Common.{rules}
-use Rattle.base_laws.proofs.Kit.{◌-◌, arith}
+use Rattle.base_laws.proofs.Kit.{arith}
 use Rattle.sheet_writer.proofs.Columns.{masks-none, column-wanted, masks-tram, masks-off, masks-next, masks-all}
 use Rattle.sheet_writer.proofs.fill_masks.Goals as goal
 

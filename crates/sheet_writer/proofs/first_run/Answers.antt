@@ -1,5 +1,4 @@
 use Rattle.std.proofs.Common.{rules}
-use Rattle.base_laws.proofs.Kit.{◌-◌}
 use Rattle.sheet_writer.proofs.Cycle.{off-none, off-more, off-run}
 use Rattle.sheet_writer.proofs.first_run.Goals as goal
 

@@ -1,5 +1,4 @@
 use Rattle.std.proofs.Common.{rules}
-use Rattle.base_laws.proofs.Kit.{◌-◌}
 use Rattle.sheet_writer.proofs.Columns.{trams-none, trams-never, trams-hit, trams-next, trams-all}
 use Rattle.sheet_writer.proofs.has_no_tram.Goals as goal
 

@@ -1,5 +1,4 @@
 use Rattle.std.proofs.Common.{rules}
-use Rattle.base_laws.proofs.Kit.{◌-◌}
 use Rattle.split_checks.proofs.Tests.{none-tested, all_tested}
 use Rattle.split_checks.proofs.Tables.{waits-fail, waits-next}
 use Rattle.split_checks.proofs.nobody_waits.Goals as goal

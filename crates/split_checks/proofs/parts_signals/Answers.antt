@@ -1,5 +1,5 @@
 use Rattle.std.proofs.Common.{rules}
-use Rattle.base_laws.proofs.Kit.{◌-◌, arith}
+use Rattle.base_laws.proofs.Kit.{arith}
 use Rattle.split_checks.proofs.Tests.{none-tested, test-fails, test-holds, all_tested}
 use Rattle.split_checks.proofs.Signals.{own_at, own-asked, parts-told}
 use Rattle.split_checks.proofs.parts_signals.Goals as goal

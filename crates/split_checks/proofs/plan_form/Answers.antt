@@ -1,5 +1,4 @@
 use Rattle.std.proofs.Common.{rules}
-use Rattle.base_laws.proofs.Kit.{◌-◌}
 use Rattle.split_checks.proofs.Plan.{forms-none, forms-stop, forms-next, forms-more, forms-all}
 use Rattle.split_checks.proofs.plan_form.Goals as goal
 

@@ -1,5 +1,4 @@
 use Rattle.std.proofs.Common.{rules}
-use Rattle.base_laws.proofs.Kit.{◌-◌}
 use Rattle.split_checks.proofs.Tests.{none-tested, test-fails, test-holds, all_tested}
 use Rattle.split_checks.proofs.stands_alone.Goals as goal
 

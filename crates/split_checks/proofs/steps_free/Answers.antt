@@ -1,5 +1,4 @@
 use Rattle.std.proofs.Common.{rules}
-use Rattle.base_laws.proofs.Kit.{◌-◌}
 use Rattle.split_checks.proofs.Network.{steps-none, free-asked, load-asked, steps-fail, steps_next, steps_all}
 use Rattle.split_checks.proofs.steps_free.Goals as goal
 

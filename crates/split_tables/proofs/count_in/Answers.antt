@@ -1,4 +1,4 @@
-use Rattle.base_laws.proofs.Kit.{◌-◌, arith}
+use Rattle.base_laws.proofs.Kit.{arith}
 use Rattle.split_tables.proofs.Marks.{counted_none, counted-small, counted_next, counted-all}
 use Rattle.split_tables.proofs.count_in.Goals as goal
 

@@ -1,4 +1,4 @@
-use Rattle.base_laws.proofs.Kit.{◌-◌, arith}
+use Rattle.base_laws.proofs.Kit.{arith}
 use Rattle.split_tables.proofs.Marks.{bits_none, bits-next, bits-all}
 use Rattle.split_tables.proofs.mark_links.Goals as goal
 

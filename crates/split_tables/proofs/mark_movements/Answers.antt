@@ -1,4 +1,4 @@
-use Rattle.base_laws.proofs.Kit.{◌-◌, arith}
+use Rattle.base_laws.proofs.Kit.{arith}
 use Rattle.split_tables.proofs.Tables.{movement-asked}
 use Rattle.split_tables.proofs.Marks.{marked-none, marked_next, marked_all}
 use Rattle.split_tables.proofs.mark_movements.Goals as goal

@@ -1,4 +1,4 @@
-use Rattle.base_laws.proofs.Kit.{◌-◌, arith}
+use Rattle.base_laws.proofs.Kit.{arith}
 use Rattle.split_tables.proofs.Marks.{signals-none, signal-room, signals-next, signals-all}
 use Rattle.split_tables.proofs.mark_signals.Goals as goal
 

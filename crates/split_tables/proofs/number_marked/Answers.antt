@@ -23,9 +23,9 @@ overflow_add-k c = omega (arith, c.requires.room)
 
 pub loop-k-preserved : goal.loop-k-preserved
 loop-k-preserved c = elim c.if-marks-k.branch [
-      then-marks-k w ↦ rw (w.last-is, w.half-is) (numbered_more c.requires c.loop-k.invariant (omega arith) w.if-marks-k.true)
-    | else-marks-k w ↦ rw (w.last-is, w.half-is) (numbered-other c.requires c.loop-k.invariant (omega arith) w.if-marks-k.false)
-    ]
+  | then-marks-k w ↦ rw (w.last-is, w.half-is) (numbered_more c.requires c.loop-k.invariant (omega arith) w.if-marks-k.true)
+  | else-marks-k w ↦ rw (w.last-is, w.half-is) (numbered-other c.requires c.loop-k.invariant (omega arith) w.if-marks-k.false)
+]
 
 pub shape_of-half : goal.shape_of-half
 shape_of-half c = omega (arith, c.loop-k.invariant.size)

@@ -1,4 +1,4 @@
-use Rattle.base_laws.proofs.Kit.{◌-◌, arith}
+use Rattle.base_laws.proofs.Kit.{arith}
 use Rattle.split_text.proofs.Border.{border-none, border-movement, border-room, border-next, border-all}
 use Rattle.split_text.proofs.add_border.Goals as goal
 

@@ -1,5 +1,5 @@
 use Rattle.std.proofs.Common.{rules}
-use Rattle.base_laws.proofs.Kit.{arith, ◌-◌}
+use Rattle.base_laws.proofs.Kit.{arith}
 use Rattle.split_text.proofs.Lines.{found_none, signal-named, found-next, found_all}
 use Rattle.split_text.proofs.count_trams.Goals as goal
 

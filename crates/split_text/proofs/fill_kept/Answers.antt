@@ -1,4 +1,4 @@
-use Rattle.base_laws.proofs.Kit.{◌-◌, arith}
+use Rattle.base_laws.proofs.Kit.{arith}
 use Rattle.split_tables.specs.Tables.{is_in}
 use Rattle.split_text.proofs.Filling.{filled_none, filled-end, filled_next, filled-all}
 use Rattle.split_text.proofs.fill_kept.Goals as goal

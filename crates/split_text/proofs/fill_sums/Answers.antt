@@ -1,4 +1,4 @@
-use Rattle.base_laws.proofs.Kit.{◌-◌, arith}
+use Rattle.base_laws.proofs.Kit.{arith}
 use Rattle.model_split.specs.Halves.{in_field}
 use Rattle.split_tables.specs.Tables.{is_in}
 use Rattle.split_text.proofs.Filling.{filled_none, filled-end, filled_next, filled-all}

@@ -1,5 +1,5 @@
 use Rattle.std.proofs.Common.{rules}
-use Rattle.base_laws.proofs.Kit.{arith, ◌-◌}
+use Rattle.base_laws.proofs.Kit.{arith}
 use Rattle.split_text.proofs.Picked.{picks-none, picks-early, picks-all}
 use Rattle.split_text.proofs.Lines.{links-next}
 use Rattle.split_text.proofs.put_links.Goals as goal

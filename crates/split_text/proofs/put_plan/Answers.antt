@@ -1,5 +1,4 @@
 use Rattle.std.proofs.Common.{rules}
-use Rattle.base_laws.proofs.Kit.{◌-◌}
 use Rattle.split_text.proofs.Steps.{plan-none, plan-line-asked, plan-next, plan-size, plan-all}
 use Rattle.split_text.proofs.put_plan.Goals as goal
 

@@ -1,5 +1,5 @@
 use Rattle.std.proofs.Common.{rules}
-use Rattle.base_laws.proofs.Kit.{arith, ◌-◌}
+use Rattle.base_laws.proofs.Kit.{arith}
 use Rattle.split_text.proofs.Picked.{picks-all}
 use Rattle.split_text.proofs.Lines.{signals-none, width_small, signal-part, signal-early, signals-next}
 use Rattle.split_text.proofs.put_signals.Goals as goal

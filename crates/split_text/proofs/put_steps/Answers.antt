@@ -1,5 +1,4 @@
 use Rattle.std.proofs.Common.{rules}
-use Rattle.base_laws.proofs.Kit.{◌-◌}
 use Rattle.split_text.proofs.Steps.{steps-none, step-asked, steps_next, steps-size, steps_all}
 use Rattle.split_text.proofs.put_steps.Goals as goal
 

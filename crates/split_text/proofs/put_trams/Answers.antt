@@ -1,5 +1,5 @@
 use Rattle.std.proofs.Common.{rules}
-use Rattle.base_laws.proofs.Kit.{arith, ◌-◌}
+use Rattle.base_laws.proofs.Kit.{arith}
 use Rattle.split_text.proofs.Picked.{picks-early, picks-all}
 use Rattle.split_text.proofs.Lines.{trams-none, signal-named, trams-next}
 use Rattle.split_text.proofs.put_trams.Goals as goal

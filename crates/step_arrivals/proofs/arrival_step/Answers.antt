@@ -1,5 +1,4 @@
 use Rattle.std.proofs.Common.{rules}
-use Rattle.base_laws.proofs.Kit.{◌-◌}
 use Rattle.step_arrivals.proofs.Arrivals.{arrival-here, arrival-on}
 use Rattle.step_arrivals.proofs.arrival_step.Goals as goal
 

@@ -1,5 +1,4 @@
 use Rattle.std.proofs.Common.{rules}
-use Rattle.base_laws.proofs.Kit.{◌-◌}
 use Rattle.step_arrivals.proofs.Times.{shift-begin, shift-since, shift-next, shift-all}
 use Rattle.step_arrivals.proofs.from_start.Goals as goal
 

@@ -1,4 +1,3 @@
-use Rattle.base_laws.proofs.Kit.{◌-◌}
 use Rattle.step_arrivals.proofs.Cursors.{moving-first, moving-cursor, moving-more, moving-all}
 use Rattle.step_arrivals.proofs.next_arrivals.Goals as goal
 

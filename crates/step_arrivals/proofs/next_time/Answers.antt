@@ -1,6 +1,6 @@
 -- `step_arrivals::next_time` meets its contract.
 use Rattle.std.proofs.Common.{rules}
-use Rattle.base_laws.proofs.Kit.{ℕ, ◌≡◌, refl, arith}
+use Rattle.base_laws.proofs.Kit.{◌≡◌, ℕ, refl, arith}
 use Rattle.base_laws.specs.Test.{◌and◌, within}
 use Rattle.step_arrivals.proofs.Timed.{time-room, time-fits}
 use Rattle.step_arrivals.proofs.next_time.Goals as goal

@@ -1,5 +1,5 @@
 use Rattle.std.proofs.Common.{rules}
-use Rattle.base_laws.proofs.Kit.{◌-◌, refl, arith}
+use Rattle.base_laws.proofs.Kit.{refl, arith}
 use Rattle.base_search.proofs.Table.{rules-none}
 use Rattle.step_check.proofs.Rules.{few-items}
 use Rattle.step_check.proofs.Search.{row_first, row-turn, row_next, fits-at, tables-at, items-first, item-kept, rule-kept, broken-here, none-broken}

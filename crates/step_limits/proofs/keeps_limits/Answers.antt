@@ -1,5 +1,5 @@
 -- `step_limits::keeps_limits` meets its contract.
-use Rattle.base_laws.proofs.Kit.{ℕ, ◌≡◌, arith, not-false}
+use Rattle.base_laws.proofs.Kit.{◌≡◌, ℕ, arith, not-false}
 use Rattle.step_limits.proofs.keeps_limits.Goals as goal
 
 pub returns-then-not-keeps_link_limits : goal.returns-then-not-keeps_link_limits

@@ -1,4 +1,4 @@
-use Rattle.base_laws.proofs.Kit.{ℕ, ◌-◌, ◌≡◌, arith, not-false}
+use Rattle.base_laws.proofs.Kit.{ℕ, ◌≡◌, arith, not-false}
 use borrow.Author.Count.{below_more}
 use Rattle.step_limits.proofs.keeps_movement_limits.Goals as goal
 

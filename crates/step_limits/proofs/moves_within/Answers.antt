@@ -1,6 +1,6 @@
 -- `step_limits::moves_within` meets its contract.
 use Rattle.std.proofs.Common.{rules}
-use Rattle.base_laws.proofs.Kit.{ℕ, ◌≡◌, arith}
+use Rattle.base_laws.proofs.Kit.{◌≡◌, ℕ, arith}
 use Rattle.step_limits.proofs.Turns.{still-keeps, moving-keeps}
 use Rattle.step_limits.proofs.moves_within.Goals as goal
 

@@ -1,5 +1,4 @@
 use Rattle.std.proofs.Common.{rules}
-use Rattle.base_laws.proofs.Kit.{◌-◌}
 use Rattle.step_past.proofs.Keeping.{keep-begin, keep-asked, keep-next, keep-done}
 use Rattle.step_past.proofs.keep_curves.Goals as goal
 

@@ -1,5 +1,4 @@
 use Rattle.std.proofs.Common.{rules}
-use Rattle.base_laws.proofs.Kit.{◌-◌}
 use Rattle.step_past.proofs.Moving.{moving-begin, link-asked, moving-next, moving-done}
 use Rattle.step_past.proofs.move_links.Goals as goal
 

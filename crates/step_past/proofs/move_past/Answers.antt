@@ -1,5 +1,5 @@
 use Rattle.std.proofs.Common.{rules}
-use Rattle.base_laws.proofs.Kit.{◌-◌, refl}
+use Rattle.base_laws.proofs.Kit.{refl}
 use Rattle.step_past.proofs.Moving.{past-cursor, past_first, past-arrived, from-few, times-asked, past-malformed, links-asked, past-onward, past-line-next}
 use Rattle.step_past.proofs.move_past.Goals as goal
 

@@ -1,5 +1,4 @@
 use Rattle.std.proofs.Common.{rules}
-use Rattle.base_laws.proofs.Kit.{◌-◌}
 use Rattle.step_past.proofs.Moving.{moved_none, move-asked, moved_more, moved_all}
 use Rattle.step_past.proofs.next_arrivals.Goals as goal
 

@@ -1,5 +1,4 @@
 use Rattle.std.proofs.Common.{rules}
-use Rattle.base_laws.proofs.Kit.{◌-◌}
 use Rattle.step_past.proofs.Reading.{read-begin, read-never, stop-fits, read_next, read_done}
 use Rattle.step_past.proofs.read_on.Goals as goal
 

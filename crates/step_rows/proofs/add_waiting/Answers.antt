@@ -1,4 +1,3 @@
-use Rattle.base_laws.proofs.Kit.{◌-◌}
 use Rattle.step_rows.proofs.WaitingTurns.{adding-first, adding-fits, adding-more, adding-all}
 use Rattle.step_rows.proofs.add_waiting.Goals as goal
 

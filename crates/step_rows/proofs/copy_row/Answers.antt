@@ -1,5 +1,5 @@
 use Rattle.std.proofs.Common.{rules}
-use Rattle.base_laws.proofs.Kit.{◌≡◌, refl, ◌-◌, arith, length-set}
+use Rattle.base_laws.proofs.Kit.{◌≡◌, refl, arith, length-set}
 use Rattle.step_rows.proofs.Lists.{copy-turn}
 use Rattle.step_rows.proofs.copy_row.Goals as goal
 
@@ -10,12 +10,11 @@ pub bounds-part-k : goal.bounds-part-k
 bounds-part-k c = omega (arith, c.loop-k.invariant.2)
 
 pub loop-k-preserved : goal.loop-k-preserved
-loop-k-preserved c =
-    (
-      search rules,
-      copy-turn c.args.part.now c.args.row.now c.loop-k.k (omega arith) (omega arith) c.loop-k.invariant.1,
-      simp length-set c.loop-k.invariant.2,
-    )
+loop-k-preserved c = (
+  search rules,
+  copy-turn c.args.part.now c.args.row.now c.loop-k.k (omega arith) (omega arith) c.loop-k.invariant.1,
+  simp length-set c.loop-k.invariant.2,
+)
 
 pub shape_of-part : goal.shape_of-part
 shape_of-part c = c.loop-k.invariant.2

@@ -1,5 +1,4 @@
 use Rattle.std.proofs.Common.{rules}
-use Rattle.base_laws.proofs.Kit.{◌-◌}
 use Rattle.step_rows.proofs.WaitingTurns.{first-begin, first_more, first-all}
 use Rattle.step_rows.proofs.first_waiting.Goals as goal
 

@@ -1,4 +1,3 @@
-use Rattle.base_laws.proofs.Kit.{◌-◌}
 use Rattle.step_rows.proofs.WaitingTurns.{keeping-first, keeping-enough, keeping-more, keeping_all}
 use Rattle.step_rows.proofs.next_waiting.Goals as goal
 

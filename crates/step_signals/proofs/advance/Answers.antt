@@ -1,5 +1,5 @@
 use Rattle.std.proofs.Common.{rules}
-use Rattle.base_laws.proofs.Kit.{◌≡◌, ◌-◌, arith, le_refl}
+use Rattle.base_laws.proofs.Kit.{◌≡◌, arith, le_refl}
 use Rattle.step_signals.proofs.Steps.{advanced-none, advanced-more}
 use Rattle.step_signals.proofs.advance.Goals as goal
 

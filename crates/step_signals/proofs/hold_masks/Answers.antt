@@ -1,5 +1,5 @@
 use Rattle.std.proofs.Common.{rules}
-use Rattle.base_laws.proofs.Kit.{◌≡◌, ◌-◌, arith}
+use Rattle.base_laws.proofs.Kit.{◌≡◌, arith}
 use Rattle.step_signals.proofs.Steps.{held_none, held_more}
 use Rattle.step_signals.proofs.hold_masks.Goals as goal
 

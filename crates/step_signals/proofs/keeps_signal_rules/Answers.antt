@@ -1,4 +1,4 @@
-use Rattle.base_laws.proofs.Kit.{ℕ, ◌-◌, ◌≡◌, arith}
+use Rattle.base_laws.proofs.Kit.{ℕ, ◌≡◌, arith}
 use Rattle.step_signals.proofs.Rules.{kept_more}
 use Rattle.step_signals.proofs.keeps_signal_rules.Goals as goal
 

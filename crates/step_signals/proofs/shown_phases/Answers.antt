@@ -1,5 +1,5 @@
 use Rattle.std.proofs.Common.{rules}
-use Rattle.base_laws.proofs.Kit.{◌≡◌, ◌-◌, arith}
+use Rattle.base_laws.proofs.Kit.{◌≡◌, arith}
 use Rattle.step_signals.proofs.Steps.{shown-none, shown-more}
 use Rattle.step_signals.proofs.shown_phases.Goals as goal
 

@@ -1,5 +1,5 @@
 -- `step_sums::fits_capacity` meets its contract. A sum stands in place of the difference.
-use Rattle.base_laws.proofs.Kit.{◌∙◌, ap₂, ◌+◌, leb}
+use Rattle.base_laws.proofs.Kit.{◌+◌, ◌∙◌, ap₂, leb}
 use Rattle.network_tables.specs.Fields.{capacity_in, entered_in, left_in}
 use Rattle.step_sums.specs.Sums.{fits_capacity}
 use Rattle.base_laws.proofs.Tests.{leb-over}

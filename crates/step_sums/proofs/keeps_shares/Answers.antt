@@ -1,4 +1,4 @@
-use Rattle.base_laws.proofs.Kit.{ℕ, ◌-◌, ◌≡◌, sym, ◌∙◌, arith, not-false}
+use Rattle.base_laws.proofs.Kit.{ℕ, ◌≡◌, sym, ◌∙◌, arith, not-false}
 use borrow.Author.Count.{below_more}
 use Rattle.step_sums.proofs.keeps_shares.Goals as goal
 

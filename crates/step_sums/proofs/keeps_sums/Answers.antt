@@ -1,5 +1,5 @@
 -- `step_sums::keeps_sums` meets its contract.
-use Rattle.base_laws.proofs.Kit.{ℕ, ◌≡◌, arith, not-false}
+use Rattle.base_laws.proofs.Kit.{◌≡◌, ℕ, arith, not-false}
 use Rattle.step_sums.proofs.keeps_sums.Goals as goal
 
 pub keeps_link_sums-requires : goal.keeps_link_sums-requires

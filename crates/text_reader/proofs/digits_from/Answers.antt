@@ -1,5 +1,4 @@
 use Rattle.std.proofs.Common.{rules}
-use Rattle.base_laws.proofs.Kit.{◌-◌}
 use Rattle.text_reader.proofs.Turns.{saying-none, rest-past, rest-stop, rest-full, rest-not, rest-big, rest-turn, digit_low, digit-high, has_room}
 use Rattle.text_reader.proofs.digits_from.Goals as goal
 

@@ -1,4 +1,4 @@
-use Rattle.base_laws.proofs.Kit.{◌-◌, arith, length-set}
+use Rattle.base_laws.proofs.Kit.{arith, length-set}
 use Rattle.text_reader.proofs.Turns.{stored-none, stored_more, stored-stop, all_past, all-feed, all-other}
 use Rattle.text_reader.proofs.guarded_numbers_at.Goals as goal
 

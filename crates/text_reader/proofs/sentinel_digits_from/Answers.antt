@@ -1,5 +1,4 @@
 use Rattle.std.proofs.Common.{rules}
-use Rattle.base_laws.proofs.Kit.{◌-◌}
 use Rattle.text_reader.proofs.Turns.{digit_low, digit-high, has_room}
 use Rattle.text_reader.proofs.Sentinel.{run_none, run-stop, run-big, run_more, run-full}
 use Rattle.text_reader.proofs.sentinel_digits_from.Goals as goal

@@ -1,4 +1,3 @@
-
 use Rattle.text_writer.proofs.Laws.{Counted}
 use Rattle.text_writer.proofs.digit_count.Given as goal
 

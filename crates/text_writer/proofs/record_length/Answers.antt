@@ -1,4 +1,4 @@
-use Rattle.base_laws.proofs.Kit.{arith, ◌-◌}
+use Rattle.base_laws.proofs.Kit.{arith}
 use Rattle.text_writer.proofs.Laws.{measured-none, measured-more, measured-all, digit-few}
 use Rattle.text_writer.proofs.record_length.Goals as goal
 

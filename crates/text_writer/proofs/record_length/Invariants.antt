@@ -1,4 +1,3 @@
-
 use Rattle.base_laws.proofs.Kit.{length, ◌-◌}
 use Rattle.text_writer.proofs.Laws.{Measured}
 use Rattle.text_writer.proofs.record_length.Given as goal

@@ -1,4 +1,3 @@
-
 use Rattle.text_writer.proofs.Laws.{wrote-byte}
 use Rattle.text_writer.proofs.write_byte.Goals as goal
 

@@ -1,4 +1,3 @@
-
 use Rattle.text_writer.proofs.Laws.{Digits}
 use Rattle.text_writer.proofs.write_digits.Given as goal
 

@@ -1,4 +1,3 @@
-
 use Rattle.std.proofs.Common.{rules}
 use Rattle.text_writer.specs.Records.{field_text}
 use Rattle.text_writer.proofs.Laws.{wrote-field}

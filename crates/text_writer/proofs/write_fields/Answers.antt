@@ -1,4 +1,3 @@
-use Rattle.base_laws.proofs.Kit.{◌-◌}
 use Rattle.text_writer.proofs.Laws.{fields-first, fields-again, fields-room, fields-all}
 use Rattle.text_writer.proofs.write_fields.Goals as goal
 

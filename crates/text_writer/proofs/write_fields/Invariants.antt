@@ -1,4 +1,3 @@
-
 use Rattle.base_laws.proofs.Kit.{◌-◌, length}
 use Rattle.text_writer.proofs.Laws.{Fields}
 use Rattle.text_writer.proofs.write_fields.Given as goal

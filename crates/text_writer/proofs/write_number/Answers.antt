@@ -1,4 +1,3 @@
-
 use Rattle.base_laws.proofs.Kit.{arith}
 use Rattle.text_writer.proofs.Laws.{numeral-length, wrote-number}
 use Rattle.text_writer.proofs.write_number.Goals as goal

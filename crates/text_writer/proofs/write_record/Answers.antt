@@ -1,4 +1,3 @@
-
 use Rattle.text_writer.proofs.Laws.{record-start, record-fields, record-feed, wrote-record}
 use Rattle.text_writer.proofs.write_record.Goals as goal
 

@@ -1,5 +1,5 @@
 use Rattle.std.proofs.Common.{rules}
-use Rattle.base_laws.proofs.Kit.{refl, ap, ◌∙◌, ◌-◌}
+use Rattle.base_laws.proofs.Kit.{refl, ap, ◌∙◌}
 use Rattle.cases_plan.specs.Checksum.{with_byte}
 use Rattle.cases_plan.proofs.Sums.{summed-next, summed-all}
 use Rattle.cases_plan.proofs.checksum.with_bytes.Goals as goal

@@ -1,4 +1,4 @@
-use Rattle.base_laws.proofs.Kit.{◌-◌, arith, length-set}
+use Rattle.base_laws.proofs.Kit.{arith, length-set}
 use Rattle.cases_plan.proofs.compare.fill_ledger.Goals as goal
 
 pub loop-i-preserved : goal.loop-i-preserved

@@ -1,5 +1,5 @@
 use Rattle.std.proofs.Common.{rules}
-use Rattle.base_laws.proofs.Kit.{◌-◌, refl, arith}
+use Rattle.base_laws.proofs.Kit.{refl, arith}
 use Rattle.cases_files.specs.Below.{all_below}
 use Rattle.cases_files.proofs.Laws.{all-below-next}
 use Rattle.cases_split.proofs.Laws.{too_long, held_all}
