@@ -12,7 +12,6 @@ ghost use Rattle.network_tables.specs.Tables.{moved_to, showing, SignalLaid};
 
 use base_search::Refusal;
 use model::Signal;
-use text_reader::LineRead;
 
 pub const MAX_LINKS: usize = 24;
 
@@ -175,7 +174,7 @@ pub fn read_row(
     table: &mut [u32],
     start: usize,
     width: usize,
-) -> LineRead
+) -> Option<usize>
     requires { start + width ≤ length table.old }
     ensures { RowRead letter width text.now at start table.old result table.new }
 {

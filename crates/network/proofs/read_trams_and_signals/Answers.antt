@@ -16,7 +16,7 @@ pub returns-in_default-stage : goal.returns-in_default-stage
 returns-in_default-stage c = search (signals-stop, rules)
 
 pub check_tram_phases-requires : goal.check_tram_phases-requires
-check_tram_phases-requires c = tram-phases-asked c.requires c.read_trams-stage.ensures c.in-Passed.is c.read_signals-stage.ensures c.in-Passed-stage.is
+check_tram_phases-requires c = tram-phases-asked c.requires c.read_trams-stage.ensures c.in-Ok.is c.read_signals-stage.ensures c.in-Ok-stage.is
 
 pub returns : goal.returns
-returns c = first-judged c.requires c.read_trams-stage.ensures c.in-Passed.is c.read_signals-stage.ensures c.in-Passed-stage.is c.check_tram_phases.ensures
+returns c = first-judged c.requires c.read_trams-stage.ensures c.in-Ok.is c.read_signals-stage.ensures c.in-Ok-stage.is c.check_tram_phases.ensures

@@ -26,7 +26,7 @@ pub signal_in-signal-requires : goal.signal_in-signal-requires
 signal_in-signal-requires c =
     let few = c.requires.counted.few.signals in
     let below = c.loop-r-test.true in
-    (omega arith, (table-next c.loop-r.invariant.table (omega arith) c.read_signal-stage.new.fields c.read_signal-stage.auto.fields (c.read_signal-stage.ensures.held _ c.in-Passed.is).signals).size)
+    (omega arith, (table-next c.loop-r.invariant.table (omega arith) c.read_signal-stage.new.fields c.read_signal-stage.auto.fields (c.read_signal-stage.ensures.held _ c.in-Ok.is).signals).size)
 
 pub offset_bounds-phases-r : goal.offset_bounds-phases-r
 offset_bounds-phases-r c = omega (arith, c.loop-r-test.true, c.requires.counted.few.signals)
@@ -40,7 +40,7 @@ pub shortest_time-shortest-requires : goal.shortest_time-shortest-requires
 shortest_time-shortest-requires c =
     signal-few c.requires c.loop-r.invariant c.loop-r-test.true
     c.read_signal-stage.ensures c.read_signal-stage.auto.fields
-    c.in-Passed.is c.signal_in-signal.ensures
+    c.in-Ok.is c.signal_in-signal.ensures
 
 pub overflow_add-r : goal.overflow_add-r
 overflow_add-r c = omega (arith, c.loop-r-test.true, c.requires.counted.few.signals)
@@ -48,7 +48,7 @@ overflow_add-r c = omega (arith, c.loop-r-test.true, c.requires.counted.few.sign
 pub loop-r-preserved : goal.loop-r-preserved
 loop-r-preserved c =
     signals-next c.requires c.loop-r.invariant c.loop-r-test.true c.read_signal-stage.ensures
-    c.read_signal-stage.auto.fields c.in-Passed.is c.signal_in-signal.ensures c.shortest_time-shortest.ensures
+    c.read_signal-stage.auto.fields c.in-Ok.is c.signal_in-signal.ensures c.shortest_time-shortest.ensures
 
 pub returns : goal.returns
 returns c = signals-done c.requires c.loop-r.invariant c.loop-r-test.false
