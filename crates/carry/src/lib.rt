@@ -23,7 +23,7 @@ ghost use Rattle.carry.specs.Rows.{count_row, link_row, movement_row, volumes_in
 ghost use Rattle.carry.specs.Carried.{CarryAsked, TextPut, TextWritten};
 ghost use Rattle.carry.specs.Trams.{left_of, TramsAsked};
 
-use base_search::{Refusal};
+use base_search::Refusal;
 use network_tables::{
     Counts, LINK_TABLE_SIZE, MAX_LINKS, MOVEMENT_TABLE_SIZE, PAST_SIZE, Reading, SIGNAL_FIELDS,
     SIGNAL_TABLE_SIZE, TIME_TABLE_SIZE, TRAM_FIELDS,

@@ -2,8 +2,8 @@
 ghost use Rattle.std.specs.Prelude.{◌≡◌};
 ghost use Rattle.cases_plan.specs.Outcome.{refused_outcome, network_outcome, plan_outcome, link_outcome, written_outcome, text_outcome, modulo64, order_number, comparison_outcome, same_outcome};
 
-use base_search::{Refusal};
-use model::{LinkAnswer};
+use base_search::Refusal;
+use model::{LinkAnswer, LinkState, Totals};
 use plan_compare::{ComparisonAnswer, Order};
 
 // The kind is 0 for a network accepted, 1 for a plan accepted, 2 for a state, 3 for a refusal, 4 for a text written, 5 for two plans compared;
@@ -64,7 +64,7 @@ pub fn of_link(answer: Result<LinkState, Refusal>) -> Outcome
     ensures { result ≡ link_outcome answer }
 {
     match answer {
-        STATE { queued, in_transit } => Outcome {
+        LinkState { queued, in_transit } => Outcome {
             kind: 2,
             first: queued as u64,
             second: in_transit as u64,

@@ -5,7 +5,7 @@ ghost use Rattle.cases_split.specs.Told.{refusal_of, lengths_of, same_lengths, h
 use base_search::Refusal;
 use cases_files::numbers::number_at;
 use cases_files::reading;
-use model_split::{Lengths};
+use model_split::Lengths;
 use std::io::Read;
 
 // Room for every text and buffer of the stored cases, and for the four that a split leaves.

@@ -4,7 +4,7 @@ ghost use Rattle.traces.specs.Call.{step_vehicles, places_after};
 ghost use Rattle.cases_traces.specs.Compare.{refusal_of, as_stored};
 
 use crate::values;
-use base_search::{Refusal};
+use base_search::Refusal;
 use cases_files::numbers::{long_number_at, number_at};
 use cases_files::refusals::COUNTERS;
 use cases_files::{reading, refusals, tally};

@@ -11,7 +11,7 @@ ghost use Rattle.listing_call.specs.ReadsBack.{PlanGot};
 ghost use Rattle.listing_call.specs.Tables.{has_phase_in, has_in, seconds_in, place_in, item_place_in, phase_place_in, place_of, bit_at, with_bit, Power, phase_bit, volume_in, number_in, outcome, PlacesAsked, TablesAsked, PlaceAsked, ItemAsked, SecondsAsked, JudgeAsked, ListingAsked, ListingGot};
 ghost use Rattle.listing_call.specs.Writing.{WriteGot, NetworkAsked, ListingWritten};
 
-use base_search::{Refusal};
+use base_search::Refusal;
 use listing_lines::{EntryRead, Variable};
 use network_tables::{
     Counts, LINE_SIZE, LINK_TABLE_SIZE, MAX_LINKS, MAX_MOVEMENTS, MAX_SIGNALS, MAX_STEPS,

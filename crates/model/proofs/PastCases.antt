@@ -7,7 +7,7 @@ use Rattle.model.specs.Calls.{state_of, link_state, ledger_after}
 use Rattle.model.specs.Report.{report}
 use Rattle.model.proofs.Opened.{opened}
 use Rattle.model.proofs.Texts.{bytes}
-use Rattle.std.specs.Prelude.{Result, Err}
+use Rattle.std.specs.Prelude.{Result, Err, Ok}
 use Rattle.model.specs.declared.LinkState.{LinkState}
 use Rattle.base_search.specs.declared.Refusal.{Refusal}
 

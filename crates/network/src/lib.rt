@@ -14,7 +14,7 @@ ghost use Rattle.network.specs.Loading.{first_checks, FirstAsked, end_checks, En
 ghost use Rattle.network_tables.specs.Places.{Few};
 ghost use Rattle.network.specs.Counting.{counted_answer, count_network, CountPromises};
 
-use base_search::{Refusal};
+use base_search::Refusal;
 use network_tables::{
     Counts, LINK_TABLE_SIZE, MAX_LINKS, MAX_SIGNALS, MOVEMENT_TABLE_SIZE, Reading,
     SIGNAL_TABLE_SIZE, TIME_TABLE_SIZE, TRAM_TABLE_SIZE,
@@ -43,14 +43,8 @@ fn read_trams_and_signals(
     ensures { Judged (first_checks (lines text.now)) (SignalsHeld text.now phases.new signals.new) result }
 {
     let mut trams = [0u32; TRAM_TABLE_SIZE];
-    let stage = network_trams::read_trams(text, reading, &mut trams);
-    let Ok(reading) = stage else {
-        return stage;
-    };
-    let stage = network_signals::read_signals(text, reading, phases, signals);
-    let Ok(reading) = stage else {
-        return stage;
-    };
+    let reading = network_trams::read_trams(text, reading, &mut trams)?;
+    let reading = network_signals::read_signals(text, reading, phases, signals)?;
     network_trams::check_tram_phases(&trams, phases, reading)
 }
 
@@ -60,18 +54,9 @@ fn read_timeline(text: &[u8], reading: Reading, links: &[u32], times: &mut [u32]
     ensures { Judged (timeline_checks (lines text.now)) (TimelineHeld text.now times.new) result }
 {
     let mut demands = [0u32; MAX_LINKS];
-    let stage = network_past::read_past(text, reading, times);
-    let Ok(reading) = stage else {
-        return stage;
-    };
-    let stage = network_steps::read_steps(text, reading, times, &mut demands);
-    let Ok(reading) = stage else {
-        return stage;
-    };
-    let stage = check_end(text, reading);
-    let Ok(reading) = stage else {
-        return stage;
-    };
+    let reading = network_past::read_past(text, reading, times)?;
+    let reading = network_steps::read_steps(text, reading, times, &mut demands)?;
+    let reading = check_end(text, reading)?;
     network_past::check_past(text, reading, links, times, &demands)
 }
 
@@ -87,27 +72,12 @@ pub fn load_with_signals(
     requires { SignalRooms signals.old links.old movements.old times.old }
     ensures { Judged (network_checks (lines text.now)) (LoadedWithSignals text.now signals.new links.new movements.new times.new) result }
 {
-    let stage = network_signals::read_counts(text);
-    let Ok(reading) = stage else {
-        return stage;
-    };
+    let reading = network_signals::read_counts(text)?;
     let mut phases = [0u32; MAX_SIGNALS];
-    let stage = read_trams_and_signals(text, reading, &mut phases, signals);
-    let Ok(reading) = stage else {
-        return stage;
-    };
-    let stage = network_links::read_links(text, reading, &phases, links);
-    let Ok(reading) = stage else {
-        return stage;
-    };
-    let stage = network_links::read_movements(text, reading, movements);
-    let Ok(reading) = stage else {
-        return stage;
-    };
-    let stage = network_links::check_shares(movements, reading);
-    let Ok(reading) = stage else {
-        return stage;
-    };
+    let reading = read_trams_and_signals(text, reading, &mut phases, signals)?;
+    let reading = network_links::read_links(text, reading, &phases, links)?;
+    let reading = network_links::read_movements(text, reading, movements)?;
+    let reading = network_links::check_shares(movements, reading)?;
     read_timeline(text, reading, links, times)
 }
 

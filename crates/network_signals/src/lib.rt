@@ -212,10 +212,7 @@ pub fn read_signals(text: &[u8], reading: Reading, phases: &mut [u32], signals: 
     while r < counts.signals {
         let start = SIGNAL_FIELDS * r;
         let end = start + SIGNAL_FIELDS;
-        let stage = read_signal(text, reading.moved_to(place), r, &mut signals[start..end]);
-        let Ok(passed) = stage else {
-            return stage;
-        };
+        let passed = read_signal(text, reading.moved_to(place), r, &mut signals[start..end])?;
         let signal = network_tables::signal_in(signals, r);
         phases[r] = signal.phases;
         shortest = shortest_time(signal, shortest);

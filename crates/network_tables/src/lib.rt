@@ -10,7 +10,6 @@ ghost use Rattle.network_tables.specs.Rows.{RowRead, HeadRead};
 ghost use Rattle.network_tables.specs.Sums.{Summed};
 ghost use Rattle.network_tables.specs.Tables.{moved_to, showing, SignalLaid};
 
-use base_search::Refusal;
 use model::Signal;
 
 pub const MAX_LINKS: usize = 24;
@@ -76,13 +75,6 @@ pub struct Reading {
     pub steps_at: usize,
     pub shortest: u32,
     pub timed: bool,
-}
-
-// The result of reading some lines of a network text: they pass, or one of them is refused.
-#[derive(Clone, Copy)]
-pub enum Stage {
-    Passed(Reading),
-    Refused(Refusal),
 }
 
 impl Reading {

@@ -21,7 +21,7 @@ use Rattle.step_past.specs.Curves.{CurveTo, ReadAsked}
 use Rattle.step_past.proofs.Valid.{past-form, past_fits}
 use Rattle.plan_link_state.specs.declared.Arrival.{Arrival}
 use Rattle.plan_link_state.specs.State.{Tabled, ArrivalAsked, OverAsked, EnteredOver, ledger_arrival, state_from}
-use Rattle.std.specs.Prelude.{Result, Err}
+use Rattle.std.specs.Prelude.{Result, Err, Ok}
 use Rattle.model.specs.declared.LinkState.{LinkState}
 use Rattle.base_search.specs.declared.Refusal.{Refusal}
 

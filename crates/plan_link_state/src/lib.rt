@@ -13,6 +13,7 @@ ghost use Rattle.plan_link_state.specs.State.{Tabled, OverAsked, EnteredOver, le
 use base_search::Refusal;
 use network_tables::{LINK_TABLE_SIZE, MOVEMENT_TABLE_SIZE, Reading, TIME_TABLE_SIZE};
 use step_past::Curve;
+use model::LinkState;
 
 // What has arrived at a link's end × the length of the step in which the travel time ends; that length; and whether the entered count does not fall over a step
 // inside which it ends.
@@ -104,7 +105,7 @@ fn state_from(entered: u32, left: u32, arrival: Arrival) -> Result<LinkState, Re
         return refused(21);
     }
     let arrived = (scaled / network_tables::wide(seconds)) as u32;
-    STATE {
+    LinkState {
         queued: arrived - left,
         in_transit: entered - arrived,
     }

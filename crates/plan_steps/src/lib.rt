@@ -8,8 +8,8 @@ ghost use Rattle.plan_steps.specs.PlanLine.{LineAsked, LineGot};
 ghost use Rattle.plan_steps.specs.Totals.{totals_after, TotalsAsked};
 ghost use Rattle.model.specs.Network.{max_steps};
 
-use base_search::{Refusal};
-use model::{Totals};
+use base_search::Refusal;
+use model::Totals;
 use network_tables::{
     Counts, LINE_SIZE, MAX_LINKS, MAX_SIGNALS, ROW_SIZE, Reading, STEP_SIZE, TRAM_TABLE_SIZE, wide,
 };

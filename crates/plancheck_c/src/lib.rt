@@ -32,9 +32,10 @@ ghost use Rattle.split.specs.Splitting.{texts, buffers, SplitGot};
 ghost use Rattle.plancheck_c.specs.Results.{NumberTells, verdict_result, verdict_of, counts_result, version, plan_result, plan_answer_of, link_result, text_result, text_answer_of, order_number, comparison_result, comparison_answer_of, split_result, split_answer_of, cells_result, cells_answer_of};
 
 use cells_call::CellsAnswer;
-use model::{LinkAnswer};
+use model::{LinkAnswer, LinkState, Totals};
 use network::CountsAnswer;
 use plan_compare::{ComparisonAnswer, Order};
+use base_search::Refusal;
 
 // The answer of a network's check or of a step of vehicles; number 0: the network is valid, the vehicles have moved.
 #[repr(C)]
@@ -300,7 +301,7 @@ pub extern "C" fn plancheck_link_state(
     ensures padding_ignored { PaddingIgnored network.now (λ padded. result ≡ link_result (link_state (lines padded) ledger.now boundary link)) }
 {
     match plan_link_state::link_state(network, ledger, boundary, link) {
-        STATE { queued, in_transit } => LinkResult {
+        LinkState { queued, in_transit } => LinkResult {
             number: 0,
             line: 0,
             item: 0,

@@ -12,7 +12,7 @@ ghost use Rattle.plancheck_report.specs.Boundaries.{boundary_texts, RowsAsked};
 ghost use Rattle.plancheck_report.specs.Answer.{totals_text, refusal_text, answer_text, AnswerAsked};
 
 use base_search::Refusal;
-use model::{Totals};
+use model::Totals;
 use network_tables::{
     Counts, LINK_TABLE_SIZE, MOVEMENT_TABLE_SIZE, ROW_SIZE, Reading, SIGNAL_TABLE_SIZE,
     TIME_TABLE_SIZE,

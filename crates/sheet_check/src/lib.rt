@@ -15,12 +15,13 @@ ghost use Rattle.model_sheet.specs.Promises.{SheetPromises};
 ghost use Rattle.sheet_check.specs.Watch.{watch_in, first_broken, watch_after, next_watch, duration_in, DurationAsked, WatchAsked, Watched};
 ghost use Rattle.sheet_check.specs.Stages.{PassAsked, StepAsked, StepGot, PassGot};
 
-use base_search::{Refusal};
+use base_search::Refusal;
 use network_tables::{
     LINE_SIZE, LINK_TABLE_SIZE, MAX_SIGNALS, MOVEMENT_TABLE_SIZE, Reading, SIGNAL_TABLE_SIZE,
     STEP_SIZE, TIME_TABLE_SIZE, TRAM_TABLE_SIZE,
 };
 use sheet_lines::{SHEET_FIELDS, SHEET_TABLE_SIZE};
+use model::Totals;
 
 // What is watched of a signal: whether the run that it shows is to be tested, the line of its last ordinary step, and the line of its first broken run, 0 for
 // none.

@@ -7,7 +7,7 @@ ghost use Rattle.network_tables.specs.Fields.{table_signal};
 ghost use Rattle.sheet_lines.specs.Sheet.{valid_numbers};
 ghost use Rattle.sheet_lines.specs.Reading.{number_in, NumbersAsked, SheetAsked, SheetRead};
 
-use base_search::{Refusal};
+use base_search::Refusal;
 use network_tables::MAX_SIGNALS;
 
 // How many numbers a line has at most: eight durations and an offset.

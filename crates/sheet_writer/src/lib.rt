@@ -12,7 +12,7 @@ ghost use Rattle.model_sheet.specs.Promises.{WritePromises};
 ghost use Rattle.sheet_writer.specs.Tables.{LineAsked, RunAt, NextAsked, NextRun, seconds_in, TimesAsked, ColumnAsked, ColumnGot};
 ghost use Rattle.sheet_writer.specs.Stages.{TramsAsked, CyclesAsked, MasksGot, CyclesWritten, NetworkAsked, SheetWritten};
 
-use base_search::{Refusal};
+use base_search::Refusal;
 use network_tables::{
     LINK_TABLE_SIZE, MAX_SIGNALS, MAX_STEPS, MOVEMENT_TABLE_SIZE, Reading, SIGNAL_TABLE_SIZE,
     TIME_TABLE_SIZE, TRAM_FIELDS,

@@ -7,8 +7,8 @@ ghost use Rattle.model_split.specs.Splits.{SplitInTwo};
 ghost use Rattle.split_text.specs.Halves.{NetworkAsked};
 ghost use Rattle.split.specs.Splitting.{texts, buffers, HalfPut, Passed, JudgeAsked, HalvesJudged, WriteAsked, Measured, fits, HalvesWritten, SplitGot};
 
-use base_search::{Refusal};
-use model_split::{Lengths};
+use base_search::Refusal;
+use model_split::Lengths;
 use network_tables::{
     LINK_TABLE_SIZE, MOVEMENT_TABLE_SIZE, Reading, SIGNAL_TABLE_SIZE, TIME_TABLE_SIZE,
 };

@@ -11,7 +11,7 @@ ghost use Rattle.split_checks.specs.Tables.{none_wait_in, stands_apart_in, right
 ghost use Rattle.split_checks.specs.Network.{StepsAsked, step_free, SplitAsked, SplitTold, PartsTold};
 ghost use Rattle.split_checks.specs.Plan.{FormAsked, LineForm, FormTold};
 
-use base_search::{Refusal};
+use base_search::Refusal;
 use network_tables::{Counts, LINE_SIZE, Reading, STEP_SIZE};
 use split_tables::SIGNALS_AT;
 

@@ -8,7 +8,7 @@ ghost use Rattle.model.specs.Network.{max_steps};
 ghost use Rattle.step_rows.specs.Rows.{Fits};
 ghost use Rattle.step_check.specs.Step.{rule_number, rule_items, row_from, FormedFor, rule_holds, RuleTables, JudgeAsked, Judged, PassGot};
 
-use base_search::{Refusal};
+use base_search::Refusal;
 use network_tables::Counts;
 
 // The number of rule k of the thirteen.

@@ -8,7 +8,7 @@ ghost use Rattle.traces.specs.Step.{nearer, cut_to, line_for, moved, place_after
 ghost use Rattle.traces.specs.Call.{valid_place, valid_distance, valid_counts, valid_values, step_vehicles, places_after};
 ghost use Rattle.traces.specs.Guarantees.{StepKeeps};
 
-use base_search::{Refusal};
+use base_search::Refusal;
 
 // A vehicle: its place before the step, and how far it would advance.
 #[derive(Clone, Copy)]
