@@ -3,7 +3,7 @@
 use Rattle.base_laws.proofs.Kit.{◌≡◌, refl, sym, ap, ap₂, ◌∙◌, Bool, true, false, ◌⊎◌, inl, inr, ◌↔◌, ℕ, zero, suc, ◌+◌, ◌-◌, ◌≤◌, ◌<◌, eq-or-lt_of_le, arith}
 use Rattle.base_search.specs.declared.Refusal.{Refusal}
 use Rattle.base_search.specs.Checks.{refusal, Checks, check, each, ◌then◌, or_else, first_from, checked, verdict, Hold, FirstBroken, Verdict}
-use Rattle.std.specs.Prelude.{Ok, Err}
+use Rattle.std.specs.Prelude.{Result, Ok, Err, IsErrAnd}
 
 -- ---- one verdict before another
 pub or-else-first : (v w : Verdict) → or_else v w ≡ Ok tt → v ≡ Ok tt
@@ -167,3 +167,8 @@ refused-first (a then b) r h = go (or-else-which (verdict a) (verdict b) r h) (r
         → FirstBroken a r ⊎ (Hold a × FirstBroken b r)
     go (inl e) f g = inl (f e)
     go (inr e) f g = inr (hold-of-passes a e.0, g e.1)
+
+-- what a `?` returns is the refusal that it was given
+pub passed_on : {A : Type 0} (r : Result A Refusal) (q : Refusal) → IsErrAnd r (λ p. p ≡ q) → r ≡ Err q
+passed_on (Ok a) q h = absurd h
+passed_on (Err p) q h = ap Err h

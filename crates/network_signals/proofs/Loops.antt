@@ -131,8 +131,8 @@ module _ {text : List ℕ} {reading : Reading} {phases₀ signals₀ : List ℕ}
         below : r < signal_count (lines text)
         below = omega (arith, asked.counted.signals)
 
-        pub signals-stop : {Held : Reading → Type 0} {q : Refusal} → stage ≡ Err q → Judged (block_checks (signal_block (lines text))) Held stage
-        signals-stop e = rw e (judged-refused (passed-stop inv.read.passed below (verdict-refused got e)))
+        pub signals-stop : {Held : Reading → Type 0} {q : Refusal} → stage ≡ Err q → Judged (block_checks (signal_block (lines text))) Held (Err q)
+        signals-stop e = judged-refused (passed-stop inv.read.passed below (verdict-refused got e))
 
         module _ (kept : length fields ≡ length (row_of signals r)) {passed : Reading} (e : stage ≡ Ok passed) {s : Signal} (q : s ≡ table_signal (row_set signals r fields) r) where
           same : s ≡ signal (lines text) r
