@@ -1,6 +1,5 @@
 -- Records as they are written, and the lines that they are.
-use Rattle.std.specs.Prelude.{ℕ, zero, suc, ◌+◌, ◌/◌, ◌%◌, true, cond, List, [], ◌∷◌, ◌++◌, map, ltb}
-use Rattle.text_reader.specs.declared.Field.TheVariants.{Number}
+use Rattle.std.specs.Prelude.{ℕ, zero, suc, ◌+◌, ◌/◌, ◌%◌, true, cond, List, [], ◌∷◌, ◌++◌, map, ltb, Some}
 use Rattle.text_reader.specs.Lines.{Line}
 
 -- a number in decimal without leading zeros, of at most d + 1 digits
@@ -27,7 +26,7 @@ record_texts letter (suc n) f = record_texts letter n f ++ record_text letter (f
 
 -- the line that a record is: an ended one of the letter and the numbers
 unfoldable pub record_line : ℕ → List ℕ → Line
-record_line letter ns = record { letter = letter; fields = map Number ns; ended = true }
+record_line letter ns = record { letter = letter; fields = map Some ns; ended = true }
 
 unfoldable pub record_lines : ℕ → ℕ → (ℕ → List ℕ) → List Line
 record_lines letter zero f = []

@@ -1,21 +1,14 @@
 -- `network::check_network` meets its contract.
+use Rattle.base_search.proofs.Laws.{passed_on}
 use Rattle.network.proofs.Chain.{answer-passes, answer-refused}
 use Rattle.network.proofs.check_network.Goals as goal
 
-pub returns-in-Passed-clause-value : goal.returns-in-Passed-clause-value
-returns-in-Passed-clause-value c = (answer-passes c.load_network.ensures c.in-Passed.is).0
+pub returns-in_err-load_network : goal.returns-in_err-load_network
+returns-in_err-load_network c =
+    let told = answer-refused c.load_network.ensures c.in_err-load_network.was in
+    rw (passed_on _ _ c.from_residual.ensures.1) (record { value = told.0; network_promises = told.1.0; padding_ignored = told.1.1 })
 
-pub returns-in-Passed-clause-network_promises : goal.returns-in-Passed-clause-network_promises
-returns-in-Passed-clause-network_promises c = (answer-passes c.load_network.ensures c.in-Passed.is).1.0
-
-pub returns-in-Passed-clause-padding_ignored : goal.returns-in-Passed-clause-padding_ignored
-returns-in-Passed-clause-padding_ignored c = (answer-passes c.load_network.ensures c.in-Passed.is).1.1
-
-pub returns-in-Refused-clause-value : goal.returns-in-Refused-clause-value
-returns-in-Refused-clause-value c = (answer-refused c.load_network.ensures c.in-Refused.is).0
-
-pub returns-in-Refused-clause-network_promises : goal.returns-in-Refused-clause-network_promises
-returns-in-Refused-clause-network_promises c = (answer-refused c.load_network.ensures c.in-Refused.is).1.0
-
-pub returns-in-Refused-clause-padding_ignored : goal.returns-in-Refused-clause-padding_ignored
-returns-in-Refused-clause-padding_ignored c = (answer-refused c.load_network.ensures c.in-Refused.is).1.1
+pub returns : goal.returns
+returns c =
+    let told = answer-passes c.load_network.ensures c.in_ok-load_network.was in
+    record { value = told.0; network_promises = told.1.0; padding_ignored = told.1.1 }
