@@ -1,6 +1,5 @@
--- The answer and the volumes of a run in the stored form.
-use Rattle.std.specs.Prelude.{ℕ, Bool, ◌&&◌, List, eqb, get_or}
-use Rattle.cases_files.specs.Below.{all_below}
+-- The answer of a run in the stored form.
+use Rattle.std.specs.Prelude.{Bool, ◌&&◌, ◌==◌}
 use Rattle.cells_call.specs.declared.CellsAnswer.{CellsAnswer}
 use Rattle.cells_call.specs.declared.CellsAnswer.TheVariants.{Ran, Refused}
 use Rattle.cases_cells.specs.declared.told.Numbers.{Numbers}
@@ -11,15 +10,9 @@ numbers_of (Refused r) = record { number = r.number; line = r.line; item = r.ite
 
 abbrev pub same_numbers : Numbers → Numbers → Bool
 same_numbers one other =
-    eqb one.number other.number
-    && eqb one.line other.line
-    && eqb one.item other.item
-    && eqb one.cells other.cells
-    && eqb one.flow_in other.flow_in
-    && eqb one.flow_out other.flow_out
-
-abbrev pub same_volume : List ℕ → List ℕ → ℕ → Bool
-same_volume volumes stored i = eqb (get_or volumes i 0) (get_or stored i 0)
-
-unfoldable pub same_volumes : List ℕ → List ℕ → Bool
-same_volumes volumes stored = all_below (same_volume volumes stored) 64
+    one.number == other.number
+    && one.line == other.line
+    && one.item == other.item
+    && one.cells == other.cells
+    && one.flow_in == other.flow_in
+    && one.flow_out == other.flow_out
