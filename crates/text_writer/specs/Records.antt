@@ -1,5 +1,7 @@
 -- Records as they are written, and the lines that they are.
 use Rattle.std.specs.Prelude.{ℕ, zero, suc, ◌+◌, ◌/◌, ◌%◌, true, cond, List, [], ◌∷◌, ◌++◌, map, ltb}
+use Rattle.std.specs.List.{flat_map}
+use Rattle.base_laws.specs.Indexed.{list}
 use Rattle.text_reader.specs.declared.Field.TheVariants.{Number}
 use Rattle.text_reader.specs.Lines.{Line}
 
@@ -13,8 +15,7 @@ unfoldable pub field_text : ℕ → List ℕ
 field_text n = 9 ∷ numeral 19 n
 
 unfoldable pub field_texts : List ℕ → List ℕ
-field_texts [] = []
-field_texts (n ∷ ns) = field_text n ++ field_texts ns
+field_texts ns = flat_map field_text ns
 
 -- a letter, numbers, and a line feed
 unfoldable pub record_text : ℕ → List ℕ → List ℕ
@@ -30,5 +31,4 @@ unfoldable pub record_line : ℕ → List ℕ → Line
 record_line letter ns = record { letter = letter; fields = map Number ns; ended = true }
 
 unfoldable pub record_lines : ℕ → ℕ → (ℕ → List ℕ) → List Line
-record_lines letter zero f = []
-record_lines letter (suc n) f = record_lines letter n f ++ (record_line letter (f n) ∷ [])
+record_lines letter n f = list n (λ i. record_line letter (f i))
