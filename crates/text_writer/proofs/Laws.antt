@@ -113,11 +113,6 @@ pub wrote-more : (a b : List ℕ) (at : ℕ) (old mid new : List ℕ) (m r : ℕ
 wrote-more a b at old mid new m r h v w =
     record { is = w.is ∙ put-behind a b at old mid m h v; ends = omega (arith, w.ends, v.ends, length-append a b) }
 
--- a number behind a tab
-pub wrote-field : (value at : ℕ) (old mid new : List ℕ) (m r : ℕ) → at + length (field_text value) ≤ length old → Wrote (9 ∷ []) at old mid m → Wrote (numeral 19 value) m mid new r → Wrote (field_text value) at old new r
-unfolding field_text
-wrote-field value at old mid new m r h v w = wrote-more (9 ∷ []) (numeral 19 value) at old mid new m r (omega arith) v w
-
 pub wrote-length : (a : List ℕ) (at : ℕ) (old new : List ℕ) (r : ℕ) → at + length a ≤ length old → Wrote a at old new r → length new ≡ length old
 wrote-length a at old new r h w = ap length w.is ∙ put-length at old a h
 
@@ -146,14 +141,6 @@ fields_all ns k h = at_drop_all field_texts ns k h
 pub record_is : (letter : ℕ) (ns : List ℕ) → length (record_text letter ns) ≡ 2 + length (field_texts ns)
 unfolding record_text
 record_is letter ns = omega (arith, length-append (field_texts ns) (10 ∷ []))
-
-pub wrote-record : (letter : ℕ) (ns : List ℕ) (at : ℕ) (old a b new : List ℕ) (m l r : ℕ) → at + length (record_text letter ns) ≤ length old
-    → Wrote (letter ∷ []) at old a m → Wrote (field_texts ns) m a b l → Wrote (10 ∷ []) l b new r → Wrote (record_text letter ns) at old new r
-unfolding record_text
-wrote-record letter ns at old a b new m l r h u v w =
-    let k = record_is letter ns in
-    let p = wrote-more (letter ∷ []) (field_texts ns) at old a b m l (omega arith) u v in
-    wrote-more (letter ∷ field_texts ns) (10 ∷ []) at old b new l r (omega arith) p w
 
 pub record-most : (letter : ℕ) (ns : List ℕ) → length (record_text letter ns) ≤ 2 + 21 * length ns
 record-most letter ns = omega (arith, record_is letter ns, fields-length ns)
