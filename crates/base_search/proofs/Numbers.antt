@@ -1,10 +1,10 @@
 -- A refusal has the number of one of the checks, so that where these are among the call's, its number can arise.
 use Rattle.base_laws.proofs.Kit.{◌≡◌, refl, Bool, true, false, ◌&&◌, and-eq-true_iff, inl, inr, List, [], ◌∷◌, ℕ, ◌<◌, leb-true, eqb-true, leb, eqb}
 use Rattle.base_search.specs.declared.Refusal.{Refusal}
-use Rattle.base_search.specs.declared.Verdict.TheVariants.{Refused}
 use Rattle.base_search.specs.Checks.{Checks, check, each, ◌then◌, verdict, FirstBroken}
 use Rattle.base_search.specs.Numbers.{is_one_of, CanArise}
 use Rattle.base_search.proofs.Laws.{refused-first}
+use Rattle.std.specs.Prelude.{Err}
 
 -- whether a refusal of this number can arise
 abbrev pub arises : List ℕ → ℕ → Bool
@@ -30,7 +30,7 @@ module _ (numbers : List ℕ) where
   broken-number (a then b) r h (inr c) = broken-number b r h.1 c.1
 
   -- a refusal of such checks
-  pub refused-number : (c : Checks) (r : Refusal) → Numbered numbers c → verdict c ≡ Refused r → CanArise numbers r.number
+  pub refused-number : (c : Checks) (r : Refusal) → Numbered numbers c → verdict c ≡ Err r → CanArise numbers r.number
   refused-number c r h v = broken-number c r h (refused-first c r v)
 
 -- ---- a call that refuses with more numbers

@@ -1,10 +1,9 @@
 -- The search for the first broken rule of a table, a turn at a time: every rule before the one that it is at holds of every item. And tables whose rules agree.
 use Rattle.base_laws.proofs.Kit.{ℕ, zero, suc, ◌+◌, ◌≤◌, ◌<◌, ◌≡◌, refl, sym, ap, ap₂, ◌∙◌, Bool, true, false, not, List, [], ◌∷◌, add-one, arith, not-true, not-false, length}
 use borrow.Author.Count.{below_more}
-use Rattle.base_search.specs.declared.Verdict.{Verdict}
-use Rattle.base_search.specs.declared.Verdict.TheVariants.{Passes, Refused}
-use Rattle.base_search.specs.Checks.{refusal, first_from, checked, verdict, Hold, Rule, rule_at, rules_from, table}
+use Rattle.base_search.specs.Checks.{refusal, first_from, checked, verdict, Hold, Rule, rule_at, rules_from, table, Verdict}
 use Rattle.base_search.proofs.Laws.{first-same, first-stop, first_passes, checked-passes, checked_refused}
+use Rattle.std.specs.Prelude.{Ok, Err}
 
 -- one item of the rule at a place, and the rule over its items, told at a line
 abbrev item_verdict : ℕ → List Rule → ℕ → ℕ → Verdict
@@ -47,10 +46,10 @@ rules-none rules = record { kept = λ k l. absurd (omega arith) }
 pub items-none : {rules : List Rule} {place : ℕ} → RulesKept rules place → ItemsKept rules place 0
 items-none w = record { before = w; kept = λ i l. absurd (omega arith) }
 
-kept-passes : (line : ℕ) (rules : List Rule) (k : ℕ) → Kept (rule_at rules k) → rule_verdict line rules k ≡ Passes
+kept-passes : (line : ℕ) (rules : List Rule) (k : ℕ) → Kept (rule_at rules k) → rule_verdict line rules k ≡ Ok tt
 kept-passes line rules k kept = first_passes (item_verdict line rules k) _ (λ i l. checked-passes _ _ _ _ (kept i l))
 
-pub rules-all : (line : ℕ) {rules : List Rule} {place : ℕ} → RulesKept rules place → length rules ≤ place → verdict (table line rules) ≡ Passes
+pub rules-all : (line : ℕ) {rules : List Rule} {place : ℕ} → RulesKept rules place → length rules ≤ place → verdict (table line rules) ≡ Ok tt
 unfolding verdict table
 rules-all line {rules} w h = first_passes (rule_verdict line rules) _ (λ k l. kept-passes line rules k (w.kept k (omega arith)))
 
@@ -65,7 +64,7 @@ module _ {rules : List Rule} {place item : ℕ} (w : ItemsKept rules place item)
       record { kept = below_more (λ k. Kept (rule_at rules k)) place w.before.kept (λ i l. w.kept i (omega arith)) }
 
   pub items-broken : (line : ℕ) → place < length rules → item < rule.items → {r : Bool} → r ≡ rule.holds item → not r ≡ true
-      → Refused (refusal rule.number line (item + 1)) ≡ verdict (table line rules)
+      → Err (refusal rule.number line (item + 1)) ≡ verdict (table line rules)
   unfolding verdict table
   items-broken line h l {r} e t =
       rw (← is, add-one)

@@ -1,8 +1,10 @@
 -- Checks in order, and the first of them that is broken.
-use Rattle.std.specs.Prelude.{◌≡◌, Bool, true, false, ◌⊎◌, List, [], ◌∷◌, ℕ, zero, suc, ◌+◌, ◌<◌, length, get_or}
+use Rattle.std.specs.Prelude.{◌≡◌, Result, Ok, Err, Bool, true, false, ◌⊎◌, List, [], ◌∷◌, ℕ, zero, suc, ◌+◌, ◌<◌, length, get_or}
 use Rattle.base_search.specs.declared.Refusal.{Refusal}
-use Rattle.base_search.specs.declared.Verdict.{Verdict}
-use Rattle.base_search.specs.declared.Verdict.TheVariants.{Passes, Refused}
+
+-- What checks say: all pass, or the refusal of the first that does not.
+abbrev pub Verdict : Type 0
+Verdict = Result (Unit {0}) Refusal
 
 -- the refusal with the paper's number, line and item
 abbrev pub refusal : ℕ → ℕ → ℕ → Refusal
@@ -17,17 +19,17 @@ pub data Checks : Type 0 where
 
 -- the verdict v, and where it passes, that of what comes after
 unfoldable pub or_else : Verdict → Verdict → Verdict
-or_else Passes later = later
-or_else (Refused r) later = Refused r
+or_else (Ok tt) later = later
+or_else (Err r) later = Err r
 
 -- the first refusal of n verdicts from index i on
 unfoldable pub first_from : (ℕ → Verdict) → ℕ → ℕ → Verdict
-first_from f zero i = Passes
+first_from f zero i = Ok tt
 first_from f (suc n) i = or_else (f i) (first_from f n (i + 1))
 
 unfoldable pub checked : Bool → ℕ → ℕ → ℕ → Verdict
-checked true number line item = Passes
-checked false number line item = Refused (refusal number line item)
+checked true number line item = Ok tt
+checked false number line item = Err (refusal number line item)
 
 -- the first check that is broken
 unfoldable pub verdict : Checks → Verdict

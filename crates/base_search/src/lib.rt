@@ -1,4 +1,4 @@
-// A refusal, and the verdict of checks in order: the first that is broken. The definition stands in specs/; proofs/ has its
+// A refusal, by which checks in order tell the first that is broken. The definition stands in specs/; proofs/ has its
 // laws, against which the labelled searches of the crates above are proved.
 #![tactic(auto)]
 
@@ -6,7 +6,7 @@ ghost use Rattle.std.specs.Prelude.{◌≡◌, ◌<◌};
 ghost use Rattle.base_search.specs.Checks.{refusal};
 
 // A refusal: the number of the broken check, and the line and the item that it names, 0 where it names none.
-#[derive(Clone, Copy)]
+#[derive(Clone, Copy, PartialEq, Eq)]
 pub struct Refusal {
     pub number: u32,
     pub line: u32,
@@ -24,11 +24,4 @@ impl Refusal {
             item: item as u32,
         }
     }
-}
-
-// What checks say: all pass, or the refusal of the first that does not.
-#[derive(Clone, Copy)]
-pub enum Verdict {
-    Passes,
-    Refused(Refusal),
 }

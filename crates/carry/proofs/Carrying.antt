@@ -1,7 +1,6 @@
 -- The ways out of the call, by the definitions on the cut network.
 use Rattle.base_laws.proofs.Kit.{ℕ, suc, ◌+◌, ◌*◌, ◌-◌, ◌≤◌, ◌<◌, ◌≡◌, refl, sym, ap, ◌∙◌, Bool, true, false, not, List, [], dec_lt, add-one, arith, le-leb, lt-leb, eq-eqb, leb, eqb, length, get_or, get_or-take}
 use Rattle.base_search.specs.declared.Refusal.{Refusal}
-use Rattle.base_search.specs.declared.Verdict.TheVariants as verdicts
 use Rattle.base_search.specs.Checks.{refusal, verdict, or_else, checked, each, Hold}
 use Rattle.base_search.proofs.Laws.{passes-of-hold, hold-of-passes, or-else-passes, or-else-refused, checked-passes, checked_refused, first-stop, first_passes}
 use Rattle.text_reader.specs.Lines.{Line, no_line, lines, number}
@@ -20,8 +19,6 @@ use Rattle.model.proofs.Hold.{meant-lines, plan-of-text, hold-count}
 use Rattle.model.proofs.Rows.{written_none}
 use Rattle.model.proofs.Written.{refused-fails, rows_none, rows-until}
 use Rattle.network_tables.specs.declared.Reading.{Reading}
-use Rattle.network_tables.specs.declared.Stage.{Stage}
-use Rattle.network_tables.specs.declared.Stage.TheVariants as stages
 use Rattle.network_tables.specs.Tables.{Judged, SignalTable}
 use Rattle.network_tables.proofs.Stages.{verdict-refused}
 use Rattle.network.specs.Loading.{Loaded}
@@ -29,8 +26,6 @@ use Rattle.plan_steps.specs.declared.Taken.{Taken}
 use Rattle.plan_steps.specs.Steps as steps
 use Rattle.plan_steps.proofs.Runs.{lines-within}
 use Rattle.plan_steps.proofs.Ledger.{written-again}
-use Rattle.model_text.specs.declared.TextAnswer.{TextAnswer}
-use Rattle.model_text.specs.declared.TextAnswer.TheVariants.{Refused}
 use Rattle.model_text.specs.Answers.{text_answer, bytes_after, room_verdict, Told}
 use Rattle.carry.specs.Carried.{StandsAt, CarryAsked, TextWritten}
 use Rattle.model_carry.specs.Part.{cut, carried_text}
@@ -43,6 +38,7 @@ use Rattle.model_carry.proofs.Promises.{carried_on}
 use Rattle.model_carry.proofs.Agree.{signal-agree, waits-agree}
 use Rattle.carry.specs.Carrying.{StepsAsked, CarryGot}
 use Rattle.base_laws.proofs.Tests.{is_within}
+use Rattle.std.specs.Prelude.{Result, Ok, Err}
 
 pub not-true : (b : Bool) → not b ≡ true → b ≡ false
 not-true false h = refl
@@ -52,7 +48,7 @@ pub not-false : (b : Bool) → not b ≡ false → b ≡ true
 not-false true h = refl
 not-false false h = let z : ◌≡◌ {A = ℕ} 0 1 = cc in absurd (omega arith)
 
-boundary-passes : (network : List Line) (b : ℕ) → Hold (network_checks network) → 1 ≤ b → b < step_count network → verdict (boundary_checks network b) ≡ verdicts.Passes
+boundary-passes : (network : List Line) (b : ℕ) → Hold (network_checks network) → 1 ≤ b → b < step_count network → verdict (boundary_checks network b) ≡ Ok tt
 unfolding boundary_checks verdict
 boundary-passes network b valid o u =
     or-else-passes _ _ (passes-of-hold (network_checks network) valid) ∙ checked-passes _ 31 0 0 (is_within 1 b (step_count network - 1) o (omega arith))
@@ -70,29 +66,29 @@ module _ (network_text plan_text : List ℕ) (b : ℕ) (ledger buffer : List ℕ
   plan = planned_on net b plan_text
 
   -- a refusal of the network, or 31
-  pub boundary-refused : {r : Refusal} → verdict (boundary_checks net b) ≡ verdicts.Refused r → CarryGot network_text plan_text b ledger ledger buffer buffer (Refused r)
+  pub boundary-refused : {r : Refusal} → verdict (boundary_checks net b) ≡ Err r → CarryGot network_text plan_text b ledger ledger buffer buffer (Err r)
   unfolding carry_on carry_ledger carry_buffer
   boundary-refused {r} v =
-      let all : verdict (carry_checks net plan b (length ledger) (length buffer)) ≡ verdicts.Refused r = unfold carry_checks verdict in or-else-refused _ _ r v in
+      let all : verdict (carry_checks net plan b (length ledger) (length buffer)) ≡ Err r = unfold carry_checks verdict in or-else-refused _ _ r v in
       record { told = rw all (unfold text_answer in refl); rows = rw v; holds = rw all (unfold bytes_after in refl) }
 
-  module _ (within : verdict (boundary_checks net b) ≡ verdicts.Passes) where
+  module _ (within : verdict (boundary_checks net b) ≡ Ok tt) where
     -- a refusal of the plan on the cut network
-    pub plan-refused : {r : Refusal} {ledger' : List ℕ} → verdict (plan_checks (cut net b) plan (length ledger)) ≡ verdicts.Refused r → ledger' ≡ ledger_after (cut net b) plan ledger
-        → CarryGot network_text plan_text b ledger ledger' buffer buffer (Refused r)
+    pub plan-refused : {r : Refusal} {ledger' : List ℕ} → verdict (plan_checks (cut net b) plan (length ledger)) ≡ Err r → ledger' ≡ ledger_after (cut net b) plan ledger
+        → CarryGot network_text plan_text b ledger ledger' buffer buffer (Err r)
     unfolding carry_on carry_ledger carry_buffer
     plan-refused {r} v rows =
-        let all : verdict (carry_checks net plan b (length ledger) (length buffer)) ≡ verdicts.Refused r =
+        let all : verdict (carry_checks net plan b (length ledger) (length buffer)) ≡ Err r =
         unfold carry_checks verdict in (or-else-passes _ _ within ∙ or-else-refused _ _ r v) in
         record { told = rw all (unfold text_answer in refl); rows = rw within rows; holds = rw all (unfold bytes_after in refl) }
 
     -- the plan passes, and the text is written or does not fit
-    module _ (passes : verdict (plan_checks (cut net b) plan (length ledger)) ≡ verdicts.Passes) {ledger' : List ℕ} (rows : ledger' ≡ ledger_after (cut net b) plan ledger) where
+    module _ (passes : verdict (plan_checks (cut net b) plan (length ledger)) ≡ Ok tt) {ledger' : List ℕ} (rows : ledger' ≡ ledger_after (cut net b) plan ledger) where
       text-judged : verdict (carry_checks net plan b (length ledger) (length buffer)) ≡ checked (leb (length (carried_text net plan b)) (length buffer)) 32 0 0
       unfolding carry_checks verdict
       text-judged = or-else-passes _ _ within ∙ or-else-passes _ _ passes
 
-      pub text-told : {answer : TextAnswer} {buffer' : List ℕ} → Told (carried_text net plan b) (room_verdict 32 (carried_text net plan b) buffer) buffer answer buffer'
+      pub text-told : {answer : (Result ℕ Refusal)} {buffer' : List ℕ} → Told (carried_text net plan b) (room_verdict 32 (carried_text net plan b) buffer) buffer answer buffer'
           → CarryGot network_text plan_text b ledger ledger' buffer buffer' answer
       unfolding carry_on carry_ledger carry_buffer
       text-told t = record { told = rw text-judged t.answered; rows = rw within rows; holds = rw text-judged t.holds }
@@ -111,7 +107,7 @@ module _ (network_text plan_text : List ℕ) (b : ℕ) (buffer : List ℕ) {read
   is-valid : Hold (network_checks network)
   is-valid = a.loaded.holds
 
-  within-plan : verdict (boundary_checks network b) ≡ verdicts.Passes
+  within-plan : verdict (boundary_checks network b) ≡ Ok tt
   within-plan = boundary-passes network b is-valid a.first a.last
 
   empty-first : length plan_text ≡ 0 → first ≡ meant (cut network b) []
@@ -140,7 +136,7 @@ module _ (network_text plan_text : List ℕ) (b : ℕ) (buffer : List ℕ) {read
   judged = cut-judged network b is-valid a.first a.last whole first same (length ledger) ∙ or-else-passes _ _ (checked-passes _ 8 0 0 enough)
 
   -- the rows up to n are all that are due
-  rows_are : {ledger' : List ℕ} (n : ℕ) → n ≤ b → ((m : ℕ) → m < n → verdict (line_checks network whole m) ≡ verdicts.Passes) → (RowDue (cut network b) first (length ledger) (suc n) → ⊥)
+  rows_are : {ledger' : List ℕ} (n : ℕ) → n ≤ b → ((m : ℕ) → m < n → verdict (line_checks network whole m) ≡ Ok tt) → (RowDue (cut network b) first (length ledger) (suc n) → ⊥)
       → ledger' ≡ written network whole ledger (suc n) → ledger' ≡ ledger_after (cut network b) first ledger
   unfolding ledger_after
   rows_are n h passed last rows =
@@ -163,17 +159,17 @@ module _ (network_text plan_text : List ℕ) (b : ℕ) (buffer : List ℕ) {read
 
   module _ {taken : Taken} {signals waiting ledger' : List ℕ} (got : steps.StepsGot network_text plan_text ledger b taken signals waiting ledger') where
     -- a step is refused
-    pub step-refused : {r : Refusal} → taken.verdict ≡ verdicts.Refused r → CarryGot network_text plan_text b ledger ledger' buffer buffer (Refused r)
+    pub step-refused : {r : Refusal} → taken.verdict ≡ Err r → CarryGot network_text plan_text b ledger ledger' buffer buffer (Err r)
     step-refused {r} e =
         let s = got.stopped r e in
-        let stops : verdict (each b (line_checks network whole)) ≡ verdicts.Refused r =
+        let stops : verdict (each b (line_checks network whole)) ≡ Err r =
         unfold verdict in first-stop (λ m. verdict (line_checks network whole m)) b s.step r s.passed s.within s.refused in
         plan-refused network_text plan_text b ledger buffer within-plan (judged ∙ or-else-refused _ _ r stops)
         (rows_are s.step (omega (arith, s.within)) s.passed
         (λ d. refused-fails (line_checks network whole s.step) r s.refused ((due-of-cut network b is-valid a.first a.last whole first same (length ledger) (suc s.step) d).2 s.step (omega arith)))
         s.rows)
 
-    module _ (p : taken.verdict ≡ verdicts.Passes) where
+    module _ (p : taken.verdict ≡ Ok tt) where
       all : steps.AllTaken network_text plan_text ledger b taken.state signals waiting ledger'
       all = got.reached p
 
@@ -192,7 +188,7 @@ module _ (network_text plan_text : List ℕ) (b : ℕ) (buffer : List ℕ) {read
             ∙ sym (eq-eqb _ _ (ap length (empty-first (omega arith)) ∙ held-count))
       ]
 
-      pub more-lines : at_end plan_text taken.state.plan_at ≡ false → CarryGot network_text plan_text b ledger ledger' buffer buffer (Refused (refusal 9 (b + 1) 0))
+      pub more-lines : at_end plan_text taken.state.plan_at ≡ false → CarryGot network_text plan_text b ledger ledger' buffer buffer (Err (refusal 9 (b + 1) 0))
       more-lines e =
           let v = lines-judged ∙ checked_refused _ 9 (suc b) 0 (sym at-end ∙ e) in
           rw (add-one b) (plan-refused network_text plan_text b ledger buffer within-plan v rows_all)
@@ -234,7 +230,7 @@ module _ (network_text plan_text : List ℕ) (b : ℕ) (buffer : List ℕ) {read
             stands = stands;
           }
 
-      pub carried-told : at_end plan_text taken.state.plan_at ≡ true → {answer : TextAnswer} {buffer' : List ℕ} → TextWritten network_text b signals waiting ledger' buffer answer buffer'
+      pub carried-told : at_end plan_text taken.state.plan_at ≡ true → {answer : (Result ℕ Refusal)} {buffer' : List ℕ} → TextWritten network_text b signals waiting ledger' buffer answer buffer'
           → CarryGot network_text plan_text b ledger ledger' buffer buffer' answer
       carried-told e text =
           text-told network_text plan_text b ledger buffer within-plan (lines-judged ∙ checked-passes _ 9 (suc b) 0 (sym at-end ∙ e)) rows_all (text first stands)
@@ -244,16 +240,16 @@ module _ (network_text plan_text : List ℕ) (b : ℕ) (ledger buffer : List ℕ
   abbrev found : List Line
   found = lines network_text
 
-  outside : within 1 b (step_count found - 1) ≡ false → CarryGot network_text plan_text b ledger ledger buffer buffer (Refused (refusal 31 0 0))
+  outside : within 1 b (step_count found - 1) ≡ false → CarryGot network_text plan_text b ledger ledger buffer buffer (Err (refusal 31 0 0))
   outside h =
       boundary-refused network_text plan_text b ledger buffer
       (unfold boundary_checks verdict in (or-else-passes _ _ (passes-of-hold (network_checks found) loaded.holds) ∙ checked_refused _ 31 0 0 h))
 
   -- the boundary is below 1, or above K - 1
-  pub too-early : b < 1 → CarryGot network_text plan_text b ledger ledger buffer buffer (Refused (refusal 31 0 0))
+  pub too-early : b < 1 → CarryGot network_text plan_text b ledger ledger buffer buffer (Err (refusal 31 0 0))
   too-early h = outside (unfold within ◌and◌ in rw (lt-leb 1 b h))
 
-  pub too-late : 1 ≤ b → reading.counts.steps ≤ b → CarryGot network_text plan_text b ledger ledger buffer buffer (Refused (refusal 31 0 0))
+  pub too-late : 1 ≤ b → reading.counts.steps ≤ b → CarryGot network_text plan_text b ledger ledger buffer buffer (Err (refusal 31 0 0))
   too-late o h = outside (unfold within ◌and◌ in rw (le-leb 1 b o, lt-leb b (step_count found - 1) (omega (arith, loaded.counted.steps))))
 
   module _ (o : 1 ≤ b) (u : b < reading.counts.steps) where
@@ -264,7 +260,7 @@ module _ (network_text plan_text : List ℕ) (b : ℕ) (ledger buffer : List ℕ
     needed = rw (loaded.counted.links, add-one)
 
     -- the ledger is too short for the rows up to it
-    pub ledger-short : length ledger < 2 * (b + 1) * reading.counts.links → CarryGot network_text plan_text b ledger ledger buffer buffer (Refused (refusal 8 0 0))
+    pub ledger-short : length ledger < 2 * (b + 1) * reading.counts.links → CarryGot network_text plan_text b ledger ledger buffer buffer (Err (refusal 8 0 0))
     ledger-short h =
         let few : length ledger < 2 * suc b * link_count found = rw needed at h in
         let plan = planned_on found b plan_text in
@@ -276,13 +272,13 @@ module _ (network_text plan_text : List ℕ) (b : ℕ) (ledger buffer : List ℕ
     asked h table = record { loaded = loaded; signal-table = table; first = o; last = last; room = rw needed at h }
 
 -- a network's refusal
-pub network-refused : (network_text plan_text : List ℕ) (b : ℕ) (ledger buffer : List ℕ) {stage : Stage} {Held : Reading → Type 0} {r : Refusal} → Judged (network_checks (lines network_text)) Held stage
-    → stage ≡ stages.Refused r → CarryGot network_text plan_text b ledger ledger buffer buffer (Refused r)
+pub network-refused : (network_text plan_text : List ℕ) (b : ℕ) (ledger buffer : List ℕ) {stage : (Result Reading Refusal)} {Held : Reading → Type 0} {r : Refusal} → Judged (network_checks (lines network_text)) Held stage
+    → stage ≡ Err r → CarryGot network_text plan_text b ledger ledger buffer buffer (Err r)
 network-refused network_text plan_text b ledger buffer {r = r} got e =
     boundary-refused network_text plan_text b ledger buffer (unfold boundary_checks verdict in or-else-refused _ _ r (verdict-refused got e))
 
 -- the call's whole promise
-pub promised : {network_text plan_text : List ℕ} {b : ℕ} {ledger ledger' buffer buffer' : List ℕ} {answer : TextAnswer} → CarryGot network_text plan_text b ledger ledger' buffer buffer' answer
+pub promised : {network_text plan_text : List ℕ} {b : ℕ} {ledger ledger' buffer buffer' : List ℕ} {answer : (Result ℕ Refusal)} → CarryGot network_text plan_text b ledger ledger' buffer buffer' answer
     → CarriedOn (lines network_text) (planned_on (lines network_text) b plan_text) b ledger ledger' buffer buffer' answer
     × PaddingIgnored network_text (λ padded_network. PaddingIgnored plan_text (λ padded_plan. CarryGot padded_network padded_plan b ledger ledger' buffer buffer' answer))
 promised {network_text} {plan_text} {b} {ledger} {buffer = buffer} got = (

@@ -26,7 +26,6 @@ use Rattle.network_tables.specs.Fields.{table_signal, past_size, entered_at, lef
 use Rattle.network_tables.proofs.Tables.{capacity-at, travel-time-at, exit-rate-at, signal-of-at, phase-mask-at, standing-at, from-link-at, to-link-at, rate-at, share-at}
 use Rattle.model_text.specs.NetworkText.{count_numbers, network_text}
 use Rattle.model_text.proofs.Formed.{Formed, formed-of-holds}
-use Rattle.model_text.specs.declared.TextAnswer.TheVariants.{Written, Refused}
 use Rattle.model_carry.specs.Part.{clipped, signal_numbers, link_numbers, movement_numbers, past_numbers, step_numbers, part, carried_text}
 use Rattle.model_carry.proofs.Clipped.{clipped-length}
 use Rattle.network_writer.specs.declared.Places.{Places}
@@ -38,6 +37,7 @@ use Rattle.carry.specs.Rows.{count_row, link_row, movement_row, volumes_in, Copi
 use Rattle.carry.specs.Trams.{TramsAsked}
 use Rattle.carry.specs.Carried.{StandsAt, CarryAsked, TextPut, TextWritten}
 use Rattle.base_laws.proofs.Sums.{joined_same}
+use Rattle.std.specs.Prelude.{Ok, Err}
 
 -- ---- lists and texts
 list-first : (n : ℕ) (f : ℕ → ℕ) → list (1 + n) f ≡ f 0 ∷ list n (λ k. f (1 + k))
@@ -314,8 +314,8 @@ module _ {text : List ℕ} {reading : Reading} {b : ℕ} {signals links movement
 
 -- ---- the text is measured, and then written if there is room
 module _ (text : List ℕ) {b : ℕ} {signals waiting ledger none none' old : List ℕ} {size : ℕ} (p : TextPut text b signals waiting ledger none none' size) where
-  pub short-written : length old < size → {q : Refusal} → q ≡ refusal 32 0 0 → TextWritten text b signals waiting ledger old (Refused q) old
+  pub short-written : length old < size → {q : Refusal} → q ≡ refusal 32 0 0 → TextWritten text b signals waiting ledger old (Err q) old
   short-written h e plan s = told-short (p plan s) 32 h e
 
-  pub whole-written : size ≤ length old → {new : List ℕ} {again : ℕ} → TextPut text b signals waiting ledger old new again → TextWritten text b signals waiting ledger old (Written size) new
+  pub whole-written : size ≤ length old → {new : List ℕ} {again : ℕ} → TextPut text b signals waiting ledger old new again → TextWritten text b signals waiting ledger old (Ok size) new
   whole-written h q plan s = told-whole (p plan s) 32 h (q plan s)

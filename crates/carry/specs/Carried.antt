@@ -1,5 +1,5 @@
 -- What the writing of a carried network asks and promises.
-use Rattle.std.specs.Prelude.{ℕ, suc, ◌*◌, ◌≤◌, ◌<◌, ◌≡◌, List, length, get_or}
+use Rattle.std.specs.Prelude.{ℕ, suc, ◌*◌, ◌≤◌, ◌<◌, ◌≡◌, List, length, get_or, Result}
 use Rattle.base_search.specs.Checks.{Hold}
 use Rattle.text_reader.specs.Lines.{Line, lines}
 use Rattle.text_reader.specs.Reading.{Starts}
@@ -10,10 +10,10 @@ use Rattle.model.specs.Calls.{written}
 use Rattle.network_tables.specs.declared.Reading.{Reading}
 use Rattle.network_tables.specs.Fields.{signal_table_size, table_signal}
 use Rattle.network_tables.specs.Tables.{CountsHold, LinkTable, MovementTable}
-use Rattle.model_text.specs.declared.TextAnswer.{TextAnswer}
 use Rattle.model_text.specs.Answers.{room_verdict, Told}
 use Rattle.model_carry.specs.Part.{carried_text}
 use Rattle.network_writer.specs.Put.{PutWhole}
+use Rattle.base_search.specs.declared.Refusal.{Refusal}
 
 -- the signals, those who wait, and the ledger's rows at boundary b of a plan
 pub record StandsAt (network plan : List Line) (b : ℕ) (signals waiting ledger : List ℕ) : Type 0 where
@@ -43,7 +43,7 @@ TextPut text b signals waiting ledger old new size =
     (plan : List Line) → StandsAt (lines text) plan b signals waiting ledger → PutWhole (carried_text (lines text) plan b) old new size
 
 -- it was written over the beginning of the buffer, or the buffer is too short (32)
-abbrev pub TextWritten : List ℕ → ℕ → List ℕ → List ℕ → List ℕ → List ℕ → TextAnswer → List ℕ → Type 0
+abbrev pub TextWritten : List ℕ → ℕ → List ℕ → List ℕ → List ℕ → List ℕ → Result ℕ Refusal → List ℕ → Type 0
 TextWritten text b signals waiting ledger old answer new =
     (plan : List Line) → StandsAt (lines text) plan b signals waiting ledger
     → Told (carried_text (lines text) plan b) (room_verdict 32 (carried_text (lines text) plan b) old) old answer new

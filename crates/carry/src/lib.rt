@@ -23,11 +23,10 @@ ghost use Rattle.carry.specs.Rows.{count_row, link_row, movement_row, volumes_in
 ghost use Rattle.carry.specs.Carried.{CarryAsked, TextPut, TextWritten};
 ghost use Rattle.carry.specs.Trams.{left_of, TramsAsked};
 
-use base_search::{Refusal, Verdict};
-use model_text::TextAnswer;
+use base_search::Refusal;
 use network_tables::{
     Counts, LINK_TABLE_SIZE, MAX_LINKS, MOVEMENT_TABLE_SIZE, PAST_SIZE, Reading, SIGNAL_FIELDS,
-    SIGNAL_TABLE_SIZE, Stage, TIME_TABLE_SIZE, TRAM_FIELDS,
+    SIGNAL_TABLE_SIZE, TIME_TABLE_SIZE, TRAM_FIELDS,
 };
 use network_writer::Places;
 
@@ -309,7 +308,7 @@ fn write_carried(
     waiting: &[u32],
     ledger: &[u32],
     out: &mut [u8],
-) -> TextAnswer
+) -> Result<usize, Refusal>
     requires { CarryAsked network.now reading boundary signals.now links.now movements.now waiting.now ledger.now }
     ensures { TextWritten network.now boundary signals.now waiting.now ledger.now out.old result out.new }
 {
@@ -326,12 +325,12 @@ fn write_carried(
         &mut nowhere,
     );
     if out.len() < length {
-        return TextAnswer::Refused(Refusal::new(32, 0, 0));
+        return Err(Refusal::new(32, 0, 0));
     }
     put_network(
         network, reading, boundary, signals, links, movements, waiting, ledger, out,
     );
-    TextAnswer::Written(length)
+    Ok(length)
 }
 
 // Takes the plan's steps up to the boundary, and writes the text from there on: 9 for a line behind them, and 32 last.
@@ -346,7 +345,7 @@ fn carry_steps(
     signals: &mut [u32],
     ledger: &mut [u32],
     carried: &mut [u8],
-) -> TextAnswer
+) -> Result<usize, Refusal>
     requires { StepsAsked network.now boundary reading links.now movements.now times.now signals.old ledger.old }
     ensures { CarryGot network.now plan.now boundary ledger.old ledger.new carried.old carried.new result }
 {
@@ -364,11 +363,11 @@ fn carry_steps(
         ledger,
     );
     let verdict = taken.verdict;
-    if let Verdict::Refused(refusal) = verdict {
-        return TextAnswer::Refused(refusal);
+    if let Err(refusal) = verdict {
+        return Err(refusal);
     }
     if !text_reader::is_end(plan, taken.state.plan_at) {
-        return TextAnswer::Refused(Refusal::new(9, boundary + 1, 0));
+        return Err(Refusal::new(9, boundary + 1, 0));
     }
     write_carried(
         network, reading, boundary, signals, links, movements, &waiting, ledger, carried,
@@ -387,19 +386,19 @@ fn carry_from(
     signals: &mut [u32],
     ledger: &mut [u32],
     carried: &mut [u8],
-) -> TextAnswer
+) -> Result<usize, Refusal>
     requires { LoadedWithSignals network.now signals.old links.now movements.now times.now reading }
     ensures { CarryGot network.now plan.now boundary ledger.old ledger.new carried.old carried.new result }
 {
     let counts = reading.counts;
     if boundary < 1 {
-        return TextAnswer::Refused(Refusal::new(31, 0, 0));
+        return Err(Refusal::new(31, 0, 0));
     }
     if counts.steps <= boundary {
-        return TextAnswer::Refused(Refusal::new(31, 0, 0));
+        return Err(Refusal::new(31, 0, 0));
     }
     if ledger.len() < 2 * (boundary + 1) * counts.links {
-        return TextAnswer::Refused(Refusal::new(8, 0, 0));
+        return Err(Refusal::new(8, 0, 0));
     }
     carry_steps(
         network, boundary, plan, reading, links, movements, times, signals, ledger, carried,
@@ -414,7 +413,7 @@ pub fn carry_on(
     plan: &[u8],
     ledger: &mut [u32],
     carried: &mut [u8],
-) -> TextAnswer
+) -> Result<usize, Refusal>
     ensures carried_on { CarriedOn (lines network.now) (planned_on (lines network.now) boundary plan.now) boundary ledger.old ledger.new carried.old carried.new result }
     ensures padding_ignored { PaddingIgnored network.now (λ padded_network. PaddingIgnored plan.now (λ padded_plan. CarryGot padded_network padded_plan boundary ledger.old ledger.new carried.old carried.new result)) }
 {
@@ -429,8 +428,8 @@ pub fn carry_on(
         &mut movements,
         &mut times,
     ) {
-        Stage::Refused(refusal) => TextAnswer::Refused(refusal),
-        Stage::Passed(reading) => carry_from(
+        Err(refusal) => Err(refusal),
+        Ok(reading) => carry_from(
             network,
             network_tables::index(boundary),
             plan,

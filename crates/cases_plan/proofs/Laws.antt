@@ -3,12 +3,8 @@ use Rattle.base_laws.proofs.Kit.{ℕ, ◌≡◌, ap, sym, ◌∙◌, Bool, true,
 use Rattle.text_reader.specs.Lines.{lines}
 use Rattle.model.specs.Hold.{plan_of}
 use Rattle.model.specs.Calls.{check_network, check_plan, ledger_after, link_state}
-use Rattle.base_search.specs.declared.Verdict.{Verdict}
-use Rattle.model.specs.declared.PlanAnswer.{PlanAnswer}
-use Rattle.model.specs.declared.LinkAnswer.{LinkAnswer}
 use Rattle.listing_lines.specs.Entry.{entries}
 use Rattle.listing_call.specs.ReadsBack.{PlanGot}
-use Rattle.model_text.specs.declared.TextAnswer.{TextAnswer}
 use Rattle.model_carry.specs.Call.{planned_on}
 use Rattle.model_carry.specs.CarriesOn.{CarriedOn}
 use Rattle.model_sheet.specs.Promises.{SheetPromises, WritePromises}
@@ -19,6 +15,11 @@ use Rattle.cases_plan.specs.declared.outcome.Outcome.{Outcome}
 use Rattle.cases_plan.specs.declared.stored.Question.{Question}
 use Rattle.cases_plan.specs.Checksum.{checksum_of}
 use Rattle.cases_plan.specs.Compare.{writes_text, text_answer, text_ledger, text_buffer, plan_answer, plan_ledger, buffer_to, answer_to, ledger_to, second_ledger_to, checksum_to, as_stored}
+use Rattle.std.specs.Prelude.{Result}
+use Rattle.model.specs.declared.LinkState.{LinkState}
+use Rattle.base_search.specs.declared.Refusal.{Refusal}
+use Rattle.model.specs.declared.Totals.{Totals}
+use Rattle.base_search.specs.Checks.{Verdict}
 
 module _ (network plan ledger buffer : List ℕ) (question : Question) where
   -- what is given and left is what the definitions say, where a text is written
@@ -28,19 +29,19 @@ module _ (network plan ledger buffer : List ℕ) (question : Question) where
       × ((left ≡ text_ledger network plan ledger question) × (written ≡ text_buffer network plan ledger buffer question))
 
   pub answered-listing :
-      (r : Outcome) {answer : TextAnswer} (after : List ℕ) → question.call ≡ 4
+      (r : Outcome) {answer : (Result ℕ Refusal)} (after : List ℕ) → question.call ≡ 4
       → PlanGot (lines network) (entries plan) buffer answer after → r ≡ text_outcome answer → TextAnswered r ledger after
   unfolding text_answer text_ledger text_buffer
   answered-listing r after h g e = (rw h (e ∙ ap text_outcome g.told), (rw h, rw h g.holds))
 
   pub answered-written :
-      (r : Outcome) {answer : TextAnswer} (after : List ℕ) → question.call ≡ 7
+      (r : Outcome) {answer : (Result ℕ Refusal)} (after : List ℕ) → question.call ≡ 7
       → WritePromises (lines network) (lines plan) buffer answer after → r ≡ text_outcome answer → TextAnswered r ledger after
   unfolding text_answer text_ledger text_buffer
   answered-written r after h g e = (rw h (e ∙ ap text_outcome g.told), (rw h, rw h g.holds))
 
   pub answered-carry :
-      (r : Outcome) {answer : TextAnswer} (left written : List ℕ) → (question.call ≡ 4 → ⊥) → (question.call ≡ 7 → ⊥)
+      (r : Outcome) {answer : (Result ℕ Refusal)} (left written : List ℕ) → (question.call ≡ 4 → ⊥) → (question.call ≡ 7 → ⊥)
       → CarriedOn (lines network) (planned_on (lines network) question.boundary plan) question.boundary ledger left buffer written answer
       → r ≡ text_outcome answer → TextAnswered r left written
   unfolding text_answer text_ledger text_buffer
@@ -60,20 +61,20 @@ module _ (network plan second ledger : List ℕ) (question : Question) where
   answered-network r h a e = (rw h (e ∙ ap network_outcome a), rw h)
 
   pub answered-plan :
-      (r : Outcome) {answer : PlanAnswer} (after : List ℕ) → question.call ≡ 2
+      (r : Outcome) {answer : (Result Totals Refusal)} (after : List ℕ) → question.call ≡ 2
       → answer ≡ check_plan (lines network) (plan_of network plan) (length ledger) → after ≡ ledger_after (lines network) (plan_of network plan) ledger
       → r ≡ plan_outcome answer → PlanAnswered r after
   unfolding plan_answer plan_ledger
   answered-plan r after h a l e = (rw h (e ∙ ap plan_outcome a), rw h l)
 
   pub answered-sheet :
-      (r : Outcome) {answer : PlanAnswer} (after : List ℕ) → question.call ≡ 6
+      (r : Outcome) {answer : (Result Totals Refusal)} (after : List ℕ) → question.call ≡ 6
       → SheetPromises (lines network) (lines second) (plan_of network plan) ledger after answer → r ≡ plan_outcome answer → PlanAnswered r after
   unfolding plan_answer plan_ledger
   answered-sheet r after h g e = (rw h (e ∙ ap plan_outcome g.told), rw h g.rows)
 
   pub answered-link :
-      (r : Outcome) {answer : LinkAnswer} → (question.call ≡ 1 → ⊥) → (question.call ≡ 2 → ⊥) → (question.call ≡ 6 → ⊥)
+      (r : Outcome) {answer : (Result LinkState Refusal)} → (question.call ≡ 1 → ⊥) → (question.call ≡ 2 → ⊥) → (question.call ≡ 6 → ⊥)
       → answer ≡ link_state (lines network) ledger question.boundary question.link → r ≡ link_outcome answer → PlanAnswered r ledger
   unfolding plan_answer plan_ledger
   answered-link r one two six a e =

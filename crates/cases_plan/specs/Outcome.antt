@@ -1,42 +1,37 @@
 -- The answers of the calls in the stored form.
-use Rattle.std.specs.Prelude.{ℕ, suc, ◌-◌, ◌^◌, Bool, ◌&&◌, ℤ, pos, negsuc, ◌==◌}
+use Rattle.std.specs.Prelude.{ℕ, suc, ◌-◌, ◌^◌, Bool, ◌&&◌, ℤ, pos, negsuc, ◌==◌, Result, Ok, Err}
 use Rattle.base_search.specs.declared.Refusal.{Refusal}
-use Rattle.base_search.specs.declared.Verdict.{Verdict}
-use Rattle.base_search.specs.declared.Verdict.TheVariants as verdict
-use Rattle.model.specs.declared.PlanAnswer.{PlanAnswer}
-use Rattle.model.specs.declared.PlanAnswer.TheVariants as plan-answer
-use Rattle.model.specs.declared.LinkAnswer.{LinkAnswer}
-use Rattle.model.specs.declared.LinkAnswer.TheVariants as link-answer
-use Rattle.model_text.specs.declared.TextAnswer.{TextAnswer}
-use Rattle.model_text.specs.declared.TextAnswer.TheVariants as text-answer
 use Rattle.plan_compare.specs.declared.Order.{Order}
 use Rattle.plan_compare.specs.declared.Order.TheVariants.{Ahead, Behind, Equal, Crossing}
 use Rattle.plan_compare.specs.declared.ComparisonAnswer.{ComparisonAnswer}
 use Rattle.plan_compare.specs.declared.ComparisonAnswer.TheVariants as comparison-answer
 use Rattle.cases_plan.specs.declared.outcome.Outcome.{Outcome}
+use Rattle.model.specs.declared.LinkState.{LinkState}
+use Rattle.model.specs.declared.Totals.{Totals}
+use Rattle.base_search.specs.Checks.{Verdict}
 
 abbrev pub refused_outcome : Refusal → Outcome
 refused_outcome r = record { kind = 3; first = r.number; second = r.line; third = r.item; fourth = 0 }
 
 abbrev pub network_outcome : Verdict → Outcome
-network_outcome verdict.Passes = record { kind = 0; first = 0; second = 0; third = 0; fourth = 0 }
-network_outcome (verdict.Refused r) = refused_outcome r
+network_outcome (Ok tt) = record { kind = 0; first = 0; second = 0; third = 0; fourth = 0 }
+network_outcome (Err r) = refused_outcome r
 
-abbrev pub plan_outcome : PlanAnswer → Outcome
-plan_outcome (plan-answer.Accepted t) =
+abbrev pub plan_outcome : Result Totals Refusal → Outcome
+plan_outcome (Ok t) =
     record { kind = 1; first = t.admitted; second = t.let_out; third = t.inside; fourth = t.doubled_time }
-plan_outcome (plan-answer.Refused r) = refused_outcome r
+plan_outcome (Err r) = refused_outcome r
 
-abbrev pub link_outcome : LinkAnswer → Outcome
-link_outcome (link-answer.State queued transit) = record { kind = 2; first = queued; second = transit; third = 0; fourth = 0 }
-link_outcome (link-answer.Refused r) = refused_outcome r
+abbrev pub link_outcome : Result LinkState Refusal → Outcome
+link_outcome (Ok state) = record { kind = 2; first = state.queued; second = state.in_transit; third = 0; fourth = 0 }
+link_outcome (Err r) = refused_outcome r
 
 abbrev pub written_outcome : ℕ → Outcome
 written_outcome length = record { kind = 4; first = length; second = 0; third = 0; fourth = 0 }
 
-abbrev pub text_outcome : TextAnswer → Outcome
-text_outcome (text-answer.Written length) = written_outcome length
-text_outcome (text-answer.Refused r) = refused_outcome r
+abbrev pub text_outcome : Result ℕ Refusal → Outcome
+text_outcome (Ok length) = written_outcome length
+text_outcome (Err r) = refused_outcome r
 
 abbrev pub modulo64 : ℤ → ℕ
 modulo64 (pos n) = n

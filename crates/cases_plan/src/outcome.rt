@@ -2,9 +2,8 @@
 ghost use Rattle.std.specs.Prelude.{◌≡◌};
 ghost use Rattle.cases_plan.specs.Outcome.{refused_outcome, network_outcome, plan_outcome, link_outcome, written_outcome, text_outcome, modulo64, order_number, comparison_outcome, same_outcome};
 
-use base_search::{Refusal, Verdict};
-use model::{LinkAnswer, PlanAnswer};
-use model_text::TextAnswer;
+use base_search::Refusal;
+use model::{LinkAnswer, LinkState, Totals};
 use plan_compare::{ComparisonAnswer, Order};
 
 // The kind is 0 for a network accepted, 1 for a plan accepted, 2 for a state, 3 for a refusal, 4 for a text written, 5 for two plans compared;
@@ -31,48 +30,48 @@ fn refused(refusal: Refusal) -> Outcome
     }
 }
 
-pub fn of_network(verdict: Verdict) -> Outcome
+pub fn of_network(verdict: Result<(), Refusal>) -> Outcome
     ensures { result ≡ network_outcome verdict }
 {
     match verdict {
-        Verdict::Passes => Outcome {
+        Ok(()) => Outcome {
             kind: 0,
             first: 0,
             second: 0,
             third: 0,
             fourth: 0,
         },
-        Verdict::Refused(refusal) => refused(refusal),
+        Err(refusal) => refused(refusal),
     }
 }
 
-pub fn of_plan(answer: PlanAnswer) -> Outcome
+pub fn of_plan(answer: Result<Totals, Refusal>) -> Outcome
     ensures { result ≡ plan_outcome answer }
 {
     match answer {
-        PlanAnswer::Accepted(totals) => Outcome {
+        Ok(totals) => Outcome {
             kind: 1,
             first: totals.admitted,
             second: totals.let_out,
             third: totals.inside,
             fourth: totals.doubled_time,
         },
-        PlanAnswer::Refused(refusal) => refused(refusal),
+        Err(refusal) => refused(refusal),
     }
 }
 
-pub fn of_link(answer: LinkAnswer) -> Outcome
+pub fn of_link(answer: Result<LinkState, Refusal>) -> Outcome
     ensures { result ≡ link_outcome answer }
 {
     match answer {
-        LinkAnswer::State { queued, in_transit } => Outcome {
+        LinkState { queued, in_transit } => Outcome {
             kind: 2,
             first: queued as u64,
             second: in_transit as u64,
             third: 0,
             fourth: 0,
         },
-        LinkAnswer::Refused(refusal) => refused(refusal),
+        Err(refusal) => refused(refusal),
     }
 }
 
@@ -88,12 +87,12 @@ fn written(length: usize) -> Outcome
     }
 }
 
-pub fn of_text(answer: TextAnswer) -> Outcome
+pub fn of_text(answer: Result<usize, Refusal>) -> Outcome
     ensures { result ≡ text_outcome answer }
 {
     match answer {
-        TextAnswer::Written(length) => written(length),
-        TextAnswer::Refused(refusal) => refused(refusal),
+        Ok(length) => written(length),
+        Err(refusal) => refused(refusal),
     }
 }
 

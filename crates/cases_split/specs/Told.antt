@@ -1,21 +1,19 @@
 -- The answer of a split and its texts in the stored form.
-use Rattle.std.specs.Prelude.{ℕ, ◌+◌, Bool, ◌&&◌, List, eqb, leb, length, get_or}
+use Rattle.std.specs.Prelude.{ℕ, ◌+◌, Bool, ◌&&◌, List, eqb, leb, length, get_or, Result, Ok, Err}
 use Rattle.base_search.specs.declared.Refusal.{Refusal}
 use Rattle.base_search.specs.Checks.{refusal}
 use Rattle.model_split.specs.declared.Lengths.{Lengths}
-use Rattle.model_split.specs.declared.SplitAnswer.{SplitAnswer}
-use Rattle.model_split.specs.declared.SplitAnswer.TheVariants.{Written, Refused}
 use Rattle.cases_files.specs.Below.{all_below}
 
 -- a refusal, or one of the number 0 where the texts are written
-abbrev pub refusal_of : SplitAnswer → Refusal
-refusal_of (Written end) = refusal 0 0 0
-refusal_of (Refused r) = r
+abbrev pub refusal_of : Result Lengths Refusal → Refusal
+refusal_of (Ok end) = refusal 0 0 0
+refusal_of (Err r) = r
 
 -- how long the texts are that were written; 0 where the call is refused
-abbrev pub lengths_of : SplitAnswer → Lengths
-lengths_of (Written end) = end
-lengths_of (Refused r) = record { network_1 = 0; plan_1 = 0; network_2 = 0; plan_2 = 0 }
+abbrev pub lengths_of : Result Lengths Refusal → Lengths
+lengths_of (Ok end) = end
+lengths_of (Err r) = record { network_1 = 0; plan_1 = 0; network_2 = 0; plan_2 = 0 }
 
 abbrev pub same_lengths : Lengths → Lengths → Bool
 same_lengths one other =

@@ -8,13 +8,14 @@ use crate::told::{FOUR_ROOMS, ROOM, Stored};
 use crate::{counts, told};
 use cases_files::numbers::number_at;
 use cases_files::{reading, refusals, tally};
-use model_split::{Lengths, SplitAnswer};
+use model_split::Lengths;
 use std::io::Read;
+use base_search::Refusal;
 
 // Whether the answer, and every byte of the four buffers after the call, are what was stored. Where they are not, the refusals are printed.
 fn is_as_stored(
     rt: &impl Print,
-    answer: SplitAnswer,
+    answer: Result<Lengths, Refusal>,
     stored: Stored,
     network_1: &[u8],
     plan_1: &[u8],

@@ -5,7 +5,7 @@ ghost use Rattle.cases_split.specs.Told.{refusal_of, lengths_of, same_lengths, h
 use base_search::Refusal;
 use cases_files::numbers::number_at;
 use cases_files::reading;
-use model_split::{Lengths, SplitAnswer};
+use model_split::Lengths;
 use std::io::Read;
 
 // Room for every text and buffer of the stored cases, and for the four that a split leaves.
@@ -30,26 +30,26 @@ pub struct Stored {
 }
 
 // What the library answers: a refusal, or one of the number 0 where the texts are written.
-pub fn refusal_of(answer: SplitAnswer) -> Refusal
+pub fn refusal_of(answer: Result<Lengths, Refusal>) -> Refusal
     ensures { result ≡ refusal_of answer }
 {
     match answer {
-        SplitAnswer::Written(lengths) => Refusal {
+        Ok(lengths) => Refusal {
             number: 0,
             line: 0,
             item: 0,
         },
-        SplitAnswer::Refused(refusal) => refusal,
+        Err(refusal) => refusal,
     }
 }
 
 // How long the texts are that were written; 0 where the call is refused.
-pub fn lengths_of(answer: SplitAnswer) -> Lengths
+pub fn lengths_of(answer: Result<Lengths, Refusal>) -> Lengths
     ensures { result ≡ lengths_of answer }
 {
     match answer {
-        SplitAnswer::Written(lengths) => lengths,
-        SplitAnswer::Refused(refusal) => Lengths {
+        Ok(lengths) => lengths,
+        Err(refusal) => Lengths {
             network_1: 0,
             plan_1: 0,
             network_2: 0,

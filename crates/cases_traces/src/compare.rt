@@ -4,7 +4,7 @@ ghost use Rattle.traces.specs.Call.{step_vehicles, places_after};
 ghost use Rattle.cases_traces.specs.Compare.{refusal_of, as_stored};
 
 use crate::values;
-use base_search::{Refusal, Verdict};
+use base_search::Refusal;
 use cases_files::numbers::{long_number_at, number_at};
 use cases_files::refusals::COUNTERS;
 use cases_files::{reading, refusals, tally};
@@ -14,16 +14,16 @@ use std::io::Read;
 const ROOM: usize = 80;
 
 // What the library answers: a refusal, or one of the number 0 where nothing is refused.
-fn refusal_of(verdict: Verdict) -> Refusal
+fn refusal_of(verdict: Result<(), Refusal>) -> Refusal
     ensures { result ≡ refusal_of verdict }
 {
     match verdict {
-        Verdict::Passes => Refusal {
+        Ok(()) => Refusal {
             number: 0,
             line: 0,
             item: 0,
         },
-        Verdict::Refused(refusal) => refusal,
+        Err(refusal) => refusal,
     }
 }
 

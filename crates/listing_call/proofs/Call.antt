@@ -1,9 +1,7 @@
 -- The stages of the call.
 use Rattle.base_laws.proofs.Kit.{ℕ, zero, suc, ◌+◌, ◌-◌, ◌≡◌, refl, sym, ap, ◌∙◌, List, add-one, arith, rules, length, get_or, take, replicate, length-replicate}
 use Rattle.base_search.specs.declared.Refusal.{Refusal}
-use Rattle.base_search.specs.declared.Verdict.{Verdict}
-use Rattle.base_search.specs.declared.Verdict.TheVariants as verdicts
-use Rattle.base_search.specs.Checks.{each, or_else, verdict, Hold}
+use Rattle.base_search.specs.Checks.{each, or_else, verdict, Hold, Verdict}
 use Rattle.base_search.specs.Numbers.{is_one_of, CanArise}
 use Rattle.base_search.proofs.Laws.{hold-of-passes, passes-of-hold, or-else-first, or-else-passes, or-else-refused}
 use Rattle.base_search.proofs.Numbers.{Numbered, refused-number, all_of}
@@ -18,8 +16,6 @@ use Rattle.model.proofs.Limits.{step-limits}
 use Rattle.model.proofs.Numbers.{network-among}
 use Rattle.network_tables.specs.declared.Counts.{Counts}
 use Rattle.network_tables.specs.declared.Reading.{Reading}
-use Rattle.network_tables.specs.declared.Stage.{Stage}
-use Rattle.network_tables.specs.declared.Stage.TheVariants as stages
 use Rattle.network_tables.specs.Fields.{signal_table_size, line_size}
 use Rattle.network_tables.specs.Blocks.{block_checks, signal_block}
 use Rattle.network_tables.specs.Tables.{stage_verdict, moved_to, Judged, PhaseTable}
@@ -27,8 +23,6 @@ use Rattle.network_signals.specs.Stages.{SignalsAsked, SignalsHeld}
 use Rattle.network.specs.Loading.{Loaded}
 use Rattle.network.proofs.Rooms.{zeros-size, zeros-blank}
 use Rattle.listing_lines.specs.declared.Entry.{Entry}
-use Rattle.model_text.specs.declared.TextAnswer.{TextAnswer}
-use Rattle.model_text.specs.declared.TextAnswer.TheVariants.{Written, Refused}
 use Rattle.model_text.specs.Answers.{text_answer, bytes_after, room_verdict, Told}
 use Rattle.model_text.proofs.Answers.{refused-of-answer, told-written}
 use Rattle.listing_call.specs.Listing.{listing_numbers, entry_checks_by, listing_checks, plan_text, write_checks, plan_from_listing, buffer_after}
@@ -40,6 +34,7 @@ use Rattle.listing_call.proofs.Theorem.{text-some, text-meant, reads-back}
 use Rattle.step_arrivals.specs.Times.{ShiftAsked, Shifted}
 use Rattle.step_arrivals.proofs.Times.{shift-asked, plan-times}
 use Rattle.listing_call.proofs.Whole.{verdict-same, text_same}
+use Rattle.std.specs.Prelude.{Result, Ok, Err}
 
 -- ---- empty tables
 abbrev zeroes : ℕ → List ℕ
@@ -62,10 +57,10 @@ empty-asked n k counts phases times e f t =
 
 module _ (counts : Counts) (phases times : List ℕ) (listing : List Entry) (v : Verdict) (numbers seen : List ℕ)
     (g : ListingGot (has_in counts phases) (seconds_in times) listing v numbers seen) where
-  pub write_kept : TablesAsked counts phases times → v ≡ verdicts.Passes → PlanAsked numbers line_size counts
+  pub write_kept : TablesAsked counts phases times → v ≡ Ok tt → PlanAsked numbers line_size counts
   write_kept t e = record { few = t.places.few; few-columns = omega arith; room = (g.kept e).number-room }
 
-  pub write-passed : (old : List ℕ) → v ≡ verdicts.Passes → (answer : TextAnswer) (new : List ℕ) → Told (plan_lines numbers line_size counts) (room_verdict 24 (plan_lines numbers line_size counts) old) old answer new → WriteGot counts phases times listing old answer new
+  pub write-passed : (old : List ℕ) → v ≡ Ok tt → (answer : Result ℕ Refusal) (new : List ℕ) → Told (plan_lines numbers line_size counts) (room_verdict 24 (plan_lines numbers line_size counts) old) old answer new → WriteGot counts phases times listing old answer new
   write-passed old e answer new s =
       let told = g.told in
       record {
@@ -73,7 +68,7 @@ module _ (counts : Counts) (phases times : List ℕ) (listing : List Entry) (v :
         passed = λ q. (numbers, seen, g.kept e, s);
       }
 
-  pub write-stopped : (old : List ℕ) (r : Refusal) → v ≡ verdicts.Refused r → WriteGot counts phases times listing old (Refused r) old
+  pub write-stopped : (old : List ℕ) (r : Refusal) → v ≡ Err r → WriteGot counts phases times listing old (Err r) old
   write-stopped old r e =
       let told = g.told in
       record {
@@ -82,15 +77,15 @@ module _ (counts : Counts) (phases times : List ℕ) (listing : List Entry) (v :
       }
 
 -- ---- on a network that has passed
-or-passes : (text old : List ℕ) (answer : TextAnswer) (new : List ℕ) → Told text (room_verdict 24 text old) old answer new → Told text (or_else verdicts.Passes (room_verdict 24 text old)) old answer new
+or-passes : (text old : List ℕ) (answer : Result ℕ Refusal) (new : List ℕ) → Told text (room_verdict 24 text old) old answer new → Told text (or_else (Ok tt) (room_verdict 24 text old)) old answer new
 unfolding or_else
 or-passes text old answer new s = s
 
-or-refused : (text old : List ℕ) (answer : TextAnswer) (new : List ℕ) (r : Refusal) → answer ≡ Refused r → new ≡ old → Told text (or_else (verdicts.Refused r) (room_verdict 24 text old)) old answer new
+or-refused : (text old : List ℕ) (answer : Result ℕ Refusal) (new : List ℕ) (r : Refusal) → answer ≡ Err r → new ≡ old → Told text (or_else (Err r) (room_verdict 24 text old)) old answer new
 unfolding or_else text_answer bytes_after
 or-refused text old answer new r a b = record { answered = a; holds = b }
 
-signals-pass : (network : List Line) → Hold (network_checks network) → verdict (block_checks (signal_block network)) ≡ verdicts.Passes
+signals-pass : (network : List Line) → Hold (network_checks network) → verdict (block_checks (signal_block network)) ≡ Ok tt
 unfolding network_checks Hold
 signals-pass network (counts, (trams, (signals, rest))) = passes-of-hold (block_checks (signal_block network)) (unfold Hold in signals)
 
@@ -104,16 +99,16 @@ module _ (text : List ℕ) (reading : Reading) (times : List ℕ) (a : NetworkAs
   signals-asked first e phases l signals zeros =
       rw e (record { counted = a.counted; trams-start = a.trams-start; starts = a.signals-start; room = l; signal-room = zeros-size zeros; blank = zeros-blank zeros })
 
-  module _ (phases signals : List ℕ) (r : Stage) (g : Judged (block_checks (signal_block (lines text))) (SignalsHeld text phases signals) r) where
-    pub signals-stopped : (listing : List Entry) (old : List ℕ) (q : Refusal) → r ≡ stages.Refused q → ListingWritten (lines text) listing old (Refused q) old
+  module _ (phases signals : List ℕ) (r : Result Reading Refusal) (g : Judged (block_checks (signal_block (lines text))) (SignalsHeld text phases signals) r) where
+    pub signals-stopped : (listing : List Entry) (old : List ℕ) (q : Refusal) → r ≡ Err q → ListingWritten (lines text) listing old (Err q) old
     unfolding stage_verdict
     signals-stopped listing old q e =
-        let v : verdicts.Refused q ≡ verdict (block_checks (signal_block (lines text))) = ap stage_verdict (sym e) ∙ g.told in
+        let v : Err q ≡ verdict (block_checks (signal_block (lines text))) = ap stage_verdict (sym e) ∙ g.told in
         let p = signals-pass (lines text) a.holds in
         let z : ◌≡◌ {A = ℕ} 0 1 = cc in
         absurd (omega arith)
 
-    module _ (next : Reading) (e : r ≡ stages.Passed next) where
+    module _ (next : Reading) (e : r ≡ Ok next) where
       table : PhaseTable (lines text) phases
       table = (g.held next e).phase-table
 
@@ -132,45 +127,45 @@ module _ (text : List ℕ) (reading : Reading) (times : List ℕ) (a : NetworkAs
             short = λ n h. omega (arith, t.holds n (omega (arith, c.steps)), t.holds (n + 1) (omega (arith, c.steps)), time-next (lines text) n, (step-limits (lines text) (valid-network (lines text) a.holds) n (omega (arith, c.steps))).length-limit);
           }
 
-      pub network-written : (listing : List Entry) (old : List ℕ) (answer : TextAnswer) (new : List ℕ) → WriteGot reading.counts phases times listing old answer new → ListingWritten (lines text) listing old answer new
+      pub network-written : (listing : List Entry) (old : List ℕ) (answer : Result ℕ Refusal) (new : List ℕ) → WriteGot reading.counts phases times listing old answer new → ListingWritten (lines text) listing old answer new
       network-written listing old answer new w = go (verdict (listing_checks (lines text) listing)) refl
         where
           same : verdict (each (length listing) (entry_checks_by (has_in reading.counts phases) (seconds_in times) listing)) ≡ verdict (listing_checks (lines text) listing)
           same = verdict-same (lines text) reading.counts phases times a.counted table a.time-table listing
 
           go : (v : Verdict) → verdict (listing_checks (lines text) listing) ≡ v → Told (plan_text (lines text) listing) (or_else v (room_verdict 24 (plan_text (lines text) listing) old)) old answer new
-          go verdicts.Passes q =
+          go (Ok tt) q =
               let k = w.passed (same ∙ q) in
               let t : plan_lines k.0 line_size reading.counts ≡ plan_text (lines text) listing = text_same (lines text) reading.counts phases times a.counted table a.time-table listing k.0 k.1 k.2 in
               or-passes (plan_text (lines text) listing) old answer new (rw t at k.3)
-          go (verdicts.Refused r) q = let s = w.stopped r (same ∙ q) in or-refused (plan_text (lines text) listing) old answer new r s.0 s.1
+          go (Err r) q = let s = w.stopped r (same ∙ q) in or-refused (plan_text (lines text) listing) old answer new r s.0 s.1
 
 -- ---- the whole call
 pub write-numbered : (network : List Line) (listing : List Entry) (size : ℕ) → Numbered listing_numbers (write_checks network listing size)
 unfolding Numbered is_one_of all_of write_checks listing_checks entry_checks_by
 write-numbered network listing size = (network-among network listing_numbers refl, search rules)
 
-answer-number : (network : List Line) (listing : List Entry) (size : ℕ) (r : Refusal) → plan_from_listing network listing size ≡ Refused r → CanArise listing_numbers r.number
+answer-number : (network : List Line) (listing : List Entry) (size : ℕ) (r : Refusal) → plan_from_listing network listing size ≡ Err r → CanArise listing_numbers r.number
 unfolding plan_from_listing
 answer-number network listing size r h =
     refused-number listing_numbers (write_checks network listing size) r (write-numbered network listing size) (refused-of-answer (plan_text network listing) _ r h)
 
-module _ (text : List ℕ) (r : Stage) (links movements times : List ℕ) (g : Judged (network_checks (lines text)) (Loaded text links movements times) r) where
-  pub times-asked : (reading : Reading) → r ≡ stages.Passed reading → ShiftAsked times reading.counts.past reading.counts.steps
+module _ (text : List ℕ) (r : Result Reading Refusal) (links movements times : List ℕ) (g : Judged (network_checks (lines text)) (Loaded text links movements times) r) where
+  pub times-asked : (reading : Reading) → r ≡ Ok reading → ShiftAsked times reading.counts.past reading.counts.steps
   times-asked reading e = let l = g.held reading e in shift-asked l.counted l.holds l.time-table
 
-  pub plan-asked : (reading : Reading) → r ≡ stages.Passed reading → (after : List ℕ) → Shifted times reading.counts.past reading.counts.steps after → NetworkAsked text reading after
+  pub plan-asked : (reading : Reading) → r ≡ Ok reading → (after : List ℕ) → Shifted times reading.counts.past reading.counts.steps after → NetworkAsked text reading after
   plan-asked reading e after s =
       let l = g.held reading e in
       record { counted = l.counted; trams-start = l.trams-start; signals-start = l.signals-start; time-table = plan-times l.counted l.holds l.time-table s; holds = l.holds }
 
   module _ (listing : List Entry) (old : List ℕ) where
-    pub plan-refused : (q : Refusal) → r ≡ stages.Refused q → PlanGot (lines text) listing old (Refused q) old
+    pub plan-refused : (q : Refusal) → r ≡ Err q → PlanGot (lines text) listing old (Err q) old
     unfolding stage_verdict write_checks verdict plan_from_listing buffer_after text_answer bytes_after
     plan-refused q e =
-        let v : verdict (network_checks (lines text)) ≡ verdicts.Refused q = sym g.told ∙ ap stage_verdict e in
+        let v : verdict (network_checks (lines text)) ≡ Err q = sym g.told ∙ ap stage_verdict e in
         let o = or-else-refused (verdict (network_checks (lines text))) (or_else (verdict (listing_checks (lines text) listing)) (room_verdict 24 (plan_text (lines text) listing) old)) q v in
-        let t : Refused q ≡ plan_from_listing (lines text) listing (length old) = sym (ap (text_answer (plan_text (lines text) listing)) o) in
+        let t : Err q ≡ plan_from_listing (lines text) listing (length old) = sym (ap (text_answer (plan_text (lines text) listing)) o) in
         record {
           told = t;
           holds = sym (ap (λ (x : Verdict). bytes_after (plan_text (lines text) listing) x old) o);
@@ -179,7 +174,7 @@ module _ (text : List ℕ) (r : Stage) (links movements times : List ℕ) (g : J
           refused-number = λ r e. answer-number (lines text) listing (length old) r (sym t ∙ e);
         }
 
-    pub plan-written : (reading : Reading) → r ≡ stages.Passed reading → (answer : TextAnswer) (new : List ℕ) → ListingWritten (lines text) listing old answer new → PlanGot (lines text) listing old answer new
+    pub plan-written : (reading : Reading) → r ≡ Ok reading → (answer : Result ℕ Refusal) (new : List ℕ) → ListingWritten (lines text) listing old answer new → PlanGot (lines text) listing old answer new
     unfolding write_checks verdict plan_from_listing buffer_after
     plan-written reading e answer new w =
         let loaded = g.held reading e in
@@ -193,13 +188,13 @@ module _ (text : List ℕ) (r : Stage) (links movements times : List ℕ) (g : J
           refused-number = λ r e. answer-number (lines text) listing (length old) r (sym t ∙ e);
         }
       where
-        parts : (end : ℕ) → answer ≡ Written end → (verdict (listing_checks (lines text) listing) ≡ verdicts.Passes) × (take end new ≡ plan_text (lines text) listing) × (end ≡ length (plan_text (lines text) listing))
+        parts : (end : ℕ) → answer ≡ Ok end → (verdict (listing_checks (lines text) listing) ≡ Ok tt) × (take end new ≡ plan_text (lines text) listing) × (end ≡ length (plan_text (lines text) listing))
         parts end q = let p = told-written (plan_text (lines text) listing) w end q in (or-else-first _ _ p.0, p.2, p.1)
 
-        passed : (end : ℕ) → answer ≡ Written end → Hold (listing_checks (lines text) listing)
+        passed : (end : ℕ) → answer ≡ Ok end → Hold (listing_checks (lines text) listing)
         passed end q = hold-of-passes (listing_checks (lines text) listing) (parts end q).0
 
 -- the same of a network that differs only in padding
-pub padding-too : (text : List ℕ) {listing : List Entry} {old new : List ℕ} {answer : TextAnswer} → PlanGot (lines text) listing old answer new
+pub padding-too : (text : List ℕ) {listing : List Entry} {old new : List ℕ} {answer : (Result ℕ Refusal)} → PlanGot (lines text) listing old answer new
     → PlanGot (lines text) listing old answer new × PaddingIgnored text (λ padded. PlanGot (lines padded) listing old answer new)
 padding-too text got = (got, λ padded same. rw (← same_lines text padded same) got)

@@ -1,14 +1,13 @@
 -- The call on listings for the paper's corridor, computed.
 use Rattle.base_laws.proofs.Kit.{ℕ, ◌≡◌, refl, List, [], ◌∷◌, map}
 use Prim.Native.String.{String}
-use Rattle.base_search.specs.declared.Verdict.{Verdict}
-use Rattle.base_search.specs.declared.Verdict.TheVariants.{Passes, Refused}
-use Rattle.base_search.specs.Checks.{refusal, verdict}
+use Rattle.base_search.specs.Checks.{refusal, verdict, Verdict}
 use Rattle.text_reader.specs.Lines.{lines}
 use Rattle.model.proofs.Opened.{opened}
 use Rattle.model.proofs.Texts.{bytes, the_network, the_plan}
 use Rattle.listing_lines.specs.Entry.{up_to, after, digits_of, scaled, plus, fraction_of, rate_of, leading_zero, index_of, both, pair_of, phase_named, phase_in, volume_named, variable_in, variable_of, setting, entry_of, entries_of, entries}
 use Rattle.listing_call.specs.Listing.{same, step_of, has_variable, valid_value, volume, is_volume, fits, sets, millionths_of, line_at, set_before, value_before, value, formed_by, fits_by, entry_checks_by, listing_checks, mask_of, volume_of, plan_numbers, plan_text, write_checks}
+use Rattle.std.specs.Prelude.{Ok, Err}
 
 unfoldable listing-opened : Unit {0}
 unfolding opened up_to after digits_of scaled plus fraction_of rate_of leading_zero index_of both pair_of phase_named phase_in volume_named variable_in variable_of setting entry_of entries_of entries same step_of has_variable valid_value volume is_volume fits sets millionths_of line_at set_before value_before value formed_by fits_by entry_checks_by listing_checks mask_of volume_of plan_numbers plan_text write_checks
@@ -35,38 +34,38 @@ unfolding listing-opened
 no-listing = refl
 
 -- a text of 71 bytes fits a buffer of 71 and not one of 70
-the-room : judged 71 the_listing ∷ judged 70 the_listing ∷ [] ≡ Passes ∷ Refused (refusal 24 0 0) ∷ []
+the-room : judged 71 the_listing ∷ judged 70 the_listing ∷ [] ≡ Ok tt ∷ Err (refusal 24 0 0) ∷ []
 unfolding listing-opened
 the-room = refl
 
 -- a step of 10 seconds: the largest number of a field is a rate of 429496.7295
-the-largest : judged 200 "i_1_1 429496.7295\n" ∷ judged 200 "i_1_1 429496.7296\n" ∷ judged 200 "i_1_1 9999999999.999999\n" ∷ [] ≡ Passes ∷ Refused (refusal 23 1 0) ∷ Refused (refusal 23 1 0) ∷ []
+the-largest : judged 200 "i_1_1 429496.7295\n" ∷ judged 200 "i_1_1 429496.7296\n" ∷ judged 200 "i_1_1 9999999999.999999\n" ∷ [] ≡ Ok tt ∷ Err (refusal 23 1 0) ∷ Err (refusal 23 1 0) ∷ []
 unfolding listing-opened
 the-largest = refl
 
 -- line by line: 23 on line 1 comes before 22 on line 2, and 22 before 23 on one line
-the-order : judged 200 "i_1_1 0.00005\nx\n" ∷ judged 200 "i_1_1 0.5\ni_1_1 0.00005\n" ∷ judged 200 "i_3_1 0.00005\n" ∷ [] ≡ Refused (refusal 23 1 0) ∷ Refused (refusal 22 2 0) ∷ Refused (refusal 22 1 0) ∷ []
+the-order : judged 200 "i_1_1 0.00005\nx\n" ∷ judged 200 "i_1_1 0.5\ni_1_1 0.00005\n" ∷ judged 200 "i_3_1 0.00005\n" ∷ [] ≡ Err (refusal 23 1 0) ∷ Err (refusal 22 2 0) ∷ Err (refusal 22 1 0) ∷ []
 unfolding listing-opened
 the-order = refl
 
 -- repeated: whatever the values, also 0
-repeats : judged 200 "i_1_1 0.5\ni_1_1 0.5\n" ∷ judged 200 "i_1_1 0\ni_1_2 0\ni_1_1 0\n" ∷ judged 200 "p_1_1_1 0\np_1_1_1 0\n" ∷ [] ≡ Refused (refusal 22 2 0) ∷ Refused (refusal 22 3 0) ∷ Refused (refusal 22 2 0) ∷ []
+repeats : judged 200 "i_1_1 0.5\ni_1_1 0.5\n" ∷ judged 200 "i_1_1 0\ni_1_2 0\ni_1_1 0\n" ∷ judged 200 "p_1_1_1 0\np_1_1_1 0\n" ∷ [] ≡ Err (refusal 22 2 0) ∷ Err (refusal 22 3 0) ∷ Err (refusal 22 2 0) ∷ []
 unfolding listing-opened
 repeats = refl
 
 -- what the network has not: 2 links, 1 movement, 1 signal of 2 phases, 4 steps; 4294967297 is not link 1
 strangers : map (judged 200) ("i_3_1 0\n" ∷ "i_0_1 0\n" ∷ "i_4294967297_1 0\n" ∷ "i_1_5 0\n" ∷ "i_1_0 0\n" ∷ "o_3_1 0\n" ∷ "m_2_1 0\n" ∷ "p_2_1_1 0\n" ∷ "p_1_3_1 0\n" ∷ "p_1_0_1 0\n" ∷ [])
-    ≡ map (λ (s : String). Refused (refusal 22 1 0)) ("" ∷ "" ∷ "" ∷ "" ∷ "" ∷ "" ∷ "" ∷ "" ∷ "" ∷ "" ∷ [])
+    ≡ map (λ (s : String). Err (refusal 22 1 0)) ("" ∷ "" ∷ "" ∷ "" ∷ "" ∷ "" ∷ "" ∷ "" ∷ "" ∷ "" ∷ [])
 unfolding listing-opened
 strangers = refl
 
 -- a phase is 0 or 1, written in any way
 phases : map (judged 200) ("p_1_1_1 1.000\n" ∷ "p_1_1_1 0001\n" ∷ "p_1_1_1 0.0\n" ∷ "p_1_1_1 0.5\n" ∷ "p_1_1_1 2\n" ∷ "p_1_1_1 1.000001\n" ∷ [])
-    ≡ Passes ∷ Passes ∷ Passes ∷ Refused (refusal 22 1 0) ∷ Refused (refusal 22 1 0) ∷ Refused (refusal 22 1 0) ∷ []
+    ≡ Ok tt ∷ Ok tt ∷ Ok tt ∷ Err (refusal 22 1 0) ∷ Err (refusal 22 1 0) ∷ Err (refusal 22 1 0) ∷ []
 unfolding listing-opened
 phases = refl
 
 -- a volume that is not whole, an unfinished line, an empty line
-others : map (judged 200) ("i_1_1 0.00005\n" ∷ "i_1_1 0.0001\n" ∷ "i_1_1 0.5" ∷ "i_1_1 0.5\n\n" ∷ []) ≡ Refused (refusal 23 1 0) ∷ Passes ∷ Refused (refusal 22 1 0) ∷ Refused (refusal 22 2 0) ∷ []
+others : map (judged 200) ("i_1_1 0.00005\n" ∷ "i_1_1 0.0001\n" ∷ "i_1_1 0.5" ∷ "i_1_1 0.5\n\n" ∷ []) ≡ Err (refusal 23 1 0) ∷ Ok tt ∷ Err (refusal 22 1 0) ∷ Err (refusal 22 2 0) ∷ []
 unfolding listing-opened
 others = refl

@@ -1,9 +1,7 @@
 -- The loop over the lines of a listing: what a line comes to is the verdict on it.
 use Rattle.base_laws.proofs.Kit.{ℕ, suc, ◌+◌, ◌-◌, ◌/◌, ◌≤◌, ◌<◌, ◌≡◌, refl, sym, ap, ◌∙◌, Bool, true, false, not, cond, List, arith, eq-eqb, ne_eqb, eqb-true, eqb, length, get_or, set}
 use Rattle.base_search.specs.declared.Refusal.{Refusal}
-use Rattle.base_search.specs.declared.Verdict.{Verdict}
-use Rattle.base_search.specs.declared.Verdict.TheVariants.{Passes, Refused}
-use Rattle.base_search.specs.Checks.{refusal, each, or_else, first_from, checked, verdict}
+use Rattle.base_search.specs.Checks.{refusal, each, or_else, first_from, checked, verdict, Verdict}
 use Rattle.base_search.proofs.Laws.{first-hit, first_next, first_done}
 use Rattle.text_reader.specs.Field.{largest}
 use Rattle.base_laws.specs.Test.{◌and◌}
@@ -26,6 +24,7 @@ use Rattle.listing_call.specs.Tables.{bit_place, place, Placed, has_in, seconds_
 use Rattle.listing_call.proofs.Bits.{bits-few}
 use Rattle.listing_call.proofs.Places.{has-placed, bit-inside, place_inside}
 use Rattle.listing_call.proofs.Stored.{stored-none, stored_more, number_fits}
+use Rattle.std.specs.Prelude.{Ok, Err}
 
 -- ---- what a line comes to is the verdict on it
 mark-test : (t : Bool) (x : ℕ) → x ≡ bit t → not t ≡ eqb x 0
@@ -56,13 +55,13 @@ fits_whole (Admitted i n) m s = volume-whole m s
 fits_whole (LetOut i n) m s = volume-whole m s
 fits_whole (Moved j n) m s = volume-whole m s
 
-bad-line : (has : Variable → Bool) (seconds : ℕ → ℕ) (listing : List Entry) (i : ℕ) → get_or listing i Malformed ≡ Malformed → verdict (entry_checks_by has seconds listing i) ≡ Refused (refusal 22 (suc i) 0)
+bad-line : (has : Variable → Bool) (seconds : ℕ → ℕ) (listing : List Entry) (i : ℕ) → get_or listing i Malformed ≡ Malformed → verdict (entry_checks_by has seconds listing i) ≡ Err (refusal 22 (suc i) 0)
 unfolding entry_checks_by line_at formed_by verdict checked or_else
 bad-line has seconds listing i e = rw e
 
 unfoldable outcome_verdict : ℕ → Outcome → Verdict
-outcome_verdict i (Store b k x) = Passes
-outcome_verdict i (Refuse n) = Refused (refusal n (suc i) 0)
+outcome_verdict i (Store b k x) = Ok tt
+outcome_verdict i (Refuse n) = Err (refusal n (suc i) 0)
 
 outcome-told : (i : ℕ) (a : Bool) (b k : ℕ) (y : Number) → or_else (checked a 22 (suc i) 0) (checked (is_whole y) 23 (suc i) 0) ≡ outcome_verdict i (cond a (stored b k y) (Refuse 22))
 unfolding or_else checked outcome_verdict is_whole stored
@@ -148,16 +147,16 @@ module _ (counts : Counts) (phases times text : List ℕ) (numbers seen : List �
       }
 
   module _ (at i : ℕ) (inv : Reading counts phases times text numbers seen at i) where
-    got-refused : (n : ℕ) (r : Refusal) → i < length (entries text) → r ≡ refusal n (i + 1) 0 → line_verdict counts phases times text i ≡ Refused (refusal n (suc i) 0)
-        → GotListing counts phases times text (Refused r) numbers seen
+    got-refused : (n : ℕ) (r : Refusal) → i < length (entries text) → r ≡ refusal n (i + 1) 0 → line_verdict counts phases times text i ≡ Err (refusal n (suc i) 0)
+        → GotListing counts phases times text (Err r) numbers seen
     got-refused n r l q e =
         let z : r ≡ refusal n (suc i) 0 = q ∙ ap (λ (line : ℕ). refusal n line 0) (omega arith) in
         record {
-          told = sym (inv.left ∙ first-hit (line_verdict counts phases times text) (length (entries text)) i r l (e ∙ ap Refused (sym z)));
+          told = sym (inv.left ∙ first-hit (line_verdict counts phases times text) (length (entries text)) i r l (e ∙ ap Err (sym z)));
           kept = λ z. let y : ◌≡◌ {A = ℕ} 0 1 = cc in absurd (omega arith);
         }
 
-    pub reading-done : length text ≤ at → GotListing counts phases times text Passes numbers seen
+    pub reading-done : length text ≤ at → GotListing counts phases times text (Ok tt) numbers seen
     reading-done h =
         let last : length (entries text) ≤ i = entry-end text at i inv.starts h in
         let z : i ≡ length (entries text) = omega (arith, inv.few) in
@@ -170,7 +169,7 @@ module _ (counts : Counts) (phases times text : List ℕ) (numbers seen : List �
       more : i < length (entries text)
       more = entry-within text at i inv.starts h
 
-      pub reading-bad : r ≡ read.Malformed → (q : Refusal) → q ≡ refusal 22 (i + 1) 0 → GotListing counts phases times text (Refused q) numbers seen
+      pub reading-bad : r ≡ read.Malformed → (q : Refusal) → q ≡ refusal 22 (i + 1) 0 → GotListing counts phases times text (Err q) numbers seen
       reading-bad e q z = got-refused 22 q more z (bad-line (has_in counts phases) (seconds_in times) (entries text) i (read-malformed text at i inv.starts (sym told_Line ∙ e)))
 
       module _ (v : Variable) (m next : ℕ) (e : r ≡ read.Sets v m next) where
@@ -189,7 +188,7 @@ module _ (counts : Counts) (phases times text : List ℕ) (numbers seen : List �
           line-told = told (has_in counts phases) (seconds_in times) (entries text) i numbers seen inv.kept v m is-line place_of
 
           module _ (o : Outcome) (f : o ≡ outcome (has_in counts phases) (seconds_in times) seen v m) where
-            pub reading-stop : (n : ℕ) → o ≡ Refuse n → (q : Refusal) → q ≡ refusal n (i + 1) 0 → GotListing counts phases times text (Refused q) numbers seen
+            pub reading-stop : (n : ℕ) → o ≡ Refuse n → (q : Refusal) → q ≡ refusal n (i + 1) 0 → GotListing counts phases times text (Err q) numbers seen
             unfolding outcome_verdict
             reading-stop n g q z = got-refused n q more z (line-told ∙ ap (outcome_verdict i) (sym f ∙ g))
 

@@ -1,7 +1,6 @@
 -- Where the tables hold a network's numbers, what is judged and written by them is what the request says of the network.
 use Rattle.base_laws.proofs.Kit.{ℕ, suc, ◌+◌, ◌-◌, ◌*◌, ◌≤◌, ◌<◌, ◌≡◌, refl, sym, ap, ap₂, ◌∙◌, Bool, true, false, not, List, ◌++◌, dec_le, add-one, arith, length, get_or}
-use Rattle.base_search.specs.declared.Verdict.{Verdict}
-use Rattle.base_search.specs.Checks.{each, or_else, checked, verdict}
+use Rattle.base_search.specs.Checks.{each, or_else, checked, verdict, Verdict}
 use Rattle.base_search.proofs.Laws.{first-same}
 use Rattle.text_reader.specs.Lines.{Line}
 use Rattle.text_writer.specs.Records.{record_texts}

@@ -1,6 +1,6 @@
 -- Plans straight from the solver (T-01): when a listing is refused, the numbers that it gives, and the plan text that is written of them. The listing is the list of its
 -- lines (crate `listing_lines`). Steps, signals, links and movements are counted from 0 here, from 1 in a variable, phases from 1.
-use Rattle.std.specs.Prelude.{ℕ, zero, suc, ◌+◌, ◌*◌, ◌-◌, ◌/◌, ◌%◌, ◌^◌, Bool, true, false, cond, not, List, [], ◌∷◌, ◌++◌, leb, eqb, length, get_or}
+use Rattle.std.specs.Prelude.{ℕ, zero, suc, ◌+◌, ◌*◌, ◌-◌, ◌/◌, ◌%◌, ◌^◌, Bool, true, false, cond, not, List, [], ◌∷◌, ◌++◌, leb, eqb, length, get_or, Result}
 use Rattle.base_search.specs.Checks.{Checks, check, each, ◌then◌, verdict}
 use Rattle.text_reader.specs.Field.{largest}
 use Rattle.text_reader.specs.Lines.{Line}
@@ -15,8 +15,8 @@ use Rattle.listing_lines.specs.declared.Variable.{Variable}
 use Rattle.listing_lines.specs.declared.Variable.TheVariants.{Shown, Admitted, LetOut, Moved}
 use Rattle.listing_lines.specs.declared.Entry.{Entry}
 use Rattle.listing_lines.specs.declared.Entry.TheVariants.{Sets, Malformed}
-use Rattle.model_text.specs.declared.TextAnswer.{TextAnswer}
 use Rattle.model_text.specs.Answers.{text_answer, bytes_after}
+use Rattle.base_search.specs.declared.Refusal.{Refusal}
 
 -- the numbers with which the call refuses
 abbrev pub listing_numbers : List ℕ
@@ -147,7 +147,7 @@ module _ (network : List Line) (listing : List Entry) where
   unfoldable pub write_checks : ℕ → Checks
   write_checks size = network_checks network then listing_checks then check 24 0 0 (leb (length plan_text) size)
 
-  unfoldable pub plan_from_listing : ℕ → TextAnswer
+  unfoldable pub plan_from_listing : ℕ → Result ℕ Refusal
   plan_from_listing size = text_answer plan_text (verdict (write_checks size))
 
   unfoldable pub buffer_after : List ℕ → List ℕ

@@ -1,5 +1,5 @@
 -- What the call promises, and the theorem of the request: reading the written plan gives just the listing's numbers.
-use Rattle.std.specs.Prelude.{ℕ, ◌+◌, ◌*◌, ◌-◌, ◌/◌, ◌%◌, ◌^◌, ◌≤◌, ◌<◌, ◌≡◌, true, List, length, take}
+use Rattle.std.specs.Prelude.{ℕ, ◌+◌, ◌*◌, ◌-◌, ◌/◌, ◌%◌, ◌^◌, ◌≤◌, ◌<◌, ◌≡◌, true, List, length, take, Result, Ok, Err}
 use Rattle.base_search.specs.declared.Refusal.{Refusal}
 use Rattle.base_search.specs.Numbers.{CanArise}
 use Rattle.text_reader.specs.Lines.{Line, lines}
@@ -11,8 +11,6 @@ use Rattle.listing_lines.specs.declared.Variable.{Variable}
 use Rattle.listing_lines.specs.declared.Variable.TheVariants.{Shown, Admitted, LetOut, Moved}
 use Rattle.listing_lines.specs.declared.Entry.{Entry}
 use Rattle.listing_lines.specs.declared.Entry.TheVariants.{Sets}
-use Rattle.model_text.specs.declared.TextAnswer.{TextAnswer}
-use Rattle.model_text.specs.declared.TextAnswer.TheVariants.{Written, Refused}
 use Rattle.listing_call.specs.Listing.{listing_numbers, one, has_variable, line_at, plan_from_listing, buffer_after}
 
 -- bit k of a number
@@ -54,9 +52,9 @@ pub record ReadsBack (network : List Line) (listing : List Entry) (plan : List L
 
 -- the answer and the whole buffer are those of the definitions; a plan that was written has bytes, so that it does not mean hold, and reads back in every call
 -- that is given it; and a refusal's number is one that can arise
-pub record PlanGot (network : List Line) (listing : List Entry) (old : List ℕ) (answer : TextAnswer) (new : List ℕ) : Type 0 where
+pub record PlanGot (network : List Line) (listing : List Entry) (old : List ℕ) (answer : Result ℕ Refusal) (new : List ℕ) : Type 0 where
   pub told : answer ≡ plan_from_listing network listing (length old)
   pub holds : new ≡ buffer_after network listing old
-  pub some_bytes : (end : ℕ) → answer ≡ Written end → 1 ≤ end
-  pub reads-back : (end : ℕ) → answer ≡ Written end → ReadsBack network listing (meant network (lines (take end new)))
-  pub refused-number : (r : Refusal) → answer ≡ Refused r → CanArise listing_numbers r.number
+  pub some_bytes : (end : ℕ) → answer ≡ Ok end → 1 ≤ end
+  pub reads-back : (end : ℕ) → answer ≡ Ok end → ReadsBack network listing (meant network (lines (take end new)))
+  pub refused-number : (r : Refusal) → answer ≡ Err r → CanArise listing_numbers r.number

@@ -1,9 +1,7 @@
 -- The program's tables of a listing's numbers: the numbers of each step's line, and a bit for each variable that was set. Not of the request: the contracts between the
 -- functions speak of these.
-use Rattle.std.specs.Prelude.{ℕ, suc, ◌+◌, ◌*◌, ◌-◌, ◌/◌, ◌%◌, ◌^◌, ◌≤◌, ◌<◌, ◌≡◌, Bool, true, false, cond, List, eqb, length, get_or, set}
-use Rattle.base_search.specs.declared.Verdict.{Verdict}
-use Rattle.base_search.specs.declared.Verdict.TheVariants.{Passes}
-use Rattle.base_search.specs.Checks.{each, verdict}
+use Rattle.std.specs.Prelude.{ℕ, suc, ◌+◌, ◌*◌, ◌-◌, ◌/◌, ◌%◌, ◌^◌, ◌≤◌, ◌<◌, ◌≡◌, Bool, true, false, cond, List, eqb, length, get_or, set, Ok}
+use Rattle.base_search.specs.Checks.{each, verdict, Verdict}
 use Rattle.base_laws.specs.Test.{◌and◌, within}
 use Rattle.base_laws.specs.Sum.{sum, only}
 use Rattle.model.specs.Network.{max_signals, max_steps, max_links, max_movements}
@@ -189,4 +187,4 @@ pub record ListingAsked (counts : Counts) (phases times numbers seen : List ℕ)
 
 pub record ListingGot (has : Variable → Bool) (seconds : ℕ → ℕ) (listing : List Entry) (result : Verdict) (numbers seen : List ℕ) : Type 0 where
   pub told : result ≡ verdict (each (length listing) (entry_checks_by has seconds listing))
-  pub kept : result ≡ Passes → Stored seconds listing (length listing) numbers seen
+  pub kept : result ≡ Ok tt → Stored seconds listing (length listing) numbers seen

@@ -11,12 +11,11 @@ ghost use Rattle.listing_call.specs.ReadsBack.{PlanGot};
 ghost use Rattle.listing_call.specs.Tables.{has_phase_in, has_in, seconds_in, place_in, item_place_in, phase_place_in, place_of, bit_at, with_bit, Power, phase_bit, volume_in, number_in, outcome, PlacesAsked, TablesAsked, PlaceAsked, ItemAsked, SecondsAsked, JudgeAsked, ListingAsked, ListingGot};
 ghost use Rattle.listing_call.specs.Writing.{WriteGot, NetworkAsked, ListingWritten};
 
-use base_search::{Refusal, Verdict};
+use base_search::Refusal;
 use listing_lines::{EntryRead, Variable};
-use model_text::TextAnswer;
 use network_tables::{
     Counts, LINE_SIZE, LINK_TABLE_SIZE, MAX_LINKS, MAX_MOVEMENTS, MAX_SIGNALS, MAX_STEPS,
-    MOVEMENT_TABLE_SIZE, Reading, SIGNAL_TABLE_SIZE, Stage, TIME_TABLE_SIZE,
+    MOVEMENT_TABLE_SIZE, Reading, SIGNAL_TABLE_SIZE, TIME_TABLE_SIZE,
 };
 
 // How many variables a step has at most: a signal's phases, 8 at most, and what is admitted, let out and moved.
@@ -288,7 +287,7 @@ fn read_listing(
     times: &[u32],
     numbers: &mut [u32],
     seen: &mut [u8],
-) -> Verdict
+) -> Result<(), Refusal>
     requires { ListingAsked counts phases.now times.now numbers.old seen.old }
     ensures { ListingGot (has_in counts phases.now) (seconds_in times.now) (entries text.now) result numbers.new seen.new }
 {
@@ -301,7 +300,7 @@ fn read_listing(
             next,
         } = listing_lines::entry_at(text, at)
         else {
-            return Verdict::Refused(Refusal::new(22, i + 1, 0));
+            return Err(Refusal::new(22, i + 1, 0));
         };
         match judge_entry(variable, millionths, counts, phases, times, seen) {
             Outcome::Store { bit, place, number } => {
@@ -309,13 +308,13 @@ fn read_listing(
                 set_bit(seen, bit);
             }
             Outcome::Refuse(number) => {
-                return Verdict::Refused(Refusal::new(number, i + 1, 0));
+                return Err(Refusal::new(number, i + 1, 0));
             }
         }
         at = next;
         i += 1;
     }
-    Verdict::Passes
+    Ok(())
 }
 
 // The listing on a network that has passed: refusals 22 to 24.
@@ -325,15 +324,15 @@ fn write_listing(
     phases: &[u32],
     times: &[u32],
     out: &mut [u8],
-) -> TextAnswer
+) -> Result<usize, Refusal>
     requires { TablesAsked counts phases.now times.now }
     ensures { WriteGot counts phases.now times.now (entries listing.now) out.old result out.new }
 {
     let mut numbers = [0u32; NUMBER_TABLE_SIZE];
     let mut seen = [0u8; SEEN_SIZE];
     match read_listing(listing, counts, phases, times, &mut numbers, &mut seen) {
-        Verdict::Passes => network_writer::write_plan(&numbers, LINE_SIZE, counts, out),
-        Verdict::Refused(refusal) => TextAnswer::Refused(refusal),
+        Ok(()) => network_writer::write_plan(&numbers, LINE_SIZE, counts, out),
+        Err(refusal) => Err(refusal),
     }
 }
 
@@ -344,7 +343,7 @@ fn write_on_network(
     listing: &[u8],
     times: &[u32],
     out: &mut [u8],
-) -> TextAnswer
+) -> Result<usize, Refusal>
     requires { NetworkAsked network.now reading times.now }
     ensures { ListingWritten (lines network.now) (entries listing.now) out.old result out.new }
 {
@@ -352,13 +351,13 @@ fn write_on_network(
     let mut signals = [0u32; SIGNAL_TABLE_SIZE];
     let first = reading.moved_to(reading.signals_at);
     match network_signals::read_signals(network, first, &mut phases, &mut signals) {
-        Stage::Passed(_) => write_listing(listing, reading.counts, &phases, times, out),
-        Stage::Refused(refusal) => TextAnswer::Refused(refusal),
+        Ok(_) => write_listing(listing, reading.counts, &phases, times, out),
+        Err(refusal) => Err(refusal),
     }
 }
 
 // The plan text of a solver's listing: refusals 1 to 6, 28 and 30, then 22 and 23 line by line, then 24.
-pub fn plan_from_listing(network: &[u8], listing: &[u8], out: &mut [u8]) -> TextAnswer
+pub fn plan_from_listing(network: &[u8], listing: &[u8], out: &mut [u8]) -> Result<usize, Refusal>
     ensures plan_got { PlanGot (lines network.now) (entries listing.now) out.old result out.new }
     ensures padding_ignored { PaddingIgnored network.now (λ padded. PlanGot (lines padded) (entries listing.now) out.old result out.new) }
 {
@@ -366,11 +365,11 @@ pub fn plan_from_listing(network: &[u8], listing: &[u8], out: &mut [u8]) -> Text
     let mut movements = [0u32; MOVEMENT_TABLE_SIZE];
     let mut times = [0u32; TIME_TABLE_SIZE];
     match network::load_network(network, &mut links, &mut movements, &mut times) {
-        Stage::Passed(reading) => {
+        Ok(reading) => {
             let counts = reading.counts;
             step_arrivals::from_start(&mut times, counts.past, counts.steps);
             write_on_network(network, reading, listing, &times, out)
         }
-        Stage::Refused(refusal) => TextAnswer::Refused(refusal),
+        Err(refusal) => Err(refusal),
     }
 }

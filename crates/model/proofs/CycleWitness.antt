@@ -2,7 +2,6 @@
 use Rattle.base_laws.proofs.Kit.{◌≡◌, refl, List, ℕ, zero, suc, ◌+◌, ◌<◌, arith}
 use Prim.Native.String.{String, ◌++◌}
 use Rattle.text_reader.specs.Lines.{Line, lines}
-use Rattle.model.specs.declared.PlanAnswer.TheVariants as plan-answer
 use Rattle.model.specs.Network.{step_count}
 use Rattle.model.specs.Flows.{totals}
 use Rattle.model.specs.Calls.{check_plan}
@@ -12,6 +11,7 @@ use Rattle.model.proofs.Texts.{bytes}
 use Rattle.model.proofs.Shown.{P, phase}
 use Rattle.model.proofs.Red.{green-from}
 use Rattle.model.proofs.Cycle.{begins-after, begins-with}
+use Rattle.std.specs.Prelude.{Ok}
 
 abbrev network_text : String
 network_text =
@@ -26,7 +26,7 @@ network = lines (bytes network_text)
 abbrev plan : List Line
 plan = lines (bytes ("P\t2\t1\t0\t0\n" ++ "P\t1\t1\t0\t0\n" ++ "P\t2\t1\t0\t0\n" ++ "P\t1\t1\t0\t0\n"))
 
-pub accepted : check_plan network plan 10 ≡ plan-answer.Accepted (totals network plan 4)
+pub accepted : check_plan network plan 10 ≡ Ok (totals network plan 4)
 unfolding opened
 accepted = refl
 

@@ -1,9 +1,7 @@
 -- The plan that an empty text stands for (T-07): what its lines say, and that it is answered as its written text is.
 use Rattle.base_laws.proofs.Kit.{ℕ, zero, suc, ◌+◌, ◌*◌, ◌-◌, ◌^◌, ◌≤◌, ◌<◌, ◌≡◌, refl, sym, ap, ◌∙◌, Bool, true, false, cond, List, [], ◌∷◌, dec_lt, arith, lt-ltb, leb-true, le-ltb, ltb, length, List·getD-eq-default}
 use Rattle.base_search.specs.declared.Refusal.{Refusal}
-use Rattle.base_search.specs.declared.Verdict.{Verdict}
-use Rattle.base_search.specs.declared.Verdict.TheVariants.{Passes, Refused}
-use Rattle.base_search.specs.Checks.{verdict}
+use Rattle.base_search.specs.Checks.{verdict, Verdict}
 use Rattle.base_search.proofs.Laws.{or-else-refused, hold-of-passes}
 use Rattle.text_reader.specs.Lines.{Line, lines}
 use Rattle.text_reader.proofs.Laws.{some-lines, no_lines}
@@ -14,8 +12,6 @@ use Rattle.model.specs.Network.{entry, link_count, signal_count, movement_count,
 use Rattle.model.specs.Signals.{after}
 use Rattle.model.specs.Flows.{shown_mask, shown_in, signal_at}
 use Rattle.model.specs.Rules.{valid_phases, valid_signal}
-use Rattle.model.specs.declared.PlanAnswer.{PlanAnswer}
-use Rattle.model.specs.declared.PlanAnswer.TheVariants as plan-answer
 use Rattle.model.specs.Table.{letter_p, is_form, network_checks, plan_checks}
 use Rattle.model.specs.Calls.{plan_answer, check_plan, ledger_after}
 use Rattle.model.specs.Hold.{hold_numbers, hold_lines, hold_text, meant, plan_of, EmptyHolds}
@@ -27,6 +23,8 @@ use Rattle.model.proofs.Accepted.{ValidNetwork, valid-network}
 use Rattle.model.proofs.Rows.{written_none}
 use Rattle.model.proofs.Written.{refused-fails, rows_none}
 use Rattle.model.proofs.Limits.{counts}
+use Rattle.std.specs.Prelude.{Result, Ok, Err}
+use Rattle.model.specs.declared.Totals.{Totals}
 
 -- a text that has lines stands for them
 pub meant-lines : (network plan : List Line) → 0 < length plan → meant network plan ≡ plan
@@ -112,8 +110,8 @@ same-meant network valid =
     ap (meant network) (no_lines [] refl) ∙ sym (ap (meant network) (hold-back network valid) ∙ meant-lines network (hold_lines network) some)
 
 -- a network that is refused gets that refusal with every plan, and no row
-module _ (network : List Line) (r : Refusal) (refused : verdict (network_checks network) ≡ Refused r) where
-  pub refused-answer : (plan : List Line) (size : ℕ) → check_plan network plan size ≡ plan-answer.Refused r
+module _ (network : List Line) (r : Refusal) (refused : verdict (network_checks network) ≡ Err r) where
+  pub refused-answer : (plan : List Line) (size : ℕ) → check_plan network plan size ≡ Err r
   unfolding check_plan plan_answer plan_checks verdict
   refused-answer plan size = ap (plan_answer network plan) (or-else-refused _ _ r refused)
 
@@ -122,15 +120,15 @@ module _ (network : List Line) (r : Refusal) (refused : verdict (network_checks 
   refused-rows plan old = rw (rows_none network plan (length old) (λ d. refused-fails (network_checks network) r refused d.network-holds)) (written_none network plan old)
 
 -- the two texts are told the same, whatever the network
-same-told : {A : Type 0} (network : List Line) (f : List Line → A) → ((r : Refusal) → verdict (network_checks network) ≡ Refused r → (plan other : List Line) → f plan ≡ f other)
+same-told : {A : Type 0} (network : List Line) (f : List Line → A) → ((r : Refusal) → verdict (network_checks network) ≡ Err r → (plan other : List Line) → f plan ≡ f other)
     → f (meant network (lines [])) ≡ f (meant network (lines (hold_text network)))
 same-told network f refused = go (verdict (network_checks network)) refl
   where
     go : (v : Verdict) → verdict (network_checks network) ≡ v → f (meant network (lines [])) ≡ f (meant network (lines (hold_text network)))
-    go Passes e = ap f (same-meant network (valid-network network (hold-of-passes (network_checks network) e)))
-    go (Refused r) e = refused r e _ _
+    go (Ok tt) e = ap f (same-meant network (valid-network network (hold-of-passes (network_checks network) e)))
+    go (Err r) e = refused r e _ _
 
-pub empty_holds : (network_text plan_text before : List ℕ) {after : List ℕ} {answer : PlanAnswer} → answer ≡ check_plan (lines network_text) (plan_of network_text plan_text) (length before)
+pub empty_holds : (network_text plan_text before : List ℕ) {after : List ℕ} {answer : (Result Totals Refusal)} → answer ≡ check_plan (lines network_text) (plan_of network_text plan_text) (length before)
     → after ≡ ledger_after (lines network_text) (plan_of network_text plan_text) before → EmptyHolds network_text plan_text before after answer
 empty_holds network_text plan_text before told wrote =
     let network = lines network_text in

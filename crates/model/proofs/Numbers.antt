@@ -1,18 +1,16 @@
 -- Every refusal of a call has one of its numbers.
 use Rattle.base_laws.proofs.Kit.{◌≡◌, refl, true, List, ℕ, suc, rules, length}
 use Rattle.base_search.specs.declared.Refusal.{Refusal}
-use Rattle.base_search.specs.declared.Verdict.{Verdict}
-use Rattle.base_search.specs.declared.Verdict.TheVariants.{Passes, Refused}
-use Rattle.base_search.specs.Checks.{Rule, rule_at, table}
+use Rattle.base_search.specs.Checks.{Rule, rule_at, table, Verdict}
 use Rattle.base_search.specs.Numbers.{is_one_of}
 use Rattle.base_search.proofs.Numbers.{arises, Numbered, refused-number, all_of, wider}
 use Rattle.text_reader.specs.Lines.{Line}
-use Rattle.model.specs.declared.LinkAnswer.TheVariants as link-answer
 use Rattle.base_laws.specs.Test.{◌and◌, every}
 use Rattle.model.specs.Table.{count_checks, tram_checks, signal_checks, tram_phase_checks, link_checks, movement_checks, share_checks, past_checks, step_checks, network_checks, ledger_checks, step_rules, line_checks, plan_line_checks, plan_checks}
 use Rattle.model.specs.Guarantees.{network_numbers, state_numbers, plan_numbers, NetworkPromises, StatePromises}
 use Rattle.model.specs.Calls.{check_network, state_checks, link_answer, link_state}
 use Rattle.base_laws.proofs.Tests.{every-at}
+use Rattle.std.specs.Prelude.{Ok, Err}
 
 -- ---- the checks of the three calls
 pub network-numbered : (network : List Line) → Numbered network_numbers (network_checks network)
@@ -43,10 +41,10 @@ unfolding Numbered is_one_of all_of state_checks ledger_checks
 state-numbered network ledger boundary link = (network-among network state_numbers refl, search rules)
 
 -- ---- refusals of a network and of a link's state
-of-link : (network : List Line) (ledger : List ℕ) (boundary link : ℕ) (v : Verdict) (r : Refusal) → link_answer network ledger boundary link v ≡ link-answer.Refused r → v ≡ Refused r
+of-link : (network : List Line) (ledger : List ℕ) (boundary link : ℕ) (v : Verdict) (r : Refusal) → link_answer network ledger boundary link v ≡ Err r → v ≡ Err r
 unfolding link_answer
-of-link network ledger boundary link Passes r h = cc
-of-link network ledger boundary link (Refused q) r h = cc
+of-link network ledger boundary link (Ok tt) r h = cc
+of-link network ledger boundary link (Err q) r h = cc
 
 pub network-promises : (network : List Line) → NetworkPromises (check_network network)
 unfolding check_network

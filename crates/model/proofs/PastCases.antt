@@ -3,12 +3,13 @@ use Rattle.base_laws.proofs.Kit.{◌≡◌, refl, List, [], ◌∷◌, map, ℕ,
 use Prim.Native.String.{String, ◌++◌}
 use Rattle.text_reader.specs.Lines.{lines}
 use Rattle.base_search.specs.Checks.{refusal}
-use Rattle.model.specs.declared.LinkAnswer.{LinkAnswer}
-use Rattle.model.specs.declared.LinkAnswer.TheVariants as link-answer
-use Rattle.model.specs.Calls.{link_state, ledger_after}
+use Rattle.model.specs.Calls.{state_of, link_state, ledger_after}
 use Rattle.model.specs.Report.{report}
 use Rattle.model.proofs.Opened.{opened}
 use Rattle.model.proofs.Texts.{bytes}
+use Rattle.std.specs.Prelude.{Result, Err, Ok}
+use Rattle.model.specs.declared.LinkState.{LinkState}
+use Rattle.base_search.specs.declared.Refusal.{Refusal}
 
 -- one link, and one step of 10 seconds: the count of `H` lines, the `Q` line's numbers, these lines and what follows, the demand left open
 abbrev on_link : String → String → String → String → String
@@ -100,16 +101,16 @@ pub record PastState : Type 0 where
   pub travel : String
   pub ledger : List ℕ
   pub boundary : ℕ
-  pub answer : LinkAnswer
+  pub answer : Result LinkState Refusal
 
 abbrev past_states : List PastState
 past_states =
-    record { travel = "10"; ledger = 3100 ∷ 500 ∷ 3100 ∷ 500 ∷ []; boundary = 0; answer = link-answer.State 2500 100 }
-    ∷ record { travel = "10"; ledger = 4000 ∷ 500 ∷ 8400 ∷ 3100 ∷ []; boundary = 0; answer = link-answer.State 2500 1000 }
-    ∷ record { travel = "10"; ledger = 4000 ∷ 500 ∷ 8400 ∷ 3100 ∷ []; boundary = 1; answer = link-answer.State 900 4400 }
-    ∷ record { travel = "10"; ledger = 2999 ∷ 500 ∷ 8400 ∷ 3100 ∷ []; boundary = 0; answer = link-answer.Refused (refusal 21 0 0) }
-    ∷ record { travel = "17"; ledger = 0 ∷ 0 ∷ 8400 ∷ 500 ∷ []; boundary = 1; answer = link-answer.State 2530 5370 }
-    ∷ record { travel = "31"; ledger = 0 ∷ 0 ∷ 8400 ∷ 500 ∷ []; boundary = 1; answer = link-answer.State 500 7400 }
+    record { travel = "10"; ledger = 3100 ∷ 500 ∷ 3100 ∷ 500 ∷ []; boundary = 0; answer = Ok (state_of 2500 100) }
+    ∷ record { travel = "10"; ledger = 4000 ∷ 500 ∷ 8400 ∷ 3100 ∷ []; boundary = 0; answer = Ok (state_of 2500 1000) }
+    ∷ record { travel = "10"; ledger = 4000 ∷ 500 ∷ 8400 ∷ 3100 ∷ []; boundary = 1; answer = Ok (state_of 900 4400) }
+    ∷ record { travel = "10"; ledger = 2999 ∷ 500 ∷ 8400 ∷ 3100 ∷ []; boundary = 0; answer = Err (refusal 21 0 0) }
+    ∷ record { travel = "17"; ledger = 0 ∷ 0 ∷ 8400 ∷ 500 ∷ []; boundary = 1; answer = Ok (state_of 2530 5370) }
+    ∷ record { travel = "31"; ledger = 0 ∷ 0 ∷ 8400 ∷ 500 ∷ []; boundary = 1; answer = Ok (state_of 500 7400) }
     ∷ []
 
 pub past-states : map (λ (c : PastState). link_state (lines (bytes (street "9000" c.travel))) c.ledger c.boundary 1) past_states ≡ map (λ (c : PastState). c.answer) past_states

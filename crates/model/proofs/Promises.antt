@@ -1,14 +1,11 @@
 -- What a plan's check promises, for any two lists of lines and any ledger.
 use Rattle.base_laws.proofs.Kit.{◌≡◌, refl, List, ℕ, length}
 use Rattle.base_search.specs.declared.Refusal.{Refusal}
-use Rattle.base_search.specs.declared.Verdict.{Verdict}
-use Rattle.base_search.specs.declared.Verdict.TheVariants.{Passes, Refused}
-use Rattle.base_search.specs.Checks.{Hold, verdict}
+use Rattle.base_search.specs.Checks.{Hold, verdict, Verdict}
 use Rattle.base_search.proofs.Laws as laws
 use Rattle.base_search.proofs.Numbers.{refused-number}
 use Rattle.text_reader.specs.Lines.{Line}
 use Rattle.model.specs.declared.Totals.{Totals}
-use Rattle.model.specs.declared.PlanAnswer.TheVariants as plan-answer
 use Rattle.model.specs.Network.{step_count}
 use Rattle.model.specs.Flows.{offered, all_demand, taken, all_let_out, doubled_time, totals}
 use Rattle.model.specs.Table.{plan_checks}
@@ -24,6 +21,7 @@ use Rattle.model.proofs.Shut.{shut-passes-nothing}
 use Rattle.model.proofs.Red.{red-greens, red-least, red-greatest}
 use Rattle.model.proofs.Once.{exactly-once}
 use Rattle.model.proofs.Cycle.{cycle-least, cycle-greatest, first-cycle-least, first-cycle-greatest, last-cycle-greatest, only-cycle-greatest}
+use Rattle.std.specs.Prelude.{Ok, Err}
 
 module _ (network plan : List Line) (accepted : AcceptedPlan network plan) where
   pub guarantees : Guarantees network plan (doubled_time network plan (step_count network))
@@ -51,26 +49,26 @@ module _ (network plan : List Line) (accepted : AcceptedPlan network plan) where
 
 module _ (network plan : List Line) where
   -- the verdict by the answer
-  pub passes-of-accepted : (v : Verdict) (t : Totals) → plan_answer network plan v ≡ plan-answer.Accepted t → (v ≡ Passes) × (t.doubled_time ≡ doubled_time network plan (step_count network))
+  pub passes-of-accepted : (v : Verdict) (t : Totals) → plan_answer network plan v ≡ Ok t → (v ≡ Ok tt) × (t.doubled_time ≡ doubled_time network plan (step_count network))
   unfolding plan_answer totals
-  passes-of-accepted Passes t h = (refl, cc)
-  passes-of-accepted (Refused r) t h = (cc, cc)
+  passes-of-accepted (Ok tt) t h = (refl, cc)
+  passes-of-accepted (Err r) t h = (cc, cc)
 
-  pub accepted-of-passes : (v : Verdict) → v ≡ Passes → (t : Totals) × (plan_answer network plan v ≡ plan-answer.Accepted t)
+  pub accepted-of-passes : (v : Verdict) → v ≡ Ok tt → (t : Totals) × (plan_answer network plan v ≡ Ok t)
   unfolding plan_answer
-  accepted-of-passes Passes h = (_, refl)
-  accepted-of-passes (Refused r) h = (totals network plan 0, cc)
+  accepted-of-passes (Ok tt) h = (_, refl)
+  accepted-of-passes (Err r) h = (totals network plan 0, cc)
 
-  pub refused-of-refused : (v : Verdict) (r : Refusal) → plan_answer network plan v ≡ plan-answer.Refused r → v ≡ Refused r
+  pub refused-of-refused : (v : Verdict) (r : Refusal) → plan_answer network plan v ≡ Err r → v ≡ Err r
   unfolding plan_answer
-  refused-of-refused Passes r h = cc
-  refused-of-refused (Refused q) r h = cc
+  refused-of-refused (Ok tt) r h = cc
+  refused-of-refused (Err q) r h = cc
 
   pub promises : (old : List ℕ) → Promises network plan old (ledger_after network plan old) (check_plan network plan (length old))
   unfolding check_plan
   promises old =
       let c = plan_checks network plan (length old) in
-      let holds : (t : Totals) → plan_answer network plan (verdict c) ≡ plan-answer.Accepted t → Hold c = λ t h. laws.hold-of-passes c (passes-of-accepted (verdict c) t h).0 in
+      let holds : (t : Totals) → plan_answer network plan (verdict c) ≡ Ok t → Hold c = λ t h. laws.hold-of-passes c (passes-of-accepted (verdict c) t h).0 in
       record {
         accepted-holds = holds;
         holds-accepted = λ h. accepted-of-passes (verdict c) (laws.passes-of-hold c h);

@@ -1,9 +1,7 @@
 -- Which rows a plan's check writes, and the ledger afterwards, number by number.
 use Rattle.base_laws.proofs.Kit.{◌≡◌, refl, ap, ◌∙◌, true, ◌⊎◌, inl, inr, ⊎_elim, List, ◌++◌, ℕ, zero, suc, ◌+◌, ◌*◌, ◌-◌, ◌≤◌, ◌<◌, le_refl, mul-le-mul_right, dec_le, arith, leb-true, length, get_or, drop, get_or-append-add, get_or-drop}
 use Rattle.base_search.specs.declared.Refusal.{Refusal}
-use Rattle.base_search.specs.declared.Verdict.{Verdict}
-use Rattle.base_search.specs.declared.Verdict.TheVariants.{Passes, Refused}
-use Rattle.base_search.specs.Checks.{Checks, Hold, verdict}
+use Rattle.base_search.specs.Checks.{Checks, Hold, verdict, Verdict}
 use Rattle.base_search.proofs.Laws.{hold-of-passes, passes-of-hold}
 use Rattle.text_reader.specs.Lines.{Line}
 use Rattle.base_laws.specs.Sum.{joined}
@@ -14,10 +12,11 @@ use Rattle.model.specs.Calls.{is_passed, row_checks, rows_written, written, ledg
 use Rattle.model.specs.Guarantees.{RowDue, place_of, LedgerPromises}
 use Rattle.base_laws.proofs.Sums.{count-holds, holds-count}
 use Rattle.model.proofs.Rows.{length-rows, written_at, length-written}
+use Rattle.std.specs.Prelude.{Ok, Err}
 
-verdict-passed : (v : Verdict) → is_passed v ≡ true → v ≡ Passes
-verdict-passed Passes h = refl
-verdict-passed (Refused r) h = cc
+verdict-passed : (v : Verdict) → is_passed v ≡ true → v ≡ Ok tt
+verdict-passed (Ok tt) h = refl
+verdict-passed (Err r) h = cc
 
 passed-holds : (c : Checks) → is_passed (verdict c) ≡ true → Hold c
 passed-holds c h = hold-of-passes c (verdict-passed (verdict c) h)
@@ -26,7 +25,7 @@ holds-passed : (c : Checks) → Hold c → is_passed (verdict c) ≡ true
 holds-passed c h = rw (passes-of-hold c h)
 
 -- checks that are refused do not all hold
-pub refused-fails : (c : Checks) (r : Refusal) → verdict c ≡ Refused r → Hold c → ⊥
+pub refused-fails : (c : Checks) (r : Refusal) → verdict c ≡ Err r → Hold c → ⊥
 refused-fails c r v h = let e = passes-of-hold c h in let z : ◌≡◌ {A = ℕ} 0 1 = cc in omega arith
 
 module _ (network plan : List Line) (size : ℕ) where

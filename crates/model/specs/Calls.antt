@@ -1,18 +1,19 @@
 -- The calls: their answers, and the ledger after a plan's check.
-use Rattle.std.specs.Prelude.{ℕ, suc, ◌+◌, ◌*◌, ◌-◌, ◌/◌, Bool, true, false, cond, List, [], ◌++◌, leb, ltb, eqb, length, get_or, drop}
-use Rattle.base_search.specs.declared.Verdict.{Verdict}
-use Rattle.base_search.specs.declared.Verdict.TheVariants.{Passes, Refused}
-use Rattle.base_search.specs.Checks.{Checks, check, each, ◌then◌, verdict}
+use Rattle.std.specs.Prelude.{ℕ, suc, ◌+◌, ◌*◌, ◌-◌, ◌/◌, Bool, true, false, cond, List, [], ◌++◌, leb, ltb, eqb, length, get_or, drop, Result, Ok, Err}
+use Rattle.base_search.specs.Checks.{Checks, check, each, ◌then◌, verdict, Verdict}
 use Rattle.text_reader.specs.Lines.{Line}
-use Rattle.model.specs.declared.PlanAnswer.{PlanAnswer}
-use Rattle.model.specs.declared.PlanAnswer.TheVariants as plan-answer
-use Rattle.model.specs.declared.LinkAnswer.{LinkAnswer}
-use Rattle.model.specs.declared.LinkAnswer.TheVariants as link-answer
 use Rattle.base_laws.specs.Test.{◌and◌, ◌or◌, within}
 use Rattle.base_laws.specs.Sum.{sum, only, joined}
 use Rattle.model.specs.Network.{link_count, step_count, past_count, on_timeline, travel_time, standing, timeline_length, time, timeline_time, arrival_step, elapsed}
 use Rattle.model.specs.Flows.{timeline_entered, totals, row}
 use Rattle.model.specs.Table.{network_checks, ledger_checks, line_checks, plan_checks}
+use Rattle.model.specs.declared.LinkState.{LinkState}
+use Rattle.base_search.specs.declared.Refusal.{Refusal}
+use Rattle.model.specs.declared.Totals.{Totals}
+
+-- the state of a link that has so many queued (the paper's standing) and in transit (its moving)
+abbrev pub state_of : ℕ → ℕ → LinkState
+state_of queued in_transit = record { queued = queued; in_transit = in_transit }
 
 -- ---- check a network
 unfoldable pub check_network : List Line → Verdict
@@ -20,18 +21,18 @@ check_network network = verdict (network_checks network)
 
 -- ---- check a plan
 -- an accepted plan is returned with the four totals
-unfoldable pub plan_answer : List Line → List Line → Verdict → PlanAnswer
-plan_answer network plan Passes = plan-answer.Accepted (totals network plan (step_count network))
-plan_answer network plan (Refused r) = plan-answer.Refused r
+unfoldable pub plan_answer : List Line → List Line → Verdict → Result Totals Refusal
+plan_answer network plan (Ok tt) = Ok (totals network plan (step_count network))
+plan_answer network plan (Err r) = Err r
 
 -- with a ledger of so many numbers
-unfoldable pub check_plan : List Line → List Line → ℕ → PlanAnswer
+unfoldable pub check_plan : List Line → List Line → ℕ → Result Totals Refusal
 check_plan network plan size = plan_answer network plan (verdict (plan_checks network plan size))
 
 -- whether a verdict passes
 abbrev pub is_passed : Verdict → Bool
-is_passed Passes = true
-is_passed (Refused r) = false
+is_passed (Ok tt) = true
+is_passed (Err r) = false
 
 -- what comes before row n: the network's checks, the ledger's length, and steps 1 to n
 unfoldable pub row_checks : List Line → List Line → ℕ → ℕ → Checks
@@ -94,10 +95,10 @@ module _ (network : List Line) (ledger : List ℕ) (boundary link : ℕ) where
       then check 20 0 0 (within 1 link (link_count network))
       then check 21 0 0 (rises_inside and leb (ledger_left * end_length) scaled_arrived and leb scaled_arrived (ledger_entered boundary * end_length))
 
-  -- queued (the paper's standing), rounded down, and the rest in transit (its moving)
-  unfoldable pub link_answer : Verdict → LinkAnswer
-  link_answer Passes = link-answer.State (ledger_arrived - ledger_left) (ledger_entered boundary - ledger_arrived)
-  link_answer (Refused r) = link-answer.Refused r
+  -- queued, rounded down, and the rest in transit
+  unfoldable pub link_answer : Verdict → Result LinkState Refusal
+  link_answer (Ok tt) = Ok (state_of (ledger_arrived - ledger_left) (ledger_entered boundary - ledger_arrived))
+  link_answer (Err r) = Err r
 
-  unfoldable pub link_state : LinkAnswer
+  unfoldable pub link_state : Result LinkState Refusal
   link_state = link_answer (verdict state_checks)

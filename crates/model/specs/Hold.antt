@@ -1,13 +1,14 @@
 -- What a plan text stands for (T-07): an empty one means that the network holds.
-use Rattle.std.specs.Prelude.{ℕ, ◌+◌, ◌*◌, ◌-◌, ◌^◌, ◌≡◌, List, [], ◌∷◌, ltb, length}
+use Rattle.std.specs.Prelude.{ℕ, ◌+◌, ◌*◌, ◌-◌, ◌^◌, ◌≡◌, List, [], ◌∷◌, ltb, length, Result}
 use Rattle.text_reader.specs.Lines.{Line, lines}
 use Rattle.text_writer.specs.Records.{record_texts, record_lines}
-use Rattle.model.specs.declared.PlanAnswer.{PlanAnswer}
 use Rattle.base_laws.specs.Sum.{only}
 use Rattle.base_laws.specs.Indexed.{list}
 use Rattle.model.specs.Network.{link_count, signal_count, movement_count, step_count, signal}
 use Rattle.model.specs.Table.{letter_p}
 use Rattle.model.specs.Calls.{check_plan, ledger_after}
+use Rattle.base_search.specs.declared.Refusal.{Refusal}
+use Rattle.model.specs.declared.Totals.{Totals}
 
 module _ (network : List Line) where
   -- the numbers of a line in which each signal keeps its shown phase and every volume is 0
@@ -32,6 +33,6 @@ abbrev pub plan_of : List ℕ → List ℕ → List Line
 plan_of network_text plan_text = meant (lines network_text) (lines plan_text)
 
 -- The theorem of T-07, of a plan's check with the ledger before and after it: an empty text gets the answer and the ledger of the plan that holds, written out.
-pub record EmptyHolds (network_text plan_text before after : List ℕ) (answer : PlanAnswer) : Type 0 where
+pub record EmptyHolds (network_text plan_text before after : List ℕ) (answer : Result Totals Refusal) : Type 0 where
   pub answered : length plan_text ≡ 0 → answer ≡ check_plan (lines network_text) (plan_of network_text (hold_text (lines network_text))) (length before)
   pub rows : length plan_text ≡ 0 → after ≡ ledger_after (lines network_text) (plan_of network_text (hold_text (lines network_text))) before

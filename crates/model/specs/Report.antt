@@ -1,8 +1,6 @@
 -- What the program `plancheck` prints ("One corridor, whole").
-use Rattle.std.specs.Prelude.{ℕ, suc, List, [], ◌∷◌, ◌++◌}
-use Rattle.base_search.specs.declared.Verdict.{Verdict}
-use Rattle.base_search.specs.declared.Verdict.TheVariants.{Passes, Refused}
-use Rattle.base_search.specs.Checks.{◌then◌, verdict}
+use Rattle.std.specs.Prelude.{ℕ, suc, List, [], ◌∷◌, ◌++◌, Ok, Err}
+use Rattle.base_search.specs.Checks.{◌then◌, verdict, Verdict}
 use Rattle.text_reader.specs.Lines.{Line, lines}
 use Rattle.text_writer.specs.Records.{record_text, record_texts}
 use Rattle.base_laws.specs.Sum.{sum}
@@ -17,12 +15,12 @@ boundary_numbers network plan n = n ∷ time network n ∷ row network plan n
 
 -- `A` with the four totals and a `B` record for each boundary; or `R`, number, line, item
 unfoldable pub report_text : List Line → List Line → Verdict → List ℕ
-report_text network plan Passes =
+report_text network plan (Ok tt) =
     record_text 65
     (sum (step_count network) (all_admitted network plan) ∷ sum (step_count network) (all_let_out network plan)
     ∷ vehicles network plan (step_count network) ∷ doubled_time network plan (step_count network) ∷ [])
     ++ record_texts 66 (suc (step_count network)) (boundary_numbers network plan)
-report_text network plan (Refused r) = record_text 82 (r.number ∷ r.line ∷ r.item ∷ [])
+report_text network plan (Err r) = record_text 82 (r.number ∷ r.line ∷ r.item ∷ [])
 
 -- of two texts that were read; the program lends a ledger that is long enough for every network
 unfoldable pub report : List ℕ → List ℕ → List ℕ

@@ -2,8 +2,6 @@
 // of a signal.
 #![tactic(auto)]
 
-use base_search::Refusal;
-
 // A signal (the paper's light): its `G` line, with the phase that it shows, for how many seconds, and the seconds since phase 1 last began.
 // `least` and `greatest` have phase k's times at k - 1.
 #[derive(Clone, Copy)]
@@ -27,16 +25,9 @@ pub struct Totals {
     pub doubled_time: u64,
 }
 
-// The answer of a plan's check.
-#[derive(Clone, Copy)]
-pub enum PlanAnswer {
-    Accepted(Totals),
-    Refused(Refusal),
-}
-
 // The state of one link: queued and in transit, the paper's standing and moving.
 #[derive(Clone, Copy)]
-pub enum LinkAnswer {
-    State { queued: u32, in_transit: u32 },
-    Refused(Refusal),
+pub struct LinkState {
+    pub queued: u32,
+    pub in_transit: u32,
 }

@@ -1,6 +1,5 @@
 -- The theorem of T-09, whole.
 use Rattle.base_laws.proofs.Kit.{◌≡◌, ◌∙◌, ◌↔◌, List, [], ◌++◌, ℕ, ◌+◌, ◌-◌, ◌≤◌, ◌<◌, arith, length, take, drop, leb-true, eqb-true}
-use Rattle.base_search.specs.declared.Verdict.TheVariants.{Passes}
 use Rattle.base_search.specs.Checks.{verdict, Hold}
 use Rattle.base_search.proofs.Laws.{hold-of-passes, passes-of-hold}
 use Rattle.text_reader.specs.Lines.{Line}
@@ -16,6 +15,7 @@ use Rattle.model_carry.proofs.Theorem as theorem
 use Rattle.model_carry.proofs.Theorem.{cut-steps, carried-holds, reads-back}
 use Rattle.model_carry.proofs.Twice.{carried-twice}
 use Rattle.model_carry.proofs.Hold.{held_first, held-rest}
+use Rattle.std.specs.Prelude.{Ok}
 
 module _ (network : List Line) where
   -- a plan that is carried on: the network is valid, the boundary is inside, and each line is accepted on the cut network
@@ -23,7 +23,7 @@ module _ (network : List Line) where
     holds : Hold (network_checks network)
     first : 1 ≤ b
     last : b < step_count network
-    passes : (n : ℕ) → n < b → verdict (line_checks (cut network b) plan n) ≡ Passes
+    passes : (n : ℕ) → n < b → verdict (line_checks (cut network b) plan n) ≡ Ok tt
     lines : length plan ≡ b
 
   of-checks : (plan : List Line) (b size room : ℕ) → Hold (carry_checks network plan b size room) → Carried plan b
@@ -43,7 +43,7 @@ module _ (network : List Line) where
   carried_of : (plan : List Line) (b size room : ℕ) → Carries network plan b size room → Carried plan b
   carried_of plan b size room h = of-checks plan b size room (hold-of-passes (carry_checks network plan b size room) h)
 
-  valid : (plan : List Line) (b size room : ℕ) → Carries network plan b size room → verdict (network_checks (next network plan b)) ≡ Passes
+  valid : (plan : List Line) (b size room : ℕ) → Carries network plan b size room → verdict (network_checks (next network plan b)) ≡ Ok tt
   valid plan b size room h =
       let c = carried_of plan b size room h in
       rw (reads-back network b c.holds c.first c.last plan c.passes) (passes-of-hold _ (carried-holds network b c.holds c.first c.last plan c.passes))

@@ -2,14 +2,13 @@
 use Rattle.base_laws.proofs.Kit.{◌≡◌, refl, List, [], ◌∷◌, ◌++◌, map, ℕ, replicate}
 use Prim.Native.String.{String}
 use Prim.Native.String as string
-use Rattle.base_search.specs.declared.Verdict.{Verdict}
-use Rattle.base_search.specs.declared.Verdict.TheVariants.{Passes, Refused}
-use Rattle.base_search.specs.Checks.{verdict}
+use Rattle.base_search.specs.Checks.{verdict, Verdict}
 use Rattle.text_reader.specs.Lines.{lines}
 use Rattle.text_writer.specs.Records.{record_text}
 use Rattle.model.proofs.Texts.{bytes, the_network, corridor}
 use Rattle.model_carry.specs.Call.{planned_on, carry_checks, carry_ledger, carry_buffer}
 use Rattle.model_carry.proofs.Opened.{opened}
+use Rattle.std.specs.Prelude.{Ok, Err}
 
 -- a network text, a plan text, a boundary, the lengths of a ledger and of a buffer of sevens, and the buffer after it; or what is told of a refusal, which leaves it
 pub record CarryCase : Type 0 where
@@ -22,8 +21,8 @@ pub record CarryCase : Type 0 where
 
 -- the record of a refusal
 abbrev told : Verdict → List ℕ → List ℕ
-told Passes after = after
-told (Refused r) after = record_text 82 (r.number ∷ r.line ∷ r.item ∷ [])
+told (Ok tt) after = after
+told (Err r) after = record_text 82 (r.number ∷ r.line ∷ r.item ∷ [])
 
 abbrev outcome : CarryCase → List ℕ
 outcome c =

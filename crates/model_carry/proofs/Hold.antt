@@ -1,7 +1,6 @@
 -- An empty plan means hold (T-07): the lines that it stands for on the whole network are those on the cut network and those on the carried one.
 use Rattle.base_laws.proofs.Kit.{◌≡◌, sym, ap, ap₂, ◌∙◌, List, [], ◌∷◌, ◌++◌, append_assoc, append-nil, ℕ, zero, suc, ◌+◌, ◌*◌, ◌-◌, ◌≤◌, ◌<◌, dec_lt, arith, le-ltb, take, drop, get_or-take, take_at, drop_at}
 use Rattle.base_search.specs.Checks.{verdict, Hold}
-use Rattle.base_search.specs.declared.Verdict.TheVariants.{Passes}
 use Rattle.text_reader.specs.Lines.{Line, no_line, number}
 use Rattle.text_writer.specs.Records.{record_line, record_lines}
 use Rattle.text_writer.proofs.Records.{lines-count}
@@ -18,6 +17,7 @@ use Rattle.model_carry.proofs.Agree.{signal-agree}
 use Rattle.model_carry.proofs.Parts.{part-signals, part-links, part-movements, part-signal}
 use Rattle.model_carry.proofs.Theorem.{cut-steps, carried-steps}
 use Rattle.base_laws.proofs.Sums.{list_same}
+use Rattle.std.specs.Prelude.{Ok}
 
 -- ---- equal lines
 more-lines : (letter b n : ℕ) (ns : List ℕ) → record_lines letter (b + n) (λ k. ns) ≡ record_lines letter b (λ k. ns) ++ record_lines letter n (λ k. ns)
@@ -64,7 +64,7 @@ module _ (network : List Line) (b : ℕ) (holds : Hold (network_checks network))
       ap (take b) parts ∙ take_at _ _ b (lines-count letter_p b _)
       ∙ ap₂ (λ n ns. record_lines letter_p n (λ k. ns)) (sym (cut-steps network b holds o u)) (sym cut-numbers)
 
-  module _ (passes : (n : ℕ) → n < b → verdict (line_checks (cut network b) (take b W) n) ≡ Passes) where
+  module _ (passes : (n : ℕ) → n < b → verdict (line_checks (cut network b) (take b W) n) ≡ Ok tt) where
     abbrev C : List Line
     C = carried network (take b W) b
 

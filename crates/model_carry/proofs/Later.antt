@@ -1,14 +1,13 @@
 -- Refusals told some lines later.
 use Rattle.base_laws.proofs.Kit.{◌≡◌, refl, Bool, true, false, ℕ, zero, suc, ◌+◌, ◌≤◌, ◌<◌, arith}
-use Rattle.base_search.specs.declared.Verdict.{Verdict}
-use Rattle.base_search.specs.declared.Verdict.TheVariants.{Passes, Refused}
-use Rattle.base_search.specs.Checks.{or_else, first_from, checked}
+use Rattle.base_search.specs.Checks.{or_else, first_from, checked, Verdict}
 use Rattle.model_carry.specs.CarriesOn.{later}
+use Rattle.std.specs.Prelude.{Ok, Err}
 
 pub later-or-else : (a : ℕ) (v w : Verdict) → or_else (later a v) (later a w) ≡ later a (or_else v w)
 unfolding later or_else
-later-or-else a Passes w = refl
-later-or-else a (Refused r) w = refl
+later-or-else a (Ok tt) w = refl
+later-or-else a (Err r) w = refl
 
 pub later-checked : (a : ℕ) (b : Bool) (x y z : ℕ) → checked b x (a + y) z ≡ later a (checked b x y z)
 unfolding later checked
@@ -25,11 +24,11 @@ later_first a d f g (suc n) i h =
 
 pub later-none : (v : Verdict) → later 0 v ≡ v
 unfolding later
-later-none Passes = refl
-later-none (Refused r) = let e : 0 + r.line ≡ r.line = omega arith in rw e refl
+later-none (Ok tt) = refl
+later-none (Err r) = let e : 0 + r.line ≡ r.line = omega arith in rw e refl
 
 -- later is refused exactly what is refused
-pub later-passes : (a : ℕ) (v : Verdict) → later a v ≡ Passes → v ≡ Passes
+pub later-passes : (a : ℕ) (v : Verdict) → later a v ≡ Ok tt → v ≡ Ok tt
 unfolding later
-later-passes a Passes h = refl
-later-passes a (Refused r) h = cc
+later-passes a (Ok tt) h = refl
+later-passes a (Err r) h = cc

@@ -1,7 +1,6 @@
 -- What the call promises beside the theorem: what it wrote, and that the number of a refusal is one that can arise.
 use Rattle.base_laws.proofs.Kit.{◌≡◌, refl, sym, ap, ◌∙◌, List, ℕ, length, take}
 use Rattle.base_search.specs.declared.Refusal.{Refusal}
-use Rattle.base_search.specs.declared.Verdict.TheVariants as verdicts
 use Rattle.base_search.specs.Checks.{verdict}
 use Rattle.base_search.specs.Numbers.{is_one_of}
 use Rattle.base_search.proofs.Numbers.{Numbered, refused-number, all_of}
@@ -9,13 +8,12 @@ use Rattle.text_reader.specs.Lines.{Line, lines}
 use Rattle.model.specs.Table.{network_checks}
 use Rattle.model.specs.Calls.{check_network}
 use Rattle.model.proofs.Numbers.{network-among, plan-among}
-use Rattle.model_text.specs.declared.TextAnswer.{TextAnswer}
-use Rattle.model_text.specs.declared.TextAnswer.TheVariants as answers
 use Rattle.model_text.proofs.Answers.{passes-of-written, refused-of-answer, text_of, kept_of}
 use Rattle.model_carry.specs.Part.{cut, carried_text}
 use Rattle.model_carry.specs.Call.{boundary_checks, carry_numbers, carry_checks, carry_on, carry_ledger, carry_buffer}
 use Rattle.model_carry.specs.CarriesOn.{CarriedOn}
 use Rattle.model_carry.proofs.CarriesOn.{carries-on}
+use Rattle.std.specs.Prelude.{Result, Ok, Err}
 
 module _ (network plan : List Line) (b size room : ℕ) where
   pub carry-numbered : Numbered carry_numbers (carry_checks network plan b size room)
@@ -23,7 +21,7 @@ module _ (network plan : List Line) (b size room : ℕ) where
   carry-numbered = ((network-among network carry_numbers refl, refl), (plan-among (cut network b) plan size carry_numbers refl, refl))
 
 -- an answer, a ledger and a buffer that are those of the definitions
-pub carried_on : (network plan : List Line) (b : ℕ) (ledger buffer : List ℕ) {ledger_after buffer_after : List ℕ} {answer : TextAnswer}
+pub carried_on : (network plan : List Line) (b : ℕ) (ledger buffer : List ℕ) {ledger_after buffer_after : List ℕ} {answer : (Result ℕ Refusal)}
     → answer ≡ carry_on network plan b (length ledger) (length buffer) → ledger_after ≡ carry_ledger network plan b ledger → buffer_after ≡ carry_buffer network plan b (length ledger) buffer
     → CarriedOn network plan b ledger ledger_after buffer buffer_after answer
 unfolding carry_on check_network carry_buffer
@@ -41,10 +39,10 @@ carried_on network plan b ledger buffer {buffer_after = after} {answer = answer}
       refused-number = λ r e. refused-number carry_numbers _ r (carry-numbered network plan b (length ledger) (length buffer)) (refused r e);
     }
   where
-    refused : (r : Refusal) → answer ≡ answers.Refused r → verdict (carry_checks network plan b (length ledger) (length buffer)) ≡ verdicts.Refused r
+    refused : (r : Refusal) → answer ≡ Err r → verdict (carry_checks network plan b (length ledger) (length buffer)) ≡ Err r
     refused r e = refused-of-answer (carried_text network plan b) _ r (sym told ∙ e)
 
-    written : (end : ℕ) → answer ≡ answers.Written end → take end after ≡ carried_text network plan b
+    written : (end : ℕ) → answer ≡ Ok end → take end after ≡ carried_text network plan b
     written end e =
         let w = passes-of-written (carried_text network plan b) _ end (sym told ∙ e) in
         rw (holds, w.1) (text_of (carried_text network plan b) _ buffer w.0)

@@ -1,9 +1,7 @@
 -- Where the theorem of T-09 would fail under another reading, by computation on the definitions.
 use Rattle.base_laws.proofs.Kit.{◌≡◌, refl, List, take, drop}
 use Prim.Native.String.{String, ◌++◌}
-use Rattle.base_search.specs.declared.Verdict.{Verdict}
-use Rattle.base_search.specs.declared.Verdict.TheVariants.{Passes, Refused}
-use Rattle.base_search.specs.Checks.{refusal, verdict}
+use Rattle.base_search.specs.Checks.{refusal, verdict, Verdict}
 use Rattle.text_reader.specs.Lines.{Line, lines}
 use Rattle.model.specs.Table.{plan_checks}
 use Rattle.model.specs.Hold.{meant}
@@ -11,6 +9,7 @@ use Rattle.model.proofs.Texts.{bytes}
 use Rattle.model_carry.specs.Part.{cut, carried}
 use Rattle.model_carry.specs.Call.{carry_checks}
 use Rattle.model_carry.proofs.Opened.{opened}
+use Rattle.std.specs.Prelude.{Ok, Err}
 
 abbrev read : String → List Line
 read text = lines (bytes text)
@@ -27,10 +26,10 @@ crowded = read "N\t1\t0\t0\t2\t0\t0\nQ\t100\t10\t0\t0\t0\t0\t71400000\nS\t10\t60
 abbrev idle : List Line
 idle = read "P\t0\t0\nP\t0\t0\n"
 
-pub judged-whole : (judged crowded idle ≡ Refused (refusal 30 0 0))
-    × (judged (cut crowded 1) (take 1 idle) ≡ Passes)
-    × (judged (carried crowded (take 1 idle) 1) (drop 1 idle) ≡ Passes)
-    × (verdict (carry_checks crowded (take 1 idle) 1 100 1000) ≡ Refused (refusal 30 0 0))
+pub judged-whole : (judged crowded idle ≡ Err (refusal 30 0 0))
+    × (judged (cut crowded 1) (take 1 idle) ≡ Ok tt)
+    × (judged (carried crowded (take 1 idle) 1) (drop 1 idle) ≡ Ok tt)
+    × (verdict (carry_checks crowded (take 1 idle) 1 100 1000) ≡ Err (refusal 30 0 0))
 unfolding opened
 judged-whole = (refl, refl, refl, refl)
 
@@ -41,9 +40,9 @@ backwards = read "N\t1\t1\t0\t4\t1\t0\nT\t1\t1\t4\t2\nG\t20\t60\t2\t1\t0\t0\t10\
 abbrev still : List Line
 still = read "P\t1\t0\t0\nP\t1\t0\t0\nP\t1\t0\t0\nP\t1\t0\t0\n"
 
-pub judged-whole-trams : (judged backwards still ≡ Refused (refusal 28 2 0))
-    × (judged (cut backwards 3) (take 3 still) ≡ Passes)
-    × (judged (carried backwards (take 3 still) 3) (drop 3 still) ≡ Passes)
+pub judged-whole-trams : (judged backwards still ≡ Err (refusal 28 2 0))
+    × (judged (cut backwards 3) (take 3 still) ≡ Ok tt)
+    × (judged (carried backwards (take 3 still) 3) (drop 3 still) ≡ Ok tt)
 unfolding opened
 judged-whole-trams = (refl, refl, refl)
 
@@ -51,9 +50,9 @@ judged-whole-trams = (refl, refl, refl)
 abbrev quiet : List Line
 quiet = read "N\t1\t0\t0\t2\t0\t0\nQ\t100\t10\t0\t0\t0\t0\t0\nS\t10\t0\nS\t10\t0\n"
 
-pub all_lines : (judged quiet (take 1 idle) ≡ Refused (refusal 9 2 0))
-    × (verdict (carry_checks quiet (take 1 idle) 1 100 1000) ≡ Passes)
-    × (judged (carried quiet (take 1 idle) 1) (drop 1 (take 1 idle)) ≡ Passes)
+pub all_lines : (judged quiet (take 1 idle) ≡ Err (refusal 9 2 0))
+    × (verdict (carry_checks quiet (take 1 idle) 1 100 1000) ≡ Ok tt)
+    × (judged (carried quiet (take 1 idle) 1) (drop 1 (take 1 idle)) ≡ Ok tt)
 unfolding opened
 all_lines = (refl, refl, refl)
 
@@ -67,9 +66,9 @@ passing = read "P\t4\t0\t0\nP\t1\t0\t0\n"
 abbrev carried_with : String → List Line
 carried_with shown = read ("N\t1\t1\t0\t1\t0\t1\nG\t20\t60\t4\t" ++ shown ++ "\t0\t0\t10\t60\t10\t60\t10\t60\t10\t60\nQ\t100\t10\t0\t0\t0\t0\t0\nH\t10\t0\t0\nS\t10\t0\n")
 
-pub last-ordinary-phase : (judged tramway passing ≡ Passes)
+pub last-ordinary-phase : (judged tramway passing ≡ Ok tt)
     × (carried tramway (take 1 passing) 1 ≡ carried_with "1")
-    × (judged (carried_with "1") (drop 1 passing) ≡ Passes)
-    × (judged (carried_with "3") (drop 1 passing) ≡ Refused (refusal 11 1 1))
+    × (judged (carried_with "1") (drop 1 passing) ≡ Ok tt)
+    × (judged (carried_with "3") (drop 1 passing) ≡ Err (refusal 11 1 1))
 unfolding opened
 last-ordinary-phase = (refl, refl, refl, refl)

@@ -1,8 +1,6 @@
 -- The theorem of T-09.
 use Rattle.base_laws.proofs.Kit.{◌≡◌, refl, sym, ap, ap₂, ◌∙◌, ◌↔◌, List, [], ℕ, suc, ◌+◌, ◌*◌, ◌-◌, ◌≤◌, ◌<◌, mul-le-mul_right, arith, length, get_or, take, drop, length-drop, get_or-take, get_or-drop, length-take-le, le-leb, eq-eqb}
-use Rattle.base_search.specs.declared.Verdict.{Verdict}
-use Rattle.base_search.specs.declared.Verdict.TheVariants.{Passes, Refused}
-use Rattle.base_search.specs.Checks.{or_else, first_from, verdict, Hold}
+use Rattle.base_search.specs.Checks.{or_else, first_from, verdict, Hold, Verdict}
 use Rattle.base_search.proofs.Laws.{or-else-first, or-else-second, or-else-passes, or-else-refused, first-split, first-same, first-all, checked-passes, hold-of-passes, passes-of-hold}
 use Rattle.text_reader.specs.Lines.{Line, no_line, number}
 use Rattle.base_laws.specs.Sum.{sum}
@@ -21,11 +19,12 @@ use Rattle.model_carry.proofs.Lines.{line_same}
 use Rattle.model_carry.proofs.Parts.{part-links, part-steps}
 use Rattle.model_carry.proofs.PartValid.{part-goes-on, part-holds}
 use Rattle.base_laws.proofs.Tests.{is_within}
+use Rattle.std.specs.Prelude.{Ok, Err}
 
-or_else_none : (v : Verdict) → or_else v Passes ≡ v
+or_else_none : (v : Verdict) → or_else v (Ok tt) ≡ v
 unfolding or_else
-or_else_none Passes = refl
-or_else_none (Refused r) = refl
+or_else_none (Ok tt) = refl
+or_else_none (Err r) = refl
 
 -- a plan of as many lines as the network has steps, with a ledger that is long enough, is judged line by line
 lines-judged : (network plan : List Line) (size : ℕ) → Hold (network_checks network) → 2 * suc (step_count network) * link_count network ≤ size → length plan ≡ step_count network
@@ -80,7 +79,7 @@ module _ (network : List Line) (b : ℕ) (holds : Hold (network_checks network))
         omega arith
 
   -- ---- the carried network, after a plan of b lines that the cut network accepts line by line
-  module _ (plan : List Line) (passes : (n : ℕ) → n < b → verdict (line_checks (cut network b) plan n) ≡ Passes) where
+  module _ (plan : List Line) (passes : (n : ℕ) → n < b → verdict (line_checks (cut network b) plan n) ≡ Ok tt) where
     keeps : (k : ℕ) → k < b → LawfulStep network plan k
     keeps k h = lawful-step network plan k (hold-of-passes (line_checks network plan k) (cut_line_lem plan plan (λ n w. refl) k h ∙ passes k h))
 
@@ -170,8 +169,8 @@ module _ (network plan : List Line) (b size room : ℕ) (parted : Parted network
         let z : 0 + b ≡ b = omega arith in
         lines-judged network plan size holds parted.ledger-room parted.whole ∙ ap (λ n. first_from whole_line n 0) e ∙ first-split whole_line b (K - b) 0 ∙ rw z (ap (λ v. or_else v (first_from whole_line (K - b) b)) first-lines)
 
-    module _ (passes : first_from cut_line b 0 ≡ Passes) where
-      passed : (n : ℕ) → n < b → cut_line n ≡ Passes
+    module _ (passes : first_from cut_line b 0 ≡ Ok tt) where
+      passed : (n : ℕ) → n < b → cut_line n ≡ Ok tt
       passed = first-all cut_line b passes
 
       abbrev C : List Line
@@ -205,16 +204,16 @@ module _ (network plan : List Line) (b size room : ℕ) (parted : Parted network
       later-part = later b (verdict (plan_checks (next network first b) rest size))
 
       by_lines : (holds : Hold (network_checks network)) (v : Verdict) → first_from (cut_line holds) b 0 ≡ v → verdict (plan_checks network plan size) ≡ or_else (first_from (cut_line holds) b 0) later-part
-      by_lines holds Passes e = whole-judged holds ∙ ap (or_else (first_from (cut_line holds) b 0)) (rest-judged holds e)
-      by_lines holds (Refused r) e = whole-judged holds ∙ or-else-refused _ _ r e ∙ sym (or-else-refused _ _ r e)
+      by_lines holds (Ok tt) e = whole-judged holds ∙ ap (or_else (first_from (cut_line holds) b 0)) (rest-judged holds e)
+      by_lines holds (Err r) e = whole-judged holds ∙ or-else-refused _ _ r e ∙ sym (or-else-refused _ _ r e)
 
       go : (v : Verdict) → verdict (network_checks network) ≡ v → verdict (plan_checks network plan size) ≡ or_else (verdict (carry_checks network first b size room)) later-part
-      go Passes e =
+      go (Ok tt) e =
           let holds = hold-of-passes (network_checks network) e in
           by_lines holds _ refl ∙ ap (λ v. or_else v later-part) (sym (carry-judged holds))
-      go (Refused r) e =
-          let whole : verdict (plan_checks network plan size) ≡ Refused r = unfold verdict plan_checks in or-else-refused _ _ r e in
-          let call : verdict (carry_checks network first b size room) ≡ Refused r = unfold verdict carry_checks boundary_checks in or-else-refused _ _ r (or-else-refused _ _ r e) in
+      go (Err r) e =
+          let whole : verdict (plan_checks network plan size) ≡ Err r = unfold verdict plan_checks in or-else-refused _ _ r e in
+          let call : verdict (carry_checks network first b size room) ≡ Err r = unfold verdict carry_checks boundary_checks in or-else-refused _ _ r (or-else-refused _ _ r e) in
           whole ∙ sym (or-else-refused _ later-part r call)
 
   pub exactly : Accepts network plan size ↔ (Carries network first b size room × Accepts (next network first b) rest size)
@@ -228,7 +227,7 @@ module _ (network plan : List Line) (b size room : ℕ) (parted : Parted network
     holds : Hold (network_checks network)
     holds = unfold plan_checks Hold in (hold-of-passes (plan_checks network plan size) accepted).0
 
-    passes : first_from (cut_line holds) b 0 ≡ Passes
+    passes : first_from (cut_line holds) b 0 ≡ Ok tt
     passes = sym (carry-judged holds) ∙ (exactly.0 accepted).0
 
     pub rows : (n : ℕ) → n ≤ K - b → row (next network first b) rest n ≡ row network plan (b + n)

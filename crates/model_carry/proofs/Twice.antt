@@ -1,6 +1,5 @@
 -- To carry on twice is to carry on once.
 use Rattle.base_laws.proofs.Kit.{◌≡◌, refl, sym, ap, ap₂, ◌∙◌, Bool, true, false, cond, List, [], ◌∷◌, ◌++◌, map, ℕ, suc, ◌+◌, ◌-◌, ◌≤◌, ◌<◌, min, max, le_trans, arith, leb, length, get_or, List·getD-append, get_or-append-add, lt-leb, leb-true, leb-false}
-use Rattle.base_search.specs.declared.Verdict.TheVariants.{Passes}
 use Rattle.base_search.specs.Checks.{Hold, verdict}
 use Rattle.text_reader.specs.Lines.{Line, no_line, number, number_of}
 use Rattle.text_writer.specs.Records.{record_line}
@@ -15,6 +14,7 @@ use Rattle.model_carry.proofs.GoesOn.{GoesOn, on-timeline-same, length-same, tim
 use Rattle.model_carry.proofs.Theorem.{carried-steps, carried-goes-on}
 use Rattle.base_laws.proofs.Tests.{leb-same}
 use Rattle.base_laws.proofs.Sums.{list_same, joined_same}
+use Rattle.std.specs.Prelude.{Ok}
 
 -- ---- a tram line clipped twice
 module _ (b c K : ℕ) where
@@ -115,7 +115,7 @@ module _ (network whole other more : List Line) (b c : ℕ) (p : GoesOn network 
       }
 
 module _ (network : List Line) (b : ℕ) (holds : Hold (network_checks network)) (o : 1 ≤ b) (u : b < step_count network)
-    (plan : List Line) (passes : (n : ℕ) → n < b → verdict (line_checks (cut network b) plan n) ≡ Passes) (more : List Line) (lines : length plan ≡ b) where
+    (plan : List Line) (passes : (n : ℕ) → n < b → verdict (line_checks (cut network b) plan n) ≡ Ok tt) (more : List Line) (lines : length plan ≡ b) where
   abbrev C : List Line
   C = carried network plan b
 

@@ -1,6 +1,6 @@
 -- The call that carries on from boundary b: when it declines, and what it writes. The plan is the list of the lines that its text stands for on the cut network
 -- (`planned_on`).
-use Rattle.std.specs.Prelude.{ℕ, ◌-◌, cond, List, [], ◌∷◌, ◌++◌, leb, length}
+use Rattle.std.specs.Prelude.{ℕ, ◌-◌, cond, List, [], ◌∷◌, ◌++◌, leb, length, Result}
 use Rattle.base_search.specs.Checks.{Checks, check, ◌then◌, verdict}
 use Rattle.text_reader.specs.Lines.{Line, lines}
 use Rattle.base_laws.specs.Test.{within}
@@ -9,9 +9,9 @@ use Rattle.model.specs.Table.{network_checks, plan_checks}
 use Rattle.model.specs.Calls.{is_passed, ledger_after}
 use Rattle.model.specs.Hold.{meant}
 use Rattle.model.specs.Guarantees.{plan_numbers}
-use Rattle.model_text.specs.declared.TextAnswer.{TextAnswer}
 use Rattle.model_text.specs.Answers.{text_answer, bytes_after}
 use Rattle.model_carry.specs.Part.{cut, carried_text}
+use Rattle.base_search.specs.declared.Refusal.{Refusal}
 
 -- the lines of a plan text; an empty one means that the cut network holds (T-07)
 abbrev pub planned_on : List Line → ℕ → List ℕ → List Line
@@ -34,7 +34,7 @@ module _ (network plan : List Line) (b : ℕ) where
       then check 32 0 0 (leb (length (carried_text network plan b)) room)
 
   -- the answer: how long the text is
-  unfoldable pub carry_on : ℕ → ℕ → TextAnswer
+  unfoldable pub carry_on : ℕ → ℕ → Result ℕ Refusal
   carry_on ledger_size room = text_answer (carried_text network plan b) (verdict (carry_checks ledger_size room))
 
   -- the ledger after the call

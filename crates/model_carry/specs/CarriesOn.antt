@@ -1,9 +1,7 @@
 -- The theorem of T-09.
-use Rattle.std.specs.Prelude.{ℕ, suc, ◌+◌, ◌*◌, ◌-◌, ◌≤◌, ◌<◌, ◌≡◌, ◌↔◌, List, [], ◌++◌, length, take, drop}
+use Rattle.std.specs.Prelude.{ℕ, suc, ◌+◌, ◌*◌, ◌-◌, ◌≤◌, ◌<◌, ◌≡◌, ◌↔◌, List, [], ◌++◌, length, take, drop, Result, Ok, Err}
 use Rattle.base_search.specs.declared.Refusal.{Refusal}
-use Rattle.base_search.specs.declared.Verdict.{Verdict}
-use Rattle.base_search.specs.declared.Verdict.TheVariants.{Passes, Refused}
-use Rattle.base_search.specs.Checks.{refusal, or_else, verdict}
+use Rattle.base_search.specs.Checks.{refusal, or_else, verdict, Verdict}
 use Rattle.base_search.specs.Numbers.{CanArise}
 use Rattle.text_reader.specs.Lines.{Line, lines}
 use Rattle.model.specs.Network.{link_count, step_count}
@@ -11,23 +9,20 @@ use Rattle.model.specs.Flows.{doubled_time, row}
 use Rattle.model.specs.Table.{network_checks, plan_checks}
 use Rattle.model.specs.Calls.{check_network}
 use Rattle.model.specs.Hold.{meant}
-use Rattle.model_text.specs.declared.TextAnswer.{TextAnswer}
-use Rattle.model_text.specs.declared.TextAnswer.TheVariants as answers
-use Rattle.model_text.specs.declared.TextAnswer.TheVariants.{Written}
 use Rattle.model_carry.specs.Part.{cut, carried_text}
 use Rattle.model_carry.specs.Call.{carry_numbers, carry_checks, carry_on, carry_ledger, carry_buffer}
 
 -- a verdict with its line so many lines later
 unfoldable pub later : ℕ → Verdict → Verdict
-later a Passes = Passes
-later a (Refused r) = Refused (refusal r.number (a + r.line) r.item)
+later a (Ok tt) = Ok tt
+later a (Err r) = Err (refusal r.number (a + r.line) r.item)
 
 -- a plan is accepted, with a ledger of so many numbers; a plan of b lines is carried on
 abbrev pub Accepts : List Line → List Line → ℕ → Type 0
-Accepts network plan size = verdict (plan_checks network plan size) ≡ Passes
+Accepts network plan size = verdict (plan_checks network plan size) ≡ Ok tt
 
 abbrev pub Carries : List Line → List Line → ℕ → ℕ → ℕ → Type 0
-Carries network plan b size room = verdict (carry_checks network plan b size room) ≡ Passes
+Carries network plan b size room = verdict (carry_checks network plan b size room) ≡ Ok tt
 
 -- the network of the text that the call writes for a plan of b lines
 abbrev pub next : List Line → List Line → ℕ → List Line
@@ -57,7 +52,7 @@ pub record CarriesOn (network : List Line) : Type 0 where
       → verdict (plan_checks network plan size)
       ≡ or_else (verdict (carry_checks network (take b plan) b size room)) (later b (verdict (plan_checks (next network (take b plan) b) (drop b plan) size)))
   -- a network that is carried on is valid
-  pub valid : (plan : List Line) (b size room : ℕ) → Carries network plan b size room → verdict (network_checks (next network plan b)) ≡ Passes
+  pub valid : (plan : List Line) (b size room : ℕ) → Carries network plan b size room → verdict (network_checks (next network plan b)) ≡ Ok tt
   -- an empty plan text, which means hold (T-07), is accepted exactly when it is on the cut network and on the carried one
   pub held : (b size room : ℕ) → Parted network (meant network []) b size room
       → Accepts network (meant network []) size
@@ -68,12 +63,12 @@ pub record CarriesOn (network : List Line) : Type 0 where
 
 -- What the call promises of a plan, the ledger and the buffer before and after it, and its answer: all are those of the definitions; a text that was written is a valid
 -- network, and a refusal leaves the buffer as it was; the theorem; and a refusal's number is one that can arise.
-pub record CarriedOn (network plan : List Line) (b : ℕ) (ledger ledger_after buffer buffer_after : List ℕ) (answer : TextAnswer) : Type 0 where
+pub record CarriedOn (network plan : List Line) (b : ℕ) (ledger ledger_after buffer buffer_after : List ℕ) (answer : Result ℕ Refusal) : Type 0 where
   pub told : answer ≡ carry_on network plan b (length ledger) (length buffer)
   pub rows : ledger_after ≡ carry_ledger network plan b ledger
   pub holds : buffer_after ≡ carry_buffer network plan b (length ledger) buffer
-  pub written : (end : ℕ) → answer ≡ Written end → take end buffer_after ≡ carried_text network plan b
-  pub written-valid : (end : ℕ) → answer ≡ Written end → check_network (lines (take end buffer_after)) ≡ Passes
-  pub untouched : (r : Refusal) → answer ≡ answers.Refused r → buffer_after ≡ buffer
+  pub written : (end : ℕ) → answer ≡ Ok end → take end buffer_after ≡ carried_text network plan b
+  pub written-valid : (end : ℕ) → answer ≡ Ok end → check_network (lines (take end buffer_after)) ≡ Ok tt
+  pub untouched : (r : Refusal) → answer ≡ Err r → buffer_after ≡ buffer
   pub carries-on : CarriesOn network
-  pub refused-number : (r : Refusal) → answer ≡ answers.Refused r → CanArise carry_numbers r.number
+  pub refused-number : (r : Refusal) → answer ≡ Err r → CanArise carry_numbers r.number

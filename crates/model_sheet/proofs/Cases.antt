@@ -1,21 +1,20 @@
 -- Sheets kept and broken, and plans written, by computation on the definitions.
 use Rattle.base_laws.proofs.Kit.{ℕ, ◌≡◌, refl, List, [], ◌∷◌}
 use Prim.Native.String.{String, ◌++◌}
-use Rattle.base_search.specs.declared.Verdict.{Verdict}
-use Rattle.base_search.specs.declared.Verdict.TheVariants.{Passes, Refused}
-use Rattle.base_search.specs.Checks.{refusal, verdict}
+use Rattle.base_search.specs.Checks.{refusal, verdict, Verdict}
 use Rattle.text_reader.specs.Lines.{Line, lines}
 use Rattle.model.proofs.Texts.{bytes}
 use Rattle.model_sheet.specs.Runs.{found, pass_verdict, run_checks}
 use Rattle.model_sheet.specs.Cycle.{sheet_plan, sheet_text, plain_sheet, write_checks}
 use Rattle.model_sheet.specs.Calls.{keep_checks, sheet_ledger, buffer_after}
 use Rattle.model_sheet.proofs.Opened.{opened}
+use Rattle.std.specs.Prelude.{Ok, Err}
 
 abbrev read : String → List Line
 read text = lines (bytes text)
 
 abbrev told : ℕ → ℕ → ℕ → Verdict
-told number line item = Refused (refusal number line item)
+told number line item = Err (refusal number line item)
 
 -- ---- plans held to a sheet
 abbrev g : String
@@ -56,7 +55,7 @@ the-cases : (judged two even "F\t20\t20\nF\t20\t20\n"
     ∷ verdict (keep_checks two (read "F\t20\t20\nF\t20\t20\n") [] 29)
     ∷ judged two [] "F\t20\t20\nF\t20\t20\n"
     ∷ [])
-    ≡ (Passes ∷ told 34 8 2 ∷ told 34 9 1 ∷ told 34 8 1 ∷ told 34 8 1 ∷ told 33 1 0 ∷ told 33 3 0 ∷ told 33 2 0 ∷ told 8 0 0 ∷ told 9 1 0 ∷ [])
+    ≡ (Ok tt ∷ told 34 8 2 ∷ told 34 9 1 ∷ told 34 8 1 ∷ told 34 8 1 ∷ told 33 1 0 ∷ told 33 3 0 ∷ told 33 2 0 ∷ told 8 0 0 ∷ told 9 1 0 ∷ [])
 unfolding opened
 the-cases = refl
 
@@ -73,7 +72,7 @@ held = read ("N\t1\t1\t0\t14\t1\t0\nT\t1\t2\t1\t7\n" ++ g ++ rest)
 abbrev tram : String
 tram = "P\t2\t0\t0\nP\t2\t0\t0\nP\t2\t0\t0\nP\t2\t0\t0\nP\t2\t0\t0\nP\t2\t0\t0\nP\t2\t0\t0\nP\t1\t0\t0\n"
 
-late : (judged held (read (tram ++ "P\t2\t0\t0\nP\t2\t0\t0\nP\t1\t0\t0\nP\t1\t0\t0\nP\t2\t0\t0\nP\t2\t0\t0\n")) "F\t20\t20\n" ≡ Passes)
+late : (judged held (read (tram ++ "P\t2\t0\t0\nP\t2\t0\t0\nP\t1\t0\t0\nP\t1\t0\t0\nP\t2\t0\t0\nP\t2\t0\t0\n")) "F\t20\t20\n" ≡ Ok tt)
     × (judged held (read (tram ++ "P\t2\t0\t0\nP\t2\t0\t0\nP\t2\t0\t0\nP\t1\t0\t0\nP\t2\t0\t0\nP\t2\t0\t0\n")) "F\t20\t20\n" ≡ told 34 11 1)
 unfolding opened
 late = (refl, refl)
@@ -91,7 +90,7 @@ quick = read ("N\t1\t1\t0\t6\t0\t0\n" ++ first ++ six)
 abbrev turns : List Line
 turns = read "P\t1\t0\t0\nP\t2\t0\t0\nP\t1\t0\t0\nP\t2\t0\t0\nP\t1\t0\t0\nP\t2\t0\t0\n"
 
-at-the-cycle : (judged quick turns "F\t10\t10\n" ∷ judged quick turns "F\t20\t10\n" ∷ judged quick turns "F\t10\t20\n" ∷ []) ≡ (Passes ∷ told 34 3 1 ∷ told 34 4 1 ∷ [])
+at-the-cycle : (judged quick turns "F\t10\t10\n" ∷ judged quick turns "F\t20\t10\n" ∷ judged quick turns "F\t10\t20\n" ∷ []) ≡ (Ok tt ∷ told 34 3 1 ∷ told 34 4 1 ∷ [])
 unfolding opened
 at-the-cycle = refl
 
@@ -99,7 +98,7 @@ at-the-cycle = refl
 abbrev behind : List Line
 behind = read ("N\t1\t1\t0\t6\t0\t1\n" ++ first ++ "H\t10\t0\t0\n" ++ six)
 
-behind-a-past : (judged behind turns "F\t10\t10\n" ∷ judged behind turns "F\t20\t10\n" ∷ judged behind turns "F\t10\t20\n" ∷ []) ≡ (Passes ∷ told 34 3 1 ∷ told 34 4 1 ∷ [])
+behind-a-past : (judged behind turns "F\t10\t10\n" ∷ judged behind turns "F\t20\t10\n" ∷ judged behind turns "F\t10\t20\n" ∷ []) ≡ (Ok tt ∷ told 34 3 1 ∷ told 34 4 1 ∷ [])
 unfolding opened
 behind-a-past = refl
 
@@ -133,7 +132,7 @@ writes : (verdict (write_checks free (read good) 200)
     ∷ verdict (write_checks free (read good) 80)
     ∷ verdict (write_checks free (read good) 79)
     ∷ [])
-    ≡ (Passes ∷ told 35 0 2 ∷ told 33 2 0 ∷ told 35 0 2 ∷ told 35 0 1 ∷ Passes ∷ told 24 0 0 ∷ [])
+    ≡ (Ok tt ∷ told 35 0 2 ∷ told 33 2 0 ∷ told 35 0 2 ∷ told 35 0 1 ∷ Ok tt ∷ told 24 0 0 ∷ [])
 unfolding opened
 writes = refl
 
@@ -145,7 +144,7 @@ unfolding opened
 text-written = refl
 
 -- its masks keep the sheet without its offsets
-masks-keep : verdict (run_checks free (plain_sheet free (read good)) (sheet_plan free (read good))) ≡ Passes
+masks-keep : verdict (run_checks free (plain_sheet free (read good)) (sheet_plan free (read good))) ≡ Ok tt
 unfolding opened
 masks-keep = refl
 

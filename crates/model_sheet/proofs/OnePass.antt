@@ -1,8 +1,6 @@
 -- One pass over the steps, a first broken run for each signal and the least of them, gives the verdict of the checks.
 use Rattle.base_laws.proofs.Kit.{◌≡◌, refl, sym, ap, ◌∙◌, Bool, true, false, cond, not, true≢false, ◌⊎◌, inl, inr, ◌≢◌, List, ℕ, zero, suc, ◌≤◌, ◌<◌, eq-or-lt_of_le, dec_le, ℕ_discrete, arith, ltb, eqb, eqb-true, eqb-false, eq-eqb, ne_eqb, ltb-true, not-true, lt-ltb}
-use Rattle.base_search.specs.declared.Verdict.{Verdict}
-use Rattle.base_search.specs.declared.Verdict.TheVariants.{Passes, Refused}
-use Rattle.base_search.specs.Checks.{refusal, checked, first_from, verdict}
+use Rattle.base_search.specs.Checks.{refusal, checked, first_from, verdict, Verdict}
 use Rattle.base_search.proofs.Laws.{first-stop, first_passes, checked-passes, checked_refused}
 use Rattle.text_reader.specs.Lines.{Line}
 use Rattle.base_laws.specs.Test.{◌and◌, ◌or◌, every}
@@ -10,6 +8,7 @@ use Rattle.base_laws.proofs.Tests.{and_left, and_right, or_cases, or_left, or_ri
 use Rattle.model.specs.Network.{signal_count, step_count}
 use Rattle.model_sheet.specs.Runs.{leaves, is_tested, last_line, keeps_sheet, rule34, run_checks, found, earlier, least_line, least_item, told_run, pass_verdict}
 use Rattle.model_sheet.proofs.LastLine.{last-le, last-ordinary, last-reaches, begun}
+use Rattle.std.specs.Prelude.{Ok, Err}
 
 -- ---- any tests by step and item: x is the line of the first step whose test does not hold, 0 for none
 pub record IsFirst (test : ℕ → Bool) (K x : ℕ) : Type 0 where
@@ -97,11 +96,11 @@ least-is f (suc n) = go (earlier (f n) (least_line f n)) refl (least-is f n)
             last i (inl x) = inl (ap f i ∙ x)
             last i (inr x) = inr (omega (arith, x.1, ap f i))
 
-told_none : (z : ℕ) → told_run 0 z ≡ Passes
+told_none : (z : ℕ) → told_run 0 z ≡ Ok tt
 unfolding told_run
 told_none z = refl
 
-told-some : (m z : ℕ) → told_run (suc m) z ≡ Refused (refusal 34 (suc m) z)
+told-some : (m z : ℕ) → told_run (suc m) z ≡ Err (refusal 34 (suc m) z)
 unfolding told_run
 told-some m z = rw (ne_eqb (suc m) 0 (λ e. omega arith))
 
@@ -117,7 +116,7 @@ module _ (test : ℕ → ℕ → Bool) (K R : ℕ) (f : ℕ → ℕ) (firsts : (
       ∙ sym (told_none z)
   search_is (suc m) z w = go (w.item (omega arith)) ∙ sym (told-some m z)
     where
-      go : ((i : ℕ) × (i < R) × (z ≡ suc i) × (f i ≡ suc m) × ((r : ℕ) → r < i → (f r ≡ 0) ⊎ (suc m < f r))) → first_from (λ n. first_from (inner n) R 0) K 0 ≡ Refused (refusal 34 (suc m) z)
+      go : ((i : ℕ) × (i < R) × (z ≡ suc i) × (f i ≡ suc m) × ((r : ℕ) → r < i → (f r ≡ 0) ⊎ (suc m < f r))) → first_from (λ n. first_from (inner n) R 0) K 0 ≡ Err (refusal 34 (suc m) z)
       go (i, l, e, h, lower) =
           let at = (firsts i l).here m h in
           first-stop (λ n. first_from (inner n) R 0) K m (refusal 34 (suc m) z)

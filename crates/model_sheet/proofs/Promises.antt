@@ -1,16 +1,13 @@
 -- What the two calls promise holds of their answers.
 use Rattle.base_laws.proofs.Kit.{◌≡◌, refl, sym, ◌∙◌, true, ◌↔◌, List, ℕ, suc, ◌<◌, length, take}
 use Rattle.base_search.specs.declared.Refusal.{Refusal}
-use Rattle.base_search.specs.declared.Verdict.{Verdict}
-use Rattle.base_search.specs.declared.Verdict.TheVariants as verdicts
-use Rattle.base_search.specs.Checks.{◌then◌, verdict, Hold}
+use Rattle.base_search.specs.Checks.{◌then◌, verdict, Hold, Verdict}
 use Rattle.base_search.specs.Numbers.{is_one_of}
 use Rattle.base_search.proofs.Laws.{or-else-passes, hold-of-passes, passes-of-hold, refused-first}
 use Rattle.base_search.proofs.Numbers.{Numbered, refused-number, all_of}
 use Rattle.text_reader.specs.Lines.{Line, lines}
 use Rattle.base_laws.specs.Test.{◌and◌}
 use Rattle.model.specs.declared.Totals.{Totals}
-use Rattle.model.specs.declared.PlanAnswer.TheVariants as plan-answer
 use Rattle.model.specs.Network.{entry, signal_count, step_count, signal}
 use Rattle.model.specs.Rules.{rule10}
 use Rattle.model.specs.Table.{network_checks, plan_checks}
@@ -21,7 +18,6 @@ use Rattle.model.proofs.Numbers.{network-among, plan-among}
 use Rattle.model.proofs.Written.{ledger-promises}
 use Rattle.model.proofs.Promises.{guarantees, passes-of-accepted, accepted-of-passes, refused-of-refused}
 use Rattle.sheet_lines.specs.Sheet.{phases_of, sheet_line_checks, signals_checks, sheet_checks}
-use Rattle.model_text.specs.declared.TextAnswer.TheVariants.{Written}
 use Rattle.model_text.specs.Answers.{text_answer, bytes_after}
 use Rattle.model_text.proofs.Answers.{passes-of-written, refused-of-answer, text_of}
 use Rattle.model_sheet.specs.Kept.{Kept, FirstRun}
@@ -35,6 +31,7 @@ use Rattle.model_sheet.proofs.Cycle.{shows}
 use Rattle.model_sheet.proofs.Ends.{fits-exactly}
 use Rattle.model_sheet.proofs.Checks.{two-phases, duration-some}
 use Rattle.model_sheet.proofs.Written.{reads-back, plan-written}
+use Rattle.std.specs.Prelude.{Ok, Err}
 
 -- ---- the check
 module _ (network sheet plan : List Line) where
@@ -67,7 +64,7 @@ module _ (network sheet plan : List Line) where
         numbered p = unfold Numbered is_one_of accept_checks plan_checks sheet_checks signals_checks sheet_line_checks in (p.0, (((λ r l. (refl, refl)), refl), (p.1.0, p.1.1)))
 
     -- where all others hold, a refusal is of the runs
-    first-told : Hold (accept_checks network sheet plan size) → (r : Refusal) → verdict (keep_checks network sheet plan size) ≡ verdicts.Refused r
+    first-told : Hold (accept_checks network sheet plan size) → (r : Refusal) → verdict (keep_checks network sheet plan size) ≡ Err r
         → (r.number ≡ 34) × ((i : ℕ) × (r.item ≡ suc i) × FirstRun network sheet plan r.line i)
     unfolding verdict keep_checks
     first-told h r e = first_run network sheet plan (ten h) r (refused-first (run_checks network sheet plan) r (sym (or-else-passes _ _ (passes-of-hold _ h)) ∙ e))
@@ -82,15 +79,15 @@ module _ (network sheet plan : List Line) where
   rows-kept old none = go (verdict (network_checks network then sheet_checks network sheet 0)) refl
     where
       go : (v : Verdict) → verdict (network_checks network then sheet_checks network sheet 0) ≡ v → rows_after network sheet plan v old ≡ old
-      go verdicts.Passes e = let h = hold-of-passes _ e in absurd (none (unfold Hold in h.0) (unfold Hold in h.1))
-      go (verdicts.Refused r) e = unfold rows_after in refl
+      go (Ok tt) e = let h = hold-of-passes _ e in absurd (none (unfold Hold in h.0) (unfold Hold in h.1))
+      go (Err r) e = unfold rows_after in refl
 
   pub sheet-promises : (old : List ℕ) → SheetPromises network sheet plan old (sheet_ledger network sheet plan old) (check_sheet network sheet plan (length old))
   unfolding check_sheet
   sheet-promises old =
       let c = keep_checks network sheet plan (length old) in
       let k = keeps (length old) in
-      let holds : (t : Totals) → plan_answer network plan (verdict c) ≡ plan-answer.Accepted t → Hold c = λ t h. hold-of-passes c (passes-of-accepted network plan (verdict c) t h).0 in
+      let holds : (t : Totals) → plan_answer network plan (verdict c) ≡ Ok t → Hold c = λ t h. hold-of-passes c (passes-of-accepted network plan (verdict c) t h).0 in
       record {
         told = refl;
         rows = refl;
@@ -136,7 +133,7 @@ module _ (network sheet : List Line) where
         boundaries = boundaries;
       }
     where
-      plan : (end : ℕ) → text_answer (sheet_text network sheet) (verdict (write_checks network sheet (length old))) ≡ Written end
+      plan : (end : ℕ) → text_answer (sheet_text network sheet) (verdict (write_checks network sheet (length old))) ≡ Ok end
           → PlanWritten network sheet (lines (take end (bytes_after (sheet_text network sheet) (verdict (write_checks network sheet (length old))) old)))
       plan end h =
           let w = passes-of-written (sheet_text network sheet) (verdict (write_checks network sheet (length old))) end h in

@@ -1,8 +1,6 @@
 -- 34 as checks, and the same in one pass over the steps.
-use Rattle.std.specs.Prelude.{ℕ, zero, suc, Bool, false, cond, not, List, leb, ltb, eqb}
-use Rattle.base_search.specs.declared.Verdict.{Verdict}
-use Rattle.base_search.specs.declared.Verdict.TheVariants.{Passes, Refused}
-use Rattle.base_search.specs.Checks.{refusal, Checks, check, each}
+use Rattle.std.specs.Prelude.{ℕ, zero, suc, Bool, false, cond, not, List, leb, ltb, eqb, Ok, Err}
+use Rattle.base_search.specs.Checks.{refusal, Checks, check, each, Verdict}
 use Rattle.text_reader.specs.Lines.{Line}
 use Rattle.base_laws.specs.Test.{◌and◌, ◌or◌, every}
 use Rattle.model.specs.Network.{signal_count, step_count, signal, time, ordinary}
@@ -59,7 +57,7 @@ least_item f (suc r) = cond (earlier (f r) (least_line f r)) (suc r) (least_item
 
 -- 34 at the line and the signal that were found
 unfoldable pub told_run : ℕ → ℕ → Verdict
-told_run line item = cond (eqb line 0) Passes (Refused (refusal 34 line item))
+told_run line item = cond (eqb line 0) (Ok tt) (Err (refusal 34 line item))
 
 -- the verdict of the pass, by the lines that were found for so many signals
 unfoldable pub pass_verdict : (ℕ → ℕ) → ℕ → Verdict

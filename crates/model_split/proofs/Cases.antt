@@ -2,9 +2,7 @@
 use Rattle.base_laws.proofs.Kit.{◌≡◌, refl, List, [], ◌∷◌, ◌++◌, map, ℕ, replicate}
 use Prim.Native.String.{String}
 use Prim.Native.String as string
-use Rattle.base_search.specs.declared.Verdict.{Verdict}
-use Rattle.base_search.specs.declared.Verdict.TheVariants.{Passes, Refused}
-use Rattle.base_search.specs.Checks.{verdict}
+use Rattle.base_search.specs.Checks.{verdict, Verdict}
 use Rattle.text_reader.specs.Lines.{lines}
 use Rattle.text_writer.specs.Records.{record_text}
 use Rattle.model.specs.Hold.{plan_of}
@@ -13,6 +11,7 @@ use Rattle.model_split.specs.declared.Lengths.{Lengths}
 use Rattle.model_split.specs.Call.{split_checks}
 use Rattle.model_split.specs.Splits.{Buffers, room_of, buffers_after}
 use Rattle.model_split.proofs.Opened.{opened}
+use Rattle.std.specs.Prelude.{Ok, Err}
 
 -- a network text, a plan text, a set of links, the lengths of the four buffers, which hold sevens, and the buffers one behind the other after the call; or what is
 -- told of a refusal, which leaves them
@@ -25,8 +24,8 @@ pub record SplitCase : Type 0 where
 
 -- the record of a refusal
 abbrev told : Verdict → Buffers → List ℕ
-told Passes after = after.network₁ ++ (after.plan₁ ++ (after.network₂ ++ after.plan₂))
-told (Refused r) after = record_text 82 (r.number ∷ r.line ∷ r.item ∷ [])
+told (Ok tt) after = after.network₁ ++ (after.plan₁ ++ (after.network₂ ++ after.plan₂))
+told (Err r) after = record_text 82 (r.number ∷ r.line ∷ r.item ∷ [])
 
 abbrev sevens : Lengths → Buffers
 sevens room =

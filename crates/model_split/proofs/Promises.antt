@@ -1,9 +1,7 @@
 -- What the call promises beside the theorem: what it wrote, and that the number of a refusal is one that can arise.
 use Rattle.base_laws.proofs.Kit.{◌≡◌, refl, sym, ap, ◌∙◌, List, ℕ, length, take, take_at, rules}
 use Rattle.base_search.specs.declared.Refusal.{Refusal}
-use Rattle.base_search.specs.declared.Verdict.{Verdict}
-use Rattle.base_search.specs.declared.Verdict.TheVariants.{Passes, Refused}
-use Rattle.base_search.specs.Checks.{verdict}
+use Rattle.base_search.specs.Checks.{verdict, Verdict}
 use Rattle.base_search.specs.Numbers.{is_one_of}
 use Rattle.base_search.proofs.Laws.{or-else-first}
 use Rattle.base_search.proofs.Numbers.{Numbered, refused-number, all_of}
@@ -11,40 +9,39 @@ use Rattle.text_reader.specs.Lines.{Line}
 use Rattle.text_reader.specs.Reading.{over}
 use Rattle.model.proofs.Numbers.{network-among}
 use Rattle.model_split.specs.declared.Lengths.{Lengths}
-use Rattle.model_split.specs.declared.SplitAnswer.{SplitAnswer}
-use Rattle.model_split.specs.declared.SplitAnswer.TheVariants as answers
 use Rattle.model_split.specs.Call.{form_checks, part_checks, network_text₁, plan_text₁, network_text₂, plan_text₂, lengths, split_numbers, split_checks, split_answer, split_network, buffer_after}
 use Rattle.model_split.specs.Splits.{Texts, network_of, plan_for, first, second, Buffers, room_of, buffers_after, SplitInTwo}
 use Rattle.model_split.proofs.Splits.{splits}
+use Rattle.std.specs.Prelude.{Result, Ok, Err}
 
 module _ (network plan : List Line) (set : ℕ) where
   pub split-numbered : (room : Lengths) → Numbered split_numbers (split_checks network plan set room)
   unfolding Numbered is_one_of all_of split_checks part_checks form_checks
   split-numbered room = ((network-among network split_numbers refl, search rules), refl)
 
-  parts-pass : (room : Lengths) → verdict (split_checks network plan set room) ≡ Passes → verdict (part_checks network plan set) ≡ Passes
+  parts-pass : (room : Lengths) → verdict (split_checks network plan set room) ≡ Ok tt → verdict (part_checks network plan set) ≡ Ok tt
   unfolding split_checks verdict
   parts-pass room e = or-else-first (verdict (part_checks network plan set)) _ e
 
   -- the verdict by the answer
-  of-written : (v : Verdict) (end : Lengths) → split_answer network plan set v ≡ answers.Written end → (v ≡ Passes) × (end ≡ lengths network plan set)
+  of-written : (v : Verdict) (end : Lengths) → split_answer network plan set v ≡ Ok end → (v ≡ Ok tt) × (end ≡ lengths network plan set)
   unfolding split_answer
-  of-written Passes end h = (refl, cc)
-  of-written (Refused r) end h = (cc, cc)
+  of-written (Ok tt) end h = (refl, cc)
+  of-written (Err r) end h = (cc, cc)
 
-  of-refused : (v : Verdict) (r : Refusal) → split_answer network plan set v ≡ answers.Refused r → v ≡ Refused r
+  of-refused : (v : Verdict) (r : Refusal) → split_answer network plan set v ≡ Err r → v ≡ Err r
   unfolding split_answer
-  of-refused Passes r h = cc
-  of-refused (Refused q) r h = cc
+  of-refused (Ok tt) r h = cc
+  of-refused (Err q) r h = cc
 
 -- a buffer after a call that passes has the text in front
-front : (v : Verdict) (text old : List ℕ) (end : ℕ) → v ≡ Passes → end ≡ length text → take end (buffer_after v text old) ≡ text
+front : (v : Verdict) (text old : List ℕ) (end : ℕ) → v ≡ Ok tt → end ≡ length text → take end (buffer_after v text old) ≡ text
 unfolding buffer_after over
-front Passes text old end e l = take_at text _ end (sym l)
-front (Refused r) text old end e l = cc
+front (Ok tt) text old end e l = take_at text _ end (sym l)
+front (Err r) text old end e l = cc
 
 -- an answer and buffers that are those of the definitions
-pub split-in-two : (whole : Texts) (set : ℕ) (before : Buffers) {after : Buffers} {answer : SplitAnswer} → answer ≡ split_network (network_of whole) (plan_for whole) set (room_of before)
+pub split-in-two : (whole : Texts) (set : ℕ) (before : Buffers) {after : Buffers} {answer : (Result Lengths Refusal)} → answer ≡ split_network (network_of whole) (plan_for whole) set (room_of before)
     → after ≡ buffers_after (network_of whole) (plan_for whole) set before → SplitInTwo whole set before after answer
 unfolding split_network
 split-in-two whole set before {after = after} {answer = answer} told holds =
@@ -69,8 +66,8 @@ split-in-two whole set before {after = after} {answer = answer} told holds =
     P : List Line
     P = plan_for whole
 
-    passed : (end : Lengths) → answer ≡ answers.Written end → verdict (split_checks N P set (room_of before)) ≡ Passes
+    passed : (end : Lengths) → answer ≡ Ok end → verdict (split_checks N P set (room_of before)) ≡ Ok tt
     passed end e = (of-written N P set _ end (sym told ∙ e)).0
 
-    ends : (end : Lengths) → answer ≡ answers.Written end → end ≡ lengths N P set
+    ends : (end : Lengths) → answer ≡ Ok end → end ≡ lengths N P set
     ends end e = (of-written N P set _ end (sym told ∙ e)).1

@@ -1,6 +1,5 @@
 -- The theorem of T-14, of texts.
 use Rattle.base_laws.proofs.Kit.{◌≡◌, refl, sym, ◌∙◌, ◌↔◌, true, not, List, ℕ, suc, ◌+◌, ◌*◌, ◌≤◌, ◌<◌, arith, get_or, eqb-true}
-use Rattle.base_search.specs.declared.Verdict.TheVariants.{Passes}
 use Rattle.base_search.specs.Checks.{Hold, verdict}
 use Rattle.base_search.proofs.Laws.{hold-of-passes, passes-of-hold}
 use Rattle.text_reader.specs.Lines.{Line, lines}
@@ -26,6 +25,7 @@ use Rattle.model_split.proofs.Theorem as theorem
 use Rattle.model_split.proofs.Theorem.{network_by, plan_by, Matched}
 use Rattle.model_split.proofs.Totals.{curves₁, curves₂, admitted-adds, let-out-adds, vehicles-add, times-add}
 use Rattle.model_split.proofs.Fits.{network-back, plan-back, texts-small}
+use Rattle.std.specs.Prelude.{Ok}
 
 -- what the checks of a network and a plan that can be split say
 record CanSplit (network plan : List Line) (set : ℕ) : Type 0 where
@@ -38,7 +38,7 @@ unfolding Hold part_checks form_checks
 can-split network plan set (holds, (forty, (fortyone, (forms, all)))) =
     record { holds = holds; parted = splittable network (in_set set) (and_right _ _ forty) fortyone; planned = record { forms = forms; all = eqb-true _ _ all } }
 
-module _ (whole : Texts) (set : ℕ) (passes : verdict (part_checks (network_of whole) (plan_for whole) set) ≡ Passes) where
+module _ (whole : Texts) (set : ℕ) (passes : verdict (part_checks (network_of whole) (plan_for whole) set) ≡ Ok tt) where
   abbrev network : List Line
   network = network_of whole
 

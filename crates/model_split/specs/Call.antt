@@ -1,8 +1,6 @@
 -- The call that splits (T-14): when it declines, and what it writes. The plan is the list of the lines that its text stands for (`plan_of`).
-use Rattle.std.specs.Prelude.{ℕ, suc, ◌+◌, ◌*◌, ◌-◌, ◌^◌, ◌/◌, ◌%◌, Bool, not, List, [], ◌∷◌, ◌++◌, leb, ltb, eqb, length}
-use Rattle.base_search.specs.declared.Verdict.{Verdict}
-use Rattle.base_search.specs.declared.Verdict.TheVariants as verdicts
-use Rattle.base_search.specs.Checks.{Checks, check, each, ◌then◌, verdict}
+use Rattle.std.specs.Prelude.{ℕ, suc, ◌+◌, ◌*◌, ◌-◌, ◌^◌, ◌/◌, ◌%◌, Bool, not, List, [], ◌∷◌, ◌++◌, leb, ltb, eqb, length, Result, Ok, Err}
+use Rattle.base_search.specs.Checks.{Checks, check, each, ◌then◌, verdict, Verdict}
 use Rattle.text_reader.specs.Lines.{Line}
 use Rattle.text_reader.specs.Reading.{over}
 use Rattle.base_laws.specs.Test.{◌and◌, ◌or◌, every}
@@ -10,10 +8,9 @@ use Rattle.model.specs.Network.{link_count, signal_count, movement_count, step_c
 use Rattle.model.specs.Table.{is_form, letter_p, network_checks}
 use Rattle.model.specs.Guarantees.{network_numbers}
 use Rattle.model_split.specs.declared.Lengths.{Lengths}
-use Rattle.model_split.specs.declared.SplitAnswer.{SplitAnswer}
-use Rattle.model_split.specs.declared.SplitAnswer.TheVariants.{Written, Refused}
 use Rattle.model_split.specs.Numbering.{rank}
 use Rattle.model_split.specs.Halves.{crosses, in_second, first_half, second_half, half_network_text, half_plan_text}
+use Rattle.base_search.specs.declared.Refusal.{Refusal}
 
 -- the set of links in the first half, as a number: link i, from 0, has the bit of 2 ^ i
 unfoldable pub in_set : ℕ → ℕ → Bool
@@ -85,14 +82,14 @@ module _ (network plan : List Line) (set : ℕ) where
       and leb lengths.plan_2 room.plan_2)
 
   -- the answer: how long the texts are
-  unfoldable pub split_answer : Verdict → SplitAnswer
-  split_answer verdicts.Passes = Written lengths
-  split_answer (verdicts.Refused r) = Refused r
+  unfoldable pub split_answer : Verdict → Result Lengths Refusal
+  split_answer (Ok tt) = Ok lengths
+  split_answer (Err r) = Err r
 
-  unfoldable pub split_network : Lengths → SplitAnswer
+  unfoldable pub split_network : Lengths → Result Lengths Refusal
   split_network room = split_answer (verdict (split_checks room))
 
 -- a buffer after the call: its text, and the bytes past it as they were; untouched by a refusal
 unfoldable pub buffer_after : Verdict → List ℕ → List ℕ → List ℕ
-buffer_after verdicts.Passes text old = over text old
-buffer_after (verdicts.Refused r) text old = old
+buffer_after (Ok tt) text old = over text old
+buffer_after (Err r) text old = old

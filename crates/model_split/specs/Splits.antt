@@ -1,7 +1,6 @@
 -- The theorem of T-14.
-use Rattle.std.specs.Prelude.{ℕ, suc, ◌+◌, ◌*◌, ◌-◌, ◌≤◌, ◌<◌, ◌≡◌, ◌↔◌, Bool, true, not, cond, List, length, get_or, take}
+use Rattle.std.specs.Prelude.{ℕ, suc, ◌+◌, ◌*◌, ◌-◌, ◌≤◌, ◌<◌, ◌≡◌, ◌↔◌, Bool, true, not, cond, List, length, get_or, take, Result, Ok, Err}
 use Rattle.base_search.specs.declared.Refusal.{Refusal}
-use Rattle.base_search.specs.declared.Verdict.TheVariants.{Passes}
 use Rattle.base_search.specs.Checks.{verdict}
 use Rattle.base_search.specs.Numbers.{CanArise}
 use Rattle.text_reader.specs.Lines.{Line, lines}
@@ -12,9 +11,6 @@ use Rattle.model.specs.Flows.{admitted, let_out, moved, totals, row}
 use Rattle.model.specs.Table.{plan_checks}
 use Rattle.model.specs.Hold.{plan_of}
 use Rattle.model_split.specs.declared.Lengths.{Lengths}
-use Rattle.model_split.specs.declared.SplitAnswer.{SplitAnswer}
-use Rattle.model_split.specs.declared.SplitAnswer.TheVariants as answers
-use Rattle.model_split.specs.declared.SplitAnswer.TheVariants.{Written}
 use Rattle.model_split.specs.Numbering.{rank}
 use Rattle.model_split.specs.Halves.{Half, crosses, first_half, second_half, half_network, half_plan}
 use Rattle.model_split.specs.Call.{in_set, network_text₁, plan_text₁, network_text₂, plan_text₂, split_numbers, split_checks, split_network, buffer_after}
@@ -33,7 +29,7 @@ plan_for t = plan_of t.network t.plan
 
 -- the plan is accepted, with a ledger of so many numbers; its four totals, and row n of its ledger
 abbrev pub Accepts : Texts → ℕ → Type 0
-Accepts t size = verdict (plan_checks (network_of t) (plan_for t) size) ≡ Passes
+Accepts t size = verdict (plan_checks (network_of t) (plan_for t) size) ≡ Ok tt
 
 -- the numbers that its ledger has at least
 abbrev pub ledger_size : Texts → ℕ
@@ -150,12 +146,12 @@ buffers_after network plan set old =
 
 -- What the call promises of its texts, its buffers before and after, and its answer: all are those of the definitions; what was written are the texts of the halves;
 -- the theorem; and a refusal's number is one that can arise.
-pub record SplitInTwo (whole : Texts) (set : ℕ) (before after : Buffers) (answer : SplitAnswer) : Type 0 where
+pub record SplitInTwo (whole : Texts) (set : ℕ) (before after : Buffers) (answer : Result Lengths Refusal) : Type 0 where
   pub told : answer ≡ split_network (network_of whole) (plan_for whole) set (room_of before)
   pub holds : after ≡ buffers_after (network_of whole) (plan_for whole) set before
-  pub first-written : (end : Lengths) → answer ≡ Written end
+  pub first-written : (end : Lengths) → answer ≡ Ok end
       → (take end.network_1 after.network₁ ≡ (first whole set).network) × (take end.plan_1 after.plan₁ ≡ (first whole set).plan)
-  pub second-written : (end : Lengths) → answer ≡ Written end
+  pub second-written : (end : Lengths) → answer ≡ Ok end
       → (take end.network_2 after.network₂ ≡ (second whole set).network) × (take end.plan_2 after.plan₂ ≡ (second whole set).plan)
-  pub splits : (end : Lengths) → answer ≡ Written end → Splits whole set
-  pub refused-number : (r : Refusal) → answer ≡ answers.Refused r → CanArise split_numbers r.number
+  pub splits : (end : Lengths) → answer ≡ Ok end → Splits whole set
+  pub refused-number : (r : Refusal) → answer ≡ Err r → CanArise split_numbers r.number

@@ -1,21 +1,12 @@
 // A network and a plan in two halves (T-14): the definitions (specs/) and the theorem (specs/Splits.antt). In code only the
-// types of the answer.
+// lengths of the four texts.
 #![tactic(auto)]
 
-use base_search::Refusal;
-
 // The lengths of the four texts: the network and the plan of the first half, then of the second.
-#[derive(Clone, Copy)]
+#[derive(Clone, Copy, PartialEq, Eq)]
 pub struct Lengths {
     pub network_1: usize,
     pub plan_1: usize,
     pub network_2: usize,
     pub plan_2: usize,
-}
-
-// The lengths of the written texts, or a refusal.
-#[derive(Clone, Copy)]
-pub enum SplitAnswer {
-    Written(Lengths),
-    Refused(Refusal),
 }

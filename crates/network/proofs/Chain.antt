@@ -1,9 +1,7 @@
 -- The stages of a network's reading, one after another: where one is refused, so is the network; and what each asks of those before it.
 use Rattle.base_laws.proofs.Kit.{ℕ, ◌≡◌, sym, ap, ◌∙◌, List, length}
 use Rattle.base_search.specs.declared.Refusal.{Refusal}
-use Rattle.base_search.specs.declared.Verdict.{Verdict}
-use Rattle.base_search.specs.declared.Verdict.TheVariants as verdicts
-use Rattle.base_search.specs.Checks.{Checks, each, ◌then◌, verdict}
+use Rattle.base_search.specs.Checks.{Checks, each, ◌then◌, verdict, Verdict}
 use Rattle.base_search.proofs.Laws.{or-else-passes, or-else-refused, hold-of-passes}
 use Rattle.text_reader.specs.Lines.{lines}
 use Rattle.text_reader.specs.Padding.{PaddingIgnored}
@@ -14,8 +12,6 @@ use Rattle.model.specs.Calls.{check_network}
 use Rattle.model.specs.Guarantees.{NetworkPromises}
 use Rattle.model.proofs.Numbers.{network-promises}
 use Rattle.network_tables.specs.declared.Reading.{Reading}
-use Rattle.network_tables.specs.declared.Stage.{Stage}
-use Rattle.network_tables.specs.declared.Stage.TheVariants.{Passed, Refused}
 use Rattle.network_tables.specs.Blocks.{block_checks, link_block, movement_block}
 use Rattle.network_tables.specs.Tables.{Judged}
 use Rattle.network_tables.proofs.Stages.{judged-refused, verdict-passed, verdict-refused}
@@ -27,17 +23,18 @@ use Rattle.network_links.proofs.Movements.{shares-asked, shares-checked}
 use Rattle.network.specs.Loading.{first_checks, FirstAsked, end_checks, timeline_checks, TimelineAsked, TimelineHeld, SignalRooms, Loaded, LoadedWithSignals}
 use Rattle.network.proofs.First.{first-joined}
 use Rattle.network.proofs.Timeline.{link-limits}
+use Rattle.std.specs.Prelude.{Result, Ok, Err}
 
 -- ---- what is left to judge: the whole is refused where what is left of it is, and passes where nothing is left
 abbrev Left : List ℕ → Checks → Type 0
 Left text rest = verdict (network_checks (lines text)) ≡ verdict rest
 
 module _ (text : List ℕ) (first rest : Checks) (l : Left text (first then rest)) where
-  on : verdict first ≡ verdicts.Passes → Left text rest
+  on : verdict first ≡ Ok tt → Left text rest
   unfolding verdict
   on e = l ∙ or-else-passes _ _ e
 
-  stop : {Held : Reading → Type 0} {stage : Stage} {r : Refusal} → stage ≡ Refused r → verdict first ≡ verdicts.Refused r → Judged (network_checks (lines text)) Held stage
+  stop : {Held : Reading → Type 0} {stage : (Result Reading Refusal)} {r : Refusal} → stage ≡ Err r → verdict first ≡ Err r → Judged (network_checks (lines text)) Held stage
   unfolding verdict
   stop {r = r} e v = rw e (judged-refused (l ∙ or-else-refused _ _ r v))
 
@@ -60,11 +57,11 @@ module _ (text : List ℕ) where
   whole = first-joined (lines text) (count_checks (lines text)) (from_links)
 
 -- ---- the stages
-module _ {text signals₀ links₀ movements₀ times₀ : List ℕ} (room : SignalRooms signals₀ links₀ movements₀ times₀) {counts : Stage} (j : Judged (count_checks (lines text)) (CountsHeld text) counts) where
-  pub counts-stop : {Held : Reading → Type 0} {r : Refusal} → counts ≡ Refused r → Judged (network_checks (lines text)) Held counts
+module _ {text signals₀ links₀ movements₀ times₀ : List ℕ} (room : SignalRooms signals₀ links₀ movements₀ times₀) {counts : (Result Reading Refusal)} (j : Judged (count_checks (lines text)) (CountsHeld text) counts) where
+  pub counts-stop : {Held : Reading → Type 0} {r : Refusal} → counts ≡ Err r → Judged (network_checks (lines text)) Held counts
   counts-stop e = stop text _ (from_signals text) (whole text) e (verdict-refused j e)
 
-  module _ {at_signals : Reading} (e₁ : counts ≡ Passed at_signals) where
+  module _ {at_signals : Reading} (e₁ : counts ≡ Ok at_signals) where
     pub signals-asked : {phases : List ℕ} → length phases ≡ max_signals → FirstAsked text at_signals phases signals₀
     signals-asked size =
         let held = j.held _ e₁ in
@@ -73,33 +70,33 @@ module _ {text signals₀ links₀ movements₀ times₀ : List ℕ} (room : Sig
     left₁ : Left text (from_signals text)
     left₁ = on text _ (from_signals text) (whole text) (verdict-passed j e₁)
 
-    module _ {phases table : List ℕ} {signals : Stage} (j₁ : Judged (first_checks (lines text)) (SignalsHeld text phases table) signals) where
-      pub signals-stop : {Held : Reading → Type 0} {r : Refusal} → signals ≡ Refused r → Judged (network_checks (lines text)) Held signals
+    module _ {phases table : List ℕ} {signals : (Result Reading Refusal)} (j₁ : Judged (first_checks (lines text)) (SignalsHeld text phases table) signals) where
+      pub signals-stop : {Held : Reading → Type 0} {r : Refusal} → signals ≡ Err r → Judged (network_checks (lines text)) Held signals
       signals-stop e = stop text _ (from_links text) left₁ e (verdict-refused j₁ e)
 
-      module _ {at_links : Reading} (e₂ : signals ≡ Passed at_links) where
+      module _ {at_links : Reading} (e₂ : signals ≡ Ok at_links) where
         pub links-asked : LinksAsked text at_links phases links₀
         links-asked = record { reached = (j₁.held _ e₂).reached; phased = (j₁.held _ e₂).phase-table; room = room.rooms.link-room }
 
         left₂ : Left text (from_links text)
         left₂ = on text _ (from_links text) left₁ (verdict-passed j₁ e₂)
 
-        module _ {links : List ℕ} {linked : Stage} (j₂ : Judged (block_checks (link_block (lines text))) (LinksHeld text links) linked) where
-          pub links-stop : {Held : Reading → Type 0} {r : Refusal} → linked ≡ Refused r → Judged (network_checks (lines text)) Held linked
+        module _ {links : List ℕ} {linked : (Result Reading Refusal)} (j₂ : Judged (block_checks (link_block (lines text))) (LinksHeld text links) linked) where
+          pub links-stop : {Held : Reading → Type 0} {r : Refusal} → linked ≡ Err r → Judged (network_checks (lines text)) Held linked
           links-stop e = stop text _ (from_movements text) left₂ e (verdict-refused j₂ e)
 
-          module _ {at_movements : Reading} (e₃ : linked ≡ Passed at_movements) where
+          module _ {at_movements : Reading} (e₃ : linked ≡ Ok at_movements) where
             pub movements-asked : MovementsAsked text at_movements movements₀
             movements-asked = record { reached = (j₂.held _ e₃).reached; room = room.rooms.movement-room }
 
             left₃ : Left text (from_movements text)
             left₃ = on text _ (from_movements text) left₂ (verdict-passed j₂ e₃)
 
-            module _ {movements : List ℕ} {moved : Stage} (j₃ : Judged (block_checks (movement_block (lines text))) (MovementsHeld text movements) moved) where
-              pub movements-stop : {Held : Reading → Type 0} {r : Refusal} → moved ≡ Refused r → Judged (network_checks (lines text)) Held moved
+            module _ {movements : List ℕ} {moved : (Result Reading Refusal)} (j₃ : Judged (block_checks (movement_block (lines text))) (MovementsHeld text movements) moved) where
+              pub movements-stop : {Held : Reading → Type 0} {r : Refusal} → moved ≡ Err r → Judged (network_checks (lines text)) Held moved
               movements-stop e = stop text _ (from_shares text) left₃ e (verdict-refused j₃ e)
 
-              module _ {at_shares : Reading} (e₄ : moved ≡ Passed at_shares) where
+              module _ {at_shares : Reading} (e₄ : moved ≡ Ok at_shares) where
                 pub shares-ready : SharesAsked movements at_shares.counts
                 shares-ready = shares-asked (j₃.held _ e₄).reached.counted (j₃.held _ e₄).table
 
@@ -109,11 +106,11 @@ module _ {text signals₀ links₀ movements₀ times₀ : List ℕ} (room : Sig
                 checked : verdict (each at_shares.counts.links (share_checks_in movements at_shares.counts)) ≡ verdict (each (link_count (lines text)) (share_checks (lines text)))
                 checked = shares-checked (j₃.held _ e₄).reached.counted (j₃.held _ e₄).table
 
-                module _ {shared : Stage} (j₄ : Judged (each at_shares.counts.links (share_checks_in movements at_shares.counts)) (λ after. after ≡ at_shares) shared) where
-                  pub shares-stop : {Held : Reading → Type 0} {r : Refusal} → shared ≡ Refused r → Judged (network_checks (lines text)) Held shared
+                module _ {shared : (Result Reading Refusal)} (j₄ : Judged (each at_shares.counts.links (share_checks_in movements at_shares.counts)) (λ after. after ≡ at_shares) shared) where
+                  pub shares-stop : {Held : Reading → Type 0} {r : Refusal} → shared ≡ Err r → Judged (network_checks (lines text)) Held shared
                   shares-stop e = stop text _ (timeline_checks (lines text)) left₄ e (sym checked ∙ verdict-refused j₄ e)
 
-                  module _ {at_steps : Reading} (e₅ : shared ≡ Passed at_steps) where
+                  module _ {at_steps : Reading} (e₅ : shared ≡ Ok at_steps) where
                     pub timeline-asked : TimelineAsked text at_steps links times₀
                     timeline-asked =
                         record {
@@ -126,7 +123,7 @@ module _ {text signals₀ links₀ movements₀ times₀ : List ℕ} (room : Sig
                     left₅ : Left text (timeline_checks (lines text))
                     left₅ = on text _ (timeline_checks (lines text)) left₄ (sym checked ∙ verdict-passed j₄ e₅)
 
-                    module _ {times : List ℕ} {timed : Stage} (j₅ : Judged (timeline_checks (lines text)) (TimelineHeld text times) timed) where
+                    module _ {times : List ℕ} {timed : (Result Reading Refusal)} (j₅ : Judged (timeline_checks (lines text)) (TimelineHeld text times) timed) where
                       pub network-judged : Judged (network_checks (lines text)) (LoadedWithSignals text table links movements times) timed
                       network-judged =
                           record {
@@ -150,12 +147,12 @@ module _ {text signals₀ links₀ movements₀ times₀ : List ℕ} (room : Sig
                           }
 
 -- ---- without the signals
-pub tables-judged : {text signals links movements times : List ℕ} {stage : Stage} → Judged (network_checks (lines text)) (LoadedWithSignals text signals links movements times) stage
+pub tables-judged : {text signals links movements times : List ℕ} {stage : (Result Reading Refusal)} → Judged (network_checks (lines text)) (LoadedWithSignals text signals links movements times) stage
     → Judged (network_checks (lines text)) (Loaded text links movements times) stage
 tables-judged got = record { told = got.told; held = λ reading e. (got.held reading e).loaded }
 
 -- ---- the answer
-module _ {text : List ℕ} {stage : Stage} {links movements times : List ℕ} (got : Judged (network_checks (lines text)) (Loaded text links movements times) stage) where
+module _ {text : List ℕ} {stage : (Result Reading Refusal)} {links movements times : List ℕ} (got : Judged (network_checks (lines text)) (Loaded text links movements times) stage) where
   -- all that the check promises of its verdict
   abbrev pub Promised : Verdict → Type 0
   Promised v = (v ≡ check_network (lines text)) × (NetworkPromises v × PaddingIgnored text (λ padded. v ≡ check_network (lines padded)))
@@ -163,8 +160,8 @@ module _ {text : List ℕ} {stage : Stage} {links movements times : List ℕ} (g
   promised : {v : Verdict} → v ≡ check_network (lines text) → Promised v
   promised e = (e, (rw e (network-promises (lines text)), λ padded same. e ∙ ap check_network (same_lines text padded same)))
 
-  pub answer-passes : {reading : Reading} → stage ≡ Passed reading → Promised verdicts.Passes
+  pub answer-passes : {reading : Reading} → stage ≡ Ok reading → Promised (Ok tt)
   answer-passes e = promised (unfold check_network in sym (verdict-passed got e))
 
-  pub answer-refused : {r : Refusal} → stage ≡ Refused r → Promised (verdicts.Refused r)
+  pub answer-refused : {r : Refusal} → stage ≡ Err r → Promised (Err r)
   answer-refused e = promised (unfold check_network in sym (verdict-refused got e))

@@ -1,7 +1,6 @@
 -- What comes after the `S` lines: the end of the text.
 use Rattle.base_laws.proofs.Kit.{ℕ, suc, ◌+◌, ◌-◌, ◌≤◌, ◌≡◌, refl, sym, ◌∙◌, Bool, true, false, List, arith, length}
 use Rattle.base_search.specs.declared.Refusal.{Refusal}
-use Rattle.base_search.specs.declared.Verdict.TheVariants.{Passes}
 use Rattle.base_search.specs.Checks.{refusal, Hold, verdict}
 use Rattle.base_search.proofs.Laws.{first-all, checked-passes, checked_refused, hold-of-passes}
 use Rattle.text_reader.specs.Lines.{Line, lines}
@@ -10,16 +9,16 @@ use Rattle.text_reader.proofs.Laws.{starts-end}
 use Rattle.model.specs.Network.{link_count, step_count, on_timeline, timeline_line, step_line}
 use Rattle.model.specs.Table.{is_form, letter_s, step_checks}
 use Rattle.network_tables.specs.declared.Reading.{Reading}
-use Rattle.network_tables.specs.declared.Stage.TheVariants.{Passed, Refused}
 use Rattle.network_tables.specs.Places.{step_line_in}
 use Rattle.network_tables.specs.Blocks.{block_checks, step_block}
 use Rattle.network_tables.specs.Tables.{Judged}
 use Rattle.network_tables.proofs.Places.{record-within, step-line-is}
 use Rattle.network_tables.proofs.Stages.{judged-refused, judged-passed}
 use Rattle.network.specs.Loading.{end_checks, EndAsked}
+use Rattle.std.specs.Prelude.{Ok, Err}
 
 -- all lines of a network whose `S` lines pass are there
-pub lines-within : (network : List Line) → 1 ≤ step_count network → verdict (block_checks (step_block network)) ≡ Passes → step_line network (step_count network) ≤ length network
+pub lines-within : (network : List Line) → 1 ≤ step_count network → verdict (block_checks (step_block network)) ≡ Ok tt → step_line network (step_count network) ≤ length network
 unfolding verdict Hold step_checks is_form step_line timeline_line on_timeline
 lines-within network some e =
     let last = step_count network - 1 in
@@ -27,12 +26,12 @@ lines-within network some e =
     omega (arith, record-within letter_s (1 + link_count network) network (step_line network last) h.0)
 
 module _ {text : List ℕ} {reading : Reading} (asked : EndAsked text reading) {ended : Bool} (e : ended ≡ at_end text reading.next) where
-  pub text-ended : ended ≡ true → Judged (end_checks (lines text)) (λ after. after ≡ reading) (Passed reading)
+  pub text-ended : ended ≡ true → Judged (end_checks (lines text)) (λ after. after ≡ reading) (Ok reading)
   unfolding verdict end_checks
   text-ended n = judged-passed (checked-passes _ _ _ _ (sym (starts-end text reading.next _ asked.reached.starts asked.within) ∙ sym e ∙ n)) refl
 
   pub surplus-line : ended ≡ false → {line : ℕ} {q : Refusal} → line ≡ step_line_in reading.counts reading.counts.steps → q ≡ refusal 1 (line + 1) 0
-      → Judged (end_checks (lines text)) (λ after. after ≡ reading) (Refused q)
+      → Judged (end_checks (lines text)) (λ after. after ≡ reading) (Err q)
   unfolding verdict end_checks
   surplus-line n {line} l t =
       let counted = asked.reached.counted in

@@ -1,7 +1,6 @@
 -- The `H` lines, the `S` lines, the end of the text and the past, one after another.
 use Rattle.base_laws.proofs.Kit.{ℕ, ◌≤◌, ◌<◌, ◌≡◌, sym, ◌∙◌, true, List, arith, leb-true, replicate, length-replicate, get_or-replicate}
 use Rattle.base_search.specs.declared.Refusal.{Refusal}
-use Rattle.base_search.specs.declared.Verdict.TheVariants as verdicts
 use Rattle.base_search.specs.Checks.{Hold, verdict}
 use Rattle.base_search.proofs.Laws.{or-else-passes, or-else-refused, hold-of-passes}
 use Rattle.text_reader.specs.Lines.{Line, lines}
@@ -11,8 +10,6 @@ use Rattle.model.specs.Rules.{valid_link, valid_past}
 use Rattle.model.specs.Table.{link_checks, past_checks}
 use Rattle.base_laws.proofs.Tests.{and_left, and_right}
 use Rattle.network_tables.specs.declared.Reading.{Reading}
-use Rattle.network_tables.specs.declared.Stage.{Stage}
-use Rattle.network_tables.specs.declared.Stage.TheVariants.{Passed, Refused}
 use Rattle.network_tables.specs.Blocks.{block_checks, link_block, past_block, step_block}
 use Rattle.network_tables.specs.Tables.{Judged}
 use Rattle.network_tables.proofs.Stages.{judged-refused, verdict-passed, verdict-refused}
@@ -23,15 +20,16 @@ use Rattle.network_past.specs.Past.{FormsAsked, FormsHeld, past_end_checks, EndA
 use Rattle.network_steps.specs.Steps.{StepsAsked, StepsHeld}
 use Rattle.network.specs.Loading.{end_checks, EndAsked, timeline_checks, TimelineAsked, TimelineHeld}
 use Rattle.network.proofs.End.{lines-within}
+use Rattle.std.specs.Prelude.{Result, Ok, Err}
 
 -- the limits of links that have passed
-pub link-limits : (network : List Line) → verdict (block_checks (link_block network)) ≡ verdicts.Passes
+pub link-limits : (network : List Line) → verdict (block_checks (link_block network)) ≡ Ok tt
     → (i : ℕ) → i < link_count network → (capacity network i ≤ 2_000_000_000) × ((standing network i ≤ capacity network i) × (1 ≤ travel_time network i))
 unfolding Hold link_checks valid_link within
 link-limits network e i l = let v = (hold-of-passes (block_checks (link_block network)) e i l).1 in search (leb-true, and_left, and_right) depth 9
 
 -- the forms of `H` lines that have passed
-past-forms : (network : List Line) → verdict (block_checks (past_block network)) ≡ verdicts.Passes → PastForms network
+past-forms : (network : List Line) → verdict (block_checks (past_block network)) ≡ Ok tt → PastForms network
 unfolding Hold past_checks
 past-forms network e m l = hold-of-passes (block_checks (past_block network)) e m l
 
@@ -40,12 +38,12 @@ module _ {text : List ℕ} {reading : Reading} {links times₀ : List ℕ} (aske
   pub forms-asked : FormsAsked text reading times₀
   forms-asked = record { reached = asked.reached; room = asked.room }
 
-  module _ {times : List ℕ} {formed : Stage} (j : Judged (block_checks (past_block (lines text))) (FormsHeld text times) formed) where
-    pub forms-stop : {Held : Reading → Type 0} {r : Refusal} → formed ≡ Refused r → Judged (timeline_checks (lines text)) Held formed
+  module _ {times : List ℕ} {formed : (Result Reading Refusal)} (j : Judged (block_checks (past_block (lines text))) (FormsHeld text times) formed) where
+    pub forms-stop : {Held : Reading → Type 0} {r : Refusal} → formed ≡ Err r → Judged (timeline_checks (lines text)) Held formed
     unfolding verdict
     forms-stop {r = r} e = rw e (judged-refused (or-else-refused _ _ r (verdict-refused j e)))
 
-    module _ {at_steps : Reading} (e₁ : formed ≡ Passed at_steps) where
+    module _ {at_steps : Reading} (e₁ : formed ≡ Ok at_steps) where
       pub steps-asked : {demands : List ℕ} → demands ≡ replicate max_links 0 → StepsAsked text at_steps times demands
       steps-asked zeros =
           let held = j.held _ e₁ in
@@ -58,12 +56,12 @@ module _ {text : List ℕ} {reading : Reading} {links times₀ : List ℕ} (aske
             none = λ i l. rw zeros (get_or-replicate {A = ℕ} max_links i 0 0 l);
           }
 
-      module _ {times' demands' : List ℕ} {stepped : Stage} (j₁ : Judged (block_checks (step_block (lines text))) (StepsHeld text times' demands') stepped) where
-        pub steps-stop : {Held : Reading → Type 0} {r : Refusal} → stepped ≡ Refused r → Judged (timeline_checks (lines text)) Held stepped
+      module _ {times' demands' : List ℕ} {stepped : (Result Reading Refusal)} (j₁ : Judged (block_checks (step_block (lines text))) (StepsHeld text times' demands') stepped) where
+        pub steps-stop : {Held : Reading → Type 0} {r : Refusal} → stepped ≡ Err r → Judged (timeline_checks (lines text)) Held stepped
         unfolding verdict
         steps-stop {r = r} e = rw e (judged-refused (or-else-passes _ _ (verdict-passed j e₁) ∙ or-else-refused _ _ r (verdict-refused j₁ e)))
 
-        module _ {at_end : Reading} (e₂ : stepped ≡ Passed at_end) where
+        module _ {at_end : Reading} (e₂ : stepped ≡ Ok at_end) where
           pub end-asked : EndAsked text at_end
           end-asked =
               let held = j₁.held _ e₂ in
@@ -72,13 +70,13 @@ module _ {text : List ℕ} {reading : Reading} {links times₀ : List ℕ} (aske
                 within = lines-within (lines text) (omega (arith, held.reached.counted.some-steps, held.reached.counted.steps)) (verdict-passed j₁ e₂);
               }
 
-          module _ {ended : Stage} (j₂ : Judged (end_checks (lines text)) (λ after. after ≡ at_end) ended) where
-            pub end-stop : {Held : Reading → Type 0} {r : Refusal} → ended ≡ Refused r → Judged (timeline_checks (lines text)) Held ended
+          module _ {ended : (Result Reading Refusal)} (j₂ : Judged (end_checks (lines text)) (λ after. after ≡ at_end) ended) where
+            pub end-stop : {Held : Reading → Type 0} {r : Refusal} → ended ≡ Err r → Judged (timeline_checks (lines text)) Held ended
             unfolding verdict
             end-stop {r = r} e =
                 rw e (judged-refused (or-else-passes _ _ (verdict-passed j e₁) ∙ or-else-passes _ _ (verdict-passed j₁ e₂) ∙ or-else-refused _ _ r (verdict-refused j₂ e)))
 
-            module _ {at_past : Reading} (e₃ : ended ≡ Passed at_past) where
+            module _ {at_past : Reading} (e₃ : ended ≡ Ok at_past) where
               held : StepsHeld text times' demands' at_past
               held = rw (j₂.held _ e₃) (j₁.held _ e₂)
 
@@ -97,11 +95,11 @@ module _ {text : List ℕ} {reading : Reading} {links times₀ : List ℕ} (aske
                   }
 
               -- a past that is good is timed
-              timed : verdict (past_end_checks (lines text)) ≡ verdicts.Passes → at_past.timed ≡ true
+              timed : verdict (past_end_checks (lines text)) ≡ Ok tt → at_past.timed ≡ true
               unfolding Hold valid_past valid_lengths
               timed e = held.told ∙ and_left _ _ (hold-of-passes (past_end_checks (lines text)) e)
 
-              pub timeline-judged : {stage : Stage} → Judged (past_end_checks (lines text)) (λ after. after ≡ at_past) stage
+              pub timeline-judged : {stage : (Result Reading Refusal)} → Judged (past_end_checks (lines text)) (λ after. after ≡ at_past) stage
                   → Judged (timeline_checks (lines text)) (TimelineHeld text times') stage
               unfolding verdict
               timeline-judged jₚ =

@@ -14,22 +14,22 @@ ghost use Rattle.network.specs.Loading.{first_checks, FirstAsked, end_checks, En
 ghost use Rattle.network_tables.specs.Places.{Few};
 ghost use Rattle.network.specs.Counting.{counted_answer, count_network, CountPromises};
 
-use base_search::{Refusal, Verdict};
+use base_search::Refusal;
 use network_tables::{
     Counts, LINK_TABLE_SIZE, MAX_LINKS, MAX_SIGNALS, MOVEMENT_TABLE_SIZE, Reading,
-    SIGNAL_TABLE_SIZE, Stage, TIME_TABLE_SIZE, TRAM_TABLE_SIZE,
+    SIGNAL_TABLE_SIZE, TIME_TABLE_SIZE, TRAM_TABLE_SIZE,
 };
 
 // After the `S` lines: refusal 1 for a surplus line, reported at the line after the last.
-fn check_end(text: &[u8], reading: Reading) -> Stage
+fn check_end(text: &[u8], reading: Reading) -> Result<Reading, Refusal>
     requires { EndAsked text.now reading }
     ensures { Judged (end_checks (lines text.now)) (λ after. after ≡ reading) result }
 {
     if text_reader::is_end(text, reading.next) {
-        return Stage::Passed(reading);
+        return Ok(reading);
     }
     let counts = reading.counts;
-    Stage::Refused(Refusal::new(1, counts.step_line(counts.steps) + 1, 0))
+    Err(Refusal::new(1, counts.step_line(counts.steps) + 1, 0))
 }
 
 // The `T` and the `G` lines, then the trams' phases, which are reported at their `T` lines. After that no table of these is needed.
@@ -38,40 +38,25 @@ fn read_trams_and_signals(
     reading: Reading,
     phases: &mut [u32],
     signals: &mut [u32],
-) -> Stage
+) -> Result<Reading, Refusal>
     requires { FirstAsked text.now reading phases.old signals.old }
     ensures { Judged (first_checks (lines text.now)) (SignalsHeld text.now phases.new signals.new) result }
 {
     let mut trams = [0u32; TRAM_TABLE_SIZE];
-    let stage = network_trams::read_trams(text, reading, &mut trams);
-    let Stage::Passed(reading) = stage else {
-        return stage;
-    };
-    let stage = network_signals::read_signals(text, reading, phases, signals);
-    let Stage::Passed(reading) = stage else {
-        return stage;
-    };
+    let reading = network_trams::read_trams(text, reading, &mut trams)?;
+    let reading = network_signals::read_signals(text, reading, phases, signals)?;
     network_trams::check_tram_phases(&trams, phases, reading)
 }
 
 // The `H` and the `S` lines, the end of the text and, last of all, what the past must keep (30).
-fn read_timeline(text: &[u8], reading: Reading, links: &[u32], times: &mut [u32]) -> Stage
+fn read_timeline(text: &[u8], reading: Reading, links: &[u32], times: &mut [u32]) -> Result<Reading, Refusal>
     requires { TimelineAsked text.now reading links.now times.old }
     ensures { Judged (timeline_checks (lines text.now)) (TimelineHeld text.now times.new) result }
 {
     let mut demands = [0u32; MAX_LINKS];
-    let stage = network_past::read_past(text, reading, times);
-    let Stage::Passed(reading) = stage else {
-        return stage;
-    };
-    let stage = network_steps::read_steps(text, reading, times, &mut demands);
-    let Stage::Passed(reading) = stage else {
-        return stage;
-    };
-    let stage = check_end(text, reading);
-    let Stage::Passed(reading) = stage else {
-        return stage;
-    };
+    let reading = network_past::read_past(text, reading, times)?;
+    let reading = network_steps::read_steps(text, reading, times, &mut demands)?;
+    let reading = check_end(text, reading)?;
     network_past::check_past(text, reading, links, times, &demands)
 }
 
@@ -83,31 +68,16 @@ pub fn load_with_signals(
     links: &mut [u32],
     movements: &mut [u32],
     times: &mut [u32],
-) -> Stage
+) -> Result<Reading, Refusal>
     requires { SignalRooms signals.old links.old movements.old times.old }
     ensures { Judged (network_checks (lines text.now)) (LoadedWithSignals text.now signals.new links.new movements.new times.new) result }
 {
-    let stage = network_signals::read_counts(text);
-    let Stage::Passed(reading) = stage else {
-        return stage;
-    };
+    let reading = network_signals::read_counts(text)?;
     let mut phases = [0u32; MAX_SIGNALS];
-    let stage = read_trams_and_signals(text, reading, &mut phases, signals);
-    let Stage::Passed(reading) = stage else {
-        return stage;
-    };
-    let stage = network_links::read_links(text, reading, &phases, links);
-    let Stage::Passed(reading) = stage else {
-        return stage;
-    };
-    let stage = network_links::read_movements(text, reading, movements);
-    let Stage::Passed(reading) = stage else {
-        return stage;
-    };
-    let stage = network_links::check_shares(movements, reading);
-    let Stage::Passed(reading) = stage else {
-        return stage;
-    };
+    let reading = read_trams_and_signals(text, reading, &mut phases, signals)?;
+    let reading = network_links::read_links(text, reading, &phases, links)?;
+    let reading = network_links::read_movements(text, reading, movements)?;
+    let reading = network_links::check_shares(movements, reading)?;
     read_timeline(text, reading, links, times)
 }
 
@@ -117,7 +87,7 @@ pub fn load_network(
     links: &mut [u32],
     movements: &mut [u32],
     times: &mut [u32],
-) -> Stage
+) -> Result<Reading, Refusal>
     requires { Rooms links.old movements.old times.old }
     ensures { Judged (network_checks (lines text.now)) (Loaded text.now links.new movements.new times.new) result }
 {
@@ -126,7 +96,7 @@ pub fn load_network(
 }
 
 // Check a network: refusals 1 to 6, 28 and 30.
-pub fn check_network(text: &[u8]) -> Verdict
+pub fn check_network(text: &[u8]) -> Result<(), Refusal>
     ensures value { result ≡ check_network (lines text.now) }
     ensures network_promises { NetworkPromises result }
     ensures padding_ignored { PaddingIgnored text.now (λ padded. result ≡ check_network (lines padded)) }
@@ -135,8 +105,8 @@ pub fn check_network(text: &[u8]) -> Verdict
     let mut movements = [0u32; MOVEMENT_TABLE_SIZE];
     let mut times = [0u32; TIME_TABLE_SIZE];
     match load_network(text, &mut links, &mut movements, &mut times) {
-        Stage::Passed(_) => Verdict::Passes,
-        Stage::Refused(refusal) => Verdict::Refused(refusal),
+        Ok(_) => Ok(()),
+        Err(refusal) => Err(refusal),
     }
 }
 
@@ -179,7 +149,7 @@ pub fn count_network(text: &[u8]) -> CountsAnswer
     let mut movements = [0u32; MOVEMENT_TABLE_SIZE];
     let mut times = [0u32; TIME_TABLE_SIZE];
     match load_network(text, &mut links, &mut movements, &mut times) {
-        Stage::Passed(reading) => counted(reading.counts),
-        Stage::Refused(refusal) => CountsAnswer::Refused(refusal),
+        Ok(reading) => counted(reading.counts),
+        Err(refusal) => CountsAnswer::Refused(refusal),
     }
 }

@@ -2,8 +2,6 @@
 use Rattle.base_laws.proofs.Kit.{ℕ, suc, ◌+◌, ◌-◌, ◌*◌, ◌%◌, ◌^◌, ◌≤◌, ◌<◌, ◌≡◌, refl, sym, ◌∙◌, Bool, true, false, cond, not, ◌&&◌, and-true, and-false, List, add-one, arith, le-leb, lt-leb, eqb-false, leb-true, ne_eqb, not-true, not-false, leb, ltb, eqb, get_or}
 use Rattle.base_search.specs.declared.Refusal.{Refusal}
 use Rattle.base_search.specs.Checks.{refusal}
-use Rattle.text_reader.specs.declared.LineRead.{LineRead}
-use Rattle.text_reader.specs.declared.LineRead.TheVariants.{Next, Malformed}
 use Rattle.text_reader.specs.Lines.{Line, lines}
 use Rattle.base_laws.specs.Test.{◌and◌, within}
 use Rattle.model.specs.Network.{entry, link_count, signal_count, link_line, signal, capacity, travel_time, exit_rate, signal_of, phase_mask, standing}
@@ -11,7 +9,6 @@ use Rattle.model.specs.Rules.{valid_mask, valid_link}
 use Rattle.model.specs.Table.{letter_q, link_checks}
 use Rattle.model.proofs.Phases.{bit_shifted}
 use Rattle.network_tables.specs.declared.Reading.{Reading}
-use Rattle.network_tables.specs.declared.Stage.TheVariants.{Passed, Refused}
 use Rattle.network_tables.specs.Places.{link_line_in}
 use Rattle.network_tables.specs.Fields.{link_fields, link_table_size, capacity_in, travel_time_in, exit_rate_in, signal_in, phase_mask_in, standing_in}
 use Rattle.network_tables.specs.Rows.{RowRead}
@@ -22,6 +19,7 @@ use Rattle.network_tables.proofs.Blocks.{passed-all, block-end, records-malforme
 use Rattle.network_tables.proofs.Stages.{judged-refused, judged-passed, reached-next}
 use Rattle.network_links.specs.Links.{valid_mask_in, valid_link_in, PhasesKnown, LinkAsked}
 use Rattle.network_links.specs.Stages.{LinksAsked, LinksHeld}
+use Rattle.std.specs.Prelude.{Option, Some, None, Ok, Err}
 
 pub fewer-known : {m n : ℕ} {phases : List ℕ} → PhasesKnown n phases → m ≤ n → PhasesKnown m phases
 fewer-known k h = record { room = omega (arith, k.room); few = λ r l. k.few r (omega arith) }
@@ -90,7 +88,7 @@ module _ {text : List ℕ} {reading : Reading} {phases links₀ : List ℕ} (ask
 
   module _ {at i : ℕ} {links : List ℕ} (inv : TableTo text (link_block (lines text)) link_fields link_table_size at i links) where
     pub links-done : reading.counts.links ≤ i → {after : Reading} → after ≡ moved_to reading at
-        → Judged (block_checks (link_block (lines text))) (LinksHeld text links) (Passed after)
+        → Judged (block_checks (link_block (lines text))) (LinksHeld text links) (Ok after)
     links-done h e =
         let past : link_count (lines text) ≤ i = omega (arith, asked.reached.counted.links) in
         rw e
@@ -100,15 +98,15 @@ module _ {text : List ℕ} {reading : Reading} {phases links₀ : List ℕ} (ask
           table = record { size = inv.room; holds = λ j k l. inv.rows.numbers j k (omega arith) };
         }))
 
-    module _ (h : i < reading.counts.links) {r : LineRead} {after : List ℕ} (row : RowRead letter_q link_fields text at (link_fields * i) links r after) where
+    module _ (h : i < reading.counts.links) {r : (Option ℕ)} {after : List ℕ} (row : RowRead letter_q link_fields text at (link_fields * i) links r after) where
       below : i < link_count (lines text)
       below = omega (arith, asked.reached.counted.links)
 
       told_line : {line : ℕ} → line ≡ link_line_in reading.counts i → line + 1 ≡ suc (link_line (lines text) i)
       told_line l = omega (arith, link-line-is asked.reached.counted i)
 
-      pub links-malformed : r ≡ Malformed → {line : ℕ} {q : Refusal} → line ≡ link_line_in reading.counts i → q ≡ refusal 1 (line + 1) 0
-          → Judged (block_checks (link_block (lines text))) (LinksHeld text after) (Refused q)
+      pub links-malformed : r ≡ None → {line : ℕ} {q : Refusal} → line ≡ link_line_in reading.counts i → q ≡ refusal 1 (line + 1) 0
+          → Judged (block_checks (link_block (lines text))) (LinksHeld text after) (Err q)
       links-malformed e l t = rw (t, told_line l) (judged-refused (records-malformed inv.read (link-records (lines text)) below row e))
 
       pub link-asked : LinkAsked after i reading.counts.signals phases
@@ -123,14 +121,14 @@ module _ {text : List ℕ} {reading : Reading} {phases links₀ : List ℕ} (ask
                 };
           }
 
-      module _ {next : ℕ} (e : r ≡ Next next) {v : Bool} (told : v ≡ valid_link_in after i reading.counts.signals phases) where
+      module _ {next : ℕ} (e : r ≡ Some next) {v : Bool} (told : v ≡ valid_link_in after i reading.counts.signals phases) where
         judged : v ≡ valid_link (lines text) i
         judged =
             told
             ∙ rw asked.reached.counted.signals (link-valid asked.phased i after (λ k. (table-rows inv row e).numbers i k (omega arith)))
 
         pub links-invalid : not v ≡ true → {line : ℕ} {q : Refusal} → line ≡ link_line_in reading.counts i → q ≡ refusal 4 (line + 1) (i + 1)
-            → Judged (block_checks (link_block (lines text))) (LinksHeld text after) (Refused q)
+            → Judged (block_checks (link_block (lines text))) (LinksHeld text after) (Err q)
         links-invalid n l t =
             rw (t, told_line l, add-one)
             (judged-refused (records-invalid inv.read (link-records (lines text)) below row e (sym judged ∙ not-true v n)))

@@ -2,8 +2,6 @@
 use Rattle.base_laws.proofs.Kit.{ℕ, zero, suc, ◌+◌, ◌-◌, ◌*◌, ◌≤◌, ◌<◌, ◌≡◌, refl, sym, ap, fun_ext, ◌∙◌, Bool, true, false, not, ◌&&◌, ◌||◌, List, add-one, arith, eq-eqb, ne_eqb, not-true, not-false, leb, ltb, eqb, eqb·suc-zero}
 use Rattle.base_search.specs.declared.Refusal.{Refusal}
 use Rattle.base_search.specs.Checks.{refusal, each, checked, verdict}
-use Rattle.text_reader.specs.declared.LineRead.{LineRead}
-use Rattle.text_reader.specs.declared.LineRead.TheVariants.{Next, Malformed}
 use Rattle.text_reader.specs.Lines.{Line, lines}
 use Rattle.base_laws.specs.Test.{◌and◌, ◌or◌, within}
 use Rattle.base_laws.specs.Sum.{sum, only}
@@ -13,7 +11,6 @@ use Rattle.model.specs.Table.{letter_m, movement_checks, share_checks}
 use Rattle.base_laws.proofs.Sums.{sum-ext}
 use Rattle.network_tables.specs.declared.Counts.{Counts}
 use Rattle.network_tables.specs.declared.Reading.{Reading}
-use Rattle.network_tables.specs.declared.Stage.TheVariants.{Passed, Refused}
 use Rattle.network_tables.specs.Places.{movement_line_in}
 use Rattle.network_tables.specs.Fields.{movement_fields, movement_table_size, link_in, rate_in, share_in}
 use Rattle.network_tables.specs.Rows.{RowRead}
@@ -25,6 +22,7 @@ use Rattle.network_tables.proofs.Blocks.{passed-all, passed-stop, passed-next, b
 use Rattle.network_tables.proofs.Stages.{judged-refused, judged-passed, reached-next}
 use Rattle.network_links.specs.Movements.{pair_rises_in, valid_movement_in, last_movement_in, share_sum_in, valid_shares_in, share_checks_in, MovementsKnown}
 use Rattle.network_links.specs.Stages.{MovementsAsked, MovementsHeld, SharesAsked}
+use Rattle.std.specs.Prelude.{Option, Some, None, Ok, Err}
 
 -- ---- the turns of `pair_rises`
 module _ (movements : List ℕ) (j : ℕ) where
@@ -115,7 +113,7 @@ module _ {text : List ℕ} {reading : Reading} {movements₀ : List ℕ} (asked 
 
   module _ {at j : ℕ} {movements : List ℕ} (inv : TableTo text (movement_block (lines text)) movement_fields movement_table_size at j movements) where
     pub movements-done : reading.counts.movements ≤ j → {after : Reading} → after ≡ moved_to reading at
-        → Judged (block_checks (movement_block (lines text))) (MovementsHeld text movements) (Passed after)
+        → Judged (block_checks (movement_block (lines text))) (MovementsHeld text movements) (Ok after)
     movements-done h e =
         let past : movement_count (lines text) ≤ j = omega (arith, asked.reached.counted.movements) in
         rw e
@@ -125,26 +123,26 @@ module _ {text : List ℕ} {reading : Reading} {movements₀ : List ℕ} (asked 
           table = record { size = inv.room; holds = λ i k l. inv.rows.numbers i k (omega arith) };
         }))
 
-    module _ (h : j < reading.counts.movements) {r : LineRead} {after : List ℕ} (row : RowRead letter_m movement_fields text at (movement_fields * j) movements r after) where
+    module _ (h : j < reading.counts.movements) {r : (Option ℕ)} {after : List ℕ} (row : RowRead letter_m movement_fields text at (movement_fields * j) movements r after) where
       below : j < movement_count (lines text)
       below = omega (arith, asked.reached.counted.movements)
 
       told_line : {line : ℕ} → line ≡ movement_line_in reading.counts j → line + 1 ≡ suc (movement_line (lines text) j)
       told_line l = omega (arith, movement-line-is asked.reached.counted j)
 
-      pub movements-malformed : r ≡ Malformed → {line : ℕ} {q : Refusal} → line ≡ movement_line_in reading.counts j → q ≡ refusal 1 (line + 1) 0
-          → Judged (block_checks (movement_block (lines text))) (MovementsHeld text after) (Refused q)
+      pub movements-malformed : r ≡ None → {line : ℕ} {q : Refusal} → line ≡ movement_line_in reading.counts j → q ≡ refusal 1 (line + 1) 0
+          → Judged (block_checks (movement_block (lines text))) (MovementsHeld text after) (Err q)
       movements-malformed e l t = rw (t, told_line l) (judged-refused (records-malformed inv.read (movement-records (lines text)) below row e))
 
       pub movement-asked : MovementsKnown after (j + 1)
       movement-asked = record { room = table-room inv row; few = omega (arith, asked.reached.counted.few.movements) }
 
-      module _ {next : ℕ} (e : r ≡ Next next) {v : Bool} (told : v ≡ valid_movement_in after reading.counts.links j) where
+      module _ {next : ℕ} (e : r ≡ Some next) {v : Bool} (told : v ≡ valid_movement_in after reading.counts.links j) where
         judged : v ≡ valid_movement (lines text) j
         judged = told ∙ rw asked.reached.counted.links (movement-valid (lines text) after j (table-rows inv row e))
 
         pub movements-invalid : not v ≡ true → {line : ℕ} {q : Refusal} → line ≡ movement_line_in reading.counts j → q ≡ refusal 5 (line + 1) (j + 1)
-            → Judged (block_checks (movement_block (lines text))) (MovementsHeld text after) (Refused q)
+            → Judged (block_checks (movement_block (lines text))) (MovementsHeld text after) (Err q)
         movements-invalid n l t =
             rw (t, told_line l, add-one)
             (judged-refused (records-invalid inv.read (movement-records (lines text)) below row e (sym judged ∙ not-true v n)))
@@ -154,7 +152,7 @@ module _ {text : List ℕ} {reading : Reading} {movements₀ : List ℕ} (asked 
 
 -- ---- the turns of `check_shares`
 module _ (movements : List ℕ) (reading : Reading) {i : ℕ} (inv : PassedTo reading.counts.links (share_checks_in movements reading.counts) i) where
-  pub shares-done : reading.counts.links ≤ i → Judged (each reading.counts.links (share_checks_in movements reading.counts)) (λ after. after ≡ reading) (Passed reading)
+  pub shares-done : reading.counts.links ≤ i → Judged (each reading.counts.links (share_checks_in movements reading.counts)) (λ after. after ≡ reading) (Ok reading)
   shares-done h = judged-passed (passed-all inv h) refl
 
   module _ (h : i < reading.counts.links) {v : Bool} (told : v ≡ valid_shares_in movements reading.counts.movements (i + 1)) where
@@ -163,7 +161,7 @@ module _ (movements : List ℕ) (reading : Reading) {i : ℕ} (inv : PassedTo re
 
     pub shares-broken : not v ≡ true → {last line : ℕ} → last ≡ last_movement_in movements reading.counts.movements (i + 1)
         → line ≡ movement_line_in reading.counts last → {q : Refusal} → q ≡ refusal 5 line last
-        → Judged (each reading.counts.links (share_checks_in movements reading.counts)) (λ after. after ≡ reading) (Refused q)
+        → Judged (each reading.counts.links (share_checks_in movements reading.counts)) (λ after. after ≡ reading) (Err q)
     unfolding verdict share_checks_in checked
     shares-broken n l p t = rw (t, p, l, add-one i) (judged-refused (passed-stop inv h (rw (judged-shares, not-true v n))))
 

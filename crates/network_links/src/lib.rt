@@ -11,8 +11,7 @@ ghost use Rattle.network_links.specs.Movements.{pair_rises_in, valid_movement_in
 ghost use Rattle.network_links.specs.Stages.{LinksAsked, LinksHeld, MovementsAsked, MovementsHeld, SharesAsked};
 
 use base_search::Refusal;
-use network_tables::{LINK_FIELDS, MAX_LINKS, MOVEMENT_FIELDS, Reading, Stage};
-use text_reader::LineRead;
+use network_tables::{LINK_FIELDS, MAX_LINKS, MOVEMENT_FIELDS, Reading};
 
 // Refusal 4: a link without a signal has no phase; one with a signal has a phase, and none above the signal's number of phases.
 fn valid_mask(mask: u32, signal: usize, phases: &[u32]) -> bool
@@ -45,7 +44,7 @@ fn valid_link(links: &[u32], i: usize, signals: usize, phases: &[u32]) -> bool
 }
 
 // The `Q` lines: each line's form (refusal 1), then its values (refusal 4). Its numbers go straight into the row of its link.
-pub fn read_links(text: &[u8], reading: Reading, phases: &[u32], links: &mut [u32]) -> Stage
+pub fn read_links(text: &[u8], reading: Reading, phases: &[u32], links: &mut [u32]) -> Result<Reading, Refusal>
     requires { LinksAsked text.now reading phases.now links.old }
     ensures { Judged (block_checks (link_block (lines text.now))) (LinksHeld text.now links.new) result }
 {
@@ -56,16 +55,16 @@ pub fn read_links(text: &[u8], reading: Reading, phases: &[u32], links: &mut [u3
         let line = counts.link_line(i) + 1;
         let start = LINK_FIELDS * i;
         let read = network_tables::read_row(text, place, b'Q', links, start, LINK_FIELDS);
-        let LineRead::Next(next) = read else {
-            return Stage::Refused(Refusal::new(1, line, 0));
+        let Some(next) = read else {
+            return Err(Refusal::new(1, line, 0));
         };
         if !valid_link(links, i, counts.signals, phases) {
-            return Stage::Refused(Refusal::new(4, line, i + 1));
+            return Err(Refusal::new(4, line, i + 1));
         }
         place = next;
         i += 1;
     }
-    Stage::Passed(reading.moved_to(place))
+    Ok(reading.moved_to(place))
 }
 
 // Refusal 5: the pair (from, to) of movement `j` is above that of the movement before.
@@ -102,7 +101,7 @@ fn valid_movement(movements: &[u32], links: usize, j: usize) -> bool
 }
 
 // The `M` lines: each line's form (refusal 1), then its values (refusal 5). Its numbers go straight into the row of its movement.
-pub fn read_movements(text: &[u8], reading: Reading, movements: &mut [u32]) -> Stage
+pub fn read_movements(text: &[u8], reading: Reading, movements: &mut [u32]) -> Result<Reading, Refusal>
     requires { MovementsAsked text.now reading movements.old }
     ensures { Judged (block_checks (movement_block (lines text.now))) (MovementsHeld text.now movements.new) result }
 {
@@ -113,16 +112,16 @@ pub fn read_movements(text: &[u8], reading: Reading, movements: &mut [u32]) -> S
         let line = counts.movement_line(j) + 1;
         let start = MOVEMENT_FIELDS * j;
         let read = network_tables::read_row(text, place, b'M', movements, start, MOVEMENT_FIELDS);
-        let LineRead::Next(next) = read else {
-            return Stage::Refused(Refusal::new(1, line, 0));
+        let Some(next) = read else {
+            return Err(Refusal::new(1, line, 0));
         };
         if !valid_movement(movements, counts.links, j) {
-            return Stage::Refused(Refusal::new(5, line, j + 1));
+            return Err(Refusal::new(5, line, j + 1));
         }
         place = next;
         j += 1;
     }
-    Stage::Passed(reading.moved_to(place))
+    Ok(reading.moved_to(place))
 }
 
 // The number, from 1, of the last movement that leaves a link, numbered from 1; 0 where none does.
@@ -181,7 +180,7 @@ fn valid_shares(movements: &[u32], count: usize, link: usize, sum: u64) -> bool
 }
 
 // Refusal 5 after all `M` lines: the shares by rising link, reported at the link's last movement.
-pub fn check_shares(movements: &[u32], reading: Reading) -> Stage
+pub fn check_shares(movements: &[u32], reading: Reading) -> Result<Reading, Refusal>
     requires { SharesAsked movements.now reading.counts }
     ensures { Judged (each reading.counts.links (share_checks_in movements.now reading.counts)) (λ after. after ≡ reading) result }
 {
@@ -193,9 +192,9 @@ pub fn check_shares(movements: &[u32], reading: Reading) -> Stage
     while i < counts.links {
         if !valid_shares(movements, count, i + 1, sums[i]) {
             let last = last_movement(movements, count, i + 1);
-            return Stage::Refused(Refusal::new(5, counts.movement_line(last), last));
+            return Err(Refusal::new(5, counts.movement_line(last), last));
         }
         i += 1;
     }
-    Stage::Passed(reading)
+    Ok(reading)
 }

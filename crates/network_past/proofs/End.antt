@@ -15,7 +15,6 @@ use Rattle.model.proofs.Times.{arrival-step-le}
 use Rattle.model.proofs.Flow.{arrived-entered}
 use Rattle.network_tables.specs.declared.Counts.{Counts}
 use Rattle.network_tables.specs.declared.Reading.{Reading}
-use Rattle.network_tables.specs.declared.Stage.TheVariants.{Passed, Refused}
 use Rattle.network_tables.specs.Fields.{row_size}
 use Rattle.network_tables.specs.Tables.{Judged, TimeTable}
 use Rattle.network_tables.proofs.Stages.{judged-refused, judged-passed}
@@ -27,6 +26,7 @@ use Rattle.step_arrivals.proofs.Timed.{timed-table, timed-rise}
 use Rattle.step_past.specs.Curves.{past_entered, past_left, PastAsked, PastOverflows, PastLoaded}
 use Rattle.network_past.specs.Past.{valid_past_in, valid_links_in, LinksAsked, past_end_checks, EndAsked}
 use Rattle.network_past.proofs.Links.{valid-is}
+use Rattle.std.specs.Prelude.{Ok, Err}
 
 -- ---- the turns of `valid_links`
 module _ (counts : Counts) (links times demands row arrivals curves : List ℕ) where
@@ -48,7 +48,7 @@ module _ {text : List ℕ} {reading : Reading} {links times demands : List ℕ} 
   abbrev net : List Line
   net = lines text
 
-  refused : valid_past net ≡ false → {q : Refusal} → q ≡ refusal 30 0 0 → Judged (past_end_checks net) (λ after. after ≡ reading) (Refused q)
+  refused : valid_past net ≡ false → {q : Refusal} → q ≡ refusal 30 0 0 → Judged (past_end_checks net) (λ after. after ≡ reading) (Err q)
   unfolding verdict
   refused v t = rw t (judged-refused (checked_refused _ 30 0 0 v))
 
@@ -57,7 +57,7 @@ module _ {text : List ℕ} {reading : Reading} {links times demands : List ℕ} 
   past_is = ap (λ b. b and every (link_count net) (valid_past_of net)) (sym asked.told)
 
   -- a length, or the number of steps, is bad
-  pub untimed : not reading.timed ≡ true → {q : Refusal} → q ≡ refusal 30 0 0 → Judged (past_end_checks net) (λ after. after ≡ reading) (Refused q)
+  pub untimed : not reading.timed ≡ true → {q : Refusal} → q ≡ refusal 30 0 0 → Judged (past_end_checks net) (λ after. after ≡ reading) (Err q)
   untimed b = refused (past_is ∙ rw (not-true reading.timed b) (unfold ◌and◌ in refl))
 
   module _ (b : not reading.timed ≡ false) where
@@ -132,7 +132,7 @@ module _ {text : List ℕ} {reading : Reading} {links times demands : List ℕ} 
           let small : past_entered net (past_count net) i < 4294967296 = omega (arith, entered-end i, entered-start net [] i, few, lim.0, lim.1.0, all-timed.few refl) in
           o.over small (omega (arith, left_end i, entered-end i, arrived-entered net [] (λ m h. all-timed.lasts refl m (omega (arith, together))) some 0 i (omega arith) lim.1.1 (left net [] 0 i) arrived))
 
-      pub overflow : not fit ≡ true → {q : Refusal} → q ≡ refusal 30 0 0 → Judged (past_end_checks net) (λ after. after ≡ reading) (Refused q)
+      pub overflow : not fit ≡ true → {q : Refusal} → q ≡ refusal 30 0 0 → Judged (past_end_checks net) (λ after. after ≡ reading) (Err q)
       unfolding ◌and◌
       overflow n = refused (past_is ∙ by reading.timed (every (link_count net) (valid_past_of net)) refl)
         where
@@ -171,9 +171,9 @@ module _ {text : List ℕ} {reading : Reading} {links times demands : List ℕ} 
               by : (s : Bool) → true and s ≡ s
               by s = unfold ◌and◌ in refl
 
-          pub link-bad : not valid ≡ true → {q : Refusal} → q ≡ refusal 30 0 0 → Judged (past_end_checks net) (λ after. after ≡ reading) (Refused q)
+          pub link-bad : not valid ≡ true → {q : Refusal} → q ≡ refusal 30 0 0 → Judged (past_end_checks net) (λ after. after ≡ reading) (Err q)
           link-bad k = refused (whole ∙ not-true valid k)
 
-          pub past-good : not valid ≡ false → Judged (past_end_checks net) (λ after. after ≡ reading) (Passed reading)
+          pub past-good : not valid ≡ false → Judged (past_end_checks net) (λ after. after ≡ reading) (Ok reading)
           unfolding verdict
           past-good k = judged-passed (checked-passes _ 30 0 0 (whole ∙ not-false valid k)) refl

@@ -3,14 +3,11 @@ use Rattle.base_laws.proofs.Kit.{ℕ, suc, ◌+◌, ◌*◌, ◌≤◌, ◌<◌,
 use Rattle.base_search.specs.declared.Refusal.{Refusal}
 use Rattle.base_search.specs.Checks.{refusal, verdict}
 use Rattle.base_search.proofs.Laws.{checked-passes, checked_refused}
-use Rattle.text_reader.specs.declared.LineRead.{LineRead}
-use Rattle.text_reader.specs.declared.LineRead.TheVariants.{Next, Malformed}
 use Rattle.text_reader.specs.Lines.{Line, lines}
 use Rattle.base_laws.specs.Test.{◌and◌, within, every}
 use Rattle.model.specs.Network.{link_count, past_count, step_count, timeline_line, timeline_length}
 use Rattle.model.specs.Table.{letter_h, past_checks}
 use Rattle.network_tables.specs.declared.Reading.{Reading}
-use Rattle.network_tables.specs.declared.Stage.TheVariants.{Passed, Refused}
 use Rattle.network_tables.specs.Places.{timeline_line_in}
 use Rattle.network_tables.specs.Fields.{past_size}
 use Rattle.network_tables.specs.Rows.{RowRead}
@@ -24,6 +21,7 @@ use Rattle.step_arrivals.specs.Timed.{valid_lengths, TimeAsked, TimeSet, TimedTo
 use Rattle.step_arrivals.proofs.Timed.{timed-none, time-ready, timed-next}
 use Rattle.step_past.proofs.Reading.{past-numbers, past_next}
 use Rattle.network_past.specs.Past.{FormsAsked, FormsHeld}
+use Rattle.std.specs.Prelude.{Option, Some, None, Ok, Err}
 
 -- one step more is valid
 lengths-more : (network : List Line) (m : ℕ) → valid_lengths network (suc m) ≡ valid_lengths network m and within 1 (timeline_length network m) 60
@@ -60,7 +58,7 @@ module _ {text : List ℕ} {reading : Reading} {times₀ : List ℕ} (asked : Fo
   module _ {times fields : List ℕ} {at m : ℕ} {timed : Bool} (inv : FormsTo text times fields at timed m) where
     pub forms-done : reading.counts.past ≤ m
         → Judged (block_checks (past_block (lines text))) (FormsHeld text times)
-        (Passed (record { counts = reading.counts; next = at; trams_at = reading.trams_at; signals_at = reading.signals_at; past_at = reading.next; steps_at = reading.steps_at; shortest = reading.shortest; timed = timed }))
+        (Ok (record { counts = reading.counts; next = at; trams_at = reading.trams_at; signals_at = reading.signals_at; past_at = reading.next; steps_at = reading.steps_at; shortest = reading.shortest; timed = timed }))
     forms-done h =
         let r = asked.reached in
         let past : past_count (lines text) ≤ m = omega (arith, r.counted.past) in
@@ -80,21 +78,21 @@ module _ {text : List ℕ} {reading : Reading} {times₀ : List ℕ} (asked : Fo
       pub time-asked : TimeAsked times m timed
       time-asked = time-ready inv.timed-to (omega (arith, below))
 
-      module _ {r : LineRead} {after : List ℕ} (row : RowRead letter_h (1 + 2 * reading.counts.links) text at 0 fields r after) where
+      module _ {r : (Option ℕ)} {after : List ℕ} (row : RowRead letter_h (1 + 2 * reading.counts.links) text at 0 fields r after) where
         wide : 1 + 2 * reading.counts.links ≡ 1 + 2 * link_count (lines text)
         wide = omega (arith, asked.reached.counted.links)
 
         own : RowRead letter_h (1 + 2 * link_count (lines text)) text at 0 fields r after
         own = rw wide at row
 
-        pub forms-malformed : r ≡ Malformed → {line : ℕ} {q : Refusal} → line ≡ timeline_line_in reading.counts m → q ≡ refusal 1 (line + 1) 0
-            → Judged (block_checks (past_block (lines text))) (FormsHeld text times) (Refused q)
+        pub forms-malformed : r ≡ None → {line : ℕ} {q : Refusal} → line ≡ timeline_line_in reading.counts m → q ≡ refusal 1 (line + 1) 0
+            → Judged (block_checks (past_block (lines text))) (FormsHeld text times) (Err q)
         unfolding verdict past_checks
         forms-malformed e {line} l t =
             let told : line + 1 ≡ suc (timeline_line (lines text) m) = omega (arith, timeline-line-is asked.reached.counted m) in
             rw (t, told) (judged-refused (passed-stop inv.read.passed below (checked_refused _ 1 _ 0 (own.malformed e (timeline_line (lines text) m) inv.read.starts))))
 
-        pub forms-next : {next : ℕ} → r ≡ Next next → {seconds : ℕ} → seconds ≡ get_or after 0 0 → {timed' : Bool} {times' : List ℕ} → TimeSet times m seconds timed timed' times'
+        pub forms-next : {next : ℕ} → r ≡ Some next → {seconds : ℕ} → seconds ≡ get_or after 0 0 → {timed' : Bool} {times' : List ℕ} → TimeSet times m seconds timed timed' times'
             → FormsTo text times' after next timed' (m + 1)
         unfolding verdict past_checks
         forms-next {next} e {seconds} s {timed'} got =

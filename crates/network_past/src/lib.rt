@@ -8,11 +8,10 @@ ghost use Rattle.network_tables.specs.Blocks.{block_checks, past_block};
 ghost use Rattle.network_past.specs.Past.{FormsAsked, FormsHeld, valid_past_in, TestAsked, valid_links_in, LinksAsked, past_end_checks, EndAsked};
 
 use base_search::Refusal;
-use network_tables::{Counts, MAX_LINKS, MAX_STEPS, PAST_SIZE, ROW_SIZE, Reading, Stage, wide};
-use text_reader::LineRead;
+use network_tables::{Counts, MAX_LINKS, MAX_STEPS, PAST_SIZE, ROW_SIZE, Reading, wide};
 
 // The `H` lines: each line's form (refusal 1), and the times of the boundaries of the past, if its lengths are valid and all steps are few enough.
-pub fn read_past(text: &[u8], reading: Reading, times: &mut [u32]) -> Stage
+pub fn read_past(text: &[u8], reading: Reading, times: &mut [u32]) -> Result<Reading, Refusal>
     requires { FormsAsked text.now reading times.old }
     ensures { Judged (block_checks (past_block (lines text.now))) (FormsHeld text.now times.new) result }
 {
@@ -32,14 +31,14 @@ pub fn read_past(text: &[u8], reading: Reading, times: &mut [u32]) -> Stage
             0,
             1 + 2 * counts.links,
         );
-        let LineRead::Next(next) = read else {
-            return Stage::Refused(Refusal::new(1, line, 0));
+        let Some(next) = read else {
+            return Err(Refusal::new(1, line, 0));
         };
         timed = step_arrivals::next_time(times, m, fields[0], timed);
         place = next;
         m += 1;
     }
-    Stage::Passed(Reading {
+    Ok(Reading {
         counts,
         next: place,
         trams_at: reading.trams_at,
@@ -115,11 +114,11 @@ pub fn check_past(
     links: &[u32],
     times: &[u32],
     demands: &[u32],
-) -> Stage
+) -> Result<Reading, Refusal>
     requires { EndAsked text.now reading links.now times.now demands.now }
     ensures { Judged (past_end_checks (lines text.now)) (λ after. after ≡ reading) result }
 {
-    let refused = Stage::Refused(Refusal::new(30, 0, 0));
+    let refused = Err(Refusal::new(30, 0, 0));
     if !reading.timed {
         return refused;
     }
@@ -144,5 +143,5 @@ pub fn check_past(
     if !valid_links(counts, links, times, demands, &row, &arrivals, &curves) {
         return refused;
     }
-    Stage::Passed(reading)
+    Ok(reading)
 }

@@ -2,8 +2,6 @@
 use Rattle.base_laws.proofs.Kit.{ℕ, ◌+◌, ◌<◌, ◌≡◌, sym, ap, ◌∙◌, Bool, true, false, not, List, arith, leb-true, not-true, not-false, get_or}
 use Rattle.base_search.specs.declared.Refusal.{Refusal}
 use Rattle.base_search.specs.Checks.{refusal}
-use Rattle.text_reader.specs.declared.LineRead.{LineRead}
-use Rattle.text_reader.specs.declared.LineRead.TheVariants.{Next, Malformed}
 use Rattle.text_reader.specs.Lines.{lines}
 use Rattle.text_reader.proofs.Laws.{starts_first}
 use Rattle.base_laws.specs.Test.{within}
@@ -12,19 +10,19 @@ use Rattle.model.specs.Rules.{valid_counts}
 use Rattle.model.specs.Table.{letter_n, count_checks}
 use Rattle.base_laws.proofs.Tests.{and_left, and_right}
 use Rattle.network_tables.specs.declared.Counts.{Counts}
-use Rattle.network_tables.specs.declared.Stage.TheVariants.{Passed, Refused}
 use Rattle.network_tables.specs.Rows.{RowRead}
 use Rattle.network_tables.specs.Tables.{Judged, CountsHold}
 use Rattle.network_tables.proofs.Blocks.{line-malformed, line-invalid, line-valid}
 use Rattle.network_tables.proofs.Stages.{judged-refused, judged-passed}
 use Rattle.network_signals.specs.Counts.{count_fields, counts_from, valid_counts_in, CountsHeld}
+use Rattle.std.specs.Prelude.{Option, Some, None, Ok, Err}
 
-module _ {text old fields : List ℕ} {r : LineRead} (row : RowRead letter_n count_fields text 0 0 old r fields) where
-  pub counts-malformed : r ≡ Malformed → {q : Refusal} → q ≡ refusal 1 1 0 → Judged (count_checks (lines text)) (CountsHeld text) (Refused q)
+module _ {text old fields : List ℕ} {r : (Option ℕ)} (row : RowRead letter_n count_fields text 0 0 old r fields) where
+  pub counts-malformed : r ≡ None → {q : Refusal} → q ≡ refusal 1 1 0 → Judged (count_checks (lines text)) (CountsHeld text) (Err q)
   unfolding count_checks
   counts-malformed e t = rw t (judged-refused (line-malformed row 0 2 0 (valid_counts (lines text)) (starts_first text) e))
 
-  module _ {next : ℕ} (e : r ≡ Next next) {counts : Counts} (c : counts ≡ counts_from fields) {v : Bool} (told : v ≡ valid_counts_in counts) where
+  module _ {next : ℕ} (e : r ≡ Some next) {counts : Counts} (c : counts ≡ counts_from fields) {v : Bool} (told : v ≡ valid_counts_in counts) where
     number_at : (k : ℕ) → k < count_fields → get_or fields k 0 ≡ entry (lines text) 0 k
     number_at k h = let z : k ≡ 0 + k = omega arith in ap (λ x. get_or fields x 0) z ∙ (row.held next e 0 (starts_first text)).numbers k h
 
@@ -33,7 +31,7 @@ module _ {text old fields : List ℕ} {r : LineRead} (row : RowRead letter_n cou
     judged =
         told ∙ rw (c, number_at 0 (omega arith), number_at 1 (omega arith), number_at 2 (omega arith), number_at 3 (omega arith), number_at 4 (omega arith), number_at 5 (omega arith))
 
-    pub counts-invalid : not v ≡ true → {q : Refusal} → q ≡ refusal 2 1 0 → Judged (count_checks (lines text)) (CountsHeld text) (Refused q)
+    pub counts-invalid : not v ≡ true → {q : Refusal} → q ≡ refusal 2 1 0 → Judged (count_checks (lines text)) (CountsHeld text) (Err q)
     unfolding count_checks
     counts-invalid n t =
         rw t (judged-refused (line-invalid row 0 2 0 (valid_counts (lines text)) (starts_first text) e (sym judged ∙ not-true v n)))
@@ -50,7 +48,7 @@ module _ {text old fields : List ℕ} {r : LineRead} (row : RowRead letter_n cou
         search (leb-true, and_left, and_right) depth 12
 
     pub counts-passed : not v ≡ false
-        → Judged (count_checks (lines text)) (CountsHeld text) (Passed (record { counts = counts; next = next; trams_at = next; signals_at = next; past_at = next; steps_at = next; shortest = 0; timed = false }))
+        → Judged (count_checks (lines text)) (CountsHeld text) (Ok (record { counts = counts; next = next; trams_at = next; signals_at = next; past_at = next; steps_at = next; shortest = 0; timed = false }))
     unfolding count_checks tram_line
     counts-passed n =
         let w = sym judged ∙ not-false v n in

@@ -1,10 +1,7 @@
 -- The calls and the returns of the function that reads one `G` line, each in the form of a need.
 use Rattle.base_laws.proofs.Kit.{ℕ, suc, ◌+◌, ◌*◌, ◌≤◌, ◌≡◌, sym, ap, ◌∙◌, Bool, true, false, not, List, dec_le, add-one, arith, leb-true, not-true, not-false, leb, length, get_or}
 use Rattle.base_search.specs.declared.Refusal.{Refusal}
-use Rattle.base_search.specs.declared.Verdict.TheVariants as verdicts
 use Rattle.base_search.specs.Checks.{refusal, or_else, checked, verdict}
-use Rattle.text_reader.specs.declared.LineRead.{LineRead}
-use Rattle.text_reader.specs.declared.LineRead.TheVariants.{Next, Malformed}
 use Rattle.text_reader.specs.Lines.{Line, lines, no_line, starts_as}
 use Rattle.text_reader.proofs.Laws.{record-past}
 use Rattle.model.specs.declared.Signal.{Signal}
@@ -14,7 +11,6 @@ use Rattle.model.specs.Rules.{valid_phases, valid_signal}
 use Rattle.model.specs.Table.{is_form, letter_g, signal_checks}
 use Rattle.base_laws.proofs.Tests.{and_right}
 use Rattle.network_tables.specs.declared.Reading.{Reading}
-use Rattle.network_tables.specs.declared.Stage.TheVariants.{Passed, Refused}
 use Rattle.network_tables.specs.Places.{signal_line_in}
 use Rattle.network_tables.specs.Rows.{RowRead, HeadRead}
 use Rattle.network_tables.specs.Fields.{signal_fields}
@@ -24,43 +20,44 @@ use Rattle.network_tables.proofs.Stages.{judged-refused, judged-passed}
 use Rattle.network_signals.specs.Signals.{head_fields, signal_from}
 use Rattle.network_signals.specs.Stages.{SignalAsked, SignalHeld}
 use Rattle.network_signals.proofs.Values.{signal-read}
+use Rattle.std.specs.Prelude.{Option, Some, None, Ok, Err}
 
 -- ---- the four checks of `G` line r, by the first that is broken
 module _ (network : List Line) (r : ℕ) where
-  not-head : starts_as letter_g head_fields (get_or network (signal_line network r) no_line) ≡ false → verdict (signal_checks network r) ≡ verdicts.Refused (refusal 1 (suc (signal_line network r)) 0)
+  not-head : starts_as letter_g head_fields (get_or network (signal_line network r) no_line) ≡ false → verdict (signal_checks network r) ≡ Err (refusal 1 (suc (signal_line network r)) 0)
   unfolding verdict or_else checked signal_checks
   not-head f = rw f
 
   module _ (head : starts_as letter_g head_fields (get_or network (signal_line network r) no_line) ≡ true) where
-    not-phases : valid_phases (signal network r) ≡ false → verdict (signal_checks network r) ≡ verdicts.Refused (refusal 3 (suc (signal_line network r)) (suc r))
+    not-phases : valid_phases (signal network r) ≡ false → verdict (signal_checks network r) ≡ Err (refusal 3 (suc (signal_line network r)) (suc r))
     unfolding verdict or_else checked signal_checks
     not-phases f = rw (head, f)
 
     module _ (phases : valid_phases (signal network r) ≡ true) where
       not-form : is_form network (signal_line network r) letter_g (head_fields + 2 * (signal network r).phases) ≡ false
-          → verdict (signal_checks network r) ≡ verdicts.Refused (refusal 1 (suc (signal_line network r)) 0)
+          → verdict (signal_checks network r) ≡ Err (refusal 1 (suc (signal_line network r)) 0)
       unfolding verdict or_else checked signal_checks
       not-form f = rw (head, phases, f)
 
       module _ (form : is_form network (signal_line network r) letter_g (head_fields + 2 * (signal network r).phases) ≡ true) where
-        not-values : valid_signal (signal network r) ≡ false → verdict (signal_checks network r) ≡ verdicts.Refused (refusal 3 (suc (signal_line network r)) (suc r))
+        not-values : valid_signal (signal network r) ≡ false → verdict (signal_checks network r) ≡ Err (refusal 3 (suc (signal_line network r)) (suc r))
         unfolding verdict or_else checked signal_checks
         not-values f = rw (head, phases, form, f)
 
-        all-values : valid_signal (signal network r) ≡ true → verdict (signal_checks network r) ≡ verdicts.Passes
+        all-values : valid_signal (signal network r) ≡ true → verdict (signal_checks network r) ≡ Ok tt
         unfolding verdict or_else checked signal_checks
         all-values f = rw (head, phases, form, f)
 
 -- ---- the turns of `read_signal`
 module _ {text : List ℕ} {reading : Reading} {r : ℕ} {old : List ℕ} (asked : SignalAsked text reading r old) {head : List ℕ} {flag : Bool}
     (read : HeadRead letter_g head_fields text reading.next 0 old flag head) {line : ℕ} (l : line ≡ signal_line_in reading.counts r) where
-  refused : (number item : ℕ) {after : List ℕ} {q : Refusal} → q ≡ refusal number (line + 1) item → verdict (signal_checks (lines text) r) ≡ verdicts.Refused (refusal number (suc (signal_line (lines text) r)) item)
-      → Judged (signal_checks (lines text) r) (SignalHeld text r after) (Refused q)
+  refused : (number item : ℕ) {after : List ℕ} {q : Refusal} → q ≡ refusal number (line + 1) item → verdict (signal_checks (lines text) r) ≡ Err (refusal number (suc (signal_line (lines text) r)) item)
+      → Judged (signal_checks (lines text) r) (SignalHeld text r after) (Err q)
   refused number item t e =
       let told : line + 1 ≡ suc (signal_line (lines text) r) = omega (arith, signal-line-is asked.counted r) in rw (t, told) (judged-refused e)
 
   -- the first seven fields
-  pub stop-head : not flag ≡ true → {after : List ℕ} {q : Refusal} → q ≡ refusal 1 (line + 1) 0 → Judged (signal_checks (lines text) r) (SignalHeld text r after) (Refused q)
+  pub stop-head : not flag ≡ true → {after : List ℕ} {q : Refusal} → q ≡ refusal 1 (line + 1) 0 → Judged (signal_checks (lines text) r) (SignalHeld text r after) (Err q)
   stop-head n t = refused 1 0 t (not-head (lines text) r (sym (read.told (signal_line (lines text) r) asked.starts) ∙ not-true flag n))
 
   module _ (n : not flag ≡ false) {phases : ℕ} (p : phases ≡ get_or head 2 0) {valid : Bool} (v : valid ≡ within 2 phases 8) where
@@ -76,7 +73,7 @@ module _ {text : List ℕ} {reading : Reading} {r : ℕ} {old : List ℕ} (asked
     phases-same = rw (← phases-read) v
 
     -- the number of phases
-    pub stop-phases : not valid ≡ true → {after : List ℕ} {q : Refusal} → q ≡ refusal 3 (line + 1) (r + 1) → Judged (signal_checks (lines text) r) (SignalHeld text r after) (Refused q)
+    pub stop-phases : not valid ≡ true → {after : List ℕ} {q : Refusal} → q ≡ refusal 3 (line + 1) (r + 1) → Judged (signal_checks (lines text) r) (SignalHeld text r after) (Err q)
     stop-phases m t = refused 3 (r + 1) t (rw add-one (not-phases (lines text) r head-well (sym phases-same ∙ not-true valid m)))
 
     module _ (m : not valid ≡ false) where
@@ -91,16 +88,16 @@ module _ {text : List ℕ} {reading : Reading} {r : ℕ} {old : List ℕ} (asked
       pub whole-fits : 0 + (head_fields + 2 * phases) ≤ length head
       whole-fits = omega (arith, few-valid, read.size, asked.clear.size)
 
-      module _ {fields : List ℕ} {result : LineRead} (row : RowRead letter_g (head_fields + 2 * phases) text reading.next 0 head result fields) where
+      module _ {fields : List ℕ} {result : (Option ℕ)} (row : RowRead letter_g (head_fields + 2 * phases) text reading.next 0 head result fields) where
         size : length fields ≡ signal_fields
         size = row.size ∙ read.size ∙ asked.clear.size
 
         -- the rest of its form
-        pub stop-form : result ≡ Malformed → {after : List ℕ} {q : Refusal} → q ≡ refusal 1 (line + 1) 0 → Judged (signal_checks (lines text) r) (SignalHeld text r after) (Refused q)
+        pub stop-form : result ≡ None → {after : List ℕ} {q : Refusal} → q ≡ refusal 1 (line + 1) 0 → Judged (signal_checks (lines text) r) (SignalHeld text r after) (Err q)
         stop-form e t =
             refused 1 0 t (not-form (lines text) r head-well phases-well (rw phases-read at (row.malformed e (signal_line (lines text) r) asked.starts)))
 
-        module _ {next : ℕ} (e : result ≡ Next next) where
+        module _ {next : ℕ} (e : result ≡ Some next) where
           form : is_form (lines text) (signal_line (lines text) r) letter_g (head_fields + 2 * phases) ≡ true
           form = (row.held next e (signal_line (lines text) r) asked.starts).form
 
@@ -131,12 +128,12 @@ module _ {text : List ℕ} {reading : Reading} {r : ℕ} {old : List ℕ} (asked
               values = g ∙ ap valid_signal (q ∙ signal-here)
 
               pub stop-values : not good ≡ true → {refuse : Refusal} → refuse ≡ refusal 3 (line + 1) (r + 1)
-                  → Judged (signal_checks (lines text) r) (SignalHeld text r fields) (Refused refuse)
+                  → Judged (signal_checks (lines text) r) (SignalHeld text r fields) (Err refuse)
               stop-values b t =
                   refused 3 (r + 1) t
                   (rw add-one (not-values (lines text) r head-well phases-well (rw phases-read at form) (sym values ∙ not-true good b)))
 
-              pub pass-line : not good ≡ false → {moved : Reading} → moved ≡ moved_to reading next → Judged (signal_checks (lines text) r) (SignalHeld text r fields) (Passed moved)
+              pub pass-line : not good ≡ false → {moved : Reading} → moved ≡ moved_to reading next → Judged (signal_checks (lines text) r) (SignalHeld text r fields) (Ok moved)
               unfolding signal_line
               pass-line b t =
                   rw t

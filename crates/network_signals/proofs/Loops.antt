@@ -11,8 +11,6 @@ use Rattle.base_laws.specs.Test.{every}
 use Rattle.model.specs.Network.{max_signals, signal_count, signal_line, signal}
 use Rattle.model.specs.Table.{signal_checks}
 use Rattle.network_tables.specs.declared.Reading.{Reading}
-use Rattle.network_tables.specs.declared.Stage.{Stage}
-use Rattle.network_tables.specs.declared.Stage.TheVariants.{Passed, Refused}
 use Rattle.network_tables.specs.Blocks.{block_checks, ReadTo, signal_block}
 use Rattle.network_tables.specs.Fields.{signal_fields, signal_table_size, table_signal}
 use Rattle.network_tables.specs.Tables.{Judged, SignalTable, moved_to}
@@ -24,6 +22,7 @@ use Rattle.network_tables.proofs.Stages.{judged-refused, judged-passed, verdict-
 use Rattle.network_signals.specs.Signals.{head_fields, signal_from, shortest_time}
 use Rattle.network_signals.specs.Stages.{Clear, SignalAsked, SignalHeld, SignalsAsked, SignalsHeld, LoadAsked}
 use Rattle.network_signals.proofs.Values.{shortest-all}
+use Rattle.std.specs.Prelude.{Result, Ok, Err}
 
 -- ---- the table: the rows of the first r signals are read, and those of the others are 0
 pub record TableTo (text signals : List ℕ) (r : ℕ) : Type 0 where
@@ -103,7 +102,7 @@ module _ {text : List ℕ} {reading : Reading} {phases₀ signals₀ : List ℕ}
 
   module _ {phases signals : List ℕ} {at shortest r : ℕ} (inv : SignalsTo text phases signals at shortest r) where
     pub signals-done : reading.counts.signals ≤ r → Judged (block_checks (signal_block (lines text))) (SignalsHeld text phases signals)
-        (Passed (record { counts = reading.counts; next = at; trams_at = reading.trams_at; signals_at = reading.next; past_at = reading.past_at; steps_at = reading.steps_at; shortest = shortest; timed = reading.timed }))
+        (Ok (record { counts = reading.counts; next = at; trams_at = reading.trams_at; signals_at = reading.next; past_at = reading.past_at; steps_at = reading.steps_at; shortest = shortest; timed = reading.timed }))
     signals-done h =
         let past : signal_count (lines text) ≤ r = omega (arith, asked.counted.signals) in
         let end : r ≡ signal_count (lines text) = omega (arith, inv.read.passed.within) in
@@ -128,14 +127,14 @@ module _ {text : List ℕ} {reading : Reading} {phases₀ signals₀ : List ℕ}
       pub signal-asked : {moved : Reading} → moved ≡ moved_to reading at → SignalAsked text moved r (row_of signals r)
       signal-asked e = rw e (record { starts = inv.read.starts; counted = asked.counted; few = few-signals; clear = row-clear inv.table few-signals })
 
-      module _ {fields : List ℕ} {stage : Stage} (got : Judged (signal_checks (lines text) r) (SignalHeld text r fields) stage) where
+      module _ {fields : List ℕ} {stage : (Result Reading Refusal)} (got : Judged (signal_checks (lines text) r) (SignalHeld text r fields) stage) where
         below : r < signal_count (lines text)
         below = omega (arith, asked.counted.signals)
 
-        pub signals-stop : {Held : Reading → Type 0} {q : Refusal} → stage ≡ Refused q → Judged (block_checks (signal_block (lines text))) Held stage
-        signals-stop e = rw e (judged-refused (passed-stop inv.read.passed below (verdict-refused got e)))
+        pub signals-stop : {Held : Reading → Type 0} {q : Refusal} → stage ≡ Err q → Judged (block_checks (signal_block (lines text))) Held (Err q)
+        signals-stop e = judged-refused (passed-stop inv.read.passed below (verdict-refused got e))
 
-        module _ (kept : length fields ≡ length (row_of signals r)) {passed : Reading} (e : stage ≡ Passed passed) {s : Signal} (q : s ≡ table_signal (row_set signals r fields) r) where
+        module _ (kept : length fields ≡ length (row_of signals r)) {passed : Reading} (e : stage ≡ Ok passed) {s : Signal} (q : s ≡ table_signal (row_set signals r fields) r) where
           same : s ≡ signal (lines text) r
           same = q ∙ row_read inv.table few-signals fields kept ∙ (got.held passed e).signals
 
@@ -183,8 +182,8 @@ module _ {text : List ℕ} {reading : Reading} {signals₀ : List ℕ} (asked : 
       pub loaded-asked : {moved : Reading} → moved ≡ moved_to reading at → SignalAsked text moved r (row_of signals r)
       loaded-asked e = rw e (record { starts = inv.starts; counted = asked.on-text.counted; few = few-loaded; clear = row-clear inv.table few-loaded })
 
-      module _ {fields : List ℕ} (kept : length fields ≡ length (row_of signals r)) {stage : Stage} (got : Judged (signal_checks (lines text) r) (SignalHeld text r fields) stage) where
-        pub loaded-next : {passed : Reading} → stage ≡ Passed passed → LoadedTo text (row_set signals r fields) passed.next (r + 1)
+      module _ {fields : List ℕ} (kept : length fields ≡ length (row_of signals r)) {stage : (Result Reading Refusal)} (got : Judged (signal_checks (lines text) r) (SignalHeld text r fields) stage) where
+        pub loaded-next : {passed : Reading} → stage ≡ Ok passed → LoadedTo text (row_set signals r fields) passed.next (r + 1)
         loaded-next {passed} e =
             record {
               within = omega (arith, asked.on-text.counted.signals);
@@ -193,7 +192,7 @@ module _ {text : List ℕ} {reading : Reading} {signals₀ : List ℕ} (asked : 
             }
 
         -- lines that have passed are not refused
-        pub loaded-stop : {q : Refusal} → stage ≡ Refused q → SignalTable (lines text) (row_set signals r fields)
+        pub loaded-stop : {q : Refusal} → stage ≡ Err q → SignalTable (lines text) (row_set signals r fields)
         unfolding verdict
         loaded-stop e =
             let one = first-all (λ i. verdict (signal_checks (lines text) i)) (signal_count (lines text)) asked.on-text.passed r (omega (arith, asked.on-text.counted.signals)) in

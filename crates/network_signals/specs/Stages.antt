@@ -1,6 +1,5 @@
 -- What the functions that read `G` lines ask, and what is held where the lines pass.
-use Rattle.std.specs.Prelude.{ℕ, suc, ◌≤◌, ◌<◌, ◌≡◌, List, length, get_or}
-use Rattle.base_search.specs.declared.Verdict.TheVariants.{Passes}
+use Rattle.std.specs.Prelude.{ℕ, suc, ◌≤◌, ◌<◌, ◌≡◌, List, length, get_or, Ok}
 use Rattle.base_search.specs.Checks.{verdict}
 use Rattle.text_reader.specs.Lines.{lines}
 use Rattle.text_reader.specs.Reading.{Starts}
@@ -48,7 +47,7 @@ pub record SignalsHeld (text phases signals : List ℕ) (reading : Reading) : Ty
 pub record SignalsPassed (text : List ℕ) (reading : Reading) : Type 0 where
   pub starts : Starts text reading.signals_at (signal_line (lines text) 0)
   pub counted : CountsHold (lines text) reading.counts
-  pub passed : verdict (block_checks (signal_block (lines text))) ≡ Passes
+  pub passed : verdict (block_checks (signal_block (lines text))) ≡ Ok tt
 
 -- they are loaded again, into a table of zeros
 pub record LoadAsked (text : List ℕ) (reading : Reading) (signals : List ℕ) : Type 0 where

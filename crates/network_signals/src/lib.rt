@@ -17,9 +17,8 @@ use base_search::Refusal;
 use model::Signal;
 use network_tables::{
     Counts, MAX_LINKS, MAX_MOVEMENTS, MAX_PAST, MAX_SIGNALS, MAX_STEPS, MAX_TRAMS, Reading,
-    SIGNAL_FIELDS, Stage,
+    SIGNAL_FIELDS,
 };
-use text_reader::LineRead;
 
 // How many numbers an `N` line has, and a `G` line before those of its phases.
 const COUNT_FIELDS: usize = 6;
@@ -54,19 +53,19 @@ fn counts_from(fields: &[u32]) -> Counts
 }
 
 // The `N` line: refusals 1 and 2.
-pub fn read_counts(text: &[u8]) -> Stage
+pub fn read_counts(text: &[u8]) -> Result<Reading, Refusal>
     ensures { Judged (count_checks (lines text.now)) (CountsHeld text.now) result }
 {
     let mut fields = [0u32; COUNT_FIELDS];
     let read = network_tables::read_row(text, 0, b'N', &mut fields, 0, COUNT_FIELDS);
-    let LineRead::Next(next) = read else {
-        return Stage::Refused(Refusal::new(1, 1, 0));
+    let Some(next) = read else {
+        return Err(Refusal::new(1, 1, 0));
     };
     let counts = counts_from(&fields);
     if !valid_counts(counts) {
-        return Stage::Refused(Refusal::new(2, 1, 0));
+        return Err(Refusal::new(2, 1, 0));
     }
-    Stage::Passed(Reading {
+    Ok(Reading {
         counts,
         next,
         trams_at: next,
@@ -176,7 +175,7 @@ fn valid_phases(phases: usize) -> bool
 
 // The `G` line of signal `r` into `fields`: refusal 1 for its first seven fields, 3 for its number of phases, 1 for the rest of its form, 3 for its other
 // values.
-fn read_signal(text: &[u8], reading: Reading, r: usize, fields: &mut [u32]) -> Stage
+fn read_signal(text: &[u8], reading: Reading, r: usize, fields: &mut [u32]) -> Result<Reading, Refusal>
     requires { SignalAsked text.now reading r fields.old }
     ensures { Judged (signal_checks (lines text.now) r) (SignalHeld text.now r fields.new) result }
 {
@@ -184,25 +183,25 @@ fn read_signal(text: &[u8], reading: Reading, r: usize, fields: &mut [u32]) -> S
     let counts = reading.counts;
     let line = counts.signal_line(r) + 1;
     if !network_tables::read_head(text, at, b'G', fields, 0, HEAD_FIELDS) {
-        return Stage::Refused(Refusal::new(1, line, 0));
+        return Err(Refusal::new(1, line, 0));
     }
     let phases = network_tables::index(fields[2]);
     if !valid_phases(phases) {
-        return Stage::Refused(Refusal::new(3, line, r + 1));
+        return Err(Refusal::new(3, line, r + 1));
     }
     let read = network_tables::read_row(text, at, b'G', fields, 0, HEAD_FIELDS + 2 * phases);
-    let LineRead::Next(next) = read else {
-        return Stage::Refused(Refusal::new(1, line, 0));
+    let Some(next) = read else {
+        return Err(Refusal::new(1, line, 0));
     };
     if !valid_signal(signal_from(fields)) {
-        return Stage::Refused(Refusal::new(3, line, r + 1));
+        return Err(Refusal::new(3, line, r + 1));
     }
-    Stage::Passed(reading.moved_to(next))
+    Ok(reading.moved_to(next))
 }
 
 // All `G` lines, into a table of zeros: the first refusal, or the signals, the number of phases of each, and the shortest of all greatest times, 60 where all
 // are longer: no step has more seconds (refusal 6).
-pub fn read_signals(text: &[u8], reading: Reading, phases: &mut [u32], signals: &mut [u32]) -> Stage
+pub fn read_signals(text: &[u8], reading: Reading, phases: &mut [u32], signals: &mut [u32]) -> Result<Reading, Refusal>
     requires { SignalsAsked text.now reading phases.old signals.old }
     ensures { Judged (block_checks (signal_block (lines text.now))) (SignalsHeld text.now phases.new signals.new) result }
 {
@@ -213,17 +212,14 @@ pub fn read_signals(text: &[u8], reading: Reading, phases: &mut [u32], signals: 
     while r < counts.signals {
         let start = SIGNAL_FIELDS * r;
         let end = start + SIGNAL_FIELDS;
-        let stage = read_signal(text, reading.moved_to(place), r, &mut signals[start..end]);
-        let Stage::Passed(passed) = stage else {
-            return stage;
-        };
+        let passed = read_signal(text, reading.moved_to(place), r, &mut signals[start..end])?;
         let signal = network_tables::signal_in(signals, r);
         phases[r] = signal.phases;
         shortest = shortest_time(signal, shortest);
         place = passed.next;
         r += 1;
     }
-    Stage::Passed(Reading {
+    Ok(Reading {
         counts,
         next: place,
         trams_at: reading.trams_at,
@@ -247,7 +243,7 @@ pub fn load_signals(text: &[u8], reading: Reading, signals: &mut [u32])
         let start = SIGNAL_FIELDS * r;
         let end = start + SIGNAL_FIELDS;
         let stage = read_signal(text, reading.moved_to(place), r, &mut signals[start..end]);
-        let Stage::Passed(passed) = stage else {
+        let Ok(passed) = stage else {
             return;
         };
         place = passed.next;

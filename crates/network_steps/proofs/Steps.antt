@@ -2,8 +2,6 @@
 use Rattle.base_laws.proofs.Kit.{ℕ, suc, ◌+◌, ◌*◌, ◌≤◌, ◌<◌, ◌≡◌, refl, sym, ap, ◌∙◌, Bool, true, false, not, List, ℕ_discrete, add-one, arith, not-true, not-false, length, get_or, set, length-set, get_or-set_same, get_or-set_other}
 use Rattle.base_search.specs.declared.Refusal.{Refusal}
 use Rattle.base_search.specs.Checks.{refusal}
-use Rattle.text_reader.specs.declared.LineRead.{LineRead}
-use Rattle.text_reader.specs.declared.LineRead.TheVariants.{Next, Malformed}
 use Rattle.text_reader.specs.Lines.{Line, lines}
 use Rattle.text_reader.specs.Reading.{Starts}
 use Rattle.base_laws.specs.Sum.{sum}
@@ -12,7 +10,6 @@ use Rattle.model.specs.Network.{max_links, link_count, past_count, step_count, o
 use Rattle.model.specs.Rules.{valid_step}
 use Rattle.model.specs.Table.{is_form, letter_s, step_checks}
 use Rattle.network_tables.specs.declared.Reading.{Reading}
-use Rattle.network_tables.specs.declared.Stage.TheVariants.{Passed, Refused}
 use Rattle.network_tables.specs.Places.{step_line_in}
 use Rattle.network_tables.specs.Fields.{step_size, length_in, demand_in}
 use Rattle.network_tables.specs.Rows.{LineHeld, RowRead}
@@ -27,6 +24,7 @@ use Rattle.step_arrivals.proofs.Timed.{time-ready, timed-next}
 use Rattle.network_steps.specs.Steps.{valid_step_in, LoadAsked, Loaded, AddAsked, Added, StepsAsked, StepsHeld}
 use Rattle.model.proofs.Limits.{limits-of-step}
 use Rattle.network_steps.proofs.Values.{step-within, valid-step-is}
+use Rattle.std.specs.Prelude.{Option, Some, None, Ok, Err}
 
 -- ---- one line
 step-line-suc : (network : List Line) (n : ℕ) → step_line network (suc n) ≡ suc (step_line network n)
@@ -38,12 +36,12 @@ held-numbers : {text : List ℕ} {n next links : ℕ} {step : List ℕ} → Line
 held-numbers {step = step} h e size =
     record { size = size; holds = λ k l. let z : k ≡ 0 + k = omega arith in ap (λ x. get_or step x 0) z ∙ h.numbers k (omega arith) }
 
-module _ {text : List ℕ} {at links : ℕ} {old step : List ℕ} {r : LineRead} (asked : LoadAsked text at links old) (row : RowRead letter_s (1 + links) text at 0 old r step) where
-  pub load-next : {next : ℕ} → r ≡ Next next → Loaded text at links next step
+module _ {text : List ℕ} {at links : ℕ} {old step : List ℕ} {r : (Option ℕ)} (asked : LoadAsked text at links old) (row : RowRead letter_s (1 + links) text at 0 old r step) where
+  pub load-next : {next : ℕ} → r ≡ Some next → Loaded text at links next step
   load-next {next} e = record { size = row.size ∙ asked.size; held = λ line s. row.held next e line s }
 
   -- a line that has passed is not malformed
-  pub load-never : r ≡ Malformed → Loaded text at links at step
+  pub load-never : r ≡ None → Loaded text at links at step
   load-never e =
       let f = asked.form in
       let m = row.malformed e asked.line asked.starts in
@@ -131,7 +129,7 @@ module _ {text : List ℕ} {reading : Reading} {times₀ demands₀ : List ℕ} 
   module _ {times demands step : List ℕ} {at n : ℕ} (inv : StepsTo text reading.timed times demands step at n) where
     pub steps-done : reading.counts.steps ≤ n
         → Judged (block_checks (step_block (lines text))) (StepsHeld text times demands)
-        (Passed (record { counts = reading.counts; next = at; trams_at = reading.trams_at; signals_at = reading.signals_at; past_at = reading.past_at; steps_at = reading.next; shortest = reading.shortest; timed = reading.timed }))
+        (Ok (record { counts = reading.counts; next = at; trams_at = reading.trams_at; signals_at = reading.signals_at; past_at = reading.past_at; steps_at = reading.next; shortest = reading.shortest; timed = reading.timed }))
     steps-done h =
         let past : step_count (lines text) ≤ n = omega (arith, asked.reached.counted.steps) in
         let all : n ≡ step_count (lines text) = omega (arith, inv.read.passed.within) in
@@ -147,7 +145,7 @@ module _ {text : List ℕ} {reading : Reading} {times₀ demands₀ : List ℕ} 
           demanded = λ i l. inv.demanded i l ∙ ap (λ k. sum k (λ n. demand (lines text) n i)) all;
         })
 
-    module _ (h : n < reading.counts.steps) {r : LineRead} {after : List ℕ} (row : RowRead letter_s (1 + reading.counts.links) text at 0 step r after) where
+    module _ (h : n < reading.counts.steps) {r : (Option ℕ)} {after : List ℕ} (row : RowRead letter_s (1 + reading.counts.links) text at 0 step r after) where
       below : n < step_count (lines text)
       below = omega (arith, asked.reached.counted.steps)
 
@@ -157,14 +155,14 @@ module _ {text : List ℕ} {reading : Reading} {times₀ demands₀ : List ℕ} 
       told_line : {line : ℕ} → line ≡ step_line_in reading.counts n → line + 1 ≡ suc (step_line (lines text) n)
       told_line l = omega (arith, step-line-is asked.reached.counted n)
 
-      pub steps-malformed : r ≡ Malformed → {line : ℕ} {q : Refusal} → line ≡ step_line_in reading.counts n → q ≡ refusal 1 (line + 1) 0
-          → Judged (block_checks (step_block (lines text))) (StepsHeld text times demands) (Refused q)
+      pub steps-malformed : r ≡ None → {line : ℕ} {q : Refusal} → line ≡ step_line_in reading.counts n → q ≡ refusal 1 (line + 1) 0
+          → Judged (block_checks (step_block (lines text))) (StepsHeld text times demands) (Err q)
       steps-malformed e l t = rw (t, told_line l) (judged-refused (records-malformed inv.read (step-records (lines text)) below own e))
 
       pub time-asked : {m : ℕ} → m ≡ reading.counts.past + n → TimeAsked times m reading.timed
       time-asked e = rw (e, asked.reached.counted.past) (time-ready inv.timed-to (omega (arith, below)))
 
-      module _ {next : ℕ} (e : r ≡ Next next) {v : Bool} (told : v ≡ valid_step_in after reading.counts.links reading.shortest) where
+      module _ {next : ℕ} (e : r ≡ Some next) {v : Bool} (told : v ≡ valid_step_in after reading.counts.links reading.shortest) where
         numbers : StepNumbers (lines text) n after
         numbers = held-numbers (own.held next e (step_line (lines text) n) inv.read.starts) refl (row.size ∙ inv.step_room)
 
@@ -172,7 +170,7 @@ module _ {text : List ℕ} {reading : Reading} {times₀ demands₀ : List ℕ} 
         judged = told ∙ valid-step-is numbers asked.reached.shortest-time asked.reached.counted.links
 
         pub steps-invalid : not v ≡ true → {line : ℕ} {q : Refusal} → line ≡ step_line_in reading.counts n → q ≡ refusal 6 (line + 1) (n + 1)
-            → Judged (block_checks (step_block (lines text))) (StepsHeld text times demands) (Refused q)
+            → Judged (block_checks (step_block (lines text))) (StepsHeld text times demands) (Err q)
         steps-invalid b l t =
             rw (t, told_line l, add-one)
             (judged-refused (records-invalid inv.read (step-records (lines text)) below own e (sym judged ∙ not-true v b)))

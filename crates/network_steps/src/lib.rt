@@ -10,8 +10,7 @@ ghost use Rattle.network_tables.specs.Blocks.{block_checks, step_block};
 ghost use Rattle.network_steps.specs.Steps.{valid_demands_in, valid_step_in, LoadAsked, Loaded, AddAsked, Added, StepsAsked, StepsHeld};
 
 use base_search::Refusal;
-use network_tables::{Reading, STEP_SIZE, Stage};
-use text_reader::LineRead;
+use network_tables::{Reading, STEP_SIZE};
 
 // Refusal 6: whether each demand is at most 600,000.
 fn valid_demands(step: &[u32], links: usize) -> bool
@@ -43,8 +42,8 @@ pub fn load_step(text: &[u8], at: usize, links: usize, step: &mut [u32]) -> usiz
     ensures { Loaded text.now at links result step.new }
 {
     match network_tables::read_row(text, at, b'S', step, 0, 1 + links) {
-        LineRead::Next(next) => next,
-        LineRead::Malformed => at,
+        Some(next) => next,
+        None => at,
     }
 }
 
@@ -61,7 +60,7 @@ fn add_demands(step: &[u32], links: usize, demands: &mut [u32])
 }
 
 // Refusals 1 and 6: reads the `S` lines, sets the time of each boundary, if the past is timed, and sums up the demands of each link.
-pub fn read_steps(text: &[u8], reading: Reading, times: &mut [u32], demands: &mut [u32]) -> Stage
+pub fn read_steps(text: &[u8], reading: Reading, times: &mut [u32], demands: &mut [u32]) -> Result<Reading, Refusal>
     requires { StepsAsked text.now reading times.old demands.old }
     ensures { Judged (block_checks (step_block (lines text.now))) (StepsHeld text.now times.new demands.new) result }
 {
@@ -73,11 +72,11 @@ pub fn read_steps(text: &[u8], reading: Reading, times: &mut [u32], demands: &mu
     while n < counts.steps {
         let line = counts.step_line(n) + 1;
         let read = network_tables::read_row(text, place, b'S', &mut step, 0, 1 + links);
-        let LineRead::Next(next) = read else {
-            return Stage::Refused(Refusal::new(1, line, 0));
+        let Some(next) = read else {
+            return Err(Refusal::new(1, line, 0));
         };
         if !valid_step(&step, links, reading.shortest) {
-            return Stage::Refused(Refusal::new(6, line, n + 1));
+            return Err(Refusal::new(6, line, n + 1));
         }
         let seconds = network_tables::step_length(&step);
         step_arrivals::next_time(times, counts.past + n, seconds, reading.timed);
@@ -85,7 +84,7 @@ pub fn read_steps(text: &[u8], reading: Reading, times: &mut [u32], demands: &mu
         place = next;
         n += 1;
     }
-    Stage::Passed(Reading {
+    Ok(Reading {
         counts,
         next: place,
         trams_at: reading.trams_at,

@@ -1,31 +1,29 @@
 -- The lines of a block, read one after another: one law for each way through a turn of the loop.
 use Rattle.base_laws.proofs.Kit.{ℕ, suc, ◌+◌, ◌*◌, ◌≤◌, ◌<◌, ◌≡◌, ap, ◌∙◌, Bool, true, false, ◌⊎◌, inl, inr, List, eq-or-lt_of_le, mul-le-mul_left, mul-suc, sub-zero, add-one, arith, length, get_or}
 use Rattle.base_search.specs.declared.Refusal.{Refusal}
-use Rattle.base_search.specs.declared.Verdict.TheVariants.{Passes, Refused}
 use Rattle.base_search.specs.Checks.{refusal, Checks, each, or_else, checked, verdict}
 use Rattle.base_search.proofs.Laws.{first-hit, first_next, first_done}
-use Rattle.text_reader.specs.declared.LineRead.{LineRead}
-use Rattle.text_reader.specs.declared.LineRead.TheVariants.{Next, Malformed}
 use Rattle.text_reader.specs.Lines.{lines}
 use Rattle.text_reader.specs.Reading.{Starts}
 use Rattle.model.specs.Network.{entry}
 use Rattle.model.specs.Table.{record_checks}
 use Rattle.network_tables.specs.Rows.{RowRead}
 use Rattle.network_tables.specs.Blocks.{Block, block_checks, PassedTo, ReadTo, Records, RowsTo, TableTo}
+use Rattle.std.specs.Prelude.{Option, Some, None, Ok, Err}
 
 -- ---- a line that is a record, by its read
-module _ {letter width : ℕ} {text : List ℕ} {at start : ℕ} {before : List ℕ} {r : LineRead} {after : List ℕ} (row : RowRead letter width text at start before r after)
+module _ {letter width : ℕ} {text : List ℕ} {at start : ℕ} {before : List ℕ} {r : (Option ℕ)} {after : List ℕ} (row : RowRead letter width text at start before r after)
     (line number item : ℕ) (valid : Bool) (s : Starts text at line) where
-  pub line-malformed : r ≡ Malformed → verdict (record_checks (lines text) line letter width number item valid) ≡ Refused (refusal 1 (suc line) 0)
+  pub line-malformed : r ≡ None → verdict (record_checks (lines text) line letter width number item valid) ≡ Err (refusal 1 (suc line) 0)
   unfolding verdict or_else checked
   line-malformed e = rw (row.malformed e line s)
 
-  module _ {next : ℕ} (e : r ≡ Next next) where
-    pub line-invalid : valid ≡ false → verdict (record_checks (lines text) line letter width number item valid) ≡ Refused (refusal number (suc line) item)
+  module _ {next : ℕ} (e : r ≡ Some next) where
+    pub line-invalid : valid ≡ false → verdict (record_checks (lines text) line letter width number item valid) ≡ Err (refusal number (suc line) item)
     unfolding verdict or_else checked
     line-invalid v = rw ((row.held next e line s).form, v)
 
-    pub line-valid : valid ≡ true → verdict (record_checks (lines text) line letter width number item valid) ≡ Passes
+    pub line-valid : valid ≡ true → verdict (record_checks (lines text) line letter width number item valid) ≡ Ok tt
     unfolding verdict or_else checked
     line-valid v = rw ((row.held next e line s).form, v)
 
@@ -36,13 +34,13 @@ module _ {n : ℕ} {checks : ℕ → Checks} where
   passed_none = record { within = omega arith; left = rw sub-zero }
 
   module _ {i : ℕ} (inv : PassedTo n checks i) where
-    pub passed-all : n ≤ i → verdict (each n checks) ≡ Passes
+    pub passed-all : n ≤ i → verdict (each n checks) ≡ Ok tt
     passed-all h = inv.left ∙ first_done (λ k. verdict (checks k)) n i h
 
-    pub passed-stop : i < n → {r : Refusal} → verdict (checks i) ≡ Refused r → verdict (each n checks) ≡ Refused r
+    pub passed-stop : i < n → {r : Refusal} → verdict (checks i) ≡ Err r → verdict (each n checks) ≡ Err r
     passed-stop h {r} e = inv.left ∙ first-hit (λ k. verdict (checks k)) n i r h e
 
-    pub passed-next : i < n → verdict (checks i) ≡ Passes → PassedTo n checks (i + 1)
+    pub passed-next : i < n → verdict (checks i) ≡ Ok tt → PassedTo n checks (i + 1)
     passed-next h e = record { within = omega arith; left = inv.left ∙ first_next (λ k. verdict (checks k)) n i h e }
 
 -- ---- the lines of a block
@@ -54,18 +52,18 @@ module _ {text : List ℕ} {b : Block} {at : ℕ} where
     pub block-end : b.count ≤ i → Starts text at (b.place b.count)
     block-end h = let e : i ≡ b.count = omega (arith, inv.passed.within) in rw e at inv.starts
 
-    pub block-next : i < b.count → {next : ℕ} → verdict (b.checks i) ≡ Passes → Starts text next (b.place (suc i)) → ReadTo text b next (i + 1)
+    pub block-next : i < b.count → {next : ℕ} → verdict (b.checks i) ≡ Ok tt → Starts text next (b.place (suc i)) → ReadTo text b next (i + 1)
     block-next h e s = record { passed = passed-next inv.passed h e; starts = rw add-one s }
 
     -- of records
     module _ {letter width number : ℕ} {valid : ℕ → Bool} (records : Records (lines text) b letter width number valid) (h : i < b.count)
-        {start : ℕ} {before : List ℕ} {r : LineRead} {after : List ℕ} (row : RowRead letter width text at start before r after) where
-      pub records-malformed : r ≡ Malformed → verdict (block_checks b) ≡ Refused (refusal 1 (suc (b.place i)) 0)
+        {start : ℕ} {before : List ℕ} {r : (Option ℕ)} {after : List ℕ} (row : RowRead letter width text at start before r after) where
+      pub records-malformed : r ≡ None → verdict (block_checks b) ≡ Err (refusal 1 (suc (b.place i)) 0)
       records-malformed e =
           passed-stop inv.passed h (ap verdict (records.shape i) ∙ line-malformed row (b.place i) number (suc i) (valid i) inv.starts e)
 
-      module _ {next : ℕ} (e : r ≡ Next next) where
-        pub records-invalid : valid i ≡ false → verdict (block_checks b) ≡ Refused (refusal number (suc (b.place i)) (suc i))
+      module _ {next : ℕ} (e : r ≡ Some next) where
+        pub records-invalid : valid i ≡ false → verdict (block_checks b) ≡ Err (refusal number (suc (b.place i)) (suc i))
         records-invalid v =
             passed-stop inv.passed h (ap verdict (records.shape i) ∙ line-invalid row (b.place i) number (suc i) (valid i) inv.starts e v)
 
@@ -82,12 +80,12 @@ row_before : (width : ℕ) {j i k : ℕ} → j < i → k < width → width * j +
 row_before width {j} {i} h l = omega (arith, mul-le-mul_left {m = suc j} {n = i} width (omega arith), mul-suc width j)
 
 -- one row more is read, and those before it are kept
-module _ {text : List ℕ} {b : Block} {width size at i : ℕ} {table : List ℕ} (inv : TableTo text b width size at i table) {letter : ℕ} {r : LineRead} {after : List ℕ}
+module _ {text : List ℕ} {b : Block} {width size at i : ℕ} {table : List ℕ} (inv : TableTo text b width size at i table) {letter : ℕ} {r : (Option ℕ)} {after : List ℕ}
     (row : RowRead letter width text at (width * i) table r after) where
   pub table-room : length after ≡ size
   table-room = row.size ∙ inv.room
 
-  module _ {next : ℕ} (e : r ≡ Next next) where
+  module _ {next : ℕ} (e : r ≡ Some next) where
     pub table-rows : RowsTo (lines text) b width (i + 1) after
     table-rows = record { numbers = λ j k h l. by k l (eq-or-lt_of_le {n = j} {m = i} (omega arith)) }
       where

@@ -1,12 +1,12 @@
 -- A line that is read into a row of a table.
 use Rattle.base_laws.proofs.Kit.{ℕ, ◌+◌, ◌-◌, ◌≤◌, ◌<◌, ◌≡◌, sym, ap, ◌∙◌, Bool, List, ◌++◌, arith, length, take, drop, get_or, length-append, length-take, length-drop, List·getD-append, length-take-le, get_or-take, get_or-drop, get_or-append-add}
-use Rattle.text_reader.specs.declared.LineRead.{LineRead}
 use Rattle.text_reader.specs.Lines.{starts_as, number}
 use Rattle.text_reader.specs.Reading.{line_at, leading_as, record_at, Got}
 use Rattle.text_reader.proofs.Laws.{got-record, got-head, record-read, record-malformed, starts-line, starts-next}
 use Rattle.model.specs.Network.{entry}
 use Rattle.model.specs.Table.{is_form}
 use Rattle.network_tables.specs.Rows.{RowRead, HeadRead}
+use Rattle.std.specs.Prelude.{Option}
 
 -- a part of a table, w numbers from s on, that comes back as p
 module _ (table p : List ℕ) (s w : ℕ) (h : s + w ≤ length table) (kept : length p ≡ length (take (s + w - s) (drop s table))) where
@@ -38,7 +38,7 @@ module _ (table p : List ℕ) (s w : ℕ) (h : s + w ≤ length table) (kept : l
   part-size = let l = part-long in simp (length-append, length-take, length-drop) (omega arith)
 
   -- a line that is read into the part
-  pub row_read : (letter : ℕ) (text : List ℕ) (at : ℕ) (r : LineRead)
+  pub row_read : (letter : ℕ) (text : List ℕ) (at : ℕ) (r : Option ℕ)
       → Got (record_at letter (length (take (s + w - s) (drop s table))) text at) (leading_as letter (length (take (s + w - s) (drop s table))) (line_at text at)) (take (s + w - s) (drop s table)) r p
       → RowRead letter w text at s table r (take s table ++ (p ++ drop (s + w - s) (drop s table)))
   unfolding is_form entry

@@ -1,30 +1,28 @@
 -- What a stage of a network's reading promises, by the verdict on its checks; and one stage after another.
 use Rattle.base_laws.proofs.Kit.{ℕ, ◌≡◌, sym, ap, ◌∙◌, List, arith}
 use Rattle.base_search.specs.declared.Refusal.{Refusal}
-use Rattle.base_search.specs.declared.Verdict.TheVariants as verdicts
 use Rattle.base_search.specs.Checks.{Checks, verdict}
 use Rattle.text_reader.specs.Reading.{Starts}
 use Rattle.network_tables.specs.declared.Reading.{Reading}
-use Rattle.network_tables.specs.declared.Stage.{Stage}
-use Rattle.network_tables.specs.declared.Stage.TheVariants.{Passed, Refused}
 use Rattle.network_tables.specs.Tables.{stage_verdict, Judged, Reached, moved_to}
+use Rattle.std.specs.Prelude.{Result, Ok, Err}
 
 module _ {checks : Checks} {Held : Reading → Type 0} where
-  pub judged-refused : {r : Refusal} → verdict checks ≡ verdicts.Refused r → Judged checks Held (Refused r)
+  pub judged-refused : {r : Refusal} → verdict checks ≡ Err r → Judged checks Held (Err r)
   unfolding stage_verdict
   judged-refused e = record { told = sym e; held = λ reading q. let z : ◌≡◌ {A = ℕ} 0 1 = cc in absurd (omega arith) }
 
-  pub judged-passed : {reading : Reading} → verdict checks ≡ verdicts.Passes → Held reading → Judged checks Held (Passed reading)
+  pub judged-passed : {reading : Reading} → verdict checks ≡ Ok tt → Held reading → Judged checks Held (Ok reading)
   unfolding stage_verdict
   judged-passed {reading} e h = record { told = sym e; held = λ after q. let same : reading ≡ after = cc in rw same at h }
 
 -- ---- one stage after another
-module _ {first : Checks} {Held : Reading → Type 0} {stage : Stage} (judged : Judged first Held stage) where
-  pub verdict-passed : {reading : Reading} → stage ≡ Passed reading → verdict first ≡ verdicts.Passes
+module _ {first : Checks} {Held : Reading → Type 0} {stage : (Result Reading Refusal)} (judged : Judged first Held stage) where
+  pub verdict-passed : {reading : Reading} → stage ≡ Ok reading → verdict first ≡ Ok tt
   unfolding stage_verdict
   verdict-passed e = sym judged.told ∙ ap stage_verdict e
 
-  pub verdict-refused : {r : Refusal} → stage ≡ Refused r → verdict first ≡ verdicts.Refused r
+  pub verdict-refused : {r : Refusal} → stage ≡ Err r → verdict first ≡ Err r
   unfolding stage_verdict
   verdict-refused e = sym judged.told ∙ ap stage_verdict e
 

@@ -1,7 +1,5 @@
 -- What the reading of one line's numbers into a table promises, over the lines of the text: `i` is the line that starts at the place.
-use Rattle.std.specs.Prelude.{ℕ, suc, ◌+◌, ◌≤◌, ◌<◌, ◌≡◌, Bool, true, false, List, length, get_or}
-use Rattle.text_reader.specs.declared.LineRead.{LineRead}
-use Rattle.text_reader.specs.declared.LineRead.TheVariants.{Next, Malformed}
+use Rattle.std.specs.Prelude.{ℕ, suc, ◌+◌, ◌≤◌, ◌<◌, ◌≡◌, Bool, true, false, List, length, get_or, Option, Some, None}
 use Rattle.text_reader.specs.Lines.{lines, no_line, starts_as}
 use Rattle.text_reader.specs.Reading.{Starts}
 use Rattle.model.specs.Network.{entry}
@@ -14,12 +12,12 @@ pub record LineHeld (letter width : ℕ) (text : List ℕ) (i next start : ℕ) 
   pub starts : Starts text next (suc i)
 
 -- the line at a place is held, or it is malformed; what stands outside the row is kept
-pub record RowRead (letter width : ℕ) (text : List ℕ) (at start : ℕ) (before : List ℕ) (result : LineRead) (after : List ℕ) : Type 0 where
+pub record RowRead (letter width : ℕ) (text : List ℕ) (at start : ℕ) (before : List ℕ) (result : Option ℕ) (after : List ℕ) : Type 0 where
   pub size : length after ≡ length before
   pub below : (k : ℕ) → k < start → get_or after k 0 ≡ get_or before k 0
   pub above : (k : ℕ) → start + width ≤ k → get_or after k 0 ≡ get_or before k 0
-  pub malformed : result ≡ Malformed → (i : ℕ) → Starts text at i → is_form (lines text) i letter width ≡ false
-  pub held : (next : ℕ) → result ≡ Next next → (i : ℕ) → Starts text at i → LineHeld letter width text i next start after
+  pub malformed : result ≡ None → (i : ℕ) → Starts text at i → is_form (lines text) i letter width ≡ false
+  pub held : (next : ℕ) → result ≡ Some next → (i : ℕ) → Starts text at i → LineHeld letter width text i next start after
 
 -- the same of the beginning of a line
 pub record HeadRead (letter width : ℕ) (text : List ℕ) (at start : ℕ) (before : List ℕ) (result : Bool) (after : List ℕ) : Type 0 where

@@ -1,8 +1,6 @@
 -- What the program's tables hold of a network text while it is judged. Not of the paper: the contracts between the crates of the program speak of these.
-use Rattle.std.specs.Prelude.{ℕ, ◌+◌, ◌*◌, ◌≤◌, ◌<◌, ◌≡◌, ◌≢◌, List, leb, length, get_or}
-use Rattle.base_search.specs.declared.Verdict.{Verdict}
-use Rattle.base_search.specs.declared.Verdict.TheVariants as verdicts
-use Rattle.base_search.specs.Checks.{Checks, verdict}
+use Rattle.std.specs.Prelude.{ℕ, ◌+◌, ◌*◌, ◌≤◌, ◌<◌, ◌≡◌, ◌≢◌, List, leb, length, get_or, Result, Ok, Err}
+use Rattle.base_search.specs.Checks.{Checks, verdict, Verdict}
 use Rattle.text_reader.specs.Lines.{Line, lines}
 use Rattle.text_reader.specs.Reading.{Starts}
 use Rattle.model.specs.declared.Signal.{Signal}
@@ -10,20 +8,19 @@ use Rattle.base_laws.specs.Test.{every}
 use Rattle.model.specs.Network.{max_signals, entry, link_count, signal_count, movement_count, step_count, tram_count, past_count, on_timeline, tram_line, signal_line, link_line, movement_line, timeline_line, step_line, signal, timeline_time}
 use Rattle.network_tables.specs.declared.Counts.{Counts}
 use Rattle.network_tables.specs.declared.Reading.{Reading}
-use Rattle.network_tables.specs.declared.Stage.{Stage}
-use Rattle.network_tables.specs.declared.Stage.TheVariants.{Passed, Refused}
 use Rattle.network_tables.specs.Places.{Few}
 use Rattle.network_tables.specs.Fields.{tram_fields, link_fields, movement_fields, tram_table_size, signal_table_size, table_signal, link_table_size, movement_table_size, time_table_size, past_size, step_size, line_size}
+use Rattle.base_search.specs.declared.Refusal.{Refusal}
 
 -- the verdict on a stage: some lines pass, or one of them is refused
-unfoldable pub stage_verdict : Stage → Verdict
-stage_verdict (Passed reading) = verdicts.Passes
-stage_verdict (Refused r) = verdicts.Refused r
+unfoldable pub stage_verdict : Result Reading Refusal → Verdict
+stage_verdict (Ok reading) = Ok tt
+stage_verdict (Err r) = Err r
 
 -- What a stage of a network's reading promises: the verdict on its checks, and where they pass, what is held.
-pub record Judged (checks : Checks) (Held : Reading → Type 0) (result : Stage) : Type 0 where
+pub record Judged (checks : Checks) (Held : Reading → Type 0) (result : Result Reading Refusal) : Type 0 where
   pub told : stage_verdict result ≡ verdict checks
-  pub held : (reading : Reading) → result ≡ Passed reading → Held reading
+  pub held : (reading : Reading) → result ≡ Ok reading → Held reading
 
 -- the counts of a network whose `N` line has passed
 pub record CountsHold (network : List Line) (counts : Counts) : Type 0 where

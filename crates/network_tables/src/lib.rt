@@ -10,9 +10,7 @@ ghost use Rattle.network_tables.specs.Rows.{RowRead, HeadRead};
 ghost use Rattle.network_tables.specs.Sums.{Summed};
 ghost use Rattle.network_tables.specs.Tables.{moved_to, showing, SignalLaid};
 
-use base_search::Refusal;
 use model::Signal;
-use text_reader::LineRead;
 
 pub const MAX_LINKS: usize = 24;
 
@@ -77,13 +75,6 @@ pub struct Reading {
     pub steps_at: usize,
     pub shortest: u32,
     pub timed: bool,
-}
-
-// The result of reading some lines of a network text: they pass, or one of them is refused.
-#[derive(Clone, Copy)]
-pub enum Stage {
-    Passed(Reading),
-    Refused(Refusal),
 }
 
 impl Reading {
@@ -175,7 +166,7 @@ pub fn read_row(
     table: &mut [u32],
     start: usize,
     width: usize,
-) -> LineRead
+) -> Option<usize>
     requires { start + width ≤ length table.old }
     ensures { RowRead letter width text.now at start table.old result table.new }
 {

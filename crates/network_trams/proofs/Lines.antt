@@ -3,8 +3,6 @@ use Rattle.base_laws.proofs.Kit.{ℕ, suc, ◌+◌, ◌-◌, ◌*◌, ◌≤◌,
 use Rattle.base_search.specs.declared.Refusal.{Refusal}
 use Rattle.base_search.specs.Checks.{refusal, each, checked, verdict, Hold}
 use Rattle.base_search.proofs.Laws.{first-same, hold-of-passes}
-use Rattle.text_reader.specs.declared.LineRead.{LineRead}
-use Rattle.text_reader.specs.declared.LineRead.TheVariants.{Next, Malformed}
 use Rattle.text_reader.specs.Lines.{lines, number}
 use Rattle.base_laws.specs.Test.{within}
 use Rattle.model.specs.Network.{entry, signal_count, tram_count, tram_line}
@@ -13,7 +11,6 @@ use Rattle.model.specs.Table.{letter_t, tram_checks, tram_phase_checks}
 use Rattle.base_laws.proofs.Tests.{and_left, and_right}
 use Rattle.network_tables.specs.declared.Counts.{Counts}
 use Rattle.network_tables.specs.declared.Reading.{Reading}
-use Rattle.network_tables.specs.declared.Stage.TheVariants.{Passed, Refused}
 use Rattle.network_tables.specs.Places.{tram_line_in}
 use Rattle.network_tables.specs.Fields.{tram_fields, tram_table_size, tram_in}
 use Rattle.network_tables.specs.Rows.{RowRead}
@@ -27,6 +24,7 @@ use Rattle.network_trams.specs.Stages.{TramsAsked, TramsHeld}
 use Rattle.network_trams.specs.Claims.{LoadAsked}
 use Rattle.model.proofs.Trams.{tram-line-suc}
 use Rattle.network_trams.proofs.Tested.{tram-valid}
+use Rattle.std.specs.Prelude.{Option, Some, None, Ok, Err}
 
 -- ---- the turns of `read_trams`
 module _ {text : List ℕ} {reading : Reading} {trams₀ : List ℕ} (asked : TramsAsked text reading trams₀) where
@@ -35,7 +33,7 @@ module _ {text : List ℕ} {reading : Reading} {trams₀ : List ℕ} (asked : Tr
 
   module _ {at k : ℕ} {trams : List ℕ} (inv : TableTo text (tram_block (lines text)) tram_fields tram_table_size at k trams) where
     pub trams-done : reading.counts.trams ≤ k → {after : Reading} → after ≡ moved_to reading at
-        → Judged (block_checks (tram_block (lines text))) (TramsHeld text trams) (Passed after)
+        → Judged (block_checks (tram_block (lines text))) (TramsHeld text trams) (Ok after)
     trams-done h e =
         let past : tram_count (lines text) ≤ k = omega (arith, asked.counted.trams) in
         let all = passed-all inv.read.passed past in
@@ -49,15 +47,15 @@ module _ {text : List ℕ} {reading : Reading} {trams₀ : List ℕ} (asked : Tr
           passed = all;
         }))
 
-    module _ (h : k < reading.counts.trams) {r : LineRead} {after : List ℕ} (row : RowRead letter_t tram_fields text at (tram_fields * k) trams r after) where
+    module _ (h : k < reading.counts.trams) {r : (Option ℕ)} {after : List ℕ} (row : RowRead letter_t tram_fields text at (tram_fields * k) trams r after) where
       below : k < tram_count (lines text)
       below = omega (arith, asked.counted.trams)
 
       told_line : {line : ℕ} → line ≡ tram_line_in reading.counts k → line + 1 ≡ suc (tram_line (lines text) k)
       told_line l = omega (arith, tram-line-is asked.counted k)
 
-      pub trams-malformed : r ≡ Malformed → {line : ℕ} {q : Refusal} → line ≡ tram_line_in reading.counts k → q ≡ refusal 1 (line + 1) 0
-          → Judged (block_checks (tram_block (lines text))) (TramsHeld text after) (Refused q)
+      pub trams-malformed : r ≡ None → {line : ℕ} {q : Refusal} → line ≡ tram_line_in reading.counts k → q ≡ refusal 1 (line + 1) 0
+          → Judged (block_checks (tram_block (lines text))) (TramsHeld text after) (Err q)
       unfolding tram_checks
       trams-malformed e l t =
           rw (t, told_line l) (judged-refused (passed-stop inv.read.passed below (line-malformed row (tram_line (lines text) k) 28 0 (valid_tram (lines text) k) inv.read.starts e)))
@@ -65,12 +63,12 @@ module _ {text : List ℕ} {reading : Reading} {trams₀ : List ℕ} (asked : Tr
       pub tram-known : TramsKnown after k
       tram-known = record { room = table-room inv row; few = omega (arith, asked.counted.few.trams) }
 
-      module _ {next : ℕ} (e : r ≡ Next next) {v : Bool} (told : v ≡ valid_tram_in after reading.counts.signals reading.counts.steps k) where
+      module _ {next : ℕ} (e : r ≡ Some next) {v : Bool} (told : v ≡ valid_tram_in after reading.counts.signals reading.counts.steps k) where
         judged : v ≡ valid_tram (lines text) k
         judged = told ∙ rw (asked.counted.signals, asked.counted.steps) (tram-valid (lines text) after k (table-rows inv row e))
 
         pub trams-invalid : not v ≡ true → {line : ℕ} {q : Refusal} → line ≡ tram_line_in reading.counts k → q ≡ refusal 28 (line + 1) 0
-            → Judged (block_checks (tram_block (lines text))) (TramsHeld text after) (Refused q)
+            → Judged (block_checks (tram_block (lines text))) (TramsHeld text after) (Err q)
         unfolding tram_checks
         trams-invalid n l t =
             rw (t, told_line l)
@@ -92,12 +90,12 @@ module _ {text : List ℕ} {at₀ count : ℕ} {trams₀ : List ℕ} (asked : Lo
     pub load-done : count ≤ k → TramTable (lines text) trams
     load-done h = record { size = inv.room; holds = λ i f l. inv.rows.numbers i f (omega (arith, asked.counted)) }
 
-    module _ (h : k < count) {r : LineRead} {after : List ℕ} (row : RowRead letter_t tram_fields text at (tram_fields * k) trams r after) where
+    module _ (h : k < count) {r : (Option ℕ)} {after : List ℕ} (row : RowRead letter_t tram_fields text at (tram_fields * k) trams r after) where
       -- a line that has passed is not malformed
-      pub load-never : r ≡ Malformed → TramTable (lines text) after
+      pub load-never : r ≡ None → TramTable (lines text) after
       load-never e = absurd (true≢false (sym (asked.forms k h) ∙ row.malformed e (tram_line (lines text) k) inv.read.starts))
 
-      pub load-next : {next : ℕ} → r ≡ Next next → TableTo text (tram_block (lines text)) tram_fields tram_table_size next (k + 1) after
+      pub load-next : {next : ℕ} → r ≡ Some next → TableTo text (tram_block (lines text)) tram_fields tram_table_size next (k + 1) after
       unfolding tram_checks
       load-next {next} e =
           table-next inv row e
@@ -109,12 +107,12 @@ pub phase-asked : {trams phases : List ℕ} {counts : Counts} → PhasesAsked tr
 phase-asked a {k} h = a.each_line k h
 
 module _ (trams phases : List ℕ) (reading : Reading) {k : ℕ} (inv : PassedTo reading.counts.trams (phase_checks_in trams phases reading.counts) k) where
-  pub phases-done : reading.counts.trams ≤ k → Judged (each reading.counts.trams (phase_checks_in trams phases reading.counts)) (λ after. after ≡ reading) (Passed reading)
+  pub phases-done : reading.counts.trams ≤ k → Judged (each reading.counts.trams (phase_checks_in trams phases reading.counts)) (λ after. after ≡ reading) (Ok reading)
   phases-done h = judged-passed (passed-all inv h) refl
 
   module _ (h : k < reading.counts.trams) {v : Bool} (told : v ≡ valid_phase_in trams phases k) where
     pub phases-broken : not v ≡ true → {line : ℕ} → line ≡ tram_line_in reading.counts k → {t : Refusal} → t ≡ refusal 28 (line + 1) 0
-        → Judged (each reading.counts.trams (phase_checks_in trams phases reading.counts)) (λ after. after ≡ reading) (Refused t)
+        → Judged (each reading.counts.trams (phase_checks_in trams phases reading.counts)) (λ after. after ≡ reading) (Err t)
     unfolding verdict phase_checks_in checked
     phases-broken n {line} l e =
         let z : line + 1 ≡ suc (tram_line_in reading.counts k) = omega arith in

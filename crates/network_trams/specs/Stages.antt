@@ -1,6 +1,5 @@
 -- What the reading of the `T` lines asks, and what is held where they pass.
-use Rattle.std.specs.Prelude.{ℕ, ◌≡◌, List, length}
-use Rattle.base_search.specs.declared.Verdict.TheVariants.{Passes}
+use Rattle.std.specs.Prelude.{ℕ, ◌≡◌, List, length, Ok}
 use Rattle.base_search.specs.Checks.{verdict}
 use Rattle.text_reader.specs.Lines.{lines}
 use Rattle.text_reader.specs.Reading.{Starts}
@@ -21,4 +20,4 @@ pub record TramsHeld (text trams : List ℕ) (reading : Reading) : Type 0 where
   pub starts : Starts text reading.next (signal_line (lines text) 0)
   pub trams-start : Starts text reading.trams_at (tram_line (lines text) 0)
   pub table : TramTable (lines text) trams
-  pub passed : verdict (block_checks (tram_block (lines text))) ≡ Passes
+  pub passed : verdict (block_checks (tram_block (lines text))) ≡ Ok tt

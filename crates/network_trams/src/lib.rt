@@ -11,8 +11,7 @@ ghost use Rattle.network_trams.specs.Stages.{TramsAsked, TramsHeld};
 ghost use Rattle.network_trams.specs.Claims.{LoadAsked, claimed, ClaimAsked, Claimed, ClaimsAsked};
 
 use base_search::Refusal;
-use network_tables::{Reading, Stage, TRAM_FIELDS};
-use text_reader::LineRead;
+use network_tables::{Reading, TRAM_FIELDS};
 
 // Whether two `T` lines have no step in common for one signal.
 fn is_apart(trams: &[u32], j: usize, k: usize) -> bool
@@ -54,7 +53,7 @@ fn valid_tram(trams: &[u32], signals: usize, steps: usize, k: usize) -> bool
 }
 
 // The `T` lines: each line's form (refusal 1), then its values (refusal 28). Its numbers go straight into its row.
-pub fn read_trams(text: &[u8], reading: Reading, trams: &mut [u32]) -> Stage
+pub fn read_trams(text: &[u8], reading: Reading, trams: &mut [u32]) -> Result<Reading, Refusal>
     requires { TramsAsked text.now reading trams.old }
     ensures { Judged (block_checks (tram_block (lines text.now))) (TramsHeld text.now trams.new) result }
 {
@@ -65,16 +64,16 @@ pub fn read_trams(text: &[u8], reading: Reading, trams: &mut [u32]) -> Stage
         let line = counts.tram_line(k) + 1;
         let start = TRAM_FIELDS * k;
         let read = network_tables::read_row(text, place, b'T', trams, start, TRAM_FIELDS);
-        let LineRead::Next(next) = read else {
-            return Stage::Refused(Refusal::new(1, line, 0));
+        let Some(next) = read else {
+            return Err(Refusal::new(1, line, 0));
         };
         if !valid_tram(trams, counts.signals, counts.steps, k) {
-            return Stage::Refused(Refusal::new(28, line, 0));
+            return Err(Refusal::new(28, line, 0));
         }
         place = next;
         k += 1;
     }
-    Stage::Passed(reading.moved_to(place))
+    Ok(reading.moved_to(place))
 }
 
 // Refusal 28: the phase of `T` line `k` is one of its signal.
@@ -88,7 +87,7 @@ fn valid_phase(trams: &[u32], phases: &[u32], k: usize) -> bool
 }
 
 // Refusal 28 after the last `G` line: each `T` line's phase is one of its signal, reported at the `T` line.
-pub fn check_tram_phases(trams: &[u32], phases: &[u32], reading: Reading) -> Stage
+pub fn check_tram_phases(trams: &[u32], phases: &[u32], reading: Reading) -> Result<Reading, Refusal>
     requires { PhasesAsked trams.now phases.now reading.counts }
     ensures { Judged (each reading.counts.trams (phase_checks_in trams.now phases.now reading.counts)) (λ after. after ≡ reading) result }
 {
@@ -96,11 +95,11 @@ pub fn check_tram_phases(trams: &[u32], phases: &[u32], reading: Reading) -> Sta
     let mut k = 0;
     while k < counts.trams {
         if !valid_phase(trams, phases, k) {
-            return Stage::Refused(Refusal::new(28, counts.tram_line(k) + 1, 0));
+            return Err(Refusal::new(28, counts.tram_line(k) + 1, 0));
         }
         k += 1;
     }
-    Stage::Passed(reading)
+    Ok(reading)
 }
 
 // The `T` lines from `at` on, which have passed, read again into their table.
@@ -113,7 +112,7 @@ pub fn load_trams(text: &[u8], at: usize, count: usize, trams: &mut [u32])
     while k < count {
         let start = TRAM_FIELDS * k;
         let read = network_tables::read_row(text, place, b'T', trams, start, TRAM_FIELDS);
-        let LineRead::Next(next) = read else {
+        let Some(next) = read else {
             return;
         };
         place = next;

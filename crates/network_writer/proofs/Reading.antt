@@ -1,16 +1,15 @@
 -- Lines that have passed, read again.
 use Rattle.base_laws.proofs.Kit.{ℕ, zero, suc, ◌+◌, ◌≤◌, ◌<◌, ◌≡◌, refl, ap₂, ◌∙◌, List, [], ◌∷◌, ◌++◌, arith, length, get_or, take, take-suc}
-use Rattle.text_reader.specs.declared.LineRead.{LineRead}
-use Rattle.text_reader.specs.declared.LineRead.TheVariants.{Next, Malformed}
 use Rattle.base_laws.specs.Indexed.{list}
 use Rattle.network_tables.specs.Rows.{RowRead}
 use Rattle.network_writer.specs.Reading.{ReadAgain}
+use Rattle.std.specs.Prelude.{Option, Some, None}
 
-module _ {letter width : ℕ} {text : List ℕ} {at : ℕ} {before after : List ℕ} {r : LineRead} (row : RowRead letter width text at 0 before r after) where
-  pub again-next : {next : ℕ} → r ≡ Next next → ReadAgain letter width text at before next after
+module _ {letter width : ℕ} {text : List ℕ} {at : ℕ} {before after : List ℕ} {r : (Option ℕ)} (row : RowRead letter width text at 0 before r after) where
+  pub again-next : {next : ℕ} → r ≡ Some next → ReadAgain letter width text at before next after
   again-next {next} e = record { size = row.size; held = λ i s f. row.held next e i s }
 
-  pub again-never : r ≡ Malformed → ReadAgain letter width text at before at after
+  pub again-never : r ≡ None → ReadAgain letter width text at before at after
   again-never e = record { size = row.size; held = λ i s f. let m = row.malformed e i s in let z : ◌≡◌ {A = ℕ} 0 1 = cc in absurd (omega arith) }
 
 -- the numbers of a row by index

@@ -5,10 +5,10 @@ use Rattle.base_search.specs.Checks.{refusal, checked}
 use Rattle.text_reader.specs.Reading.{over}
 use Rattle.text_writer.specs.Records.{record_text, record_texts}
 use Rattle.text_writer.specs.Writing.{put_at}
-use Rattle.model_text.specs.declared.TextAnswer.TheVariants.{Written, Refused}
 use Rattle.model_text.specs.Answers.{text_answer, bytes_after, room_verdict, Told}
 use Rattle.network_writer.specs.Put.{PutWhole}
 use Rattle.network_writer.specs.Texts.{line_texts}
+use Rattle.std.specs.Prelude.{Ok, Err}
 
 texts-first : (letter n : ℕ) (f : ℕ → List ℕ) → record_texts letter (suc n) f ≡ record_text letter (f 0) ++ record_texts letter n (λ k. f (suc k))
 unfolding record_texts
@@ -33,12 +33,12 @@ put_first text old = let z : 0 + length text ≡ length text = omega arith in rw
 
 -- ---- a text is measured, and then written if there is room
 module _ {text none none' old : List ℕ} {size : ℕ} (measured : PutWhole text none none' size) (number : ℕ) where
-  pub told-short : length old < size → {q : Refusal} → q ≡ refusal number 0 0 → Told text (room_verdict number text old) old (Refused q) old
+  pub told-short : length old < size → {q : Refusal} → q ≡ refusal number 0 0 → Told text (room_verdict number text old) old (Err q) old
   unfolding checked text_answer bytes_after
-  told-short h e = rw (lt-leb (length text) (length old) (omega (arith, measured.long))) (record { answered = ap Refused e; holds = refl })
+  told-short h e = rw (lt-leb (length text) (length old) (omega (arith, measured.long))) (record { answered = ap Err e; holds = refl })
 
-  pub told-whole : size ≤ length old → {new : List ℕ} {again : ℕ} → PutWhole text old new again → Told text (room_verdict number text old) old (Written size) new
+  pub told-whole : size ≤ length old → {new : List ℕ} {again : ℕ} → PutWhole text old new again → Told text (room_verdict number text old) old (Ok size) new
   unfolding checked text_answer bytes_after
   told-whole h p =
       rw (le-leb (length text) (length old) (omega (arith, measured.long)))
-      (record { answered = ap Written measured.long; holds = p.is (omega (arith, measured.long, p.long)) })
+      (record { answered = ap Ok measured.long; holds = p.is (omega (arith, measured.long, p.long)) })

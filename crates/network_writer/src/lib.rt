@@ -13,9 +13,7 @@ ghost use Rattle.network_writer.specs.Reading.{ReadAgain};
 ghost use Rattle.network_writer.specs.Plan.{column_in, plan_number, plan_row, plan_lines, PlanAsked, NumberAsked, RowAsked};
 
 use base_search::Refusal;
-use model_text::TextAnswer;
 use network_tables::{Counts, LINE_SIZE, MAX_LINKS, MAX_SIGNALS};
-use text_reader::LineRead;
 
 // Where the next line is read, and where the next is put.
 #[derive(Clone, Copy)]
@@ -57,8 +55,8 @@ pub fn read_again(text: &[u8], at: usize, letter: u8, row: &mut [u32], width: us
     ensures { ReadAgain letter width text.now at row.old result row.new }
 {
     match network_tables::read_row(text, at, letter, row, 0, width) {
-        LineRead::Next(next) => next,
-        LineRead::Malformed => at,
+        Some(next) => next,
+        None => at,
     }
 }
 
@@ -130,15 +128,15 @@ fn put_plan(numbers: &[u32], columns: usize, counts: Counts, out: &mut [u8]) -> 
 }
 
 // Writes a plan's text by a table of so many columns for each step: refusal 24 where the buffer is too short.
-pub fn write_plan(numbers: &[u32], columns: usize, counts: Counts, out: &mut [u8]) -> TextAnswer
+pub fn write_plan(numbers: &[u32], columns: usize, counts: Counts, out: &mut [u8]) -> Result<usize, Refusal>
     requires { PlanAsked numbers.now columns counts }
     ensures { Told (plan_lines numbers.now columns counts) (room_verdict 24 (plan_lines numbers.now columns counts) out.old) out.old result out.new }
 {
     let mut nowhere = [0u8; 1];
     let length = put_plan(numbers, columns, counts, &mut nowhere);
     if out.len() < length {
-        return TextAnswer::Refused(Refusal::new(24, 0, 0));
+        return Err(Refusal::new(24, 0, 0));
     }
     put_plan(numbers, columns, counts, out);
-    TextAnswer::Written(length)
+    Ok(length)
 }

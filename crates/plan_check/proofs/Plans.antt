@@ -1,14 +1,11 @@
 -- The whole check of a plan.
 use Rattle.base_laws.proofs.Kit.{ℕ, suc, ◌+◌, ◌*◌, ◌≤◌, ◌<◌, ◌≡◌, refl, sym, ap, ◌∙◌, true, false, List, add-one, le-leb, lt-leb, leb, length}
 use Rattle.base_search.specs.declared.Refusal.{Refusal}
-use Rattle.base_search.specs.declared.Verdict.TheVariants as verdicts
 use Rattle.base_search.specs.Checks.{refusal, verdict}
 use Rattle.base_search.proofs.Laws.{passes-of-hold, or-else-passes, or-else-refused, checked-passes, checked_refused}
 use Rattle.text_reader.specs.Lines.{Line, lines}
 use Rattle.text_reader.specs.Padding.{PaddingIgnored}
 use Rattle.text_reader.proofs.Padding.{same_lines}
-use Rattle.model.specs.declared.PlanAnswer.{PlanAnswer}
-use Rattle.model.specs.declared.PlanAnswer.TheVariants as plan-answer
 use Rattle.model.specs.Network.{link_count, step_count}
 use Rattle.model.specs.Table.{network_checks, ledger_checks, plan_line_checks, plan_checks}
 use Rattle.model.specs.Hold.{plan_of, EmptyHolds}
@@ -19,28 +16,28 @@ use Rattle.model.proofs.Written.{refused-fails, rows_none}
 use Rattle.model.proofs.Promises.{promises}
 use Rattle.model.proofs.Hold.{empty_holds}
 use Rattle.network_tables.specs.declared.Reading.{Reading}
-use Rattle.network_tables.specs.declared.Stage.{Stage}
-use Rattle.network_tables.specs.declared.Stage.TheVariants as stages
 use Rattle.network_tables.specs.Tables.{Judged, SignalTable}
 use Rattle.network_tables.proofs.Stages.{verdict-refused}
 use Rattle.network.specs.Loading.{Loaded}
 use Rattle.plan_steps.specs.Steps.{RunAsked, RunGot}
 use Rattle.plan_check.specs.Plan.{PlanGot}
+use Rattle.std.specs.Prelude.{Result, Ok, Err}
+use Rattle.model.specs.declared.Totals.{Totals}
 
 -- a refusal of the network, or of the ledger's length, writes nothing
-early : (network plan : List Line) (old : List ℕ) (r : Refusal) → (RowDue network plan (length old) 0 → ⊥) → verdict (plan_checks network plan (length old)) ≡ verdicts.Refused r
-    → (plan-answer.Refused r ≡ check_plan network plan (length old)) × (old ≡ ledger_after network plan old)
+early : (network plan : List Line) (old : List ℕ) (r : Refusal) → (RowDue network plan (length old) 0 → ⊥) → verdict (plan_checks network plan (length old)) ≡ Err r
+    → (Err r ≡ check_plan network plan (length old)) × (old ≡ ledger_after network plan old)
 unfolding check_plan plan_answer ledger_after
 early network plan old r h v = (rw v, rw (rows_none network plan (length old) h) (sym (written_none network plan old)))
 
 module _ (network plan : List Line) (size : ℕ) where
-  ledger-refused : leb (2 * suc (step_count network) * link_count network) size ≡ false → verdict (ledger_checks network size) ≡ verdicts.Refused (refusal 8 0 0)
+  ledger-refused : leb (2 * suc (step_count network) * link_count network) size ≡ false → verdict (ledger_checks network size) ≡ Err (refusal 8 0 0)
   unfolding verdict ledger_checks
   ledger-refused h = checked_refused _ 8 0 0 h
 
-  module _ (valid : verdict (network_checks network) ≡ verdicts.Passes) where
+  module _ (valid : verdict (network_checks network) ≡ Ok tt) where
     -- the ledger is too short
-    ledger-short : leb (2 * suc (step_count network) * link_count network) size ≡ false → verdict (plan_checks network plan size) ≡ verdicts.Refused (refusal 8 0 0)
+    ledger-short : leb (2 * suc (step_count network) * link_count network) size ≡ false → verdict (plan_checks network plan size) ≡ Err (refusal 8 0 0)
     unfolding verdict plan_checks
     ledger-short h = or-else-passes _ _ valid ∙ or-else-refused _ _ _ (ledger-refused h)
 
@@ -56,14 +53,14 @@ module _ (network_text plan_text links movements times old : List ℕ) (reading 
   abbrev pln : List Line
   pln = plan_of network_text plan_text
 
-  valid : verdict (network_checks net) ≡ verdicts.Passes
+  valid : verdict (network_checks net) ≡ Ok tt
   valid = passes-of-hold (network_checks net) loaded.holds
 
   needed : 2 * (reading.counts.steps + 1) * reading.counts.links ≡ 2 * suc (step_count net) * link_count net
   needed = rw (loaded.counted.steps, loaded.counted.links, add-one)
 
   -- the ledger is too short
-  pub plan-short : length old < 2 * (reading.counts.steps + 1) * reading.counts.links → PlanGot network_text plan_text old (plan-answer.Refused (refusal 8 0 0)) old
+  pub plan-short : length old < 2 * (reading.counts.steps + 1) * reading.counts.links → PlanGot network_text plan_text old (Err (refusal 8 0 0)) old
   plan-short h =
       let short = lt-leb _ _ (rw needed at h) in
       let e = early net pln old (refusal 8 0 0) (λ d. refused-fails (ledger_checks net (length old)) (refusal 8 0 0) (ledger-refused net pln (length old) short) d.ledger-holds)
@@ -85,7 +82,7 @@ module _ (network_text plan_text links movements times old : List ℕ) (reading 
           room = room;
         }
 
-    pub plan_run : {answer : PlanAnswer} {after : List ℕ} → RunGot network_text plan_text old answer after → PlanGot network_text plan_text old answer after
+    pub plan_run : {answer : (Result Totals Refusal)} {after : List ℕ} → RunGot network_text plan_text old answer after → PlanGot network_text plan_text old answer after
     plan_run got =
         let v = plan-lines net pln (length old) valid (le-leb _ _ room) in
         record {
@@ -94,19 +91,19 @@ module _ (network_text plan_text links movements times old : List ℕ) (reading 
         }
 
 -- a network's refusal
-planned : (network plan : List Line) (size : ℕ) (r : Refusal) → verdict (network_checks network) ≡ verdicts.Refused r → verdict (plan_checks network plan size) ≡ verdicts.Refused r
+planned : (network plan : List Line) (size : ℕ) (r : Refusal) → verdict (network_checks network) ≡ Err r → verdict (plan_checks network plan size) ≡ Err r
 unfolding verdict plan_checks
 planned network plan size r v = or-else-refused _ _ r v
 
-pub plan-refused : (network_text plan_text old : List ℕ) {stage : Stage} {Held : Reading → Type 0} {r : Refusal} → Judged (network_checks (lines network_text)) Held stage → stage ≡ stages.Refused r
-    → PlanGot network_text plan_text old (plan-answer.Refused r) old
+pub plan-refused : (network_text plan_text old : List ℕ) {stage : (Result Reading Refusal)} {Held : Reading → Type 0} {r : Refusal} → Judged (network_checks (lines network_text)) Held stage → stage ≡ Err r
+    → PlanGot network_text plan_text old (Err r) old
 plan-refused network_text plan_text old {r = r} got e =
     let net = lines network_text in
     let v = verdict-refused got e in
     let p = early net (plan_of network_text plan_text) old r (λ d. refused-fails (network_checks net) r v d.network-holds) (planned net (plan_of network_text plan_text) (length old) r v) in
     record { answered = p.0; written-rows = p.1 }
 
-pub plan-promised : {network_text plan_text old : List ℕ} {answer : PlanAnswer} {ledger : List ℕ} → PlanGot network_text plan_text old answer ledger
+pub plan-promised : {network_text plan_text old : List ℕ} {answer : (Result Totals Refusal)} {ledger : List ℕ} → PlanGot network_text plan_text old answer ledger
     → (answer ≡ check_plan (lines network_text) (plan_of network_text plan_text) (length old)) × ((ledger ≡ ledger_after (lines network_text) (plan_of network_text plan_text) old)
     × (Promises (lines network_text) (plan_of network_text plan_text) old ledger answer
     × (EmptyHolds network_text plan_text old ledger answer

@@ -11,10 +11,10 @@ ghost use Rattle.network.specs.Loading.{LoadedWithSignals};
 ghost use Rattle.plan_check.specs.Plan.{PlanGot};
 
 use base_search::Refusal;
-use model::PlanAnswer;
 use network_tables::{
-    LINK_TABLE_SIZE, MOVEMENT_TABLE_SIZE, Reading, SIGNAL_TABLE_SIZE, Stage, TIME_TABLE_SIZE,
+    LINK_TABLE_SIZE, MOVEMENT_TABLE_SIZE, Reading, SIGNAL_TABLE_SIZE, TIME_TABLE_SIZE,
 };
+use model::Totals;
 
 // Judges a plan on a network that has passed, from its signals on: the ledger's length, then the steps.
 pub fn judge_with_signals(
@@ -26,13 +26,13 @@ pub fn judge_with_signals(
     times: &[u32],
     signals: &mut [u32],
     ledger: &mut [u32],
-) -> PlanAnswer
+) -> Result<Totals, Refusal>
     requires { LoadedWithSignals network.now signals.old links.now movements.now times.now reading }
     ensures { PlanGot network.now plan.now ledger.old result ledger.new }
 {
     let counts = reading.counts;
     if ledger.len() < 2 * (counts.steps + 1) * counts.links {
-        return PlanAnswer::Refused(Refusal::new(8, 0, 0));
+        return Err(Refusal::new(8, 0, 0));
     }
     plan_steps::run_steps(
         network, plan, reading, links, movements, times, signals, ledger,
@@ -49,7 +49,7 @@ pub fn judge_plan(
     times: &[u32],
     signals: &[u32; SIGNAL_TABLE_SIZE],
     ledger: &mut [u32],
-) -> PlanAnswer
+) -> Result<Totals, Refusal>
     requires { LoadedWithSignals network.now signals.now links.now movements.now times.now reading }
     ensures { PlanGot network.now plan.now ledger.old result ledger.new }
 {
@@ -67,7 +67,7 @@ pub fn judge_plan(
 }
 
 // Check a plan: refusals 1 to 6, 8 to 18, and 25 to 30. A refusal writes only row 0 and the rows of steps that had passed.
-pub fn check_plan(network: &[u8], plan: &[u8], ledger: &mut [u32]) -> PlanAnswer
+pub fn check_plan(network: &[u8], plan: &[u8], ledger: &mut [u32]) -> Result<Totals, Refusal>
     ensures value { result ≡ check_plan (lines network.now) (plan_of network.now plan.now) (length ledger.old) }
     ensures ledger_after { ledger.new ≡ ledger_after (lines network.now) (plan_of network.now plan.now) ledger.old }
     ensures promises { Promises (lines network.now) (plan_of network.now plan.now) ledger.old ledger.new result }
@@ -85,8 +85,8 @@ pub fn check_plan(network: &[u8], plan: &[u8], ledger: &mut [u32]) -> PlanAnswer
         &mut movements,
         &mut times,
     ) {
-        Stage::Refused(refusal) => PlanAnswer::Refused(refusal),
-        Stage::Passed(reading) => judge_with_signals(
+        Err(refusal) => Err(refusal),
+        Ok(reading) => judge_with_signals(
             network,
             plan,
             reading,

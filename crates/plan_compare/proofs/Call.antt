@@ -4,7 +4,6 @@ use lib.IntN.{ℤ, sub_ℕ}
 use mir.Syntax.{w64}
 use mir.Val.{SFits, to_z, of_z}
 use Rattle.base_search.specs.declared.Refusal.{Refusal}
-use Rattle.base_search.specs.declared.Verdict.TheVariants as verdicts
 use Rattle.base_search.specs.Checks.{Hold}
 use Rattle.base_search.specs.Numbers.{is_one_of}
 use Rattle.base_search.proofs.Laws.{passes-of-hold}
@@ -13,8 +12,6 @@ use Rattle.text_reader.specs.Lines.{Line, lines}
 use Rattle.text_reader.specs.Padding.{PaddingIgnored}
 use Rattle.text_reader.proofs.Padding.{same_lines}
 use Rattle.model.specs.declared.Totals.{Totals}
-use Rattle.model.specs.declared.PlanAnswer.{PlanAnswer}
-use Rattle.model.specs.declared.PlanAnswer.TheVariants as plan-answer
 use Rattle.model.specs.Network.{step_count}
 use Rattle.model.specs.Table.{network_checks, plan_checks}
 use Rattle.model.specs.Hold.{plan_of}
@@ -26,8 +23,6 @@ use Rattle.model.proofs.Hold.{refused-answer, refused-rows}
 use Rattle.model.proofs.Numbers.{network-among}
 use Rattle.network_tables.specs.declared.Counts.{Counts}
 use Rattle.network_tables.specs.declared.Reading.{Reading}
-use Rattle.network_tables.specs.declared.Stage.{Stage}
-use Rattle.network_tables.specs.declared.Stage.TheVariants as stages
 use Rattle.network_tables.specs.Tables.{Judged, CountsHold}
 use Rattle.network_tables.proofs.Stages.{verdict-refused}
 use Rattle.plan_check.specs.Plan.{PlanGot}
@@ -41,6 +36,7 @@ use Rattle.plan_compare.specs.Curves.{lines_order, Formed}
 use Rattle.plan_compare.proofs.Gap.{gap_word, gap-held}
 use Rattle.plan_compare.proofs.Promises.{Accepts, accepts, accepted, compared-told, compared-promises, refused-promises}
 use Rattle.plan_compare.proofs.Curves.{plan-formed, order_is}
+use Rattle.std.specs.Prelude.{Result, Ok, Err}
 
 -- an accepted plan's doubled time is a number of 63 bits
 pub time-word : {network plan : List Line} {size : ℕ} {t : Totals} → Accepts network plan size t → t.doubled_time < 9223372036854775808
@@ -66,7 +62,7 @@ module _ (network_text first_text second_text first_old second_old : List ℕ) w
   other = plan_of network_text second_text
 
   -- the network is refused
-  pub network-refused : {stage : Stage} {Held : Reading → Type 0} {r : Refusal} → Judged (network_checks net) Held stage → stage ≡ stages.Refused r
+  pub network-refused : {stage : (Result Reading Refusal)} {Held : Reading → Type 0} {r : Refusal} → Judged (network_checks net) Held stage → stage ≡ Err r
       → ComparisonGot network_text first_text second_text first_old second_old (Refused 0 r) first_old second_old
   unfolding compare_plans network_answer second_ledger_after once_accepted check_network is_one_of all_of
   network-refused {r = r} got e =
@@ -80,13 +76,13 @@ module _ (network_text first_text second_text first_old second_old : List ℕ) w
 
   -- it has passed
   module _ (holds : Hold (network_checks net)) where
-    passes : check_network net ≡ verdicts.Passes
+    passes : check_network net ≡ Ok tt
     unfolding check_network
     passes = passes-of-hold (network_checks net) holds
 
-    module _ {a : PlanAnswer} {first_new : List ℕ} (got : PlanGot network_text first_text first_old a first_new) where
+    module _ {a : (Result Totals Refusal)} {first_new : List ℕ} (got : PlanGot network_text first_text first_old a first_new) where
       -- the first plan is refused
-      pub first-refused : {r : Refusal} → a ≡ plan-answer.Refused r → ComparisonGot network_text first_text second_text first_old second_old (Refused 1 r) first_new second_old
+      pub first-refused : {r : Refusal} → a ≡ Err r → ComparisonGot network_text first_text second_text first_old second_old (Refused 1 r) first_new second_old
       unfolding compare_plans network_answer plans_answer second_ledger_after once_accepted
       first-refused {r} q =
           let f = sym got.answered ∙ q in
@@ -98,17 +94,17 @@ module _ (network_text first_text second_text first_old second_old : List ℕ) w
           }
 
       -- it is accepted
-      module _ {t : Totals} (first-accepted : a ≡ plan-answer.Accepted t) where
+      module _ {t : Totals} (first-accepted : a ≡ Ok t) where
         pub first-accepts : Accepts net one (length first_old) t
         first-accepts = accepts net one (length first_old) t (sym got.answered ∙ first-accepted)
 
-        module _ {b : PlanAnswer} {second_new : List ℕ} (also : PlanGot network_text second_text second_old b second_new) where
+        module _ {b : (Result Totals Refusal)} {second_new : List ℕ} (also : PlanGot network_text second_text second_old b second_new) where
           second-written : second_new ≡ second_ledger_after net one other (length first_old) second_old
           unfolding second_ledger_after once_accepted
           second-written = rw first-accepts.told also.written-rows
 
           -- the second plan is refused
-          pub second-refused : {r : Refusal} → b ≡ plan-answer.Refused r → ComparisonGot network_text first_text second_text first_old second_old (Refused 2 r) first_new second_new
+          pub second-refused : {r : Refusal} → b ≡ Err r → ComparisonGot network_text first_text second_text first_old second_old (Refused 2 r) first_new second_new
           unfolding compare_plans network_answer plans_answer
           second-refused {r} q =
               record {
@@ -119,7 +115,7 @@ module _ (network_text first_text second_text first_old second_old : List ℕ) w
               }
 
           -- it is accepted too
-          module _ {u : Totals} (second-accepted : b ≡ plan-answer.Accepted u) where
+          module _ {u : Totals} (second-accepted : b ≡ Ok u) where
             pub second-accepts : Accepts net other (length second_old) u
             second-accepts = accepts net other (length second_old) u (sym also.answered ∙ second-accepted)
 

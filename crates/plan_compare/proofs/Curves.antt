@@ -1,8 +1,6 @@
 -- The curves of two plan texts, read again: one law for each way through a turn, and that they are the curves of the plans that the texts mean.
 use Rattle.base_laws.proofs.Kit.{ℕ, suc, ◌+◌, ◌*◌, ◌≤◌, ◌<◌, ◌≡◌, refl, sym, ap, ap₂, ◌∙◌, Bool, true, ◌&&◌, List, dec_lt, mul-le-mul_left, add-one, arith, leb, length, get_or, lt-ltb, le-ltb}
 use Rattle.base_search.specs.Checks.{Hold}
-use Rattle.text_reader.specs.declared.LineRead.{LineRead}
-use Rattle.text_reader.specs.declared.LineRead.TheVariants.{Next, Malformed}
 use Rattle.text_reader.specs.Lines.{Line, lines}
 use Rattle.text_reader.proofs.Laws.{starts_first}
 use Rattle.base_laws.specs.Test.{◌and◌, every}
@@ -21,6 +19,7 @@ use Rattle.network_tables.specs.Tables.{CountsHold}
 use Rattle.plan_compare.specs.declared.Curve.{Curve}
 use Rattle.plan_compare.specs.Comparison.{order_by, let_out_by, is_never_fewer, order}
 use Rattle.plan_compare.specs.Curves.{line_lets_out, lines_no_fewer, lines_order, Formed, next_curve, NextAsked, NextGot, ReadTo}
+use Rattle.std.specs.Prelude.{Option, Some, None}
 
 -- ---- a step later
 module _ {counts : Counts} {text : List ℕ} {curve : Curve} (asked : NextAsked counts text curve) where
@@ -40,10 +39,10 @@ module _ {counts : Counts} {text : List ℕ} {curve : Curve} (asked : NextAsked 
         boundary = refl;
       }
 
-  module _ {width : ℕ} {before line : List ℕ} {result : LineRead} (some : 0 < length text) (is-width : width ≡ plan_width counts)
+  module _ {width : ℕ} {before line : List ℕ} {result : (Option ℕ)} (some : 0 < length text) (is-width : width ≡ plan_width counts)
       (row : RowRead letter_p width text curve.at 0 before result line) where
     -- no line is malformed
-    pub next-malformed : result ≡ Malformed → ⊥
+    pub next-malformed : result ≡ None → ⊥
     next-malformed e =
         let f = row.malformed e n (asked.here.starts some) in
         let t = rw (← is-width) at (asked.formed.form some n asked.more) in
@@ -51,7 +50,7 @@ module _ {counts : Counts} {text : List ℕ} {curve : Curve} (asked : NextAsked 
         omega arith
 
     -- a line is read
-    pub next-read : {at volume : ℕ} → result ≡ Next at → volume ≡ sum counts.links (λ i. get_or line (counts.signals + counts.links + i) 0) → volume ≤ 4294967295 * counts.links
+    pub next-read : {at volume : ℕ} → result ≡ Some at → volume ≡ sum counts.links (λ i. get_or line (counts.signals + counts.links + i) 0) → volume ≤ 4294967295 * counts.links
         → NextGot counts text curve (next_curve curve at volume)
     unfolding line_lets_out sum
     next-read {at} {volume} e v small =

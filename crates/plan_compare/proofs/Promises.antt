@@ -2,13 +2,11 @@
 use Rattle.base_laws.proofs.Kit.{ℕ, ◌≤◌, ◌<◌, ◌≡◌, refl, ap₂, ◌∙◌, List, le_antisymm, arith}
 use lib.IntN.{ℤ, sub_ℕ}
 use Rattle.base_search.specs.declared.Refusal.{Refusal}
-use Rattle.base_search.specs.declared.Verdict.TheVariants.{Passes}
 use Rattle.base_search.specs.Checks.{Hold, verdict}
 use Rattle.base_search.specs.Numbers.{CanArise}
 use Rattle.base_search.proofs.Laws.{hold-of-passes}
 use Rattle.text_reader.specs.Lines.{Line}
 use Rattle.model.specs.declared.Totals.{Totals}
-use Rattle.model.specs.declared.PlanAnswer.TheVariants.{Accepted}
 use Rattle.model.specs.Network.{step_count}
 use Rattle.model.specs.Flows.{doubled_time}
 use Rattle.model.specs.Table.{plan_checks}
@@ -23,14 +21,15 @@ use Rattle.plan_compare.specs.Promises.{NeverFewer, SomewhereMore, PlansCompared
 use Rattle.plan_compare.proofs.Orders.{order-stands, stands-order, order-swapped}
 use Rattle.plan_compare.proofs.Gap.{gap-none, gap_below, gap-not-above, gap-quicker, gap-as-quick, gap-negated}
 use Rattle.plan_compare.proofs.Times.{time-le, time-less}
+use Rattle.std.specs.Prelude.{Ok}
 
 -- a plan that is accepted with these totals
 pub record Accepts (network plan : List Line) (size : ℕ) (t : Totals) : Type 0 where
-  pub told : check_plan network plan size ≡ Accepted t
+  pub told : check_plan network plan size ≡ Ok t
   pub holds : Hold (plan_checks network plan size)
   pub time : t.doubled_time ≡ doubled_time network plan (step_count network)
 
-pub accepts : (network plan : List Line) (size : ℕ) (t : Totals) → check_plan network plan size ≡ Accepted t → Accepts network plan size t
+pub accepts : (network plan : List Line) (size : ℕ) (t : Totals) → check_plan network plan size ≡ Ok t → Accepts network plan size t
 accepts network plan size t e =
     let v = verdict (plan_checks network plan size) in
     let p = passes-of-accepted network plan v t (unfold check_plan in e) in
@@ -41,7 +40,7 @@ module _ {network plan : List Line} {size : ℕ} {t : Totals} (a : Accepts netwo
   accepted = accepted-plan network plan size a.holds
 
   -- with no other totals
-  same-totals : {other : Totals} → check_plan network plan size ≡ Accepted other → other ≡ t
+  same-totals : {other : Totals} → check_plan network plan size ≡ Ok other → other ≡ t
   same-totals e = let told = a.told in cc
 
 module _ {network first second : List Line} {first_size second_size : ℕ} {t u : Totals} (one : Accepts network first first_size t) (other : Accepts network second second_size u) where
@@ -51,13 +50,13 @@ module _ {network first second : List Line} {first_size second_size : ℕ} {t u 
   lesser : NeverFewer network first second → SomewhereMore network first second → t.doubled_time < u.doubled_time
   lesser h m = omega (arith, one.time, other.time, time-less network first second (accepted one) (accepted other) h m)
 
-  pub compared-told : check_network network ≡ Passes
+  pub compared-told : check_network network ≡ Ok tt
       → compare_plans network first second first_size second_size ≡ Compared (order network first second) (sub_ℕ t.doubled_time u.doubled_time)
   unfolding compare_plans network_answer plans_answer
   compared-told e = rw (e, one.told, other.told)
 
 module _ {network first second : List Line} {first_size second_size : ℕ} {t u : Totals} (one : Accepts network first first_size t) (other : Accepts network second second_size u)
-    (passes : check_network network ≡ Passes) where
+    (passes : check_network network ≡ Ok tt) where
   plans-compared : PlansCompared network first second first_size second_size (order network first second) (sub_ℕ t.doubled_time u.doubled_time)
   plans-compared =
       record {

@@ -1,11 +1,7 @@
 -- Which of two plans is ahead (T-11): their curves of let-out volume, their order by these, and the answer of the call.
-use Rattle.std.specs.Prelude.{ℕ, suc, Bool, true, false, List, leb}
+use Rattle.std.specs.Prelude.{ℕ, suc, Bool, true, false, List, leb, Result, Ok, Err}
 use Rattle.std.proofs.Math.IntN.{sub_ℕ}
-use Rattle.base_search.specs.declared.Verdict.{Verdict}
-use Rattle.base_search.specs.declared.Verdict.TheVariants as verdict
 use Rattle.text_reader.specs.Lines.{Line}
-use Rattle.model.specs.declared.PlanAnswer.{PlanAnswer}
-use Rattle.model.specs.declared.PlanAnswer.TheVariants as plan-answer
 use Rattle.base_laws.specs.Test.{every}
 use Rattle.base_laws.specs.Sum.{sum}
 use Rattle.model.specs.Network.{step_count}
@@ -15,6 +11,9 @@ use Rattle.plan_compare.specs.declared.Order.{Order}
 use Rattle.plan_compare.specs.declared.Order.TheVariants.{Ahead, Behind, Equal, Crossing}
 use Rattle.plan_compare.specs.declared.ComparisonAnswer.{ComparisonAnswer}
 use Rattle.plan_compare.specs.declared.ComparisonAnswer.TheVariants.{Compared, Refused}
+use Rattle.base_search.specs.declared.Refusal.{Refusal}
+use Rattle.model.specs.declared.Totals.{Totals}
+use Rattle.base_search.specs.Checks.{Verdict}
 
 -- the order of two plans, by whether the first is never fewer, and whether the second is: who is not is fewer somewhere, and the other there is more
 abbrev pub order_by : Bool → Bool → Order
@@ -36,20 +35,20 @@ module _ (network : List Line) where
   order first second = order_by (is_never_fewer first second) (is_never_fewer second first)
 
 -- two accepted plans are compared by their order and the gap, the doubled time of the first minus that of the second; a refusal of the first comes before the second's ..
-unfoldable pub plans_answer : Order → PlanAnswer → PlanAnswer → ComparisonAnswer
-plans_answer order (plan-answer.Accepted t) (plan-answer.Accepted u) = Compared order (sub_ℕ t.doubled_time u.doubled_time)
-plans_answer order (plan-answer.Accepted t) (plan-answer.Refused r) = Refused 2 r
-plans_answer order (plan-answer.Refused r) second = Refused 1 r
+unfoldable pub plans_answer : Order → Result Totals Refusal → Result Totals Refusal → ComparisonAnswer
+plans_answer order (Ok t) (Ok u) = Compared order (sub_ℕ t.doubled_time u.doubled_time)
+plans_answer order (Ok t) (Err r) = Refused 2 r
+plans_answer order (Err r) second = Refused 1 r
 
 -- .. and the network's own, which means neither plan, before both
 unfoldable pub network_answer : Verdict → ComparisonAnswer → ComparisonAnswer
-network_answer verdict.Passes plans = plans
-network_answer (verdict.Refused r) plans = Refused 0 r
+network_answer (Ok tt) plans = plans
+network_answer (Err r) plans = Refused 0 r
 
 -- the second plan's rows are written once the first is accepted
-unfoldable pub once_accepted : PlanAnswer → List ℕ → List ℕ → List ℕ
-once_accepted (plan-answer.Accepted t) old new = new
-once_accepted (plan-answer.Refused r) old new = old
+unfoldable pub once_accepted : Result Totals Refusal → List ℕ → List ℕ → List ℕ
+once_accepted (Ok t) old new = new
+once_accepted (Err r) old new = old
 
 module _ (network first second : List Line) where
   -- Compare two plans, with ledgers of so many numbers

@@ -1,11 +1,10 @@
 -- What a comparison of two plans promises, and the theorem of T-11.
-use Rattle.std.specs.Prelude.{ℕ, ◌≤◌, ◌<◌, ◌≡◌, ◌↔◌, List, length, ℤ, pos, neg_ℤ, ◌≤ℤ◌, ◌<ℤ◌}
+use Rattle.std.specs.Prelude.{ℕ, ◌≤◌, ◌<◌, ◌≡◌, ◌↔◌, List, length, ℤ, pos, neg_ℤ, ◌≤ℤ◌, ◌<ℤ◌, Ok}
 use Rattle.std.proofs.Math.IntN.{sub_ℕ}
 use Rattle.base_search.specs.declared.Refusal.{Refusal}
 use Rattle.base_search.specs.Numbers.{CanArise}
 use Rattle.text_reader.specs.Lines.{Line, lines}
 use Rattle.model.specs.declared.Totals.{Totals}
-use Rattle.model.specs.declared.PlanAnswer.TheVariants.{Accepted}
 use Rattle.model.specs.Network.{step_count}
 use Rattle.model.specs.Hold.{plan_of}
 use Rattle.model.specs.Calls.{check_plan, ledger_after}
@@ -42,12 +41,12 @@ swapped Crossing = Crossing
 -- Two plans that were compared, on a network with ledgers of so many numbers.
 pub record PlansCompared (network first second : List Line) (first_size second_size : ℕ) (order : Order) (gap : ℤ) : Type 0 where
   -- both are accepted, and the gap is the doubled time of the first minus that of the second
-  pub accepted : (t : Totals) × (u : Totals) × (check_plan network first first_size ≡ Accepted t) × (check_plan network second second_size ≡ Accepted u)
+  pub accepted : (t : Totals) × (u : Totals) × (check_plan network first first_size ≡ Ok t) × (check_plan network second second_size ≡ Ok u)
       × (gap ≡ sub_ℕ t.doubled_time u.doubled_time)
   -- it is below 0 exactly when the first is quicker, and 0 exactly when the times are equal
-  pub quicker : (t u : Totals) → check_plan network first first_size ≡ Accepted t → check_plan network second second_size ≡ Accepted u
+  pub quicker : (t u : Totals) → check_plan network first first_size ≡ Ok t → check_plan network second second_size ≡ Ok u
       → (gap <ℤ pos 0) ↔ (t.doubled_time < u.doubled_time)
-  pub as-quick : (t u : Totals) → check_plan network first first_size ≡ Accepted t → check_plan network second second_size ≡ Accepted u
+  pub as-quick : (t u : Totals) → check_plan network first first_size ≡ Ok t → check_plan network second second_size ≡ Ok u
       → (gap ≡ pos 0) ↔ (t.doubled_time ≡ u.doubled_time)
   -- the plans stand in their order and in no other
   pub stands : Stands network order first second

@@ -14,12 +14,10 @@ ghost use Rattle.plan_compare.specs.Promises.{ComparisonPromises, ComparisonGot}
 ghost use Rattle.plan_compare.specs.Curves.{lines_order, next_curve, Formed, NextAsked, NextGot};
 
 use base_search::Refusal;
-use model::PlanAnswer;
 use network_tables::{
-    Counts, LINE_SIZE, LINK_TABLE_SIZE, MOVEMENT_TABLE_SIZE, Reading, SIGNAL_TABLE_SIZE, Stage,
+    Counts, LINE_SIZE, LINK_TABLE_SIZE, MOVEMENT_TABLE_SIZE, Reading, SIGNAL_TABLE_SIZE,
     TIME_TABLE_SIZE,
 };
-use text_reader::LineRead;
 
 // How the first of two plans stands to the second, by all vehicles let out up to each boundary.
 #[derive(Clone, Copy)]
@@ -70,8 +68,8 @@ fn next_boundary(plan: &[u8], curve: Curve, counts: Counts) -> Curve
     }
     let mut line = [0u32; LINE_SIZE];
     match network_tables::read_row(plan, curve.at, b'P', &mut line, 0, counts.plan_width()) {
-        LineRead::Malformed => curve.next(0, 0),
-        LineRead::Next(at) => {
+        None => curve.next(0, 0),
+        Some(at) => {
             let volume = step_rows::sum_of(&line, counts.signals + counts.links, counts.links);
             curve.next(at, volume)
         }
@@ -154,8 +152,8 @@ fn compare_on_network(
         first_ledger,
     );
     let time = match judged {
-        PlanAnswer::Accepted(totals) => totals.doubled_time,
-        PlanAnswer::Refused(refusal) => return ComparisonAnswer::Refused { plan: 1, refusal },
+        Ok(totals) => totals.doubled_time,
+        Err(refusal) => return ComparisonAnswer::Refused { plan: 1, refusal },
     };
     match plan_check::judge_with_signals(
         network,
@@ -167,8 +165,8 @@ fn compare_on_network(
         signals,
         second_ledger,
     ) {
-        PlanAnswer::Refused(refusal) => ComparisonAnswer::Refused { plan: 2, refusal },
-        PlanAnswer::Accepted(totals) => ComparisonAnswer::Compared {
+        Err(refusal) => ComparisonAnswer::Refused { plan: 2, refusal },
+        Ok(totals) => ComparisonAnswer::Compared {
             order: order_of_texts(first, second, reading.counts),
             gap: gap_between(time, totals.doubled_time),
         },
@@ -200,8 +198,8 @@ pub fn compare_plans(
         &mut movements,
         &mut times,
     ) {
-        Stage::Refused(refusal) => ComparisonAnswer::Refused { plan: 0, refusal },
-        Stage::Passed(reading) => compare_on_network(
+        Err(refusal) => ComparisonAnswer::Refused { plan: 0, refusal },
+        Ok(reading) => compare_on_network(
             network,
             first,
             second,

@@ -4,7 +4,6 @@ use Rattle.base_search.specs.Checks.{Hold}
 use Rattle.base_search.proofs.Laws.{passes-of-hold}
 use Rattle.text_reader.specs.Lines.{Line}
 use Rattle.model.specs.declared.Totals.{Totals}
-use Rattle.model.specs.declared.PlanAnswer.TheVariants.{Accepted}
 use Rattle.base_laws.specs.Sum.{sum}
 use Rattle.base_laws.specs.Test.{◌or◌}
 use Rattle.model.specs.Network.{link_count, step_count, past_count, on_timeline, travel_time, standing, timeline_length, time, timeline_time, arrival_step, elapsed}
@@ -25,6 +24,7 @@ use Rattle.plan_link_state.specs.declared.Arrival.{Arrival}
 use Rattle.plan_link_state.specs.State.{PlanState, ledger_arrival}
 use Rattle.plan_link_state.proofs.Ledger.{arrival-of, state-told}
 use Rattle.plan_link_state.proofs.State.{state-is}
+use Rattle.std.specs.Prelude.{Ok}
 
 either : (b : Bool) → b or true ≡ true
 unfolding ◌or◌
@@ -169,7 +169,7 @@ module _ (network plan : List Line) (old : List ℕ) (holds : Hold (plan_checks 
         }
 
 -- after the check of a plan that is accepted, whatever the ledger held before
-pub accepted-state : (network plan : List Line) (old : List ℕ) (t : Totals) → check_plan network plan (length old) ≡ Accepted t
+pub accepted-state : (network plan : List Line) (old : List ℕ) (t : Totals) → check_plan network plan (length old) ≡ Ok t
     → (boundary link : ℕ) → boundary ≤ step_count network → 1 ≤ link → link ≤ link_count network
     → PlanState network plan boundary (link - 1) (link_state network (ledger_after network plan old) boundary link)
 accepted-state network plan old t e = plan-state network plan old ((promises network plan old).accepted-holds t e)

@@ -2,13 +2,11 @@
 use Rattle.base_laws.proofs.Kit.{ℕ, suc, ◌+◌, ◌*◌, ◌-◌, ◌/◌, ◌≤◌, ◌<◌, ◌≡◌, refl, sym, ap, ap₂, ◌∙◌, Bool, true, false, not, cond, List, [], mul-le-mul_right, mul_comm, le-div_iff_mul-le, div-le_of_le-mul, dec_le, arith, le-leb, lt-leb, ltb-true, ltb-false, not-true, not-false, leb, ltb, eqb, length, get_or}
 use Rattle.base_search.specs.Checks.{refusal}
 use Rattle.text_reader.specs.Lines.{Line, lines}
-use Rattle.model.specs.declared.LinkAnswer.{LinkAnswer}
-use Rattle.model.specs.declared.LinkAnswer.TheVariants.{State, Refused}
 use Rattle.base_laws.specs.Sum.{sum}
 use Rattle.base_laws.specs.Test.{◌and◌, ◌or◌}
 use Rattle.model.specs.Network.{link_count, step_count, past_count, on_timeline, travel_time, standing, timeline_length, time, timeline_time, arrival_step, elapsed}
 use Rattle.model.specs.Flows.{timeline_entered}
-use Rattle.model.specs.Calls.{ledger_entered, end_step, end_length, end_elapsed, arrival_entered, scaled_arrived, rises_inside}
+use Rattle.model.specs.Calls.{state_of, ledger_entered, end_step, end_length, end_elapsed, arrival_entered, scaled_arrived, rises_inside}
 use Rattle.model.proofs.Arrived.{arrival-first}
 use Rattle.model.proofs.Accepted.{ValidNetwork, valid-network}
 use Rattle.model.proofs.Limits.{counts, link-limits, timeline-lasts}
@@ -23,6 +21,9 @@ use Rattle.step_past.specs.Curves.{CurveTo, ReadAsked}
 use Rattle.step_past.proofs.Valid.{past-form, past_fits}
 use Rattle.plan_link_state.specs.declared.Arrival.{Arrival}
 use Rattle.plan_link_state.specs.State.{Tabled, ArrivalAsked, OverAsked, EnteredOver, ledger_arrival, state_from}
+use Rattle.std.specs.Prelude.{Result, Err, Ok}
+use Rattle.model.specs.declared.LinkState.{LinkState}
+use Rattle.base_search.specs.declared.Refusal.{Refusal}
 
 -- What has arrived by a curve, before the timeline has run for the travel time, before time 0, and from then on. Before the travel time nothing has elapsed, so
 -- that the end of the curve plays no part.
@@ -241,17 +242,17 @@ module _ {text : List ℕ} {reading : Reading} {links times ledger : List ℕ} {
 
 -- ---- 21, or the state
 module _ (entered left : ℕ) (arrival : Arrival) where
-  pub falls-inside : not arrival.rises ≡ true → {r : LinkAnswer} → r ≡ Refused (refusal 21 0 0) → r ≡ state_from entered left arrival
+  pub falls-inside : not arrival.rises ≡ true → {r : (Result LinkState Refusal)} → r ≡ Err (refusal 21 0 0) → r ≡ state_from entered left arrival
   unfolding state_from ◌and◌
   falls-inside h e = rw (not-true arrival.rises h) e
 
   module _ (h : not arrival.rises ≡ false) {x : ℕ} (p : x ≡ left * arrival.seconds) where
-    pub left-above : arrival.scaled < x → {r : LinkAnswer} → r ≡ Refused (refusal 21 0 0) → r ≡ state_from entered left arrival
+    pub left-above : arrival.scaled < x → {r : (Result LinkState Refusal)} → r ≡ Err (refusal 21 0 0) → r ≡ state_from entered left arrival
     unfolding state_from ◌and◌
     left-above l e = rw (not-false arrival.rises h, lt-leb (left * arrival.seconds) arrival.scaled (omega arith)) e
 
     module _ (l : x ≤ arrival.scaled) {y : ℕ} (q : y ≡ entered * arrival.seconds) where
-      pub arrived-above : y < arrival.scaled → {r : LinkAnswer} → r ≡ Refused (refusal 21 0 0) → r ≡ state_from entered left arrival
+      pub arrived-above : y < arrival.scaled → {r : (Result LinkState Refusal)} → r ≡ Err (refusal 21 0 0) → r ≡ state_from entered left arrival
       unfolding state_from ◌and◌
       arrived-above u e =
           rw (not-false arrival.rises h, le-leb (left * arrival.seconds) arrival.scaled (omega arith), lt-leb arrival.scaled (entered * arrival.seconds) (omega arith)) e
@@ -263,7 +264,7 @@ module _ (entered left : ℕ) (arrival : Arrival) where
         pub left-arrived : left ≤ arrival.scaled / w
         left-arrived = rw s ((le-div_iff_mul-le some).1 (omega arith))
 
-        pub state-told : State (arrival.scaled / w - left) (entered - arrival.scaled / w) ≡ state_from entered left arrival
+        pub state-told : Ok (state_of (arrival.scaled / w - left) (entered - arrival.scaled / w)) ≡ state_from entered left arrival
         unfolding state_from ◌and◌
         state-told =
             rw (s, not-false arrival.rises h, le-leb (left * arrival.seconds) arrival.scaled (omega arith), le-leb arrival.scaled (entered * arrival.seconds) (omega arith)) refl

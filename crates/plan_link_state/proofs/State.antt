@@ -1,24 +1,18 @@
 -- The state of a link by the tables of a network is the paper's.
 use Rattle.base_laws.proofs.Kit.{ℕ, suc, ◌+◌, ◌*◌, ◌-◌, ◌≤◌, ◌<◌, ◌≡◌, refl, sym, ap, ◌∙◌, Bool, true, false, cond, List, add-one, mul-le-mul_right, arith, le-leb, lt-leb, leb, length}
 use Rattle.base_search.specs.declared.Refusal.{Refusal}
-use Rattle.base_search.specs.declared.Verdict.{Verdict}
-use Rattle.base_search.specs.declared.Verdict.TheVariants as verdicts
-use Rattle.base_search.specs.Checks.{refusal, or_else, checked, verdict}
+use Rattle.base_search.specs.Checks.{refusal, or_else, checked, verdict, Verdict}
 use Rattle.base_search.proofs.Laws.{or-else-passes, or-else-refused, checked-passes, checked_refused, passes-of-hold}
 use Rattle.text_reader.specs.Lines.{Line, lines}
 use Rattle.text_reader.specs.Padding.{PaddingIgnored}
 use Rattle.text_reader.proofs.Padding.{same_lines}
-use Rattle.model.specs.declared.LinkAnswer.{LinkAnswer}
-use Rattle.model.specs.declared.LinkAnswer.TheVariants.{State, Refused}
 use Rattle.base_laws.specs.Test.{◌and◌, within}
 use Rattle.model.specs.Network.{link_count, step_count}
 use Rattle.model.specs.Table.{network_checks, ledger_checks}
-use Rattle.model.specs.Calls.{ledger_entered, ledger_left, end_step, end_length, scaled_arrived, rises_inside, ledger_arrived, state_checks, link_answer, link_state}
+use Rattle.model.specs.Calls.{state_of, ledger_entered, ledger_left, end_step, end_length, scaled_arrived, rises_inside, ledger_arrived, state_checks, link_answer, link_state}
 use Rattle.model.specs.Guarantees.{StatePromises}
 use Rattle.model.proofs.Numbers.{state-promises}
 use Rattle.network_tables.specs.declared.Reading.{Reading}
-use Rattle.network_tables.specs.declared.Stage.{Stage}
-use Rattle.network_tables.specs.declared.Stage.TheVariants as stages
 use Rattle.network_tables.specs.Fields.{entered_at, left_at, RowHeld}
 use Rattle.network_tables.specs.Tables.{Judged}
 use Rattle.network_tables.proofs.Stages.{verdict-refused}
@@ -27,6 +21,8 @@ use Rattle.plan_link_state.specs.State.{Tabled, ArrivalAsked, ledger_arrival, st
 use Rattle.plan_link_state.specs.declared.Arrival.{Arrival}
 use Rattle.plan_link_state.proofs.Ledger.{arrival-step-lasts}
 use Rattle.base_laws.proofs.Tests.{is_within}
+use Rattle.std.specs.Prelude.{Result, Ok, Err}
+use Rattle.model.specs.declared.LinkState.{LinkState}
 
 -- ---- 20: whether a link is one of the network's
 within-below : (low x high : ℕ) → x < low → within low x high ≡ false
@@ -61,15 +57,15 @@ module _ (network : List Line) (ledger : List ℕ) (boundary link : ℕ) where
   unfolding verdict state_checks ledger_checks
   whole = refl
 
-  refusal-told : (r : Refusal) → verdict (state_checks network ledger boundary link) ≡ verdicts.Refused r → Refused r ≡ link_state network ledger boundary link
+  refusal-told : (r : Refusal) → verdict (state_checks network ledger boundary link) ≡ Err r → Err r ≡ link_state network ledger boundary link
   unfolding link_state link_answer
   refusal-told r e = rw e
 
-  pub network-refused : (r : Refusal) → verdict (network_checks network) ≡ verdicts.Refused r → Refused r ≡ link_state network ledger boundary link
+  pub network-refused : (r : Refusal) → verdict (network_checks network) ≡ Err r → Err r ≡ link_state network ledger boundary link
   network-refused r e = refusal-told r (whole ∙ or-else-refused _ _ r e)
 
-  module _ (passed : verdict (network_checks network) ≡ verdicts.Passes) where
-    pub ledger-short : length ledger < 2 * suc (step_count network) * link_count network → Refused (refusal 8 0 0) ≡ link_state network ledger boundary link
+  module _ (passed : verdict (network_checks network) ≡ Ok tt) where
+    pub ledger-short : length ledger < 2 * suc (step_count network) * link_count network → Err (refusal 8 0 0) ≡ link_state network ledger boundary link
     ledger-short h =
         refusal-told (refusal 8 0 0) (whole ∙ or-else-passes _ _ passed ∙ or-else-refused _ _ (refusal 8 0 0) (checked_refused long-enough 8 0 0 (lt-leb _ _ h)))
 
@@ -77,19 +73,19 @@ module _ (network : List Line) (ledger : List ℕ) (boundary link : ℕ) where
       to19 : verdict (state_checks network ledger boundary link) ≡ from19
       to19 = whole ∙ or-else-passes _ _ passed ∙ or-else-passes _ _ (checked-passes long-enough 8 0 0 (le-leb _ _ long))
 
-      pub boundary-past : step_count network < boundary → Refused (refusal 19 0 0) ≡ link_state network ledger boundary link
+      pub boundary-past : step_count network < boundary → Err (refusal 19 0 0) ≡ link_state network ledger boundary link
       boundary-past h = refusal-told (refusal 19 0 0) (to19 ∙ or-else-refused _ _ (refusal 19 0 0) (checked_refused _ 19 0 0 (lt-leb boundary (step_count network) h)))
 
       module _ (early : boundary ≤ step_count network) where
         to20 : verdict (state_checks network ledger boundary link) ≡ from20
         to20 = to19 ∙ or-else-passes _ _ (checked-passes _ 19 0 0 (le-leb boundary (step_count network) early))
 
-        pub no-link : within 1 link (link_count network) ≡ false → Refused (refusal 20 0 0) ≡ link_state network ledger boundary link
+        pub no-link : within 1 link (link_count network) ≡ false → Err (refusal 20 0 0) ≡ link_state network ledger boundary link
         no-link outside = refusal-told (refusal 20 0 0) (to20 ∙ or-else-refused _ _ (refusal 20 0 0) (checked_refused _ 20 0 0 outside))
 
         by-agreement : (b : Bool) → link_answer network ledger boundary link (checked b 21 0 0)
-            ≡ cond b (State (ledger_arrived network ledger boundary link - ledger_left network ledger boundary link) (ledger_entered network ledger boundary link boundary - ledger_arrived network ledger boundary link))
-            (Refused (refusal 21 0 0))
+            ≡ cond b (Ok (state_of (ledger_arrived network ledger boundary link - ledger_left network ledger boundary link) (ledger_entered network ledger boundary link boundary - ledger_arrived network ledger boundary link)))
+            (Err (refusal 21 0 0))
         unfolding link_answer checked
         by-agreement true = refl
         by-agreement false = refl
@@ -108,30 +104,30 @@ module _ {text : List ℕ} {reading : Reading} {links times : List ℕ} (t : Tab
   abbrev network : List Line
   network = lines text
 
-  passed : verdict (network_checks network) ≡ verdicts.Passes
+  passed : verdict (network_checks network) ≡ Ok tt
   passed = passes-of-hold (network_checks network) t.holds
 
   rows_are : size ≡ 2 * suc (step_count network) * link_count network
   rows_are = sized ∙ rw (add-one, t.counted.steps, t.counted.links)
 
-  pub short-told : length ledger < size → {r : LinkAnswer} → r ≡ Refused (refusal 8 0 0) → r ≡ link_state network ledger boundary link
+  pub short-told : length ledger < size → {r : (Result LinkState Refusal)} → r ≡ Err (refusal 8 0 0) → r ≡ link_state network ledger boundary link
   short-told h e = e ∙ ledger-short network ledger boundary link passed (omega (arith, rows_are))
 
   module _ (long : size ≤ length ledger) where
     room : 2 * suc (step_count network) * link_count network ≤ length ledger
     room = omega (arith, rows_are)
 
-    pub past-told : reading.counts.steps < boundary → {r : LinkAnswer} → r ≡ Refused (refusal 19 0 0) → r ≡ link_state network ledger boundary link
+    pub past-told : reading.counts.steps < boundary → {r : (Result LinkState Refusal)} → r ≡ Err (refusal 19 0 0) → r ≡ link_state network ledger boundary link
     past-told h e = e ∙ boundary-past network ledger boundary link passed room (omega (arith, t.counted.steps))
 
     module _ (early : boundary ≤ reading.counts.steps) where
       reached : boundary ≤ step_count network
       reached = omega (arith, t.counted.steps)
 
-      pub below-told : link < 1 → {r : LinkAnswer} → r ≡ Refused (refusal 20 0 0) → r ≡ link_state network ledger boundary link
+      pub below-told : link < 1 → {r : (Result LinkState Refusal)} → r ≡ Err (refusal 20 0 0) → r ≡ link_state network ledger boundary link
       below-told h e = e ∙ no-link network ledger boundary link passed room reached (within-below 1 link (link_count network) h)
 
-      pub above-told : 1 ≤ link → reading.counts.links < link → {r : LinkAnswer} → r ≡ Refused (refusal 20 0 0) → r ≡ link_state network ledger boundary link
+      pub above-told : 1 ≤ link → reading.counts.links < link → {r : (Result LinkState Refusal)} → r ≡ Err (refusal 20 0 0) → r ≡ link_state network ledger boundary link
       above-told h l e = e ∙ no-link network ledger boundary link passed room reached (within-above 1 link (link_count network) h (omega (arith, t.counted.links)))
 
       module _ (first : 1 ≤ link) (last : link ≤ reading.counts.links) where
@@ -155,7 +151,7 @@ module _ {text : List ℕ} {reading : Reading} {links times : List ℕ} (t : Tab
         unfolding end_length end_step
         arrival-lasts e = rw (e, own) (arrival-step-lasts t boundary (link - 1) reached)
 
-        pub found-told : {entered left : ℕ} {arrival : Arrival} {r : LinkAnswer}
+        pub found-told : {entered left : ℕ} {arrival : Arrival} {r : (Result LinkState Refusal)}
             → entered ≡ entered_at ledger reading.counts.links boundary (link - 1) → left ≡ left_at ledger reading.counts.links boundary (link - 1)
             → arrival ≡ ledger_arrival network ledger boundary (link - 1 + 1)
             → r ≡ state_from entered left arrival → r ≡ link_state network ledger boundary link
@@ -163,25 +159,25 @@ module _ {text : List ℕ} {reading : Reading} {links times : List ℕ} (t : Tab
         found-told e f a q = q ∙ rw (e, f, a, own, t.counted.links) (state-is network ledger boundary link passed room reached first (omega (arith, t.counted.links)))
 
 -- all that the call promises of its answer
-abbrev pub Promised : List ℕ → List ℕ → ℕ → ℕ → LinkAnswer → Type 0
+abbrev pub Promised : List ℕ → List ℕ → ℕ → ℕ → Result LinkState Refusal → Type 0
 Promised text ledger boundary link answer =
     (answer ≡ link_state (lines text) ledger boundary link)
     × (StatePromises answer × PaddingIgnored text (λ padded. answer ≡ link_state (lines padded) ledger boundary link))
 
-promised : (text ledger : List ℕ) (boundary link : ℕ) {answer : LinkAnswer} → answer ≡ link_state (lines text) ledger boundary link → Promised text ledger boundary link answer
+promised : (text ledger : List ℕ) (boundary link : ℕ) {answer : (Result LinkState Refusal)} → answer ≡ link_state (lines text) ledger boundary link → Promised text ledger boundary link answer
 promised text ledger boundary link e =
     (e, (rw e (state-promises (lines text) ledger boundary link), λ padded same. e ∙ ap (λ (network : List Line). link_state network ledger boundary link) (same_lines text padded same)))
 
-module _ {text : List ℕ} {stage : Stage} {links movements times : List ℕ} (got : Judged (network_checks (lines text)) (Loaded text links movements times) stage) where
-  pub tabled : {reading : Reading} → stage ≡ stages.Passed reading → Tabled text reading links times
+module _ {text : List ℕ} {stage : (Result Reading Refusal)} {links movements times : List ℕ} (got : Judged (network_checks (lines text)) (Loaded text links movements times) stage) where
+  pub tabled : {reading : Reading} → stage ≡ Ok reading → Tabled text reading links times
   tabled {reading} e =
       let l = got.held reading e in
       record { counted = l.counted; past-start = l.past-start; link-table = l.link-table; time-table = l.time-table; holds = l.holds }
 
-  pub refused-told : (ledger : List ℕ) (boundary link : ℕ) {r : Refusal} → stage ≡ stages.Refused r
-      → Promised text ledger boundary link (Refused r)
+  pub refused-told : (ledger : List ℕ) (boundary link : ℕ) {r : Refusal} → stage ≡ Err r
+      → Promised text ledger boundary link (Err r)
   refused-told ledger boundary link {r} e = promised text ledger boundary link (network-refused (lines text) ledger boundary link r (verdict-refused got e))
 
-  pub told-by : (ledger : List ℕ) (boundary link : ℕ) {answer : LinkAnswer} → answer ≡ link_state (lines text) ledger boundary link
+  pub told-by : (ledger : List ℕ) (boundary link : ℕ) {answer : (Result LinkState Refusal)} → answer ≡ link_state (lines text) ledger boundary link
       → Promised text ledger boundary link answer
   told-by ledger boundary link e = promised text ledger boundary link e

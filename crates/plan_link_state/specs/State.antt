@@ -1,20 +1,20 @@
 -- The state of a link by the tables of a network that has passed and a ledger.
-use Rattle.std.specs.Prelude.{ℕ, suc, ◌+◌, ◌*◌, ◌-◌, ◌/◌, ◌≤◌, ◌<◌, ◌≡◌, true, false, cond, List, [], leb, length}
+use Rattle.std.specs.Prelude.{ℕ, suc, ◌+◌, ◌*◌, ◌-◌, ◌/◌, ◌≤◌, ◌<◌, ◌≡◌, true, false, cond, List, [], leb, length, Result, Err, Ok}
 use Rattle.base_search.specs.Checks.{refusal, Hold}
 use Rattle.text_reader.specs.Lines.{Line, lines}
 use Rattle.text_reader.specs.Reading.{Starts}
-use Rattle.model.specs.declared.LinkAnswer.{LinkAnswer}
-use Rattle.model.specs.declared.LinkAnswer.TheVariants.{State, Refused}
 use Rattle.base_laws.specs.Test.{◌and◌}
 use Rattle.model.specs.Network.{link_count, step_count, past_count, on_timeline, timeline_line, travel_time, standing, time, timeline_time, arrival_step}
 use Rattle.model.specs.Flows.{timeline_entered, left, has_arrived, held}
 use Rattle.model.specs.Table.{network_checks}
-use Rattle.model.specs.Calls.{end_length, scaled_arrived, rises_inside}
+use Rattle.model.specs.Calls.{state_of, end_length, scaled_arrived, rises_inside}
 use Rattle.network_tables.specs.declared.Reading.{Reading}
 use Rattle.network_tables.specs.Fields.{entered_at}
 use Rattle.network_tables.specs.Tables.{CountsHold, LinkTable, TimeTable}
 use Rattle.step_past.specs.declared.Curve.{Curve}
 use Rattle.plan_link_state.specs.declared.Arrival.{Arrival}
+use Rattle.model.specs.declared.LinkState.{LinkState}
+use Rattle.base_search.specs.declared.Refusal.{Refusal}
 
 -- the tables are those of a network text that has passed
 pub record Tabled (text : List ℕ) (reading : Reading) (links times : List ℕ) : Type 0 where
@@ -54,17 +54,17 @@ ledger_arrival network ledger boundary link =
     }
 
 -- 21, or queued and in transit
-unfoldable pub state_from : ℕ → ℕ → Arrival → LinkAnswer
+unfoldable pub state_from : ℕ → ℕ → Arrival → Result LinkState Refusal
 state_from entered left arrival =
     cond (arrival.rises and leb (left * arrival.seconds) arrival.scaled and leb arrival.scaled (entered * arrival.seconds))
-    (State (arrival.scaled / arrival.seconds - left) (entered - arrival.scaled / arrival.seconds))
-    (Refused (refusal 21 0 0))
+    (Ok (state_of (arrival.scaled / arrival.seconds - left) (entered - arrival.scaled / arrival.seconds)))
+    (Err (refusal 21 0 0))
 
 -- The state of link i, from 0, at a boundary, by a plan: what is queued is the most that has arrived and not left, and the rest of what the link holds is in transit.
-pub record PlanState (network plan : List Line) (boundary i : ℕ) (answer : LinkAnswer) : Type 0 where
+pub record PlanState (network plan : List Line) (boundary i : ℕ) (answer : Result LinkState Refusal) : Type 0 where
   pub queued : ℕ
   pub in-transit : ℕ
-  pub told : answer ≡ State queued in-transit
+  pub told : answer ≡ Ok (state_of queued in-transit)
   pub arrived : has_arrived network plan (left network plan boundary i + queued) boundary i ≡ true
   pub no_more : has_arrived network plan (left network plan boundary i + queued + 1) boundary i ≡ false
   pub whole : queued + in-transit ≡ held network plan boundary i

@@ -11,9 +11,9 @@ ghost use Rattle.model.specs.Guarantees.{StatePromises};
 ghost use Rattle.plan_link_state.specs.State.{Tabled, OverAsked, EnteredOver, ledger_arrival, ArrivalAsked, state_from};
 
 use base_search::Refusal;
-use model::LinkAnswer;
-use network_tables::{LINK_TABLE_SIZE, MOVEMENT_TABLE_SIZE, Reading, Stage, TIME_TABLE_SIZE};
+use network_tables::{LINK_TABLE_SIZE, MOVEMENT_TABLE_SIZE, Reading, TIME_TABLE_SIZE};
 use step_past::Curve;
+use model::LinkState;
 
 // What has arrived at a link's end × the length of the step in which the travel time ends; that length; and whether the entered count does not fall over a step
 // inside which it ends.
@@ -89,7 +89,7 @@ fn arrival_by(
 }
 
 // Refusal 21, by what has arrived unrounded; or the vehicles queued, rounded down, and in transit.
-fn state_from(entered: u32, left: u32, arrival: Arrival) -> LinkAnswer
+fn state_from(entered: u32, left: u32, arrival: Arrival) -> Result<LinkState, Refusal>
     requires { 1 ≤ arrival.seconds }
     ensures { result ≡ state_from entered left arrival }
 {
@@ -105,17 +105,17 @@ fn state_from(entered: u32, left: u32, arrival: Arrival) -> LinkAnswer
         return refused(21);
     }
     let arrived = (scaled / network_tables::wide(seconds)) as u32;
-    LinkAnswer::State {
+    LinkState {
         queued: arrived - left,
         in_transit: entered - arrived,
     }
 }
 
 // A refusal that names no line and no item.
-fn refused(number: u32) -> LinkAnswer
+fn refused(number: u32) -> Result<LinkState, Refusal>
     ensures { result ≡ Refused (refusal number 0 0) }
 {
-    LinkAnswer::Refused(Refusal::new(number, 0, 0))
+    Err(Refusal::new(number, 0, 0))
 }
 
 // The state by the tables of a network that has passed: refusals 8, 19, 20 and 21.
@@ -127,7 +127,7 @@ fn state_by(
     ledger: &[u32],
     boundary: u32,
     link: u32,
-) -> LinkAnswer
+) -> Result<LinkState, Refusal>
     requires { Tabled text.now reading links.now times.now }
     ensures { result ≡ link_state (lines text.now) ledger.now boundary link }
 {
@@ -159,7 +159,7 @@ fn state_by(
 }
 
 // State of one link at a boundary: refusals 1 to 6, 28 and 30 of the network, 8 of the ledger, then 19, 20 and 21.
-pub fn link_state(network: &[u8], ledger: &[u32], boundary: u32, link: u32) -> LinkAnswer
+pub fn link_state(network: &[u8], ledger: &[u32], boundary: u32, link: u32) -> Result<LinkState, Refusal>
     ensures value { result ≡ link_state (lines network.now) ledger.now boundary link }
     ensures state_promises { StatePromises result }
     ensures padding_ignored { PaddingIgnored network.now (λ padded. result ≡ link_state (lines padded) ledger.now boundary link) }
@@ -168,9 +168,9 @@ pub fn link_state(network: &[u8], ledger: &[u32], boundary: u32, link: u32) -> L
     let mut movements = [0u32; MOVEMENT_TABLE_SIZE];
     let mut times = [0u32; TIME_TABLE_SIZE];
     match network::load_network(network, &mut links, &mut movements, &mut times) {
-        Stage::Passed(reading) => {
+        Ok(reading) => {
             state_by(network, reading, &links, &times, ledger, boundary, link)
         }
-        Stage::Refused(refusal) => LinkAnswer::Refused(refusal),
+        Err(refusal) => Err(refusal),
     }
 }

@@ -1,6 +1,5 @@
 -- The totals, one step after another.
 use Rattle.base_laws.proofs.Kit.{ℕ, suc, ◌+◌, ◌*◌, ◌-◌, ◌≤◌, ◌<◌, ◌≡◌, ap, ◌∙◌, true, List, dec_le, mul-le-mul_right, arith, get_or}
-use Rattle.base_search.specs.declared.Verdict.TheVariants.{Passes}
 use Rattle.base_search.specs.Checks.{verdict, Hold}
 use Rattle.base_search.proofs.Laws.{hold-of-passes}
 use Rattle.text_reader.specs.Lines.{Line}
@@ -22,6 +21,7 @@ use Rattle.step_rows.specs.Waiting.{waiting_in, StepOffers}
 use Rattle.step_rows.specs.Rows.{RowHolds}
 use Rattle.step_rows.proofs.Texts.{all-admitted-is, all-let-out-is, vehicles-is}
 use Rattle.plan_steps.specs.Totals.{held_in, totals_after, TotalsAsked}
+use Rattle.std.specs.Prelude.{Ok}
 
 -- the sum of a table from its start
 pub outside-sum : (links : ℕ) (waiting : List ℕ) {total : ℕ} → total ≡ sum links (λ i. get_or waiting (0 + i) 0) → total ≡ sum links (waiting_in waiting)
@@ -43,7 +43,7 @@ pub totals-made : (t : Totals) (before after : ℕ) (counts : Counts) (line step
 totals-made t before after counts line step a l w ea el ew = rw (ew, el, ea)
 
 -- the rules of a line that has passed
-pub passed-lawful : (network plan : List Line) (m : ℕ) → verdict (line_checks network plan m) ≡ Passes → LawfulStep network plan m
+pub passed-lawful : (network plan : List Line) (m : ℕ) → verdict (line_checks network plan m) ≡ Ok tt → LawfulStep network plan m
 passed-lawful network plan m h = lawful-step network plan m (hold-of-passes (line_checks network plan m) h)
 
 module _ (network plan : List Line) (holds : Hold (network_checks network)) (counts : Counts) (counted : CountsHold network counts) where
@@ -52,7 +52,7 @@ module _ (network plan : List Line) (holds : Hold (network_checks network)) (cou
   unfolding totals sum doubled_time
   totals-first row r held i = rw (i ∙ vehicles-is counted r)
 
-  module _ (n : ℕ) (h : n ≤ step_count network) (t : Totals) (at : t ≡ totals network plan n) (passed : (m : ℕ) → m < n → verdict (line_checks network plan m) ≡ Passes) where
+  module _ (n : ℕ) (h : n ≤ step_count network) (t : Totals) (at : t ≡ totals network plan n) (passed : (m : ℕ) → m < n → verdict (line_checks network plan m) ≡ Ok tt) where
     keeps-limits : (m : ℕ) → m < n → KeepsLimits network plan m
     keeps-limits m l = lawful-limits (passed-lawful network plan m (passed m l))
 

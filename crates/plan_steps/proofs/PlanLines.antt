@@ -1,7 +1,5 @@
 -- The `P` line of a step that was read, or made where the plan's text is empty, is that of the plan which the text means.
 use Rattle.base_laws.proofs.Kit.{ℕ, suc, ◌+◌, ◌*◌, ◌-◌, ◌^◌, ◌≤◌, ◌<◌, ◌≡◌, sym, ap, ◌∙◌, true, false, List, dec_lt, arith, eq-eqb, eqb, length, get_or}
-use Rattle.text_reader.specs.declared.LineRead.{LineRead}
-use Rattle.text_reader.specs.declared.LineRead.TheVariants.{Next, Malformed}
 use Rattle.text_reader.specs.Lines.{Line, lines}
 use Rattle.text_reader.specs.Reading.{Starts, at_end}
 use Rattle.text_reader.proofs.Laws.{starts-end, end-of-none}
@@ -17,6 +15,7 @@ use Rattle.network_tables.specs.Tables.{CountsHold, PlanNumbers}
 use Rattle.step_signals.specs.Step.{SignalsAt}
 use Rattle.plan_steps.specs.PlanLine.{LineGot}
 use Rattle.plan_steps.proofs.Verdicts.{formed}
+use Rattle.std.specs.Prelude.{Option, Some, None}
 
 -- where the text is empty, each signal shows the phase of its `G` line at every boundary
 pub shown-at : (network_text plan_text : List ℕ) → ValidNetwork (lines network_text) → {n : ℕ} {signals : List ℕ} → n < step_count (lines network_text)
@@ -28,7 +27,7 @@ shown-at network_text plan_text valid {n} more signals-at empty r l =
 module _ (network_text plan_text : List ℕ) {counts : Counts} (valid : ValidNetwork (lines network_text)) (counted : CountsHold (lines network_text) counts) {n at : ℕ} {signals : List ℕ}
     (more : n < step_count (lines network_text)) (starts : 0 < length plan_text → Starts plan_text at n)
     (shown : length plan_text ≡ 0 → (r : ℕ) → r < signal_count (lines network_text) → (table_signal signals r).shown ≡ (signal (lines network_text) r).shown)
-    {before line : List ℕ} {result : LineRead} (zeros : length plan_text ≡ 0 → (k : ℕ) → signal_count (lines network_text) ≤ k → get_or before k 0 ≡ 0) (size : length before ≡ line_size) (got : LineGot plan_text at signals counts before result line) where
+    {before line : List ℕ} {result : (Option ℕ)} (zeros : length plan_text ≡ 0 → (k : ℕ) → signal_count (lines network_text) ≤ k → get_or before k 0 ≡ 0) (size : length before ≡ line_size) (got : LineGot plan_text at signals counts before result line) where
   abbrev net : List Line
   net = lines network_text
 
@@ -57,13 +56,13 @@ module _ (network_text plan_text : List ℕ) {counts : Counts} (valid : ValidNet
     held-formed = rw is-hold (hold-form net n more)
 
   -- ---- whatever the text
-  pub line-bad : result ≡ Malformed → formed net pln n ≡ false
+  pub line-bad : result ≡ None → formed net pln n ≡ false
   line-bad e = elim (dec_lt 0 (length plan_text)) [
     | yes h ↦ rw (plan-of-text network_text plan_text h) (rw width_is at ((got.read h).malformed e n (starts h)))
     | no h ↦ let z : ◌≡◌ {A = ℕ} 0 1 = (let q = got.next (omega arith) in cc) in absurd (omega arith)
   ]
 
-  module _ {next : ℕ} (e : result ≡ Next next) where
+  module _ {next : ℕ} (e : result ≡ Some next) where
     pub line-numbers : PlanNumbers net pln n line
     line-numbers = elim (dec_lt 0 (length plan_text)) [
       | yes h ↦ rw (plan-of-text network_text plan_text h) (record {

@@ -1,15 +1,12 @@
 -- The steps of a plan, taken one after another.
 use Rattle.base_laws.proofs.Kit.{ℕ, zero, suc, ◌+◌, ◌*◌, ◌-◌, ◌≤◌, ◌<◌, ◌≡◌, refl, sym, ap, ◌∙◌, Bool, true, false, cond, List, [], dec_le, dec_lt, mul-le-mul_right, add-one, arith, le-leb, eqb, length, get_or, replicate, length-replicate, get_or-replicate, List·getD-eq-default}
 use Rattle.base_search.specs.declared.Refusal.{Refusal}
-use Rattle.base_search.specs.declared.Verdict.TheVariants.{Passes, Refused}
 use Rattle.base_search.specs.Checks.{refusal, verdict, Hold}
 use Rattle.base_search.proofs.Laws.{hold-of-passes}
 use Rattle.text_reader.specs.Lines.{Line, no_line, lines, is_record}
 use Rattle.text_reader.specs.Reading.{at_end}
 use Rattle.text_reader.proofs.Laws.{starts_first}
 use Rattle.model.specs.declared.Totals.{Totals}
-use Rattle.model.specs.declared.PlanAnswer.{PlanAnswer}
-use Rattle.model.specs.declared.PlanAnswer.TheVariants as plan-answer
 use Rattle.base_laws.specs.Sum.{sum}
 use Rattle.model.specs.Network.{max_links, max_steps, link_count, step_count, past_count, on_timeline, signal}
 use Rattle.model.specs.Flows.{signal_at, totals}
@@ -45,6 +42,7 @@ use Rattle.plan_steps.proofs.Ledger.{written-again}
 use Rattle.plan_steps.proofs.Steps.{trams-ready}
 use Rattle.plan_steps.proofs.Adding.{outside-sum, totals-first}
 use Rattle.step_past.proofs.Valid.{past-form, entered-at-start, past_fits, left-at-start, left-fits}
+use Rattle.std.specs.Prelude.{Result, Ok, Err}
 
 -- the signals before the plan
 pub signals-first : (network plan : List Line) (signals : List ℕ) → ValidNetwork network → SignalTable network signals → SignalsAt network plan 0 signals
@@ -57,7 +55,7 @@ signals-first network plan signals valid t =
     }
 
 -- a line that has passed is there
-pub lines-within : (network plan : List Line) (n : ℕ) → ((m : ℕ) → m < n → verdict (line_checks network plan m) ≡ Passes) → n ≤ length plan
+pub lines-within : (network plan : List Line) (n : ℕ) → ((m : ℕ) → m < n → verdict (line_checks network plan m) ≡ Ok tt) → n ≤ length plan
 lines-within network plan zero h = omega arith
 lines-within network plan (suc m) h = elim (dec_le (length plan) m) [
   | yes l ↦ let z : ◌≡◌ {A = ℕ} 0 1 = none l in absurd (omega arith)
@@ -75,11 +73,11 @@ lines-within network plan (suc m) h = elim (dec_le (length plan) m) [
 
 -- what `finish` returns
 module _ (plan : List ℕ) (at steps : ℕ) (t : Totals) (b : Bool) (e : b ≡ at_end plan at) where
-  pub finish-end : b ≡ true → plan-answer.Accepted t ≡ finished plan at steps t
+  pub finish-end : b ≡ true → Ok t ≡ finished plan at steps t
   unfolding finished
   finish-end h = rw (← e, h)
 
-  pub finish-more : b ≡ false → plan-answer.Refused (refusal 9 (steps + 1) 0) ≡ finished plan at steps t
+  pub finish-more : b ≡ false → Err (refusal 9 (steps + 1) 0) ≡ finished plan at steps t
   unfolding finished
   finish-more h = rw (← e, h)
 
@@ -183,7 +181,7 @@ module _ {network_text plan_text : List ℕ} {reading : Reading} {steps : ℕ} {
       pub running-first : (held : ℕ) → held ≡ held_in reading.counts ledger → (out : ℕ) → out ≡ sum reading.counts.links (λ i. get_or waiting (0 + i) 0) → (signals : List ℕ) → SignalTable netw signals
           → {trams : List ℕ} → TramTable netw trams → Running network_text plan_text reading.counts steps trams links movements times ledger
           (record {
-            verdict = Passes;
+            verdict = Ok tt;
             state =
                 record { boundary = 0; step_at = reading.steps_at; plan_at = 0; totals = record { admitted = 0; let_out = 0; inside = held; doubled_time = 0 }; outside = out };
           }) signals arrivals curves places waiting ledger (replicate step_size 0) (replicate line_size 0)
@@ -237,7 +235,7 @@ module _ {network_text plan_text : List ℕ} {counts : Counts} {steps : ℕ} {tr
 
   module _ {after : Taken} {signals' arrivals' curves' places' waiting' ledger' step' line' : List ℕ} (got : StepGot network_text plan_text ledger taken.state after signals' arrivals' curves' places' waiting' ledger' step' line') (h : n < steps) where
     -- a step is refused
-    pub steps-stopped : {q : Refusal} → after.verdict ≡ Refused q → StepsGot network_text plan_text old steps after signals' waiting' ledger'
+    pub steps-stopped : {q : Refusal} → after.verdict ≡ Err q → StepsGot network_text plan_text old steps after signals' waiting' ledger'
     steps-stopped {q} e =
         record {
           stopped = λ q' e'. record { step = n; within = h; passed = r.state-at.passed; refused = sym got.told ∙ e'; rows = got.kept q' e' ∙ r.since };
@@ -245,7 +243,7 @@ module _ {network_text plan_text : List ℕ} {counts : Counts} {steps : ℕ} {tr
         }
 
     -- it passes
-    pub running-next : after.verdict ≡ Passes → Running network_text plan_text counts steps trams links movements times old after signals' arrivals' curves' places' waiting' ledger' step' line'
+    pub running-next : after.verdict ≡ Ok tt → Running network_text plan_text counts steps trams links movements times old after signals' arrivals' curves' places' waiting' ledger' step' line'
     running-next e =
         let m : after.state.boundary ≡ suc n = got.boundary e ∙ add-one n in
         let w = got.row_more e in
@@ -262,7 +260,7 @@ module _ {network_text plan_text : List ℕ} {counts : Counts} {steps : ℕ} {tr
           room = r.room;
         }
 
-    pub running-less : after.verdict ≡ Passes → steps - after.state.boundary < steps - n
+    pub running-less : after.verdict ≡ Ok tt → steps - after.state.boundary < steps - n
     running-less e = omega (arith, got.boundary e)
 
   -- all of them have passed
@@ -312,7 +310,7 @@ module _ {network_text plan_text : List ℕ} {reading : Reading} {links movement
   run-few = a.tables.counted.few.steps
 
   -- row n is due, and all that are due are written where the next is not
-  due : (n : ℕ) → n ≤ step_count network → ((m : ℕ) → m < n → verdict (line_checks network plan m) ≡ Passes) → RowDue network plan (length old) n
+  due : (n : ℕ) → n ≤ step_count network → ((m : ℕ) → m < n → verdict (line_checks network plan m) ≡ Ok tt) → RowDue network plan (length old) n
   due n h passed =
       record {
         in-plan = h;
@@ -327,7 +325,7 @@ module _ {network_text plan_text : List ℕ} {reading : Reading} {links movement
 
   module _ {taken : Taken} {signals waiting ledger : List ℕ} (got : StepsGot network_text plan_text old reading.counts.steps taken signals waiting ledger) where
     -- a step is refused
-    pub run-refused : {q : Refusal} → taken.verdict ≡ Refused q → RunGot network_text plan_text old (plan-answer.Refused q) ledger
+    pub run-refused : {q : Refusal} → taken.verdict ≡ Err q → RunGot network_text plan_text old (Err q) ledger
     run-refused {q} e =
         let s = got.stopped q e in
         let more : s.step < step_count network = omega (arith, s.within, a.tables.counted.steps) in
@@ -339,7 +337,7 @@ module _ {network_text plan_text : List ℕ} {reading : Reading} {links movement
         }
 
     -- all have passed
-    pub run-finished : {answer : PlanAnswer} → taken.verdict ≡ Passes → answer ≡ finished plan_text taken.state.plan_at reading.counts.steps taken.state.totals → RunGot network_text plan_text old answer ledger
+    pub run-finished : {answer : (Result Totals Refusal)} → taken.verdict ≡ Ok tt → answer ≡ finished plan_text taken.state.plan_at reading.counts.steps taken.state.totals → RunGot network_text plan_text old answer ledger
     run-finished {answer} p f = go (eqb (length plan) (step_count network)) refl
       where
         all : AllTaken network_text plan_text old (step_count network) taken.state signals waiting ledger
@@ -348,13 +346,13 @@ module _ {network_text plan_text : List ℕ} {reading : Reading} {links movement
         at-end : (b : Bool) → eqb (length plan) (step_count network) ≡ b → at_end plan_text taken.state.plan_at ≡ b
         at-end b e = plan-ends network_text plan_text taken.state.plan_at (step_count network) all.plan-starts (lines-within network plan (step_count network) all.passed) refl ∙ e
 
-        made : (b : Bool) → eqb (length plan) (step_count network) ≡ b → answer ≡ cond b (plan-answer.Accepted taken.state.totals) (plan-answer.Refused (refusal 9 (reading.counts.steps + 1) 0))
-        made b e = f ∙ (unfold finished in ap (λ x. cond x (plan-answer.Accepted taken.state.totals) (plan-answer.Refused (refusal 9 (reading.counts.steps + 1) 0))) (at-end b e))
+        made : (b : Bool) → eqb (length plan) (step_count network) ≡ b → answer ≡ cond b (Ok taken.state.totals) (Err (refusal 9 (reading.counts.steps + 1) 0))
+        made b e = f ∙ (unfold finished in ap (λ x. cond x (Ok taken.state.totals) (Err (refusal 9 (reading.counts.steps + 1) 0))) (at-end b e))
 
-        accepted-is : plan-answer.Accepted taken.state.totals ≡ plan_answer network plan Passes
-        accepted-is = unfold plan_answer in ap plan-answer.Accepted all.totals-at
+        accepted-is : Ok taken.state.totals ≡ plan_answer network plan (Ok tt)
+        accepted-is = unfold plan_answer in ap Ok all.totals-at
 
-        refused-is : (q : Refusal) → plan-answer.Refused q ≡ plan_answer network plan (Refused q)
+        refused-is : (q : Refusal) → Err q ≡ plan_answer network plan (Err q)
         refused-is q = unfold plan_answer in refl
 
         last-due : RowDue network plan (length old) (step_count network)
@@ -372,5 +370,5 @@ module _ {network_text plan_text : List ℕ} {reading : Reading} {links movement
         go true e = got-by (made true e ∙ accepted-is ∙ ap (plan_answer network plan) (sym (plan-passes network plan all.passed e)))
         go false e =
             let k : reading.counts.steps + 1 ≡ suc (step_count network) = omega (arith, a.tables.counted.steps) in
-            got-by (made false e ∙ ap (λ x. plan-answer.Refused (refusal 9 x 0)) k ∙ refused-is (refusal 9 (suc (step_count network)) 0)
+            got-by (made false e ∙ ap (λ x. Err (refusal 9 x 0)) k ∙ refused-is (refusal 9 (suc (step_count network)) 0)
             ∙ ap (plan_answer network plan) (sym (plan-surplus network plan all.passed e)))

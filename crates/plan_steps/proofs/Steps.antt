@@ -1,11 +1,7 @@
 -- What is known between the calls of one step.
 use Rattle.base_laws.proofs.Kit.{ℕ, suc, ◌+◌, ◌*◌, ◌-◌, ◌≤◌, ◌<◌, ◌≡◌, refl, sym, ap, ap₂, ◌∙◌, Bool, true, false, cond, ◌⊎◌, inl, inr, List, ◌++◌, add-one, eq-or-lt_of_le, mul-le-mul_right, dec_le, arith, length, take, drop, replicate, length-append, length-drop, length-replicate, get_or-replicate, length-take-le, leb-true}
 use Rattle.base_search.specs.declared.Refusal.{Refusal}
-use Rattle.base_search.specs.declared.Verdict.{Verdict}
-use Rattle.base_search.specs.declared.Verdict.TheVariants.{Passes, Refused}
-use Rattle.base_search.specs.Checks.{refusal, verdict, Hold}
-use Rattle.text_reader.specs.declared.LineRead.{LineRead}
-use Rattle.text_reader.specs.declared.LineRead.TheVariants.{Next, Malformed}
+use Rattle.base_search.specs.Checks.{refusal, verdict, Hold, Verdict}
 use Rattle.text_reader.specs.Lines.{Line, lines}
 use Rattle.text_reader.specs.Reading.{Starts}
 use Rattle.base_laws.specs.Test.{◌or◌}
@@ -54,6 +50,7 @@ use Rattle.plan_steps.proofs.Adding.{passed-lawful, totals-asked, totals-next}
 use Rattle.plan_steps.proofs.PlanLines.{shown-at, line-bad, line-numbers, line-good, next-starts}
 use Rattle.plan_steps.proofs.Ledger.{written-again}
 use Rattle.plan_steps.proofs.Verdicts.{formed, line-malformed, line-formed}
+use Rattle.std.specs.Prelude.{Option, Some, None, Ok, Err}
 
 -- a network that has passed has the form of an `S` line at each step
 pub step-form : (network : List Line) → Hold (network_checks network) → (n : ℕ) → n < step_count network → is_form network (step_line network n) letter_s (1 + link_count network) ≡ true
@@ -177,9 +174,9 @@ module _ {network_text plan_text : List ℕ} {counts : Counts} {table links move
     short : length_in step ≤ 60
     short = omega (arith, offers.lasts, (step-limits net valid n asked.more).length-limit)
 
-    module _ {result : LineRead} {line : List ℕ} (read : LineGot plan_text state.plan_at signals counts line₀ result line) where
+    module _ {result : (Option ℕ)} {line : List ℕ} (read : LineGot plan_text state.plan_at signals counts line₀ result line) where
       -- the line has not the form of a `P` line
-      pub step-malformed : result ≡ Malformed → StepGot network_text plan_text ledger state (record { verdict = Refused (refusal 9 (n + 1) 0); state = state }) signals arrivals curves places waiting ledger step line
+      pub step-malformed : result ≡ None → StepGot network_text plan_text ledger state (record { verdict = Err (refusal 9 (n + 1) 0); state = state }) signals arrivals curves places waiting ledger step line
       step-malformed e =
           let v = line-malformed net pln n (line-bad network_text plan_text valid counted asked.more asked.state-at.plan-starts (shown-at network_text plan_text valid asked.more asked.state-at.signals-at) asked.lent.no-volume asked.lent.line-size read e) in
           record {
@@ -191,7 +188,7 @@ module _ {network_text plan_text : List ℕ} {counts : Counts} {table links move
             row_more = λ p. let z : ◌≡◌ {A = ℕ} 0 1 = cc in absurd (omega arith);
           }
 
-      module _ {plan_end : ℕ} (e : result ≡ Next plan_end) where
+      module _ {plan_end : ℕ} (e : result ≡ Some plan_end) where
         plan-numbers : PlanNumbers net pln n line
         plan-numbers = line-numbers network_text plan_text valid counted asked.more asked.state-at.plan-starts (shown-at network_text plan_text valid asked.more asked.state-at.signals-at) asked.lent.no-volume asked.lent.line-size read e
 
@@ -289,7 +286,7 @@ module _ {network_text plan_text : List ℕ} {counts : Counts} {table links move
                     ∙ rules-are asked.tables.holds counted plan-numbers asked.tables.link-table asked.tables.movement-table asked.state-at.signals-at shown claimed offers before after ledger asked.state-at.rows asked.tables.time-table arrivals-at moved.curves-at asked.more
                     ∙ sym (line-formed net pln n is-formed)
 
-                pub step-refused : {r : Refusal} → v ≡ Refused r → StepGot network_text plan_text ledger state (record { verdict = v; state = state }) signals arrivals' curves' places' waiting ledger step line
+                pub step-refused : {r : Refusal} → v ≡ Err r → StepGot network_text plan_text ledger state (record { verdict = v; state = state }) signals arrivals' curves' places' waiting ledger step line
                 step-refused q =
                     record {
                       told = line-judged;
@@ -300,11 +297,11 @@ module _ {network_text plan_text : List ℕ} {counts : Counts} {table links move
                       row_more = λ p. let z : ◌≡◌ {A = ℕ} 0 1 = cc in absurd (omega arith);
                     }
 
-                module _ (passes : v ≡ Passes) (same : length row' ≡ length row) where
+                module _ (passes : v ≡ Ok tt) (same : length row' ≡ length row) where
                   made : row' ≡ made_row counts line movements (row_from counts ledger n) row
                   made = got.made passes
 
-                  passed-line : verdict (line_checks net pln n) ≡ Passes
+                  passed-line : verdict (line_checks net pln n) ≡ Ok tt
                   passed-line = sym line-judged ∙ passes
 
                   pub write-asked : (2 * counts.links ≤ length row') × (2 * (n + 1) * counts.links + 2 * counts.links ≤ length ledger)
@@ -351,7 +348,7 @@ module _ {network_text plan_text : List ℕ} {counts : Counts} {table links move
                         next-written net pln ledger row' (suc n) asked.state-at.rows (next-row-front counted plan-numbers asked.tables.movement-table before (drop (2 * counts.links) row) made)
                         (rw (counted.links, add-one) at wrote)
 
-                    passed-more : (m : ℕ) → m < suc n → verdict (line_checks net pln m) ≡ Passes
+                    passed-more : (m : ℕ) → m < suc n → verdict (line_checks net pln m) ≡ Ok tt
                     passed-more m l = elim (dec_le n m) [
                       | yes u ↦ let q : m ≡ n = omega arith in rw q passed-line
                       | no u ↦ asked.state-at.passed m (omega arith)

@@ -1,7 +1,5 @@
 -- The `P` line of a step, read from the plan's text or, where that is empty, made (T-07).
-use Rattle.std.specs.Prelude.{ℕ, ◌<◌, ◌≡◌, List, length}
-use Rattle.text_reader.specs.declared.LineRead.{LineRead}
-use Rattle.text_reader.specs.declared.LineRead.TheVariants.{Next}
+use Rattle.std.specs.Prelude.{ℕ, ◌<◌, ◌≡◌, List, length, Option, Some}
 use Rattle.text_reader.specs.Reading.{Starts}
 use Rattle.model.specs.Table.{letter_p}
 use Rattle.network_tables.specs.declared.Counts.{Counts}
@@ -23,8 +21,8 @@ pub record LineAsked (signals : List ℕ) (counts : Counts) (line : List ℕ) : 
   pub size : length line ≡ line_size
 
 -- .. and promises: a text that has bytes is read; an empty one has the signals keep their phases, and leaves the volumes as they were
-pub record LineGot (plan_text : List ℕ) (at : ℕ) (signals : List ℕ) (counts : Counts) (before : List ℕ) (result : LineRead) (line : List ℕ) : Type 0 where
+pub record LineGot (plan_text : List ℕ) (at : ℕ) (signals : List ℕ) (counts : Counts) (before : List ℕ) (result : Option ℕ) (line : List ℕ) : Type 0 where
   pub size : length line ≡ length before
   pub read : 0 < length plan_text → RowRead letter_p (plan_width counts) plan_text at 0 before result line
-  pub next : length plan_text ≡ 0 → result ≡ Next at
+  pub next : length plan_text ≡ 0 → result ≡ Some at
   pub held : length plan_text ≡ 0 → HeldMasks signals counts.signals before line

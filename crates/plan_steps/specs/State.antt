@@ -1,13 +1,10 @@
 -- What taking the steps of a plan one after another asks and promises.
-use Rattle.std.specs.Prelude.{ℕ, suc, ◌+◌, ◌*◌, ◌≤◌, ◌<◌, ◌≡◌, cond, List, length, get_or}
+use Rattle.std.specs.Prelude.{ℕ, suc, ◌+◌, ◌*◌, ◌≤◌, ◌<◌, ◌≡◌, cond, List, length, get_or, Result, Ok, Err}
 use Rattle.base_search.specs.declared.Refusal.{Refusal}
-use Rattle.base_search.specs.declared.Verdict.TheVariants.{Passes, Refused}
 use Rattle.base_search.specs.Checks.{refusal, verdict, Hold}
 use Rattle.text_reader.specs.Lines.{lines}
 use Rattle.text_reader.specs.Reading.{Starts, at_end}
 use Rattle.model.specs.declared.Totals.{Totals}
-use Rattle.model.specs.declared.PlanAnswer.{PlanAnswer}
-use Rattle.model.specs.declared.PlanAnswer.TheVariants as plan-answer
 use Rattle.base_laws.specs.Sum.{sum}
 use Rattle.model.specs.Network.{max_links, max_steps, link_count, signal_count, step_count, step_line}
 use Rattle.model.specs.Flows.{outside, totals}
@@ -38,7 +35,7 @@ pub record Tables (network_text : List ℕ) (counts : Counts) (links movements t
 -- the ledger has the rows up to the boundary.
 pub record StateAt (network_text plan_text : List ℕ) (state : State) (signals arrivals curves places waiting ledger : List ℕ) : Type 0 where
   pub within : state.boundary ≤ step_count (lines network_text)
-  pub passed : (m : ℕ) → m < state.boundary → verdict (line_checks (lines network_text) (plan_of network_text plan_text) m) ≡ Passes
+  pub passed : (m : ℕ) → m < state.boundary → verdict (line_checks (lines network_text) (plan_of network_text plan_text) m) ≡ Ok tt
   pub step-starts : Starts network_text state.step_at (step_line (lines network_text) state.boundary)
   pub plan-starts : PlanAt plan_text state.plan_at state.boundary
   pub signals-at : SignalsAt (lines network_text) (plan_of network_text plan_text) state.boundary signals
@@ -82,12 +79,12 @@ pub record StepAsked (network_text plan_text : List ℕ) (counts : Counts) (tram
 -- has one row more
 pub record StepGot (network_text plan_text old : List ℕ) (state : State) (taken : Taken) (signals arrivals curves places waiting ledger step line : List ℕ) : Type 0 where
   pub told : taken.verdict ≡ verdict (line_checks (lines network_text) (plan_of network_text plan_text) state.boundary)
-  pub kept : (r : Refusal) → taken.verdict ≡ Refused r → ledger ≡ old
-  pub boundary : taken.verdict ≡ Passes → taken.state.boundary ≡ state.boundary + 1
-  pub reached : taken.verdict ≡ Passes → StateAt network_text plan_text taken.state signals arrivals curves places waiting ledger
-  pub lent : taken.verdict ≡ Passes → LinesLent network_text plan_text step line
-  pub row_more : taken.verdict ≡ Passes → ledger ≡ written (lines network_text) (plan_of network_text plan_text) old (suc (suc state.boundary))
+  pub kept : (r : Refusal) → taken.verdict ≡ Err r → ledger ≡ old
+  pub boundary : taken.verdict ≡ Ok tt → taken.state.boundary ≡ state.boundary + 1
+  pub reached : taken.verdict ≡ Ok tt → StateAt network_text plan_text taken.state signals arrivals curves places waiting ledger
+  pub lent : taken.verdict ≡ Ok tt → LinesLent network_text plan_text step line
+  pub row_more : taken.verdict ≡ Ok tt → ledger ≡ written (lines network_text) (plan_of network_text plan_text) old (suc (suc state.boundary))
 
 -- the answer once all steps have passed: the plan's text is at its end, or one line more is refused
-unfoldable pub finished : List ℕ → ℕ → ℕ → Totals → PlanAnswer
-finished plan at steps t = cond (at_end plan at) (plan-answer.Accepted t) (plan-answer.Refused (refusal 9 (steps + 1) 0))
+unfoldable pub finished : List ℕ → ℕ → ℕ → Totals → Result Totals Refusal
+finished plan at steps t = cond (at_end plan at) (Ok t) (Err (refusal 9 (steps + 1) 0))

@@ -1,11 +1,9 @@
 -- What taking the steps of a plan one after another asks and promises: the first of them, and all.
-use Rattle.std.specs.Prelude.{ℕ, suc, ◌*◌, ◌≤◌, ◌<◌, ◌≡◌, List, length}
+use Rattle.std.specs.Prelude.{ℕ, suc, ◌*◌, ◌≤◌, ◌<◌, ◌≡◌, List, length, Result, Ok, Err}
 use Rattle.base_search.specs.declared.Refusal.{Refusal}
-use Rattle.base_search.specs.declared.Verdict.TheVariants.{Passes, Refused}
 use Rattle.base_search.specs.Checks.{verdict}
 use Rattle.text_reader.specs.Lines.{lines}
 use Rattle.text_reader.specs.Reading.{Starts}
-use Rattle.model.specs.declared.PlanAnswer.{PlanAnswer}
 use Rattle.model.specs.Network.{max_links, link_count, step_count, tram_line, timeline_line, step_line}
 use Rattle.model.specs.Flows.{totals}
 use Rattle.model.specs.Table.{line_checks, plan_line_checks}
@@ -20,6 +18,7 @@ use Rattle.plan_steps.specs.declared.State.{State}
 use Rattle.plan_steps.specs.declared.Taken.{Taken}
 use Rattle.plan_steps.specs.State.{Tables, StateAt, LinesLent}
 use Rattle.plan_steps.specs.PlanLine.{PlanAt}
+use Rattle.model.specs.declared.Totals.{Totals}
 
 -- what taking all steps asks ..
 pub record RunAsked (network_text plan_text : List ℕ) (reading : Reading) (links movements times signals ledger : List ℕ) : Type 0 where
@@ -31,7 +30,7 @@ pub record RunAsked (network_text plan_text : List ℕ) (reading : Reading) (lin
   pub room : 2 * suc (step_count (lines network_text)) * link_count (lines network_text) ≤ length ledger
 
 -- .. and promises: the answer, and the ledger with the rows of the steps that have passed
-pub record RunGot (network_text plan_text old : List ℕ) (answer : PlanAnswer) (ledger : List ℕ) : Type 0 where
+pub record RunGot (network_text plan_text old : List ℕ) (answer : Result Totals Refusal) (ledger : List ℕ) : Type 0 where
   pub answered : answer ≡ plan_answer (lines network_text) (plan_of network_text plan_text) (verdict (plan_line_checks (lines network_text) (plan_of network_text plan_text)))
   pub rows : ledger ≡ ledger_after (lines network_text) (plan_of network_text plan_text) old
   pub some-row : 1 ≤ rows_written (lines network_text) (plan_of network_text plan_text) (length old)
@@ -51,13 +50,13 @@ pub record StepsAsked (network_text plan_text : List ℕ) (reading : Reading) (s
 pub record Stopped (network_text plan_text old : List ℕ) (steps : ℕ) (r : Refusal) (ledger : List ℕ) : Type 0 where
   pub step : ℕ
   pub within : step < steps
-  pub passed : (m : ℕ) → m < step → verdict (line_checks (lines network_text) (plan_of network_text plan_text) m) ≡ Passes
-  pub refused : verdict (line_checks (lines network_text) (plan_of network_text plan_text) step) ≡ Refused r
+  pub passed : (m : ℕ) → m < step → verdict (line_checks (lines network_text) (plan_of network_text plan_text) m) ≡ Ok tt
+  pub refused : verdict (line_checks (lines network_text) (plan_of network_text plan_text) step) ≡ Err r
   pub rows : ledger ≡ written (lines network_text) (plan_of network_text plan_text) old (suc step)
 
 -- all of them pass: the state after them
 pub record AllTaken (network_text plan_text old : List ℕ) (steps : ℕ) (state : State) (signals waiting ledger : List ℕ) : Type 0 where
-  pub passed : (m : ℕ) → m < steps → verdict (line_checks (lines network_text) (plan_of network_text plan_text) m) ≡ Passes
+  pub passed : (m : ℕ) → m < steps → verdict (line_checks (lines network_text) (plan_of network_text plan_text) m) ≡ Ok tt
   pub plan-starts : PlanAt plan_text state.plan_at steps
   pub signals-at : SignalsAt (lines network_text) (plan_of network_text plan_text) steps signals
   pub totals-at : state.totals ≡ totals (lines network_text) (plan_of network_text plan_text) steps
@@ -66,14 +65,14 @@ pub record AllTaken (network_text plan_text old : List ℕ) (steps : ℕ) (state
 
 -- what taking the first steps promises, since the ledger was `old`
 pub record StepsGot (network_text plan_text old : List ℕ) (steps : ℕ) (taken : Taken) (signals waiting ledger : List ℕ) : Type 0 where
-  pub stopped : (r : Refusal) → taken.verdict ≡ Refused r → Stopped network_text plan_text old steps r ledger
-  pub reached : taken.verdict ≡ Passes → AllTaken network_text plan_text old steps taken.state signals waiting ledger
+  pub stopped : (r : Refusal) → taken.verdict ≡ Err r → Stopped network_text plan_text old steps r ledger
+  pub reached : taken.verdict ≡ Ok tt → AllTaken network_text plan_text old steps taken.state signals waiting ledger
 
 -- the state while they are taken
 pub record Running (network_text plan_text : List ℕ) (counts : Counts) (steps : ℕ) (trams links movements times old : List ℕ) (taken : Taken) (signals arrivals curves places waiting ledger step line : List ℕ) : Type 0 where
   pub tables : Tables network_text counts links movements times
   pub tram-table : TramTable (lines network_text) trams
-  pub passes : taken.verdict ≡ Passes
+  pub passes : taken.verdict ≡ Ok tt
   pub state-at : StateAt network_text plan_text taken.state signals arrivals curves places waiting ledger
   pub lent : LinesLent network_text plan_text step line
   pub few-steps : steps ≤ step_count (lines network_text)

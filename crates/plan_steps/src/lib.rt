@@ -8,12 +8,11 @@ ghost use Rattle.plan_steps.specs.PlanLine.{LineAsked, LineGot};
 ghost use Rattle.plan_steps.specs.Totals.{totals_after, TotalsAsked};
 ghost use Rattle.model.specs.Network.{max_steps};
 
-use base_search::{Refusal, Verdict};
-use model::{PlanAnswer, Totals};
+use base_search::Refusal;
+use model::Totals;
 use network_tables::{
     Counts, LINE_SIZE, MAX_LINKS, MAX_SIGNALS, ROW_SIZE, Reading, STEP_SIZE, TRAM_TABLE_SIZE, wide,
 };
-use text_reader::LineRead;
 
 // The state at a boundary: where the `S` and the `P` line of the next step start, the totals so far, and how many wait outside. The signals stand in a table that
 // is lent, since a copy of them a step costs more than the rest of the step's state.
@@ -29,7 +28,7 @@ pub struct State {
 // What a step comes to: the verdict on it, and where it passes the state after it.
 #[derive(Clone, Copy)]
 pub struct Taken {
-    pub verdict: Verdict,
+    pub verdict: Result<(), Refusal>,
     pub state: State,
 }
 
@@ -88,13 +87,13 @@ pub fn read_line(
     signals: &[u32],
     counts: Counts,
     line: &mut [u32],
-) -> LineRead
+) -> Option<usize>
     requires { LineAsked signals.now counts line.old }
     ensures { LineGot plan.now at signals.now counts line.old result line.new }
 {
     if plan.len() == 0 {
         step_signals::hold_masks(signals, counts.signals, line);
-        return LineRead::Next(at);
+        return Some(at);
     }
     network_tables::read_row(plan, at, b'P', line, 0, counts.plan_width())
 }
@@ -129,8 +128,8 @@ fn take_step(
     let step_end = network_steps::load_step(network, state.step_at, counts.links, step);
     step_rows::add_waiting(waiting, counts.links, step);
     let read = read_line(plan, state.plan_at, signals, counts, line);
-    let LineRead::Next(plan_end) = read else {
-        let verdict = Verdict::Refused(Refusal::new(9, n + 1, 0));
+    let Some(plan_end) = read else {
+        let verdict = Err(Refusal::new(9, n + 1, 0));
         return Taken { verdict, state };
     };
     step_signals::shown_phases(signals, counts.signals, line, &mut phases);
@@ -149,7 +148,7 @@ fn take_step(
         signals, line, step, links, movements, &phases, &asked, ledger, times, arrivals, curves,
         &mut row, counts, n,
     );
-    let Verdict::Passes = verdict else {
+    let Ok(()) = verdict else {
         return Taken { verdict, state };
     };
     step_rows::write_row(ledger, 2 * (n + 1) * counts.links, &row, 2 * counts.links);
@@ -165,14 +164,14 @@ fn take_step(
 }
 
 // The answer once all steps have passed.
-fn finish(plan: &[u8], at: usize, steps: usize, totals: Totals) -> PlanAnswer
+fn finish(plan: &[u8], at: usize, steps: usize, totals: Totals) -> Result<Totals, Refusal>
     requires { steps ≤ max_steps }
     ensures { result ≡ finished plan.now at steps totals }
 {
     if text_reader::is_end(plan, at) {
-        PlanAnswer::Accepted(totals)
+        Ok(totals)
     } else {
-        PlanAnswer::Refused(Refusal::new(9, steps + 1, 0))
+        Err(Refusal::new(9, steps + 1, 0))
     }
 }
 
@@ -225,7 +224,7 @@ pub fn take_steps(
         outside: step_rows::sum_of(waiting, 0, counts.links),
     };
     let mut taken = Taken {
-        verdict: Verdict::Passes,
+        verdict: Ok(()),
         state,
     };
     let mut step = [0u32; STEP_SIZE];
@@ -251,7 +250,7 @@ pub fn take_steps(
             state,
         );
         let verdict = taken.verdict;
-        let Verdict::Passes = verdict else {
+        let Ok(()) = verdict else {
             return taken;
         };
     }
@@ -268,7 +267,7 @@ pub fn run_steps(
     times: &[u32],
     signals: &mut [u32],
     ledger: &mut [u32],
-) -> PlanAnswer
+) -> Result<Totals, Refusal>
     requires { RunAsked network.now plan.now reading links.now movements.now times.now signals.old ledger.old }
     ensures { RunGot network.now plan.now ledger.old result ledger.new }
 {
@@ -287,8 +286,8 @@ pub fn run_steps(
         ledger,
     );
     let verdict = taken.verdict;
-    if let Verdict::Refused(refusal) = verdict {
-        return PlanAnswer::Refused(refusal);
+    if let Err(refusal) = verdict {
+        return Err(refusal);
     }
     let totals = taken.state.totals;
     finish(plan, taken.state.plan_at, steps, totals)

@@ -2,9 +2,7 @@
 use Rattle.base_laws.proofs.Kit.{ℕ, ◌≡◌, refl, sym, ap, ◌∙◌, List, arith}
 use lib.Ieee.{Float}
 use Rattle.base_search.specs.declared.Refusal.{Refusal}
-use Rattle.base_search.specs.declared.Verdict.{Verdict}
-use Rattle.base_search.specs.declared.Verdict.TheVariants.{Passes, Refused}
-use Rattle.base_search.specs.Checks.{Checks, ◌then◌, or_else, verdict}
+use Rattle.base_search.specs.Checks.{Checks, ◌then◌, or_else, verdict, Verdict}
 use Rattle.base_search.specs.Numbers.{is_one_of}
 use Rattle.base_search.proofs.Laws.{or-else-refused, hold-of-passes, passes-of-hold}
 use Rattle.base_search.proofs.Numbers.{Numbered, refused-number}
@@ -41,6 +39,7 @@ use Rattle.plancheck_c.specs.declared.CellsResult.{CellsResult}
 use Rattle.plancheck_c.specs.declared.ComparisonResult.{ComparisonResult}
 use Rattle.plancheck_c.specs.declared.SplitResult.{SplitResult}
 use Rattle.plancheck_c.specs.Results.{NumberTells, verdict_result, counts_result, plan_result, link_result, text_result, comparison_result, split_result, cells_result}
+use Rattle.std.specs.Prelude.{Ok, Err}
 
 -- the number that is told of a verdict
 abbrev pub number_of : Verdict → ℕ
@@ -51,12 +50,12 @@ module _ (checks : Checks) (numbers : List ℕ) {number : ℕ} where
   tells numbered told = go (verdict checks) refl told
     where
       go : (v : Verdict) → verdict checks ≡ v → number ≡ number_of v → NumberTells checks numbers number
-      go Passes v e = record { zero-holds = λ z. hold-of-passes checks v; holds-zero = λ h. e; arises = λ n. absurd (n e) }
-      go (Refused r) v e =
+      go (Ok tt) v e = record { zero-holds = λ z. hold-of-passes checks v; holds-zero = λ h. e; arises = λ n. absurd (n e) }
+      go (Err r) v e =
           let a = refused-number numbers checks r numbered v in
           record {
             zero-holds = λ z. absurd (omega (arith, a.not-0));
-            holds-zero = λ h. (let p : Passes ≡ Refused r = sym (passes-of-hold checks h) ∙ v in cc);
+            holds-zero = λ h. (let p : (Ok tt) ≡ Err r = sym (passes-of-hold checks h) ∙ v in cc);
             arises = λ n. rw e a;
           }
 
@@ -67,8 +66,8 @@ network-tells network e = tells _ network_numbers (network-numbered network) (ap
 
 counts-number : (network : List Line) (v : Verdict) → (counts_result (counts_answer network v)).number ≡ number_of v
 unfolding counts_answer
-counts-number network Passes = refl
-counts-number network (Refused r) = refl
+counts-number network (Ok tt) = refl
+counts-number network (Err r) = refl
 
 pub counts-tells : (network : List Line) {r : CountsResult} → r ≡ counts_result (count_network network) → NumberTells (network_checks network) network_numbers r.number
 unfolding count_network check_network
@@ -77,8 +76,8 @@ counts-tells network e = tells _ network_numbers (network-numbered network) (ap 
 module _ (network : List Line) (ledger : List ℕ) (boundary link : ℕ) where
   link-number : (v : Verdict) → (link_result (link_answer network ledger boundary link v)).number ≡ number_of v
   unfolding link_answer
-  link-number Passes = refl
-  link-number (Refused r) = refl
+  link-number (Ok tt) = refl
+  link-number (Err r) = refl
 
   pub link-tells : {r : LinkResult} → r ≡ link_result (link_state network ledger boundary link) → NumberTells (state_checks network ledger boundary link) state_numbers r.number
   unfolding link_state
@@ -88,8 +87,8 @@ module _ (network : List Line) (ledger : List ℕ) (boundary link : ℕ) where
 module _ (network plan : List Line) where
   plan-number : (v : Verdict) → (plan_result (plan_answer network plan v)).number ≡ number_of v
   unfolding plan_answer
-  plan-number Passes = refl
-  plan-number (Refused r) = refl
+  plan-number (Ok tt) = refl
+  plan-number (Err r) = refl
 
   pub plan-tells : (size : ℕ) {r : PlanResult} → r ≡ plan_result (check_plan network plan size) → NumberTells (plan_checks network plan size) plan_numbers r.number
   unfolding check_plan
@@ -103,21 +102,21 @@ module _ (network plan : List Line) where
 module _ (network first second : List Line) where
   plans-number : (o : Order) (v w : Verdict) → (comparison_result (plans_answer o (plan_answer network first v) (plan_answer network second w))).number ≡ number_of (or_else v w)
   unfolding plans_answer plan_answer or_else
-  plans-number o Passes Passes = refl
-  plans-number o Passes (Refused r) = refl
-  plans-number o (Refused r) w = refl
+  plans-number o (Ok tt) (Ok tt) = refl
+  plans-number o (Ok tt) (Err r) = refl
+  plans-number o (Err r) w = refl
 
   module _ (first_size second_size : ℕ) where
     -- a network's refusal is that of the first plan
-    refused-first : (r : Refusal) → verdict (network_checks network) ≡ Refused r → verdict (plan_checks network first first_size) ≡ Refused r
+    refused-first : (r : Refusal) → verdict (network_checks network) ≡ Err r → verdict (plan_checks network first first_size) ≡ Err r
     unfolding plan_checks verdict
     refused-first r e = or-else-refused _ _ r e
 
-    by-network : (o : Order) (u v w : Verdict) → ((r : Refusal) → u ≡ Refused r → v ≡ Refused r)
+    by-network : (o : Order) (u v w : Verdict) → ((r : Refusal) → u ≡ Err r → v ≡ Err r)
         → (comparison_result (network_answer u (plans_answer o (plan_answer network first v) (plan_answer network second w)))).number ≡ number_of (or_else v w)
     unfolding network_answer or_else
-    by-network o Passes v w h = plans-number o v w
-    by-network o (Refused r) v w h = rw (h r refl)
+    by-network o (Ok tt) v w h = plans-number o v w
+    by-network o (Err r) v w h = rw (h r refl)
 
     compared-number : (comparison_result (compare_plans network first second first_size second_size)).number ≡ number_of (verdict (plan_checks network first first_size then plan_checks network second second_size))
     unfolding compare_plans check_network check_plan verdict
@@ -132,8 +131,8 @@ module _ (network first second : List Line) where
 -- ---- calls that write a text
 text-number : (text : List ℕ) (v : Verdict) → (text_result (text_answer text v)).number ≡ number_of v
 unfolding text_answer
-text-number text Passes = refl
-text-number text (Refused r) = refl
+text-number text (Ok tt) = refl
+text-number text (Err r) = refl
 
 pub sheet-plan-tells : (network sheet : List Line) (size : ℕ) {r : TextResult} → r ≡ text_result (plan_from_sheet network sheet size)
     → NumberTells (write_checks network sheet size) sheet_plan_numbers r.number
@@ -156,8 +155,8 @@ unfolding split_network
 split-tells network plan set room e = tells _ split_numbers (split-numbered network plan set room) (ap (λ (x : SplitResult). x.number) e ∙ number _)
   where
     number : (v : Verdict) → (split_result (split_answer network plan set v)).number ≡ number_of v
-    number Passes = unfold split_answer in refl
-    number (Refused r) = unfold split_answer in refl
+    number (Ok tt) = unfold split_answer in refl
+    number (Err r) = unfold split_answer in refl
 
 -- ---- cells and vehicles
 pub cells-tells : (text : List Line) (volumes : List ℕ) {r : CellsResult} → r ≡ cells_result (run_cells text) volumes → NumberTells (corridor_checks text) cells_numbers r.number
@@ -165,8 +164,8 @@ unfolding run_cells
 cells-tells text volumes e = tells _ cells_numbers (corridor-numbered text) (ap (λ (x : CellsResult). x.number) e ∙ number _)
   where
     number : (v : Verdict) → (cells_result (answer_of v text) volumes).number ≡ number_of v
-    number Passes = unfold answer_of in refl
-    number (Refused r) = unfold answer_of in refl
+    number (Ok tt) = unfold answer_of in refl
+    number (Err r) = unfold answer_of in refl
 
 pub vehicles-tells : (places advances lines : List Float) (spacing : Float) {r : NetworkResult} → r ≡ verdict_result (step_vehicles places advances lines spacing)
     → NumberTells (step_checks places advances lines spacing) vehicles_numbers r.number

@@ -1,18 +1,10 @@
 -- What holds of an answer holds of the answer that its result is read as, since no refusal has the number 0.
 use Rattle.base_laws.proofs.Kit.{ℕ, ◌≡◌, refl, sym, subst, false, List, arith, ne_eqb, eqb}
 use Rattle.base_search.specs.declared.Refusal.{Refusal}
-use Rattle.base_search.specs.declared.Verdict.{Verdict}
-use Rattle.base_search.specs.declared.Verdict.TheVariants.{Passes, Refused}
 use Rattle.base_search.specs.Numbers.{CanArise}
-use Rattle.model.specs.declared.PlanAnswer.{PlanAnswer}
-use Rattle.model.specs.declared.PlanAnswer.TheVariants as plan-answer
-use Rattle.model_text.specs.declared.TextAnswer.{TextAnswer}
-use Rattle.model_text.specs.declared.TextAnswer.TheVariants as text-answer
 use Rattle.plan_compare.specs.declared.Order.TheVariants.{Ahead, Behind, Equal, Crossing}
 use Rattle.plan_compare.specs.declared.ComparisonAnswer.{ComparisonAnswer}
 use Rattle.plan_compare.specs.declared.ComparisonAnswer.TheVariants as comparison-answer
-use Rattle.model_split.specs.declared.SplitAnswer.{SplitAnswer}
-use Rattle.model_split.specs.declared.SplitAnswer.TheVariants as split-answer
 use Rattle.cells_call.specs.declared.CellsAnswer.{CellsAnswer}
 use Rattle.cells_call.specs.declared.CellsAnswer.TheVariants as cells-answer
 use Rattle.plancheck_c.specs.declared.NetworkResult.{NetworkResult}
@@ -21,37 +13,41 @@ use Rattle.plancheck_c.specs.declared.TextResult.{TextResult}
 use Rattle.plancheck_c.specs.declared.ComparisonResult.{ComparisonResult}
 use Rattle.plancheck_c.specs.declared.SplitResult.{SplitResult}
 use Rattle.plancheck_c.specs.Results.{verdict_result, verdict_of, plan_result, plan_answer_of, text_result, text_answer_of, comparison_result, comparison_answer_of, split_result, split_answer_of, cells_result, cells_answer_of}
+use Rattle.std.specs.Prelude.{Result, Ok, Err}
+use Rattle.model_split.specs.declared.Lengths.{Lengths}
+use Rattle.model.specs.declared.Totals.{Totals}
+use Rattle.base_search.specs.Checks.{Verdict}
 
 module _ {numbers : List ℕ} where
   not-zero : (r : Refusal) → CanArise numbers r.number → eqb r.number 0 ≡ false
   not-zero r a = ne_eqb r.number 0 (λ e. omega (arith, a.not-0))
 
-  verdict-back : (a : Verdict) → ((q : Refusal) → a ≡ Refused q → CanArise numbers q.number) → verdict_of (verdict_result a) ≡ a
-  verdict-back Passes h = refl
-  verdict-back (Refused r) h = rw (not-zero r (h r refl))
+  verdict-back : (a : Verdict) → ((q : Refusal) → a ≡ Err q → CanArise numbers q.number) → verdict_of (verdict_result a) ≡ a
+  verdict-back (Ok tt) h = refl
+  verdict-back (Err r) h = rw (not-zero r (h r refl))
 
-  pub of-verdict : (P : Verdict → Type 0) (a : Verdict) (r : NetworkResult) → r ≡ verdict_result a → ((q : Refusal) → a ≡ Refused q → CanArise numbers q.number) → P a → P (verdict_of r)
+  pub of-verdict : (P : Verdict → Type 0) (a : Verdict) (r : NetworkResult) → r ≡ verdict_result a → ((q : Refusal) → a ≡ Err q → CanArise numbers q.number) → P a → P (verdict_of r)
   of-verdict P a r e h p = rw e (subst P (sym (verdict-back a h)) p)
 
-  plan-back : (a : PlanAnswer) → ((q : Refusal) → a ≡ plan-answer.Refused q → CanArise numbers q.number) → plan_answer_of (plan_result a) ≡ a
-  plan-back (plan-answer.Accepted t) h = refl
-  plan-back (plan-answer.Refused r) h = rw (not-zero r (h r refl))
+  plan-back : (a : Result Totals Refusal) → ((q : Refusal) → a ≡ Err q → CanArise numbers q.number) → plan_answer_of (plan_result a) ≡ a
+  plan-back (Ok t) h = refl
+  plan-back (Err r) h = rw (not-zero r (h r refl))
 
-  pub of-plan : (P : PlanAnswer → Type 0) (a : PlanAnswer) (r : PlanResult) → r ≡ plan_result a → ((q : Refusal) → a ≡ plan-answer.Refused q → CanArise numbers q.number) → P a → P (plan_answer_of r)
+  pub of-plan : (P : Result Totals Refusal → Type 0) (a : Result Totals Refusal) (r : PlanResult) → r ≡ plan_result a → ((q : Refusal) → a ≡ Err q → CanArise numbers q.number) → P a → P (plan_answer_of r)
   of-plan P a r e h p = rw e (subst P (sym (plan-back a h)) p)
 
-  text-back : (a : TextAnswer) → ((q : Refusal) → a ≡ text-answer.Refused q → CanArise numbers q.number) → text_answer_of (text_result a) ≡ a
-  text-back (text-answer.Written end) h = refl
-  text-back (text-answer.Refused r) h = rw (not-zero r (h r refl))
+  text-back : (a : Result ℕ Refusal) → ((q : Refusal) → a ≡ Err q → CanArise numbers q.number) → text_answer_of (text_result a) ≡ a
+  text-back (Ok end) h = refl
+  text-back (Err r) h = rw (not-zero r (h r refl))
 
-  pub of-text : (P : TextAnswer → Type 0) (a : TextAnswer) (r : TextResult) → r ≡ text_result a → ((q : Refusal) → a ≡ text-answer.Refused q → CanArise numbers q.number) → P a → P (text_answer_of r)
+  pub of-text : (P : Result ℕ Refusal → Type 0) (a : Result ℕ Refusal) (r : TextResult) → r ≡ text_result a → ((q : Refusal) → a ≡ Err q → CanArise numbers q.number) → P a → P (text_answer_of r)
   of-text P a r e h p = rw e (subst P (sym (text-back a h)) p)
 
-  split-back : (a : SplitAnswer) → ((q : Refusal) → a ≡ split-answer.Refused q → CanArise numbers q.number) → split_answer_of (split_result a) ≡ a
-  split-back (split-answer.Written end) h = refl
-  split-back (split-answer.Refused r) h = rw (not-zero r (h r refl))
+  split-back : (a : Result Lengths Refusal) → ((q : Refusal) → a ≡ Err q → CanArise numbers q.number) → split_answer_of (split_result a) ≡ a
+  split-back (Ok end) h = refl
+  split-back (Err r) h = rw (not-zero r (h r refl))
 
-  pub of-split : (P : SplitAnswer → Type 0) (a : SplitAnswer) (r : SplitResult) → r ≡ split_result a → ((q : Refusal) → a ≡ split-answer.Refused q → CanArise numbers q.number) → P a → P (split_answer_of r)
+  pub of-split : (P : Result Lengths Refusal → Type 0) (a : Result Lengths Refusal) (r : SplitResult) → r ≡ split_result a → ((q : Refusal) → a ≡ Err q → CanArise numbers q.number) → P a → P (split_answer_of r)
   of-split P a r e h p = rw e (subst P (sym (split-back a h)) p)
 
   comparison-back : (a : ComparisonAnswer) → ((plan : ℕ) (q : Refusal) → a ≡ comparison-answer.Refused plan q → CanArise numbers q.number) → comparison_answer_of (comparison_result a) ≡ a

@@ -1,23 +1,13 @@
 -- The numbers that the C library gives for each answer: a refusal's number, line and item, or number 0 and the values.
-use Rattle.std.specs.Prelude.{ℕ, cond, List, ◌≡◌, ◌≢◌, eqb, pos}
-use Rattle.base_search.specs.declared.Verdict.{Verdict}
-use Rattle.base_search.specs.declared.Verdict.TheVariants.{Passes, Refused}
-use Rattle.base_search.specs.Checks.{refusal, Checks, Hold}
+use Rattle.std.specs.Prelude.{ℕ, cond, List, ◌≡◌, ◌≢◌, eqb, pos, Result, Ok, Err}
+use Rattle.base_search.specs.Checks.{refusal, Checks, Hold, Verdict}
 use Rattle.base_search.specs.Numbers.{CanArise}
-use Rattle.model.specs.declared.PlanAnswer.{PlanAnswer}
-use Rattle.model.specs.declared.PlanAnswer.TheVariants as plan-answer
-use Rattle.model.specs.declared.LinkAnswer.{LinkAnswer}
-use Rattle.model.specs.declared.LinkAnswer.TheVariants as link-answer
 use Rattle.network.specs.declared.CountsAnswer.{CountsAnswer}
 use Rattle.network.specs.declared.CountsAnswer.TheVariants as counts-answer
-use Rattle.model_text.specs.declared.TextAnswer.{TextAnswer}
-use Rattle.model_text.specs.declared.TextAnswer.TheVariants as text-answer
 use Rattle.plan_compare.specs.declared.Order.{Order}
 use Rattle.plan_compare.specs.declared.Order.TheVariants.{Ahead, Behind, Equal, Crossing}
 use Rattle.plan_compare.specs.declared.ComparisonAnswer.{ComparisonAnswer}
 use Rattle.plan_compare.specs.declared.ComparisonAnswer.TheVariants as comparison-answer
-use Rattle.model_split.specs.declared.SplitAnswer.{SplitAnswer}
-use Rattle.model_split.specs.declared.SplitAnswer.TheVariants as split-answer
 use Rattle.cells_call.specs.declared.CellsAnswer.{CellsAnswer}
 use Rattle.cells_call.specs.declared.CellsAnswer.TheVariants as cells-answer
 use Rattle.plancheck_c.specs.declared.NetworkResult.{NetworkResult}
@@ -29,6 +19,10 @@ use Rattle.plancheck_c.specs.declared.TextResult.{TextResult}
 use Rattle.plancheck_c.specs.declared.CellsResult.{CellsResult}
 use Rattle.plancheck_c.specs.declared.ComparisonResult.{ComparisonResult}
 use Rattle.plancheck_c.specs.declared.SplitResult.{SplitResult}
+use Rattle.model_split.specs.declared.Lengths.{Lengths}
+use Rattle.model.specs.declared.LinkState.{LinkState}
+use Rattle.base_search.specs.declared.Refusal.{Refusal}
+use Rattle.model.specs.declared.Totals.{Totals}
 
 -- What a C caller reads off a result's number: 0 exactly where every check of the call holds, else one of the numbers with which the call refuses.
 pub record NumberTells (checks : Checks) (numbers : List ℕ) (number : ℕ) : Type 0 where
@@ -37,12 +31,12 @@ pub record NumberTells (checks : Checks) (numbers : List ℕ) (number : ℕ) : T
   pub arises : number ≢ 0 → CanArise numbers number
 
 abbrev pub verdict_result : Verdict → NetworkResult
-verdict_result Passes = record { number = 0; line = 0; item = 0 }
-verdict_result (Refused r) = record { number = r.number; line = r.line; item = r.item }
+verdict_result (Ok tt) = record { number = 0; line = 0; item = 0 }
+verdict_result (Err r) = record { number = r.number; line = r.line; item = r.item }
 
 -- the verdict that a C caller reads off: number 0 passes, any other is a refusal
 abbrev pub verdict_of : NetworkResult → Verdict
-verdict_of r = cond (eqb r.number 0) Passes (Refused (refusal r.number r.line r.item))
+verdict_of r = cond (eqb r.number 0) (Ok tt) (Err (refusal r.number r.line r.item))
 
 abbrev pub counts_result : CountsAnswer → CountsResult
 counts_result (counts-answer.Counted links signals movements steps trams past) =
@@ -54,29 +48,29 @@ counts_result (counts-answer.Refused r) =
 abbrev pub version : VersionResult
 version = record { major = 0; minor = 3; patch = 0 }
 
-abbrev pub plan_result : PlanAnswer → PlanResult
-plan_result (plan-answer.Accepted t) =
+abbrev pub plan_result : Result Totals Refusal → PlanResult
+plan_result (Ok t) =
     record { number = 0; line = 0; item = 0; admitted = t.admitted; let_out = t.let_out; inside = t.inside; doubled_time = t.doubled_time }
-plan_result (plan-answer.Refused r) =
+plan_result (Err r) =
     record { number = r.number; line = r.line; item = r.item; admitted = 0; let_out = 0; inside = 0; doubled_time = 0 }
 
 -- the answer that a C caller reads off: number 0 is an accepted plan, any other a refusal
-abbrev pub plan_answer_of : PlanResult → PlanAnswer
+abbrev pub plan_answer_of : PlanResult → Result Totals Refusal
 plan_answer_of r =
-    cond (eqb r.number 0) (plan-answer.Accepted (record { admitted = r.admitted; let_out = r.let_out; inside = r.inside; doubled_time = r.doubled_time }))
-    (plan-answer.Refused (refusal r.number r.line r.item))
+    cond (eqb r.number 0) (Ok (record { admitted = r.admitted; let_out = r.let_out; inside = r.inside; doubled_time = r.doubled_time }))
+    (Err (refusal r.number r.line r.item))
 
-abbrev pub link_result : LinkAnswer → LinkResult
-link_result (link-answer.State queued in_transit) = record { number = 0; line = 0; item = 0; queued = queued; in_transit = in_transit }
-link_result (link-answer.Refused r) = record { number = r.number; line = r.line; item = r.item; queued = 0; in_transit = 0 }
+abbrev pub link_result : Result LinkState Refusal → LinkResult
+link_result (Ok state) = record { number = 0; line = 0; item = 0; queued = state.queued; in_transit = state.in_transit }
+link_result (Err r) = record { number = r.number; line = r.line; item = r.item; queued = 0; in_transit = 0 }
 
-abbrev pub text_result : TextAnswer → TextResult
-text_result (text-answer.Written end) = record { number = 0; line = 0; item = 0; length = end }
-text_result (text-answer.Refused r) = record { number = r.number; line = r.line; item = r.item; length = 0 }
+abbrev pub text_result : Result ℕ Refusal → TextResult
+text_result (Ok end) = record { number = 0; line = 0; item = 0; length = end }
+text_result (Err r) = record { number = r.number; line = r.line; item = r.item; length = 0 }
 
 -- the answer that a C caller reads off: number 0 is a text written, any other a refusal
-abbrev pub text_answer_of : TextResult → TextAnswer
-text_answer_of r = cond (eqb r.number 0) (text-answer.Written r.length) (text-answer.Refused (refusal r.number r.line r.item))
+abbrev pub text_answer_of : TextResult → Result ℕ Refusal
+text_answer_of r = cond (eqb r.number 0) (Ok r.length) (Err (refusal r.number r.line r.item))
 
 abbrev pub cells_result : CellsAnswer → List ℕ → CellsResult
 cells_result (cells-answer.Ran cells flow_in flow_out) volumes =
@@ -109,8 +103,8 @@ comparison_answer_of r =
     cond (eqb r.number 0) (comparison-answer.Compared (order_of r.order) r.gap)
     (comparison-answer.Refused r.plan (refusal r.number r.line r.item))
 
-abbrev pub split_result : SplitAnswer → SplitResult
-split_result (split-answer.Written end) =
+abbrev pub split_result : Result Lengths Refusal → SplitResult
+split_result (Ok end) =
     record {
       number = 0;
       line = 0;
@@ -120,12 +114,12 @@ split_result (split-answer.Written end) =
       network_2 = end.network_2;
       plan_2 = end.plan_2;
     }
-split_result (split-answer.Refused r) =
+split_result (Err r) =
     record { number = r.number; line = r.line; item = r.item; network_1 = 0; plan_1 = 0; network_2 = 0; plan_2 = 0 }
 
 -- the answer that a C caller reads off: number 0 is four texts written, any other a refusal
-abbrev pub split_answer_of : SplitResult → SplitAnswer
+abbrev pub split_answer_of : SplitResult → Result Lengths Refusal
 split_answer_of r =
     cond (eqb r.number 0)
-    (split-answer.Written (record { network_1 = r.network_1; plan_1 = r.plan_1; network_2 = r.network_2; plan_2 = r.plan_2 }))
-    (split-answer.Refused (refusal r.number r.line r.item))
+    (Ok (record { network_1 = r.network_1; plan_1 = r.plan_1; network_2 = r.network_2; plan_2 = r.plan_2 }))
+    (Err (refusal r.number r.line r.item))

@@ -31,13 +31,11 @@ ghost use Rattle.model_split.specs.Splits.{SplitInTwo, room_of};
 ghost use Rattle.split.specs.Splitting.{texts, buffers, SplitGot};
 ghost use Rattle.plancheck_c.specs.Results.{NumberTells, verdict_result, verdict_of, counts_result, version, plan_result, plan_answer_of, link_result, text_result, text_answer_of, order_number, comparison_result, comparison_answer_of, split_result, split_answer_of, cells_result, cells_answer_of};
 
-use base_search::Verdict;
 use cells_call::CellsAnswer;
-use model::{LinkAnswer, PlanAnswer};
-use model_split::SplitAnswer;
-use model_text::TextAnswer;
+use model::{LinkAnswer, LinkState, Totals};
 use network::CountsAnswer;
 use plan_compare::{ComparisonAnswer, Order};
+use base_search::Refusal;
 
 // The answer of a network's check or of a step of vehicles; number 0: the network is valid, the vehicles have moved.
 #[repr(C)]
@@ -154,16 +152,16 @@ pub extern "C" fn plancheck_check_network(network: &[u8]) -> NetworkResult
     verdict_result(network::check_network(network))
 }
 
-fn verdict_result(verdict: Verdict) -> NetworkResult
+fn verdict_result(verdict: Result<(), Refusal>) -> NetworkResult
     ensures { result ≡ verdict_result verdict }
 {
     match verdict {
-        Verdict::Passes => NetworkResult {
+        Ok(()) => NetworkResult {
             number: 0,
             line: 0,
             item: 0,
         },
-        Verdict::Refused(refusal) => NetworkResult {
+        Err(refusal) => NetworkResult {
             number: refusal.number,
             line: refusal.line,
             item: refusal.item,
@@ -237,11 +235,11 @@ pub extern "C" fn plancheck_check_plan(
     plan_result(plan_check::check_plan(network, plan, ledger))
 }
 
-fn plan_result(answer: PlanAnswer) -> PlanResult
+fn plan_result(answer: Result<Totals, Refusal>) -> PlanResult
     ensures { result ≡ plan_result answer }
 {
     match answer {
-        PlanAnswer::Accepted(totals) => PlanResult {
+        Ok(totals) => PlanResult {
             number: 0,
             line: 0,
             item: 0,
@@ -250,7 +248,7 @@ fn plan_result(answer: PlanAnswer) -> PlanResult
             inside: totals.inside,
             doubled_time: totals.doubled_time,
         },
-        PlanAnswer::Refused(r) => PlanResult {
+        Err(r) => PlanResult {
             number: r.number,
             line: r.line,
             item: r.item,
@@ -303,14 +301,14 @@ pub extern "C" fn plancheck_link_state(
     ensures padding_ignored { PaddingIgnored network.now (λ padded. result ≡ link_result (link_state (lines padded) ledger.now boundary link)) }
 {
     match plan_link_state::link_state(network, ledger, boundary, link) {
-        LinkAnswer::State { queued, in_transit } => LinkResult {
+        LinkState { queued, in_transit } => LinkResult {
             number: 0,
             line: 0,
             item: 0,
             queued,
             in_transit,
         },
-        LinkAnswer::Refused(r) => LinkResult {
+        Err(r) => LinkResult {
             number: r.number,
             line: r.line,
             item: r.item,
@@ -320,17 +318,17 @@ pub extern "C" fn plancheck_link_state(
     }
 }
 
-fn text_result(answer: TextAnswer) -> TextResult
+fn text_result(answer: Result<usize, Refusal>) -> TextResult
     ensures { result ≡ text_result answer }
 {
     match answer {
-        TextAnswer::Written(length) => TextResult {
+        Ok(length) => TextResult {
             number: 0,
             line: 0,
             item: 0,
             length,
         },
-        TextAnswer::Refused(r) => TextResult {
+        Err(r) => TextResult {
             number: r.number,
             line: r.line,
             item: r.item,
@@ -433,7 +431,7 @@ pub extern "C" fn plancheck_split(
     match split::split(
         network, plan, first_half, network_1, plan_1, network_2, plan_2,
     ) {
-        SplitAnswer::Written(lengths) => SplitResult {
+        Ok(lengths) => SplitResult {
             number: 0,
             line: 0,
             item: 0,
@@ -442,7 +440,7 @@ pub extern "C" fn plancheck_split(
             network_2: lengths.network_2,
             plan_2: lengths.plan_2,
         },
-        SplitAnswer::Refused(r) => SplitResult {
+        Err(r) => SplitResult {
             number: r.number,
             line: r.line,
             item: r.item,

@@ -5,13 +5,12 @@ use Rattle.text_writer.specs.Records.{record_text}
 use Rattle.text_writer.specs.Writing.{Wrote}
 use Rattle.text_writer.proofs.Laws.{wrote-more, wrote-length, record-most, records-most}
 use Rattle.model.specs.declared.Totals.{Totals}
-use Rattle.model.specs.declared.PlanAnswer.{PlanAnswer}
-use Rattle.model.specs.declared.PlanAnswer.TheVariants.{Accepted, Refused}
 use Rattle.network_tables.specs.declared.Counts.{Counts}
 use Rattle.network_tables.specs.Places.{Few}
 use Rattle.plancheck_report.specs.Boundaries.{ledger_numbers, boundary_texts, RowsAsked}
 use Rattle.plancheck_report.specs.Answer.{totals_text, refusal_text, answer_text}
 use Rattle.plancheck_report.proofs.Boundaries.{boundary-length}
+use Rattle.std.specs.Prelude.{Result, Ok, Err}
 
 texts-length : (counts : Counts) (times ledger : List ℕ) → Few counts → length (boundary_texts counts times ledger) ≤ 127_292
 texts-length counts times ledger few =
@@ -40,12 +39,12 @@ pub refusal-wrote : {x y z : ℕ} (r : Refusal) {old new : List ℕ} {answer : �
 refusal-wrote r e f g w = rw (e, f, g) at w
 
 -- ---- an answer that is known
-module _ (counts : Counts) (times ledger : List ℕ) {old new : List ℕ} {answer : PlanAnswer} {r : ℕ} where
-  pub accepted-told : {t : Totals} → answer ≡ Accepted t
+module _ (counts : Counts) (times ledger : List ℕ) {old new : List ℕ} {answer : (Result Totals Refusal)} {r : ℕ} where
+  pub accepted-told : {t : Totals} → answer ≡ Ok t
       → Wrote (totals_text t ++ boundary_texts counts times ledger) 0 old new r → Wrote (answer_text counts times answer ledger) 0 old new r
   unfolding answer_text
   accepted-told e w = rw e w
 
-  pub refused-told : {x : Refusal} → answer ≡ Refused x → Wrote (refusal_text x) 0 old new r → Wrote (answer_text counts times answer ledger) 0 old new r
+  pub refused-told : {x : Refusal} → answer ≡ Err x → Wrote (refusal_text x) 0 old new r → Wrote (answer_text counts times answer ledger) 0 old new r
   unfolding answer_text
   refused-told e w = rw e w

@@ -1,16 +1,12 @@
 -- A plan's answer and its ledger tell the whole report: a ledger of 5,808 numbers is long enough for every network, so that refusal 8 can't come.
 use Rattle.base_laws.proofs.Kit.{ℕ, suc, ◌*◌, ◌≤◌, ◌≡◌, refl, sym, ap, ap₂, ◌∙◌, List, ◌++◌, mul-le-mul, arith, le-leb, length}
 use Rattle.base_search.specs.declared.Refusal.{Refusal}
-use Rattle.base_search.specs.declared.Verdict.{Verdict}
-use Rattle.base_search.specs.declared.Verdict.TheVariants.{Passes, Refused}
-use Rattle.base_search.specs.Checks.{◌then◌, or_else, verdict, Hold}
+use Rattle.base_search.specs.Checks.{◌then◌, or_else, verdict, Hold, Verdict}
 use Rattle.base_search.proofs.Laws.{or-else-passes, or-else-refused, or-else-first, checked-passes, hold-of-passes}
 use Rattle.text_reader.specs.Lines.{Line, lines}
 use Rattle.text_reader.specs.Padding.{SameText, PaddingIgnored}
 use Rattle.text_reader.proofs.Padding.{same_lines}
 use Rattle.model.specs.declared.Totals.{Totals}
-use Rattle.model.specs.declared.PlanAnswer.{PlanAnswer}
-use Rattle.model.specs.declared.PlanAnswer.TheVariants.{Accepted}
 use Rattle.model.specs.Network.{link_count, step_count}
 use Rattle.model.specs.Flows.{totals}
 use Rattle.model.specs.Table.{network_checks, ledger_checks, plan_line_checks, plan_checks}
@@ -24,8 +20,6 @@ use Rattle.model.proofs.Written.{rows_all}
 use Rattle.text_writer.specs.Writing.{Wrote}
 use Rattle.network_tables.specs.declared.Counts.{Counts}
 use Rattle.network_tables.specs.declared.Reading.{Reading}
-use Rattle.network_tables.specs.declared.Stage.{Stage}
-use Rattle.network_tables.specs.declared.Stage.TheVariants as stages
 use Rattle.network_tables.specs.Tables.{CountsHold, Judged}
 use Rattle.network_tables.proofs.Stages.{verdict-refused}
 use Rattle.network.specs.Loading.{LoadedWithSignals}
@@ -35,11 +29,12 @@ use Rattle.plan_check.specs.Plan.{PlanGot}
 use Rattle.plancheck_report.specs.Boundaries.{ledger_size}
 use Rattle.plancheck_report.specs.Answer.{totals_text, refusal_text, answer_text, AnswerAsked}
 use Rattle.plancheck_report.proofs.Rows.{rows-printed, texts-same}
+use Rattle.std.specs.Prelude.{Result, Ok, Err}
 
-or-else-skip : (v w u : Verdict) → (v ≡ Passes → w ≡ Passes) → or_else v (or_else w u) ≡ or_else v u
+or-else-skip : (v w u : Verdict) → (v ≡ Ok tt → w ≡ Ok tt) → or_else v (or_else w u) ≡ or_else v u
 unfolding or_else
-or-else-skip Passes w u h = or-else-passes w u (h refl)
-or-else-skip (Refused r) w u h = refl
+or-else-skip (Ok tt) w u h = or-else-passes w u (h refl)
+or-else-skip (Err r) w u h = refl
 
 ledger-fits : (network : List Line) → Hold (network_checks network) → 2 * suc (step_count network) * link_count network ≤ ledger_size
 ledger-fits network h =
@@ -53,7 +48,7 @@ module _ (network plan : List Line) where
   same-verdict =
       or-else-skip (verdict (network_checks network)) _ (verdict (plan_line_checks network plan)) (λ e. checked-passes _ 8 0 0 (le-leb _ _ (ledger-fits network (hold-of-passes (network_checks network) e))))
 
-  network-holds : verdict (plan_checks network plan ledger_size) ≡ Passes → Hold (network_checks network)
+  network-holds : verdict (plan_checks network plan ledger_size) ≡ Ok tt → Hold (network_checks network)
   unfolding verdict plan_checks
   network-holds e = hold-of-passes (network_checks network) (or-else-first (verdict (network_checks network)) _ e)
 
@@ -62,28 +57,28 @@ module _ (network plan : List Line) where
       → verdict (plan_checks network plan ledger_size) ≡ v
       → answer_text counts times (plan_answer network plan v) (written network plan old (rows_written network plan ledger_size)) ≡ report_text network plan v
   unfolding answer_text plan_answer totals report_text
-  verdict-told counted told old s Passes e =
+  verdict-told counted told old s (Ok tt) e =
       rw (rows_all network plan ledger_size (hold-of-passes (plan_checks network plan ledger_size) e))
       (ap (λ x. totals_text (totals network plan (step_count network)) ++ x)
       (texts-same counted told (written network plan old (suc (step_count network)))
       ∙ rows-printed network plan old (suc (step_count network)) (omega (arith, ledger-fits network (network-holds e)))))
-  verdict-told counted told old s (Refused r) e = refl
+  verdict-told counted told old s (Err r) e = refl
 
-  refused-report : (r : Refusal) → verdict (network_checks network) ≡ Refused r → report_text network plan (verdict (network_checks network then plan_line_checks network plan)) ≡ refusal_text r
+  refused-report : (r : Refusal) → verdict (network_checks network) ≡ Err r → report_text network plan (verdict (network_checks network then plan_line_checks network plan)) ≡ refusal_text r
   unfolding verdict report_text
   refused-report r v = ap (report_text network plan) (or-else-refused _ _ r v)
 
-accepted-passes : (network plan : List Line) (v : Verdict) (t : Totals) → plan_answer network plan v ≡ Accepted t → v ≡ Passes
+accepted-passes : (network plan : List Line) (v : Verdict) (t : Totals) → plan_answer network plan v ≡ Ok t → v ≡ Ok tt
 unfolding plan_answer
-accepted-passes network plan Passes t e = refl
-accepted-passes network plan (Refused r) t e = cc
+accepted-passes network plan (Ok tt) t e = refl
+accepted-passes network plan (Err r) t e = cc
 
 pub times-asked : {text signals links movements times : List ℕ} {reading : Reading} → LoadedWithSignals text signals links movements times reading
     → ShiftAsked times reading.counts.past reading.counts.steps
 times-asked held = shift-asked held.loaded.counted held.loaded.holds held.loaded.time-table
 
 -- a plan is judged on a network that has passed, and the times are the plan's
-module _ {network_text plan_text old signals links movements times after ledger : List ℕ} {reading : Reading} {answer : PlanAnswer} (size : length old ≡ ledger_size)
+module _ {network_text plan_text old signals links movements times after ledger : List ℕ} {reading : Reading} {answer : (Result Totals Refusal)} (size : length old ≡ ledger_size)
     (held : LoadedWithSignals network_text signals links movements times reading) (judged : PlanGot network_text plan_text old answer ledger)
     (shifted : Shifted times reading.counts.past reading.counts.steps after) where
   abbrev network : List Line
@@ -125,7 +120,7 @@ module _ {network_text plan_text old signals links movements times after ledger 
       rw t at w
 
 -- the network is refused
-pub refused-wrote : (network_text plan_text : List ℕ) {stage : Stage} {Held : Reading → Type 0} {q : Refusal} → Judged (network_checks (lines network_text)) Held stage → stage ≡ stages.Refused q
+pub refused-wrote : (network_text plan_text : List ℕ) {stage : (Result Reading Refusal)} {Held : Reading → Type 0} {q : Refusal} → Judged (network_checks (lines network_text)) Held stage → stage ≡ Err q
     → {out new : List ℕ} {r : ℕ} → Wrote (refusal_text q) 0 out new r → Wrote (report network_text plan_text) 0 out new r
 unfolding report
 refused-wrote network_text plan_text {q = q} judged e w = rw (refused-report (lines network_text) (plan_of network_text plan_text) q (verdict-refused judged e)) w

@@ -12,9 +12,9 @@ ghost use Rattle.plancheck_report.specs.Boundaries.{boundary_texts, RowsAsked};
 ghost use Rattle.plancheck_report.specs.Answer.{totals_text, refusal_text, answer_text, AnswerAsked};
 
 use base_search::Refusal;
-use model::{PlanAnswer, Totals};
+use model::Totals;
 use network_tables::{
-    Counts, LINK_TABLE_SIZE, MOVEMENT_TABLE_SIZE, ROW_SIZE, Reading, SIGNAL_TABLE_SIZE, Stage,
+    Counts, LINK_TABLE_SIZE, MOVEMENT_TABLE_SIZE, ROW_SIZE, Reading, SIGNAL_TABLE_SIZE,
     TIME_TABLE_SIZE,
 };
 
@@ -101,15 +101,15 @@ fn write_answer(
     out: &mut [u8],
     counts: Counts,
     times: &[u32],
-    answer: PlanAnswer,
+    answer: Result<Totals, Refusal>,
     ledger: &[u32],
 ) -> usize
     requires { AnswerAsked out.old counts times.now answer ledger.now }
     ensures { Wrote (answer_text counts times.now answer ledger.now) 0 out.old out.new result }
 {
     match answer {
-        PlanAnswer::Accepted(totals) => write_accepted(out, counts, times, ledger, totals),
-        PlanAnswer::Refused(refusal) => write_refusal(out, refusal),
+        Ok(totals) => write_accepted(out, counts, times, ledger, totals),
+        Err(refusal) => write_refusal(out, refusal),
     }
 }
 
@@ -161,8 +161,8 @@ pub fn write_report(network: &[u8], plan: &[u8], out: &mut [u8]) -> usize
         &mut movements,
         &mut times,
     ) {
-        Stage::Refused(refusal) => write_refusal(out, refusal),
-        Stage::Passed(reading) => write_judged(
+        Err(refusal) => write_refusal(out, refusal),
+        Ok(reading) => write_judged(
             network,
             plan,
             reading,

@@ -1,17 +1,13 @@
 -- All steps of an accepted plan, and the whole call.
 use Rattle.base_laws.proofs.Kit.{ℕ, zero, suc, ◌≤◌, ◌<◌, ◌≡◌, refl, sym, ap, ap₂, ◌∙◌, cond, List, arith, length, replicate, length-replicate, get_or-replicate}
 use Rattle.base_search.specs.declared.Refusal.{Refusal}
-use Rattle.base_search.specs.declared.Verdict.{Verdict}
-use Rattle.base_search.specs.declared.Verdict.TheVariants as verdicts
-use Rattle.base_search.specs.Checks.{Checks, ◌then◌, or_else, verdict, Hold}
+use Rattle.base_search.specs.Checks.{Checks, ◌then◌, or_else, verdict, Hold, Verdict}
 use Rattle.base_search.proofs.Laws.{or-else-passes, or-else-refused, hold-of-passes, passes-of-hold}
 use Rattle.text_reader.specs.Lines.{Line, lines}
 use Rattle.text_reader.specs.Padding.{PaddingIgnored}
 use Rattle.text_reader.proofs.Padding.{same_lines}
 use Rattle.text_reader.proofs.Laws.{starts_first}
 use Rattle.model.specs.declared.Totals.{Totals}
-use Rattle.model.specs.declared.PlanAnswer.{PlanAnswer}
-use Rattle.model.specs.declared.PlanAnswer.TheVariants as plan-answer
 use Rattle.model.specs.Network.{max_signals, signal_count, step_count, time}
 use Rattle.model.specs.Table.{network_checks, ledger_checks, plan_line_checks, plan_checks}
 use Rattle.model.specs.Hold.{plan_of}
@@ -19,8 +15,6 @@ use Rattle.model.specs.Calls.{plan_answer, check_plan}
 use Rattle.model.proofs.Accepted.{valid-network}
 use Rattle.model.proofs.Promises.{passes-of-accepted, refused-of-refused}
 use Rattle.network_tables.specs.declared.Reading.{Reading}
-use Rattle.network_tables.specs.declared.Stage.{Stage}
-use Rattle.network_tables.specs.declared.Stage.TheVariants as stages
 use Rattle.network_tables.specs.Fields.{tram_table_size}
 use Rattle.network_tables.specs.Tables.{SignalTable, TramTable, Judged}
 use Rattle.network_trams.specs.Claims.{LoadAsked as TramsLoadAsked}
@@ -42,6 +36,7 @@ use Rattle.sheet_check.specs.declared.Watch.{Watch}
 use Rattle.sheet_check.specs.declared.Pass.{Pass}
 use Rattle.sheet_check.specs.Watch.{no_watch, watch_in, watch_at}
 use Rattle.sheet_check.specs.Stages.{PassAsked, SheetIn, PassAt, PassWatches, StepAsked, StepGot, PassGot}
+use Rattle.std.specs.Prelude.{Result, Ok, Err}
 
 -- ---- the pass
 -- while steps are left
@@ -127,26 +122,26 @@ module _ (network sheet plan : List Line) (old : List ℕ) where
   keep-is = go (verdict (network_checks network)) (verdict (sheet_checks network sheet 0))
     where
       go : (a b : Verdict) → or_else (or_else a (or_else b rest)) (verdict (run_checks network sheet plan)) ≡ or_else (or_else a b) (or_else rest (verdict (run_checks network sheet plan)))
-      go verdicts.Passes verdicts.Passes = refl
-      go verdicts.Passes (verdicts.Refused r) = refl
-      go (verdicts.Refused r) b = refl
+      go (Ok tt) (Ok tt) = refl
+      go (Ok tt) (Err r) = refl
+      go (Err r) b = refl
 
   plan-is : verdict (plan_checks network plan (length old)) ≡ or_else (verdict (network_checks network)) rest
   unfolding verdict plan_checks
   plan-is = refl
 
-  promised : {v : Verdict} {answer : PlanAnswer} {after : List ℕ} → verdict (keep_checks network sheet plan (length old)) ≡ v → answer ≡ plan_answer network plan v → after ≡ sheet_ledger network sheet plan old
+  promised : {v : Verdict} {answer : (Result Totals Refusal)} {after : List ℕ} → verdict (keep_checks network sheet plan (length old)) ≡ v → answer ≡ plan_answer network plan v → after ≡ sheet_ledger network sheet plan old
       → SheetPromises network sheet plan old after answer
   unfolding check_sheet
   promised e a l = rw (a, ← e, l) (sheet-promises network sheet plan old)
 
-  first-refused : {q : Refusal} → verdict (first_checks network sheet) ≡ verdicts.Refused q → SheetPromises network sheet plan old old (plan-answer.Refused q)
+  first-refused : {q : Refusal} → verdict (first_checks network sheet) ≡ Err q → SheetPromises network sheet plan old old (Err q)
   unfolding plan_answer sheet_ledger rows_after
   first-refused e = promised (keep-is ∙ or-else-refused _ _ _ e) refl (sym (rw e))
 
 -- the network is refused
-pub network-refused : {network sheet plan : List Line} {old : List ℕ} {stage : Stage} {Held : Reading → Type 0} → Judged (network_checks network) Held stage → {q : Refusal} → stage ≡ stages.Refused q
-    → SheetPromises network sheet plan old old (plan-answer.Refused q)
+pub network-refused : {network sheet plan : List Line} {old : List ℕ} {stage : (Result Reading Refusal)} {Held : Reading → Type 0} → Judged (network_checks network) Held stage → {q : Refusal} → stage ≡ Err q
+    → SheetPromises network sheet plan old old (Err q)
 unfolding verdict
 network-refused judged e = first-refused _ _ _ _ (or-else-refused _ _ _ (verdict-refused judged e))
 
@@ -166,18 +161,18 @@ module _ {text signals links movements times : List ℕ} {reading : Reading} (he
   abbrev sheet : List Line
   sheet = lines sheet_text
 
-  passes : verdict (network_checks network) ≡ verdicts.Passes
+  passes : verdict (network_checks network) ≡ Ok tt
   passes = passes-of-hold (network_checks network) held.loaded.holds
 
   first-is : verdict (first_checks network sheet) ≡ read
   unfolding verdict
   first-is = or-else-passes _ _ passes ∙ sym (sheet-told held.signal-table held.loaded.counted.signals got)
 
-  pub sheet-refused : {plan : List Line} {old : List ℕ} {q : Refusal} → read ≡ verdicts.Refused q → SheetPromises network sheet plan old old (plan-answer.Refused q)
+  pub sheet-refused : {plan : List Line} {old : List ℕ} {q : Refusal} → read ≡ Err q → SheetPromises network sheet plan old old (Err q)
   sheet-refused e = first-refused network sheet _ _ (first-is ∙ e)
 
   -- the sheet has passed, and the plan is judged
-  module _ (e : read ≡ verdicts.Passes) {plan_text old : List ℕ} {answer : PlanAnswer} {after : List ℕ} (judged : PlanGot text plan_text old answer after) where
+  module _ (e : read ≡ Ok tt) {plan_text old : List ℕ} {answer : (Result Totals Refusal)} {after : List ℕ} (judged : PlanGot text plan_text old answer after) where
     abbrev plan : List Line
     plan = plan_of text plan_text
 
@@ -191,15 +186,15 @@ module _ {text signals links movements times : List ℕ} {reading : Reading} (he
     kept-is : verdict (keep_checks network sheet plan (length old)) ≡ or_else (rest network sheet plan old) (verdict (run_checks network sheet plan))
     kept-is = keep-is network sheet plan old ∙ or-else-passes _ _ (first-is ∙ e)
 
-    pub plan-refused : {q : Refusal} → answer ≡ plan-answer.Refused q → SheetPromises network sheet plan old after answer
+    pub plan-refused : {q : Refusal} → answer ≡ Err q → SheetPromises network sheet plan old after answer
     unfolding check_plan plan_answer
     plan-refused {q} g =
         let v = refused-of-refused network plan (verdict (plan_checks network plan (length old))) q (sym judged.answered ∙ g) in
         promised network sheet plan old (kept-is ∙ or-else-refused _ _ q (sym rest-is ∙ v)) g ledger-is
 
     -- the plan is accepted, and gone through again
-    module _ {t : Totals} (g : answer ≡ plan-answer.Accepted t) where
-      plan-passes : verdict (plan_checks network plan (length old)) ≡ verdicts.Passes
+    module _ {t : Totals} (g : answer ≡ Ok t) where
+      plan-passes : verdict (plan_checks network plan (length old)) ≡ Ok tt
       plan-passes = (passes-of-accepted network plan (verdict (plan_checks network plan (length old))) t (unfold check_plan in (sym judged.answered ∙ g))).0
 
       pub pass-asked : PassAsked text plan_text table reading
@@ -212,23 +207,23 @@ module _ {text signals links movements times : List ℕ} {reading : Reading} (he
           }
 
       -- the totals are those of the plan
-      totals-are : plan-answer.Accepted t ≡ plan_answer network plan verdicts.Passes
+      totals-are : Ok t ≡ plan_answer network plan (Ok tt)
       unfolding check_plan
       totals-are = sym g ∙ judged.answered ∙ ap (plan_answer network plan) plan-passes
 
       module _ {v : Verdict} (run : PassGot text plan_text table v) where
-        runs-told : {told : PlanAnswer} → told ≡ plan_answer network plan v → SheetPromises network sheet plan old after told
+        runs-told : {told : (Result Totals Refusal)} → told ≡ plan_answer network plan v → SheetPromises network sheet plan old after told
         runs-told w = promised network sheet plan old (kept-is ∙ or-else-passes _ _ (sym rest-is ∙ plan-passes) ∙ sym (run.told sheet (λ r l k u. sheet-number held.signal-table held.loaded.counted.signals got e r l k (omega arith)))) w ledger-is
 
-        pub runs-kept : v ≡ verdicts.Passes → SheetPromises network sheet plan old after (plan-answer.Accepted t)
+        pub runs-kept : v ≡ Ok tt → SheetPromises network sheet plan old after (Ok t)
         runs-kept p = runs-told (totals-are ∙ ap (plan_answer network plan) (sym p))
 
-        pub runs-broken : {q : Refusal} → v ≡ verdicts.Refused q → SheetPromises network sheet plan old after (plan-answer.Refused q)
+        pub runs-broken : {q : Refusal} → v ≡ Err q → SheetPromises network sheet plan old after (Err q)
         unfolding plan_answer
         runs-broken p = runs-told (sym (rw p))
 
 -- the same of texts that differ only in padding
-pub padding-too : (network plan sheet : List ℕ) {before after : List ℕ} {answer : PlanAnswer} → SheetPromises (lines network) (lines sheet) (plan_of network plan) before after answer
+pub padding-too : (network plan sheet : List ℕ) {before after : List ℕ} {answer : (Result Totals Refusal)} → SheetPromises (lines network) (lines sheet) (plan_of network plan) before after answer
     → SheetPromises (lines network) (lines sheet) (plan_of network plan) before after answer
     × PaddingIgnored network (λ padded_network. PaddingIgnored plan (λ padded_plan. PaddingIgnored sheet (λ padded_sheet.
     SheetPromises (lines padded_network) (lines padded_sheet) (plan_of padded_network padded_plan) before after answer)))

@@ -1,8 +1,6 @@
 -- One step of an accepted plan, gone through again.
 use Rattle.base_laws.proofs.Kit.{ℕ, suc, ◌+◌, ◌-◌, ◌≤◌, ◌<◌, ◌≡◌, refl, sym, ap, ap₂, ◌∙◌, Bool, true, false, cond, not, ◌&&◌, ◌||◌, true≢false, List, add-one, dec_lt, arith, eqb-true, leb, eqb, length, get_or, replicate, length-replicate, get_or-replicate, List·getD-eq-default}
 use Rattle.base_search.specs.Checks.{Hold}
-use Rattle.text_reader.specs.declared.LineRead.{LineRead}
-use Rattle.text_reader.specs.declared.LineRead.TheVariants.{Next, Malformed}
 use Rattle.text_reader.specs.Lines.{Line, lines}
 use Rattle.model.specs.declared.Signal.{Signal}
 use Rattle.base_laws.specs.Test.{◌and◌, ◌or◌}
@@ -37,6 +35,7 @@ use Rattle.sheet_check.specs.declared.Watch.{Watch}
 use Rattle.sheet_check.specs.declared.Pass.{Pass}
 use Rattle.sheet_check.specs.Watch.{first_broken, watch_after, next_watch, duration_in, WatchAsked, Watched, watch_at, WatchesAt}
 use Rattle.sheet_check.specs.Stages.{SheetIn, StepAsked, StepGot}
+use Rattle.std.specs.Prelude.{Option, Some, None}
 
 -- ---- the watch of a signal through step n
 module _ (network sheet plan : List Line) (n r : ℕ) where
@@ -145,7 +144,7 @@ module _ {network_text plan_text table : List ℕ} {reading : Reading} {trams si
           asked-size = omega (arith, told.size, counted.few.signals);
         }
 
-    module _ {result : LineRead} {line₀ line : List ℕ} (zeros : line₀ ≡ replicate line_size 0) (read : LineGot plan_text pass.plan_at signals counts line₀ result line) where
+    module _ {result : (Option ℕ)} {line₀ line : List ℕ} (zeros : line₀ ≡ replicate line_size 0) (read : LineGot plan_text pass.plan_at signals counts line₀ result line) where
       no_number : (k : ℕ) → get_or line₀ k 0 ≡ 0
       no_number k = elim (dec_lt k line_size) [
         | yes h ↦ ap (λ l. get_or l k 0) zeros ∙ get_or-replicate {A = ℕ} line_size k 0 0 h
@@ -158,11 +157,11 @@ module _ {network_text plan_text table : List ℕ} {reading : Reading} {trams si
       pub line-size : length line ≡ line_size
       line-size = read.size ∙ size
 
-      pub step-never : result ≡ Malformed → StepGot network_text plan_text table pass pass signals
+      pub step-never : result ≡ None → StepGot network_text plan_text table pass pass signals
       step-never e =
           absurd (true≢false (sym is-formed ∙ line-bad network_text plan_text valid counted asked.more asked.pass-at.plan-starts shows (λ h k l. no_number k) size read e))
 
-      module _ {plan_end : ℕ} (e : result ≡ Next plan_end) {phases₀ phases : List ℕ} (showing : ShownPhases signals counts.signals line phases₀ phases)
+      module _ {plan_end : ℕ} (e : result ≡ Some plan_end) {phases₀ phases : List ℕ} (showing : ShownPhases signals counts.signals line phases₀ phases)
           {claims : List ℕ} (told : Claimed trams counts.trams n claims) where
         claimed : AskedTable net n claims
         claimed = asked_by net trams asked.tram-table (tram-form net asked.pass-asked.network-held.holds) counted told

@@ -1,13 +1,13 @@
 -- What is watched of the signals, through a step and at the end: one law for each way.
 use Rattle.base_laws.proofs.Kit.{ℕ, ◌+◌, ◌≤◌, ◌<◌, ◌≡◌, refl, sym, ap₂, ◌∙◌, Bool, true, false, cond, not, ◌&&◌, List, le_refl, add-one, arith, eq-eqb, ne_eqb, leb, eqb, length, get_or, set, length-set, get_or-set_same, get_or-set_other}
 use borrow.Author.Count.{below_more}
-use Rattle.base_search.specs.declared.Verdict.TheVariants.{Passes, Refused}
 use Rattle.model.specs.declared.Signal.{Signal}
 use Rattle.base_laws.specs.Test.{◌and◌}
 use Rattle.network_tables.specs.Fields.{table_signal}
 use Rattle.model_sheet.specs.Runs.{earlier, least_line, least_item, told_run, pass_verdict}
 use Rattle.sheet_check.specs.declared.Watch.{Watch}
 use Rattle.sheet_check.specs.Watch.{no_watch, watch_in, first_broken, watch_after, next_watch, duration_in, DurationAsked, WatchAsked, Watched}
+use Rattle.std.specs.Prelude.{Ok, Err}
 
 -- ---- one signal
 module _ (w : Watch) (seconds lasts : ℕ) where
@@ -91,10 +91,10 @@ module _ {f : ℕ → ℕ} {count line item i : ℕ} (inv : Found f count line i
     all-item : item ≡ least_item f count
     all-item = let z : i ≡ count = omega (arith, inv.few) in rw z at inv.item-is
 
-    pub found_nothing : line ≡ 0 → Passes ≡ pass_verdict f count
+    pub found_nothing : line ≡ 0 → (Ok tt) ≡ pass_verdict f count
     unfolding pass_verdict told_run
     found_nothing e = sym (rw (eq-eqb (least_line f count) 0 (sym all-line ∙ e)))
 
-    pub found-told : (line ≡ 0 → ⊥) → Refused (record { number = 34; line = line; item = item }) ≡ pass_verdict f count
+    pub found-told : (line ≡ 0 → ⊥) → Err (record { number = 34; line = line; item = item }) ≡ pass_verdict f count
     unfolding pass_verdict told_run
     found-told d = rw (all-line, all-item) (sym (rw (ne_eqb (least_line f count) 0 (λ z. d (all-line ∙ z)))))

@@ -1,7 +1,6 @@
 -- What the stages of the call ask and promise.
 use Rattle.std.specs.Prelude.{ℕ, ◌+◌, ◌*◌, ◌≤◌, ◌<◌, ◌≡◌, List, length, get_or}
-use Rattle.base_search.specs.declared.Verdict.{Verdict}
-use Rattle.base_search.specs.Checks.{verdict, Hold}
+use Rattle.base_search.specs.Checks.{verdict, Hold, Verdict}
 use Rattle.text_reader.specs.Lines.{Line, lines}
 use Rattle.text_reader.specs.Reading.{Starts}
 use Rattle.model.specs.Network.{max_signals, entry, signal_count, step_count, tram_line, step_line, time}

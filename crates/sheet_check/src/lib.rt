@@ -15,14 +15,13 @@ ghost use Rattle.model_sheet.specs.Promises.{SheetPromises};
 ghost use Rattle.sheet_check.specs.Watch.{watch_in, first_broken, watch_after, next_watch, duration_in, DurationAsked, WatchAsked, Watched};
 ghost use Rattle.sheet_check.specs.Stages.{PassAsked, StepAsked, StepGot, PassGot};
 
-use base_search::{Refusal, Verdict};
-use model::PlanAnswer;
+use base_search::Refusal;
 use network_tables::{
     LINE_SIZE, LINK_TABLE_SIZE, MAX_SIGNALS, MOVEMENT_TABLE_SIZE, Reading, SIGNAL_TABLE_SIZE,
-    STEP_SIZE, Stage, TIME_TABLE_SIZE, TRAM_TABLE_SIZE,
+    STEP_SIZE, TIME_TABLE_SIZE, TRAM_TABLE_SIZE,
 };
 use sheet_lines::{SHEET_FIELDS, SHEET_TABLE_SIZE};
-use text_reader::LineRead;
+use model::Totals;
 
 // What is watched of a signal: whether the run that it shows is to be tested, the line of its last ordinary step, and the line of its first broken run, 0 for
 // none.
@@ -153,7 +152,7 @@ fn choose(condition: bool, a: u32, b: u32) -> u32
 }
 
 // Refusal 34: the least of the lines that were found, then the lowest signal.
-fn first_run(watches: [Watch; 8], count: usize) -> Verdict
+fn first_run(watches: [Watch; 8], count: usize) -> Result<(), Refusal>
     requires { count ≤ max_signals }
     ensures { result ≡ pass_verdict (λ i. (watch_in watches i).broken) count }
 {
@@ -168,9 +167,9 @@ fn first_run(watches: [Watch; 8], count: usize) -> Verdict
         i += 1;
     }
     if line == 0 {
-        return Verdict::Passes;
+        return Ok(());
     }
-    Verdict::Refused(Refusal {
+    Err(Refusal {
         number: 34,
         line,
         item,
@@ -200,7 +199,7 @@ fn pass_step(
     let watches = pass.watches;
     let step_at = network_steps::load_step(network, pass.step_at, counts.links, &mut step);
     let read = plan_steps::read_line(plan, pass.plan_at, signals, counts, &mut line);
-    let LineRead::Next(plan_at) = read else {
+    let Some(plan_at) = read else {
         return pass;
     };
     step_signals::shown_phases(signals, counts.signals, &line, &mut phases);
@@ -233,7 +232,7 @@ fn pass_plan(
     reading: Reading,
     table: &[u32],
     signals: &mut [u32],
-) -> Verdict
+) -> Result<(), Refusal>
     requires pass_asked { PassAsked network.now plan.now table.now reading }
     requires signal_table { SignalTable (lines network.now) signals.old }
     ensures { PassGot network.now plan.now table.now result }
@@ -271,30 +270,30 @@ fn check_on_network(
     times: &[u32],
     signals: &mut [u32; SIGNAL_TABLE_SIZE],
     ledger: &mut [u32],
-) -> PlanAnswer
+) -> Result<Totals, Refusal>
     requires { LoadedWithSignals network.now signals.old links.now movements.now times.now reading }
     ensures { SheetPromises (lines network.now) (lines sheet.now) (plan_of network.now plan.now) ledger.old ledger.new result }
 {
     let mut table = [0u32; SHEET_TABLE_SIZE];
     let count = reading.counts.signals;
     let read = sheet_lines::read_sheet(sheet, signals, count, 0, &mut table);
-    if let Verdict::Refused(refusal) = read {
-        return PlanAnswer::Refused(refusal);
+    if let Err(refusal) = read {
+        return Err(refusal);
     }
     let answer = plan_check::judge_plan(
         network, plan, reading, links, movements, times, signals, ledger,
     );
-    let PlanAnswer::Accepted(totals) = answer else {
+    let Ok(totals) = answer else {
         return answer;
     };
     match pass_plan(network, plan, reading, &table, signals) {
-        Verdict::Passes => PlanAnswer::Accepted(totals),
-        Verdict::Refused(refusal) => PlanAnswer::Refused(refusal),
+        Ok(()) => Ok(totals),
+        Err(refusal) => Err(refusal),
     }
 }
 
 // Whether an accepted plan keeps a sheet: refusals 1 to 6, 28 and 30, then 33, 8, the plan's own, and last 34. A refusal by 34 leaves all rows written.
-pub fn check_sheet(network: &[u8], plan: &[u8], sheet: &[u8], ledger: &mut [u32]) -> PlanAnswer
+pub fn check_sheet(network: &[u8], plan: &[u8], sheet: &[u8], ledger: &mut [u32]) -> Result<Totals, Refusal>
     ensures sheet_promises { SheetPromises (lines network.now) (lines sheet.now) (plan_of network.now plan.now) ledger.old ledger.new result }
     ensures padding_ignored { PaddingIgnored network.now (λ padded_network. PaddingIgnored plan.now (λ padded_plan. PaddingIgnored sheet.now (λ padded_sheet. SheetPromises (lines padded_network) (lines padded_sheet) (plan_of padded_network padded_plan) ledger.old ledger.new result))) }
 {
@@ -309,8 +308,8 @@ pub fn check_sheet(network: &[u8], plan: &[u8], sheet: &[u8], ledger: &mut [u32]
         &mut movements,
         &mut times,
     ) {
-        Stage::Refused(refusal) => PlanAnswer::Refused(refusal),
-        Stage::Passed(reading) => check_on_network(
+        Err(refusal) => Err(refusal),
+        Ok(reading) => check_on_network(
             network,
             plan,
             sheet,

@@ -1,11 +1,8 @@
 -- The lines of a sheet, read and judged one after another: one law for each way through a turn of a loop.
 use Rattle.base_laws.proofs.Kit.{ℕ, zero, suc, ◌+◌, ◌*◌, ◌≤◌, ◌<◌, ◌≡◌, refl, sym, ap, ap₂, ◌∙◌, Bool, true, false, not, ◌⊎◌, inl, inr, List, add-one, eq-or-lt_of_le, arith, leb-true, not-true, not-false, leb, ltb, eqb, length, get_or}
 use Rattle.base_search.specs.declared.Refusal.{Refusal}
-use Rattle.base_search.specs.declared.Verdict.TheVariants.{Passes, Refused}
 use Rattle.base_search.specs.Checks.{refusal, Checks, or_else, checked, verdict}
 use Rattle.base_search.proofs.Laws.{or-else-passes, or-else-refused}
-use Rattle.text_reader.specs.declared.LineRead.{LineRead}
-use Rattle.text_reader.specs.declared.LineRead.TheVariants.{Next, Malformed}
 use Rattle.text_reader.specs.Lines.{lines}
 use Rattle.text_reader.specs.Reading.{Starts, at_end}
 use Rattle.text_reader.proofs.Laws.{starts_first, starts-end}
@@ -24,6 +21,7 @@ use Rattle.network_tables.proofs.Blocks.{passed_none, passed-all, passed-stop, p
 use Rattle.step_signals.specs.Ready.{Ready}
 use Rattle.sheet_lines.specs.Sheet.{letter_f, valid_durations, valid_offset, valid_numbers, sheet_line_checks, signals_checks}
 use Rattle.sheet_lines.specs.Reading.{number_in, NumbersAsked, SheetAsked, SheetRows, SheetRead}
+use Rattle.std.specs.Prelude.{Option, Some, None, Ok, Err}
 
 -- ---- one line: the durations of its first k phases are valid and summed
 abbrev test : Signal → (ℕ → ℕ) → ℕ → Bool
@@ -126,7 +124,7 @@ module _ {signals : List ℕ} {count offsets : ℕ} {text table₀ : List ℕ} (
       ended : b ≡ eqb (length (lines text)) count
       ended = let q : r ≡ count = omega (arith, inv.passed.within) in e ∙ starts-end text place r inv.starts inv.within ∙ ap (eqb (length (lines text))) q
 
-      pub read_all : b ≡ true → SheetRead signals count offsets text Passes table
+      pub read_all : b ≡ true → SheetRead signals count offsets text (Ok tt) table
       unfolding signals_checks verdict checked
       read_all t =
           record {
@@ -134,7 +132,7 @@ module _ {signals : List ℕ} {count offsets : ℕ} {text table₀ : List ℕ} (
             held = λ p. let q : r ≡ count = omega (arith, inv.passed.within) in rw q at inv.rows;
           }
 
-      pub read-surplus : b ≡ false → {q : Refusal} → q ≡ refusal 33 (count + 1) 0 → SheetRead signals count offsets text (Refused q) table
+      pub read-surplus : b ≡ false → {q : Refusal} → q ≡ refusal 33 (count + 1) 0 → SheetRead signals count offsets text (Err q) table
       unfolding signals_checks verdict checked
       read-surplus f z =
           record {
@@ -149,8 +147,8 @@ module _ {signals : List ℕ} {count offsets : ℕ} {text table₀ : List ℕ} (
       pub row_room : {phases : ℕ} → phases ≡ s.phases → 9 * r + (phases + offsets) ≤ length table
       row_room p = omega (arith, (asked.ready r h).few-phases, asked.some-offsets, asked.few, inv.rows.room)
 
-      stopped : {q : Refusal} {after : List ℕ} → verdict (line_checks signals count offsets text r) ≡ Refused (refusal 33 (suc r) 0) → q ≡ refusal 33 (r + 1) 0
-          → SheetRead signals count offsets text (Refused q) after
+      stopped : {q : Refusal} {after : List ℕ} → verdict (line_checks signals count offsets text r) ≡ Err (refusal 33 (suc r) 0) → q ≡ refusal 33 (r + 1) 0
+          → SheetRead signals count offsets text (Err q) after
       unfolding signals_checks verdict
       stopped v z =
           record {
@@ -158,14 +156,14 @@ module _ {signals : List ℕ} {count offsets : ℕ} {text table₀ : List ℕ} (
             held = λ p. let w : ◌≡◌ {A = ℕ} 0 1 = cc in absurd (omega arith);
           }
 
-      module _ {phases : ℕ} (p : phases ≡ s.phases) {x : LineRead} {after : List ℕ} (got : RowRead letter_f (phases + offsets) text place (9 * r) table x after) where
+      module _ {phases : ℕ} (p : phases ≡ s.phases) {x : (Option ℕ)} {after : List ℕ} (got : RowRead letter_f (phases + offsets) text place (9 * r) table x after) where
         row : RowRead letter_f (s.phases + offsets) text place (9 * r) table x after
         row = rw p at got
 
-        pub read-malformed : x ≡ Malformed → {q : Refusal} → q ≡ refusal 33 (r + 1) 0 → SheetRead signals count offsets text (Refused q) after
+        pub read-malformed : x ≡ None → {q : Refusal} → q ≡ refusal 33 (r + 1) 0 → SheetRead signals count offsets text (Err q) after
         read-malformed e z = stopped (unfold verdict or_else checked sheet_line_checks in rw (row.malformed e r inv.starts)) z
 
-        module _ {next : ℕ} (e : x ≡ Next next) where
+        module _ {next : ℕ} (e : x ≡ Some next) where
           pub numbers-asked : NumbersAsked after (9 * r) signals r offsets
           numbers-asked = record { ready-in = record { size = asked.size; few = omega (arith, asked.few); ready = asked.ready r h }; some-offsets = asked.some-offsets; room = omega (arith, row.size, row_room refl) }
 
@@ -176,7 +174,7 @@ module _ {signals : List ℕ} {count offsets : ℕ} {text table₀ : List ℕ} (
             formed : is_form (lines text) r letter_f (s.phases + offsets) ≡ true
             formed = (row.held next e r inv.starts).form
 
-            pub read-invalid : not v ≡ true → {q : Refusal} → q ≡ refusal 33 (r + 1) 0 → SheetRead signals count offsets text (Refused q) after
+            pub read-invalid : not v ≡ true → {q : Refusal} → q ≡ refusal 33 (r + 1) 0 → SheetRead signals count offsets text (Err q) after
             read-invalid n z = stopped (unfold verdict or_else checked sheet_line_checks in rw (formed, sym judged ∙ not-true v n)) z
 
             pub read_next : not v ≡ false → ReadTo signals count offsets text next (r + 1) after

@@ -1,8 +1,6 @@
 -- A sheet that is read for the signals of a network.
 use Rattle.base_laws.proofs.Kit.{ℕ, suc, ◌+◌, ◌*◌, ◌≤◌, ◌<◌, ◌≡◌, ap, ◌∙◌, List, arith, eqb, length, get_or}
-use Rattle.base_search.specs.declared.Verdict.{Verdict}
-use Rattle.base_search.specs.declared.Verdict.TheVariants.{Passes}
-use Rattle.base_search.specs.Checks.{or_else, checked, verdict}
+use Rattle.base_search.specs.Checks.{or_else, checked, verdict, Verdict}
 use Rattle.base_search.proofs.Laws.{first-same}
 use Rattle.text_reader.specs.Lines.{Line, lines}
 use Rattle.model.specs.declared.Signal.{Signal}
@@ -13,6 +11,7 @@ use Rattle.network_tables.specs.Tables.{SignalTable}
 use Rattle.step_signals.proofs.Rules.{ready-first}
 use Rattle.sheet_lines.specs.Sheet.{letter_f, phases_of, valid_numbers, sheet_line_checks, signals_checks, sheet_checks}
 use Rattle.sheet_lines.specs.Reading.{sheet_fields, sheet_table_size, SheetAsked, SheetRead}
+use Rattle.std.specs.Prelude.{Ok}
 
 module _ {network : List Line} {signals : List ℕ} (signal-table : SignalTable network signals) {count : ℕ} (is-count : count ≡ signal_count network) where
   pub sheet-asked : ValidNetwork network → count ≤ max_signals → {offsets : ℕ} → offsets ≤ 1 → {table : List ℕ} → length table ≡ sheet_table_size → SheetAsked signals count offsets table
@@ -38,5 +37,5 @@ module _ {network : List Line} {signals : List ℕ} (signal-table : SignalTable 
         (signal-table.holds r (omega arith)))))
 
     -- and the table has its numbers
-    pub sheet-number : v ≡ Passes → (r : ℕ) → r < signal_count network → (k : ℕ) → k < phases_of network r + offsets → get_or table (sheet_fields * r + k) 0 ≡ entry (lines text) r k
+    pub sheet-number : v ≡ Ok tt → (r : ℕ) → r < signal_count network → (k : ℕ) → k < phases_of network r + offsets → get_or table (sheet_fields * r + k) 0 ≡ entry (lines text) r k
     sheet-number e r l k u = (read.held e).numbers r k (omega arith) (rw (signal-table.holds r l) u)

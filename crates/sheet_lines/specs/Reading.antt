@@ -1,8 +1,6 @@
 -- What the reading of a sheet into a table asks and promises.
-use Rattle.std.specs.Prelude.{ℕ, ◌+◌, ◌*◌, ◌≤◌, ◌<◌, ◌≡◌, List, length, get_or}
-use Rattle.base_search.specs.declared.Verdict.{Verdict}
-use Rattle.base_search.specs.declared.Verdict.TheVariants.{Passes}
-use Rattle.base_search.specs.Checks.{verdict}
+use Rattle.std.specs.Prelude.{ℕ, ◌+◌, ◌*◌, ◌≤◌, ◌<◌, ◌≡◌, List, length, get_or, Ok}
+use Rattle.base_search.specs.Checks.{verdict, Verdict}
 use Rattle.text_reader.specs.Lines.{Line, lines}
 use Rattle.model.specs.Network.{max_signals, entry}
 use Rattle.network_tables.specs.Fields.{signal_table_size, table_signal}
@@ -40,4 +38,4 @@ pub record SheetRows (signals : List ℕ) (sheet : List Line) (offsets n : ℕ) 
 
 pub record SheetRead (signals : List ℕ) (count offsets : ℕ) (text : List ℕ) (result : Verdict) (table : List ℕ) : Type 0 where
   pub told : result ≡ verdict (signals_checks (table_signal signals) count (lines text) offsets)
-  pub held : result ≡ Passes → SheetRows signals (lines text) offsets count table
+  pub held : result ≡ Ok tt → SheetRows signals (lines text) offsets count table

@@ -7,9 +7,8 @@ ghost use Rattle.network_tables.specs.Fields.{table_signal};
 ghost use Rattle.sheet_lines.specs.Sheet.{valid_numbers};
 ghost use Rattle.sheet_lines.specs.Reading.{number_in, NumbersAsked, SheetAsked, SheetRead};
 
-use base_search::{Refusal, Verdict};
+use base_search::Refusal;
 use network_tables::MAX_SIGNALS;
-use text_reader::LineRead;
 
 // How many numbers a line has at most: eight durations and an offset.
 pub const SHEET_FIELDS: usize = 9;
@@ -56,7 +55,7 @@ pub fn read_sheet(
     count: usize,
     offsets: usize,
     table: &mut [u32],
-) -> Verdict
+) -> Result<(), Refusal>
     requires { SheetAsked signals.now count offsets table.old }
     ensures { SheetRead signals.now count offsets text.now result table.new }
 {
@@ -66,17 +65,17 @@ pub fn read_sheet(
         let start = SHEET_FIELDS * r;
         let width = network_tables::phase_count(signals, r) as usize + offsets;
         let read = network_tables::read_row(text, place, b'F', table, start, width);
-        let LineRead::Next(next) = read else {
-            return Verdict::Refused(Refusal::new(33, r + 1, 0));
+        let Some(next) = read else {
+            return Err(Refusal::new(33, r + 1, 0));
         };
         if !valid_numbers(table, start, signals, r, offsets) {
-            return Verdict::Refused(Refusal::new(33, r + 1, 0));
+            return Err(Refusal::new(33, r + 1, 0));
         }
         place = next;
         r += 1;
     }
     if text_reader::is_end(text, place) {
-        return Verdict::Passes;
+        return Ok(());
     }
-    Verdict::Refused(Refusal::new(33, count + 1, 0))
+    Err(Refusal::new(33, count + 1, 0))
 }

@@ -1,9 +1,7 @@
 -- Where the tables hold a network's and a sheet's numbers, what is judged and written by them is what the request says.
 use Rattle.base_laws.proofs.Kit.{ℕ, zero, suc, ◌+◌, ◌*◌, ◌-◌, ◌%◌, ◌^◌, ◌≤◌, ◌<◌, ◌≡◌, refl, sym, ap, ap₂, ◌∙◌, true, cond, List, add-one, dec_lt, arith, lt-ltb, le-ltb, leb, ltb, length, replicate}
 use Rattle.base_search.specs.declared.Refusal.{Refusal}
-use Rattle.base_search.specs.declared.Verdict.{Verdict}
-use Rattle.base_search.specs.declared.Verdict.TheVariants as verdicts
-use Rattle.base_search.specs.Checks.{or_else, checked, verdict, Hold}
+use Rattle.base_search.specs.Checks.{or_else, checked, verdict, Hold, Verdict}
 use Rattle.base_search.proofs.Laws.{first-same, or-else-passes, or-else-refused, hold-of-passes, passes-of-hold}
 use Rattle.text_reader.specs.Lines.{Line, lines}
 use Rattle.text_reader.specs.Padding.{PaddingIgnored}
@@ -19,8 +17,6 @@ use Rattle.model.proofs.Times.{time-suc}
 use Rattle.model.proofs.Accepted.{ValidNetwork, valid-network}
 use Rattle.network_tables.specs.declared.Counts.{Counts}
 use Rattle.network_tables.specs.declared.Reading.{Reading}
-use Rattle.network_tables.specs.declared.Stage.{Stage}
-use Rattle.network_tables.specs.declared.Stage.TheVariants as stages
 use Rattle.network_tables.specs.Places.{plan_width, Few}
 use Rattle.network_tables.specs.Fields.{tram_fields, signal_table_size, table_signal}
 use Rattle.network_tables.specs.Tables.{SignalTable, Judged}
@@ -35,8 +31,6 @@ use Rattle.network_writer.proofs.Plan.{column-mask, column-past, number-none, nu
 use Rattle.sheet_lines.specs.Sheet.{phases_of, sheet_checks}
 use Rattle.sheet_lines.specs.Reading.{sheet_table_size, number_in, SheetAsked, SheetRead}
 use Rattle.sheet_lines.proofs.Network.{sheet-asked, sheet-told, sheet-number}
-use Rattle.model_text.specs.declared.TextAnswer.{TextAnswer}
-use Rattle.model_text.specs.declared.TextAnswer.TheVariants.{Refused}
 use Rattle.model_text.specs.Answers.{text_answer, bytes_after, room_verdict, Told}
 use Rattle.model_sheet.specs.Cycle.{place_at, phase_from, phase_at, fits_at, has_no_tram, sheet_phase, can_write, boundary_checks, sheet_numbers, sheet_text, write_checks}
 use Rattle.model_sheet.specs.Calls.{plan_from_sheet, buffer_after}
@@ -47,6 +41,7 @@ use Rattle.model_sheet.proofs.Checks.{two-phases, duration-some, offset-short}
 use Rattle.model_sheet.proofs.Promises.{write-promises}
 use Rattle.sheet_writer.specs.Tables.{CycleLine, LineAsked, time_in, seconds_in, fits_in, can_write_in, boundary_checks_in, phase_in, cycle_text}
 use Rattle.sheet_writer.specs.Stages.{CyclesAsked, MasksGot, CyclesWritten, NetworkAsked, SheetWritten}
+use Rattle.std.specs.Prelude.{Result, Ok, Err}
 
 -- ---- a line's cycle is that of its numbers
 module _ {f g : ℕ → ℕ} where
@@ -76,11 +71,11 @@ only_same k n x y h = elim (dec_lt k n) [ yes l ↦ ap (only (ltb k n)) (h l) | 
 
 -- ---- by the tables
 module _ {network_text : List ℕ} {counts : Counts} {signals : List ℕ} {table times masks : List ℕ} {v : Verdict} (few : Few counts) (got : MasksGot network_text counts signals table times v masks) where
-  pub cycles-stopped : {q : Refusal} → v ≡ verdicts.Refused q → {old : List ℕ} → CyclesWritten network_text counts signals table times old (Refused q) old
+  pub cycles-stopped : {q : Refusal} → v ≡ Err q → {old : List ℕ} → CyclesWritten network_text counts signals table times old (Err q) old
   unfolding or_else text_answer bytes_after
   cycles-stopped e = record { told = rw (sym got.told ∙ e) (record { answered = refl; holds = refl }) }
 
-  text-held : v ≡ verdicts.Passes → plan_lines masks max_signals counts ≡ cycle_text signals table times counts
+  text-held : v ≡ Ok tt → plan_lines masks max_signals counts ≡ cycle_text signals table times counts
   unfolding plan_lines cycle_text plan_row
   text-held e = records-same letter_p _ _ counts.steps (λ n l. list_same (plan_width counts) _ _ (λ k u. number n k l))
     where
@@ -93,7 +88,7 @@ module _ {network_text : List ℕ} {counts : Counts} {signals : List ℕ} {table
   pub masks-asked : PlanAsked masks max_signals counts
   masks-asked = record { few = few; few-columns = omega arith; room = got.size }
 
-  pub cycles-written : v ≡ verdicts.Passes → {answer : TextAnswer} {old new : List ℕ} → Told (plan_lines masks max_signals counts) (room_verdict 24 (plan_lines masks max_signals counts) old) old answer new
+  pub cycles-written : v ≡ Ok tt → {answer : (Result ℕ Refusal)} {old new : List ℕ} → Told (plan_lines masks max_signals counts) (room_verdict 24 (plan_lines masks max_signals counts) old) old answer new
       → CyclesWritten network_text counts signals table times old answer new
   unfolding or_else
   cycles-written e told = record { told = rw (sym got.told ∙ e) (rw (text-held e) at told) }
@@ -127,12 +122,12 @@ module _ {text : List ℕ} {reading : Reading} {times : List ℕ} (asked : Netwo
       abbrev sheet : List Line
       sheet = lines sheet_text'
 
-      pub sheet-stopped : {old : List ℕ} {q : Refusal} → v ≡ verdicts.Refused q → SheetWritten network sheet old (Refused q) old
+      pub sheet-stopped : {old : List ℕ} {q : Refusal} → v ≡ Err q → SheetWritten network sheet old (Err q) old
       unfolding or_else text_answer bytes_after
       sheet-stopped e = record { told = rw (sym (sheet-told signal-table count-is read) ∙ e) (record { answered = refl; holds = refl }) }
 
-      module _ (e : v ≡ verdicts.Passes) where
-        passes : verdict (sheet_checks network sheet 1) ≡ verdicts.Passes
+      module _ (e : v ≡ Ok tt) where
+        passes : verdict (sheet_checks network sheet 1) ≡ Ok tt
         passes = sym (sheet-told signal-table count-is read) ∙ e
 
         held : Hold (sheet_checks network sheet 1)
@@ -203,7 +198,7 @@ module _ {text : List ℕ} {reading : Reading} {times : List ℕ} (asked : Netwo
             mask n r l u =
                 ap (λ q. 2 ^ (q - 1)) (rw (signal-is r u) (phase-same (phases_of network r) (number_is r u) (time_in times n)) ∙ ap (phase_at (entry sheet r) (phases_of network r)) (asked.time-table.holds n (omega arith)))
 
-        pub sheet-written : {old new : List ℕ} {answer : TextAnswer} → CyclesWritten text reading.counts signals table times old answer new → SheetWritten network sheet old answer new
+        pub sheet-written : {old new : List ℕ} {answer : (Result ℕ Refusal)} → CyclesWritten text reading.counts signals table times old answer new → SheetWritten network sheet old answer new
         sheet-written w = record { told = rw passes (unfold or_else in (rw (boundary-same, text_same) at w.told)) }
 
 -- ---- the whole call
@@ -212,31 +207,31 @@ written_is : (network sheet : List Line) (old : List ℕ) → verdict (write_che
 unfolding verdict write_checks
 written_is network sheet old = refl
 
-pub call-told : {network sheet : List Line} {old : List ℕ} {answer : TextAnswer} {new : List ℕ} → Told (sheet_text network sheet) (verdict (write_checks network sheet (length old))) old answer new
+pub call-told : {network sheet : List Line} {old : List ℕ} {answer : (Result ℕ Refusal)} {new : List ℕ} → Told (sheet_text network sheet) (verdict (write_checks network sheet (length old))) old answer new
     → WritePromises network sheet old answer new
 unfolding plan_from_sheet buffer_after
 call-told {network} {sheet} {old} t = rw (t.answered, t.holds) (write-promises network sheet old)
 
-module _ {text : List ℕ} {r : Stage} {links movements times : List ℕ} (g : Judged (network_checks (lines text)) (Loaded text links movements times) r) where
-  pub times-asked : {reading : Reading} → r ≡ stages.Passed reading → ShiftAsked times reading.counts.past reading.counts.steps
+module _ {text : List ℕ} {r : (Result Reading Refusal)} {links movements times : List ℕ} (g : Judged (network_checks (lines text)) (Loaded text links movements times) r) where
+  pub times-asked : {reading : Reading} → r ≡ Ok reading → ShiftAsked times reading.counts.past reading.counts.steps
   times-asked {reading} e = let l = g.held reading e in shift-asked l.counted l.holds l.time-table
 
-  pub call-asked : {reading : Reading} → r ≡ stages.Passed reading → {after : List ℕ} → Shifted times reading.counts.past reading.counts.steps after → NetworkAsked text reading after
+  pub call-asked : {reading : Reading} → r ≡ Ok reading → {after : List ℕ} → Shifted times reading.counts.past reading.counts.steps after → NetworkAsked text reading after
   call-asked {reading} e s =
       let l = g.held reading e in
       record { counted = l.counted; trams-start = l.trams-start; signals-start = l.signals-start; time-table = plan-times l.counted l.holds l.time-table s; holds = l.holds }
 
   module _ {sheet : List Line} {old : List ℕ} where
-    pub call-refused : {q : Refusal} → r ≡ stages.Refused q → WritePromises (lines text) sheet old (Refused q) old
+    pub call-refused : {q : Refusal} → r ≡ Err q → WritePromises (lines text) sheet old (Err q) old
     call-refused e =
         call-told (rw (written_is (lines text) sheet old ∙ or-else-refused _ _ _ (verdict-refused g e)) (unfold text_answer bytes_after in record { answered = refl; holds = refl }))
 
-    pub call-written : {reading : Reading} → r ≡ stages.Passed reading → {answer : TextAnswer} {new : List ℕ} → SheetWritten (lines text) sheet old answer new → WritePromises (lines text) sheet old answer new
+    pub call-written : {reading : Reading} → r ≡ Ok reading → {answer : (Result ℕ Refusal)} {new : List ℕ} → SheetWritten (lines text) sheet old answer new → WritePromises (lines text) sheet old answer new
     call-written {reading} e w =
         call-told (rw (written_is (lines text) sheet old ∙ or-else-passes _ _ (passes-of-hold (network_checks (lines text)) (g.held reading e).holds)) w.told)
 
 -- the same of texts that differ only in padding
-pub padding-too : (network sheet : List ℕ) {old new : List ℕ} {answer : TextAnswer} → WritePromises (lines network) (lines sheet) old answer new
+pub padding-too : (network sheet : List ℕ) {old new : List ℕ} {answer : (Result ℕ Refusal)} → WritePromises (lines network) (lines sheet) old answer new
     → WritePromises (lines network) (lines sheet) old answer new
     × PaddingIgnored network (λ padded_network. PaddingIgnored sheet (λ padded_sheet. WritePromises (lines padded_network) (lines padded_sheet) old answer new))
 padding-too network sheet got = (got, λ padded_network n padded_sheet s. rw (← same_lines network padded_network n, ← same_lines sheet padded_sheet s) got)

@@ -1,10 +1,7 @@
 -- The masks of one signal, step by step, and those of all signals: one law for each way through a turn.
 use Rattle.base_laws.proofs.Kit.{ℕ, zero, suc, ◌+◌, ◌*◌, ◌-◌, ◌^◌, ◌≤◌, ◌<◌, ◌≡◌, refl, sym, ap, ◌∙◌, Bool, true, false, not, true≢false, ◌⊎◌, inl, inr, ◌≢◌, List, add-one, eq-or-lt_of_le, arith, le-leb, lt-leb, not-true, not-false, eq-eqb, ne_eqb, eqb, length, get_or, set, length-set, get_or-set_same, get_or-set_other}
 use Rattle.base_search.specs.declared.Refusal.{Refusal}
-use Rattle.base_search.specs.declared.Verdict.TheVariants.{Passes, Refused}
 use Rattle.base_search.specs.Checks.{refusal, Checks, check, checked, verdict}
-use Rattle.text_reader.specs.declared.LineRead.{LineRead}
-use Rattle.text_reader.specs.declared.LineRead.TheVariants.{Next, Malformed}
 use Rattle.text_reader.specs.Lines.{Line, lines}
 use Rattle.text_reader.specs.Reading.{Starts}
 use Rattle.base_laws.specs.Test.{◌and◌, every}
@@ -22,6 +19,7 @@ use Rattle.sheet_writer.specs.Tables.{RunAt, NextAsked, NextRun, time_in, second
 use Rattle.sheet_writer.specs.Stages.{TramsAsked, CyclesAsked, MasksGot}
 use Rattle.sheet_writer.proofs.Cycle.{run-phase, fits-run}
 use Rattle.base_laws.proofs.Tests.{every-not}
+use Rattle.std.specs.Prelude.{Option, Some, None, Ok, Err}
 
 -- ---- one signal: the first n steps fit, their masks are set, and this run shows next
 pub record ColumnTo (value : ℕ → ℕ) (P : ℕ) (times : List ℕ) (steps r : ℕ) (before masks : List ℕ) (run : Run) (n : ℕ) : Type 0 where
@@ -121,12 +119,12 @@ module _ {text : List ℕ} {at₀ count : ℕ} (asked : TramsAsked text at₀ co
     unfolding has_no_tram
     trams-all h = let e : k ≡ tram_count (lines text) = omega (arith, inv.within, asked.counted) in sym (rw e at inv.none)
 
-    module _ (h : k < count) {x : LineRead} {old fields : List ℕ} (row : RowRead letter_t tram_fields text at 0 old x fields) where
+    module _ (h : k < count) {x : (Option ℕ)} {old fields : List ℕ} (row : RowRead letter_t tram_fields text at 0 old x fields) where
       -- a line that has passed is not malformed
-      pub trams-never : x ≡ Malformed → true ≡ has_no_tram (lines text) r
+      pub trams-never : x ≡ None → true ≡ has_no_tram (lines text) r
       trams-never e = absurd (true≢false (sym (asked.forms k h) ∙ row.malformed e (tram_line (lines text) k) inv.starts))
 
-      module _ {next : ℕ} (e : x ≡ Next next) {i : ℕ} (q : i ≡ get_or fields 0 0) where
+      module _ {next : ℕ} (e : x ≡ Some next) {i : ℕ} (q : i ≡ get_or fields 0 0) where
         named : i ≡ entry (lines text) (tram_line (lines text) k) 0
         named = q ∙ (row.held next e (tram_line (lines text) k) inv.starts).numbers 0 (omega arith)
 
@@ -167,7 +165,7 @@ module _ {network_text : List ℕ} {reading : Reading} {signals table times : Li
   masks-none l = record { passed = passed_none; size = l; held = record { size = l; shows = λ n r u h. absurd (omega arith) } }
 
   module _ {masks : List ℕ} {r : ℕ} (inv : MasksTo (lines network_text) signals table times steps count masks r) where
-    pub masks-all : count ≤ r → MasksGot network_text reading.counts signals table times Passes masks
+    pub masks-all : count ≤ r → MasksGot network_text reading.counts signals table times (Ok tt) masks
     unfolding boundary_checks_in
     masks-all h =
         let e : r ≡ count = omega (arith, inv.passed.within) in
@@ -181,7 +179,7 @@ module _ {network_text : List ℕ} {reading : Reading} {signals table times : Li
       column-wanted p = record { line-asked = rw p (asked.lines-asked r h); times-asked = asked.times-asked; signal = signal-few; room = inv.size }
 
       stopped : {after : List ℕ} → length after ≡ mask_table_size → can_write_in (lines network_text) signals table times steps r ≡ false → {q : Refusal} → q ≡ refusal 35 0 (r + 1)
-          → MasksGot network_text reading.counts signals table times (Refused q) after
+          → MasksGot network_text reading.counts signals table times (Err q) after
       unfolding boundary_checks_in
       stopped l f z =
           record {
@@ -191,7 +189,7 @@ module _ {network_text : List ℕ} {reading : Reading} {signals table times : Li
           }
 
       module _ {b : Bool} (tram : b ≡ has_no_tram (lines network_text) r) where
-        pub masks-tram : not b ≡ true → {q : Refusal} → q ≡ refusal 35 0 (r + 1) → MasksGot network_text reading.counts signals table times (Refused q) masks
+        pub masks-tram : not b ≡ true → {q : Refusal} → q ≡ refusal 35 0 (r + 1) → MasksGot network_text reading.counts signals table times (Err q) masks
         masks-tram n z = stopped inv.size (unfold can_write_in ◌and◌ in rw (sym tram ∙ not-true b n)) z
 
         module _ (n : not b ≡ false) {phases : ℕ} (p : phases ≡ (table_signal signals r).phases) {c : Bool} {after : List ℕ} (filled : ColumnGot (number_in table (9 * r)) phases times steps r masks c after) where
@@ -202,7 +200,7 @@ module _ {network_text : List ℕ} {reading : Reading} {signals table times : Li
           unfolding can_write_in ◌and◌
           judged = rw (sym tram ∙ not-false b n) (sym got.told)
 
-          pub masks-off : not c ≡ true → {q : Refusal} → q ≡ refusal 35 0 (r + 1) → MasksGot network_text reading.counts signals table times (Refused q) after
+          pub masks-off : not c ≡ true → {q : Refusal} → q ≡ refusal 35 0 (r + 1) → MasksGot network_text reading.counts signals table times (Err q) after
           masks-off f z = stopped got.size (judged ∙ not-true c f) z
 
           pub masks-next : not c ≡ false → MasksTo (lines network_text) signals table times steps count after (r + 1)

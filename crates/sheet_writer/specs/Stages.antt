@@ -1,8 +1,6 @@
 -- What the stages of the call ask and promise.
-use Rattle.std.specs.Prelude.{ℕ, ◌*◌, ◌<◌, ◌≡◌, true, List, length}
-use Rattle.base_search.specs.declared.Verdict.{Verdict}
-use Rattle.base_search.specs.declared.Verdict.TheVariants as verdicts
-use Rattle.base_search.specs.Checks.{or_else, verdict, Hold}
+use Rattle.std.specs.Prelude.{ℕ, ◌*◌, ◌<◌, ◌≡◌, true, List, length, Result, Ok}
+use Rattle.base_search.specs.Checks.{or_else, verdict, Hold, Verdict}
 use Rattle.text_reader.specs.Lines.{Line, lines}
 use Rattle.text_reader.specs.Reading.{Starts}
 use Rattle.model.specs.Network.{tram_count, tram_line, signal_line}
@@ -15,10 +13,10 @@ use Rattle.network_tables.specs.Tables.{CountsHold}
 use Rattle.step_arrivals.specs.Times.{PlanTimes}
 use Rattle.sheet_lines.specs.Sheet.{sheet_checks}
 use Rattle.sheet_lines.specs.Reading.{sheet_fields}
-use Rattle.model_text.specs.declared.TextAnswer.{TextAnswer}
 use Rattle.model_text.specs.Answers.{room_verdict, Told}
 use Rattle.model_sheet.specs.Cycle.{boundary_checks, sheet_text}
 use Rattle.sheet_writer.specs.Tables.{LineAsked, TimesAsked, boundary_checks_in, cycle_text, MasksHeld, mask_table_size}
+use Rattle.base_search.specs.declared.Refusal.{Refusal}
 
 -- the `T` lines of a network that has passed
 pub record TramsAsked (text : List ℕ) (at count : ℕ) : Type 0 where
@@ -38,10 +36,10 @@ pub record CyclesAsked (network_text : List ℕ) (reading : Reading) (signals : 
 pub record MasksGot (network_text : List ℕ) (counts : Counts) (signals : List ℕ) (table times : List ℕ) (result : Verdict) (masks : List ℕ) : Type 0 where
   pub told : result ≡ verdict (boundary_checks_in (lines network_text) signals table times counts.steps counts.signals)
   pub size : length masks ≡ mask_table_size
-  pub held : result ≡ verdicts.Passes → MasksHeld signals table times counts.steps counts.signals masks
+  pub held : result ≡ Ok tt → MasksHeld signals table times counts.steps counts.signals masks
 
 -- by the tables: 35, then 24
-pub record CyclesWritten (network_text : List ℕ) (counts : Counts) (signals : List ℕ) (table times old : List ℕ) (answer : TextAnswer) (new : List ℕ) : Type 0 where
+pub record CyclesWritten (network_text : List ℕ) (counts : Counts) (signals : List ℕ) (table times old : List ℕ) (answer : Result ℕ Refusal) (new : List ℕ) : Type 0 where
   pub told : Told (cycle_text signals table times counts)
       (or_else (verdict (boundary_checks_in (lines network_text) signals table times counts.steps counts.signals)) (room_verdict 24 (cycle_text signals table times counts) old)) old answer new
 
@@ -54,6 +52,6 @@ pub record NetworkAsked (text : List ℕ) (reading : Reading) (times : List ℕ)
   pub holds : Hold (network_checks (lines text))
 
 -- on it: 33, 35, 24
-pub record SheetWritten (network sheet : List Line) (old : List ℕ) (answer : TextAnswer) (new : List ℕ) : Type 0 where
+pub record SheetWritten (network sheet : List Line) (old : List ℕ) (answer : Result ℕ Refusal) (new : List ℕ) : Type 0 where
   pub told : Told (sheet_text network sheet)
       (or_else (verdict (sheet_checks network sheet 1)) (or_else (verdict (boundary_checks network sheet)) (room_verdict 24 (sheet_text network sheet) old))) old answer new

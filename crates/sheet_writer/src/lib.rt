@@ -12,14 +12,12 @@ ghost use Rattle.model_sheet.specs.Promises.{WritePromises};
 ghost use Rattle.sheet_writer.specs.Tables.{LineAsked, RunAt, NextAsked, NextRun, seconds_in, TimesAsked, ColumnAsked, ColumnGot};
 ghost use Rattle.sheet_writer.specs.Stages.{TramsAsked, CyclesAsked, MasksGot, CyclesWritten, NetworkAsked, SheetWritten};
 
-use base_search::{Refusal, Verdict};
-use model_text::TextAnswer;
+use base_search::Refusal;
 use network_tables::{
     LINK_TABLE_SIZE, MAX_SIGNALS, MAX_STEPS, MOVEMENT_TABLE_SIZE, Reading, SIGNAL_TABLE_SIZE,
-    Stage, TIME_TABLE_SIZE, TRAM_FIELDS,
+    TIME_TABLE_SIZE, TRAM_FIELDS,
 };
 use sheet_lines::{SHEET_FIELDS, SHEET_TABLE_SIZE};
-use text_reader::LineRead;
 
 // The masks of all steps, eight a step.
 const MASK_TABLE_SIZE: usize = MAX_SIGNALS * MAX_STEPS;
@@ -121,7 +119,7 @@ fn has_no_tram(network: &[u8], at: usize, count: usize, r: usize) -> bool
     let mut k = 0;
     while k < count {
         let read = network_tables::read_row(network, place, b'T', &mut fields, 0, TRAM_FIELDS);
-        let LineRead::Next(next) = read else {
+        let Some(next) = read else {
             return true;
         };
         if network_tables::index(fields[0]) == r + 1 {
@@ -141,7 +139,7 @@ fn fill_masks(
     table: &[u32],
     times: &[u32],
     masks: &mut [u32],
-) -> Verdict
+) -> Result<(), Refusal>
     requires cycles_asked { CyclesAsked network.now reading signals.now table.now times.now }
     requires masks_len { length masks.old ≡ 960 }
     ensures { MasksGot network.now reading.counts signals.now table.now times.now result masks.new }
@@ -152,14 +150,14 @@ fn fill_masks(
         let phases = network_tables::phase_count(signals, r);
         let start = SHEET_FIELDS * r;
         if !has_no_tram(network, reading.trams_at, counts.trams, r) {
-            return Verdict::Refused(Refusal::new(35, 0, r + 1));
+            return Err(Refusal::new(35, 0, r + 1));
         }
         if !fill_column(table, start, phases, times, counts.steps, r, masks) {
-            return Verdict::Refused(Refusal::new(35, 0, r + 1));
+            return Err(Refusal::new(35, 0, r + 1));
         }
         r += 1;
     }
-    Verdict::Passes
+    Ok(())
 }
 
 // The cycles of a sheet that has passed: refusals 35 and 24.
@@ -170,14 +168,14 @@ fn write_cycles(
     table: &[u32],
     times: &[u32],
     out: &mut [u8],
-) -> TextAnswer
+) -> Result<usize, Refusal>
     requires { CyclesAsked network.now reading signals.now table.now times.now }
     ensures { CyclesWritten network.now reading.counts signals.now table.now times.now out.old result out.new }
 {
     let mut masks = [0u32; MASK_TABLE_SIZE];
     match fill_masks(network, reading, signals, table, times, &mut masks) {
-        Verdict::Passes => network_writer::write_plan(&masks, MAX_SIGNALS, reading.counts, out),
-        Verdict::Refused(refusal) => TextAnswer::Refused(refusal),
+        Ok(()) => network_writer::write_plan(&masks, MAX_SIGNALS, reading.counts, out),
+        Err(refusal) => Err(refusal),
     }
 }
 
@@ -188,7 +186,7 @@ fn write_on_network(
     sheet: &[u8],
     times: &[u32],
     out: &mut [u8],
-) -> TextAnswer
+) -> Result<usize, Refusal>
     requires { NetworkAsked network.now reading times.now }
     ensures { SheetWritten (lines network.now) (lines sheet.now) out.old result out.new }
 {
@@ -197,13 +195,13 @@ fn write_on_network(
     let counts = reading.counts;
     network_signals::load_signals(network, reading, &mut signals);
     match sheet_lines::read_sheet(sheet, &signals, counts.signals, 1, &mut table) {
-        Verdict::Passes => write_cycles(network, reading, &signals, &table, times, out),
-        Verdict::Refused(refusal) => TextAnswer::Refused(refusal),
+        Ok(()) => write_cycles(network, reading, &signals, &table, times, out),
+        Err(refusal) => Err(refusal),
     }
 }
 
 // The plan text of a sheet with offsets: refusals 1 to 6, 28 and 30, then 33, 35 and 24.
-pub fn plan_from_sheet(network: &[u8], sheet: &[u8], out: &mut [u8]) -> TextAnswer
+pub fn plan_from_sheet(network: &[u8], sheet: &[u8], out: &mut [u8]) -> Result<usize, Refusal>
     ensures write_promises { WritePromises (lines network.now) (lines sheet.now) out.old result out.new }
     ensures padding_ignored { PaddingIgnored network.now (λ padded_network. PaddingIgnored sheet.now (λ padded_sheet. WritePromises (lines padded_network) (lines padded_sheet) out.old result out.new)) }
 {
@@ -211,11 +209,11 @@ pub fn plan_from_sheet(network: &[u8], sheet: &[u8], out: &mut [u8]) -> TextAnsw
     let mut movements = [0u32; MOVEMENT_TABLE_SIZE];
     let mut times = [0u32; TIME_TABLE_SIZE];
     match network::load_network(network, &mut links, &mut movements, &mut times) {
-        Stage::Passed(reading) => {
+        Ok(reading) => {
             let counts = reading.counts;
             step_arrivals::from_start(&mut times, counts.past, counts.steps);
             write_on_network(network, reading, sheet, &times, out)
         }
-        Stage::Refused(refusal) => TextAnswer::Refused(refusal),
+        Err(refusal) => Err(refusal),
     }
 }

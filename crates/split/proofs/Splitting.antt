@@ -1,9 +1,7 @@
 -- The ways out of the call, by the definitions.
 use Rattle.base_laws.proofs.Kit.{ℕ, ◌^◌, ◌/◌, ◌≤◌, ◌<◌, ◌≡◌, refl, sym, ◌∙◌, Bool, true, false, not, List, [], arith, not-true, not-false, replicate, length-replicate}
 use Rattle.base_search.specs.declared.Refusal.{Refusal}
-use Rattle.base_search.specs.declared.Verdict.{Verdict}
-use Rattle.base_search.specs.declared.Verdict.TheVariants as verdicts
-use Rattle.base_search.specs.Checks.{refusal, or_else, checked, verdict, Hold}
+use Rattle.base_search.specs.Checks.{refusal, or_else, checked, verdict, Hold, Verdict}
 use Rattle.base_search.proofs.Laws.{or-else-passes, or-else-refused, checked-passes, checked_refused, passes-of-hold, hold-of-passes}
 use Rattle.text_reader.specs.Lines.{Line, lines}
 use Rattle.text_reader.specs.Padding.{PaddingIgnored}
@@ -15,8 +13,6 @@ use Rattle.base_laws.proofs.Tests.{and_right}
 use Rattle.model.proofs.Accepted.{valid-network}
 use Rattle.model.proofs.Limits.{link-limits}
 use Rattle.network_tables.specs.declared.Reading.{Reading}
-use Rattle.network_tables.specs.declared.Stage.{Stage}
-use Rattle.network_tables.specs.declared.Stage.TheVariants as stages
 use Rattle.network_tables.specs.Fields.{signal_table_size, signal_in}
 use Rattle.network_tables.specs.Tables.{SignalTable, Judged}
 use Rattle.network_tables.proofs.Stages.{verdict-refused}
@@ -28,8 +24,6 @@ use Rattle.plan_steps.proofs.Runs.{signals-first}
 use Rattle.split_tables.specs.Tables.{half_size, HalfTable}
 use Rattle.split_tables.specs.Halves.{HalvesAsked, HalvesNumbered}
 use Rattle.split_tables.proofs.Halves.{zeros-at}
-use Rattle.model_split.specs.declared.SplitAnswer.{SplitAnswer}
-use Rattle.model_split.specs.declared.SplitAnswer.TheVariants.{Refused}
 use Rattle.model_split.specs.Halves.{first_half, second_half}
 use Rattle.model_split.specs.Call.{in_set, form_checks, part_checks, lengths, split_checks, split_answer, split_network, buffer_after}
 use Rattle.model_split.specs.Splits.{Buffers, room_of, buffers_after, SplitInTwo}
@@ -39,6 +33,8 @@ use Rattle.split_checks.specs.Network.{SplitAsked, SplitTold, PartsTold}
 use Rattle.split_checks.specs.Plan.{FormAsked, FormTold}
 use Rattle.split_checks.proofs.Network.{movement-ends}
 use Rattle.split.specs.Splitting.{texts, Passed, JudgeAsked, HalvesJudged, BothHalves, WriteAsked, fits, WrittenWhere, HalvesWritten, SplitGot}
+use Rattle.std.specs.Prelude.{Result, Ok, Err}
+use Rattle.model_split.specs.declared.Lengths.{Lengths}
 
 -- ---- the answer and the buffers by the verdict
 module _ (network_text plan_text : List ℕ) (set : ℕ) (before : Buffers) where
@@ -49,28 +45,28 @@ module _ (network_text plan_text : List ℕ) (set : ℕ) (before : Buffers) wher
   plan = plan_of network_text plan_text
 
   -- a refusal before 42
-  got-refused : {r : Refusal} → verdict (part_checks net plan set) ≡ verdicts.Refused r → SplitGot network_text plan_text set before before (Refused r)
+  got-refused : {r : Refusal} → verdict (part_checks net plan set) ≡ Err r → SplitGot network_text plan_text set before before (Err r)
   unfolding split_network buffers_after
   got-refused {r} v =
-      let all : verdict (split_checks net plan set (room_of before)) ≡ verdicts.Refused r = unfold split_checks verdict in or-else-refused _ _ r v in
+      let all : verdict (split_checks net plan set (room_of before)) ≡ Err r = unfold split_checks verdict in or-else-refused _ _ r v in
       record { told = rw all (unfold split_answer in refl); holds = rw all (unfold buffer_after in refl) }
 
   -- the last check is 42
-  last-judged : verdict (part_checks net plan set) ≡ verdicts.Passes → verdict (split_checks net plan set (room_of before)) ≡ checked (fits (lengths net plan set) (room_of before)) 42 0 0
+  last-judged : verdict (part_checks net plan set) ≡ Ok tt → verdict (split_checks net plan set (room_of before)) ≡ checked (fits (lengths net plan set) (room_of before)) 42 0 0
   unfolding split_checks verdict fits
   last-judged v = or-else-passes _ _ v
 
-  got-written : verdict (part_checks net plan set) ≡ verdicts.Passes → {after : Buffers} {answer : SplitAnswer} → WrittenWhere net plan set before after answer
+  got-written : verdict (part_checks net plan set) ≡ Ok tt → {after : Buffers} {answer : (Result Lengths Refusal)} → WrittenWhere net plan set before after answer
       → SplitGot network_text plan_text set before after answer
   unfolding split_network buffers_after
   got-written v {after} {answer} w = go (fits (lengths net plan set) (room_of before)) refl
     where
       go : (b : Bool) → fits (lengths net plan set) (room_of before) ≡ b → SplitGot network_text plan_text set before after answer
       go true f =
-          let all : verdict (split_checks net plan set (room_of before)) ≡ verdicts.Passes = last-judged v ∙ checked-passes _ 42 0 0 f in
+          let all : verdict (split_checks net plan set (room_of before)) ≡ (Ok tt) = last-judged v ∙ checked-passes _ 42 0 0 f in
           record { told = rw all (unfold split_answer in (w.written f).0); holds = rw all (unfold buffer_after in (w.written f).1) }
       go false f =
-          let all : verdict (split_checks net plan set (room_of before)) ≡ verdicts.Refused (refusal 42 0 0) = last-judged v ∙ checked_refused _ 42 0 0 f in
+          let all : verdict (split_checks net plan set (room_of before)) ≡ Err (refusal 42 0 0) = last-judged v ∙ checked_refused _ 42 0 0 f in
           record { told = rw all (unfold split_answer in (w.refused f).0); holds = rw all (unfold buffer_after in (w.refused f).1) }
 
 -- ---- a network that has passed
@@ -149,7 +145,7 @@ module _ {network_text : List ℕ} {reading : Reading} {signals links movements 
           ∙ rw (← c set e f g, ← s (lines network_text) p.holds p.counted.links p.link-table set f) refl
 
     -- 40
-    pub no-split : not can ≡ true → {r : Refusal} → r ≡ refusal 40 0 0 → HalvesJudged network_text plan_text above first second (verdicts.Refused r)
+    pub no-split : not can ≡ true → {r : Refusal} → r ≡ refusal 40 0 0 → HalvesJudged network_text plan_text above first second (Err r)
     no-split n t set e f g = rw t (sym (judged-by set e f g ∙ or-else-refused _ _ _ (checked_refused can 40 0 0 (not-true can n))))
 
     module _ (y : not can ≡ false) where
@@ -159,7 +155,7 @@ module _ {network_text : List ℕ} {reading : Reading} {signals links movements 
       then-parts set e f g = judged-by set e f g ∙ or-else-passes _ _ (checked-passes can 40 0 0 (not-false can y))
 
       -- 41
-      pub no-parts : not parts ≡ true → {r : Refusal} → r ≡ refusal 41 0 0 → HalvesJudged network_text plan_text above first second (verdicts.Refused r)
+      pub no-parts : not parts ≡ true → {r : Refusal} → r ≡ refusal 41 0 0 → HalvesJudged network_text plan_text above first second (Err r)
       no-parts n t set e f g = rw t (sym (then-parts set e f g ∙ or-else-refused _ _ _ (checked_refused parts 41 0 0 (not-true parts n))))
 
       -- 9, or none
@@ -182,10 +178,10 @@ module _ {network_text : List ℕ} {reading : Reading} {links movements : List �
     judged-is = sym (j set (rw p.counted.links at a) both.0 both.1)
 
     -- 40, 41 or 9
-    pub judged-refused : (before : Buffers) {r : Refusal} → v ≡ verdicts.Refused r → SplitGot network_text plan_text set before before (Refused r)
+    pub judged-refused : (before : Buffers) {r : Refusal} → v ≡ Err r → SplitGot network_text plan_text set before before (Err r)
     judged-refused before e = got-refused network_text plan_text set before (judged-is ∙ e)
 
-    module _ (e : v ≡ verdicts.Passes) where
+    module _ (e : v ≡ Ok tt) where
       hold : Hold (part_checks (lines network_text) (plan_of network_text plan_text) set)
       hold = hold-of-passes (part_checks (lines network_text) (plan_of network_text plan_text) set) (judged-is ∙ e)
 
@@ -204,15 +200,15 @@ module _ {network_text : List ℕ} {reading : Reading} {links movements : List �
           }
 
       -- 42, or the texts
-      pub all-judged : {before after : Buffers} {answer : SplitAnswer} → HalvesWritten network_text plan_text first second before after answer → SplitGot network_text plan_text set before after answer
+      pub all-judged : {before after : Buffers} {answer : (Result Lengths Refusal)} → HalvesWritten network_text plan_text first second before after answer → SplitGot network_text plan_text set before after answer
       all-judged {before} w = got-written network_text plan_text set before (judged-is ∙ e) (w set halves)
 
 -- ---- the call
-pub network-refused : (network_text plan_text : List ℕ) (set : ℕ) (before : Buffers) {stage : Stage} {Held : Reading → Type 0} {r : Refusal} → Judged (network_checks (lines network_text)) Held stage
-    → stage ≡ stages.Refused r → SplitGot network_text plan_text set before before (Refused r)
+pub network-refused : (network_text plan_text : List ℕ) (set : ℕ) (before : Buffers) {stage : (Result Reading Refusal)} {Held : Reading → Type 0} {r : Refusal} → Judged (network_checks (lines network_text)) Held stage
+    → stage ≡ Err r → SplitGot network_text plan_text set before before (Err r)
 network-refused network_text plan_text set before {r = r} got e = got-refused network_text plan_text set before (unfold part_checks verdict in or-else-refused _ _ r (verdict-refused got e))
 
-pub promised : {network_text plan_text : List ℕ} {set : ℕ} {before after : Buffers} {answer : SplitAnswer} → SplitGot network_text plan_text set before after answer
+pub promised : {network_text plan_text : List ℕ} {set : ℕ} {before after : Buffers} {answer : (Result Lengths Refusal)} → SplitGot network_text plan_text set before after answer
     → SplitInTwo (texts network_text plan_text) set before after answer
     × PaddingIgnored network_text (λ padded_network. PaddingIgnored plan_text (λ padded_plan. SplitGot padded_network padded_plan set before after answer))
 promised {network_text} {plan_text} {set} {before} got = (

@@ -10,13 +10,13 @@ use Rattle.base_laws.proofs.Tests.{and_left, and_right, not-both}
 use Rattle.network_tables.specs.declared.Reading.{Reading}
 use Rattle.network_writer.specs.Put.{PutWhole}
 use Rattle.model_split.specs.declared.Lengths.{Lengths}
-use Rattle.model_split.specs.declared.SplitAnswer.TheVariants.{Written, Refused}
 use Rattle.model_split.specs.Halves.{Half, first_half, second_half}
 use Rattle.model_split.specs.Call.{in_set, network_text₁, plan_text₁, network_text₂, plan_text₂, lengths}
 use Rattle.model_split.specs.Splits.{Buffers, room_of}
 use Rattle.split_text.specs.Halves.{OneHalf, PlanAsked, PlanPut, NetworkAsked, NetworkPut}
 use Rattle.split.specs.declared.HalfLengths.{HalfLengths}
 use Rattle.split.specs.Splitting.{buffers, HalfPut, BothHalves, WriteAsked, Measured, fits, HalvesWritten}
+use Rattle.std.specs.Prelude.{Ok, Err}
 
 -- ---- the two halves
 module _ {network : List Line} {set : ℕ} {first second : List ℕ} (b : BothHalves network set first second) where
@@ -56,9 +56,9 @@ module _ (network_text plan_text : List ℕ) {first second : List ℕ} {found : 
   room-told : (set : ℕ) → BothHalves (lines network_text) set first second → b ≡ fits (lengths (lines network_text) (plan_of network_text plan_text) set) (room_of before)
   room-told set halves = told ∙ ap (λ x. fits x (room_of before)) (m set halves)
 
-  pub too_short : not b ≡ true → {r : Refusal} → r ≡ refusal 42 0 0 → HalvesWritten network_text plan_text first second before before (Refused r)
+  pub too_short : not b ≡ true → {r : Refusal} → r ≡ refusal 42 0 0 → HalvesWritten network_text plan_text first second before before (Err r)
   too_short f e set halves =
-      record { written = λ w. absurd (not-both w (sym (room-told set halves) ∙ not-true b f)); refused = λ w. (ap Refused e, refl) }
+      record { written = λ w. absurd (not-both w (sym (room-told set halves) ∙ not-true b f)); refused = λ w. (ap Err e, refl) }
 
 module _ {network_text plan_text : List ℕ} {reading : Reading} {signals links movements first second : List ℕ} (a : WriteAsked network_text plan_text reading signals links movements first second) where
   half-asked : {half : List ℕ} {h : Half} → OneHalf (lines network_text) a.set h half → NetworkAsked network_text plan_text reading signals links movements half
@@ -122,9 +122,9 @@ module _ (network_text plan_text : List ℕ) {first second old₁ new₁ old₂ 
         rw ((first-put set halves).0.is r.0, (first-put set halves).1.is r.1, (second-put set halves).0.is r.2, (second-put set halves).1.is r.3) refl
 
   module _ {found : Lengths} (m : Measured network_text plan_text first second found) {b : Bool} (told : b ≡ fits found (room_of before)) where
-    pub all-written : not b ≡ false → HalvesWritten network_text plan_text first second before (buffers new₁ new₂ new₃ new₄) (Written found)
+    pub all-written : not b ≡ false → HalvesWritten network_text plan_text first second before (buffers new₁ new₂ new₃ new₄) (Ok found)
     all-written y set halves =
         record {
-          written = λ e. (ap Written (m set halves), written-are set halves e);
+          written = λ e. (ap Ok (m set halves), written-are set halves e);
           refused = λ e. absurd (not-both (sym (room-told network_text plan_text m before told set halves) ∙ not-false b y) e);
         }

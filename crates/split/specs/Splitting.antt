@@ -1,7 +1,6 @@
 -- What the call asks and promises of a network that has passed.
-use Rattle.std.specs.Prelude.{ℕ, ◌^◌, ◌/◌, ◌≡◌, Bool, true, false, List, leb, length}
-use Rattle.base_search.specs.declared.Verdict.{Verdict}
-use Rattle.base_search.specs.Checks.{refusal, verdict, Hold}
+use Rattle.std.specs.Prelude.{ℕ, ◌^◌, ◌/◌, ◌≡◌, Bool, true, false, List, leb, length, Result, Ok, Err}
+use Rattle.base_search.specs.Checks.{refusal, verdict, Hold, Verdict}
 use Rattle.text_reader.specs.Lines.{Line, lines}
 use Rattle.text_reader.specs.Reading.{Starts, over}
 use Rattle.base_laws.specs.Test.{◌and◌}
@@ -12,14 +11,13 @@ use Rattle.network_tables.specs.declared.Reading.{Reading}
 use Rattle.network_tables.specs.Tables.{CountsHold, LinkTable, MovementTable, SignalTable}
 use Rattle.network_writer.specs.Put.{PutWhole}
 use Rattle.model_split.specs.declared.Lengths.{Lengths}
-use Rattle.model_split.specs.declared.SplitAnswer.{SplitAnswer}
-use Rattle.model_split.specs.declared.SplitAnswer.TheVariants.{Written, Refused}
 use Rattle.model_split.specs.Halves.{Half, first_half, second_half, half_network_text, half_plan_text}
 use Rattle.model_split.specs.Call.{in_set, can_split, parts_signals, part_checks, network_text₁, plan_text₁, network_text₂, plan_text₂, lengths, split_network}
 use Rattle.model_split.specs.Splits.{Texts, Buffers, room_of, buffers_after}
 use Rattle.split_tables.specs.Tables.{half_size, HalfTable}
 use Rattle.split_text.specs.Halves.{OneHalf, Held}
 use Rattle.split.specs.declared.HalfLengths.{HalfLengths}
+use Rattle.base_search.specs.declared.Refusal.{Refusal}
 
 abbrev pub texts : List ℕ → List ℕ → Texts
 texts network plan = record { network = network; plan = plan }
@@ -84,19 +82,19 @@ fits sizes room =
     and leb sizes.plan_2 room.plan_2
 
 -- the four texts were written if each has room (42); else every buffer is as it was
-pub record WrittenWhere (network plan : List Line) (set : ℕ) (before after : Buffers) (answer : SplitAnswer) : Type 0 where
+pub record WrittenWhere (network plan : List Line) (set : ℕ) (before after : Buffers) (answer : Result Lengths Refusal) : Type 0 where
   pub written : fits (lengths network plan set) (room_of before) ≡ true
-      → (answer ≡ Written (lengths network plan set))
+      → (answer ≡ Ok (lengths network plan set))
       × (after
       ≡ buffers (over (network_text₁ network plan set) before.network₁) (over (plan_text₁ network plan set) before.plan₁)
       (over (network_text₂ network plan set) before.network₂) (over (plan_text₂ network plan set) before.plan₂))
-  pub refused : fits (lengths network plan set) (room_of before) ≡ false → (answer ≡ Refused (refusal 42 0 0)) × (after ≡ before)
+  pub refused : fits (lengths network plan set) (room_of before) ≡ false → (answer ≡ Err (refusal 42 0 0)) × (after ≡ before)
 
-abbrev pub HalvesWritten : List ℕ → List ℕ → List ℕ → List ℕ → Buffers → Buffers → SplitAnswer → Type 0
+abbrev pub HalvesWritten : List ℕ → List ℕ → List ℕ → List ℕ → Buffers → Buffers → Result Lengths Refusal → Type 0
 HalvesWritten network_text plan_text first second before after answer =
     (set : ℕ) → BothHalves (lines network_text) set first second → WrittenWhere (lines network_text) (plan_of network_text plan_text) set before after answer
 
 -- the answer and the buffers are those of the definitions
-pub record SplitGot (network_text plan_text : List ℕ) (set : ℕ) (before after : Buffers) (answer : SplitAnswer) : Type 0 where
+pub record SplitGot (network_text plan_text : List ℕ) (set : ℕ) (before after : Buffers) (answer : Result Lengths Refusal) : Type 0 where
   pub told : answer ≡ split_network (lines network_text) (plan_of network_text plan_text) set (room_of before)
   pub holds : after ≡ buffers_after (lines network_text) (plan_of network_text plan_text) set before

@@ -7,10 +7,10 @@ ghost use Rattle.model_split.specs.Splits.{SplitInTwo};
 ghost use Rattle.split_text.specs.Halves.{NetworkAsked};
 ghost use Rattle.split.specs.Splitting.{texts, buffers, HalfPut, Passed, JudgeAsked, HalvesJudged, WriteAsked, Measured, fits, HalvesWritten, SplitGot};
 
-use base_search::{Refusal, Verdict};
-use model_split::{Lengths, SplitAnswer};
+use base_search::Refusal;
+use model_split::Lengths;
 use network_tables::{
-    LINK_TABLE_SIZE, MOVEMENT_TABLE_SIZE, Reading, SIGNAL_TABLE_SIZE, Stage, TIME_TABLE_SIZE,
+    LINK_TABLE_SIZE, MOVEMENT_TABLE_SIZE, Reading, SIGNAL_TABLE_SIZE, TIME_TABLE_SIZE,
 };
 use split_tables::HALF_SIZE;
 
@@ -123,7 +123,7 @@ fn write_halves(
     plan_1: &mut [u8],
     network_2: &mut [u8],
     plan_2: &mut [u8],
-) -> SplitAnswer
+) -> Result<Lengths, Refusal>
     requires { WriteAsked network.now plan.now reading signals.now links.now movements.now first.now second.now }
     ensures { HalvesWritten network.now plan.now first.now second.now (buffers network_1.old plan_1.old network_2.old plan_2.old) (buffers network_1.new plan_1.new network_2.new plan_2.new) result }
 {
@@ -137,7 +137,7 @@ fn write_halves(
         plan_2: plan_2.len(),
     };
     if !has_room(lengths, room) {
-        return SplitAnswer::Refused(Refusal::new(42, 0, 0));
+        return Err(Refusal::new(42, 0, 0));
     }
     put_half(
         network, plan, reading, signals, links, movements, first, network_1, plan_1,
@@ -145,7 +145,7 @@ fn write_halves(
     put_half(
         network, plan, reading, signals, links, movements, second, network_2, plan_2,
     );
-    SplitAnswer::Written(lengths)
+    Ok(lengths)
 }
 
 // The checks on a network that has passed, with the tables of its halves: 40, where `above` is what is left of the set above the last link, 41, and the form of the
@@ -160,7 +160,7 @@ fn judge_halves(
     movements: &[u32],
     first: &[u32],
     second: &[u32],
-) -> Verdict
+) -> Result<(), Refusal>
     requires { JudgeAsked network.now reading signals.now links.now movements.now first.now second.now }
     ensures { HalvesJudged network.now plan.now above first.now second.now result }
 {
@@ -168,10 +168,10 @@ fn judge_halves(
     let can = split_checks::can_split(network, reading, above, links, movements, first, second);
     let parts = split_checks::parts_signals(links, first, counts.links);
     if !can {
-        return Verdict::Refused(Refusal::new(40, 0, 0));
+        return Err(Refusal::new(40, 0, 0));
     }
     if !parts {
-        return Verdict::Refused(Refusal::new(41, 0, 0));
+        return Err(Refusal::new(41, 0, 0));
     }
     split_checks::plan_form(plan, signals, counts)
 }
@@ -188,7 +188,7 @@ fn split_loaded(
     plan_1: &mut [u8],
     network_2: &mut [u8],
     plan_2: &mut [u8],
-) -> SplitAnswer
+) -> Result<Lengths, Refusal>
     requires { Passed network.now reading links.now movements.now }
     ensures { SplitGot network.now plan.now first_half (buffers network_1.old plan_1.old network_2.old plan_2.old) (buffers network_1.new plan_1.new network_2.new plan_2.new) result }
 {
@@ -207,8 +207,8 @@ fn split_loaded(
     let verdict = judge_halves(
         network, plan, reading, above, &signals, links, movements, &first, &second,
     );
-    if let Verdict::Refused(refusal) = verdict {
-        return SplitAnswer::Refused(refusal);
+    if let Err(refusal) = verdict {
+        return Err(refusal);
     }
     write_halves(
         network, plan, reading, &signals, links, movements, &first, &second, network_1, plan_1,
@@ -225,7 +225,7 @@ pub fn split(
     plan_1: &mut [u8],
     network_2: &mut [u8],
     plan_2: &mut [u8],
-) -> SplitAnswer
+) -> Result<Lengths, Refusal>
     ensures split_in_two { SplitInTwo (texts network.now plan.now) first_half (buffers network_1.old plan_1.old network_2.old plan_2.old) (buffers network_1.new plan_1.new network_2.new plan_2.new) result }
     ensures padding_ignored { PaddingIgnored network.now (λ padded_network. PaddingIgnored plan.now (λ padded_plan. SplitGot padded_network padded_plan first_half (buffers network_1.old plan_1.old network_2.old plan_2.old) (buffers network_1.new plan_1.new network_2.new plan_2.new) result)) }
 {
@@ -233,8 +233,8 @@ pub fn split(
     let mut movements = [0u32; MOVEMENT_TABLE_SIZE];
     let mut times = [0u32; TIME_TABLE_SIZE];
     match network::load_network(network, &mut links, &mut movements, &mut times) {
-        Stage::Refused(refusal) => SplitAnswer::Refused(refusal),
-        Stage::Passed(reading) => split_loaded(
+        Err(refusal) => Err(refusal),
+        Ok(reading) => split_loaded(
             network, plan, first_half, reading, &links, &movements, network_1, plan_1, network_2,
             plan_2,
         ),

@@ -2,11 +2,8 @@
 use Rattle.base_laws.proofs.Kit.{ℕ, suc, ◌+◌, ◌-◌, ◌≤◌, ◌<◌, ◌≡◌, sym, ap, ◌∙◌, Bool, true, false, not, List, dec_le, add-one, arith, not-true, not-false, eqb, length, get_or, replicate, length-replicate, List·getD-eq-default}
 use borrow.Author.Count.{below_more}
 use Rattle.base_search.specs.declared.Refusal.{Refusal}
-use Rattle.base_search.specs.declared.Verdict.TheVariants.{Passes, Refused}
 use Rattle.base_search.specs.Checks.{refusal, checked, verdict}
 use Rattle.base_search.proofs.Laws.{or-else-passes, or-else-refused, first-stop, first_passes, checked-passes, checked_refused}
-use Rattle.text_reader.specs.declared.LineRead.{LineRead}
-use Rattle.text_reader.specs.declared.LineRead.TheVariants.{Next, Malformed}
 use Rattle.text_reader.specs.Lines.{no_line, lines, is_record}
 use Rattle.text_reader.specs.Reading.{at_end}
 use Rattle.text_reader.proofs.Laws.{starts_first}
@@ -23,12 +20,13 @@ use Rattle.split_tables.proofs.Halves.{zeros-at}
 use Rattle.model_split.specs.Call.{form_checks}
 use Rattle.split_checks.specs.Plan.{FormAsked, OnNetwork, is_formed, LineForm, FormsTo, FormTold}
 use Rattle.base_laws.proofs.Tests.{not-both}
+use Rattle.std.specs.Prelude.{Option, Some, None, Ok, Err}
 
 -- ---- `line_form`
 pub line-asked : {signals : List ℕ} {counts : Counts} → FormAsked signals counts → {line : List ℕ} → length line ≡ line_size → LineAsked signals counts line
 line-asked a size = record { few = a.few; signals-size = a.signals-size; ready = a.ready; size = size }
 
-pub line-told : {plan_text : List ℕ} {at : ℕ} {signals : List ℕ} {counts : Counts} {before line : List ℕ} {result : LineRead} → before ≡ replicate line_size 0
+pub line-told : {plan_text : List ℕ} {at : ℕ} {signals : List ℕ} {counts : Counts} {before line : List ℕ} {result : (Option ℕ)} → before ≡ replicate line_size 0
     → LineGot plan_text at signals counts before result line → LineForm plan_text at signals counts result
 line-told {plan_text} {at} {before = before} zeros got =
     record {
@@ -57,9 +55,9 @@ pub forms-none : {plan_text signals : List ℕ} {counts : Counts} → FormsTo pl
 forms-none {plan_text} = record { within = omega arith; starts = λ h. starts_first plan_text; formed = λ network_text on m l. absurd (omega arith) }
 
 module _ {plan_text signals : List ℕ} {counts : Counts} {at n : ℕ} (inv : FormsTo plan_text signals counts at n) where
-  module _ (l : n < counts.steps) {result : LineRead} (line : LineForm plan_text at signals counts result) where
+  module _ (l : n < counts.steps) {result : (Option ℕ)} (line : LineForm plan_text at signals counts result) where
     -- a line is malformed
-    pub forms-stop : result ≡ Malformed → {r : Refusal} → r ≡ refusal 9 (n + 1) 0 → FormTold plan_text signals counts (Refused r)
+    pub forms-stop : result ≡ None → {r : Refusal} → r ≡ refusal 9 (n + 1) 0 → FormTold plan_text signals counts (Err r)
     unfolding form_checks verdict
     forms-stop e t network_text on =
         let u : n < step_count (lines network_text) = omega (arith, on.counted.steps) in
@@ -69,7 +67,7 @@ module _ {plan_text signals : List ℕ} {counts : Counts} {at n : ℕ} (inv : Fo
         (checked_refused _ 9 (suc n) 0 (line.malformed e network_text on n u inv.starts)))))
 
     -- it has its form
-    pub forms-next : {next : ℕ} → result ≡ Next next → FormsTo plan_text signals counts next (n + 1)
+    pub forms-next : {next : ℕ} → result ≡ Some next → FormsTo plan_text signals counts next (n + 1)
     forms-next {next} e =
         record {
           within = omega arith;
@@ -98,9 +96,9 @@ module _ {plan_text signals : List ℕ} {counts : Counts} {at n : ℕ} (inv : Fo
           or-else-passes _ _ (first_passes _ (step_count (lines network_text)) (λ m k. checked-passes _ 9 (suc m) 0 (inv.formed network_text on m (omega (arith, all)))))
           ∙ ap (λ x. checked x 9 (suc (step_count (lines network_text))) 0) ends
 
-    pub forms-more : not b ≡ true → {r : Refusal} → r ≡ refusal 9 (counts.steps + 1) 0 → FormTold plan_text signals counts (Refused r)
+    pub forms-more : not b ≡ true → {r : Refusal} → r ≡ refusal 9 (counts.steps + 1) 0 → FormTold plan_text signals counts (Err r)
     forms-more f t network_text on =
         rw (t, add-one, on.counted.steps) (sym (judged network_text on ∙ checked_refused b 9 (suc (step_count (lines network_text))) 0 (not-true b f)))
 
-    pub forms-all : not b ≡ false → FormTold plan_text signals counts Passes
+    pub forms-all : not b ≡ false → FormTold plan_text signals counts (Ok tt)
     forms-all f network_text on = sym (judged network_text on ∙ checked-passes b 9 (suc (step_count (lines network_text))) 0 (not-false b f))

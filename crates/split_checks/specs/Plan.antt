@@ -1,9 +1,6 @@
 -- The form of a plan's lines (9), by the counts and the signals of a network that has passed. A text without bytes means hold.
-use Rattle.std.specs.Prelude.{ℕ, suc, ◌+◌, ◌*◌, ◌≤◌, ◌<◌, ◌≡◌, Bool, true, false, List, length}
-use Rattle.base_search.specs.declared.Verdict.{Verdict}
-use Rattle.base_search.specs.Checks.{verdict, Hold}
-use Rattle.text_reader.specs.declared.LineRead.{LineRead}
-use Rattle.text_reader.specs.declared.LineRead.TheVariants.{Next, Malformed}
+use Rattle.std.specs.Prelude.{ℕ, suc, ◌+◌, ◌*◌, ◌≤◌, ◌<◌, ◌≡◌, Bool, true, false, List, length, Option, Some, None}
+use Rattle.base_search.specs.Checks.{verdict, Hold, Verdict}
 use Rattle.text_reader.specs.Lines.{lines}
 use Rattle.model.specs.Network.{link_count, signal_count, movement_count, step_count}
 use Rattle.model.specs.Table.{is_form, letter_p, network_checks}
@@ -34,12 +31,12 @@ is_formed network_text plan_text n =
     (signal_count (lines network_text) + (2 * link_count (lines network_text) + movement_count (lines network_text)))
 
 -- what is found of the line at a place, whatever the network and the step
-pub record LineForm (plan_text : List ℕ) (at : ℕ) (signals : List ℕ) (counts : Counts) (result : LineRead) : Type 0 where
-  pub malformed : result ≡ Malformed → (network_text : List ℕ) → OnNetwork network_text signals counts → (n : ℕ) → n < step_count (lines network_text)
+pub record LineForm (plan_text : List ℕ) (at : ℕ) (signals : List ℕ) (counts : Counts) (result : Option ℕ) : Type 0 where
+  pub malformed : result ≡ None → (network_text : List ℕ) → OnNetwork network_text signals counts → (n : ℕ) → n < step_count (lines network_text)
       → PlanAt plan_text at n → is_formed network_text plan_text n ≡ false
-  pub formed : (next : ℕ) → result ≡ Next next → (network_text : List ℕ) → OnNetwork network_text signals counts → (n : ℕ) → n < step_count (lines network_text)
+  pub formed : (next : ℕ) → result ≡ Some next → (network_text : List ℕ) → OnNetwork network_text signals counts → (n : ℕ) → n < step_count (lines network_text)
       → PlanAt plan_text at n → is_formed network_text plan_text n ≡ true
-  pub starts : (next : ℕ) → result ≡ Next next → (n : ℕ) → PlanAt plan_text at n → PlanAt plan_text next (suc n)
+  pub starts : (next : ℕ) → result ≡ Some next → (n : ℕ) → PlanAt plan_text at n → PlanAt plan_text next (suc n)
 
 -- the first n lines have their form, and the next starts at a place
 pub record FormsTo (plan_text signals : List ℕ) (counts : Counts) (at n : ℕ) : Type 0 where

@@ -11,10 +11,9 @@ ghost use Rattle.split_checks.specs.Tables.{none_wait_in, stands_apart_in, right
 ghost use Rattle.split_checks.specs.Network.{StepsAsked, step_free, SplitAsked, SplitTold, PartsTold};
 ghost use Rattle.split_checks.specs.Plan.{FormAsked, LineForm, FormTold};
 
-use base_search::{Refusal, Verdict};
+use base_search::Refusal;
 use network_tables::{Counts, LINE_SIZE, Reading, STEP_SIZE};
 use split_tables::SIGNALS_AT;
-use text_reader::LineRead;
 
 // Whether nobody waits at the entries.
 fn nobody_waits(links: &[u32], count: usize) -> bool
@@ -189,7 +188,7 @@ pub fn parts_signals(links: &[u32], half: &[u32], count: usize) -> bool
 }
 
 // Whether the `P` line at a place has its form, and where the next starts.
-fn line_form(plan: &[u8], at: usize, signals: &[u32], counts: Counts) -> LineRead
+fn line_form(plan: &[u8], at: usize, signals: &[u32], counts: Counts) -> Option<usize>
     requires { FormAsked signals.now counts }
     ensures { LineForm plan.now at signals.now counts result }
 {
@@ -198,7 +197,7 @@ fn line_form(plan: &[u8], at: usize, signals: &[u32], counts: Counts) -> LineRea
 }
 
 // The form of all lines of a plan, and nothing behind them (9).
-pub fn plan_form(plan: &[u8], signals: &[u32], counts: Counts) -> Verdict
+pub fn plan_form(plan: &[u8], signals: &[u32], counts: Counts) -> Result<(), Refusal>
     requires { FormAsked signals.now counts }
     ensures { FormTold plan.now signals.now counts result }
 {
@@ -206,14 +205,14 @@ pub fn plan_form(plan: &[u8], signals: &[u32], counts: Counts) -> Verdict
     let mut n = 0;
     while n < counts.steps {
         let read = line_form(plan, at, signals, counts);
-        let LineRead::Next(next) = read else {
-            return Verdict::Refused(Refusal::new(9, n + 1, 0));
+        let Some(next) = read else {
+            return Err(Refusal::new(9, n + 1, 0));
         };
         at = next;
         n += 1;
     }
     if !text_reader::is_end(plan, at) {
-        return Verdict::Refused(Refusal::new(9, counts.steps + 1, 0));
+        return Err(Refusal::new(9, counts.steps + 1, 0));
     }
-    Verdict::Passes
+    Ok(())
 }

@@ -1,7 +1,5 @@
 -- The `P` line that was read again is that of the plan.
 use Rattle.base_laws.proofs.Kit.{ℕ, suc, ◌<◌, ◌≡◌, refl, ap, List, arith, length, get_or}
-use Rattle.text_reader.specs.declared.LineRead.{LineRead}
-use Rattle.text_reader.specs.declared.LineRead.TheVariants.{Next, Malformed}
 use Rattle.text_reader.specs.Lines.{lines}
 use Rattle.model.specs.declared.Signal.{Signal}
 use Rattle.model.specs.Network.{signal_count, step_count, signal}
@@ -15,13 +13,14 @@ use Rattle.plan_steps.proofs.PlanLines.{line-bad, line-numbers, next-starts}
 use Rattle.plan_steps.proofs.Runs.{signals-first}
 use Rattle.split_text.specs.Halves.{Held, PlanLineRead}
 use Rattle.base_laws.proofs.Tests.{not-both}
+use Rattle.std.specs.Prelude.{Option, Some, None}
 
 -- ---- `read_plan`
-module _ {plan_text : List ℕ} {at : ℕ} {signals : List ℕ} {counts : Counts} {before after : List ℕ} {r : LineRead} (got : LineGot plan_text at signals counts before r after) where
-  pub plan-next : {next : ℕ} → r ≡ Next next → PlanLineRead plan_text at signals counts before next after
+module _ {plan_text : List ℕ} {at : ℕ} {signals : List ℕ} {counts : Counts} {before after : List ℕ} {r : (Option ℕ)} (got : LineGot plan_text at signals counts before r after) where
+  pub plan-next : {next : ℕ} → r ≡ Some next → PlanLineRead plan_text at signals counts before next after
   plan-next e = record { result = r; got = got; next-is = λ place d. cc }
 
-  pub plan-never : r ≡ Malformed → PlanLineRead plan_text at signals counts before at after
+  pub plan-never : r ≡ None → PlanLineRead plan_text at signals counts before at after
   plan-never e = record { result = r; got = got; next-is = λ place d. let z : ◌≡◌ {A = ℕ} 0 1 = cc in absurd (omega arith) }
 
 -- ---- by the plan
@@ -46,9 +45,9 @@ module _ {network_text plan_text signals movements : List ℕ} {counts : Counts}
         shown : length plan_text ≡ 0 → (r : ℕ) → r < signal_count (lines network_text) → (table_signal signals r).shown ≡ (signal (lines network_text) r).shown
         shown empty r l = ap (λ (s : Signal). s.shown) (held.signal-table.holds r l)
 
-        go : (r : LineRead) → read.result ≡ r → PlanNumbers (lines network_text) (plan_of network_text plan_text) n line × PlanAt plan_text next (suc n)
-        go (Next place) e = (
+        go : (r : Option ℕ) → read.result ≡ r → PlanNumbers (lines network_text) (plan_of network_text plan_text) n line × PlanAt plan_text next (suc n)
+        go (Some place) e = (
           line-numbers network_text plan_text valid held.counted within starts shown (λ empty k u. zeros k) size read.got e,
           λ h. rw (read.next-is place e) (next-starts network_text plan_text valid held.counted within starts shown (λ empty k u. zeros k) size read.got e h),
         )
-        go Malformed e = absurd (not-both (held.forms n within) (line-bad network_text plan_text valid held.counted within starts shown (λ empty k u. zeros k) size read.got e))
+        go None e = absurd (not-both (held.forms n within) (line-bad network_text plan_text valid held.counted within starts shown (λ empty k u. zeros k) size read.got e))

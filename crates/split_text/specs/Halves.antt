@@ -1,8 +1,6 @@
 -- What the writing of a half asks and promises.
-use Rattle.std.specs.Prelude.{ℕ, suc, ◌+◌, ◌*◌, ◌<◌, ◌≡◌, true, ◌⊎◌, List}
+use Rattle.std.specs.Prelude.{ℕ, suc, ◌+◌, ◌*◌, ◌<◌, ◌≡◌, true, ◌⊎◌, List, Option, Some}
 use Rattle.base_search.specs.Checks.{Hold}
-use Rattle.text_reader.specs.declared.LineRead.{LineRead}
-use Rattle.text_reader.specs.declared.LineRead.TheVariants.{Next}
 use Rattle.text_reader.specs.Lines.{Line, lines}
 use Rattle.text_reader.specs.Reading.{Starts}
 use Rattle.text_writer.specs.Records.{record_text, record_texts}
@@ -38,9 +36,9 @@ pub record Held (network_text plan_text signals movements : List ℕ) (counts : 
 
 -- the `P` line at a place was read, and the next starts at the place returned
 pub record PlanLineRead (plan_text : List ℕ) (at : ℕ) (signals : List ℕ) (counts : Counts) (before : List ℕ) (next : ℕ) (after : List ℕ) : Type 0 where
-  pub result : LineRead
+  pub result : Option ℕ
   pub got : LineGot plan_text at signals counts before result after
-  pub next-is : (place : ℕ) → result ≡ Next place → next ≡ place
+  pub next-is : (place : ℕ) → result ≡ Some place → next ≡ place
 
 -- ---- the `S` lines
 pub record StepAsked (network_text plan_text signals movements : List ℕ) (counts : Counts) (half : List ℕ) (places : StepPlaces) : Type 0 where

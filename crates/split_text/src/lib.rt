@@ -25,7 +25,6 @@ use network_tables::{
 };
 use network_writer::Places;
 use split_tables::{MOVEMENTS_AT, SIGNALS_AT};
-use text_reader::LineRead;
 
 // Writes the line if its item belongs to this half.
 fn put_kept(number: u32, letter: u8, row: &[u32], out: &mut [u8], at: usize) -> usize
@@ -312,8 +311,8 @@ fn read_plan(plan: &[u8], at: usize, signals: &[u32], counts: Counts, line: &mut
     ensures { PlanLineRead plan.now at signals.now counts line.old result line.new }
 {
     match plan_steps::read_line(plan, at, signals, counts, line) {
-        LineRead::Next(next) => next,
-        LineRead::Malformed => at,
+        Some(next) => next,
+        None => at,
     }
 }
 

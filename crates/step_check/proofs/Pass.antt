@@ -1,6 +1,5 @@
 -- The pass over all rules, and the search after a pass that says nothing.
 use Rattle.base_laws.proofs.Kit.{ℕ, ◌≡◌, refl, sym, ap, ◌∙◌, Bool, true, false, List, ◌++◌, arith, length, drop_at}
-use Rattle.base_search.specs.declared.Verdict.{Verdict}
 use Rattle.network_tables.specs.declared.Counts.{Counts}
 use Rattle.network_tables.specs.Fields.{length_in}
 use Rattle.step_signals.specs.Step.{SignalRulesKept}
@@ -10,6 +9,7 @@ use Rattle.step_rows.proofs.Next.{length-next}
 use Rattle.step_sums.specs.Sums.{SumsKept}
 use Rattle.step_check.specs.Step.{made_row, JudgeAsked, Judged, PassGot}
 use Rattle.step_check.proofs.Rules.{all_pass}
+use Rattle.base_search.specs.Checks.{Verdict}
 
 module _ (counts : Counts) (signals line step links movements phases asked previous row ledger times arrivals curves : List ℕ) (boundary : ℕ) where
   -- a rule is not kept before the row is formed

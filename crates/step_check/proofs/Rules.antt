@@ -1,6 +1,5 @@
 -- The thirteen rules by their families.
 use Rattle.base_laws.proofs.Kit.{ℕ, zero, suc, ◌-◌, ◌≤◌, ◌<◌, ◌≡◌, refl, ◌∙◌, Bool, cond, List, [], ◌∷◌, dec_le, arith, lt-ltb, le-ltb, ltb, length, get_or}
-use Rattle.base_search.specs.declared.Verdict.TheVariants.{Passes}
 use Rattle.base_search.specs.Checks.{rule_at, rules_from, verdict, table}
 use Rattle.base_search.proofs.Laws.{passes-of-hold}
 use Rattle.base_search.proofs.Table.{RulesKept, AllKept, kept-hold, rule-is, rules-length}
@@ -12,6 +11,7 @@ use Rattle.step_signals.specs.Step.{signal_rule_holds, SignalRulesKept}
 use Rattle.step_limits.specs.Limits.{limit_items, limit_rule_holds, LimitsKept}
 use Rattle.step_sums.specs.Sums.{sum_items, sum_rule_holds, SumsKept}
 use Rattle.step_check.specs.Step.{rule_items, rule_holds, rule_in, rules_in}
+use Rattle.std.specs.Prelude.{Ok}
 
 -- to how many items a rule is put, as its family has it
 items-by-family : (counts : Counts) (k : ℕ) → k < 13 → rule_items counts k ≡ cond (ltb k 6) counts.signals (cond (ltb k 10) (limit_items counts (k - 6)) (sum_items counts (k - 10)))
@@ -139,5 +139,5 @@ module _ (counts : Counts) (signals line step links movements phases asked previ
       ),
     )
 
-    pub all_pass : (number : ℕ) → verdict (table number (rules_in counts signals line step links movements phases asked previous row ledger times arrivals curves boundary)) ≡ Passes
+    pub all_pass : (number : ℕ) → verdict (table number (rules_in counts signals line step links movements phases asked previous row ledger times arrivals curves boundary)) ≡ Ok tt
     all_pass number = passes-of-hold _ (kept-hold number _ all-kept)

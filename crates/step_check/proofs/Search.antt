@@ -1,14 +1,13 @@
 -- The search for the first broken rule, a turn at a time: the row after the step is formed at place 10, and every rule before a place is kept.
 use Rattle.base_laws.proofs.Kit.{ℕ, ◌+◌, ◌≤◌, ◌<◌, ◌≡◌, refl, sym, ap, ◌∙◌, Bool, true, false, not, List, ◌++◌, dec_le, ℕ_discrete, arith, length, drop_at}
-use Rattle.base_search.specs.declared.Verdict.{Verdict}
-use Rattle.base_search.specs.declared.Verdict.TheVariants.{Passes, Refused}
-use Rattle.base_search.specs.Checks.{refusal}
+use Rattle.base_search.specs.Checks.{refusal, Verdict}
 use Rattle.base_search.proofs.Table.{RulesKept, ItemsKept, items-none, items_more, rules-more, items-broken, rules-all}
 use Rattle.network_tables.specs.declared.Counts.{Counts}
 use Rattle.step_rows.specs.Rows.{next_row, Fits}
 use Rattle.step_rows.proofs.Next.{length-next}
 use Rattle.step_check.specs.Step.{rule_number, rule_items, made_row, FormedFor, rule_holds, RuleTables, step_rules_in, JudgeAsked, Judged}
 use Rattle.step_check.proofs.Rules.{other_row, rule-at, rules-size, limits-kept}
+use Rattle.std.specs.Prelude.{Ok, Err}
 
 -- the row that was lent is the one after the step from place 10 on: before that turn, and in it
 pub record RowBefore (counts : Counts) (line movements previous row : List ℕ) (k : ℕ) (row' : List ℕ) : Type 0 where
@@ -79,13 +78,13 @@ module _ (counts : Counts) (signals line step links movements phases asked previ
     rule-kept l = rw (made_again w) at (rules-more kept (rule-at counts signals line step links movements phases asked previous _ ledger times arrivals curves boundary k h) l)
 
     pub broken-here : item < rule_items counts k → {r : Bool} → r ≡ rule_holds counts signals line step links movements phases asked previous row' ledger times arrivals curves boundary k item → not r ≡ true → {number : ℕ} → number ≡ rule_number k
-        → {after : List ℕ} → Judged counts signals line step links movements phases asked previous row ledger times arrivals curves boundary (Refused (refusal number boundary (item + 1))) after
+        → {after : List ℕ} → Judged counts signals line step links movements phases asked previous row ledger times arrivals curves boundary (Err (refusal number boundary (item + 1))) after
     broken-here l {r} e t n = record {
       told = rw n (rw (made_again w) at (items-broken kept (rule-at counts signals line step links movements phases asked previous _ ledger times arrivals curves boundary k h) boundary (omega (arith, rules-size counts signals line step links movements phases asked previous (made_row counts line movements previous row') ledger times arrivals curves boundary)) l (e ∙ by-made) t));
       made = λ p. let z : ◌≡◌ {A = ℕ} 0 1 = cc in absurd (omega arith);
     }
 
-  pub none-broken : {k : ℕ} {row' : List ℕ} {found : Verdict} → 13 ≤ k → found ≡ Passes → RulesKept (step_rules_in counts signals line step links movements phases asked previous row ledger times arrivals curves boundary) k → RowBefore counts line movements previous row k row'
+  pub none-broken : {k : ℕ} {row' : List ℕ} {found : Verdict} → 13 ≤ k → found ≡ Ok tt → RulesKept (step_rules_in counts signals line step links movements phases asked previous row ledger times arrivals curves boundary) k → RowBefore counts line movements previous row k row'
       → Judged counts signals line step links movements phases asked previous row ledger times arrivals curves boundary found row'
   none-broken h e kept w = record {
     told = e ∙ sym (rules-all boundary kept (omega (arith, rules-size counts signals line step links movements phases asked previous (made_row counts line movements previous row) ledger times arrivals curves boundary)));

@@ -1,8 +1,6 @@
 -- The judgement of one step by the program's tables: the thirteen rules in their order, each over rising items.
-use Rattle.std.specs.Prelude.{ℕ, ◌*◌, ◌-◌, ◌≤◌, ◌≡◌, Bool, true, cond, List, [], ◌∷◌, ◌++◌, ltb, length, get_or, take, drop}
-use Rattle.base_search.specs.declared.Verdict.{Verdict}
-use Rattle.base_search.specs.declared.Verdict.TheVariants.{Passes}
-use Rattle.base_search.specs.Checks.{Rule, rules_from, verdict, table}
+use Rattle.std.specs.Prelude.{ℕ, ◌*◌, ◌-◌, ◌≤◌, ◌≡◌, Bool, true, cond, List, [], ◌∷◌, ◌++◌, ltb, length, get_or, take, drop, Ok}
+use Rattle.base_search.specs.Checks.{Rule, rules_from, verdict, table, Verdict}
 use Rattle.model.specs.Network.{max_steps}
 use Rattle.network_tables.specs.declared.Counts.{Counts}
 use Rattle.network_tables.specs.Fields.{length_in}
@@ -75,10 +73,10 @@ module _ (counts : Counts) (signals line step links movements phases asked previ
   -- .. and promises: the first broken rule; and where all are kept, the row after the step
   pub record Judged (result : Verdict) (after : List ℕ) : Type 0 where
     pub told : result ≡ verdict (table boundary step_rules_in)
-    pub made : result ≡ Passes → after ≡ made_row counts line movements previous row
+    pub made : result ≡ Ok tt → after ≡ made_row counts line movements previous row
 
   -- what a pass over all rules promises: if it says that they are kept, they are; and past the row nothing is written
   pub record PassGot (result : Bool) (after : List ℕ) : Type 0 where
-    pub told : result ≡ true → Judged Passes after
+    pub told : result ≡ true → Judged (Ok tt) after
     pub size : length after ≡ length row
     pub rest : drop (2 * counts.links) after ≡ drop (2 * counts.links) row

@@ -8,7 +8,7 @@ ghost use Rattle.model.specs.Network.{max_steps};
 ghost use Rattle.step_rows.specs.Rows.{Fits};
 ghost use Rattle.step_check.specs.Step.{rule_number, rule_items, row_from, FormedFor, rule_holds, RuleTables, JudgeAsked, Judged, PassGot};
 
-use base_search::{Refusal, Verdict};
+use base_search::Refusal;
 use network_tables::Counts;
 
 // The number of rule k of the thirteen.
@@ -113,11 +113,11 @@ fn first_break(
     curves: &[u32],
     counts: Counts,
     boundary: usize,
-) -> Verdict
+) -> Result<(), Refusal>
     requires { JudgeAsked counts signals.now line.now step.now links.now movements.now phases.now asked.now previous.now row.old ledger.now times.now arrivals.now curves.now boundary }
     ensures { Judged counts signals.now line.now step.now links.now movements.now phases.now asked.now previous.now row.old ledger.now times.now arrivals.now curves.now boundary result row.new }
 {
-    let mut found = Verdict::Passes;
+    let mut found = Ok(());
     'judge: for k in 0..13 {
         form_row_for(k, previous, line, movements, counts, row);
         let items = rule_items(k, counts);
@@ -126,7 +126,7 @@ fn first_break(
                 k, item, signals, line, step, links, movements, phases, asked, previous, row,
                 ledger, times, arrivals, curves, counts, boundary,
             ) {
-                found = Verdict::Refused(Refusal {
+                found = Err(Refusal {
                     number: rule_number(k),
                     line: boundary as u32,
                     item: (item + 1) as u32,
@@ -187,7 +187,7 @@ pub fn judge_step(
     row: &mut [u32],
     counts: Counts,
     n: usize,
-) -> Verdict
+) -> Result<(), Refusal>
     requires n_lt_max_steps { (n < max_steps) × (2 * n * counts.links ≤ length ledger.now) }
     requires judge_asked { JudgeAsked counts signals.now line.now step.now links.now movements.now phases.now asked.now (row_from counts ledger.now n) row.old ledger.now times.now arrivals.now curves.now (n + 1) }
     ensures { Judged counts signals.now line.now step.now links.now movements.now phases.now asked.now (row_from counts ledger.now n) row.old ledger.now times.now arrivals.now curves.now (n + 1) result row.new }
@@ -199,7 +199,7 @@ pub fn judge_step(
         signals, line, step, links, movements, phases, asked, previous, row, ledger, times,
         arrivals, curves, counts, boundary,
     ) {
-        return Verdict::Passes;
+        return Ok(());
     }
     first_break(
         signals, line, step, links, movements, phases, asked, previous, row, ledger, times,

@@ -1,7 +1,5 @@
 -- Row 0 and the curves at boundary 0, one `H` line after another.
 use Rattle.base_laws.proofs.Kit.{ℕ, suc, ◌+◌, ◌*◌, ◌-◌, ◌/◌, ◌%◌, ◌≤◌, ◌<◌, ◌≡◌, refl, ap, ◌∙◌, Bool, true, false, not, List, [], ℕ_discrete, add-one, arith, not-true, not-false, length, get_or}
-use Rattle.text_reader.specs.declared.LineRead.{LineRead}
-use Rattle.text_reader.specs.declared.LineRead.TheVariants.{Next, Malformed}
 use Rattle.text_reader.specs.Lines.{Line, lines}
 use Rattle.text_reader.specs.Reading.{Starts}
 use Rattle.base_laws.specs.Sum.{sum}
@@ -20,6 +18,7 @@ use Rattle.step_arrivals.specs.Arrivals.{ArrivalsAsked, Arrived, ArrivalTable}
 use Rattle.step_arrivals.proofs.Boundaries.{arrival-is}
 use Rattle.step_past.specs.Curves.{past_entered, past_left, CurveTo, StartAsked, Started, curve_in, CurveRooms, KeepAllAsked, KeptAll, PastAsked, PastRow, PastOverflows, PastLoaded}
 use Rattle.step_past.proofs.Reading.{past-never, past-numbers, past_next, entered-past}
+use Rattle.std.specs.Prelude.{Option, Some, None}
 
 -- what leaves in a past step, and by more steps no less
 left-past : (network : List Line) (m i : ℕ) → m < past_count network → past_left network (suc m) i ≡ past_left network m i + past_exits network m i
@@ -104,20 +103,20 @@ module _ {text : List ℕ} {at : ℕ} {counts : Counts} {links times before arri
             overflows = λ t. let z : ◌≡◌ {A = ℕ} 0 1 = cc in absurd (omega arith);
           }
 
-      module _ (h : m < counts.past) {r : LineRead} {after : List ℕ} (read : RowRead letter_h (1 + 2 * counts.links) text place 0 fields r after) where
+      module _ (h : m < counts.past) {r : (Option ℕ)} {after : List ℕ} (read : RowRead letter_h (1 + 2 * counts.links) text place 0 fields r after) where
         below : m < past_count (lines text)
         below = omega (arith, asked.counted.past)
 
         wide : 1 + 2 * counts.links ≡ 1 + 2 * link_count (lines text)
         wide = omega (arith, asked.counted.links)
 
-        pub past-malformed : r ≡ Malformed → PastLoaded text counts before false row arrivals curves places
+        pub past-malformed : r ≡ None → PastLoaded text counts before false row arrivals curves places
         past-malformed e = absurd (past-never m inv.starts wide read asked.forms below e)
 
         pub sums-asked : (2 * counts.links < length after) × (2 * counts.links ≤ length row)
         sums-asked = (omega (arith, read.size, inv.field-size, asked.counted.few.links), omega (arith, inv.size, started.size, asked.row_room))
 
-        module _ {next : ℕ} (e : r ≡ Next next) {fit : Bool} {row' : List ℕ} (summed : Summed after (2 * counts.links) row fit row') where
+        module _ {next : ℕ} (e : r ≡ Some next) {fit : Bool} {row' : List ℕ} (summed : Summed after (2 * counts.links) row fit row') where
           numbers : PastNumbers (lines text) m after
           numbers = past-numbers m inv.starts wide read e inv.field-size
 

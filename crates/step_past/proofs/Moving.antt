@@ -1,7 +1,5 @@
 -- The links moved on from one boundary to the next, by `H` lines that are read once for all links at them.
 use Rattle.base_laws.proofs.Kit.{ℕ, zero, suc, ◌+◌, ◌*◌, ◌-◌, ◌≤◌, ◌<◌, ◌≡◌, refl, sym, ap, ◌∙◌, List, ℕ_discrete, dec_le, add-one, arith, length, get_or, set, length-set, get_or-set_same, get_or-set_other}
-use Rattle.text_reader.specs.declared.LineRead.{LineRead}
-use Rattle.text_reader.specs.declared.LineRead.TheVariants.{Next, Malformed}
 use Rattle.text_reader.specs.Lines.{lines}
 use Rattle.text_reader.specs.Reading.{Starts}
 use Rattle.model.specs.Network.{max_links, link_count, past_count, timeline_line}
@@ -18,6 +16,7 @@ use Rattle.step_past.specs.declared.PastLine.{PastLine}
 use Rattle.step_past.specs.Curves.{past_entered, CurveTo, curve_in, CurveRooms, SameLink, MovedBy, LinkAsked, LinkMoved, LinksAsked, LinksMoved, Behind, MoveAsked, PastMoveAsked, Moved, NextAsked, NextGot}
 use Rattle.step_past.proofs.Reading.{past-never, past-numbers, past_next, entered-past}
 use Rattle.step_past.proofs.Keeping.{pair_set, rooms-set, curve-set, curve-other}
+use Rattle.std.specs.Prelude.{Option, Some, None}
 
 -- ---- the returns of `move_link`
 module _ {fields links : List ℕ} {line : PastLine} {i : ℕ} {arrivals curves places : List ℕ} (asked : LinkAsked fields links line i arrivals curves places) where
@@ -217,14 +216,14 @@ module _ {text : List ℕ} {counts : Counts} {links times : List ℕ} {at i : �
       stood : CurveTo text i (from + 1) (curve_in curves places i)
       stood = rw (← f) at (own_behind.curved (omega (arith, step_past)))
 
-      module _ {r : LineRead} {after : List ℕ} (row : RowRead letter_h (1 + 2 * counts.links) text (get_or places i 0) 0 fields r after) where
+      module _ {r : (Option ℕ)} {after : List ℕ} (row : RowRead letter_h (1 + 2 * counts.links) text (get_or places i 0) 0 fields r after) where
         wide : 1 + 2 * counts.links ≡ 1 + 2 * link_count (lines text)
         wide = omega (arith, asked.asked.tables.counted.links)
 
-        pub past-malformed : r ≡ Malformed → Moved text counts links times at i arrivals₀ curves₀ places₀ arrivals curves places
+        pub past-malformed : r ≡ None → Moved text counts links times at i arrivals₀ curves₀ places₀ arrivals curves places
         past-malformed q = absurd (past-never (from + 1) stood.starts wide row asked.asked.tables.forms step_past q)
 
-        module _ {next : ℕ} (n : r ≡ Next next) {line : PastLine} (l : line ≡ record { from = from; next = next; since = get_or times at 0 - get_or times (from + 1) 0 }) where
+        module _ {next : ℕ} (n : r ≡ Some next) {line : PastLine} (l : line ≡ record { from = from; next = next; since = get_or times at 0 - get_or times (from + 1) 0 }) where
           line-at : LineAt text times at after line
           line-at =
               rw l

@@ -2,8 +2,6 @@
 use Rattle.base_laws.proofs.Kit.{ℕ, suc, ◌+◌, ◌*◌, ◌≤◌, ◌<◌, ◌≡◌, sym, ap, ◌∙◌, Bool, true, false, List, [], add-one, arith, length, get_or}
 use mir.Syntax.{w32}
 use mir.Val.{Fits}
-use Rattle.text_reader.specs.declared.LineRead.{LineRead}
-use Rattle.text_reader.specs.declared.LineRead.TheVariants.{Next, Malformed}
 use Rattle.text_reader.specs.Lines.{Line, lines}
 use Rattle.text_reader.specs.Reading.{Starts}
 use Rattle.model.specs.Network.{link_count, past_count, timeline_line, past_entries}
@@ -15,25 +13,26 @@ use Rattle.network_tables.specs.Tables.{PastNumbers}
 use Rattle.network_tables.proofs.Tables.{past-entries-at}
 use Rattle.step_past.specs.declared.Curve.{Curve}
 use Rattle.step_past.specs.Curves.{past_entered, PastForms, CurveTo, ReadAsked}
+use Rattle.std.specs.Prelude.{Option, Some, None}
 
 pub timeline-line-suc : (network : List Line) (m : ℕ) → timeline_line network (suc m) ≡ suc (timeline_line network m)
 unfolding timeline_line
 timeline-line-suc network m = omega arith
 
 -- an `H` line that has passed is read again
-module _ {text : List ℕ} {at width : ℕ} {before after : List ℕ} {r : LineRead} (m : ℕ) (starts : Starts text at (timeline_line (lines text) m))
+module _ {text : List ℕ} {at width : ℕ} {before after : List ℕ} {r : (Option ℕ)} (m : ℕ) (starts : Starts text at (timeline_line (lines text) m))
     (w : width ≡ 1 + 2 * link_count (lines text)) (row : RowRead letter_h width text at 0 before r after) where
   own_row : RowRead letter_h (1 + 2 * link_count (lines text)) text at 0 before r after
   own_row = rw w at row
 
   -- it is not malformed
-  pub past-never : PastForms (lines text) → m < past_count (lines text) → r ≡ Malformed → ⊥
+  pub past-never : PastForms (lines text) → m < past_count (lines text) → r ≡ None → ⊥
   past-never forms h e =
       let z : ◌≡◌ {A = Bool} true false = sym (forms m h) ∙ own_row.malformed e (timeline_line (lines text) m) starts in
       let o : ◌≡◌ {A = ℕ} 0 1 = cc in
       omega arith
 
-  module _ {next : ℕ} (e : r ≡ Next next) where
+  module _ {next : ℕ} (e : r ≡ Some next) where
     pub past-numbers : length before ≡ past_size → PastNumbers (lines text) m after
     past-numbers size =
         record {
@@ -62,17 +61,17 @@ module _ {text : List ℕ} {links i from to : ℕ} {curve : Curve} (asked : Read
     pub read_done : to ≤ m → CurveTo text i to (record { start = start; stop = stop; place = place })
     read_done h = let e : m ≡ to = omega (arith, inv.onward) in rw e at inv.curve-to
 
-    module _ (h : m < to) {r : LineRead} {after : List ℕ} (row : RowRead letter_h (1 + 2 * links) text place 0 fields r after) where
+    module _ (h : m < to) {r : (Option ℕ)} {after : List ℕ} (row : RowRead letter_h (1 + 2 * links) text place 0 fields r after) where
       below : m < past_count (lines text)
       below = omega (arith, asked.within)
 
       wide : 1 + 2 * links ≡ 1 + 2 * link_count (lines text)
       wide = omega (arith, asked.counted)
 
-      pub read-never : r ≡ Malformed → {result : Curve} → CurveTo text i to result
+      pub read-never : r ≡ None → {result : Curve} → CurveTo text i to result
       read-never e = absurd (past-never m inv.curve-to.starts wide row asked.forms below e)
 
-      module _ {next : ℕ} (e : r ≡ Next next) where
+      module _ {next : ℕ} (e : r ≡ Some next) where
         entered-next : stop + get_or after (1 + 2 * i) 0 ≡ past_entered (lines text) (suc m) i
         entered-next =
             omega (arith, inv.curve-to.ended, entered-past (lines text) m i below, past-entries-at (past-numbers m inv.curve-to.starts wide row e inv.size) i (omega (arith, asked.counted, asked.link)))

@@ -6,7 +6,6 @@
 ghost use Rattle.step_past.specs.Curves.{ReadAsked, CurveTo, StartAsked, Started, KeepAsked, Kept, KeepAllAsked, KeptAll, PastAsked, PastLoaded, LinkAsked, LinkMoved, LinksAsked, LinksMoved, MoveAsked, PastMoveAsked, Moved, NextAsked, NextGot};
 
 use network_tables::{Counts, PAST_SIZE};
-use text_reader::LineRead;
 
 // One link's curve of entries: what had entered it by the start, and by the end, of the last `H` line that is read for it, and the place of the next line.
 #[derive(Clone, Copy)]
@@ -28,7 +27,7 @@ pub fn read_on(text: &[u8], links: usize, i: usize, from: usize, to: usize, curv
     let mut m = from;
     while m < to {
         let read = network_tables::read_row(text, place, b'H', &mut fields, 0, 1 + 2 * links);
-        let LineRead::Next(next) = read else {
+        let Some(next) = read else {
             return curve;
         };
         start = stop;
@@ -126,7 +125,7 @@ pub fn load_past(
             0,
             1 + 2 * counts.links,
         );
-        let LineRead::Next(next) = read else {
+        let Some(next) = read else {
             return false;
         };
         if !network_tables::add_numbers(&fields, 2 * counts.links, row) {
@@ -236,7 +235,7 @@ fn move_past(
             0,
             1 + 2 * counts.links,
         );
-        let LineRead::Next(next) = read else {
+        let Some(next) = read else {
             return;
         };
         let since = times[at] - times[from + 1];

@@ -1,7 +1,6 @@
 -- The greatest lengths of texts, in bytes, of the header of the C functions. A number that is read may be padded to ten digits (T-03); none that is written is
 -- padded.
-use Rattle.std.specs.Prelude.{ℕ, ◌≤◌, ◌≡◌, List, length}
-use Rattle.base_search.specs.declared.Verdict.TheVariants.{Passes}
+use Rattle.std.specs.Prelude.{ℕ, ◌≤◌, ◌≡◌, List, length, Ok}
 use Rattle.base_search.specs.Checks.{verdict}
 use Rattle.text_reader.specs.Lines.{Line, lines}
 use Rattle.model.specs.Table.{network_checks, plan_checks}
@@ -28,14 +27,14 @@ sheet_plan_most = 30_960
 -- Of every network text, whatever the lengths of the ledger and of the buffer:
 pub record Lengths (network : List ℕ) : Type 0 where
   -- a valid one is no longer
-  pub network-text : verdict (network_checks (lines network)) ≡ Passes → length network ≤ network_text_most
+  pub network-text : verdict (network_checks (lines network)) ≡ Ok tt → length network ≤ network_text_most
   -- nor is a plan text that is accepted on it
-  pub plan-text : (plan : List ℕ) (size : ℕ) → verdict (plan_checks (lines network) (plan_of network plan) size) ≡ Passes → length plan ≤ plan_text_most
+  pub plan-text : (plan : List ℕ) (size : ℕ) → verdict (plan_checks (lines network) (plan_of network plan) size) ≡ Ok tt → length plan ≤ plan_text_most
   -- nor a network text that is carried on from it (T-09)
-  pub carried-text : (plan : List Line) (b size room : ℕ) → verdict (carry_checks (lines network) plan b size room) ≡ Passes
+  pub carried-text : (plan : List Line) (b size room : ℕ) → verdict (carry_checks (lines network) plan b size room) ≡ Ok tt
       → length (carried_text (lines network) plan b) ≤ network_text_most
   -- nor a plan text that is written from a listing (T-01), or for a sheet, every volume of which is 0 (T-10)
-  pub listing-plan : (entries : List Entry) (room : ℕ) → verdict (listing.write_checks (lines network) entries room) ≡ Passes
+  pub listing-plan : (entries : List Entry) (room : ℕ) → verdict (listing.write_checks (lines network) entries room) ≡ Ok tt
       → length (listing.plan_text (lines network) entries) ≤ written_plan_most
-  pub sheet-plan : (times : List Line) (room : ℕ) → verdict (sheet.write_checks (lines network) times room) ≡ Passes
+  pub sheet-plan : (times : List Line) (room : ℕ) → verdict (sheet.write_checks (lines network) times room) ≡ Ok tt
       → length (sheet.sheet_text (lines network) times) ≤ sheet_plan_most

@@ -1,8 +1,8 @@
 -- The first line of some bytes, read byte by byte: what `split` says of it by whether a tab, a line feed or another byte comes first.
 use Rattle.base_laws.proofs.Kit.{ℕ, suc, ◌+◌, ◌<◌, ◌≡◌, refl, sym, ap, ◌∙◌, ◌≢◌, Bool, true, false, List, [], ◌∷◌, map, arith, eq-eqb, ne_eqb, lt-ltb, ltb-true, ℕ_discrete, eqb, ltb, eqb·suc-zero, length, drop, get_or}
-use Rattle.text_reader.specs.declared.Field.{Field}
 use Rattle.text_reader.specs.Field.{field_of}
 use Rattle.text_reader.specs.Lines.{in_front, split, line_of, lines_of, lines, no_line, letter_of}
+use Rattle.std.specs.Prelude.{Option}
 
 -- the bytes of the first line
 unfoldable pub piece : List ℕ → List ℕ
@@ -17,7 +17,7 @@ unfoldable pub first : List ℕ → List ℕ
 first bs = get_or (split 9 (piece bs)) 0 []
 
 -- what its other fields say
-unfoldable pub others : List ℕ → List Field
+unfoldable pub others : List ℕ → List (Option ℕ)
 others bs = map field_of (drop 1 (split 9 (piece bs)))
 
 -- ---- split

@@ -1,19 +1,17 @@
 -- What the definitions say of some texts, computed.
 use Rattle.base_laws.proofs.Kit.{ℕ, ◌≡◌, refl, Bool, true, false, List, [], ◌∷◌}
-use Rattle.text_reader.specs.declared.Field.{Field}
-use Rattle.text_reader.specs.declared.Field.TheVariants.{Number, NoNumber}
-use Rattle.text_reader.specs.declared.LineRead.TheVariants.{Next, Malformed}
 use Rattle.text_reader.specs.Field.{field_of}
 use Rattle.text_reader.specs.Lines.{Line, no_letter, lines, starts_as}
 use Rattle.text_reader.specs.Reading.{line_at, next_line, leading, leading_as, record_at}
 use Rattle.text_reader.proofs.Opened.{opened}
 use Rattle.text_reader.proofs.Texts.{bytes}
+use Rattle.std.specs.Prelude.{Option, Some, None}
 
-abbrev line : ℕ → List Field → Bool → Line
+abbrev line : ℕ → List (Option ℕ) → Bool → Line
 line letter fields ended = record { letter = letter; fields = fields; ended = ended }
 
 -- the last line has no line feed
-a-text : lines (bytes "A\t7\t42\nB\nC\t0") ≡ line 65 (Number 7 ∷ Number 42 ∷ []) true ∷ line 66 [] true ∷ line 67 (Number 0 ∷ []) false ∷ []
+a-text : lines (bytes "A\t7\t42\nB\nC\t0") ≡ line 65 (Some 7 ∷ Some 42 ∷ []) true ∷ line 66 [] true ∷ line 67 (Some 0 ∷ []) false ∷ []
 unfolding opened
 a-text = refl
 
@@ -27,47 +25,47 @@ unfolding opened
 no_line = refl
 
 -- a space parts nothing, and a first field of two bytes is no letter
-a-space : lines (bytes "AB\t7 8\n") ≡ line no_letter (NoNumber ∷ []) true ∷ []
+a-space : lines (bytes "AB\t7 8\n") ≡ line no_letter (None ∷ []) true ∷ []
 unfolding opened
 a-space = refl
 
 -- two tabs part a field that is empty
-an-empty-field : lines (bytes "A\t\t7\t\n") ≡ line 65 (NoNumber ∷ Number 7 ∷ NoNumber ∷ []) true ∷ []
+an-empty-field : lines (bytes "A\t\t7\t\n") ≡ line 65 (None ∷ Some 7 ∷ None ∷ []) true ∷ []
 unfolding opened
 an-empty-field = refl
 
 -- numbers padded with zeros
-padded : field_of (bytes "0000000007") ≡ Number 7
+padded : field_of (bytes "0000000007") ≡ Some 7
 unfolding opened
 padded = refl
 
 -- ten digits at most, whatever they say
-eleven-digits : field_of (bytes "00000000007") ≡ NoNumber
+eleven-digits : field_of (bytes "00000000007") ≡ None
 unfolding opened
 eleven-digits = refl
 
-eleven-of-the-largest : field_of (bytes "04294967295") ≡ NoNumber
+eleven-of-the-largest : field_of (bytes "04294967295") ≡ None
 unfolding opened
 eleven-of-the-largest = refl
 
-only-zeros : field_of (bytes "0000000000") ≡ Number 0
+only-zeros : field_of (bytes "0000000000") ≡ Some 0
 unfolding opened
 only-zeros = refl
 
-the-largest : field_of (bytes "4294967295") ≡ Number 4294967295
+the-largest : field_of (bytes "4294967295") ≡ Some 4294967295
 unfolding opened
 the-largest = refl
 
-one-too-large : field_of (bytes "4294967296") ≡ NoNumber
+one-too-large : field_of (bytes "4294967296") ≡ None
 unfolding opened
 one-too-large = refl
 
 -- the line at place 4 is a record of the letter B and two numbers, and the next line would start at place 10
-a-record : record_at 66 2 (bytes "A\t7\nB\t8\t9\n") 4 ≡ Next 10
+a-record : record_at 66 2 (bytes "A\t7\nB\t8\t9\n") 4 ≡ Some 10
 unfolding opened line_at next_line record_at
 a-record = refl
 
-a-number-too-many : record_at 66 1 (bytes "A\t7\nB\t8\t9\n") 4 ≡ Malformed
+a-number-too-many : record_at 66 1 (bytes "A\t7\nB\t8\t9\n") 4 ≡ None
 unfolding opened line_at record_at
 a-number-too-many = refl
 

@@ -32,11 +32,11 @@ module _ {S R : Type 0} (vals : ℕ → S → List ℕ) (res : ℕ → S → R) 
         }
 
     module _ (out : List ℕ) (s : S) (k : ℕ) (f : Filled s₀ out₀ out s k) where
-      left : k < length out → length out₀ - k ≡ suc (length out₀ - (k + 1))
+      left : k < length out₀ → length out₀ - k ≡ suc (length out₀ - (k + 1))
       left h = omega arith
 
       -- a step gives a value, which is stored
-      pub filled_more : (v : ℕ) (t : S) → k < length out
+      pub filled_more : (v : ℕ) (t : S) → k < length out₀
           → ((n : ℕ) → (vals (suc n) s ≡ v ∷ vals n t) × (res (suc n) s ≡ res n t)) → Filled s₀ out₀ (set out k v) t (k + 1)
       filled_more v t h step =
           let n = length out₀ - (k + 1) in
@@ -44,11 +44,11 @@ module _ {S R : Type 0} (vals : ℕ → S → List ℕ) (res : ℕ → S → R) 
             within = simp length-set (omega arith);
             long = length-set out k v ∙ f.long;
             ends = f.ends ∙ rw (left h) (step n).1;
-            holds = f.holds ∙ rw (left h, (step n).0) (over-more v (vals n t) out k h);
+            holds = f.holds ∙ rw (left h, (step n).0) (over-more v (vals n t) out k (omega (arith, f.long)));
           }
 
       -- a step gives no value: the answer is r
-      pub filled-stop : (r : R) → k < length out
+      pub filled-stop : (r : R) → k < length out₀
           → ((n : ℕ) → (vals (suc n) s ≡ []) × (res (suc n) s ≡ r)) → Got (res (length out₀) s₀) (vals (length out₀) s₀) out₀ r out
       filled-stop r h step =
           let n = length out₀ - (k + 1) in
@@ -58,7 +58,7 @@ module _ {S R : Type 0} (vals : ℕ → S → List ℕ) (res : ℕ → S → R) 
           }
 
       -- the list is full: the answer is r
-      pub filled-all : (r : R) → length out ≤ k → (vals 0 s ≡ []) × (res 0 s ≡ r) → Got (res (length out₀) s₀) (vals (length out₀) s₀) out₀ r out
+      pub filled-all : (r : R) → length out₀ ≤ k → (vals 0 s ≡ []) × (res 0 s ≡ r) → Got (res (length out₀) s₀) (vals (length out₀) s₀) out₀ r out
       filled-all r h last =
           let z : length out₀ - k ≡ 0 = omega arith in
           record {

@@ -1,14 +1,11 @@
 -- What a proof above cites of lines and their places instead of opening the definitions.
 use Rattle.base_laws.proofs.Kit.{ℕ, zero, suc, ◌+◌, ◌-◌, ◌≤◌, ◌<◌, ◌≡◌, refl, sym, ap, ◌∙◌, Bool, true, false, cond, ◌&&◌, and-eq-true_iff, List, [], ◌∷◌, map, append-nil, add-one, add-zero, arith, eqb-true, eqb-false, eq-eqb, ne_eqb, leb-true, le-leb, eqb, leb, length, take, drop, get_or, length-drop, drop_of_length-le, List·getD-eq-default, drop-drop, get_or-drop}
-use Rattle.text_reader.specs.declared.Field.{Field}
-use Rattle.text_reader.specs.declared.Field.TheVariants.{Number, NoNumber}
-use Rattle.text_reader.specs.declared.LineRead.{LineRead}
-use Rattle.text_reader.specs.declared.LineRead.TheVariants.{Next, Malformed}
 use Rattle.text_reader.specs.Field.{decimal, largest, digits, is_numeral, field_of}
 use Rattle.text_reader.specs.Lines.{Line, split, line_of, lines_of, lines, no_line, is_number, all_numbers, is_record, starts_as, number_of, number}
 use Rattle.text_reader.specs.Reading.{line_at, next_line, leading, leading_as, over, record_at, at_end, Starts, Got}
 use Rattle.text_reader.proofs.Bytes.{piece, lines_next, lines-some, piece-within}
 use Rattle.text_reader.proofs.Places.{line-ended, next-piece}
+use Rattle.std.specs.Prelude.{Option, Some, None}
 
 -- ---- the numbers of a line
 -- vs are its first n numbers
@@ -31,28 +28,28 @@ parts letter n line e =
     let one = (and-eq-true_iff line.ended (eqb line.letter letter)).0 two.0 in
     record { ended = one.0; own = one.1; count = eqb-true (length line.fields) n two.1; all = three.1 }
 
-all_take : (n : ℕ) (fs : List Field) → all_numbers fs ≡ true → all_numbers (take n fs) ≡ true
+all_take : (n : ℕ) (fs : List (Option ℕ)) → all_numbers fs ≡ true → all_numbers (take n fs) ≡ true
 unfolding all_numbers is_number
 all_take zero fs e = refl
 all_take (suc n) [] e = refl
-all_take (suc n) (Number v ∷ fs) e = all_take n fs e
-all_take (suc n) (NoNumber ∷ fs) e = e
+all_take (suc n) (Some v ∷ fs) e = all_take n fs e
+all_take (suc n) (None ∷ fs) e = e
 
 -- the first n fields, if they say numbers, are those numbers
-leading-all : (n : ℕ) (fs : List Field) → n ≤ length fs → all_numbers (take n fs) ≡ true
-    → (length (leading n fs) ≡ n) × ((k : ℕ) → k < n → get_or (leading n fs) k 0 ≡ number_of (get_or fs k NoNumber))
+leading-all : (n : ℕ) (fs : List (Option ℕ)) → n ≤ length fs → all_numbers (take n fs) ≡ true
+    → (length (leading n fs) ≡ n) × ((k : ℕ) → k < n → get_or (leading n fs) k 0 ≡ number_of (get_or fs k None))
 unfolding leading all_numbers is_number number_of
 leading-all zero fs h e = (refl, λ k l. absurd (omega arith))
 leading-all (suc n) [] h e = absurd (omega arith)
-leading-all (suc n) (Number v ∷ fs) h e =
+leading-all (suc n) (Some v ∷ fs) h e =
     let rest = leading-all n fs (omega arith) e in (
       ap suc rest.0,
-      λ k. elim k as (λ k. k < suc n → get_or (leading (suc n) (Number v ∷ fs)) k 0 ≡ number_of (get_or (Number v ∷ fs) k NoNumber)) [
+      λ k. elim k as (λ k. k < suc n → get_or (leading (suc n) (Some v ∷ fs)) k 0 ≡ number_of (get_or (Some v ∷ fs) k None)) [
         | zero ↦ λ l. refl
         | suc j ↦ λ l. rest.1 j (omega arith)
       ],
     )
-leading-all (suc n) (NoNumber ∷ fs) h e = let z : ◌≡◌ {A = ℕ} 0 1 = cc in absurd (omega arith)
+leading-all (suc n) (None ∷ fs) h e = let z : ◌≡◌ {A = ℕ} 0 1 = cc in absurd (omega arith)
 
 module _ (letter n : ℕ) (line : Line) where
   pub head-numbers : starts_as letter n line ≡ true → Numbered n line (leading_as letter n line)
@@ -76,7 +73,7 @@ module _ (letter n : ℕ) (line : Line) where
   -- it has no number past its last
   pub record-past : is_record letter n line ≡ true → (k : ℕ) → n ≤ k → number line k ≡ 0
   unfolding number number_of
-  record-past e k h = ap number_of (List·getD-eq-default line.fields NoNumber (omega (arith, (parts letter n line e).count)))
+  record-past e k h = ap number_of (List·getD-eq-default line.fields None (omega (arith, (parts letter n line e).count)))
 
 -- ---- what a read tells
 -- a line that was read
@@ -92,11 +89,11 @@ ended-within text at e =
     omega (arith, piece-within (drop at text) (sym (line-ended text at) ∙ e), length-drop at text, next-piece text at)
 
 module _ (letter n : ℕ) (text : List ℕ) (at : ℕ) where
-  pub record-read : (next : ℕ) → record_at letter n text at ≡ Next next → Read letter n text at next
+  pub record-read : (next : ℕ) → record_at letter n text at ≡ Some next → Read letter n text at next
   unfolding record_at
   record-read next e = go (is_record letter n (line_at text at)) refl e
     where
-      go : (t : Bool) → is_record letter n (line_at text at) ≡ t → cond t (Next (next_line text at)) Malformed ≡ Next next → Read letter n text at next
+      go : (t : Bool) → is_record letter n (line_at text at) ≡ t → cond t (Some (next_line text at)) None ≡ Some next → Read letter n text at next
       go true h q =
           let place : next ≡ next_line text at = cc in
           record {
@@ -107,11 +104,11 @@ module _ (letter n : ℕ) (text : List ℕ) (at : ℕ) where
           }
       go false h q = let z : ◌≡◌ {A = ℕ} 0 1 = cc in absurd (omega arith)
 
-  pub record-malformed : record_at letter n text at ≡ Malformed → is_record letter n (line_at text at) ≡ false
+  pub record-malformed : record_at letter n text at ≡ None → is_record letter n (line_at text at) ≡ false
   unfolding record_at
   record-malformed e = go (is_record letter n (line_at text at)) e
     where
-      go : (t : Bool) → cond t (Next (next_line text at)) Malformed ≡ Malformed → t ≡ false
+      go : (t : Bool) → cond t (Some (next_line text at)) None ≡ None → t ≡ false
       go true q = cc
       go false q = refl
 
@@ -124,8 +121,8 @@ over-all vs old e =
 
 -- what a slice holds after a line, or the beginning of one, was read into it
 module _ (letter : ℕ) (text : List ℕ) (at : ℕ) (old out : List ℕ) where
-  pub got-record : (r : LineRead) (next : ℕ)
-      → Got (record_at letter (length old) text at) (leading_as letter (length old) (line_at text at)) old r out → r ≡ Next next → Numbered (length old) (line_at text at) out
+  pub got-record : (r : Option ℕ) (next : ℕ)
+      → Got (record_at letter (length old) text at) (leading_as letter (length old) (line_at text at)) old r out → r ≡ Some next → Numbered (length old) (line_at text at) out
   got-record r next g e =
       let n = record-numbers letter (length old) (line_at text at) (record-read letter (length old) text at next (sym g.told ∙ e)).is-record in
       rw (g.holds, over-all _ old n.count) n
@@ -154,7 +151,7 @@ module _ (text : List ℕ) (at i : ℕ) (s : Starts text at i) where
       go true e = eq-eqb (length (lines text) - i) 0 (omega (arith, eqb-true (length (lines text)) i e))
       go false e = ne_eqb (length (lines text) - i) 0 (λ z. eqb-false (length (lines text)) i e (omega arith))
 
-  module _ (letter n next : ℕ) (r : record_at letter n text at ≡ Next next) where
+  module _ (letter n next : ℕ) (r : record_at letter n text at ≡ Some next) where
     ended : (line_at text at).ended ≡ true
     ended = (parts letter n (line_at text at) (record-read letter n text at next r).is-record).ended
 
@@ -192,12 +189,12 @@ field-small : (bs : List ℕ) → number_of (field_of bs) ≤ largest
 unfolding field_of
 field-small bs = go (is_numeral bs) refl
   where
-    go : (t : Bool) → is_numeral bs ≡ t → number_of (cond t (Number (decimal bs)) NoNumber) ≤ largest
+    go : (t : Bool) → is_numeral bs ≡ t → number_of (cond t (Some (decimal bs)) None) ≤ largest
     go true e =
         unfold number_of in leb-true (decimal bs) largest (unfold is_numeral in ((and-eq-true_iff (leb 1 (length bs) && leb (length bs) 10 && digits bs) (leb (decimal bs) largest)).0 e).1)
     go false e = unfold number_of in omega arith
 
-fields-small : (pieces : List (List ℕ)) (k : ℕ) → number_of (get_or (map field_of pieces) k NoNumber) ≤ largest
+fields-small : (pieces : List (List ℕ)) (k : ℕ) → number_of (get_or (map field_of pieces) k None) ≤ largest
 fields-small [] k = unfold number_of in omega arith
 fields-small (bs ∷ more) zero = field-small bs
 fields-small (bs ∷ more) (suc k) = fields-small more k

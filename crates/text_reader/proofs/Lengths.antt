@@ -1,12 +1,12 @@
 -- How long a text of records may be: a record has a letter, a tab and at most ten digits for each number, and a line feed.
 use Rattle.base_laws.proofs.Kit.{ℕ, zero, suc, ◌+◌, ◌*◌, ◌≤◌, ◌<◌, ◌≡◌, refl, sym, ap, ◌∙◌, Bool, true, false, cond, ◌&&◌, and-eq-true_iff, List, [], ◌∷◌, map, le_refl, dec_le, arith, leb-true, eqb-true, eq-eqb, eqb, leb, length, drop, get_or, length-drop}
-use Rattle.text_reader.specs.declared.Field.TheVariants.{Number, NoNumber}
 use Rattle.text_reader.specs.Field.{is_numeral, field_of, digits, decimal, largest}
 use Rattle.text_reader.specs.Lines.{in_front, split, line_of, lines, letter_of, no_letter, no_line, is_number, all_numbers, is_record}
 use Rattle.text_reader.specs.Reading.{line_at, next_line, record_at, at_end, Starts}
 use Rattle.text_reader.proofs.Bytes.{piece, fed, split-headed, line_first}
 use Rattle.text_reader.proofs.Places.{next-piece}
 use Rattle.text_reader.proofs.Laws.{parts, starts_first, starts-line, starts-next, starts-end, some-lines}
+use Rattle.std.specs.Prelude.{Some, None}
 
 -- the bytes of pieces, with a separator behind each
 abbrev total : List (List ℕ) → ℕ
@@ -28,7 +28,7 @@ field-most : (f : List ℕ) → is_number (field_of f) ≡ true → length f ≤
 unfolding field_of is_number is_numeral
 field-most f h = go (is_numeral f) refl h
   where
-    go : (t : Bool) → is_numeral f ≡ t → is_number (cond t (Number (decimal f)) NoNumber) ≡ true → length f ≤ 10
+    go : (t : Bool) → is_numeral f ≡ t → is_number (cond t (Some (decimal f)) None) ≡ true → length f ≤ 10
     go true e h =
         let three = (and-eq-true_iff (leb 1 (length f) && leb (length f) 10 && digits f) (leb (decimal f) largest)).0 e in
         let two = (and-eq-true_iff (leb 1 (length f) && leb (length f) 10) (digits f)).0 three.0 in

@@ -1,8 +1,8 @@
 -- What a field says, digit by digit.
 use Rattle.base_laws.proofs.Kit.{ℕ, suc, ◌+◌, ◌-◌, ◌*◌, ◌≤◌, ◌<◌, ◌≡◌, refl, true, false, and-eq-true_iff, and-false, List, [], ◌∷◌, foldl, le_trans, arith, le-leb, lt-leb, leb-true, leb, leb·zero, leb·suc-zero, leb·suc-suc, length}
-use Rattle.text_reader.specs.declared.Field.TheVariants.{Number, NoNumber}
 use Rattle.text_reader.specs.Field.{digit, digits, shift, decimal, largest, is_numeral, field_of}
 use Rattle.text_reader.specs.Reading.{worth}
+use Rattle.std.specs.Prelude.{Some, None}
 
 -- a byte that is a digit
 pub digit-bounds : (b : ℕ) → digit b ≡ true → (48 ≤ b) × (b ≤ 57)
@@ -18,16 +18,16 @@ unfolding shift
 shift-grows v [] = omega arith
 shift-grows v (b ∷ bs) = le_trans (omega arith) (shift-grows (shift v b) bs)
 
-pub worth-end : (n v : ℕ) → v ≤ largest → worth n v [] ≡ Number v
+pub worth-end : (n v : ℕ) → v ≤ largest → worth n v [] ≡ Some v
 unfolding worth digits
 worth-end n v h = rw (leb·zero n, le-leb v largest)
 
 module _ (n v b : ℕ) (bs : List ℕ) where
-  pub worth-not : digit b ≡ false → worth n v (b ∷ bs) ≡ NoNumber
+  pub worth-not : digit b ≡ false → worth n v (b ∷ bs) ≡ None
   unfolding worth digits
   worth-not e = rw (e, and-false)
 
-  pub worth-full : worth 0 v (b ∷ bs) ≡ NoNumber
+  pub worth-full : worth 0 v (b ∷ bs) ≡ None
   unfolding worth
   worth-full = rw (leb·suc-zero (length bs))
 
@@ -36,14 +36,14 @@ module _ (n v b : ℕ) (bs : List ℕ) where
   worth-more e = rw (e, leb·suc-suc (length bs) n)
 
   -- more digits never bring a number down
-  pub worth-over : largest < v * 10 + (b - 48) → worth n v (b ∷ bs) ≡ NoNumber
+  pub worth-over : largest < v * 10 + (b - 48) → worth n v (b ∷ bs) ≡ None
   unfolding worth shift
   worth-over h =
       let g = shift-grows (v * 10 + (b - 48)) bs in
       rw (lt-leb (foldl shift (v * 10 + (b - 48)) bs) largest (omega arith), and-false)
 
 -- ---- a field by its first byte
-pub field-none : field_of [] ≡ NoNumber
+pub field-none : field_of [] ≡ None
 unfolding field_of is_numeral
 field-none = refl
 

@@ -1,15 +1,14 @@
 -- What stands at a place of a text, by the byte there: the field that starts at it, and how the line goes on.
 use Rattle.base_laws.proofs.Kit.{ℕ, suc, ◌+◌, ◌≤◌, ◌<◌, ◌≡◌, refl, sym, ap, ◌∙◌, ◌≢◌, Bool, true, false, cond, ◌&&◌, and-true, and-false}
 use Rattle.base_laws.proofs.Kit.{List, [], ◌∷◌, add-one, dec_le, ℕ_discrete, arith, eq-eqb, ne_eqb, eqb-true, eqb-false, eqb, leb, leb·zero, leb·suc-zero, leb·suc-suc, eqb·zero-suc, eqb·suc-zero, eqb·suc-suc, length, take, drop, get_or, drop_of_length-le, List·getD-eq-default, drop-cons, drop-drop}
-use Rattle.text_reader.specs.declared.Field.{Field}
-use Rattle.text_reader.specs.declared.Field.TheVariants.{Number, NoNumber}
-use Rattle.text_reader.specs.declared.Tabbed.TheVariants.{Found, Absent}
+use Rattle.text_reader.specs.declared.FieldNumber.{FieldNumber}
 use Rattle.text_reader.specs.declared.Numbers.{Numbers}
 use Rattle.text_reader.specs.declared.Numbers.TheVariants.{Last, More, Missing}
 use Rattle.text_reader.specs.Field.{field_of}
 use Rattle.text_reader.specs.Lines.{split, Line, line_of, letter_of, is_number, all_numbers, is_record, starts_as}
-use Rattle.text_reader.specs.Reading.{line_at, next_line, leading, field_at, located, separator, tabbed_at, numbers_as, numbers_at}
+use Rattle.text_reader.specs.Reading.{number_until, line_at, next_line, leading, field_at, located, separator, tabbed_at, numbers_as, numbers_at}
 use Rattle.text_reader.proofs.Bytes.{piece, fed, first, others, piece-feed, piece-on, fed-feed, fed-on, first-feed, first_on, first-tab, others-feed, others-tab, Past, past_first, line_first}
+use Rattle.std.specs.Prelude.{Option, Some, None}
 
 -- ---- the line at a place
 module _ (text : List ℕ) (at : ℕ) where
@@ -80,7 +79,7 @@ abbrev pub end_of : List ℕ → ℕ → ℕ
 end_of text at = at + length (field_at text at)
 
 -- ---- how the line goes on from a place to another: its fields from the first place on are fs
-record Onward (text : List ℕ) (at there : ℕ) (fs : List Field) : Type 0 where
+record Onward (text : List ℕ) (at there : ℕ) (fs : List (Option ℕ)) : Type 0 where
   fields : (line_at text at).fields ≡ fs
   ended : (line_at text at).ended ≡ (line_at text there).ended
   next : next_line text at ≡ next_line text there
@@ -117,7 +116,7 @@ past-tab text at h e =
     }
 
 -- ---- how n numbers of a line end, by the line's fields
-unfoldable numbers_of : ℕ → List Field → Bool → ℕ → Numbers
+unfoldable numbers_of : ℕ → List (Option ℕ) → Bool → ℕ → Numbers
 numbers_of n fs ended next =
     cond (ended && eqb (length fs) n && all_numbers fs) (Last next) (cond (leb n (length fs) && all_numbers (take n fs)) More Missing)
 
@@ -125,16 +124,16 @@ numbers_of_lem : (n : ℕ) (text : List ℕ) (at : ℕ) → numbers_at n text at
 unfolding numbers_at numbers_as is_record starts_as numbers_of
 numbers_of_lem n text at = rw (eq-eqb (line_at text at).letter (line_at text at).letter refl, and-true)
 
-module _ (fs : List Field) (ended : Bool) (next : ℕ) where
-  numbers-found : (n v : ℕ) → numbers_of (suc n) (Number v ∷ fs) ended next ≡ numbers_of n fs ended next
+module _ (fs : List (Option ℕ)) (ended : Bool) (next : ℕ) where
+  numbers-found : (n v : ℕ) → numbers_of (suc n) (Some v ∷ fs) ended next ≡ numbers_of n fs ended next
   unfolding numbers_of all_numbers is_number
   numbers-found n v = rw (eqb·suc-suc (length fs) n, leb·suc-suc n (length fs))
 
-  numbers-not : (n : ℕ) → numbers_of (suc n) (NoNumber ∷ fs) ended next ≡ Missing
+  numbers-not : (n : ℕ) → numbers_of (suc n) (None ∷ fs) ended next ≡ Missing
   unfolding numbers_of all_numbers is_number
   numbers-not n = simp and-false
 
-  numbers_more : (f : Field) → numbers_of 0 (f ∷ fs) ended next ≡ More
+  numbers_more : (f : Option ℕ) → numbers_of 0 (f ∷ fs) ended next ≡ More
   unfolding numbers_of all_numbers is_number
   numbers_more f = rw (eqb·suc-zero (length fs), and-false, leb·zero (length (f ∷ fs)))
 
@@ -153,7 +152,7 @@ module _ (text : List ℕ) (at : ℕ) where
       let tab = past-tab text at (tab-within e) e in
       let field = past-field text (at + 1) in
       record {
-        fields = tab.fields ∙ ap (λ (fs : List Field). field_of (field_at text (at + 1)) ∷ fs) field.fields;
+        fields = tab.fields ∙ ap (λ (fs : List (Option ℕ)). field_of (field_at text (at + 1)) ∷ fs) field.fields;
         ended = tab.ended ∙ field.ended;
         next = tab.next ∙ field.next;
       }
@@ -169,34 +168,37 @@ module _ (text : List ℕ) (at : ℕ) where
   ]
 
 -- ---- the turns of the reader: what is left to read from a place, and how the numbers end
--- the field after the tab says v, and ends at next
-module _ (text : List ℕ) (at v next : ℕ) (e : tabbed_at text at ≡ Found v next) where
-  found : Onward text at next (Number v ∷ (line_at text next).fields) × (field_at text next ≡ [])
+-- the number of the field after the tab, and where that field ends
+module _ (text : List ℕ) (at : ℕ) (number : FieldNumber) (e : tabbed_at text at ≡ Some number) where
+  found : Onward text at number.next (Some number.value ∷ (line_at text number.next).fields) × (field_at text number.next ≡ [])
   unfolding tabbed_at located
   found = go (eqb (get_or text at 0) 9) refl (field_of (field_at text (at + 1))) refl e
     where
-      go : (t : Bool) → eqb (get_or text at 0) 9 ≡ t → (f : Field) → field_of (field_at text (at + 1)) ≡ f
-          → cond t (located (end_of text (at + 1)) f) Absent ≡ Found v next → Onward text at next (Number v ∷ (line_at text next).fields) × (field_at text next ≡ [])
-      go true et (Number w) ef q =
-          let same : field_of (field_at text (at + 1)) ≡ Number v = cc in
-          let end : end_of text (at + 1) ≡ next = cc in
+      go : (t : Bool) → eqb (get_or text at 0) 9 ≡ t → (f : Option ℕ) → field_of (field_at text (at + 1)) ≡ f
+          → cond t (located (end_of text (at + 1)) f) None ≡ Some number
+          → Onward text at number.next (Some number.value ∷ (line_at text number.next).fields) × (field_at text number.next ≡ [])
+      go true et (Some w) ef q =
+          let it : number_until w (end_of text (at + 1)) ≡ number = cc in
+          let same : field_of (field_at text (at + 1)) ≡ Some number.value = ef ∙ ap (λ (n : FieldNumber). Some n.value) it in
+          let end : end_of text (at + 1) ≡ number.next = ap (λ (n : FieldNumber). n.next) it in
           (rw (same, end) at (past-tabbed text at (eqb-true (get_or text at 0) 9 et)), rw end at (end-stops text (at + 1)))
-      go true et NoNumber ef q = let z : ◌≡◌ {A = ℕ} 0 1 = cc in absurd (omega arith)
+      go true et None ef q = let z : ◌≡◌ {A = ℕ} 0 1 = cc in absurd (omega arith)
       go false et f ef q = let z : ◌≡◌ {A = ℕ} 0 1 = cc in absurd (omega arith)
 
   pub found-reads : (n : ℕ)
-      → (leading (suc n) (line_at text at).fields ≡ v ∷ leading n (line_at text next).fields) × (numbers_at (suc n) text at ≡ numbers_at n text next)
+      → (leading (suc n) (line_at text at).fields ≡ number.value ∷ leading n (line_at text number.next).fields)
+      × (numbers_at (suc n) text at ≡ numbers_at n text number.next)
   unfolding leading
   found-reads n = (
     rw found.0.fields,
-    rw (numbers_of_lem (suc n) text at, numbers_of_lem n text next, found.0.fields, found.0.ended, found.0.next) (numbers-found _ _ _ n v),
+    rw (numbers_of_lem (suc n) text at, numbers_of_lem n text number.next, found.0.fields, found.0.ended, found.0.next) (numbers-found _ _ _ n number.value),
   )
 
-  pub found-stops : field_at text next ≡ []
+  pub found-stops : field_at text number.next ≡ []
   found-stops = found.1
 
 -- no tab, or a field that says no number
-pub absent-reads : (text : List ℕ) (at : ℕ) → field_at text at ≡ [] → tabbed_at text at ≡ Absent → (n : ℕ)
+pub absent-reads : (text : List ℕ) (at : ℕ) → field_at text at ≡ [] → tabbed_at text at ≡ None → (n : ℕ)
     → (leading (suc n) (line_at text at).fields ≡ []) × (numbers_at (suc n) text at ≡ Missing)
 unfolding tabbed_at located leading
 absent-reads text at s e n = rw (numbers_of_lem (suc n) text at) (go (eqb (get_or text at 0) 9) refl (field_of (field_at text (at + 1))) refl e)
@@ -206,12 +208,12 @@ absent-reads text at s e n = rw (numbers_of_lem (suc n) text at) (go (eqb (get_o
         (leading (suc n) (line_at text at).fields ≡ [])
         × (numbers_of (suc n) (line_at text at).fields (line_at text at).ended (next_line text at) ≡ Missing)
 
-    go : (t : Bool) → eqb (get_or text at 0) 9 ≡ t → (f : Field) → field_of (field_at text (at + 1)) ≡ f
-        → cond t (located (end_of text (at + 1)) f) Absent ≡ Absent → Reads
-    go true et NoNumber ef q =
+    go : (t : Bool) → eqb (get_or text at 0) 9 ≡ t → (f : Option ℕ) → field_of (field_at text (at + 1)) ≡ f
+        → cond t (located (end_of text (at + 1)) f) None ≡ None → Reads
+    go true et None ef q =
         let on = rw ef at (past-tabbed text at (eqb-true (get_or text at 0) 9 et)) in
         rw on.fields (refl, numbers-not _ _ _ n)
-    go true et (Number w) ef q = let z : ◌≡◌ {A = ℕ} 0 1 = cc in absurd (omega arith)
+    go true et (Some w) ef q = let z : ◌≡◌ {A = ℕ} 0 1 = cc in absurd (omega arith)
     go false et f ef q = rw (past-none text at s (eqb-false (get_or text at 0) 9 et)) (refl, numbers-none _ _ n)
 
 -- the field that is passed first changes nothing

@@ -1,16 +1,16 @@
 -- The laws of the functions that read a text which a line feed ends: behind a byte that is no line feed the text goes on. Each is in the form of a need.
 use Rattle.base_laws.proofs.Kit.{ℕ, suc, ◌+◌, ◌-◌, ◌*◌, ◌≤◌, ◌<◌, ◌≡◌, refl, sym, ap, ◌∙◌, ◌≢◌, Bool, true, false, cond, not, and-eq-true_iff, List, [], ◌∷◌, arith, add-zero, dec_le, ℕ_discrete, eq-eqb, eqb-true, ne_eqb, eqb, leb, length, get_or, set, length-set, List·getD-eq-default}
-use Rattle.text_reader.specs.declared.Tabbed.{Tabbed}
-use Rattle.text_reader.specs.declared.Tabbed.TheVariants.{Found, Absent}
 use Rattle.text_reader.specs.declared.Ended.{Ended}
 use Rattle.text_reader.specs.declared.Ended.TheVariants.{ByTab, ByLineFeed, Neither}
 use Rattle.text_reader.specs.declared.Numbers.{Numbers}
 use Rattle.text_reader.specs.declared.Numbers.TheVariants.{Last, More, Missing}
 use Rattle.text_reader.specs.Field.{digit, largest}
 use Rattle.text_reader.specs.Lines.{no_letter}
-use Rattle.text_reader.specs.Reading.{field_at, separator, rest_at, starts_with, tab_before_sentinel, if_ended, DigitsRead, EndsAs, tabbed_at, GotNumbers, GotNumbersAs}
+use Rattle.text_reader.specs.Reading.{number_until, field_at, separator, rest_at, starts_with, tab_before_sentinel, if_ended, DigitsRead, EndsAs, tabbed_at, GotNumbers, GotNumbersAs}
 use Rattle.text_reader.proofs.Places.{field-stop}
 use Rattle.text_reader.proofs.Turns.{Stored, stored_more, stored-stop, all-feed, all-other, Saying, saying-none, rest-stop, rest-full, rest-not, rest-big, rest_more, rest-empty, tabbed-other, tabbed-empty, tabbed-some, digit_low, as_own}
+use Rattle.std.specs.Prelude.{Option, Some, None}
+use Rattle.text_reader.specs.declared.FieldNumber.{FieldNumber}
 
 -- a byte that is not 0 stands within the text
 pub byte-within : (text : List ℕ) (i b : ℕ) → get_or text i 0 ≡ suc b → i < length text
@@ -62,35 +62,35 @@ pub run_none : (text : List ℕ) (from : ℕ) → from < length text → Run tex
 run_none text from h = record { few = omega arith; inside = omega arith; saying = rw add-zero (saying-none text from) }
 
 module _ (text : List ℕ) (from k v : ℕ) (run : Run text from k v) where
-  ends : (s : Bool) → separator (get_or text (from + k) 0) ≡ s → (s ≡ false → Absent ≡ rest_at 10 0 text from)
-      → cond s (Found v (from + k)) Absent ≡ rest_at 10 0 text from
+  ends : (s : Bool) → separator (get_or text (from + k) 0) ≡ s → (s ≡ false → None ≡ rest_at 10 0 text from)
+      → cond s (Some (number_until v (from + k))) None ≡ rest_at 10 0 text from
   ends true q other = rest-stop text from (10 - k) v (from + k) run.saying run.inside true (sym q) refl
   ends false q other = other refl
 
-  pub run-full : 10 ≤ k → DigitsRead text from (Found v (from + 10))
+  pub run-full : 10 ≤ k → DigitsRead text from (Some (number_until v (from + 10)))
   unfolding if_ended
   run-full h =
       let ten : from + 10 ≡ from + k = omega (arith, run.few) in
       record {
         says = rw ten (ends (separator (get_or text (from + k) 0)) refl
             (λ u. rest-full text from (10 - k) v (from + k) run.saying run.inside false (sym u) refl (omega arith)));
-        within = λ w next q. (let same : from + 10 ≡ next = cc in omega (arith, run.inside));
+        within = λ number q. (let it : number_until v (from + 10) ≡ number = cc in rw (sym it) (omega (arith, run.inside)));
       }
 
   module _ (b : ℕ) (same : b ≡ get_or text (from + k) 0) (r : Bool) (e : r ≡ digit b) where
-    pub run-stop : not r ≡ true → DigitsRead text from (Found v (from + k))
+    pub run-stop : not r ≡ true → DigitsRead text from (Some (number_until v (from + k)))
     unfolding if_ended
     run-stop t =
         record {
           says = ends (separator (get_or text (from + k) 0)) refl
               (λ u. rest-not text from (10 - k) v (from + k) run.saying run.inside false (sym u) refl b same r e t);
-          within = λ w next q. (let place : from + k ≡ next = cc in omega (arith, run.inside));
+          within = λ number q. (let it : number_until v (from + k) ≡ number = cc in rw (sym it) run.inside);
         }
 
     module _ (t : not r ≡ false) (f : Bool) (g : f ≡ leb (v * 10 + (b - 48)) largest) where
-      pub run-big : not f ≡ true → DigitsRead text from Absent
+      pub run-big : not f ≡ true → DigitsRead text from None
       unfolding if_ended
-      run-big u = record { says = rest-big text from (10 - k) v (from + k) run.saying run.inside b same r e t f g u; within = λ w next q. (let z : ◌≡◌ {A = ℕ} 0 1 = cc in absurd (omega arith)) }
+      run-big u = record { says = rest-big text from (10 - k) v (from + k) run.saying run.inside b same r e t f g u; within = λ number q. (let z : ◌≡◌ {A = ℕ} 0 1 = cc in absurd (omega arith)) }
 
       pub run_more : (w : ℕ) → k < 10 → get_or text (length text - 1) 0 ≡ 10 → not f ≡ false → w ≡ v * 10 + (b - 48) → Run text from (k + 1) w
       run_more w h last u a =
@@ -103,103 +103,104 @@ module _ (text : List ℕ) (from k v : ℕ) (run : Run text from k v) where
           }
 
 -- ---- what ends the field after a tab, by the digits found there
-module _ (text : List ℕ) (at : ℕ) (tab : get_or text at 0 ≡ 9) (r : Tabbed) (d : DigitsRead text (at + 1) r) where
-  lost : rest_at 10 0 text (at + 1) ≡ Absent → tabbed_at text at ≡ Absent
+module _ (text : List ℕ) (at : ℕ) (tab : get_or text at 0 ≡ 9) (r : Option FieldNumber) (d : DigitsRead text (at + 1) r) where
+  lost : rest_at 10 0 text (at + 1) ≡ None → tabbed_at text at ≡ None
   lost e = go (field_at text (at + 1)) refl
     where
-      go : (bs : List ℕ) → field_at text (at + 1) ≡ bs → tabbed_at text at ≡ Absent
+      go : (bs : List ℕ) → field_at text (at + 1) ≡ bs → tabbed_at text at ≡ None
       go [] q = sym (tabbed-empty text at tab q)
       go (b ∷ bs) q = sym (tabbed-some text at tab b bs q) ∙ e
 
-  pub ends-absent : r ≡ Absent → EndsAs text (tabbed_at text at) Neither
+  pub ends-absent : r ≡ None → EndsAs text (tabbed_at text at) Neither
   unfolding EndsAs if_ended
   ends-absent e = lost (sym d.says ∙ ap (if_ended text) e)
 
-  module _ (v next : ℕ) (e : r ≡ Found v next) where
-    says : cond (separator (get_or text next 0)) (Found v next) Absent ≡ rest_at 10 0 text (at + 1)
+  module _ (number : FieldNumber) (e : r ≡ Some number) where
+    says : cond (separator (get_or text number.next 0)) (Some number) None ≡ rest_at 10 0 text (at + 1)
     unfolding if_ended
     says = sym (ap (if_ended text) e) ∙ d.says
 
-    pub ends-within : next < length text
-    ends-within = d.within v next e
+    pub ends-within : number.next < length text
+    ends-within = d.within number e
 
-    unended : separator (get_or text next 0) ≡ false → tabbed_at text at ≡ Absent
+    unended : separator (get_or text number.next 0) ≡ false → tabbed_at text at ≡ None
     unended s = lost (sym says ∙ rw s)
 
-    pub ends-empty : next ≡ at + 1 → EndsAs text (tabbed_at text at) Neither
+    pub ends-empty : number.next ≡ at + 1 → EndsAs text (tabbed_at text at) Neither
     unfolding EndsAs
-    ends-empty q = go (separator (get_or text next 0)) refl
+    ends-empty q = go (separator (get_or text number.next 0)) refl
       where
-        go : (s : Bool) → separator (get_or text next 0) ≡ s → tabbed_at text at ≡ Absent
-        go true s = sym (tabbed-empty text at tab (rw q at (field-stop text next ends-within s)))
+        go : (s : Bool) → separator (get_or text number.next 0) ≡ s → tabbed_at text at ≡ None
+        go true s = sym (tabbed-empty text at tab (rw q at (field-stop text number.next ends-within s)))
         go false s = unended s
 
-    pub ends-other : get_or text next 0 ≢ 9 → get_or text next 0 ≢ 10 → EndsAs text (tabbed_at text at) Neither
+    pub ends-other : get_or text number.next 0 ≢ 9 → get_or text number.next 0 ≢ 10 → EndsAs text (tabbed_at text at) Neither
     unfolding EndsAs separator
-    ends-other n f = unended (rw (ne_eqb (get_or text next 0) 9 n, ne_eqb (get_or text next 0) 10 f))
+    ends-other n f = unended (rw (ne_eqb (get_or text number.next 0) 9 n, ne_eqb (get_or text number.next 0) 10 f))
 
-    module _ (n : next ≢ at + 1) where
-      found : separator (get_or text next 0) ≡ true → tabbed_at text at ≡ Found v next
+    module _ (n : number.next ≢ at + 1) where
+      found : separator (get_or text number.next 0) ≡ true → tabbed_at text at ≡ Some number
       found s = go (field_at text (at + 1)) refl
         where
-          here : Found v next ≡ rest_at 10 0 text (at + 1)
+          here : Some number ≡ rest_at 10 0 text (at + 1)
           here = rw s at says
 
-          go : (bs : List ℕ) → field_at text (at + 1) ≡ bs → tabbed_at text at ≡ Found v next
+          go : (bs : List ℕ) → field_at text (at + 1) ≡ bs → tabbed_at text at ≡ Some number
           go [] q =
               let there = here in
               let none = rest-empty text (at + 1) q in
-              let z : next ≡ at + 1 = cc in
+              let it : number_until 0 (at + 1) ≡ number = cc in
+              let z : number.next ≡ at + 1 = ap (λ (n : FieldNumber). n.next) (sym it) in
               absurd (n z)
           go (b ∷ bs) q = sym (tabbed-some text at tab b bs q) ∙ sym here
 
-      pub ends-tab : get_or text next 0 ≡ 9 → EndsAs text (tabbed_at text at) (ByTab v next)
+      pub ends-tab : get_or text number.next 0 ≡ 9 → EndsAs text (tabbed_at text at) (ByTab number)
       unfolding EndsAs separator
-      ends-tab t = (found (rw (eq-eqb (get_or text next 0) 9 t)), t)
+      ends-tab t = (found (rw (eq-eqb (get_or text number.next 0) 9 t)), t)
 
-      pub ends-feed : get_or text next 0 ≡ 10 → EndsAs text (tabbed_at text at) (ByLineFeed v next)
+      pub ends-feed : get_or text number.next 0 ≡ 10 → EndsAs text (tabbed_at text at) (ByLineFeed number)
       unfolding EndsAs separator
       ends-feed t = (found (rw t), t)
 
 -- ---- the numbers after tabs
-pub ended-tab : (text : List ℕ) (t : Tabbed) (r : Ended) (v next : ℕ) → EndsAs text t r → r ≡ ByTab v next → get_or text next 0 ≡ 9
+pub ended-tab : (text : List ℕ) (t : Option FieldNumber) (r : Ended) (number : FieldNumber) → EndsAs text t r → r ≡ ByTab number → get_or text number.next 0 ≡ 9
 unfolding EndsAs
-ended-tab text t r v next e g = (rw g at e).1
+ended-tab text t r number e g = (rw g at e).1
 
-pub ended-feed : (text : List ℕ) (t : Tabbed) (r : Ended) (v next : ℕ) → EndsAs text t r → r ≡ ByLineFeed v next → next < length text
+pub ended-feed : (text : List ℕ) (t : Option FieldNumber) (r : Ended) (number : FieldNumber) → EndsAs text t r → r ≡ ByLineFeed number → number.next < length text
 unfolding EndsAs
-ended-feed text t r v next e g = byte-within text next 9 (rw g at e).1
+ended-feed text t r number e g = byte-within text number.next 9 (rw g at e).1
 
 module _ (text : List ℕ) (at : ℕ) (out₀ out : List ℕ) (i k : ℕ) (inv : Stored text at out₀ out i k) where
-  pub all-tab : length out ≤ k → get_or text i 0 ≡ 9 → GotNumbers text at out₀ More out
+  pub all-tab : length out₀ ≤ k → get_or text i 0 ≡ 9 → GotNumbers text at out₀ More out
   all-tab h t = all-other text at out₀ out i k inv h (byte-within text i 8 t) (λ z. omega arith)
 
-  module _ (r : Ended) (h : k < length out) (e : EndsAs text (tabbed_at text i) r) where
+  module _ (r : Ended) (h : k < length out₀) (e : EndsAs text (tabbed_at text i) r) where
     pub ended-stop : r ≡ Neither → GotNumbers text at out₀ Missing out
     unfolding EndsAs
-    ended-stop g = let none = rw g at e in stored-stop text at out₀ out i k inv Absent h (sym none) refl
+    ended-stop g = let none = rw g at e in stored-stop text at out₀ out i k inv None h (sym none) refl
 
-    module _ (v next : ℕ) where
-      pub ended-more : r ≡ ByTab v next → Stored text at out₀ (set out k v) next (k + 1)
+    module _ (number : FieldNumber) where
+      pub ended-more : r ≡ ByTab number → Stored text at out₀ (set out k number.value) number.next (k + 1)
       unfolding EndsAs
-      ended-more g = let one = rw g at e in stored_more text at out₀ out i k inv (Found v next) v next h (sym one.0) refl
+      ended-more g = let one = rw g at e in stored_more text at out₀ out i k inv (Some number) number h (sym one.0) refl
 
-      module _ (g : r ≡ ByLineFeed v next) where
-        feed : get_or text next 0 ≡ 10
+      module _ (g : r ≡ ByLineFeed number) where
+        feed : get_or text number.next 0 ≡ 10
         unfolding EndsAs
         feed = (rw g at e).1
 
-        last : Stored text at out₀ (set out k v) next (k + 1)
+        last : Stored text at out₀ (set out k number.value) number.next (k + 1)
         unfolding EndsAs
-        last = let one = rw g at e in stored_more text at out₀ out i k inv (Found v next) v next h (sym one.0) refl
+        last = let one = rw g at e in stored_more text at out₀ out i k inv (Some number) number h (sym one.0) refl
 
-        pub feed-all : k + 1 ≡ length (set out k v) → GotNumbers text at out₀ (Last (next + 1)) (set out k v)
-        feed-all n = all-feed text at out₀ (set out k v) next (k + 1) last (omega arith) (byte-within text next 9 feed) feed
+        pub feed-all : k + 1 ≡ length (set out k number.value) → GotNumbers text at out₀ (Last (number.next + 1)) (set out k number.value)
+        feed-all n = all-feed text at out₀ (set out k number.value) number.next (k + 1) last (omega (arith, length-set out k number.value)) (byte-within text number.next 9 feed) feed
 
-        pub feed-early : k + 1 ≢ length (set out k v) → GotNumbers text at out₀ Missing (set out k v)
+        pub feed-early : k + 1 ≢ length (set out k number.value) → GotNumbers text at out₀ Missing (set out k number.value)
         feed-early n =
-            stored-stop text at out₀ (set out k v) next (k + 1) last Absent (omega (arith, n, length-set out k v))
-            (tabbed-other text next (λ z. omega (arith, feed))) refl
+            stored-stop text at out₀ (set out k number.value) number.next (k + 1) last None (omega (arith, n, length-set out k number.value))
+            (tabbed-other text number.next (λ z. omega (arith, feed))) refl
 
 -- ---- the numbers of a line of a letter
 pub as-sentinel : (letter : ℕ) (text : List ℕ) (at : ℕ) (old : List ℕ) → letter < no_letter → (r : Bool) → r ≡ starts_with letter text at → not r ≡ false

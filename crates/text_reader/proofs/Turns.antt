@@ -1,22 +1,18 @@
 -- The laws of the functions that go by places, each in the form of a need: what a loop's head, the tests and the calls say gives what is asked.
 use Rattle.base_laws.proofs.Kit.{ℕ, suc, ◌+◌, ◌-◌, ◌*◌, ◌≤◌, ◌<◌, ◌≡◌, refl, sym, ap, ◌∙◌, ◌≢◌, Bool, true, false, cond, not, ◌&&◌, and-false, and-eq-true_iff, List, [], ◌∷◌, arith, ℕ_discrete, eq-eqb, ne_eqb, eqb-true, eqb-false, le-leb, lt-leb, leb-true, leb-false, not-true, not-false, eqb, leb, eqb·suc-zero, length, drop, get_or, set, drop_of_length-le, List·getD-eq-default, drop-cons}
-use Rattle.text_reader.specs.declared.Field.{Field}
-use Rattle.text_reader.specs.declared.Field.TheVariants.{NoNumber}
-use Rattle.text_reader.specs.declared.Tabbed.{Tabbed}
-use Rattle.text_reader.specs.declared.Tabbed.TheVariants.{Found, Absent}
 use Rattle.text_reader.specs.declared.Numbers.{Numbers}
 use Rattle.text_reader.specs.declared.Numbers.TheVariants.{Last, More, Missing}
-use Rattle.text_reader.specs.declared.LineRead.{LineRead}
-use Rattle.text_reader.specs.declared.LineRead.TheVariants.{Next, Malformed}
 use Rattle.text_reader.specs.Field.{digit, largest, field_of}
 use Rattle.text_reader.specs.Lines.{letter_of, no_letter, lines, lines_of, split, is_record, starts_as}
-use Rattle.text_reader.specs.Reading.{line_at, next_line, leading, leading_as, field_at, located, separator, worth, rest_at, starts_with, tabbed_at, numbers_as, numbers_at, over, record_at, at_end, Got, GotNumbers, GotNumbersAs}
+use Rattle.text_reader.specs.Reading.{number_until, line_at, next_line, leading, leading_as, field_at, located, separator, worth, rest_at, starts_with, tabbed_at, numbers_as, numbers_at, over, record_at, at_end, Got, GotNumbers, GotNumbersAs}
 use Rattle.base_laws.proofs.Laws.{length_none}
 use Rattle.text_reader.proofs.Bytes.{lines-some}
 use Rattle.text_reader.proofs.Fill.{over_none, Filled, filled_none, filled_more, filled-stop, filled-all}
 use Rattle.text_reader.proofs.Laws.{record-starts}
 use Rattle.text_reader.proofs.Numerals.{digit-bounds, worth-end, worth-not, worth-full, worth-more, worth-over, field-none, field-some as numeral-some}
 use Rattle.text_reader.proofs.Places.{line-letter, field_past, field-more, field-stop, field-goes, field-some, end_of, start-reads, found-reads, found-stops, absent-reads, done-past, done-feed, done-other}
+use Rattle.std.specs.Prelude.{Option, Some, None}
+use Rattle.text_reader.specs.declared.FieldNumber.{FieldNumber}
 
 -- ---- the end of a field
 module _ (text : List ℕ) (at : ℕ) where
@@ -62,29 +58,29 @@ pub saying-none : (text : List ℕ) (from : ℕ) → Saying text from 10 0 from
 saying-none text from = record { small = omega arith; same = refl }
 
 module _ (text : List ℕ) (from n v i : ℕ) (inv : Saying text from n v i) where
-  stop : field_at text i ≡ [] → Found v i ≡ rest_at 10 0 text from
+  stop : field_at text i ≡ [] → Some (number_until v i) ≡ rest_at 10 0 text from
   unfolding rest_at located
-  stop e = sym (inv.same ∙ rw (e, worth-end n v inv.small) (ap (Found v) (omega arith)))
+  stop e = sym (inv.same ∙ rw (e, worth-end n v inv.small) (ap (λ (next : ℕ). Some (number_until v next)) (omega arith)))
 
-  absent : worth n v (field_at text i) ≡ NoNumber → Absent ≡ rest_at 10 0 text from
+  absent : worth n v (field_at text i) ≡ None → None ≡ rest_at 10 0 text from
   unfolding rest_at located
   absent e = sym (inv.same ∙ rw e)
 
-  pub rest-past : length text ≤ i → Found v i ≡ rest_at 10 0 text from
-  rest-past h = stop (field_past text i h)
+  pub rest-past : i ≡ length text → Some (number_until v (length text)) ≡ rest_at 10 0 text from
+  rest-past h = rw (← h) (stop (field_past text i (omega arith)))
 
   module _ (h : i < length text) (s : Bool) (q : s ≡ separator (get_or text i 0)) where
-    pub rest-stop : s ≡ true → Found v i ≡ rest_at 10 0 text from
+    pub rest-stop : s ≡ true → Some (number_until v i) ≡ rest_at 10 0 text from
     rest-stop u = stop (field-stop text i h (sym q ∙ u))
 
     module _ (u : s ≡ false) where
       goes_on : field_at text i ≡ get_or text i 0 ∷ field_at text (i + 1)
       goes_on = field-goes text i h (sym q ∙ u)
 
-      pub rest-full : n ≡ 0 → Absent ≡ rest_at 10 0 text from
+      pub rest-full : n ≡ 0 → None ≡ rest_at 10 0 text from
       rest-full z = absent (rw (goes_on, z) (worth-full n v _ _))
 
-      pub rest-not : (b : ℕ) → b ≡ get_or text i 0 → (r : Bool) → r ≡ digit b → not r ≡ true → Absent ≡ rest_at 10 0 text from
+      pub rest-not : (b : ℕ) → b ≡ get_or text i 0 → (r : Bool) → r ≡ digit b → not r ≡ true → None ≡ rest_at 10 0 text from
       rest-not b same r e t = absent (rw goes_on (worth-not n v _ _ (ap digit (sym same) ∙ sym e ∙ not-true r t)))
 
   module _ (h : i < length text) (b : ℕ) (same : b ≡ get_or text i 0) (r : Bool) (e : r ≡ digit b) (t : not r ≡ false) where
@@ -92,7 +88,7 @@ module _ (text : List ℕ) (from n v i : ℕ) (inv : Saying text from n v i) whe
     goes = rw same (field-more text i h (λ z. omega (arith, digit_low b r e t)) (λ z. omega (arith, digit_low b r e t)))
 
     module _ (f : Bool) (g : f ≡ leb (v * 10 + (b - 48)) largest) where
-      pub rest-big : not f ≡ true → Absent ≡ rest_at 10 0 text from
+      pub rest-big : not f ≡ true → None ≡ rest_at 10 0 text from
       rest-big u = absent (rw goes (worth-over n v _ _ (leb-false _ largest (sym g ∙ not-true f u))))
 
       pub rest_more : (m w : ℕ) → n ≡ suc m → not f ≡ false → w ≡ v * 10 + (b - 48) → Saying text from m w (i + 1)
@@ -108,37 +104,37 @@ module _ (text : List ℕ) (from n v i : ℕ) (inv : Saying text from n v i) whe
       rest-turn w z = rest_more (n - 1) w (omega arith)
 
 -- an empty field
-pub rest-empty : (text : List ℕ) (at : ℕ) → field_at text at ≡ [] → Found 0 at ≡ rest_at 10 0 text at
+pub rest-empty : (text : List ℕ) (at : ℕ) → field_at text at ≡ [] → Some (number_until 0 at) ≡ rest_at 10 0 text at
 rest-empty text at = stop text at 10 0 at (saying-none text at)
 
 -- ---- the field after a tab
 module _ (text : List ℕ) (at : ℕ) where
-  pub tabbed-past : length text ≤ at → Absent ≡ tabbed_at text at
+  pub tabbed-past : length text ≤ at → None ≡ tabbed_at text at
   unfolding tabbed_at
   tabbed-past h = rw (List·getD-eq-default text 0 h)
 
-  pub tabbed-other : get_or text at 0 ≢ 9 → Absent ≡ tabbed_at text at
+  pub tabbed-other : get_or text at 0 ≢ 9 → None ≡ tabbed_at text at
   unfolding tabbed_at
   tabbed-other h = rw (ne_eqb (get_or text at 0) 9 h)
 
   module _ (tab : get_or text at 0 ≡ 9) where
-    tabbed : (f : Field) → field_of (field_at text (at + 1)) ≡ f → located (end_of text (at + 1)) f ≡ tabbed_at text at
+    tabbed : (f : Option ℕ) → field_of (field_at text (at + 1)) ≡ f → located (end_of text (at + 1)) f ≡ tabbed_at text at
     unfolding tabbed_at
     tabbed f e = rw (eq-eqb (get_or text at 0) 9 tab, e)
 
-    pub tabbed-empty : field_at text (at + 1) ≡ [] → Absent ≡ tabbed_at text at
+    pub tabbed-empty : field_at text (at + 1) ≡ [] → None ≡ tabbed_at text at
     unfolding located
-    tabbed-empty e = tabbed NoNumber (rw e field-none)
+    tabbed-empty e = tabbed None (rw e field-none)
 
     pub tabbed-some : (b : ℕ) (bs : List ℕ) → field_at text (at + 1) ≡ b ∷ bs → rest_at 10 0 text (at + 1) ≡ tabbed_at text at
     unfolding rest_at
     tabbed-some b bs e = tabbed (worth 10 0 (field_at text (at + 1))) (rw e (numeral-some b bs))
 
     module _ (r : Bool) (e : r ≡ eqb (length (field_at text (at + 1))) 0) where
-      pub tabbed-none : r ≡ true → Absent ≡ tabbed_at text at
+      pub tabbed-none : r ≡ true → None ≡ tabbed_at text at
       tabbed-none t = tabbed-empty (length_none (field_at text (at + 1)) (eqb-true (length (field_at text (at + 1))) 0 (sym e ∙ t)))
 
-      pub tabbed-rest : r ≡ false → (m : Tabbed) → m ≡ rest_at 10 0 text (at + 1) → m ≡ tabbed_at text at
+      pub tabbed-rest : r ≡ false → (m : (Option FieldNumber)) → m ≡ rest_at 10 0 text (at + 1) → m ≡ tabbed_at text at
       tabbed-rest t m g = g ∙ tabbed-some _ _ (field-some text (at + 1) (eqb-false (length (field_at text (at + 1))) 0 (sym e ∙ t))).1
 
 -- ---- the letter of a line
@@ -249,18 +245,19 @@ stored-none text at out e =
     record { filled = filled_none (numbers_from text) (answer_from text) at out at (λ n. (refl, refl)); stops = e }
 
 module _ (text : List ℕ) (at : ℕ) (out₀ out : List ℕ) (i k : ℕ) (inv : Stored text at out₀ out i k) where
-  pub stored_more : (r : Tabbed) (v next : ℕ) → k < length out → r ≡ tabbed_at text i → r ≡ Found v next → Stored text at out₀ (set out k v) next (k + 1)
-  stored_more r v next h e g =
+  pub stored_more : (r : Option FieldNumber) (number : FieldNumber) → k < length out₀ → r ≡ tabbed_at text i → r ≡ Some number
+      → Stored text at out₀ (set out k number.value) number.next (k + 1)
+  stored_more r number h e g =
       record {
-        filled = filled_more (numbers_from text) (answer_from text) at out₀ out i k inv.filled v next h (found-reads text i v next (sym e ∙ g));
-        stops = found-stops text i v next (sym e ∙ g);
+        filled = filled_more (numbers_from text) (answer_from text) at out₀ out i k inv.filled number.value number.next h (found-reads text i number (sym e ∙ g));
+        stops = found-stops text i number (sym e ∙ g);
       }
 
-  pub stored-stop : (r : Tabbed) → k < length out → r ≡ tabbed_at text i → r ≡ Absent → GotNumbers text at out₀ Missing out
+  pub stored-stop : (r : Option FieldNumber) → k < length out₀ → r ≡ tabbed_at text i → r ≡ None → GotNumbers text at out₀ Missing out
   stored-stop r h e g =
       filled-stop (numbers_from text) (answer_from text) at out₀ out i k inv.filled Missing h (absent-reads text i inv.stops (sym e ∙ g))
 
-  module _ (h : length out ≤ k) where
+  module _ (h : length out₀ ≤ k) where
     all : (r : Numbers) → numbers_at 0 text i ≡ r → GotNumbers text at out₀ r out
     unfolding leading
     all r e = filled-all (numbers_from text) (answer_from text) at out₀ out i k inv.filled r h (refl, e)
@@ -306,17 +303,17 @@ module _ (letter : ℕ) (text : List ℕ) (at : ℕ) (old : List ℕ) (l : lette
         as-guarded u = as_own (as-stops u)
 
 -- ---- a line of a letter, and its beginning, by how its numbers end
-abbrev to_line : Numbers → LineRead
-to_line (Last next) = Next next
-to_line More = Malformed
-to_line Missing = Malformed
+abbrev to_line : Numbers → Option ℕ
+to_line (Last next) = Some next
+to_line More = None
+to_line Missing = None
 
 abbrev to_head : Numbers → Bool
 to_head (Last next) = true
 to_head More = true
 to_head Missing = false
 
-abbrev pub GotLine : ℕ → List ℕ → ℕ → List ℕ → LineRead → List ℕ → Type 0
+abbrev pub GotLine : ℕ → List ℕ → ℕ → List ℕ → Option ℕ → List ℕ → Type 0
 GotLine letter text at old r out = Got (record_at letter (length old) text at) (leading_as letter (length old) (line_at text at)) old r out
 
 abbrev pub GotHead : ℕ → List ℕ → ℕ → List ℕ → Bool → List ℕ → Type 0
@@ -331,7 +328,7 @@ module _ (letter : ℕ) (text : List ℕ) (at : ℕ) (old out : List ℕ) (m : N
         record { told = ap to_head told ∙ by-head (is_record letter (length old) (line_at text at)) (starts_as letter (length old) (line_at text at)) (record-starts letter (length old) (line_at text at) (length old) (omega arith)); holds = got.holds },
       )
     where
-      by-line : (a b : Bool) → to_line (cond a (Last (next_line text at)) (cond b More Missing)) ≡ cond a (Next (next_line text at)) Malformed
+      by-line : (a b : Bool) → to_line (cond a (Last (next_line text at)) (cond b More Missing)) ≡ cond a (Some (next_line text at)) None
       by-line true b = refl
       by-line false true = refl
       by-line false false = refl
@@ -341,13 +338,13 @@ module _ (letter : ℕ) (text : List ℕ) (at : ℕ) (old out : List ℕ) (m : N
       by-head false true h = refl
       by-head false false h = refl
 
-  pub last_line : (next : ℕ) → m ≡ Last next → GotLine letter text at old (Next next) out
+  pub last_line : (next : ℕ) → m ≡ Last next → GotLine letter text at old (Some next) out
   last_line next g = (both (Last next) g).0
 
-  pub more-line : m ≡ More → GotLine letter text at old Malformed out
+  pub more-line : m ≡ More → GotLine letter text at old None out
   more-line g = (both More g).0
 
-  pub missing-line : m ≡ Missing → GotLine letter text at old Malformed out
+  pub missing-line : m ≡ Missing → GotLine letter text at old None out
   missing-line g = (both Missing g).0
 
   pub last-head : (next : ℕ) → m ≡ Last next → GotHead letter text at old true out

@@ -1,8 +1,6 @@
 -- A field that says a number, by its bytes.
-use Rattle.std.specs.Prelude.{ℕ, ◌+◌, ◌-◌, ◌*◌, Bool, true, cond, ◌&&◌, length, leb}
+use Rattle.std.specs.Prelude.{ℕ, ◌+◌, ◌-◌, ◌*◌, Bool, true, cond, ◌&&◌, length, leb, Option, Some, None}
 use mathlib.Core.List.{List, [], ◌∷◌, foldl}
-use Rattle.text_reader.specs.declared.Field.{Field}
-use Rattle.text_reader.specs.declared.Field.TheVariants.{Number, NoNumber}
 
 -- the bytes 0 to 9 in decimal
 unfoldable pub digit : ℕ → Bool
@@ -30,5 +28,5 @@ unfoldable pub is_numeral : List ℕ → Bool
 is_numeral bs = leb 1 (length bs) && leb (length bs) 10 && digits bs && leb (decimal bs) largest
 
 -- what a field says
-unfoldable pub field_of : List ℕ → Field
-field_of bs = cond (is_numeral bs) (Number (decimal bs)) NoNumber
+unfoldable pub field_of : List ℕ → Option ℕ
+field_of bs = cond (is_numeral bs) (Some (decimal bs)) None

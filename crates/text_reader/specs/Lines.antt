@@ -1,8 +1,6 @@
 -- The lines of a text of tab-separated records (the paper's house format). The definitions of the checks and the answers of the calls are stated over these lines
 -- alone, so that texts with equal lines get equal answers; inner contracts name places too, each tied to a line by `Starts`.
-use Rattle.std.specs.Prelude.{ℕ, List, [], ◌∷◌, map, Bool, true, false, cond, ◌&&◌, length, take, drop, get_or, leb, eqb}
-use Rattle.text_reader.specs.declared.Field.{Field}
-use Rattle.text_reader.specs.declared.Field.TheVariants.{Number, NoNumber}
+use Rattle.std.specs.Prelude.{ℕ, List, [], ◌∷◌, map, Bool, true, false, cond, ◌&&◌, length, take, drop, get_or, leb, eqb, Option, Some, None}
 use Rattle.text_reader.specs.Field.{field_of}
 
 -- the byte b in front of the first piece, or a new piece where b is the separator
@@ -19,7 +17,7 @@ split separator (b ∷ bs) = in_front (eqb b separator) b (split separator bs)
 -- A line: the letter that its first field is, the fields after it, and whether a line feed ends it.
 pub record Line : Type 0 where
   pub letter : ℕ
-  pub fields : List Field
+  pub fields : List (Option ℕ)
   pub ended : Bool
 
 -- the letter of a first field that is not one byte: no byte
@@ -50,11 +48,11 @@ lines text = lines_of (split 10 text)
 abbrev pub no_line : Line
 no_line = record { letter = no_letter; fields = []; ended = false }
 
-unfoldable pub is_number : Field → Bool
-is_number (Number v) = true
-is_number NoNumber = false
+unfoldable pub is_number : Option ℕ → Bool
+is_number (Some v) = true
+is_number None = false
 
-unfoldable pub all_numbers : List Field → Bool
+unfoldable pub all_numbers : List (Option ℕ) → Bool
 all_numbers [] = true
 all_numbers (f ∷ fs) = is_number f && all_numbers fs
 
@@ -67,10 +65,10 @@ unfoldable pub starts_as : ℕ → ℕ → Line → Bool
 starts_as letter n line = eqb line.letter letter && leb n (length line.fields) && all_numbers (take n line.fields)
 
 -- the number that a field says; 0 where it says none
-unfoldable pub number_of : Field → ℕ
-number_of (Number v) = v
-number_of NoNumber = 0
+unfoldable pub number_of : Option ℕ → ℕ
+number_of (Some v) = v
+number_of None = 0
 
 -- number k of a line, counted from 0; 0 where there is none
 unfoldable pub number : Line → ℕ → ℕ
-number line k = number_of (get_or line.fields k NoNumber)
+number line k = number_of (get_or line.fields k None)

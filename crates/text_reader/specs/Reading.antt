@@ -1,18 +1,13 @@
 -- What the reader's functions promise, by places in a text.
-use Rattle.std.specs.Prelude.{ℕ, zero, suc, ◌+◌, ◌-◌, ◌<◌, ◌≡◌, Bool, cond, not, ◌&&◌, ◌||◌, length, drop, get_or, eqb, leb}
+use Rattle.std.specs.Prelude.{ℕ, zero, suc, ◌+◌, ◌-◌, ◌<◌, ◌≡◌, Bool, cond, not, ◌&&◌, ◌||◌, length, drop, get_or, eqb, leb, Option, Some, None}
 use mathlib.Core.List.{List, [], ◌∷◌, ◌++◌, foldl}
-use Rattle.text_reader.specs.declared.Field.{Field}
-use Rattle.text_reader.specs.declared.Field.TheVariants.{Number, NoNumber}
-use Rattle.text_reader.specs.declared.LineRead.{LineRead}
-use Rattle.text_reader.specs.declared.LineRead.TheVariants.{Next, Malformed}
-use Rattle.text_reader.specs.declared.Tabbed.{Tabbed}
-use Rattle.text_reader.specs.declared.Tabbed.TheVariants.{Found, Absent}
 use Rattle.text_reader.specs.declared.Ended.{Ended}
 use Rattle.text_reader.specs.declared.Ended.TheVariants.{ByTab, ByLineFeed, Neither}
 use Rattle.text_reader.specs.declared.Numbers.{Numbers}
 use Rattle.text_reader.specs.declared.Numbers.TheVariants.{Last, More, Missing}
 use Rattle.text_reader.specs.Field.{digits, shift, largest, field_of}
 use Rattle.text_reader.specs.Lines.{split, Line, lines, no_line, is_record, starts_as}
+use Rattle.text_reader.specs.declared.FieldNumber.{FieldNumber}
 
 -- the line that starts at a place
 unfoldable pub line_at : List ℕ → ℕ → Line
@@ -23,11 +18,11 @@ unfoldable pub next_line : List ℕ → ℕ → ℕ
 next_line text at = at + length (get_or (split 10 (drop at text)) 0 []) + 1
 
 -- the numbers before the first field that says none, n at most
-unfoldable pub leading : ℕ → List Field → List ℕ
+unfoldable pub leading : ℕ → List (Option ℕ) → List ℕ
 leading zero fs = []
 leading (suc n) [] = []
-leading (suc n) (Number v ∷ fs) = v ∷ leading n fs
-leading (suc n) (NoNumber ∷ fs) = []
+leading (suc n) (Some v ∷ fs) = v ∷ leading n fs
+leading (suc n) (None ∷ fs) = []
 
 -- those of a line that has the letter
 unfoldable pub leading_as : ℕ → ℕ → Line → List ℕ
@@ -38,8 +33,8 @@ unfoldable pub over : List ℕ → List ℕ → List ℕ
 over vs old = vs ++ drop (length vs) old
 
 -- the place of the next line, if the line at this place is a record of the letter and n numbers
-unfoldable pub record_at : ℕ → ℕ → List ℕ → ℕ → LineRead
-record_at letter n text at = cond (is_record letter n (line_at text at)) (Next (next_line text at)) Malformed
+unfoldable pub record_at : ℕ → ℕ → List ℕ → ℕ → Option ℕ
+record_at letter n text at = cond (is_record letter n (line_at text at)) (Some (next_line text at)) None
 
 -- no line is left
 unfoldable pub at_end : List ℕ → ℕ → Bool
@@ -59,20 +54,24 @@ pub record Got {R : Type 0} (answer : R) (numbers before : List ℕ) (result : R
 unfoldable pub field_at : List ℕ → ℕ → List ℕ
 field_at text at = get_or (split 9 (get_or (split 10 (drop at text)) 0 [])) 0 []
 
-unfoldable pub located : ℕ → Field → Tabbed
-located next (Number v) = Found v next
-located next NoNumber = Absent
+-- the number of a field that ends at a place
+abbrev pub number_until : ℕ → ℕ → FieldNumber
+number_until value next = record { value = value; next = next }
+
+unfoldable pub located : ℕ → Option ℕ → Option FieldNumber
+located next (Some v) = Some (number_until v next)
+located next None = None
 
 -- a byte that ends a field
 unfoldable pub separator : ℕ → Bool
 separator b = eqb b 9 || eqb b 10
 
 -- what the bytes bs say after digits that say v, where n digits more may come
-unfoldable pub worth : ℕ → ℕ → List ℕ → Field
-worth n v bs = cond (leb (length bs) n && digits bs && leb (foldl shift v bs) largest) (Number (foldl shift v bs)) NoNumber
+unfoldable pub worth : ℕ → ℕ → List ℕ → Option ℕ
+worth n v bs = cond (leb (length bs) n && digits bs && leb (foldl shift v bs) largest) (Some (foldl shift v bs)) None
 
 -- what the bytes of a field from a place on say after digits that say v, where n digits more may come, and where the field ends
-unfoldable pub rest_at : ℕ → ℕ → List ℕ → ℕ → Tabbed
+unfoldable pub rest_at : ℕ → ℕ → List ℕ → ℕ → Option FieldNumber
 rest_at n v text at = located (at + length (field_at text at)) (worth n v (field_at text at))
 
 -- a letter, which is no separator, stands at a place
@@ -84,25 +83,25 @@ unfoldable pub tab_before_sentinel : List ℕ → ℕ → Bool
 tab_before_sentinel text at = eqb (get_or text at 0) 9 && eqb (get_or text (length text - 1) 0) 10
 
 -- what was found, if a field ends where its digits do
-unfoldable pub if_ended : List ℕ → Tabbed → Tabbed
-if_ended text (Found v next) = cond (separator (get_or text next 0)) (Found v next) Absent
-if_ended text Absent = Absent
+unfoldable pub if_ended : List ℕ → Option FieldNumber → Option FieldNumber
+if_ended text (Some number) = cond (separator (get_or text number.next 0)) (Some number) None
+if_ended text None = None
 
 -- What the digits at a place promise: with the byte behind them, which is a byte of the text, they say what the field says.
-pub record DigitsRead (text : List ℕ) (from : ℕ) (result : Tabbed) : Type 0 where
+pub record DigitsRead (text : List ℕ) (from : ℕ) (result : (Option FieldNumber)) : Type 0 where
   pub says : if_ended text result ≡ rest_at 10 0 text from
-  pub within : (v next : ℕ) → result ≡ Found v next → next < length text
+  pub within : (number : FieldNumber) → result ≡ Some number → number.next < length text
 
 -- the number of the field after the tab at a place, and where that field ends
-unfoldable pub tabbed_at : List ℕ → ℕ → Tabbed
+unfoldable pub tabbed_at : List ℕ → ℕ → Option FieldNumber
 tabbed_at text at =
-    cond (eqb (get_or text at 0) 9) (located (at + 1 + length (field_at text (at + 1))) (field_of (field_at text (at + 1)))) Absent
+    cond (eqb (get_or text at 0) 9) (located (at + 1 + length (field_at text (at + 1))) (field_of (field_at text (at + 1)))) None
 
 -- a number was found, with the byte that ends it; or none was
-unfoldable pub EndsAs : List ℕ → Tabbed → Ended → Type 0
-EndsAs text found (ByTab v next) = (found ≡ Found v next) × (get_or text next 0 ≡ 9)
-EndsAs text found (ByLineFeed v next) = (found ≡ Found v next) × (get_or text next 0 ≡ 10)
-EndsAs text found Neither = found ≡ Absent
+unfoldable pub EndsAs : List ℕ → Option FieldNumber → Ended → Type 0
+EndsAs text found (ByTab number) = (found ≡ Some number) × (get_or text number.next 0 ≡ 9)
+EndsAs text found (ByLineFeed number) = (found ≡ Some number) × (get_or text number.next 0 ≡ 10)
+EndsAs text found Neither = found ≡ None
 
 -- whether n numbers are the last of the line of a letter at a place, more follows them, or one is missing, as in a line of another letter
 unfoldable pub numbers_as : ℕ → ℕ → List ℕ → ℕ → Numbers

@@ -6,32 +6,18 @@ ghost use Rattle.text_reader.specs.Field.{digit, largest};
 ghost use Rattle.text_reader.specs.Lines.{starts_as};
 ghost use Rattle.text_reader.specs.Reading.{line_at, leading_as, field_at, separator, rest_at, DigitsRead, starts_with, tab_before_sentinel, tabbed_at, EndsAs, record_at, at_end, Got, GotNumbers, GotNumbersAs};
 
-// What a field says; only contracts speak of it.
+// The number of a field, and the place where that field ends.
 #[derive(Clone, Copy)]
-pub enum Field {
-    Number(u32),
-    NoNumber,
+struct FieldNumber {
+    value: u32,
+    next: usize,
 }
 
-// The place of the next line, where the line has the form that was asked for.
-#[derive(Clone, Copy)]
-pub enum LineRead {
-    Next(usize),
-    Malformed,
-}
-
-// The number of the field after a tab, and the place where that field ends.
-#[derive(Clone, Copy)]
-enum Tabbed {
-    Found { value: u32, next: usize },
-    Absent,
-}
-
-// The number of the field after a tab, and the place of the tab or the line feed that ends that field.
+// The number of the field after a tab, and which byte ends that field.
 #[derive(Clone, Copy)]
 enum Ended {
-    ByTab { value: u32, next: usize },
-    ByLineFeed { value: u32, next: usize },
+    ByTab(FieldNumber),
+    ByLineFeed(FieldNumber),
     Neither,
 }
 
@@ -43,23 +29,16 @@ enum Numbers {
     Missing,
 }
 
-// A byte as a number of 32 bits, in which digits are joined without another step.
-fn wide(b: u8) -> u32
-    ensures { result ≡ b }
-{
-    b as u32
-}
-
 fn is_digit(b: u32) -> bool
     ensures { result ≡ digit b }
 {
-    48 <= b && b <= 57
+    u32::from(b'0') <= b && b <= u32::from(b'9')
 }
 
 fn is_separator(b: u8) -> bool
     ensures { result ≡ separator b }
 {
-    b == 9 || b == 10
+    b == b'\t' || b == b'\n'
 }
 
 // Whether a field ends at a place, or none starts there.
@@ -95,47 +74,50 @@ fn shifted(value: u32, b: u32) -> u32
     value * 10 + (b - 48)
 }
 
-// The number whose digits start at a place: each place is held against the end of the text.
-fn digits_from(text: &[u8], from: usize) -> Tabbed
+// The number whose digits start at a place, and the place where its field ends: each place is held against the end of the text.
+fn digits_from(text: &[u8], from: usize) -> Option<FieldNumber>
+    requires { from ≤ length text.now }
     ensures { result ≡ rest_at 10 0 text.now from }
 {
     let mut value: u32 = 0;
     let mut more: u32 = 10;
-    let mut i = from;
-    while i < text.len() {
+    for i in from..text.len() {
         if is_separator(text[i]) {
-            return Tabbed::Found { value, next: i };
+            return Some(FieldNumber { value, next: i });
         }
         if more == 0 {
-            return Tabbed::Absent;
+            return None;
         }
-        let b = wide(text[i]);
+        let b = u32::from(text[i]);
         if !is_digit(b) {
-            return Tabbed::Absent;
+            return None;
         }
         // More digits never bring a number down, so it is given up here and cannot wrap.
         if !has_room(value, b) {
-            return Tabbed::Absent;
+            return None;
         }
         value = shifted(value, b);
         more -= 1;
-        i += 1;
     }
-    Tabbed::Found { value, next: i }
+    Some(FieldNumber {
+        value,
+        next: text.len(),
+    })
 }
 
-fn tabbed_at(text: &[u8], at: usize) -> Tabbed
+// The number of the field after a tab, and the place where that field ends.
+fn tabbed_at(text: &[u8], at: usize) -> Option<FieldNumber>
     ensures { result ≡ tabbed_at text.now at }
 {
     if text.len() <= at {
-        return Tabbed::Absent;
+        return None;
     }
-    if text[at] != 9 {
-        return Tabbed::Absent;
+    if text[at] != b'\t' {
+        return None;
     }
     let start = at + 1;
     if ends_at(text, start) {
-        return Tabbed::Absent;
+        return None;
     }
     digits_from(text, start)
 }
@@ -146,53 +128,45 @@ fn guarded_numbers_at(text: &[u8], at: usize, out: &mut [u32]) -> Numbers
     ensures { GotNumbers text.now at out.old result out.new }
 {
     let mut i = at;
-    let mut k = 0;
-    while k < out.len() {
-        match tabbed_at(text, i) {
-            Tabbed::Found { value, next } => {
-                out[k] = value;
-                i = next;
-            }
-            Tabbed::Absent => {
-                return Numbers::Missing;
-            }
-        }
-        k += 1;
+    for number in out.iter_mut() {
+        let Some(found) = tabbed_at(text, i) else {
+            return Numbers::Missing;
+        };
+        *number = found.value;
+        i = found.next;
     }
     if text.len() <= i {
         return Numbers::More;
     }
-    if text[i] == 10 {
+    if text[i] == b'\n' {
         return Numbers::Last(i + 1);
     }
     Numbers::More
 }
 
-// The digits at a place, ten at most, in a text that a line feed ends. The line feed is the sentinel: no digit is the last byte, so no place is held against
+// The number of the digits at a place, ten at most, and the place behind them, in a text that a line feed ends. The line feed is the sentinel: no digit is the last byte, so no place is held against
 // the end. The compiler unrolls the loop and finds that only a tenth digit can lack room.
-fn sentinel_digits_from(text: &[u8], from: usize) -> Tabbed
+fn sentinel_digits_from(text: &[u8], from: usize) -> Option<FieldNumber>
     requires from_in_bounds { from < length text.now }
     requires text_value { get_or text.now (length text.now - 1) 0 ≡ 10 }
     ensures { DigitsRead text.now from result }
 {
     let mut value: u32 = 0;
-    let mut k: usize = 0;
-    while k < 10 {
+    for k in 0..10 {
         let i = from + k;
-        let b = wide(text[i]);
+        let b = u32::from(text[i]);
         if !is_digit(b) {
-            return Tabbed::Found { value, next: i };
+            return Some(FieldNumber { value, next: i });
         }
         if !has_room(value, b) {
-            return Tabbed::Absent;
+            return None;
         }
         value = shifted(value, b);
-        k += 1;
     }
-    Tabbed::Found {
+    Some(FieldNumber {
         value,
         next: from + 10,
-    }
+    })
 }
 
 // The number after the tab at a place, and what ends it: a tab, behind which the next number may be read without another test, or a line feed.
@@ -202,20 +176,17 @@ fn sentinel_tabbed_at(text: &[u8], at: usize) -> Ended
     ensures { EndsAs text.now (tabbed_at text.now at) result }
 {
     let start = at + 1;
-    match sentinel_digits_from(text, start) {
-        Tabbed::Found { value, next } => {
-            if next == start {
-                return Ended::Neither;
-            }
-            if text[next] == 9 {
-                return Ended::ByTab { value, next };
-            }
-            if text[next] == 10 {
-                return Ended::ByLineFeed { value, next };
-            }
-            Ended::Neither
-        }
-        Tabbed::Absent => Ended::Neither,
+    let Some(number) = sentinel_digits_from(text, start) else {
+        return Ended::Neither;
+    };
+    let next = number.next;
+    if next == start {
+        return Ended::Neither;
+    }
+    match text[next] {
+        b'\t' => Ended::ByTab(number),
+        b'\n' => Ended::ByLineFeed(number),
+        _ => Ended::Neither,
     }
 }
 
@@ -227,17 +198,16 @@ fn sentinel_numbers_at(text: &[u8], at: usize, out: &mut [u32]) -> Numbers
     ensures { GotNumbers text.now at out.old result out.new }
 {
     let mut i = at;
-    let mut k = 0;
-    while k < out.len() {
+    for k in 0..out.len() {
         match sentinel_tabbed_at(text, i) {
-            Ended::ByTab { value, next } => {
-                out[k] = value;
-                i = next;
+            Ended::ByTab(number) => {
+                out[k] = number.value;
+                i = number.next;
             }
-            Ended::ByLineFeed { value, next } => {
-                out[k] = value;
+            Ended::ByLineFeed(number) => {
+                out[k] = number.value;
                 if k + 1 == out.len() {
-                    return Numbers::Last(next + 1);
+                    return Numbers::Last(number.next + 1);
                 }
                 return Numbers::Missing;
             }
@@ -245,7 +215,6 @@ fn sentinel_numbers_at(text: &[u8], at: usize, out: &mut [u32]) -> Numbers
                 return Numbers::Missing;
             }
         }
-        k += 1;
     }
     Numbers::More
 }
@@ -257,7 +226,7 @@ fn tab_before_sentinel(text: &[u8], at: usize) -> bool
     if text.len() <= at {
         return false;
     }
-    text[at] == 9 && text[text.len() - 1] == 10
+    text[at] == b'\t' && text[text.len() - 1] == b'\n'
 }
 
 // Whether a letter stands at a place. A tab or a line feed is no letter.
@@ -291,15 +260,15 @@ fn numbers_at(text: &[u8], at: usize, letter: u8, out: &mut [u32]) -> Numbers
 }
 
 // Reads the line of this letter at a place, whose numbers fill `out`.
-pub fn line_at(text: &[u8], at: usize, letter: u8, out: &mut [u32]) -> LineRead
+pub fn line_at(text: &[u8], at: usize, letter: u8, out: &mut [u32]) -> Option<usize>
     ensures { Got (record_at letter (length out.old) text.now at)
         (leading_as letter (length out.old) (line_at text.now at))
         out.old result out.new }
 {
     match numbers_at(text, at, letter, out) {
-        Numbers::Last(next) => LineRead::Next(next),
-        Numbers::More => LineRead::Malformed,
-        Numbers::Missing => LineRead::Malformed,
+        Numbers::Last(next) => Some(next),
+        Numbers::More => None,
+        Numbers::Missing => None,
     }
 }
 

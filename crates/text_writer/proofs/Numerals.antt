@@ -1,10 +1,10 @@
 -- A written numeral reads back as its number.
 use Rattle.base_laws.proofs.Kit.{ℕ, zero, suc, ◌+◌, ◌-◌, ◌*◌, ◌/◌, ◌%◌, ◌^◌, ◌≤◌, ◌<◌, ◌≡◌, refl, sym, ap, ◌∙◌, ◌≢◌, true, List, [], ◌∷◌, ◌++◌, foldl, dec_le, pow-suc, arith, le-leb, length, get_or, length-append, List·getD-append}
 use Rattle.base_laws.proofs.Bools.{and_both, and_left, and_right}
-use Rattle.text_reader.specs.declared.Field.TheVariants.{Number}
 use Rattle.text_reader.specs.Field.{digit, digits, shift, decimal, largest, is_numeral, field_of}
 use Rattle.text_writer.specs.Records.{numeral}
 use Rattle.text_writer.proofs.Laws.{numeral-short, numeral-long}
+use Rattle.std.specs.Prelude.{Some}
 
 digit-is : (x : ℕ) → x < 10 → digit (48 + x) ≡ true
 unfolding digit
@@ -64,15 +64,15 @@ numeral-spells (suc d) n h = elim (dec_le 10 n) [
 ]
 
 -- a numeral that spells a number which a field may say is a field that says it
-pub spells-field : (n : ℕ) (bs : List ℕ) → n ≤ largest → Spells n bs → field_of bs ≡ Number n
+pub spells-field : (n : ℕ) (bs : List ℕ) → n ≤ largest → Spells n bs → field_of bs ≡ Some n
 unfolding field_of is_numeral
 spells-field n bs h s =
     let short : length bs ≤ 10 = s.short 9 (omega arith) in
     let small : decimal bs ≤ largest = omega (arith, s.says) in
-    rw (le-leb 1 (length bs) s.some, le-leb (length bs) 10 short, s.all, le-leb (decimal bs) largest small) (ap Number s.says)
+    rw (le-leb 1 (length bs) s.some, le-leb (length bs) 10 short, s.all, le-leb (decimal bs) largest small) (ap Some s.says)
 
 -- a numeral reads back as its number
-pub field_back : (n : ℕ) → n ≤ largest → field_of (numeral 19 n) ≡ Number n
+pub field_back : (n : ℕ) → n ≤ largest → field_of (numeral 19 n) ≡ Some n
 field_back n h = spells-field n (numeral 19 n) h (numeral-spells 19 n (omega arith))
 
 -- what is written is not padded: a number of 64 bits that is not 0 starts with a digit that is not 0 (byte 48)

@@ -6,14 +6,13 @@ use Rattle.base_laws.specs.Indexed.{list}
 use Rattle.base_laws.proofs.Bools.{and_left, and_right}
 use Rattle.base_laws.proofs.Laws.{length-list, get-list}
 use Rattle.base_laws.proofs.Kit.{ℕ, zero, suc, ◌≤◌, ◌<◌, ◌≡◌, refl, sym, ap, ap₂, ◌∙◌, ◌≢◌, true, List, [], ◌∷◌, ◌++◌, map, append_assoc, append-nil, arith, eq-eqb, length, get_or}
-use Rattle.text_reader.specs.declared.Field.{Field}
-use Rattle.text_reader.specs.declared.Field.TheVariants.{Number, NoNumber}
 use Rattle.text_reader.specs.Field.{digit, digits, largest, field_of}
 use Rattle.text_reader.specs.Lines.{split, Line, line_of, lines_of, lines, letter_of, no_line, number_of, number, is_number, all_numbers, is_record}
 use Rattle.text_reader.proofs.Bytes.{split-headed, split-here, split-on}
 use Rattle.text_reader.proofs.Numerals.{digit-bounds}
 use Rattle.text_writer.specs.Records.{numeral, field_text, field_texts, record_text, record_texts, record_line, record_lines}
 use Rattle.text_writer.proofs.Numerals.{numeral-spells, field_back}
+use Rattle.std.specs.Prelude.{Option, Some, None}
 
 -- ---- pieces
 -- digits hold no separator
@@ -54,9 +53,9 @@ split-fields w (n ∷ ns) u s =
     split-ends 9 w (numeral 19 n ++ field_texts ns) u
     ∙ ap (λ (x : List (List ℕ)). w ∷ x) (split-fields (numeral 19 n) ns (numeral-without 9 n (omega arith) (s 0)) (λ k. s (suc k)))
 
-fields_back : (ns : List ℕ) → Small ns → map field_of (map (numeral 19) ns) ≡ map Number ns
+fields_back : (ns : List ℕ) → Small ns → map field_of (map (numeral 19) ns) ≡ map Some ns
 fields_back [] s = refl
-fields_back (n ∷ ns) s = ap₂ (λ (x : Field) (xs : List Field). x ∷ xs) (field_back n (s 0)) (fields_back ns (λ k. s (suc k)))
+fields_back (n ∷ ns) s = ap₂ (λ (x : Option ℕ) (xs : List (Option ℕ)). x ∷ xs) (field_back n (s 0)) (fields_back ns (λ k. s (suc k)))
 
 -- ---- a record, whatever text stands behind it
 module _ (letter : ℕ) (tab : letter ≢ 9) (feed : letter ≢ 10) where
@@ -98,13 +97,13 @@ module _ (letter : ℕ) where
   unfolding record_lines
   lines_at n f i h = get-list (λ i. record_line letter (f i)) no_line n i h
 
-number-back : (ns : List ℕ) (k : ℕ) → number_of (get_or (map Number ns) k NoNumber) ≡ get_or ns k 0
+number-back : (ns : List ℕ) (k : ℕ) → number_of (get_or (map Some ns) k None) ≡ get_or ns k 0
 unfolding number_of
 number-back [] k = refl
 number-back (n ∷ ns) zero = refl
 number-back (n ∷ ns) (suc k) = number-back ns k
 
-numbers-all : (ns : List ℕ) → all_numbers (map Number ns) ≡ true
+numbers-all : (ns : List ℕ) → all_numbers (map Some ns) ≡ true
 unfolding all_numbers is_number
 numbers-all [] = refl
 numbers-all (n ∷ ns) = numbers-all ns
@@ -119,4 +118,4 @@ module _ (letter n : ℕ) (f : ℕ → List ℕ) (i : ℕ) (h : i < n) where
   pub form-back : is_record letter (length (f i)) (get_or (record_lines letter n f) i no_line) ≡ true
   unfolding is_record record_line
   form-back =
-      rw (lines_at letter n f i h) (rw (eq-eqb letter letter refl, length-map (f i) Number, eq-eqb (length (f i)) (length (f i)) refl, numbers-all (f i)))
+      rw (lines_at letter n f i h) (rw (eq-eqb letter letter refl, length-map (f i) Some, eq-eqb (length (f i)) (length (f i)) refl, numbers-all (f i)))

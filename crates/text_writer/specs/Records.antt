@@ -1,8 +1,7 @@
 -- Records as they are written, and the lines that they are.
-use Rattle.std.specs.Prelude.{ℕ, zero, suc, ◌+◌, ◌/◌, ◌%◌, true, cond, List, [], ◌∷◌, ◌++◌, map, ltb}
+use Rattle.std.specs.Prelude.{ℕ, zero, suc, ◌+◌, ◌/◌, ◌%◌, true, cond, List, [], ◌∷◌, ◌++◌, map, ltb, Some}
 use Rattle.std.specs.List.{flat_map}
 use Rattle.base_laws.specs.Indexed.{list}
-use Rattle.text_reader.specs.declared.Field.TheVariants.{Number}
 use Rattle.text_reader.specs.Lines.{Line}
 
 -- a number in decimal without leading zeros, of at most d + 1 digits
@@ -28,7 +27,7 @@ record_texts letter (suc n) f = record_texts letter n f ++ record_text letter (f
 
 -- the line that a record is: an ended one of the letter and the numbers
 unfoldable pub record_line : ℕ → List ℕ → Line
-record_line letter ns = record { letter = letter; fields = map Number ns; ended = true }
+record_line letter ns = record { letter = letter; fields = map Some ns; ended = true }
 
 unfoldable pub record_lines : ℕ → ℕ → (ℕ → List ℕ) → List Line
 record_lines letter n f = list n (λ i. record_line letter (f i))

@@ -1,9 +1,7 @@
 -- What a call gives, one law for each way through it.
 use Rattle.base_laws.proofs.Kit.{◌≡◌, refl, ◌∙◌, sym, Bool, true, false, not, ◌&&◌, List, arith, not-true, not-false, eqb-true, leb, length, ℕ}
 use lib.Ieee.{Float}
-use Rattle.base_search.specs.declared.Verdict.{Verdict}
-use Rattle.base_search.specs.declared.Verdict.TheVariants.{Passes, Refused}
-use Rattle.base_search.specs.Checks.{refusal, verdict, checked, or_else}
+use Rattle.base_search.specs.Checks.{refusal, verdict, checked, or_else, Verdict}
 use Rattle.base_search.specs.Numbers.{is_one_of, CanArise}
 use Rattle.base_laws.specs.Indexed.{list}
 use Rattle.base_laws.proofs.Bools.{and_right, zero_one}
@@ -11,6 +9,7 @@ use Rattle.traces.specs.Step.{place_after}
 use Rattle.traces.specs.Call.{vehicles_numbers, valid_counts, valid_values, step_checks, step_vehicles, places_by, places_after}
 use Rattle.traces.specs.Guarantees.{StepKeeps}
 use Rattle.traces.proofs.Guarantees.{valid-of, keeps}
+use Rattle.std.specs.Prelude.{Ok, Err}
 
 pub one-advance-each : (places advances lines : List Float) (v : Bool) → v ≡ valid_counts places advances lines → not v ≡ false → length advances ≡ length places
 unfolding valid_counts
@@ -30,7 +29,7 @@ module _ (places advances lines : List Float) (spacing : Float) where
   promised answer after d = (d.is-answer, (d.are-places, d.kept))
 
   -- a refused step: no vehicle has moved
-  refused-keeps : (answer : Verdict) (number : ℕ) → CanArise vehicles_numbers number → answer ≡ Refused (refusal number 0 0) → StepKeeps places advances lines spacing answer places
+  refused-keeps : (answer : Verdict) (number : ℕ) → CanArise vehicles_numbers number → answer ≡ Err (refusal number 0 0) → StepKeeps places advances lines spacing answer places
   refused-keeps answer number l e =
       record {
         stepped = λ s. zero_one (cc);
@@ -38,14 +37,14 @@ module _ (places advances lines : List Float) (spacing : Float) where
         refused-number = λ r f. let q : number ≡ r.number = cc in rw q at l;
       }
 
-  pub counts-refused : (v : Bool) (answer : Verdict) → v ≡ valid_counts places advances lines → not v ≡ true → answer ≡ Refused (refusal 39 0 0) → Done places advances lines spacing answer places
+  pub counts-refused : (v : Bool) (answer : Verdict) → v ≡ valid_counts places advances lines → not v ≡ true → answer ≡ Err (refusal 39 0 0) → Done places advances lines spacing answer places
   unfolding step_vehicles places_after places_by step_checks verdict checked or_else
   counts-refused v answer p n e =
       let c = sym p ∙ not-true v n in
       record { is-answer = e ∙ rw c; are-places = rw c; kept = refused-keeps answer 39 (record { not-0 = omega arith; one_of = unfold is_one_of in refl }) e }
 
   module _ (u : Bool) (p : u ≡ valid_counts places advances lines) (n : not u ≡ false) where
-    pub values-refused : (v : Bool) (answer : Verdict) → v ≡ valid_values places advances lines spacing → not v ≡ true → answer ≡ Refused (refusal 38 0 0) → Done places advances lines spacing answer places
+    pub values-refused : (v : Bool) (answer : Verdict) → v ≡ valid_values places advances lines spacing → not v ≡ true → answer ≡ Err (refusal 38 0 0) → Done places advances lines spacing answer places
     unfolding step_vehicles places_after places_by step_checks verdict checked or_else
     values-refused v answer q m e =
         let c = sym p ∙ not-false u n in
@@ -53,7 +52,7 @@ module _ (places advances lines : List Float) (spacing : Float) where
         record { is-answer = e ∙ rw (c, d); are-places = rw (c, d); kept = refused-keeps answer 38 (record { not-0 = omega arith; one_of = unfold is_one_of in refl }) e }
 
     pub all-stepped : (v : Bool) (after : List Float) → v ≡ valid_values places advances lines spacing → not v ≡ false
-        → after ≡ list (length places) (place_after places advances lines spacing) → Done places advances lines spacing Passes after
+        → after ≡ list (length places) (place_after places advances lines spacing) → Done places advances lines spacing (Ok tt) after
     unfolding step_vehicles places_after places_by step_checks verdict checked or_else
     all-stepped v after q m e =
         let c = sym p ∙ not-false u n in

@@ -2,12 +2,11 @@
 use Rattle.base_laws.proofs.Kit.{ℕ, ◌≡◌, refl, false, List, [], ◌∷◌}
 use lib.IntN.{pos}
 use lib.Ieee.{Float, nan, inf, binary64, of_int, of_bits, neg, lt, le, add, sub}
-use Rattle.base_search.specs.declared.Verdict.{Verdict}
-use Rattle.base_search.specs.declared.Verdict.TheVariants.{Passes, Refused}
-use Rattle.base_search.specs.Checks.{refusal, verdict, checked, or_else}
+use Rattle.base_search.specs.Checks.{refusal, verdict, checked, or_else, Verdict}
 use Rattle.base_laws.specs.Indexed.{list, every}
 use Rattle.traces.specs.Step.{nearer, cut_to, line_for, cut_to_lines, target_of, furthest, moved, leader_of, place_after}
 use Rattle.traces.specs.Call.{million, valid_place, valid_distance, valid_counts, valid_values, step_checks, step_vehicles, places_by, places_after}
+use Rattle.std.specs.Prelude.{Ok, Err}
 
 -- all that a step's computation unfolds
 unfoldable opened : Unit {0}
@@ -85,18 +84,18 @@ answered =
     ∷ []
 
 answers : answered
-    ≡ Passes
-    ∷ Refused (refusal 38 0 0)
-    ∷ Passes
-    ∷ Refused (refusal 38 0 0)
-    ∷ Refused (refusal 39 0 0)
-    ∷ Refused (refusal 38 0 0)
-    ∷ Refused (refusal 38 0 0)
-    ∷ Refused (refusal 38 0 0)
-    ∷ Refused (refusal 39 0 0)
-    ∷ Passes
-    ∷ Refused (refusal 39 0 0)
-    ∷ Refused (refusal 39 0 0)
+    ≡ Ok tt
+    ∷ Err (refusal 38 0 0)
+    ∷ (Ok tt)
+    ∷ Err (refusal 38 0 0)
+    ∷ Err (refusal 39 0 0)
+    ∷ Err (refusal 38 0 0)
+    ∷ Err (refusal 38 0 0)
+    ∷ Err (refusal 38 0 0)
+    ∷ Err (refusal 39 0 0)
+    ∷ (Ok tt)
+    ∷ Err (refusal 39 0 0)
+    ∷ Err (refusal 39 0 0)
     ∷ []
 unfolding opened answered
 answers = refl

@@ -1,11 +1,9 @@
 -- The call `step_vehicles` (T-13): its refusals, its answer, and the places after it.
-use Rattle.std.specs.Prelude.{ℕ, Bool, ◌&&◌, not, List, [], ◌∷◌, leb, eqb, length, pos, Float}
+use Rattle.std.specs.Prelude.{ℕ, Bool, ◌&&◌, not, List, [], ◌∷◌, leb, eqb, length, pos, Float, Ok, Err}
 use Rattle.std.specs.Float.{binary64}
 use Rattle.std.specs.Float.Ieee.{neg, lt, le, of_int}
 use Rattle.std.specs.Float.Ieee.Scale.{finite}
-use Rattle.base_search.specs.declared.Verdict.{Verdict}
-use Rattle.base_search.specs.declared.Verdict.TheVariants.{Passes, Refused}
-use Rattle.base_search.specs.Checks.{Checks, check, ◌then◌, verdict}
+use Rattle.base_search.specs.Checks.{Checks, check, ◌then◌, verdict, Verdict}
 use Rattle.base_laws.specs.Indexed.{list, every}
 use Rattle.traces.specs.Step.{place_after}
 
@@ -43,8 +41,8 @@ step_vehicles places advances lines spacing = verdict (step_checks places advanc
 
 -- the places after the call: each vehicle's, or as they were where the step is refused
 unfoldable pub places_by : Verdict → List Float → List Float → List Float → Float → List Float
-places_by Passes places advances lines spacing = list (length places) (place_after places advances lines spacing)
-places_by (Refused r) places advances lines spacing = places
+places_by (Ok tt) places advances lines spacing = list (length places) (place_after places advances lines spacing)
+places_by (Err r) places advances lines spacing = places
 
 unfoldable pub places_after : List Float → List Float → List Float → Float → List Float
 places_after places advances lines spacing = places_by (step_vehicles places advances lines spacing) places advances lines spacing

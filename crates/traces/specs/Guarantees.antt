@@ -1,13 +1,12 @@
 -- What a step keeps (T-13), a field for each sentence, in the words of the call alone.
-use Rattle.std.specs.Prelude.{ℕ, suc, ◌<◌, ◌≡◌, true, List, length, get_or, Float}
+use Rattle.std.specs.Prelude.{ℕ, suc, ◌<◌, ◌≡◌, true, List, length, get_or, Float, Ok, Err}
 use Rattle.std.specs.Float.{nan, binary64}
 use Rattle.std.specs.Float.Ieee.{add, sub, lt, le}
 use Rattle.std.specs.Float.Ieee.Scale.{finite}
 use Rattle.base_search.specs.declared.Refusal.{Refusal}
-use Rattle.base_search.specs.declared.Verdict.{Verdict}
-use Rattle.base_search.specs.declared.Verdict.TheVariants.{Passes, Refused}
 use Rattle.base_search.specs.Numbers.{CanArise}
 use Rattle.traces.specs.Call.{vehicles_numbers}
+use Rattle.base_search.specs.Checks.{Verdict}
 
 pub record Keeps (places advances lines : List Float) (spacing : Float) (after : List Float) : Type 0 where
   -- there are as many vehicles as before
@@ -25,7 +24,7 @@ pub record Keeps (places advances lines : List Float) (spacing : Float) (after :
 
 -- a step that is not refused keeps all that, and a refusal's number is one that can arise
 pub record StepKeeps (places advances lines : List Float) (spacing : Float) (answer : Verdict) (after : List Float) : Type 0 where
-  pub stepped : answer ≡ Passes → Keeps places advances lines spacing after
+  pub stepped : answer ≡ Ok tt → Keeps places advances lines spacing after
   -- a refused step changes no place
-  pub unchanged : (r : Refusal) → answer ≡ Refused r → after ≡ places
-  pub refused-number : (r : Refusal) → answer ≡ Refused r → CanArise vehicles_numbers r.number
+  pub unchanged : (r : Refusal) → answer ≡ Err r → after ≡ places
+  pub refused-number : (r : Refusal) → answer ≡ Err r → CanArise vehicles_numbers r.number

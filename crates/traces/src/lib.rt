@@ -8,7 +8,7 @@ ghost use Rattle.traces.specs.Step.{nearer, cut_to, line_for, moved, place_after
 ghost use Rattle.traces.specs.Call.{valid_place, valid_distance, valid_counts, valid_values, step_vehicles, places_after};
 ghost use Rattle.traces.specs.Guarantees.{StepKeeps};
 
-use base_search::{Refusal, Verdict};
+use base_search::Refusal;
 
 // A vehicle: its place before the step, and how far it would advance.
 #[derive(Clone, Copy)]
@@ -152,7 +152,7 @@ pub fn step_vehicles(
     advances: &[f64],
     red_lines: &[f64],
     spacing: f64,
-) -> Verdict
+) -> Result<(), Refusal>
     ensures value { result ≡ step_vehicles places.old advances.now red_lines.now spacing }
     ensures places_after { places.new ≡ places_after places.old advances.now red_lines.now spacing }
     ensures step_keeps { StepKeeps places.old advances.now red_lines.now spacing result places.new }
@@ -164,12 +164,12 @@ pub fn step_vehicles(
         return refused(38);
     }
     move_all(places, advances, red_lines, spacing);
-    Verdict::Passes
+    Ok(())
 }
 
 // No line and no item is named.
-fn refused(number: u32) -> Verdict
+fn refused(number: u32) -> Result<(), Refusal>
     ensures { result ≡ Verdict.Refused (refusal number 0 0) }
 {
-    Verdict::Refused(Refusal::new(number, 0, 0))
+    Err(Refusal::new(number, 0, 0))
 }

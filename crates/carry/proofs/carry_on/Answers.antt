@@ -9,16 +9,16 @@ pub load_with_signals-requires : goal.load_with_signals-requires
 load_with_signals-requires c = zero-rooms refl (search rules)
 
 pub carry_from-requires : goal.carry_from-requires
-carry_from-requires c = c.load_with_signals.ensures.held _ c.in-Passed.is
+carry_from-requires c = c.load_with_signals.ensures.held _ c.in-Ok.is
 
-pub returns-in-Refused-clause-carried_on : goal.returns-in-Refused-clause-carried_on
-returns-in-Refused-clause-carried_on c = (promised (network-refused _ _ _ _ _ c.load_with_signals.ensures c.in-Refused.is)).0
+pub returns-in-Err-clause-carried_on : goal.returns-in-Err-clause-carried_on
+returns-in-Err-clause-carried_on c = (promised (network-refused _ _ _ _ _ c.load_with_signals.ensures c.in-Err.is)).0
 
-pub returns-in-Refused-clause-padding_ignored : goal.returns-in-Refused-clause-padding_ignored
-returns-in-Refused-clause-padding_ignored c = (promised (network-refused _ _ _ _ _ c.load_with_signals.ensures c.in-Refused.is)).1
+pub returns-in-Err-clause-padding_ignored : goal.returns-in-Err-clause-padding_ignored
+returns-in-Err-clause-padding_ignored c = (promised (network-refused _ _ _ _ _ c.load_with_signals.ensures c.in-Err.is)).1
 
-pub returns-in-Passed-clause-carried_on : goal.returns-in-Passed-clause-carried_on
-returns-in-Passed-clause-carried_on c = (promised (rw c.index.ensures.0 at c.carry_from.ensures)).0
+pub returns-in-Ok-clause-carried_on : goal.returns-in-Ok-clause-carried_on
+returns-in-Ok-clause-carried_on c = (promised (rw c.index.ensures.0 at c.carry_from.ensures)).0
 
-pub returns-in-Passed-clause-padding_ignored : goal.returns-in-Passed-clause-padding_ignored
-returns-in-Passed-clause-padding_ignored c = (promised (rw c.index.ensures.0 at c.carry_from.ensures)).1
+pub returns-in-Ok-clause-padding_ignored : goal.returns-in-Ok-clause-padding_ignored
+returns-in-Ok-clause-padding_ignored c = (promised (rw c.index.ensures.0 at c.carry_from.ensures)).1

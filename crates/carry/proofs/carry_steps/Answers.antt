@@ -7,8 +7,8 @@ use Rattle.carry.proofs.carry_steps.Goals as goal
 pub take_steps-taken-requires : goal.take_steps-taken-requires
 take_steps-taken-requires c = steps-asked _ _ _ c.args.carried.now c.requires (search rules)
 
-pub returns-in-Refused : goal.returns-in-Refused
-returns-in-Refused c = step-refused _ _ _ _ c.requires c.take_steps-taken.ensures c.in-Refused.is
+pub returns-in-Err : goal.returns-in-Err
+returns-in-Err c = step-refused _ _ _ _ c.requires c.take_steps-taken.ensures c.in-Err.is
 
 pub overflow_add-boundary : goal.overflow_add-boundary
 overflow_add-boundary c = let p = c.requires in omega (arith, p.last, p.loaded.counted.steps, p.loaded.counted.few.steps)

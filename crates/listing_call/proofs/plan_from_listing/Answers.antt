@@ -8,14 +8,14 @@ from_start-requires c = search times-asked
 pub write_on_network-requires : goal.write_on_network-requires
 write_on_network-requires c = search plan-asked
 
-pub returns-in-Passed-clause-plan_got : goal.returns-in-Passed-clause-plan_got
-returns-in-Passed-clause-plan_got c = (padding-too _ (search plan-written)).0
+pub returns-in-Ok-clause-plan_got : goal.returns-in-Ok-clause-plan_got
+returns-in-Ok-clause-plan_got c = (padding-too _ (search plan-written)).0
 
-pub returns-in-Passed-clause-padding_ignored : goal.returns-in-Passed-clause-padding_ignored
-returns-in-Passed-clause-padding_ignored c = (padding-too _ (search plan-written)).1
+pub returns-in-Ok-clause-padding_ignored : goal.returns-in-Ok-clause-padding_ignored
+returns-in-Ok-clause-padding_ignored c = (padding-too _ (search plan-written)).1
 
-pub returns-in-Refused-clause-plan_got : goal.returns-in-Refused-clause-plan_got
-returns-in-Refused-clause-plan_got c = (padding-too _ (search plan-refused)).0
+pub returns-in-Err-clause-plan_got : goal.returns-in-Err-clause-plan_got
+returns-in-Err-clause-plan_got c = (padding-too _ (search plan-refused)).0
 
-pub returns-in-Refused-clause-padding_ignored : goal.returns-in-Refused-clause-padding_ignored
-returns-in-Refused-clause-padding_ignored c = (padding-too _ (search plan-refused)).1
+pub returns-in-Err-clause-padding_ignored : goal.returns-in-Err-clause-padding_ignored
+returns-in-Err-clause-padding_ignored c = (padding-too _ (search plan-refused)).1

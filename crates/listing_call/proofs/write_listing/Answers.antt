@@ -8,10 +8,10 @@ pub read_listing-requires : goal.read_listing-requires
 read_listing-requires c = empty-asked number_table_size seen_size _ _ _ refl refl c.requires
 
 pub write_plan-requires : goal.write_plan-requires
-write_plan-requires c = write_kept _ _ _ _ _ _ _ c.read_listing.ensures c.requires c.in-Passes.is
+write_plan-requires c = write_kept _ _ _ _ _ _ _ c.read_listing.ensures c.requires c.in-Ok.is
 
-pub returns-in-Passes : goal.returns-in-Passes
-returns-in-Passes c = search write-passed
+pub returns-in-Ok : goal.returns-in-Ok
+returns-in-Ok c = search write-passed
 
-pub returns-in-Refused : goal.returns-in-Refused
-returns-in-Refused c = search write-stopped
+pub returns-in-Err : goal.returns-in-Err
+returns-in-Err c = search write-stopped

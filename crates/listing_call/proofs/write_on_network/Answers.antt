@@ -10,8 +10,8 @@ read_signals-requires c = signals-asked _ _ _ c.requires _ c.moved_to-first.ensu
 pub write_listing-requires : goal.write_listing-requires
 write_listing-requires c = search tables-asked
 
-pub returns-in-Passed : goal.returns-in-Passed
-returns-in-Passed c = search network-written
+pub returns-in-Ok : goal.returns-in-Ok
+returns-in-Ok c = search network-written
 
-pub returns-in-Refused : goal.returns-in-Refused
-returns-in-Refused c = search signals-stopped
+pub returns-in-Err : goal.returns-in-Err
+returns-in-Err c = search signals-stopped

@@ -13,7 +13,7 @@ pub next_time-timed-requires : goal.next_time-timed-requires
 next_time-timed-requires c = search (time-asked, rules)
 
 pub loop-m-preserved : goal.loop-m-preserved
-loop-m-preserved c = forms-next c.requires c.loop-m.invariant (search rules) c.read_row-read.ensures c.in-Next.is refl c.next_time-timed.ensures
+loop-m-preserved c = forms-next c.requires c.loop-m.invariant (search rules) c.read_row-read.ensures c.in-Some.is refl c.next_time-timed.ensures
 
 pub returns : goal.returns
 returns c = search (forms-done, rules)

@@ -27,7 +27,7 @@ overflow_add-r c = omega (arith, c.requires.on-text.counted.few.signals)
 pub loop-r-preserved : goal.loop-r-preserved
 loop-r-preserved c =
     loaded-next c.requires c.loop-r.invariant c.loop-r-test.true
-    c.read_signal-stage.auto.fields c.read_signal-stage.ensures c.in-Passed.is
+    c.read_signal-stage.auto.fields c.read_signal-stage.ensures c.in-Ok.is
 
 pub returns : goal.returns
 returns c = search (loaded-all, rules)

@@ -26,7 +26,7 @@ pub returns-then-not-valid_signal : goal.returns-then-not-valid_signal
 returns-then-not-valid_signal c =
     stop-values c.requires c.read_head.ensures c.signal_line-line.ensures
     c.if-not-read_head.false-raw c.index-phases.ensures.0 c.valid_phases.ensures
-    c.if-not-valid_phases.false-raw c.read_row-read.ensures c.in-Next.is c.signal_from.ensures
+    c.if-not-valid_phases.false-raw c.read_row-read.ensures c.in-Some.is c.signal_from.ensures
     c.valid_signal.ensures c.if-not-valid_signal.true-raw c.new-then-not-valid_signal.ensures
 
 pub shape_of-fields : goal.shape_of-fields
@@ -36,5 +36,5 @@ pub returns : goal.returns
 returns c =
     pass-line c.requires c.read_head.ensures c.signal_line-line.ensures
     c.if-not-read_head.false-raw c.index-phases.ensures.0 c.valid_phases.ensures
-    c.if-not-valid_phases.false-raw c.read_row-read.ensures c.in-Next.is c.signal_from.ensures
+    c.if-not-valid_phases.false-raw c.read_row-read.ensures c.in-Some.is c.signal_from.ensures
     c.valid_signal.ensures c.if-not-valid_signal.false-raw c.moved_to.ensures

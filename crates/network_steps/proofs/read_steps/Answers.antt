@@ -18,12 +18,12 @@ next_time-requires c = search (time-asked, rules)
 pub add_demands-requires : goal.add_demands-requires
 add_demands-requires c =
     add-asked c.requires c.loop-n.invariant (search rules) c.read_row-read.ensures
-    c.in-Next.is c.valid_step.ensures c.if-not-valid_step.false-raw
+    c.in-Some.is c.valid_step.ensures c.if-not-valid_step.false-raw
 
 pub loop-n-preserved : goal.loop-n-preserved
 loop-n-preserved c =
     steps_next c.requires c.loop-n.invariant (search rules) c.read_row-read.ensures
-    c.in-Next.is c.valid_step.ensures c.if-not-valid_step.false-raw
+    c.in-Some.is c.valid_step.ensures c.if-not-valid_step.false-raw
     c.step_length-seconds.ensures refl c.next_time.ensures c.add_demands.ensures
 
 pub returns : goal.returns

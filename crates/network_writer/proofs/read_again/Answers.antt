@@ -3,8 +3,8 @@ use Rattle.std.proofs.Common.{rules}
 use Rattle.network_writer.proofs.Reading.{again-next, again-never}
 use Rattle.network_writer.proofs.read_again.Goals as goal
 
-pub returns-in-Next : goal.returns-in-Next
-returns-in-Next c = search (again-next, rules)
+pub returns-in-Some : goal.returns-in-Some
+returns-in-Some c = search (again-next, rules)
 
-pub returns-in-Malformed : goal.returns-in-Malformed
-returns-in-Malformed c = search (again-never, rules)
+pub returns-in-None : goal.returns-in-None
+returns-in-None c = search (again-never, rules)

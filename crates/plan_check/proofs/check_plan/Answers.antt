@@ -9,34 +9,34 @@ pub load_with_signals-requires : goal.load_with_signals-requires
 load_with_signals-requires c = zero-rooms refl (search rules)
 
 pub judge_with_signals-requires : goal.judge_with_signals-requires
-judge_with_signals-requires c = c.load_with_signals.ensures.held _ c.in-Passed.is
+judge_with_signals-requires c = c.load_with_signals.ensures.held _ c.in-Ok.is
 
-pub returns-in-Refused-clause-value : goal.returns-in-Refused-clause-value
-returns-in-Refused-clause-value c = (plan-promised (plan-refused _ _ _ c.load_with_signals.ensures c.in-Refused.is)).0
+pub returns-in-Err-clause-value : goal.returns-in-Err-clause-value
+returns-in-Err-clause-value c = (plan-promised (plan-refused _ _ _ c.load_with_signals.ensures c.in-Err.is)).0
 
-pub returns-in-Refused-clause-ledger_after : goal.returns-in-Refused-clause-ledger_after
-returns-in-Refused-clause-ledger_after c = (plan-promised (plan-refused _ _ _ c.load_with_signals.ensures c.in-Refused.is)).1.0
+pub returns-in-Err-clause-ledger_after : goal.returns-in-Err-clause-ledger_after
+returns-in-Err-clause-ledger_after c = (plan-promised (plan-refused _ _ _ c.load_with_signals.ensures c.in-Err.is)).1.0
 
-pub returns-in-Refused-clause-promises : goal.returns-in-Refused-clause-promises
-returns-in-Refused-clause-promises c = (plan-promised (plan-refused _ _ _ c.load_with_signals.ensures c.in-Refused.is)).1.1.0
+pub returns-in-Err-clause-promises : goal.returns-in-Err-clause-promises
+returns-in-Err-clause-promises c = (plan-promised (plan-refused _ _ _ c.load_with_signals.ensures c.in-Err.is)).1.1.0
 
-pub returns-in-Refused-clause-empty_holds : goal.returns-in-Refused-clause-empty_holds
-returns-in-Refused-clause-empty_holds c = (plan-promised (plan-refused _ _ _ c.load_with_signals.ensures c.in-Refused.is)).1.1.1.0
+pub returns-in-Err-clause-empty_holds : goal.returns-in-Err-clause-empty_holds
+returns-in-Err-clause-empty_holds c = (plan-promised (plan-refused _ _ _ c.load_with_signals.ensures c.in-Err.is)).1.1.1.0
 
-pub returns-in-Refused-clause-padding_ignored : goal.returns-in-Refused-clause-padding_ignored
-returns-in-Refused-clause-padding_ignored c = (plan-promised (plan-refused _ _ _ c.load_with_signals.ensures c.in-Refused.is)).1.1.1.1
+pub returns-in-Err-clause-padding_ignored : goal.returns-in-Err-clause-padding_ignored
+returns-in-Err-clause-padding_ignored c = (plan-promised (plan-refused _ _ _ c.load_with_signals.ensures c.in-Err.is)).1.1.1.1
 
-pub returns-in-Passed-clause-value : goal.returns-in-Passed-clause-value
-returns-in-Passed-clause-value c = (plan-promised c.judge_with_signals.ensures).0
+pub returns-in-Ok-clause-value : goal.returns-in-Ok-clause-value
+returns-in-Ok-clause-value c = (plan-promised c.judge_with_signals.ensures).0
 
-pub returns-in-Passed-clause-ledger_after : goal.returns-in-Passed-clause-ledger_after
-returns-in-Passed-clause-ledger_after c = (plan-promised c.judge_with_signals.ensures).1.0
+pub returns-in-Ok-clause-ledger_after : goal.returns-in-Ok-clause-ledger_after
+returns-in-Ok-clause-ledger_after c = (plan-promised c.judge_with_signals.ensures).1.0
 
-pub returns-in-Passed-clause-promises : goal.returns-in-Passed-clause-promises
-returns-in-Passed-clause-promises c = (plan-promised c.judge_with_signals.ensures).1.1.0
+pub returns-in-Ok-clause-promises : goal.returns-in-Ok-clause-promises
+returns-in-Ok-clause-promises c = (plan-promised c.judge_with_signals.ensures).1.1.0
 
-pub returns-in-Passed-clause-empty_holds : goal.returns-in-Passed-clause-empty_holds
-returns-in-Passed-clause-empty_holds c = (plan-promised c.judge_with_signals.ensures).1.1.1.0
+pub returns-in-Ok-clause-empty_holds : goal.returns-in-Ok-clause-empty_holds
+returns-in-Ok-clause-empty_holds c = (plan-promised c.judge_with_signals.ensures).1.1.1.0
 
-pub returns-in-Passed-clause-padding_ignored : goal.returns-in-Passed-clause-padding_ignored
-returns-in-Passed-clause-padding_ignored c = (plan-promised c.judge_with_signals.ensures).1.1.1.1
+pub returns-in-Ok-clause-padding_ignored : goal.returns-in-Ok-clause-padding_ignored
+returns-in-Ok-clause-padding_ignored c = (plan-promised c.judge_with_signals.ensures).1.1.1.1

@@ -6,8 +6,8 @@ use Rattle.plan_steps.proofs.run_steps.Goals as goal
 pub take_steps-taken-requires : goal.take_steps-taken-requires
 take_steps-taken-requires c = search (steps-asked, rules)
 
-pub returns-in-Refused : goal.returns-in-Refused
-returns-in-Refused c = search run-refused
+pub returns-in-Err : goal.returns-in-Err
+returns-in-Err c = search run-refused
 
 pub finish-requires : goal.finish-requires
 finish-requires c = search run-few

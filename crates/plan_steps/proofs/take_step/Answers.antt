@@ -41,13 +41,13 @@ pub overflow_add-counts-2 : goal.overflow_add-counts-2
 overflow_add-counts-2 c = let h = step-few c.requires in let l = c.requires.tables.counted.few.past in search rules
 
 pub next_arrivals-requires : goal.next_arrivals-requires
-next_arrivals-requires c = arrivals-asked c.requires c.load_step-step_end.ensures c.add_waiting.ensures c.read_line-read.ensures c.in-Next.is
+next_arrivals-requires c = arrivals-asked c.requires c.load_step-step_end.ensures c.add_waiting.ensures c.read_line-read.ensures c.in-Some.is
 
 pub judge_step-verdict-requires-clause-n_lt_max_steps : goal.judge_step-verdict-requires-clause-n_lt_max_steps
 judge_step-verdict-requires-clause-n_lt_max_steps c = (step-few c.requires, room-before c.requires)
 
 pub judge_step-verdict-requires-clause-judge_asked : goal.judge_step-verdict-requires-clause-judge_asked
-judge_step-verdict-requires-clause-judge_asked c = (judge-asked c.requires c.load_step-step_end.ensures c.add_waiting.ensures c.read_line-read.ensures c.in-Next.is c.shown_phases.ensures c.tram_phases.ensures c.next_arrivals.ensures _ (search rules)).1
+judge_step-verdict-requires-clause-judge_asked c = (judge-asked c.requires c.load_step-step_end.ensures c.add_waiting.ensures c.read_line-read.ensures c.in-Some.is c.shown_phases.ensures c.tram_phases.ensures c.next_arrivals.ensures _ (search rules)).1
 
 pub shape_of-step-in_default-verdict : goal.shape_of-step-in_default-verdict
 shape_of-step-in_default-verdict c = omega (arith, c.add_waiting.ensures.size, c.requires.lent.step-size)
@@ -56,7 +56,7 @@ pub shape_of-line-in_default-verdict : goal.shape_of-line-in_default-verdict
 shape_of-line-in_default-verdict c = omega (arith, c.read_line-read.ensures.size)
 
 pub returns-in_default-verdict : goal.returns-in_default-verdict
-returns-in_default-verdict c = step-refused c.requires c.load_step-step_end.ensures c.add_waiting.ensures c.read_line-read.ensures c.in-Next.is c.shown_phases.ensures c.tram_phases.ensures c.next_arrivals.ensures _ (search rules) c.judge_step-verdict.ensures c.in_default-verdict.is
+returns-in_default-verdict c = step-refused c.requires c.load_step-step_end.ensures c.add_waiting.ensures c.read_line-read.ensures c.in-Some.is c.shown_phases.ensures c.tram_phases.ensures c.next_arrivals.ensures _ (search rules) c.judge_step-verdict.ensures c.in_default-verdict.is
 
 pub overflow_add-n-2 : goal.overflow_add-n-2
 overflow_add-n-2 c = omega (arith, step-few c.requires)
@@ -71,10 +71,10 @@ pub overflow_mul-counts : goal.overflow_mul-counts
 overflow_mul-counts c = omega (arith, c.requires.tables.counted.few.links)
 
 pub write_row-requires : goal.write_row-requires
-write_row-requires c = write-asked c.requires c.load_step-step_end.ensures c.add_waiting.ensures c.read_line-read.ensures c.in-Next.is c.shown_phases.ensures c.tram_phases.ensures c.next_arrivals.ensures _ (search rules) c.judge_step-verdict.ensures c.in-Passes.is (search rules)
+write_row-requires c = write-asked c.requires c.load_step-step_end.ensures c.add_waiting.ensures c.read_line-read.ensures c.in-Some.is c.shown_phases.ensures c.tram_phases.ensures c.next_arrivals.ensures _ (search rules) c.judge_step-verdict.ensures c.in-Ok.is (search rules)
 
 pub next_waiting-requires : goal.next_waiting-requires
-next_waiting-requires c = waits_asked c.requires c.load_step-step_end.ensures c.add_waiting.ensures c.read_line-read.ensures c.in-Next.is c.shown_phases.ensures c.tram_phases.ensures c.next_arrivals.ensures _ (search rules) c.judge_step-verdict.ensures c.in-Passes.is (search rules)
+next_waiting-requires c = waits_asked c.requires c.load_step-step_end.ensures c.add_waiting.ensures c.read_line-read.ensures c.in-Some.is c.shown_phases.ensures c.tram_phases.ensures c.next_arrivals.ensures _ (search rules) c.judge_step-verdict.ensures c.in-Ok.is (search rules)
 
 pub slice_bounds-advance-end : goal.slice_bounds-advance-end
 slice_bounds-advance-end c = sym c.shown_phases.ensures.size
@@ -86,10 +86,10 @@ pub bounds-step-0 : goal.bounds-step-0
 bounds-step-0 c = omega (arith, c.add_waiting.ensures.size)
 
 pub advance-requires : goal.advance-requires
-advance-requires c = advance-asked c.requires c.load_step-step_end.ensures c.add_waiting.ensures c.read_line-read.ensures c.in-Next.is c.shown_phases.ensures c.tram_phases.ensures c.next_arrivals.ensures _ (search rules) c.judge_step-verdict.ensures c.in-Passes.is (search rules)
+advance-requires c = advance-asked c.requires c.load_step-step_end.ensures c.add_waiting.ensures c.read_line-read.ensures c.in-Some.is c.shown_phases.ensures c.tram_phases.ensures c.next_arrivals.ensures _ (search rules) c.judge_step-verdict.ensures c.in-Ok.is (search rules)
 
 pub next_state-next-requires : goal.next_state-next-requires
-next_state-next-requires c = next-asked c.requires c.load_step-step_end.ensures c.add_waiting.ensures c.read_line-read.ensures c.in-Next.is c.shown_phases.ensures c.tram_phases.ensures c.next_arrivals.ensures _ (search rules) c.judge_step-verdict.ensures c.in-Passes.is (search rules) c.next_waiting.ensures
+next_state-next-requires c = next-asked c.requires c.load_step-step_end.ensures c.add_waiting.ensures c.read_line-read.ensures c.in-Some.is c.shown_phases.ensures c.tram_phases.ensures c.next_arrivals.ensures _ (search rules) c.judge_step-verdict.ensures c.in-Ok.is (search rules) c.next_waiting.ensures
 
 pub shape_of-arrivals : goal.shape_of-arrivals
 shape_of-arrivals c = omega (arith, c.next_arrivals.ensures.steps-at.size, c.requires.state-at.arrivals-at.size)
@@ -107,4 +107,4 @@ pub shape_of-line : goal.shape_of-line
 shape_of-line c = omega (arith, c.read_line-read.ensures.size)
 
 pub returns : goal.returns
-returns c = step_kept c.requires c.load_step-step_end.ensures c.add_waiting.ensures c.read_line-read.ensures c.in-Next.is c.shown_phases.ensures c.tram_phases.ensures c.next_arrivals.ensures _ (search rules) c.judge_step-verdict.ensures c.in-Passes.is c.row-2-1.given c.next_waiting.ensures c.write_row.ensures c.advance.ensures c.next_state-next.ensures
+returns c = step_kept c.requires c.load_step-step_end.ensures c.add_waiting.ensures c.read_line-read.ensures c.in-Some.is c.shown_phases.ensures c.tram_phases.ensures c.next_arrivals.ensures _ (search rules) c.judge_step-verdict.ensures c.in-Ok.is c.row-2-1.given c.next_waiting.ensures c.write_row.ensures c.advance.ensures c.next_state-next.ensures

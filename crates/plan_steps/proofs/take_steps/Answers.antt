@@ -43,10 +43,10 @@ pub take_step-taken-requires : goal.take_step-taken-requires
 take_step-taken-requires c = running-asked c.loop-taken.invariant (omega arith)
 
 pub loop-taken-smaller : goal.loop-taken-smaller
-loop-taken-smaller c = running-less c.loop-taken.invariant c.take_step-taken.ensures (omega arith) c.in-Passes.is
+loop-taken-smaller c = running-less c.loop-taken.invariant c.take_step-taken.ensures (omega arith) c.in-Ok.is
 
 pub loop-taken-preserved : goal.loop-taken-preserved
-loop-taken-preserved c = running-next c.loop-taken.invariant c.take_step-taken.ensures (omega arith) c.in-Passes.is
+loop-taken-preserved c = running-next c.loop-taken.invariant c.take_step-taken.ensures (omega arith) c.in-Ok.is
 
 pub shape_of-signals-in_default : goal.shape_of-signals-in_default
 shape_of-signals-in_default c = omega (arith, c.take_step-taken.auto.signals, c.loop-taken.invariant.state-at.signals-at.size, c.requires.signal-table.size)

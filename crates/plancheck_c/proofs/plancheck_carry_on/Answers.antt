@@ -3,8 +3,6 @@ use Rattle.base_laws.proofs.Kit.{ℕ, List, ◌≡◌, ap, ◌∙◌}
 use Rattle.base_search.specs.declared.Refusal.{Refusal}
 use Rattle.base_search.specs.Numbers.{CanArise}
 use Rattle.text_reader.specs.Lines.{Line}
-use Rattle.model_text.specs.declared.TextAnswer.{TextAnswer}
-use Rattle.model_text.specs.declared.TextAnswer.TheVariants as text-answer
 use Rattle.model_carry.specs.Call.{carry_numbers}
 use Rattle.model_carry.specs.CarriesOn.{CarriedOn}
 use Rattle.carry.specs.Carrying.{CarryGot}
@@ -13,15 +11,16 @@ use Rattle.plancheck_c.specs.Results.{text_result, text_answer_of}
 use Rattle.plancheck_c.proofs.Numbers.{carry-tells}
 use Rattle.plancheck_c.proofs.Read.{of-text}
 use Rattle.plancheck_c.proofs.plancheck_carry_on.Goals as goal
+use Rattle.std.specs.Prelude.{Result, Err}
 
 -- what is promised of an answer is promised of the answer that its result is read as
-module _ (a : TextAnswer) (r : TextResult) (is : r ≡ text_result a) {b : ℕ} {ledger ledger_after buffer buffer_after : List ℕ} where
+module _ (a : Result ℕ Refusal) (r : TextResult) (is : r ≡ text_result a) {b : ℕ} {ledger ledger_after buffer buffer_after : List ℕ} where
   promised : {network plan : List Line} → CarriedOn network plan b ledger ledger_after buffer buffer_after a → CarriedOn network plan b ledger ledger_after buffer buffer_after (text_answer_of r)
-  promised {network} {plan} g = of-text (λ (x : TextAnswer). CarriedOn network plan b ledger ledger_after buffer buffer_after x) a r is g.refused-number g
+  promised {network} {plan} g = of-text (λ (x : Result ℕ Refusal). CarriedOn network plan b ledger ledger_after buffer buffer_after x) a r is g.refused-number g
 
-  got : {network plan : List ℕ} → ((q : Refusal) → a ≡ text-answer.Refused q → CanArise carry_numbers q.number) → CarryGot network plan b ledger ledger_after buffer buffer_after a
+  got : {network plan : List ℕ} → ((q : Refusal) → a ≡ Err q → CanArise carry_numbers q.number) → CarryGot network plan b ledger ledger_after buffer buffer_after a
       → CarryGot network plan b ledger ledger_after buffer buffer_after (text_answer_of r)
-  got {network} {plan} h g = of-text (λ (x : TextAnswer). CarryGot network plan b ledger ledger_after buffer buffer_after x) a r is h g
+  got {network} {plan} h g = of-text (λ (x : Result ℕ Refusal). CarryGot network plan b ledger ledger_after buffer buffer_after x) a r is h g
 
 pub returns : goal.returns
 returns c =

@@ -1,6 +1,5 @@
 -- `plancheck_c::plancheck_check_plan` meets its contract.
 use Rattle.base_laws.proofs.Kit.{ℕ, List, ◌≡◌, ap, ◌∙◌}
-use Rattle.model.specs.declared.PlanAnswer.{PlanAnswer}
 use Rattle.model.specs.Guarantees.{plan_numbers, Promises}
 use Rattle.model.specs.Hold.{EmptyHolds}
 use Rattle.plancheck_c.specs.Results.{plan_result, plan_answer_of}
@@ -9,17 +8,18 @@ use Rattle.plancheck_c.proofs.Read.{of-plan}
 use Rattle.plancheck_c.specs.declared.PlanResult.{PlanResult}
 use Rattle.base_search.specs.declared.Refusal.{Refusal}
 use Rattle.base_search.specs.Numbers.{CanArise}
-use Rattle.model.specs.declared.PlanAnswer.TheVariants as plan-answer
 use Rattle.text_reader.specs.Lines.{Line}
 use Rattle.plancheck_c.proofs.plancheck_check_plan.Goals as goal
+use Rattle.std.specs.Prelude.{Result, Err}
+use Rattle.model.specs.declared.Totals.{Totals}
 
 -- what is promised of an answer is promised of the answer that its result is read as
-module _ (a : PlanAnswer) (r : PlanResult) (is : r ≡ plan_result a) {before after : List ℕ} where
+module _ (a : Result Totals Refusal) (r : PlanResult) (is : r ≡ plan_result a) {before after : List ℕ} where
   promised : {network plan : List Line} → Promises network plan before after a → Promises network plan before after (plan_answer_of r)
-  promised {network} {plan} g = of-plan (λ (x : PlanAnswer). Promises network plan before after x) a r is g.refused-number g
+  promised {network} {plan} g = of-plan (λ (x : Result Totals Refusal). Promises network plan before after x) a r is g.refused-number g
 
-  empty : {network plan : List ℕ} → ((q : Refusal) → a ≡ plan-answer.Refused q → CanArise plan_numbers q.number) → EmptyHolds network plan before after a → EmptyHolds network plan before after (plan_answer_of r)
-  empty {network} {plan} h g = of-plan (λ (x : PlanAnswer). EmptyHolds network plan before after x) a r is h g
+  empty : {network plan : List ℕ} → ((q : Refusal) → a ≡ Err q → CanArise plan_numbers q.number) → EmptyHolds network plan before after a → EmptyHolds network plan before after (plan_answer_of r)
+  empty {network} {plan} h g = of-plan (λ (x : Result Totals Refusal). EmptyHolds network plan before after x) a r is h g
 
 pub returns : goal.returns
 returns c =

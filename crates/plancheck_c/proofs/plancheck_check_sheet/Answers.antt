@@ -1,6 +1,5 @@
 -- `plancheck_c::plancheck_check_sheet` meets its contract.
 use Rattle.base_laws.proofs.Kit.{ℕ, List, ◌≡◌, ap, ◌∙◌}
-use Rattle.model.specs.declared.PlanAnswer.{PlanAnswer}
 use Rattle.model_sheet.specs.Promises.{SheetPromises}
 use Rattle.plancheck_c.specs.Results.{plan_result, plan_answer_of}
 use Rattle.plancheck_c.proofs.Numbers.{sheet-tells}
@@ -8,11 +7,14 @@ use Rattle.plancheck_c.proofs.Read.{of-plan}
 use Rattle.plancheck_c.specs.declared.PlanResult.{PlanResult}
 use Rattle.text_reader.specs.Lines.{Line}
 use Rattle.plancheck_c.proofs.plancheck_check_sheet.Goals as goal
+use Rattle.std.specs.Prelude.{Result}
+use Rattle.base_search.specs.declared.Refusal.{Refusal}
+use Rattle.model.specs.declared.Totals.{Totals}
 
 -- what is promised of an answer is promised of the answer that its result is read as
-module _ (a : PlanAnswer) (r : PlanResult) (is : r ≡ plan_result a) where
+module _ (a : Result Totals Refusal) (r : PlanResult) (is : r ≡ plan_result a) where
   promised : {network sheet plan : List Line} {before after : List ℕ} → SheetPromises network sheet plan before after a → SheetPromises network sheet plan before after (plan_answer_of r)
-  promised {network} {sheet} {plan} {before} {after} g = of-plan (λ (x : PlanAnswer). SheetPromises network sheet plan before after x) a r is g.refused-number g
+  promised {network} {sheet} {plan} {before} {after} g = of-plan (λ (x : Result Totals Refusal). SheetPromises network sheet plan before after x) a r is g.refused-number g
 
 pub returns : goal.returns
 returns c =

@@ -48,10 +48,10 @@ returns-in-Compared c =
           got _ _ is (e.padding_ignored padded_network n padded_first f padded_second s);
     }
 
-pub returns-in-Refused : goal.returns-in-Refused
-returns-in-Refused c =
+pub returns-in-Err : goal.returns-in-Err
+returns-in-Err c =
     let e = c.compare_plans.ensures in
-    let is = sym (ap comparison_result c.in-Refused.is) in
+    let is = sym (ap comparison_result c.in-Err.is) in
     let told = is ∙ ap comparison_result e.value in record {
       value = told;
       first_ledger_after = e.first_ledger_after;

@@ -11,9 +11,9 @@ returns-in-State c =
     let told = sym (ap link_result (sym got.value ∙ is)) in
     record { value = told; number_tells = link-tells _ _ _ _ told; padding_ignored = λ padded same. sym (ap link_result (sym (got.padding_ignored padded same) ∙ is)) }
 
-pub returns-in-Refused : goal.returns-in-Refused
-returns-in-Refused c =
+pub returns-in-Err : goal.returns-in-Err
+returns-in-Err c =
     let got = c.link_state.ensures in
-    let is = c.in-Refused.is in
+    let is = c.in-Err.is in
     let told = sym (ap link_result (sym got.value ∙ is)) in
     record { value = told; number_tells = link-tells _ _ _ _ told; padding_ignored = λ padded same. sym (ap link_result (sym (got.padding_ignored padded same) ∙ is)) }

@@ -11,9 +11,9 @@ returns-in-Counted c =
     let told = sym (ap counts_result (sym got.value ∙ is)) in
     record { value = told; number_tells = counts-tells _ told; padding_ignored = λ padded same. sym (ap counts_result (sym (got.padding_ignored padded same) ∙ is)) }
 
-pub returns-in-Refused : goal.returns-in-Refused
-returns-in-Refused c =
+pub returns-in-Err : goal.returns-in-Err
+returns-in-Err c =
     let got = c.count_network.ensures in
-    let is = c.in-Refused.is in
+    let is = c.in-Err.is in
     let told = sym (ap counts_result (sym got.value ∙ is)) in
     record { value = told; number_tells = counts-tells _ told; padding_ignored = λ padded same. sym (ap counts_result (sym (got.padding_ignored padded same) ∙ is)) }

@@ -3,17 +3,18 @@ use Rattle.base_laws.proofs.Kit.{ℕ, List, ◌≡◌, ap, ◌∙◌}
 use Rattle.text_reader.specs.Lines.{Line}
 use Rattle.listing_lines.specs.declared.Entry.{Entry}
 use Rattle.listing_call.specs.ReadsBack.{PlanGot}
-use Rattle.model_text.specs.declared.TextAnswer.{TextAnswer}
 use Rattle.plancheck_c.specs.declared.TextResult.{TextResult}
 use Rattle.plancheck_c.specs.Results.{text_result, text_answer_of}
 use Rattle.plancheck_c.proofs.Numbers.{listing-tells}
 use Rattle.plancheck_c.proofs.Read.{of-text}
 use Rattle.plancheck_c.proofs.plancheck_plan_from_listing.Goals as goal
+use Rattle.std.specs.Prelude.{Result}
+use Rattle.base_search.specs.declared.Refusal.{Refusal}
 
 -- what is promised of an answer is promised of the answer that its result is read as
-module _ (a : TextAnswer) (r : TextResult) (is : r ≡ text_result a) where
+module _ (a : Result ℕ Refusal) (r : TextResult) (is : r ≡ text_result a) where
   promised : {network : List Line} {listing : List Entry} {old new : List ℕ} → PlanGot network listing old a new → PlanGot network listing old (text_answer_of r) new
-  promised {network} {listing} {old} {new} g = of-text (λ (x : TextAnswer). PlanGot network listing old x new) a r is g.refused-number g
+  promised {network} {listing} {old} {new} g = of-text (λ (x : Result ℕ Refusal). PlanGot network listing old x new) a r is g.refused-number g
 
 pub returns : goal.returns
 returns c =

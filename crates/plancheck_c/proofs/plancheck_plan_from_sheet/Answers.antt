@@ -1,18 +1,19 @@
 -- `plancheck_c::plancheck_plan_from_sheet` meets its contract.
 use Rattle.base_laws.proofs.Kit.{ℕ, List, ◌≡◌, ap, ◌∙◌}
 use Rattle.text_reader.specs.Lines.{Line}
-use Rattle.model_text.specs.declared.TextAnswer.{TextAnswer}
 use Rattle.model_sheet.specs.Promises.{WritePromises}
 use Rattle.plancheck_c.specs.declared.TextResult.{TextResult}
 use Rattle.plancheck_c.specs.Results.{text_result, text_answer_of}
 use Rattle.plancheck_c.proofs.Numbers.{sheet-plan-tells}
 use Rattle.plancheck_c.proofs.Read.{of-text}
 use Rattle.plancheck_c.proofs.plancheck_plan_from_sheet.Goals as goal
+use Rattle.std.specs.Prelude.{Result}
+use Rattle.base_search.specs.declared.Refusal.{Refusal}
 
 -- what is promised of an answer is promised of the answer that its result is read as
-module _ (a : TextAnswer) (r : TextResult) (is : r ≡ text_result a) where
+module _ (a : Result ℕ Refusal) (r : TextResult) (is : r ≡ text_result a) where
   promised : {network sheet : List Line} {old new : List ℕ} → WritePromises network sheet old a new → WritePromises network sheet old (text_answer_of r) new
-  promised {network} {sheet} {old} {new} g = of-text (λ (x : TextAnswer). WritePromises network sheet old x new) a r is g.refused-number g
+  promised {network} {sheet} {old} {new} g = of-text (λ (x : Result ℕ Refusal). WritePromises network sheet old x new) a r is g.refused-number g
 
 pub returns : goal.returns
 returns c =

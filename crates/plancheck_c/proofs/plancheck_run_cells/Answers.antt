@@ -18,8 +18,8 @@ returns-in-Ran c =
     let is = c.in-Ran.is in
     let told = sym (ap₂ cells_result (sym e.answer_value ∙ is) (sym e.volumes_value)) in record { value = told; run_keeps = rw is at (kept _ _ e.run_keeps); number_tells = cells-tells _ _ told; padding_ignored = λ padded same. let got = e.padding_ignored padded same in sym (ap₂ cells_result (sym got.0 ∙ is) (sym got.1)) }
 
-pub returns-in-Refused : goal.returns-in-Refused
-returns-in-Refused c =
+pub returns-in-Err : goal.returns-in-Err
+returns-in-Err c =
     let e = c.run_cells-run.ensures in
-    let is = c.in-Refused.is in
+    let is = c.in-Err.is in
     let told = sym (ap₂ cells_result (sym e.answer_value ∙ is) (sym e.volumes_value)) in record { value = told; run_keeps = rw is at (kept _ _ e.run_keeps); number_tells = cells-tells _ _ told; padding_ignored = λ padded same. let got = e.padding_ignored padded same in sym (ap₂ cells_result (sym got.0 ∙ is) (sym got.1)) }

@@ -1,6 +1,5 @@
 -- `plancheck_c::plancheck_step_vehicles` meets its contract.
 use Rattle.base_laws.proofs.Kit.{List, ◌≡◌, ap, ◌∙◌}
-use Rattle.base_search.specs.declared.Verdict.{Verdict}
 use Rattle.traces.specs.Guarantees.{StepKeeps}
 use Rattle.plancheck_c.specs.Results.{verdict_result, verdict_of}
 use Rattle.plancheck_c.proofs.Numbers.{vehicles-tells}
@@ -8,6 +7,7 @@ use Rattle.plancheck_c.proofs.Read.{of-verdict}
 use Rattle.plancheck_c.specs.declared.NetworkResult.{NetworkResult}
 use lib.Ieee.{Float}
 use Rattle.plancheck_c.proofs.plancheck_step_vehicles.Goals as goal
+use Rattle.base_search.specs.Checks.{Verdict}
 
 -- what a step keeps holds of the verdict that its result is read as
 module _ (v : Verdict) (r : NetworkResult) (is : r ≡ verdict_result v) where

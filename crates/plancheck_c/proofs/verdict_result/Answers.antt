@@ -3,8 +3,8 @@ use Rattle.base_laws.proofs.Kit.{sym, ap}
 use Rattle.plancheck_c.specs.Results.{verdict_result}
 use Rattle.plancheck_c.proofs.verdict_result.Goals as goal
 
-pub returns-in-Passes : goal.returns-in-Passes
-returns-in-Passes c = sym (ap verdict_result c.in-Passes.is)
+pub returns-in-Ok : goal.returns-in-Ok
+returns-in-Ok c = sym (ap verdict_result c.in-Ok.is)
 
-pub returns-in-Refused : goal.returns-in-Refused
-returns-in-Refused c = sym (ap verdict_result c.in-Refused.is)
+pub returns-in-Err : goal.returns-in-Err
+returns-in-Err c = sym (ap verdict_result c.in-Err.is)

@@ -3,10 +3,10 @@ use Rattle.plancheck_report.proofs.Answer.{accepted-told, refused-told}
 use Rattle.plancheck_report.proofs.write_answer.Goals as goal
 
 pub write_accepted-requires : goal.write_accepted-requires
-write_accepted-requires c = c.requires.accepted _ c.in-Accepted.is
+write_accepted-requires c = c.requires.accepted _ c.in-Ok.is
 
-pub returns-in-Accepted : goal.returns-in-Accepted
-returns-in-Accepted c = accepted-told c.args.counts c.args.times.now c.args.ledger.now c.in-Accepted.is c.write_accepted.ensures
+pub returns-in-Ok : goal.returns-in-Ok
+returns-in-Ok c = accepted-told c.args.counts c.args.times.now c.args.ledger.now c.in-Ok.is c.write_accepted.ensures
 
-pub returns-in-Refused : goal.returns-in-Refused
-returns-in-Refused c = refused-told c.args.counts c.args.times.now c.args.ledger.now c.in-Refused.is c.write_refusal.ensures
+pub returns-in-Err : goal.returns-in-Err
+returns-in-Err c = refused-told c.args.counts c.args.times.now c.args.ledger.now c.in-Err.is c.write_refusal.ensures

@@ -9,16 +9,16 @@ pub load_with_signals-requires : goal.load_with_signals-requires
 load_with_signals-requires c = zero-rooms refl (search rules)
 
 pub check_on_network-requires : goal.check_on_network-requires
-check_on_network-requires c = c.load_with_signals.ensures.held _ c.in-Passed.is
+check_on_network-requires c = c.load_with_signals.ensures.held _ c.in-Ok.is
 
-pub returns-in-Refused-clause-sheet_promises : goal.returns-in-Refused-clause-sheet_promises
-returns-in-Refused-clause-sheet_promises c = (padding-too _ _ _ (search (network-refused, rules))).0
+pub returns-in-Err-clause-sheet_promises : goal.returns-in-Err-clause-sheet_promises
+returns-in-Err-clause-sheet_promises c = (padding-too _ _ _ (search (network-refused, rules))).0
 
-pub returns-in-Refused-clause-padding_ignored : goal.returns-in-Refused-clause-padding_ignored
-returns-in-Refused-clause-padding_ignored c = (padding-too _ _ _ (search (network-refused, rules))).1
+pub returns-in-Err-clause-padding_ignored : goal.returns-in-Err-clause-padding_ignored
+returns-in-Err-clause-padding_ignored c = (padding-too _ _ _ (search (network-refused, rules))).1
 
-pub returns-in-Passed-clause-sheet_promises : goal.returns-in-Passed-clause-sheet_promises
-returns-in-Passed-clause-sheet_promises c = (padding-too _ _ _ (search rules)).0
+pub returns-in-Ok-clause-sheet_promises : goal.returns-in-Ok-clause-sheet_promises
+returns-in-Ok-clause-sheet_promises c = (padding-too _ _ _ (search rules)).0
 
-pub returns-in-Passed-clause-padding_ignored : goal.returns-in-Passed-clause-padding_ignored
-returns-in-Passed-clause-padding_ignored c = (padding-too _ _ _ (search rules)).1
+pub returns-in-Ok-clause-padding_ignored : goal.returns-in-Ok-clause-padding_ignored
+returns-in-Ok-clause-padding_ignored c = (padding-too _ _ _ (search rules)).1

@@ -26,7 +26,7 @@ pub overflow_cast-told : goal.overflow_cast-told
 overflow_cast-told c = omega (arith, step-few c.requires)
 
 pub watch_signals-watches-requires : goal.watch_signals-watches-requires
-watch_signals-watches-requires c = watch-asked c.requires c.load_step-step_at.ensures refl c.read_line-read.ensures c.in-Next.is c.shown_phases.ensures c.tram_phases.ensures
+watch_signals-watches-requires c = watch-asked c.requires c.load_step-step_at.ensures refl c.read_line-read.ensures c.in-Some.is c.shown_phases.ensures c.tram_phases.ensures
 
 pub advance-requires : goal.advance-requires
 advance-requires c = advance-asked c.requires c.load_step-step_at.ensures c.shown_phases.ensures c.tram_phases.ensures
@@ -38,4 +38,4 @@ pub overflow_add-result-2 : goal.overflow_add-result-2
 overflow_add-result-2 c = omega (arith, time-few c.requires, seconds-few c.requires c.load_step-step_at.ensures)
 
 pub returns : goal.returns
-returns c = step_gone c.requires c.load_step-step_at.ensures refl c.read_line-read.ensures c.in-Next.is c.shown_phases.ensures c.tram_phases.ensures refl c.watch_signals-watches.ensures c.advance.ensures refl
+returns c = step_gone c.requires c.load_step-step_at.ensures refl c.read_line-read.ensures c.in-Some.is c.shown_phases.ensures c.tram_phases.ensures refl c.watch_signals-watches.ensures c.advance.ensures refl

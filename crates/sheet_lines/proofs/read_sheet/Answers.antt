@@ -13,13 +13,13 @@ pub returns-in_default : goal.returns-in_default
 returns-in_default c = read-malformed c.requires c.loop-r.invariant (omega arith) c.phase_count.ensures c.read_row-read.ensures c.in_default.is c.new.ensures
 
 pub valid_numbers-requires : goal.valid_numbers-requires
-valid_numbers-requires c = numbers-asked c.requires c.loop-r.invariant (omega arith) c.phase_count.ensures c.read_row-read.ensures c.in-Next.is
+valid_numbers-requires c = numbers-asked c.requires c.loop-r.invariant (omega arith) c.phase_count.ensures c.read_row-read.ensures c.in-Some.is
 
 pub returns-then-not-valid_numbers : goal.returns-then-not-valid_numbers
-returns-then-not-valid_numbers c = read-invalid c.requires c.loop-r.invariant (omega arith) c.phase_count.ensures c.read_row-read.ensures c.in-Next.is c.valid_numbers.ensures c.if-not-valid_numbers.true-raw c.new-then-not-valid_numbers.ensures
+returns-then-not-valid_numbers c = read-invalid c.requires c.loop-r.invariant (omega arith) c.phase_count.ensures c.read_row-read.ensures c.in-Some.is c.valid_numbers.ensures c.if-not-valid_numbers.true-raw c.new-then-not-valid_numbers.ensures
 
 pub loop-r-preserved : goal.loop-r-preserved
-loop-r-preserved c = read_next c.requires c.loop-r.invariant (omega arith) c.phase_count.ensures c.read_row-read.ensures c.in-Next.is c.valid_numbers.ensures c.if-not-valid_numbers.false-raw
+loop-r-preserved c = read_next c.requires c.loop-r.invariant (omega arith) c.phase_count.ensures c.read_row-read.ensures c.in-Some.is c.valid_numbers.ensures c.if-not-valid_numbers.false-raw
 
 pub returns-then-is_end : goal.returns-then-is_end
 returns-then-is_end c = search (read_all, rules)

@@ -9,14 +9,14 @@ from_start-requires c = search (times-asked, rules)
 pub write_on_network-requires : goal.write_on_network-requires
 write_on_network-requires c = search (call-asked, rules)
 
-pub returns-in-Passed-clause-write_promises : goal.returns-in-Passed-clause-write_promises
-returns-in-Passed-clause-write_promises c = (padding-too _ _ (search (call-written, rules))).0
+pub returns-in-Ok-clause-write_promises : goal.returns-in-Ok-clause-write_promises
+returns-in-Ok-clause-write_promises c = (padding-too _ _ (search (call-written, rules))).0
 
-pub returns-in-Passed-clause-padding_ignored : goal.returns-in-Passed-clause-padding_ignored
-returns-in-Passed-clause-padding_ignored c = (padding-too _ _ (search (call-written, rules))).1
+pub returns-in-Ok-clause-padding_ignored : goal.returns-in-Ok-clause-padding_ignored
+returns-in-Ok-clause-padding_ignored c = (padding-too _ _ (search (call-written, rules))).1
 
-pub returns-in-Refused-clause-write_promises : goal.returns-in-Refused-clause-write_promises
-returns-in-Refused-clause-write_promises c = (padding-too _ _ (search (call-refused, rules))).0
+pub returns-in-Err-clause-write_promises : goal.returns-in-Err-clause-write_promises
+returns-in-Err-clause-write_promises c = (padding-too _ _ (search (call-refused, rules))).0
 
-pub returns-in-Refused-clause-padding_ignored : goal.returns-in-Refused-clause-padding_ignored
-returns-in-Refused-clause-padding_ignored c = (padding-too _ _ (search (call-refused, rules))).1
+pub returns-in-Err-clause-padding_ignored : goal.returns-in-Err-clause-padding_ignored
+returns-in-Err-clause-padding_ignored c = (padding-too _ _ (search (call-refused, rules))).1

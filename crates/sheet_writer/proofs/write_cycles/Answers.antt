@@ -6,8 +6,8 @@ use Rattle.sheet_writer.proofs.write_cycles.Goals as goal
 pub write_plan-requires : goal.write_plan-requires
 write_plan-requires c = search (masks-asked, rules)
 
-pub returns-in-Passes : goal.returns-in-Passes
-returns-in-Passes c = search (cycles-written, rules)
+pub returns-in-Ok : goal.returns-in-Ok
+returns-in-Ok c = search (cycles-written, rules)
 
-pub returns-in-Refused : goal.returns-in-Refused
-returns-in-Refused c = search (cycles-stopped, rules)
+pub returns-in-Err : goal.returns-in-Err
+returns-in-Err c = search (cycles-stopped, rules)

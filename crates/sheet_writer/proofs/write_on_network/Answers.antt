@@ -11,10 +11,10 @@ pub read_sheet-requires : goal.read_sheet-requires
 read_sheet-requires c = cycle-asked c.requires c.load_signals.ensures (search rules)
 
 pub write_cycles-requires : goal.write_cycles-requires
-write_cycles-requires c = cycles-asked c.requires c.load_signals.ensures c.read_sheet.ensures c.in-Passes.is
+write_cycles-requires c = cycles-asked c.requires c.load_signals.ensures c.read_sheet.ensures c.in-Ok.is
 
-pub returns-in-Passes : goal.returns-in-Passes
-returns-in-Passes c = sheet-written c.requires c.load_signals.ensures c.read_sheet.ensures c.in-Passes.is c.write_cycles.ensures
+pub returns-in-Ok : goal.returns-in-Ok
+returns-in-Ok c = sheet-written c.requires c.load_signals.ensures c.read_sheet.ensures c.in-Ok.is c.write_cycles.ensures
 
-pub returns-in-Refused : goal.returns-in-Refused
-returns-in-Refused c = sheet-stopped c.requires c.load_signals.ensures c.read_sheet.ensures c.in-Refused.is
+pub returns-in-Err : goal.returns-in-Err
+returns-in-Err c = sheet-stopped c.requires c.load_signals.ensures c.read_sheet.ensures c.in-Err.is

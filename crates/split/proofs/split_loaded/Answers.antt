@@ -12,8 +12,8 @@ load_signals-requires c = signals-asked c.requires refl
 pub judge_halves-verdict-requires : goal.judge_halves-verdict-requires
 judge_halves-verdict-requires c = judge-asked c.requires _ c.number_halves-above.ensures.1 c.load_signals.ensures
 
-pub returns-in-Refused : goal.returns-in-Refused
-returns-in-Refused c = judged-refused c.requires _ c.number_halves-above.ensures.1 c.load_signals.ensures _ c.number_halves-above.ensures.0 c.judge_halves-verdict.ensures _ c.in-Refused.is
+pub returns-in-Err : goal.returns-in-Err
+returns-in-Err c = judged-refused c.requires _ c.number_halves-above.ensures.1 c.load_signals.ensures _ c.number_halves-above.ensures.0 c.judge_halves-verdict.ensures _ c.in-Err.is
 
 pub write_halves-requires : goal.write_halves-requires
 write_halves-requires c = write-asked c.requires _ c.number_halves-above.ensures.1 c.load_signals.ensures _ c.number_halves-above.ensures.0 c.judge_halves-verdict.ensures c.in_default.is

@@ -2,8 +2,8 @@
 use Rattle.split_text.proofs.Reading.{plan-next, plan-never}
 use Rattle.split_text.proofs.read_plan.Goals as goal
 
-pub returns-in-Next : goal.returns-in-Next
-returns-in-Next c = search plan-next
+pub returns-in-Some : goal.returns-in-Some
+returns-in-Some c = search plan-next
 
-pub returns-in-Malformed : goal.returns-in-Malformed
-returns-in-Malformed c = search plan-never
+pub returns-in-None : goal.returns-in-None
+returns-in-None c = search plan-never

@@ -34,13 +34,13 @@ pub shape_of-places-then-not-add_numbers : goal.shape_of-places-then-not-add_num
 shape_of-places-then-not-add_numbers c = omega (arith, c.loop-m.invariant.rooms.place-size, c.requires.rooms.place-size)
 
 pub returns-then-not-add_numbers : goal.returns-then-not-add_numbers
-returns-then-not-add_numbers c = past-over c.requires c.start_row.ensures c.next_arrivals.ensures c.loop-m.invariant (search rules) c.read_row-read.ensures c.in-Next.is c.add_numbers.ensures c.if-not-add_numbers.true-raw
+returns-then-not-add_numbers c = past-over c.requires c.start_row.ensures c.next_arrivals.ensures c.loop-m.invariant (search rules) c.read_row-read.ensures c.in-Some.is c.add_numbers.ensures c.if-not-add_numbers.true-raw
 
 pub keep_curves-requires : goal.keep_curves-requires
-keep_curves-requires c = keep-asked c.requires c.start_row.ensures c.next_arrivals.ensures c.loop-m.invariant (search rules) c.read_row-read.ensures c.in-Next.is c.add_numbers.ensures c.if-not-add_numbers.false-raw
+keep_curves-requires c = keep-asked c.requires c.start_row.ensures c.next_arrivals.ensures c.loop-m.invariant (search rules) c.read_row-read.ensures c.in-Some.is c.add_numbers.ensures c.if-not-add_numbers.false-raw
 
 pub loop-m-preserved : goal.loop-m-preserved
-loop-m-preserved c = past-next-line c.requires c.start_row.ensures c.next_arrivals.ensures c.loop-m.invariant (search rules) c.read_row-read.ensures c.in-Next.is c.add_numbers.ensures c.if-not-add_numbers.false-raw c.keep_curves.ensures
+loop-m-preserved c = past-next-line c.requires c.start_row.ensures c.next_arrivals.ensures c.loop-m.invariant (search rules) c.read_row-read.ensures c.in-Some.is c.add_numbers.ensures c.if-not-add_numbers.false-raw c.keep_curves.ensures
 
 pub returns : goal.returns
 returns c = search (past-done, rules)

@@ -31,13 +31,13 @@ pub overflow_sub-since : goal.overflow_sub-since
 overflow_sub-since c = let h = times-asked c.requires c.loop-arrivals.invariant refl (search rules) in search rules
 
 pub move_links-requires : goal.move_links-requires
-move_links-requires c = links-asked c.requires c.loop-arrivals.invariant refl (search rules) c.read_row-read.ensures c.in-Next.is refl
+move_links-requires c = links-asked c.requires c.loop-arrivals.invariant refl (search rules) c.read_row-read.ensures c.in-Some.is refl
 
 pub loop-arrivals-smaller : goal.loop-arrivals-smaller
-loop-arrivals-smaller c = let h = past-onward c.requires c.loop-arrivals.invariant refl (search rules) c.read_row-read.ensures c.in-Next.is refl c.move_links.ensures in search rules
+loop-arrivals-smaller c = let h = past-onward c.requires c.loop-arrivals.invariant refl (search rules) c.read_row-read.ensures c.in-Some.is refl c.move_links.ensures in search rules
 
 pub loop-arrivals-preserved : goal.loop-arrivals-preserved
-loop-arrivals-preserved c = past-line-next c.requires c.loop-arrivals.invariant refl (search rules) c.read_row-read.ensures c.in-Next.is refl c.move_links.ensures
+loop-arrivals-preserved c = past-line-next c.requires c.loop-arrivals.invariant refl (search rules) c.read_row-read.ensures c.in-Some.is refl c.move_links.ensures
 
 pub returns : goal.returns
 returns c = past-arrived c.requires c.loop-arrivals.invariant (search rules)

@@ -1,4 +1,4 @@
-use Rattle.std.proofs.Common.{rules}
+use Rattle.std.proofs.Common.{rules, ◌≡◌, length, arith}
 use Rattle.text_reader.proofs.Turns.{saying-none, rest-past, rest-stop, rest-full, rest-not, rest-big, rest-turn, digit_low, digit-high, has_room}
 use Rattle.text_reader.proofs.digits_from.Goals as goal
 
@@ -28,8 +28,8 @@ shifted-value-requires-clause-b_bound c = has_room _ _ c.has_room.ensures c.if-n
 
 pub loop-i-preserved : goal.loop-i-preserved
 loop-i-preserved c =
-    rest-turn _ _ _ _ _ c.loop-i.invariant c.loop-i-test.true _ c.wide-b.ensures _
+    rest-turn _ _ _ _ _ c.loop-i.invariant c.loop-i-test.true _ c.from-b.ensures _
     c.is_digit.ensures c.if-not-is_digit.false-raw _ c.has_room.ensures _ c.if-more-eq0.false c.if-not-has_room.false-raw c.shifted-value.ensures
 
 pub returns : goal.returns
-returns c = search rest-past
+returns c = let e : c.loop-i.i ≡ length c.args.text.now = omega arith in search rest-past

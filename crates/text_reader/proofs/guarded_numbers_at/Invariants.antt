@@ -3,8 +3,5 @@ use Rattle.base_laws.proofs.Kit.{◌-◌, length}
 use Rattle.text_reader.proofs.Turns.{Stored}
 use Rattle.text_reader.proofs.guarded_numbers_at.Given as goal
 
-abbrev pub invariant-loop-k : goal.invariant-loop-k
-invariant-loop-k l = Stored l.text l.at l.initial.out l.out l.i l.k
-
-abbrev pub decreases-loop-k : goal.decreases-loop-k
-decreases-loop-k l = length l.out - l.k
+abbrev pub invariant-loop-number : goal.invariant-loop-number
+invariant-loop-number l = Stored l.text l.at l.initial.out l.out l.i l.number-index

@@ -5,6 +5,3 @@ use Rattle.text_reader.proofs.sentinel_digits_from.Given as goal
 
 abbrev pub invariant-loop-k : goal.invariant-loop-k
 invariant-loop-k l = Run l.text l.from l.k l.value
-
-abbrev pub decreases-loop-k : goal.decreases-loop-k
-decreases-loop-k l = length l.text - (l.from + l.k)

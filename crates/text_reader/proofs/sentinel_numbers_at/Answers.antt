@@ -8,7 +8,7 @@ pub loop-k-init : goal.loop-k-init
 loop-k-init c = (search stored-none, search rules)
 
 pub overflow_add-result : goal.overflow_add-result
-overflow_add-result c = omega (arith, ended-feed _ _ _ _ _ c.sentinel_tabbed_at.ensures c.in-ByLineFeed.is)
+overflow_add-result c = omega (arith, ended-feed _ _ _ _ c.sentinel_tabbed_at.ensures c.in-ByLineFeed.is)
 
 pub returns-then-k-out : goal.returns-then-k-out
 returns-then-k-out c = search feed-all
@@ -18,9 +18,6 @@ returns-in-ByLineFeed c = search feed-early
 
 pub returns-in-Neither : goal.returns-in-Neither
 returns-in-Neither c = search ended-stop
-
-pub loop-k-smaller : goal.loop-k-smaller
-loop-k-smaller c = simp length-set (omega arith)
 
 pub loop-k-preserved : goal.loop-k-preserved
 loop-k-preserved c = (search ended-more, search ended-tab)

@@ -5,6 +5,3 @@ use Rattle.text_reader.proofs.sentinel_numbers_at.Given as goal
 
 abbrev pub invariant-loop-k : goal.invariant-loop-k
 invariant-loop-k l = Stored l.text l.at l.initial.out l.out l.i l.k × (get_or l.text l.i 0 ≡ 9)
-
-abbrev pub decreases-loop-k : goal.decreases-loop-k
-decreases-loop-k l = length l.out - l.k

@@ -16,17 +16,14 @@ returns-then-next-start c = search ends-empty
 pub bounds-text-next : goal.bounds-text-next
 bounds-text-next c = search (ends-within, rules)
 
-pub returns-then-text-next-eq9 : goal.returns-then-text-next-eq9
-returns-then-text-next-eq9 c = search ends-tab
+pub returns-in_default : goal.returns-in_default
+returns-in_default c = search ends-absent
 
-pub bounds-text-next-in-Found : goal.bounds-text-next-in-Found
-bounds-text-next-in-Found c = search (ends-within, rules)
+pub returns-in-9 : goal.returns-in-9
+returns-in-9 c = search ends-tab
 
-pub returns-then-text-next-eq10 : goal.returns-then-text-next-eq10
-returns-then-text-next-eq10 c = search ends-feed
+pub returns-in-10 : goal.returns-in-10
+returns-in-10 c = search ends-feed
 
-pub returns-else-text-next-eq10 : goal.returns-else-text-next-eq10
-returns-else-text-next-eq10 c = search (ends-other, ends-absent)
-
-pub returns-in-Absent : goal.returns-in-Absent
-returns-in-Absent c = search (ends-other, ends-absent)
+pub returns-in_default-text : goal.returns-in_default-text
+returns-in_default-text c = search ends-other

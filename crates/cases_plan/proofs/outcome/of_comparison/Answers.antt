@@ -7,5 +7,5 @@ use Rattle.cases_plan.proofs.outcome.of_comparison.Goals as goal
 pub returns-in-Compared : goal.returns-in-Compared
 returns-in-Compared c = comparison-told _ _ c.in-Compared.is (record { sfits = c.in-Compared.known_told-1-own.given.1.0.1 }) c.order_number.ensures c.modulo_64.ensures
 
-pub returns-in-Refused : goal.returns-in-Refused
-returns-in-Refused c = sym (ap comparison_outcome c.in-Refused.is)
+pub returns-in-Err : goal.returns-in-Err
+returns-in-Err c = sym (ap comparison_outcome c.in-Err.is)

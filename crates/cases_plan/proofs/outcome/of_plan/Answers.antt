@@ -3,8 +3,8 @@ use Rattle.base_laws.proofs.Kit.{sym, ap, ◌∙◌}
 use Rattle.cases_plan.specs.Outcome.{plan_outcome}
 use Rattle.cases_plan.proofs.outcome.of_plan.Goals as goal
 
-pub returns-in-Accepted : goal.returns-in-Accepted
-returns-in-Accepted c = sym (ap plan_outcome c.in-Accepted.is)
+pub returns-in-Ok : goal.returns-in-Ok
+returns-in-Ok c = sym (ap plan_outcome c.in-Ok.is)
 
-pub returns-in-Refused : goal.returns-in-Refused
-returns-in-Refused c = c.refused.ensures ∙ sym (ap plan_outcome c.in-Refused.is)
+pub returns-in-Err : goal.returns-in-Err
+returns-in-Err c = c.refused.ensures ∙ sym (ap plan_outcome c.in-Err.is)
