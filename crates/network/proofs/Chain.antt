@@ -34,9 +34,9 @@ module _ (text : List ℕ) (first rest : Checks) (l : Left text (first then rest
   unfolding verdict
   on e = l ∙ or-else-passes _ _ e
 
-  stop : {Held : Reading → Type 0} {stage : (Result Reading Refusal)} {r : Refusal} → stage ≡ Err r → verdict first ≡ Err r → Judged (network_checks (lines text)) Held stage
+  stop : {Held : Reading → Type 0} {r : Refusal} → verdict first ≡ Err r → Judged (network_checks (lines text)) Held (Err r)
   unfolding verdict
-  stop {r = r} e v = rw e (judged-refused (l ∙ or-else-refused _ _ r v))
+  stop {r = r} v = judged-refused (l ∙ or-else-refused _ _ r v)
 
 -- the checks from each stage on
 module _ (text : List ℕ) where
@@ -58,8 +58,8 @@ module _ (text : List ℕ) where
 
 -- ---- the stages
 module _ {text signals₀ links₀ movements₀ times₀ : List ℕ} (room : SignalRooms signals₀ links₀ movements₀ times₀) {counts : (Result Reading Refusal)} (j : Judged (count_checks (lines text)) (CountsHeld text) counts) where
-  pub counts-stop : {Held : Reading → Type 0} {r : Refusal} → counts ≡ Err r → Judged (network_checks (lines text)) Held counts
-  counts-stop e = stop text _ (from_signals text) (whole text) e (verdict-refused j e)
+  pub counts-stop : {Held : Reading → Type 0} {r : Refusal} → counts ≡ Err r → Judged (network_checks (lines text)) Held (Err r)
+  counts-stop e = stop text _ (from_signals text) (whole text) (verdict-refused j e)
 
   module _ {at_signals : Reading} (e₁ : counts ≡ Ok at_signals) where
     pub signals-asked : {phases : List ℕ} → length phases ≡ max_signals → FirstAsked text at_signals phases signals₀
@@ -71,8 +71,8 @@ module _ {text signals₀ links₀ movements₀ times₀ : List ℕ} (room : Sig
     left₁ = on text _ (from_signals text) (whole text) (verdict-passed j e₁)
 
     module _ {phases table : List ℕ} {signals : (Result Reading Refusal)} (j₁ : Judged (first_checks (lines text)) (SignalsHeld text phases table) signals) where
-      pub signals-stop : {Held : Reading → Type 0} {r : Refusal} → signals ≡ Err r → Judged (network_checks (lines text)) Held signals
-      signals-stop e = stop text _ (from_links text) left₁ e (verdict-refused j₁ e)
+      pub signals-stop : {Held : Reading → Type 0} {r : Refusal} → signals ≡ Err r → Judged (network_checks (lines text)) Held (Err r)
+      signals-stop e = stop text _ (from_links text) left₁ (verdict-refused j₁ e)
 
       module _ {at_links : Reading} (e₂ : signals ≡ Ok at_links) where
         pub links-asked : LinksAsked text at_links phases links₀
@@ -82,8 +82,8 @@ module _ {text signals₀ links₀ movements₀ times₀ : List ℕ} (room : Sig
         left₂ = on text _ (from_links text) left₁ (verdict-passed j₁ e₂)
 
         module _ {links : List ℕ} {linked : (Result Reading Refusal)} (j₂ : Judged (block_checks (link_block (lines text))) (LinksHeld text links) linked) where
-          pub links-stop : {Held : Reading → Type 0} {r : Refusal} → linked ≡ Err r → Judged (network_checks (lines text)) Held linked
-          links-stop e = stop text _ (from_movements text) left₂ e (verdict-refused j₂ e)
+          pub links-stop : {Held : Reading → Type 0} {r : Refusal} → linked ≡ Err r → Judged (network_checks (lines text)) Held (Err r)
+          links-stop e = stop text _ (from_movements text) left₂ (verdict-refused j₂ e)
 
           module _ {at_movements : Reading} (e₃ : linked ≡ Ok at_movements) where
             pub movements-asked : MovementsAsked text at_movements movements₀
@@ -93,8 +93,8 @@ module _ {text signals₀ links₀ movements₀ times₀ : List ℕ} (room : Sig
             left₃ = on text _ (from_movements text) left₂ (verdict-passed j₂ e₃)
 
             module _ {movements : List ℕ} {moved : (Result Reading Refusal)} (j₃ : Judged (block_checks (movement_block (lines text))) (MovementsHeld text movements) moved) where
-              pub movements-stop : {Held : Reading → Type 0} {r : Refusal} → moved ≡ Err r → Judged (network_checks (lines text)) Held moved
-              movements-stop e = stop text _ (from_shares text) left₃ e (verdict-refused j₃ e)
+              pub movements-stop : {Held : Reading → Type 0} {r : Refusal} → moved ≡ Err r → Judged (network_checks (lines text)) Held (Err r)
+              movements-stop e = stop text _ (from_shares text) left₃ (verdict-refused j₃ e)
 
               module _ {at_shares : Reading} (e₄ : moved ≡ Ok at_shares) where
                 pub shares-ready : SharesAsked movements at_shares.counts
@@ -107,8 +107,8 @@ module _ {text signals₀ links₀ movements₀ times₀ : List ℕ} (room : Sig
                 checked = shares-checked (j₃.held _ e₄).reached.counted (j₃.held _ e₄).table
 
                 module _ {shared : (Result Reading Refusal)} (j₄ : Judged (each at_shares.counts.links (share_checks_in movements at_shares.counts)) (λ after. after ≡ at_shares) shared) where
-                  pub shares-stop : {Held : Reading → Type 0} {r : Refusal} → shared ≡ Err r → Judged (network_checks (lines text)) Held shared
-                  shares-stop e = stop text _ (timeline_checks (lines text)) left₄ e (sym checked ∙ verdict-refused j₄ e)
+                  pub shares-stop : {Held : Reading → Type 0} {r : Refusal} → shared ≡ Err r → Judged (network_checks (lines text)) Held (Err r)
+                  shares-stop e = stop text _ (timeline_checks (lines text)) left₄ (sym checked ∙ verdict-refused j₄ e)
 
                   module _ {at_steps : Reading} (e₅ : shared ≡ Ok at_steps) where
                     pub timeline-asked : TimelineAsked text at_steps links times₀

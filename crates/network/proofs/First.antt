@@ -39,18 +39,18 @@ module _ {text : List ℕ} {reading : Reading} {phases₀ signals₀ : List ℕ}
   trams-asked room = record { counted = asked.counted; starts = asked.starts; trams-start = asked.trams-start; room = room }
 
   module _ {trams : List ℕ} {tracked : (Result Reading Refusal)} (j : Judged (block_checks (tram_block (lines text))) (TramsHeld text trams) tracked) where
-    pub trams-stop : {Held : Reading → Type 0} {r : Refusal} → tracked ≡ Err r → Judged (first_checks (lines text)) Held tracked
+    pub trams-stop : {Held : Reading → Type 0} {r : Refusal} → tracked ≡ Err r → Judged (first_checks (lines text)) Held (Err r)
     unfolding verdict
-    trams-stop {r = r} e = rw e (judged-refused (or-else-refused _ _ r (verdict-refused j e)))
+    trams-stop {r = r} e = judged-refused (or-else-refused _ _ r (verdict-refused j e))
 
     module _ {at_signals : Reading} (e₁ : tracked ≡ Ok at_signals) where
       pub signals-asked : SignalsAsked text at_signals phases₀ signals₀
       signals-asked = let held = j.held _ e₁ in record { counted = held.counted; trams-start = held.trams-start; starts = held.starts; room = asked.room; signal-room = asked.signal-room; blank = asked.blank }
 
       module _ {phases table : List ℕ} {signals : (Result Reading Refusal)} (j₁ : Judged (block_checks (signal_block (lines text))) (SignalsHeld text phases table) signals) where
-        pub signals-stop : {Held : Reading → Type 0} {r : Refusal} → signals ≡ Err r → Judged (first_checks (lines text)) Held signals
+        pub signals-stop : {Held : Reading → Type 0} {r : Refusal} → signals ≡ Err r → Judged (first_checks (lines text)) Held (Err r)
         unfolding verdict
-        signals-stop {r = r} e = rw e (judged-refused (or-else-passes _ _ (verdict-passed j e₁) ∙ or-else-refused _ _ r (verdict-refused j₁ e)))
+        signals-stop {r = r} e = judged-refused (or-else-passes _ _ (verdict-passed j e₁) ∙ or-else-refused _ _ r (verdict-refused j₁ e))
 
         module _ {at_phases : Reading} (e₂ : signals ≡ Ok at_phases) where
           pub tram-phases-asked : PhasesAsked trams phases at_phases.counts

@@ -39,9 +39,9 @@ module _ {text : List ℕ} {reading : Reading} {links times₀ : List ℕ} (aske
   forms-asked = record { reached = asked.reached; room = asked.room }
 
   module _ {times : List ℕ} {formed : (Result Reading Refusal)} (j : Judged (block_checks (past_block (lines text))) (FormsHeld text times) formed) where
-    pub forms-stop : {Held : Reading → Type 0} {r : Refusal} → formed ≡ Err r → Judged (timeline_checks (lines text)) Held formed
+    pub forms-stop : {Held : Reading → Type 0} {r : Refusal} → formed ≡ Err r → Judged (timeline_checks (lines text)) Held (Err r)
     unfolding verdict
-    forms-stop {r = r} e = rw e (judged-refused (or-else-refused _ _ r (verdict-refused j e)))
+    forms-stop {r = r} e = judged-refused (or-else-refused _ _ r (verdict-refused j e))
 
     module _ {at_steps : Reading} (e₁ : formed ≡ Ok at_steps) where
       pub steps-asked : {demands : List ℕ} → demands ≡ replicate max_links 0 → StepsAsked text at_steps times demands
@@ -57,9 +57,9 @@ module _ {text : List ℕ} {reading : Reading} {links times₀ : List ℕ} (aske
           }
 
       module _ {times' demands' : List ℕ} {stepped : (Result Reading Refusal)} (j₁ : Judged (block_checks (step_block (lines text))) (StepsHeld text times' demands') stepped) where
-        pub steps-stop : {Held : Reading → Type 0} {r : Refusal} → stepped ≡ Err r → Judged (timeline_checks (lines text)) Held stepped
+        pub steps-stop : {Held : Reading → Type 0} {r : Refusal} → stepped ≡ Err r → Judged (timeline_checks (lines text)) Held (Err r)
         unfolding verdict
-        steps-stop {r = r} e = rw e (judged-refused (or-else-passes _ _ (verdict-passed j e₁) ∙ or-else-refused _ _ r (verdict-refused j₁ e)))
+        steps-stop {r = r} e = judged-refused (or-else-passes _ _ (verdict-passed j e₁) ∙ or-else-refused _ _ r (verdict-refused j₁ e))
 
         module _ {at_end : Reading} (e₂ : stepped ≡ Ok at_end) where
           pub end-asked : EndAsked text at_end
@@ -71,10 +71,10 @@ module _ {text : List ℕ} {reading : Reading} {links times₀ : List ℕ} (aske
               }
 
           module _ {ended : (Result Reading Refusal)} (j₂ : Judged (end_checks (lines text)) (λ after. after ≡ at_end) ended) where
-            pub end-stop : {Held : Reading → Type 0} {r : Refusal} → ended ≡ Err r → Judged (timeline_checks (lines text)) Held ended
+            pub end-stop : {Held : Reading → Type 0} {r : Refusal} → ended ≡ Err r → Judged (timeline_checks (lines text)) Held (Err r)
             unfolding verdict
             end-stop {r = r} e =
-                rw e (judged-refused (or-else-passes _ _ (verdict-passed j e₁) ∙ or-else-passes _ _ (verdict-passed j₁ e₂) ∙ or-else-refused _ _ r (verdict-refused j₂ e)))
+                judged-refused (or-else-passes _ _ (verdict-passed j e₁) ∙ or-else-passes _ _ (verdict-passed j₁ e₂) ∙ or-else-refused _ _ r (verdict-refused j₂ e))
 
             module _ {at_past : Reading} (e₃ : ended ≡ Ok at_past) where
               held : StepsHeld text times' demands' at_past

@@ -49,7 +49,12 @@ fn read_trams_and_signals(
 }
 
 // The `H` and the `S` lines, the end of the text and, last of all, what the past must keep (30).
-fn read_timeline(text: &[u8], reading: Reading, links: &[u32], times: &mut [u32]) -> Result<Reading, Refusal>
+fn read_timeline(
+    text: &[u8],
+    reading: Reading,
+    links: &[u32],
+    times: &mut [u32],
+) -> Result<Reading, Refusal>
     requires { TimelineAsked text.now reading links.now times.old }
     ensures { Judged (timeline_checks (lines text.now)) (TimelineHeld text.now times.new) result }
 {

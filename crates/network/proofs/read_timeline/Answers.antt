@@ -1,0 +1,29 @@
+-- `network::read_timeline` meets its contract.
+use Rattle.base_search.proofs.Laws.{passed_on}
+use Rattle.std.proofs.Common.{rules}
+use Rattle.network.proofs.Timeline.{forms-asked, forms-stop, steps-asked, steps-stop, end-asked, end-stop, past-asked, timeline-judged}
+use Rattle.network.proofs.read_timeline.Goals as goal
+
+pub read_past-requires : goal.read_past-requires
+read_past-requires c = search (forms-asked, rules)
+
+pub returns-in_err-reading : goal.returns-in_err-reading
+returns-in_err-reading c = rw (passed_on _ _ c.from_residual.ensures.1) (forms-stop c.requires c.read_past.ensures c.in_err-reading.was)
+
+pub read_steps-requires : goal.read_steps-requires
+read_steps-requires c = steps-asked c.requires c.read_past.ensures c.in_ok-reading.was (search rules)
+
+pub returns-in_err-reading-2 : goal.returns-in_err-reading-2
+returns-in_err-reading-2 c = rw (passed_on _ _ c.from_residual-in_err-reading-2.ensures.1) (steps-stop c.requires c.read_past.ensures c.in_ok-reading.was c.read_steps.ensures c.in_err-reading-2.was)
+
+pub check_end-requires : goal.check_end-requires
+check_end-requires c = end-asked c.requires c.read_past.ensures c.in_ok-reading.was c.read_steps.ensures c.in_ok-reading-2.was
+
+pub returns-in_err-reading-3 : goal.returns-in_err-reading-3
+returns-in_err-reading-3 c = rw (passed_on _ _ c.from_residual-in_err-reading-3.ensures.1) (end-stop c.requires c.read_past.ensures c.in_ok-reading.was c.read_steps.ensures c.in_ok-reading-2.was c.check_end.ensures c.in_err-reading-3.was)
+
+pub check_past-requires : goal.check_past-requires
+check_past-requires c = past-asked c.requires c.read_past.ensures c.in_ok-reading.was c.read_steps.ensures c.in_ok-reading-2.was c.check_end.ensures c.in_ok-reading-3.was
+
+pub returns : goal.returns
+returns c = timeline-judged c.requires c.read_past.ensures c.in_ok-reading.was c.read_steps.ensures c.in_ok-reading-2.was c.check_end.ensures c.in_ok-reading-3.was c.check_past.ensures
