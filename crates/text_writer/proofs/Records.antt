@@ -75,7 +75,7 @@ module _ (letter : ℕ) (tab : letter ≢ 9) (feed : letter ≢ 10) where
   -- n records
   pub records-back : (n : ℕ) (f : ℕ → List ℕ) (rest : List ℕ) → ((i : ℕ) → i < n → Small (f i))
       → lines (record_texts letter n f ++ rest) ≡ record_lines letter n f ++ lines rest
-  unfolding record_texts record_lines list
+  unfolding record_texts record_lines
   records-back zero f rest s = refl
   records-back (suc n) f rest s =
       ap lines (append_assoc (record_texts letter n f) (record_text letter (f n)) rest)
@@ -89,13 +89,16 @@ module _ (letter : ℕ) (tab : letter ≢ 9) (feed : letter ≢ 10) where
 
 -- ---- what the lines of written records say
 module _ (letter : ℕ) where
+  lines_list : (n : ℕ) (f : ℕ → List ℕ) → record_lines letter n f ≡ list n (λ i. record_line letter (f i))
+  unfolding record_lines list
+  lines_list zero f = refl
+  lines_list (suc n) f = ap (λ (x : List Line). x ++ (record_line letter (f n) ∷ [])) (lines_list n f)
+
   pub lines-count : (n : ℕ) (f : ℕ → List ℕ) → length (record_lines letter n f) ≡ n
-  unfolding record_lines
-  lines-count n f = length-list (λ i. record_line letter (f i)) n
+  lines-count n f = ap length (lines_list n f) ∙ length-list (λ i. record_line letter (f i)) n
 
   lines_at : (n : ℕ) (f : ℕ → List ℕ) (i : ℕ) → i < n → get_or (record_lines letter n f) i no_line ≡ record_line letter (f i)
-  unfolding record_lines
-  lines_at n f i h = get-list (λ i. record_line letter (f i)) no_line n i h
+  lines_at n f i h = rw lines_list (get-list (λ i. record_line letter (f i)) no_line n i h)
 
 number-back : (ns : List ℕ) (k : ℕ) → number_of (get_or (map Some ns) k None) ≡ get_or ns k 0
 unfolding number_of

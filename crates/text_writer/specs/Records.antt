@@ -1,7 +1,6 @@
 -- Records as they are written, and the lines that they are.
 use Rattle.std.specs.Prelude.{ℕ, zero, suc, ◌+◌, ◌/◌, ◌%◌, true, cond, List, [], ◌∷◌, ◌++◌, map, ltb, Some}
 use Rattle.std.specs.List.{flat_map}
-use Rattle.base_laws.specs.Indexed.{list}
 use Rattle.text_reader.specs.Lines.{Line}
 
 -- a number in decimal without leading zeros, of at most d + 1 digits
@@ -30,4 +29,5 @@ unfoldable pub record_line : ℕ → List ℕ → Line
 record_line letter ns = record { letter = letter; fields = map Some ns; ended = true }
 
 unfoldable pub record_lines : ℕ → ℕ → (ℕ → List ℕ) → List Line
-record_lines letter n f = list n (λ i. record_line letter (f i))
+record_lines letter zero f = []
+record_lines letter (suc n) f = record_lines letter n f ++ (record_line letter (f n) ∷ [])
