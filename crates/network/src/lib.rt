@@ -11,8 +11,7 @@ ghost use Rattle.model.specs.Guarantees.{NetworkPromises};
 ghost use Rattle.network_tables.specs.Tables.{Judged};
 ghost use Rattle.network_signals.specs.Stages.{SignalsHeld};
 ghost use Rattle.network.specs.Loading.{first_checks, FirstAsked, end_checks, EndAsked, timeline_checks, TimelineAsked, TimelineHeld, Rooms, SignalRooms, Loaded, LoadedWithSignals};
-ghost use Rattle.network_tables.specs.Places.{Few};
-ghost use Rattle.network.specs.Counting.{counted_answer, count_network, CountPromises};
+ghost use Rattle.network.specs.Counting.{count_network, CountPromises};
 
 use base_search::Refusal;
 use network_tables::{
@@ -109,43 +108,12 @@ pub fn check_network(text: &[u8]) -> Result<(), Refusal>
     let mut links = [0u32; LINK_TABLE_SIZE];
     let mut movements = [0u32; MOVEMENT_TABLE_SIZE];
     let mut times = [0u32; TIME_TABLE_SIZE];
-    match load_network(text, &mut links, &mut movements, &mut times) {
-        Ok(_) => Ok(()),
-        Err(refusal) => Err(refusal),
-    }
+    load_network(text, &mut links, &mut movements, &mut times)?;
+    Ok(())
 }
 
-// How many links, signals, movements, steps, tram lines and past steps; or the network's refusal.
-#[derive(Clone, Copy)]
-pub enum CountsAnswer {
-    Counted {
-        links: u32,
-        signals: u32,
-        movements: u32,
-        steps: u32,
-        trams: u32,
-        past: u32,
-    },
-    Refused(Refusal),
-}
-
-// Counts as an answer, which they fit.
-fn counted(counts: Counts) -> CountsAnswer
-    requires { Few counts }
-    ensures { result ≡ counted_answer counts }
-{
-    CountsAnswer::Counted {
-        links: counts.links as u32,
-        signals: counts.signals as u32,
-        movements: counts.movements as u32,
-        steps: counts.steps as u32,
-        trams: counts.trams as u32,
-        past: counts.past as u32,
-    }
-}
-
-// Counts a network that is valid: refusals 1 to 6, 28 and 30.
-pub fn count_network(text: &[u8]) -> CountsAnswer
+// Counts what a valid network has: refusals 1 to 6, 28 and 30.
+pub fn count_network(text: &[u8]) -> Result<Counts, Refusal>
     ensures value { result ≡ count_network (lines text.now) }
     ensures count_promises { CountPromises result }
     ensures padding_ignored { PaddingIgnored text.now (λ padded. result ≡ count_network (lines padded)) }
@@ -153,8 +121,6 @@ pub fn count_network(text: &[u8]) -> CountsAnswer
     let mut links = [0u32; LINK_TABLE_SIZE];
     let mut movements = [0u32; MOVEMENT_TABLE_SIZE];
     let mut times = [0u32; TIME_TABLE_SIZE];
-    match load_network(text, &mut links, &mut movements, &mut times) {
-        Ok(reading) => counted(reading.counts),
-        Err(refusal) => CountsAnswer::Refused(refusal),
-    }
+    let reading = load_network(text, &mut links, &mut movements, &mut times)?;
+    Ok(reading.counts)
 }
