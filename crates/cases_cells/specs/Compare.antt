@@ -1,8 +1,9 @@
 -- When the answer and the volumes of a run are those that were stored.
-use Rattle.std.specs.Prelude.{ℕ, Bool, ◌&&◌, List}
-use Rattle.cells_call.specs.declared.CellsAnswer.{CellsAnswer}
+use Rattle.std.specs.Prelude.{ℕ, Bool, ◌&&◌, List, Result}
+use Rattle.base_search.specs.declared.Refusal.{Refusal}
+use Rattle.cells_call.specs.declared.CellsRun.{CellsRun}
 use Rattle.cases_cells.specs.declared.told.Numbers.{Numbers}
 use Rattle.cases_cells.specs.Told.{numbers_of, same_numbers, same_volumes}
 
-abbrev pub as_stored : CellsAnswer → List ℕ → Numbers → List ℕ → Bool
+abbrev pub as_stored : Result CellsRun Refusal → List ℕ → Numbers → List ℕ → Bool
 as_stored answer left stored volumes = same_numbers (numbers_of answer) stored && same_volumes left volumes

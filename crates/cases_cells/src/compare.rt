@@ -20,10 +20,9 @@ fn judge(
 ) -> bool
     ensures { result ≡ as_stored (run_cells (lines corridor.now)) (final_volumes (lines corridor.now)) stored volumes.now }
 {
-    let run = cells_call::run_cells(corridor);
-    let answer = run.answer;
-    let left = run.volumes;
+    let answer = cells_call::run_cells(corridor);
     let given = told::numbers_of(answer);
+    let left = told::volumes_of(answer);
     let same = told::is_same(given, stored) & told::are_same(&left, volumes);
     told::print_unless(rt, same, number, given, stored);
     same

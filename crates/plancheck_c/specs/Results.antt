@@ -8,8 +8,7 @@ use Rattle.plan_compare.specs.declared.Order.{Order}
 use Rattle.plan_compare.specs.declared.Order.TheVariants.{Ahead, Behind, Equal, Crossing}
 use Rattle.plan_compare.specs.declared.ComparisonAnswer.{ComparisonAnswer}
 use Rattle.plan_compare.specs.declared.ComparisonAnswer.TheVariants as comparison-answer
-use Rattle.cells_call.specs.declared.CellsAnswer.{CellsAnswer}
-use Rattle.cells_call.specs.declared.CellsAnswer.TheVariants as cells-answer
+use Rattle.cells_call.specs.declared.CellsRun.{CellsRun}
 use Rattle.plancheck_c.specs.declared.NetworkResult.{NetworkResult}
 use Rattle.plancheck_c.specs.declared.CountsResult.{CountsResult}
 use Rattle.plancheck_c.specs.declared.VersionResult.{VersionResult}
@@ -72,16 +71,17 @@ text_result (Err r) = record { number = r.number; line = r.line; item = r.item; 
 abbrev pub text_answer_of : TextResult → Result ℕ Refusal
 text_answer_of r = cond (eqb r.number 0) (Ok r.length) (Err (refusal r.number r.line r.item))
 
-abbrev pub cells_result : CellsAnswer → List ℕ → CellsResult
-cells_result (cells-answer.Ran cells flow_in flow_out) volumes =
-    record { number = 0; line = 0; item = 0; cells = cells; flow_in = flow_in; flow_out = flow_out; volumes = volumes }
-cells_result (cells-answer.Refused r) volumes =
+abbrev pub cells_result : Result CellsRun Refusal → List ℕ → CellsResult
+cells_result (Ok run) volumes =
+    record { number = 0; line = 0; item = 0; cells = run.cells; flow_in = run.flow_in; flow_out = run.flow_out; volumes = volumes }
+cells_result (Err r) volumes =
     record { number = r.number; line = r.line; item = r.item; cells = 0; flow_in = 0; flow_out = 0; volumes = volumes }
 
 -- the answer that a C caller reads off: number 0 is a corridor that was run, any other a refusal
-abbrev pub cells_answer_of : CellsResult → CellsAnswer
+abbrev pub cells_answer_of : CellsResult → Result CellsRun Refusal
 cells_answer_of r =
-    cond (eqb r.number 0) (cells-answer.Ran r.cells r.flow_in r.flow_out) (cells-answer.Refused (refusal r.number r.line r.item))
+    cond (eqb r.number 0) (Ok (record { cells = r.cells; flow_in = r.flow_in; flow_out = r.flow_out; volumes = r.volumes }))
+    (Err (refusal r.number r.line r.item))
 
 -- the number of an order, and the order that a C caller reads off
 abbrev pub order_number : Order → ℕ

@@ -31,7 +31,6 @@ ghost use Rattle.model_split.specs.Splits.{SplitInTwo, room_of};
 ghost use Rattle.split.specs.Splitting.{texts, buffers, SplitGot};
 ghost use Rattle.plancheck_c.specs.Results.{NumberTells, verdict_result, verdict_of, counts_result, version, plan_result, plan_answer_of, link_result, text_result, text_answer_of, order_number, comparison_result, comparison_answer_of, split_result, split_answer_of, cells_result, cells_answer_of};
 
-use cells_call::CellsAnswer;
 use model::{LinkAnswer, LinkState, Totals};
 use network::CountsAnswer;
 use plan_compare::{ComparisonAnswer, Order};
@@ -470,35 +469,31 @@ pub extern "C" fn plancheck_step_vehicles(
 #[unsafe(no_mangle)]
 pub extern "C" fn plancheck_run_cells(corridor: &[u8]) -> CellsResult
     ensures value { result ≡ cells_result (run_cells (lines corridor.now)) (final_volumes (lines corridor.now)) }
-    ensures run_keeps { RunKeeps (lines corridor.now) (cells_answer_of result) result.volumes }
+    ensures run_keeps { RunKeeps (lines corridor.now) (cells_answer_of result) }
     ensures number_tells { NumberTells (corridor_checks (lines corridor.now)) cells_numbers result.number }
     ensures padding_ignored { PaddingIgnored corridor.now (λ padded. result ≡ cells_result (run_cells (lines padded)) (final_volumes (lines padded))) }
 {
-    let run = cells_call::run_cells(corridor);
-    let answer = run.answer;
-    let volumes = run.volumes;
-    match answer {
-        CellsAnswer::Ran {
-            cells,
-            flow_in,
-            flow_out,
-        } => CellsResult {
-            number: 0,
-            line: 0,
-            item: 0,
-            cells,
-            flow_in,
-            flow_out,
-            volumes,
-        },
-        CellsAnswer::Refused(r) => CellsResult {
+    match cells_call::run_cells(corridor) {
+        Ok(run) => {
+            let volumes = run.volumes;
+            CellsResult {
+                number: 0,
+                line: 0,
+                item: 0,
+                cells: run.cells,
+                flow_in: run.flow_in,
+                flow_out: run.flow_out,
+                volumes,
+            }
+        }
+        Err(r) => CellsResult {
             number: r.number,
             line: r.line,
             item: r.item,
             cells: 0,
             flow_in: 0,
             flow_out: 0,
-            volumes,
+            volumes: [0; 64],
         },
     }
 }
