@@ -1,6 +1,5 @@
 -- The answer and the volumes of a run in the stored form.
-use Rattle.std.specs.Prelude.{ℕ, Bool, ◌&&◌, List, eqb, get_or, Result, Ok, Err}
-use Rattle.cases_files.specs.Below.{all_below}
+use Rattle.std.specs.Prelude.{ℕ, Bool, ◌&&◌, ◌==◌, List, Result, Ok, Err}
 use Rattle.base_search.specs.declared.Refusal.{Refusal}
 use Rattle.cells_call.specs.declared.CellsRun.{CellsRun}
 use Rattle.cells_call.specs.Call.{zeros}
@@ -17,15 +16,9 @@ volumes_of (Err r) = zeros 64
 
 abbrev pub same_numbers : Numbers → Numbers → Bool
 same_numbers one other =
-    eqb one.number other.number
-    && eqb one.line other.line
-    && eqb one.item other.item
-    && eqb one.cells other.cells
-    && eqb one.flow_in other.flow_in
-    && eqb one.flow_out other.flow_out
-
-abbrev pub same_volume : List ℕ → List ℕ → ℕ → Bool
-same_volume volumes stored i = eqb (get_or volumes i 0) (get_or stored i 0)
-
-unfoldable pub same_volumes : List ℕ → List ℕ → Bool
-same_volumes volumes stored = all_below (same_volume volumes stored) 64
+    one.number == other.number
+    && one.line == other.line
+    && one.item == other.item
+    && one.cells == other.cells
+    && one.flow_in == other.flow_in
+    && one.flow_out == other.flow_out

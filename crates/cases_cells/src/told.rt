@@ -1,14 +1,16 @@
 // The answer of a run in the stored form, which is described in reference/src/cases/corridor_file.rs.
 ghost use Rattle.std.specs.Prelude.{◌≡◌};
-ghost use Rattle.cases_cells.specs.Told.{numbers_of, volumes_of, same_numbers, same_volumes};
+ghost use Rattle.cases_cells.specs.Told.{numbers_of, volumes_of};
 
 use base_search::Refusal;
-use cases_files::numbers::{long_number_at, number_at};
-use cases_files::tally;
+use cases_files::reading::{Malformed, read_u32, read_u64};
 use cells_call::CellsRun;
+use std::fmt;
+use std::fmt::Display;
+use std::io::Read;
 
 // Number, line and item of a refusal, or number of cells, flow in and flow out; 0 where there is none.
-#[derive(Clone, Copy)]
+#[derive(Clone, Copy, PartialEq)]
 pub struct Numbers {
     pub number: u32,
     pub line: u32,
@@ -16,6 +18,14 @@ pub struct Numbers {
     pub cells: u32,
     pub flow_in: u64,
     pub flow_out: u64,
+}
+
+// Each number behind a tab.
+impl Display for Numbers {
+    fn fmt<W: fmt::Write>(&self, f: &mut fmt::Formatter<W>) -> fmt::Result {
+        write!(f, "\t{}\t{}\t{}", self.number, self.line, self.item)?;
+        write!(f, "\t{}\t{}\t{}", self.cells, self.flow_in, self.flow_out)
+    }
 }
 
 // The numbers of what the library answers.
@@ -52,60 +62,14 @@ pub fn volumes_of(answer: Result<CellsRun, Refusal>) -> [u32; 64]
     }
 }
 
-// The numbers that were stored, of the 32 bytes behind the text of a case.
-pub fn numbers_told(head: &[u8; 32]) -> Numbers {
-    Numbers {
-        number: number_at(head, 0),
-        line: number_at(head, 4),
-        item: number_at(head, 8),
-        cells: number_at(head, 12),
-        flow_in: long_number_at(head, 16),
-        flow_out: long_number_at(head, 24),
-    }
-}
-
-pub fn is_same(one: Numbers, other: Numbers) -> bool
-    ensures { result ≡ same_numbers one other }
-{
-    (one.number == other.number)
-        & (one.line == other.line)
-        & (one.item == other.item)
-        & (one.cells == other.cells)
-        & (one.flow_in == other.flow_in)
-        & (one.flow_out == other.flow_out)
-}
-
-// Whether every volume is the one that was stored.
-pub fn are_same(volumes: &[u32; 64], stored: &[u32; 64]) -> bool
-    ensures { result ≡ same_volumes volumes.now stored.now }
-{
-    let mut same = true;
-    let mut i = 0;
-    while i < 64 {
-        same = same & (volumes[i] == stored[i]);
-        i += 1;
-    }
-    same
-}
-
-fn print_numbers(rt: &impl Print, numbers: Numbers) {
-    tally::print_three(
-        rt,
-        numbers.number as u64,
-        numbers.line as u64,
-        numbers.item as u64,
-    );
-    tally::print_three(rt, numbers.cells as u64, numbers.flow_in, numbers.flow_out);
-}
-
-// A case that differs, by its number from 0: what the library gave, and what was stored, without the volumes.
-pub fn print_unless(rt: &impl Print, same: bool, number: u32, given: Numbers, stored: Numbers) {
-    if same {
-        return;
-    }
-    tally::print_given(rt, number);
-    print_numbers(rt, given);
-    tally::print_stored(rt);
-    print_numbers(rt, stored);
-    tally::print(rt, "\n");
+// The numbers that were stored.
+pub fn read_numbers(file: &mut impl Read) -> Result<Numbers, Malformed> {
+    Ok(Numbers {
+        number: read_u32(file)?,
+        line: read_u32(file)?,
+        item: read_u32(file)?,
+        cells: read_u32(file)?,
+        flow_in: read_u64(file)?,
+        flow_out: read_u64(file)?,
+    })
 }

@@ -1,56 +1,64 @@
-// What a file of stored cases begins and ends with.
-use crate::numbers::{long_number_at, number_at};
-use crate::reading::read_whole;
-use crate::tally::{print, print_count};
+// Runs the cases of a file.
+use crate::reading::{Malformed, read_array, read_u32};
+use crate::tally::add_one;
+use std::fs::File;
 use std::io::Read;
+use std::rt::Files;
 
-// How many cases the file says that it has; 0 where what it begins with is malformed.
+// What the files of a program begin with: a mark, the version of their form, and how many numbers are passed over behind the number of cases.
 #[derive(Clone, Copy)]
-pub struct Header {
-    pub is_valid: bool,
-    pub count: u32,
+pub struct Form {
+    pub mark: [u8; 8],
+    pub version: u32,
+    pub passed_over: u32,
 }
 
-// Reads what a file begins with: its mark, the version of its form, and how many cases follow.
-pub fn read_header(file: &mut impl Read, mark: u64, version: u32) -> Header {
-    let mut bytes = [0u8; 16];
-    let is_read = read_whole(file, &mut bytes);
-    if is_read & (long_number_at(&bytes, 0) == mark) & (number_at(&bytes, 8) == version) {
-        return Header {
-            is_valid: true,
-            count: number_at(&bytes, 12),
-        };
-    }
-    Header {
-        is_valid: false,
-        count: 0,
-    }
-}
-
-// Whether the file has no byte more.
-fn is_at_end(file: &mut impl Read) -> bool {
-    let mut bytes = [0u8; 1];
-    !read_whole(file, &mut bytes)
-}
-
-// Prints the name of a file that can't be opened or read, or is malformed.
-pub fn print_malformed(rt: &impl Print, path: &str) {
-    print(rt, path);
-    print(rt, " can't be read, or is malformed\n");
-}
-
-// Closes a file, and prints its name and how many cases it has; that it is malformed where a case was not read or bytes are left.
-pub fn finish(
-    rt: &impl Print,
+// Runs each case of a file, by its number from 0, and counts it at the place that it gives. Prints the file's name and how many cases it has; that it is
+// malformed where a case is, or where bytes are left. Nothing is done about an output that takes no more.
+pub fn run_file<R: Files + Print, F: FnMut(&mut R::File, u32) -> Result<usize, Malformed>>(
+    rt: &R,
     path: &str,
-    mut file: impl Read + Drop,
-    header: Header,
-    is_read: bool,
-) {
-    let is_whole = is_at_end(&mut file);
-    if header.is_valid & is_read & is_whole {
-        print_count(rt, path, header.count as u64);
-    } else {
-        print_malformed(rt, path);
+    form: Form,
+    counts: &mut [u64],
+    run_case: F,
+)
+    requires { F.IsAlwaysCallable run_case }
+{
+    let _ = match run_cases(rt, path, form, counts, run_case) {
+        Ok(count) => println!(rt; "{path}\t{count}"),
+        Err(_) => println!(rt; "{path} can't be read, or is malformed"),
+    };
+}
+
+// Runs and counts each case of a file: how many there are.
+fn run_cases<R: Files, F: FnMut(&mut R::File, u32) -> Result<usize, Malformed>>(
+    files: &R,
+    path: &str,
+    form: Form,
+    counts: &mut [u64],
+    mut run_case: F,
+) -> Result<u32, Malformed>
+    requires { F.IsAlwaysCallable run_case }
+{
+    let mut file = File::open(files, path)?;
+    let count = read_header(&mut file, form)?;
+    for number in 0..count {
+        add_one(counts, run_case(&mut file, number)?);
     }
+    if read_array::<_, 1>(&mut file).is_ok() {
+        return Err(Malformed);
+    }
+    Ok(count)
+}
+
+// Reads what a file begins with: how many cases follow.
+fn read_header(file: &mut impl Read, form: Form) -> Result<u32, Malformed> {
+    if read_array(file)? != form.mark || read_u32(file)? != form.version {
+        return Err(Malformed);
+    }
+    let count = read_u32(file)?;
+    for _ in 0..form.passed_over {
+        read_u32(file)?;
+    }
+    Ok(count)
 }

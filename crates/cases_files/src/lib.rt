@@ -1,8 +1,8 @@
-// Files of stored cases: their numbers and texts, how many cases there are, and what is counted and printed of them.
+// Files of stored cases: how they are read and run, and how their answers are compared, counted and printed.
 #![tactic(auto)]
 
+pub mod agreement;
 pub mod files;
-pub mod numbers;
 pub mod reading;
 pub mod refusals;
 pub mod tally;

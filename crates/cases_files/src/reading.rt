@@ -1,72 +1,64 @@
-// Reads the parts that the stored forms have in common.
-ghost use Rattle.std.specs.Prelude.{◌≡◌, true, length};
+// Reads the parts that the stored forms have in common: numbers, the lowest byte first, and texts.
+ghost use Rattle.std.specs.Prelude.{◌++◌, length, IfOk};
+ghost use Rattle.std.specs.Int.{w32, w64, to_le_bytes};
 ghost use Rattle.std.specs.Io.KnownBytes.{Consumes};
-ghost use Rattle.cases_files.specs.Counts.{Counts};
 
-use crate::numbers::number_at;
+use std::io;
 use std::io::Read;
 
-// For the length of a text, or of given numbers: the same ones as in the case before.
-pub const SAME: u32 = 4294967295;
+// A file that ends too early, can't be read, or breaks its form.
+#[derive(Clone, Copy, Debug)]
+pub struct Malformed;
 
-// A length that no buffer has: nothing was read, as the file is malformed, or no case came before.
-pub const NOTHING: usize = 4294967295;
+impl From<io::Error> for Malformed {
+    fn from(_error: io::Error) -> Malformed {
+        Malformed
+    }
+}
 
-// A length, or that of the text where it is more.
-pub fn within(size: usize, text: &[u8]) -> usize
-    ensures { Counts result text.now }
+// The next bytes, as many as the array has.
+pub fn read_array<R: Read, const N: usize>(file: &mut R) -> Result<[u8; N], Malformed>
+    ensures { IfOk result (λ bytes. Consumes (R.remaining file.old) (R.remaining file.new) bytes) }
 {
-    if text.len() < size { text.len() } else { size }
+    let mut bytes = [0; N];
+    file.read_exact(&mut bytes)?;
+    Ok(bytes)
 }
 
-// The same for numbers.
-pub fn numbers_within(size: usize, numbers: &[u32]) -> usize
-    ensures { Counts result numbers.now }
+// A number of four bytes.
+pub fn read_u32<R: Read>(file: &mut R) -> Result<u32, Malformed>
+    ensures { IfOk result (λ n. Consumes (R.remaining file.old) (R.remaining file.new) (to_le_bytes w32 n)) }
 {
-    if numbers.len() < size {
-        numbers.len()
-    } else {
-        size
-    }
+    Ok(u32::from_le_bytes(read_array(file)?))
 }
 
-// Fills a buffer from the file; false where the file ends before or can't be read.
-pub fn read_whole<R: Read>(file: &mut R, buffer: &mut [u8]) -> bool
-    ensures { result ≡ true → Consumes (R.remaining file.old) (R.remaining file.new) buffer.new }
+// A number of eight bytes.
+pub fn read_u64<R: Read>(file: &mut R) -> Result<u64, Malformed>
+    ensures { IfOk result (λ n. Consumes (R.remaining file.old) (R.remaining file.new) (to_le_bytes w64 n)) }
 {
-    file.read_exact(buffer).is_ok()
+    Ok(u64::from_le_bytes(read_array(file)?))
 }
 
-// Fills a slice with numbers from the file; false where the file ends before or can't be read.
-pub fn read_numbers(file: &mut impl Read, numbers: &mut [u32]) -> bool {
-    let mut i = 0;
-    while i < numbers.len() {
-        let mut bytes = [0u8; 4];
-        if !read_whole(file, &mut bytes) {
-            return false;
-        }
-        numbers[i] = number_at(&bytes, 0);
-        i += 1;
+// Fills a slice from the file, an item at a time.
+pub fn read_each<R: Read, T: Drop, F: Fn(&mut R) -> Result<T, Malformed>>(
+    file: &mut R,
+    items: &mut [T],
+    read_item: F,
+) -> Result<(), Malformed>
+    requires { F.IsAlwaysCallable read_item }
+{
+    for item in items {
+        *item = read_item(file)?;
     }
-    true
+    Ok(())
 }
 
-// Reads a text of a case, or goes on with that of the case before: the text's length.
-pub fn read_text(file: &mut impl Read, text: &mut [u8], before: usize) -> usize {
-    let mut bytes = [0u8; 4];
-    if !read_whole(file, &mut bytes) {
-        return NOTHING;
-    }
-    let given = number_at(&bytes, 0);
-    if given == SAME {
-        return before;
-    }
-    if text.len() < given as usize {
-        return NOTHING;
-    }
-    let size = within(given as usize, text);
-    if !read_whole(file, &mut text[..size]) {
-        return NOTHING;
-    }
-    size
+// A text behind its length, read to the start of a room that must be large enough.
+pub fn read_text<'a, R: Read>(file: &mut R, room: &'a mut [u8]) -> Result<&'a [u8], Malformed>
+    ensures { IfOk result (λ text. Consumes (R.remaining file.old) (R.remaining file.new) (to_le_bytes w32 (length text.now) ++ text.now)) }
+{
+    let size = read_u32(file)? as usize;
+    let text = room.get_mut(..size).ok_or(Malformed)?;
+    file.read_exact(text)?;
+    Ok(text)
 }

@@ -1,64 +1,59 @@
-// Refusals: as they are stored, compared, counted and printed.
-ghost use Rattle.std.specs.Prelude.{◌≡◌, ◌+◌, ◌≤◌, length};
-ghost use Rattle.cases_files.specs.Refusals.{same_refusal};
+// Refusals: as they are stored and compared.
+ghost use Rattle.std.specs.Prelude.{◌≡◌, ◌&&◌, ◌++◌, IfOk};
+ghost use Rattle.std.specs.Int.{w32, to_le_bytes};
+ghost use Rattle.std.specs.Io.KnownBytes.{Consumes};
+ghost use Rattle.cases_files.specs.Refusals.{refusal_of, same_refusal};
 
-use crate::numbers::number_at;
-use crate::tally;
+use crate::agreement;
+use crate::reading::{Malformed, read_u32};
 use base_search::Refusal;
+use std::fmt;
+use std::fmt::Display;
+use std::io::Read;
 
-// A refusal of twelve bytes; one of the number 0 where nothing is refused.
-pub fn refusal_at(bytes: &[u8], at: usize) -> Refusal
-    requires { at + 12 ≤ length bytes.now }
+// A refusal; one of the number 0 where nothing is refused.
+pub fn read_refusal<R: Read>(file: &mut R) -> Result<Refusal, Malformed>
+    ensures { IfOk result (λ r. Consumes (R.remaining file.old) (R.remaining file.new) (to_le_bytes w32 r.number ++ to_le_bytes w32 r.line ++ to_le_bytes w32 r.item)) }
 {
-    Refusal {
-        number: number_at(bytes, at),
-        line: number_at(bytes, at + 4),
-        item: number_at(bytes, at + 8),
-    }
+    Ok(Refusal {
+        number: read_u32(file)?,
+        line: read_u32(file)?,
+        item: read_u32(file)?,
+    })
 }
 
-pub fn is_same(one: Refusal, other: Refusal) -> bool
-    ensures { result ≡ same_refusal one other }
+// What a call answers: a refusal, or one of the number 0 where nothing is refused.
+pub fn refusal_of<T: Drop>(answer: Result<T, Refusal>) -> Refusal
+    ensures { result ≡ refusal_of answer }
 {
-    (one.number == other.number) & (one.line == other.line) & (one.item == other.item)
+    answer.err().unwrap_or(Refusal::new(0, 0, 0))
 }
 
-// Where the cases of a call that has two refusals are counted: accepted, refused with the one or the other, and those that differ.
-pub const DIFFERENT: usize = 3;
+// A refusal as it is printed, each number behind a tab.
+#[derive(Clone, Copy, PartialEq)]
+struct Columns(Refusal);
 
-pub const COUNTERS: usize = DIFFERENT + 1;
-
-// The place of the cases that gave a refusal number, 0 where nothing is refused. A third number has none.
-pub fn place_of(number: u32, one: u32, other: u32) -> usize {
-    if number == 0 {
-        return 0;
+impl Display for Columns {
+    fn fmt<W: fmt::Write>(&self, f: &mut fmt::Formatter<W>) -> fmt::Result {
+        write!(f, "\t{}\t{}\t{}", self.0.number, self.0.line, self.0.item)
     }
-    if number == one {
-        return 1;
-    }
-    if number == other {
-        return 2;
-    }
-    DIFFERENT
 }
 
-fn print_refusal(rt: &impl Print, refusal: Refusal) {
-    tally::print_three(
+// Whether the refusal is the one that was stored, and what the call left is as stored. Where not, the case is printed.
+pub fn agrees(
+    rt: &impl Print,
+    number: u32,
+    given: Refusal,
+    stored: Refusal,
+    is_left_as_stored: bool,
+) -> bool
+    ensures { result ≡ (same_refusal given stored && is_left_as_stored) }
+{
+    agreement::agrees(
         rt,
-        refusal.number as u64,
-        refusal.line as u64,
-        refusal.item as u64,
-    );
-}
-
-// A case that differs, by its number from 0: the refusal that the library gave, and the one that was stored.
-pub fn print_unless(rt: &impl Print, same: bool, number: u32, given: Refusal, stored: Refusal) {
-    if same {
-        return;
-    }
-    tally::print_given(rt, number);
-    print_refusal(rt, given);
-    tally::print_stored(rt);
-    print_refusal(rt, stored);
-    tally::print(rt, "\n");
+        number,
+        &Columns(given),
+        &Columns(stored),
+        is_left_as_stored,
+    )
 }

@@ -1,14 +1,9 @@
 -- The answer of a split and its texts in the stored form.
-use Rattle.std.specs.Prelude.{ℕ, ◌+◌, Bool, ◌&&◌, List, eqb, leb, length, get_or, Result, Ok, Err}
+use Rattle.std.specs.Prelude.{Bool, ◌&&◌, ◌==◌, nat_eq, Result, Ok, Err}
+use Rattle.std.specs.List.{starts_with}
 use Rattle.base_search.specs.declared.Refusal.{Refusal}
-use Rattle.base_search.specs.Checks.{refusal}
 use Rattle.model_split.specs.declared.Lengths.{Lengths}
-use Rattle.cases_files.specs.Below.{all_below}
-
--- a refusal, or one of the number 0 where the texts are written
-abbrev pub refusal_of : Result Lengths Refusal → Refusal
-refusal_of (Ok end) = refusal 0 0 0
-refusal_of (Err r) = r
+use Rattle.model_split.specs.Splits.{Buffers}
 
 -- how long the texts are that were written; 0 where the call is refused
 abbrev pub lengths_of : Result Lengths Refusal → Lengths
@@ -17,15 +12,15 @@ lengths_of (Err r) = record { network_1 = 0; plan_1 = 0; network_2 = 0; plan_2 =
 
 abbrev pub same_lengths : Lengths → Lengths → Bool
 same_lengths one other =
-    eqb one.network_1 other.network_1
-    && eqb one.plan_1 other.plan_1
-    && eqb one.network_2 other.network_2
-    && eqb one.plan_2 other.plan_2
+    one.network_1 == other.network_1
+    && one.plan_1 == other.plan_1
+    && one.network_2 == other.network_2
+    && one.plan_2 == other.plan_2
 
--- byte i of a buffer is what was stored of it, from a place on
-abbrev pub holds_at : List ℕ → List ℕ → ℕ → ℕ → Bool
-holds_at buffer told from i = eqb (get_or buffer i 0) (get_or told (from + i) 0)
-
--- every byte of a buffer of at most one room is such
-unfoldable pub holds_from : List ℕ → List ℕ → ℕ → Bool
-holds_from buffer told from = leb (length buffer) 8192 && all_below (holds_at buffer told from) (length buffer)
+-- each buffer is the start of a room of 8,192 bytes that holds what was stored of it
+abbrev pub left_as_told : Buffers → Buffers → Bool
+left_as_told left told =
+    starts_with nat_eq told.network₁ left.network₁
+    && starts_with nat_eq told.plan₁ left.plan₁
+    && starts_with nat_eq told.network₂ left.network₂
+    && starts_with nat_eq told.plan₂ left.plan₂

@@ -4,29 +4,23 @@
 #![tactic(auto)]
 
 mod compare;
-mod counts;
 mod told;
 
-use crate::counts::COUNTERS;
-use cases_files::files;
-use std::fs::File;
-use std::rt::Files;
+use cases_files::files::Form;
+use cases_files::{files, tally};
 
-// Compares the cases of a file, and prints how many it has.
-fn compare_file(rt: &(impl Files + Print), path: &str, counts: &mut [u64; COUNTERS]) {
-    let Ok(mut file) = File::open(rt, path) else {
-        files::print_malformed(rt, path);
-        return;
-    };
-    // "HALFCASE", version 1
-    let header = files::read_header(&mut file, 4995408168882028872, 1);
-    let is_read = compare::run_cases(rt, &mut file, header.count, counts);
-    files::finish(rt, path, file, header, is_read);
-}
+const FORM: Form = Form {
+    mark: *b"HALFCASE",
+    version: 1,
+    passed_over: 0,
+};
 
 fn main(rt: HostRuntime) {
-    let mut counts = [0u64; COUNTERS];
-    compare_file(&rt, "cases.bin", &mut counts);
-    compare_file(&rt, "wrong_answer.bin", &mut counts);
-    counts::print_counts(&rt, &counts);
+    let mut counts = [0; 7];
+    for path in ["cases.bin", "wrong_answer.bin"] {
+        files::run_file(&rt, path, FORM, &mut counts, |file, number| {
+            compare::run_case(&rt, file, number)
+        });
+    }
+    tally::print_counts(&rt, &compare::PLACES, &counts);
 }

@@ -1,11 +1,9 @@
--- A NaN and its bits, and values that are the same.
+-- A NaN and its bits.
 use Rattle.base_laws.proofs.Kit.{ℕ, ◌%◌, ◌≤◌, ◌≡◌, refl, sym, ◌∙◌, Bool, true, false, not, List, arith, T, length, le-ltb, eq-eqb, ne_eqb}
 use lib.Ieee.{Float, nan, inf, fin, binary64, is_nan, nan_bits, to_bits, le}
 use lib.Ieee.Bits.{nan_bits_above}
 use Rattle.base_laws.proofs.Bools.{no_truth}
 use Rattle.base_floats.proofs.Order.{float-le-refl}
-use Rattle.cases_files.specs.Below.{all_below}
-use Rattle.cases_traces.specs.Values.{same_at, same_values}
 
 is-nan : (x : Float) → is_nan x ≡ true → x ≡ nan
 unfolding is_nan
@@ -31,14 +29,3 @@ nan-by x false e l = no_truth (sym l ∙ float-le-refl x e)
 pub bits_of_nan : (x : Float) → le x x ≡ false → 9_221_120_237_041_090_560 ≡ to_bits binary64 x
 unfolding to_bits
 bits_of_nan x l = rw (nan-by x _ refl l)
-
-module _ (values told : List Float) where
-  pub other_length : (length values ≡ length told → ⊥) → false ≡ same_values values told
-  unfolding same_values
-  other_length n = rw (ne_eqb _ _ n)
-
-  pub same-all : (n : ℕ) {same : Bool} → length values ≡ length told → n ≤ length values → length values ≤ n → same ≡ all_below (same_at values told) n → same ≡ same_values values told
-  unfolding same_values
-  same-all n m h l s =
-      let e : n ≡ length values = omega arith in
-      rw (eq-eqb _ _ m) (rw e at s)

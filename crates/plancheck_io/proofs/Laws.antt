@@ -1,11 +1,23 @@
 -- One part after another is what a file had next.
-use Rattle.base_laws.proofs.Kit.{◌∙◌, ℕ, ◌+◌, ◌≡◌, ap, sym, subst, List, ◌++◌, take, drop}
-use Rattle.std.specs.declared.option.Option.{Option}
-use Rattle.std.specs.Io.KnownBytes.{Consumes}
+use Rattle.base_laws.proofs.Kit.{◌∙◌, ℕ, ◌+◌, ◌≤◌, ◌≡◌, ap, sym, subst, List, ◌++◌, length, take, length-take-le}
+use Rattle.std.proofs.Common.{Option, Some, Result, Ok, Err}
+use Rattle.std.specs.Result.{result_ok}
+use Rattle.std.specs.Io.{ReadsAtMost}
+use Rattle.std.specs.Io.KnownBytes.{Consumes, ReadConsumes}
 use Rattle.std.proofs.KnownBytes.{Consumes-trans}
-use Rattle.std.proofs.Math.Seq.{take-add}
+use lib.Seq.{take-append-le, take-append-add}
+use borrow.Rule.Slice.PartMut.{put_mid}
 
-pub came-more : (a b c : Option (List ℕ)) (old new : List ℕ) (done n : ℕ) → Consumes a b (take done old) → take done new ≡ take done old → Consumes b c (take n (drop done new))
-    → Consumes a c (take (done + n) new)
-came-more a b c old new done n before front more =
-    subst (Consumes a c) (ap (λ l. l ++ take n (drop done new)) (sym front) ∙ sym (take-add done n new)) (Consumes-trans a b c _ _ before more)
+took-more : (old part : List ℕ) (done k n : ℕ) → done ≤ length old → n ≤ length part → take done old ++ take n part ≡ take (done + n) (put_mid done k old part)
+took-more old part done k n h m =
+    sym (ap (λ l. take done old ++ l) (take-append-le n part _ m)) ∙ sym (take-append-add (take done old) _ n)
+    ∙ ap (λ l. take (l + n) (put_mid done k old part)) (length-take-le done old h)
+
+-- what a read into the rest of a buffer gave, behind what came before
+pub came-more :
+    {E : Type 0} (a b c : Option (List ℕ)) (old part : List ℕ) (done k : ℕ) (read : Result ℕ E) {n : ℕ} → done ≤ length old → result_ok read ≡ Some n
+    → ReadsAtMost read part → Consumes a b (take done old) → ReadConsumes b c read part → Consumes a c (take (done + n) (put_mid done k old part))
+came-more a b c old part done k (Err e) h r fits before more = cc
+came-more a b c old part done k (Ok m) {n} h r fits before more =
+    let e : m ≡ n = cc in
+    rw (← e) (subst (Consumes a c) (took-more old part done k m h fits.0) (Consumes-trans a b c _ _ before more.0))

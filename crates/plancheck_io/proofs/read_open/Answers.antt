@@ -1,9 +1,13 @@
 use Rattle.std.proofs.Common.{rules}
+use Rattle.base_laws.proofs.Kit.{sym, ◌∙◌}
 use Rattle.plancheck_io.proofs.Laws.{came-more}
 use Rattle.plancheck_io.proofs.read_open.Goals as goal
 
 pub loop-done-preserved : goal.loop-done-preserved
 loop-done-preserved g c =
     let before = c.loop-done.invariant in
-    let part = c.in-Came.ensures in
-    record { kept = search rules; fits = search rules; came = came-more _ _ _ _ _ _ _ before.came part.front part.came.0 }
+    record {
+      kept = search rules;
+      fits = search rules;
+      came = came-more _ _ _ _ _ _ _ _ before.fits (sym c.ok.ensures.value ∙ c.in_ok-count.was) c.read.ensures.bound before.came c.read.ensures.bytes;
+    }

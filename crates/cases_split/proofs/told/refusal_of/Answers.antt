@@ -1,8 +1,0 @@
--- `cases_split::told::refusal_of` meets its contract.
-use Rattle.cases_split.proofs.told.refusal_of.Goals as goal
-
-pub returns-in-Ok : goal.returns-in-Ok
-returns-in-Ok c = cc
-
-pub returns-in-Err : goal.returns-in-Err
-returns-in-Err c = cc
