@@ -176,17 +176,10 @@ module _ {network_text plan_text : List ℕ} {counts : Counts} {table links move
 
     module _ {result : (Option ℕ)} {line : List ℕ} (read : LineGot plan_text state.plan_at signals counts line₀ result line) where
       -- the line has not the form of a `P` line
-      pub step-malformed : result ≡ None → StepGot network_text plan_text ledger state (record { verdict = Err (refusal 9 (n + 1) 0); state = state }) signals arrivals curves places waiting ledger step line
+      pub step-malformed : result ≡ None → StepGot network_text plan_text ledger state (Err (refusal 9 (n + 1) 0)) signals arrivals curves places waiting ledger step line
       step-malformed e =
           let v = line-malformed net pln n (line-bad network_text plan_text valid counted asked.more asked.state-at.plan-starts (shown-at network_text plan_text valid asked.more asked.state-at.signals-at) asked.lent.no-volume asked.lent.line-size read e) in
-          record {
-            told = rw (add-one n) (sym v);
-            kept = λ r q. refl;
-            boundary = λ p. let z : ◌≡◌ {A = ℕ} 0 1 = cc in absurd (omega arith);
-            lent = λ p. let z : ◌≡◌ {A = ℕ} 0 1 = cc in absurd (omega arith);
-            reached = λ p. let z : ◌≡◌ {A = ℕ} 0 1 = cc in absurd (omega arith);
-            row_more = λ p. let z : ◌≡◌ {A = ℕ} 0 1 = cc in absurd (omega arith);
-          }
+          record { outcome = record { told = rw (add-one n) v; kept = refl } }
 
       module _ {plan_end : ℕ} (e : result ≡ Some plan_end) where
         plan-numbers : PlanNumbers net pln n line
@@ -286,16 +279,8 @@ module _ {network_text plan_text : List ℕ} {counts : Counts} {table links move
                     ∙ rules-are asked.tables.holds counted plan-numbers asked.tables.link-table asked.tables.movement-table asked.state-at.signals-at shown claimed offers before after ledger asked.state-at.rows asked.tables.time-table arrivals-at moved.curves-at asked.more
                     ∙ sym (line-formed net pln n is-formed)
 
-                pub step-refused : {r : Refusal} → v ≡ Err r → StepGot network_text plan_text ledger state (record { verdict = v; state = state }) signals arrivals' curves' places' waiting ledger step line
-                step-refused q =
-                    record {
-                      told = line-judged;
-                      kept = λ r p. refl;
-                      boundary = λ p. let z : ◌≡◌ {A = ℕ} 0 1 = cc in absurd (omega arith);
-                      lent = λ p. let z : ◌≡◌ {A = ℕ} 0 1 = cc in absurd (omega arith);
-                      reached = λ p. let z : ◌≡◌ {A = ℕ} 0 1 = cc in absurd (omega arith);
-                      row_more = λ p. let z : ◌≡◌ {A = ℕ} 0 1 = cc in absurd (omega arith);
-                    }
+                pub step-refused : {r : Refusal} → v ≡ Err r → StepGot network_text plan_text ledger state (Err r) signals arrivals' curves' places' waiting ledger step line
+                step-refused q = record { outcome = record { told = sym line-judged ∙ q; kept = refl } }
 
                 module _ (passes : v ≡ Ok tt) (same : length row' ≡ length row) where
                   made : row' ≡ made_row counts line movements (row_from counts ledger n) row
@@ -390,13 +375,5 @@ module _ {network_text plan_text : List ℕ} {counts : Counts} {table links move
                           no-volume = λ empty k l. (read.held empty).kept k (omega (arith, counted.signals)) ∙ asked.lent.no-volume empty k l;
                         }
 
-                    pub step_kept : StepGot network_text plan_text ledger state (record { verdict = v; state = next }) signals' arrivals' curves' places' waiting' ledger' step line
-                    step_kept =
-                        record {
-                          told = line-judged;
-                          kept = λ r q. let z : ◌≡◌ {A = ℕ} 0 1 = cc in absurd (omega arith);
-                          boundary = λ p. on.boundary;
-                          reached = λ p. state-next;
-                          lent = λ p. lent-next;
-                          row_more = λ p. rows_written;
-                        }
+                    pub step-passed : StepGot network_text plan_text ledger state (Ok next) signals' arrivals' curves' places' waiting' ledger' step line
+                    step-passed = record { outcome = record { told = passed-line; boundary = on.boundary; reached = state-next; lent = lent-next; row_more = rows_written } }
