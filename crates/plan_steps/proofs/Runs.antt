@@ -123,9 +123,6 @@ module _ {network_text plan_text : List ℕ} {reading : Reading} {steps : ℕ} {
         rooms = record { curve-size = c; place-size = p };
       }
 
-  pub first-waiting-asked : FirstAsked links reading.counts.links waiting₀
-  first-waiting-asked = record { few = a.tables.counted.few.links; link-size = a.tables.link-table.size; size = a.waiting-size }
-
   module _ {ledger arrivals curves places : List ℕ} {fit : Bool} (loaded : PastLoaded network_text reading.counts old fit ledger arrivals curves places) where
     -- every number of row 0 fits 32 bits
     fits : fit ≡ true
@@ -170,15 +167,9 @@ module _ {network_text plan_text : List ℕ} {reading : Reading} {steps : ℕ} {
             };
           }
 
-    pub held-asked : (reading.counts.links ≤ max_links) × (2 * reading.counts.links ≤ length ledger)
-    held-asked = (a.tables.counted.few.links, omega (arith, a.tables.counted.links, loaded.size, start-room))
-
     module _ {waiting : List ℕ} (waits : FirstWaits links reading.counts.links waiting) where
       waiting-start : WaitingTable netw plnn 0 waiting
       waiting-start = waiting-first plnn a.tables.link-table (rw a.tables.counted.links at waits)
-
-      pub sum-asked : (reading.counts.links ≤ max_links) × (0 + reading.counts.links ≤ length waiting)
-      sum-asked = (a.tables.counted.few.links, omega (arith, waits.size, a.tables.counted.few.links))
 
       pub running-first : (held : ℕ) → held ≡ held_in reading.counts ledger → (out : ℕ) → out ≡ sum reading.counts.links (λ i. get_or waiting (0 + i) 0) → (signals : List ℕ) → SignalTable netw signals
           → {trams : List ℕ} → TramTable netw trams → Running network_text plan_text reading.counts steps 0 trams links movements times ledger

@@ -126,11 +126,8 @@ module _ {network_text plan_text : List ℕ} {counts : Counts} {table links move
   valid : ValidNetwork net
   valid = valid-network net asked.tables.holds
 
-  pub step-few : n < max_steps
+  step-few : n < max_steps
   step-few = omega (arith, asked.more, counted.steps, counted.few.steps)
-
-  pub line-asked : LineAsked signals counts line₀
-  line-asked = record { few = counted.few; signals-size = asked.state-at.signals-at.size; ready = λ r l. asked.state-at.signals-at.ready r (omega (arith, counted.signals)); size = asked.lent.line-size }
 
   pub load-asked : LoadAsked network_text state.step_at counts.links step₀
   load-asked = load-ready network_text state.step_at n counts.links asked.state-at.step-starts counted.links (step-form net asked.tables.holds n asked.more) counted.few.links asked.lent.step-size
@@ -138,13 +135,10 @@ module _ {network_text plan_text : List ℕ} {counts : Counts} {table links move
   pub tram-asked : ClaimsAsked table counts.trams n (replicate max_signals 0)
   tram-asked = claims-ready asked.tram-table counted valid.trams step-few (length-replicate {A = ℕ} max_signals 0) (λ r l. get_or-replicate {A = ℕ} max_signals r 0 0 l)
 
-  pub place-small : 2 * (n + 1) * counts.links ≤ 5760
-  place-small = let m : 2 * (n + 1) ≤ 240 = omega (arith, step-few) in omega (arith, mul-le-mul_right counts.links m, counted.few.links)
-
   room_after : 2 * suc (suc n) * link_count net ≤ length ledger
   room_after = asked.room
 
-  pub room-before : 2 * n * counts.links ≤ length ledger
+  room-before : 2 * n * counts.links ≤ length ledger
   room-before = rw counted.links (omega (arith, room_after))
 
   row_room : 2 * link_count net ≤ length ledger - 2 * n * counts.links
@@ -288,9 +282,6 @@ module _ {network_text plan_text : List ℕ} {counts : Counts} {table links move
 
                   passed-line : verdict (line_checks net pln n) ≡ Ok tt
                   passed-line = sym line-judged ∙ passes
-
-                  pub write-asked : (2 * counts.links ≤ length row') × (2 * (n + 1) * counts.links + 2 * counts.links ≤ length ledger)
-                  write-asked = (omega (arith, same, row-size, counted.few.links), rw counted.links (omega (arith, room_after)))
 
                   lawful : LawfulStep net pln n
                   lawful = passed-lawful net pln n passed-line

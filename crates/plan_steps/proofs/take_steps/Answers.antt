@@ -1,7 +1,7 @@
 use Rattle.std.proofs.Common.{rules}
 use Rattle.base_search.proofs.Laws.{passed_on}
 use Rattle.base_laws.proofs.Kit.{refl, arith}
-use Rattle.plan_steps.proofs.Runs.{trams-asked, past-asked, first-waiting-asked, held-asked, sum-asked, running-first, stopped-since, taken-since, running-asked, steps-stopped, running-next, steps-taken}
+use Rattle.plan_steps.proofs.Runs.{trams-asked, past-asked, running-first, stopped-since, taken-since, steps-stopped, running-next, steps-taken}
 use Rattle.plan_steps.proofs.take_steps.Goals as goal
 
 pub load_trams-requires : goal.load_trams-requires
@@ -10,20 +10,8 @@ load_trams-requires c = trams-asked c.requires _ (search rules)
 pub load_past-requires : goal.load_past-requires
 load_past-requires c = past-asked c.requires _ _ _ refl (search rules) (search rules)
 
-pub first_waiting-requires : goal.first_waiting-requires
-first_waiting-requires c = first-waiting-asked c.requires
-
-pub held_in-requires : goal.held_in-requires
-held_in-requires c = held-asked c.requires c.load_past.ensures
-
-pub sum_of-requires : goal.sum_of-requires
-sum_of-requires c = sum-asked c.requires c.load_past.ensures c.first_waiting.ensures
-
 pub loop-init : goal.loop-init
 loop-init c = running-first c.requires c.load_past.ensures c.first_waiting.ensures _ c.held_in.ensures.0 _ c.sum_of.ensures.0 _ c.requires.signal-table c.load_trams.ensures
-
-pub take_step-requires : goal.take_step-requires
-take_step-requires c = running-asked c.loop.invariant c.loop-test.true
 
 pub loop-preserved : goal.loop-preserved
 loop-preserved c = running-next c.loop.invariant c.loop-test.true c.take_step.ensures c.in_ok-state.was
