@@ -6,8 +6,10 @@ use Rattle.network.specs.declared.CountsAnswer.{CountsAnswer}
 use Rattle.network.specs.declared.CountsAnswer.TheVariants as counts-answer
 use Rattle.plan_compare.specs.declared.Order.{Order}
 use Rattle.plan_compare.specs.declared.Order.TheVariants.{Ahead, Behind, Equal, Crossing}
-use Rattle.plan_compare.specs.declared.ComparisonAnswer.{ComparisonAnswer}
-use Rattle.plan_compare.specs.declared.ComparisonAnswer.TheVariants as comparison-answer
+use Rattle.plan_compare.specs.declared.Comparison.{Comparison}
+use Rattle.plan_compare.specs.declared.ComparisonRefusal.{ComparisonRefusal}
+use Rattle.plan_compare.specs.declared.ComparisonRefusal.TheVariants.{Network, First, Second}
+use Rattle.plan_compare.specs.Comparison.{plan_number, refusal_in}
 use Rattle.cells_call.specs.declared.CellsAnswer.{CellsAnswer}
 use Rattle.cells_call.specs.declared.CellsAnswer.TheVariants as cells-answer
 use Rattle.plancheck_c.specs.declared.NetworkResult.{NetworkResult}
@@ -93,15 +95,21 @@ order_number Crossing = 4
 abbrev pub order_of : ℕ → Order
 order_of number = cond (eqb number 1) Ahead (cond (eqb number 2) Behind (cond (eqb number 3) Equal Crossing))
 
-abbrev pub comparison_result : ComparisonAnswer → ComparisonResult
-comparison_result (comparison-answer.Compared order gap) = record { number = 0; line = 0; item = 0; plan = 0; order = order_number order; gap = gap }
-comparison_result (comparison-answer.Refused plan r) = record { number = r.number; line = r.line; item = r.item; plan = plan; order = 0; gap = pos 0 }
+-- the refusal of the network, 0, or of a plan, 1 or 2, that a C caller reads off
+abbrev pub refusal_of_plan : ℕ → Refusal → ComparisonRefusal
+refusal_of_plan plan r = cond (eqb plan 0) (Network r) (cond (eqb plan 1) (First r) (Second r))
+
+abbrev pub comparison_result : Result Comparison ComparisonRefusal → ComparisonResult
+comparison_result (Ok c) = record { number = 0; line = 0; item = 0; plan = 0; order = order_number c.order; gap = c.gap }
+comparison_result (Err refused) =
+    let r = refusal_in refused in
+    record { number = r.number; line = r.line; item = r.item; plan = plan_number refused; order = 0; gap = pos 0 }
 
 -- the answer that a C caller reads off: number 0 is two plans that were compared, any other a refusal
-abbrev pub comparison_answer_of : ComparisonResult → ComparisonAnswer
+abbrev pub comparison_answer_of : ComparisonResult → Result Comparison ComparisonRefusal
 comparison_answer_of r =
-    cond (eqb r.number 0) (comparison-answer.Compared (order_of r.order) r.gap)
-    (comparison-answer.Refused r.plan (refusal r.number r.line r.item))
+    cond (eqb r.number 0) (Ok (record { order = order_of r.order; gap = r.gap }))
+    (Err (refusal_of_plan r.plan (refusal r.number r.line r.item)))
 
 abbrev pub split_result : Result Lengths Refusal → SplitResult
 split_result (Ok end) =

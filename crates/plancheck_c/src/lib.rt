@@ -34,7 +34,7 @@ ghost use Rattle.plancheck_c.specs.Results.{NumberTells, verdict_result, verdict
 use cells_call::CellsAnswer;
 use model::{LinkAnswer, LinkState, Totals};
 use network::CountsAnswer;
-use plan_compare::{ComparisonAnswer, Order};
+use plan_compare::{Comparison, Order};
 use base_search::Refusal;
 
 // The answer of a network's check or of a step of vehicles; number 0: the network is valid, the vehicles have moved.
@@ -394,7 +394,7 @@ pub extern "C" fn plancheck_compare_plans(
     ensures padding_ignored { PaddingIgnored network.now (λ padded_network. PaddingIgnored first.now (λ padded_first. PaddingIgnored second.now (λ padded_second. ComparisonGot padded_network padded_first padded_second first_ledger.old second_ledger.old (comparison_answer_of result) first_ledger.new second_ledger.new))) }
 {
     match plan_compare::compare_plans(network, first, second, first_ledger, second_ledger) {
-        ComparisonAnswer::Compared { order, gap } => ComparisonResult {
+        Ok(Comparison { order, gap }) => ComparisonResult {
             number: 0,
             line: 0,
             item: 0,
@@ -402,14 +402,17 @@ pub extern "C" fn plancheck_compare_plans(
             order: order_number(order),
             gap,
         },
-        ComparisonAnswer::Refused { plan, refusal: r } => ComparisonResult {
-            number: r.number,
-            line: r.line,
-            item: r.item,
-            plan,
-            order: 0,
-            gap: 0,
-        },
+        Err(refused) => {
+            let r = refused.refusal();
+            ComparisonResult {
+                number: r.number,
+                line: r.line,
+                item: r.item,
+                plan: refused.plan(),
+                order: 0,
+                gap: 0,
+            }
+        }
     }
 }
 
