@@ -350,7 +350,7 @@ fn carry_steps(
     ensures { CarryGot network.now plan.now boundary ledger.old ledger.new carried.old carried.new result }
 {
     let mut waiting = [0u32; MAX_LINKS];
-    let taken = plan_steps::take_steps(
+    let state = plan_steps::take_steps(
         network,
         plan,
         reading,
@@ -361,12 +361,8 @@ fn carry_steps(
         signals,
         &mut waiting,
         ledger,
-    );
-    let verdict = taken.verdict;
-    if let Err(refusal) = verdict {
-        return Err(refusal);
-    }
-    if !text_reader::is_end(plan, taken.state.plan_at) {
+    )?;
+    if !text_reader::is_end(plan, state.plan_at) {
         return Err(Refusal::new(9, boundary + 1, 0));
     }
     write_carried(

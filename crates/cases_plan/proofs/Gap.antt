@@ -3,8 +3,9 @@ use Rattle.base_laws.proofs.Kit.{ℕ, suc, ◌-◌, ◌^◌, ◌≤◌, ◌≡�
 use Rattle.std.proofs.Common.{ℤ, pos, negsuc, ◌-ℤ◌, nat_abs, to_z-of_z, w64, Fits, SFits, to_z, of_z}
 use lib.Signed.{lt_z, non_neg}
 use Rattle.plan_compare.specs.declared.Order.{Order}
-use Rattle.plan_compare.specs.declared.ComparisonAnswer.{ComparisonAnswer}
-use Rattle.plan_compare.specs.declared.ComparisonAnswer.TheVariants.{Compared}
+use Rattle.plan_compare.specs.declared.Comparison.{Comparison}
+use Rattle.plan_compare.specs.declared.ComparisonRefusal.{ComparisonRefusal}
+use Rattle.std.specs.Prelude.{Result, Ok}
 use Rattle.cases_plan.specs.Outcome.{modulo64, order_number, comparison_outcome}
 
 -- -1 minus a number
@@ -52,6 +53,6 @@ not-below (pos n) f t =
 not-below (negsuc n) f t = let h = rw (to_z-of_z f) at t in let e : ◌≡◌ {A = ℕ} 0 1 = cc in absurd (omega arith)
 
 -- two plans that were compared, with the gap held in a word
-pub comparison-told : {answer : ComparisonAnswer} (o : Order) (gap : ℤ) {n m : ℕ} → answer ≡ Compared o gap → SFits w64 gap → n ≡ order_number o
+pub comparison-told : {answer : Result Comparison ComparisonRefusal} (o : Order) (gap : ℤ) {n m : ℕ} → answer ≡ Ok (record { order = o; gap = gap }) → SFits w64 gap → n ≡ order_number o
     → m ≡ modulo64 (to_z w64 (of_z w64 gap)) → record { kind = 5; first = n; second = m; third = 0; fourth = 0 } ≡ comparison_outcome answer
 comparison-told o gap a f e d = rw (a, e, d, to_z-of_z f)

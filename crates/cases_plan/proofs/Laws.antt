@@ -8,7 +8,8 @@ use Rattle.listing_call.specs.ReadsBack.{PlanGot}
 use Rattle.model_carry.specs.Call.{planned_on}
 use Rattle.model_carry.specs.CarriesOn.{CarriedOn}
 use Rattle.model_sheet.specs.Promises.{SheetPromises, WritePromises}
-use Rattle.plan_compare.specs.declared.ComparisonAnswer.{ComparisonAnswer}
+use Rattle.plan_compare.specs.declared.Comparison.{Comparison}
+use Rattle.plan_compare.specs.declared.ComparisonRefusal.{ComparisonRefusal}
 use Rattle.plan_compare.specs.Comparison.{compare_plans, second_ledger_after}
 use Rattle.cases_plan.specs.Outcome.{network_outcome, plan_outcome, link_outcome, text_outcome, comparison_outcome}
 use Rattle.cases_plan.specs.declared.outcome.Outcome.{Outcome}
@@ -104,7 +105,7 @@ module _ (network plan second ledger second_ledger buffer : List ℕ) (question 
       (rw e g.0, (rw e g.1.0, (rw (ne_eqb _ _ (not_eight _ e)), rw e g.1.1)))
 
   pub answered-comparison :
-      (r : Outcome) {answer : ComparisonAnswer} (left second_left : List ℕ) → question.call ≡ 8
+      (r : Outcome) {answer : Result Comparison ComparisonRefusal} (left second_left : List ℕ) → question.call ≡ 8
       → answer ≡ compare_plans (lines network) (plan_of network plan) (plan_of network second) (length ledger) (length second_ledger)
       → left ≡ ledger_after (lines network) (plan_of network plan) ledger
       → second_left ≡ second_ledger_after (lines network) (plan_of network plan) (plan_of network second) (length ledger) second_ledger

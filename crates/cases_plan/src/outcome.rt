@@ -4,7 +4,7 @@ ghost use Rattle.cases_plan.specs.Outcome.{refused_outcome, network_outcome, pla
 
 use base_search::Refusal;
 use model::{LinkAnswer, LinkState, Totals};
-use plan_compare::{ComparisonAnswer, Order};
+use plan_compare::{Comparison, ComparisonRefusal, Order};
 
 // The kind is 0 for a network accepted, 1 for a plan accepted, 2 for a state, 3 for a refusal, 4 for a text written, 5 for two plans compared;
 // the numbers are the totals, queued and in transit, the refusal's number, line, item and plan, the text's length, or order and gap; 0 where
@@ -117,23 +117,20 @@ fn order_number(order: Order) -> u64
     }
 }
 
-pub fn of_comparison(answer: ComparisonAnswer) -> Outcome
+pub fn of_comparison(answer: Result<Comparison, ComparisonRefusal>) -> Outcome
     ensures { result ≡ comparison_outcome answer }
 {
     match answer {
-        ComparisonAnswer::Compared { order, gap } => Outcome {
+        Ok(Comparison { order, gap }) => Outcome {
             kind: 5,
             first: order_number(order),
             second: modulo_64(gap),
             third: 0,
             fourth: 0,
         },
-        ComparisonAnswer::Refused { plan, refusal } => Outcome {
-            kind: 3,
-            first: refusal.number as u64,
-            second: refusal.line as u64,
-            third: refusal.item as u64,
-            fourth: plan as u64,
+        Err(not_compared) => Outcome {
+            fourth: u64::from(not_compared.plan()),
+            ..refused(not_compared.refusal())
         },
     }
 }

@@ -1,11 +1,10 @@
 // The state of one link by a network text and a ledger: the call `link_state`.
 #![tactic(auto)]
 
-ghost use Rattle.std.specs.Prelude.{◌≡◌, ◌+◌, ◌≤◌};
+ghost use Rattle.std.specs.Prelude.{◌≡◌, ◌+◌, ◌≤◌, Err};
 ghost use Rattle.text_reader.specs.Lines.{lines};
 ghost use Rattle.text_reader.specs.Padding.{PaddingIgnored};
 ghost use Rattle.base_search.specs.Checks.{refusal};
-ghost use Rattle.model.specs.declared.LinkAnswer.TheVariants.{Refused};
 ghost use Rattle.model.specs.Calls.{link_state};
 ghost use Rattle.model.specs.Guarantees.{StatePromises};
 ghost use Rattle.plan_link_state.specs.State.{Tabled, OverAsked, EnteredOver, ledger_arrival, ArrivalAsked, state_from};
@@ -105,15 +104,15 @@ fn state_from(entered: u32, left: u32, arrival: Arrival) -> Result<LinkState, Re
         return refused(21);
     }
     let arrived = (scaled / network_tables::wide(seconds)) as u32;
-    LinkState {
+    Ok(LinkState {
         queued: arrived - left,
         in_transit: entered - arrived,
-    }
+    })
 }
 
 // A refusal that names no line and no item.
 fn refused(number: u32) -> Result<LinkState, Refusal>
-    ensures { result ≡ Refused (refusal number 0 0) }
+    ensures { result ≡ Err (refusal number 0 0) }
 {
     Err(Refusal::new(number, 0, 0))
 }

@@ -2,13 +2,14 @@
 use Rattle.std.specs.Prelude.{ℕ, cond, List, ◌≡◌, ◌≢◌, eqb, pos, Result, Ok, Err}
 use Rattle.base_search.specs.Checks.{refusal, Checks, Hold, Verdict}
 use Rattle.base_search.specs.Numbers.{CanArise}
-use Rattle.network.specs.declared.CountsAnswer.{CountsAnswer}
-use Rattle.network.specs.declared.CountsAnswer.TheVariants as counts-answer
+use Rattle.network_tables.specs.declared.Counts.{Counts}
 use Rattle.plan_compare.specs.declared.Order.{Order}
 use Rattle.plan_compare.specs.declared.Order.TheVariants.{Ahead, Behind, Equal, Crossing}
-use Rattle.plan_compare.specs.declared.ComparisonAnswer.{ComparisonAnswer}
-use Rattle.plan_compare.specs.declared.ComparisonAnswer.TheVariants as comparison-answer
 use Rattle.cells_call.specs.declared.CellsRun.{CellsRun}
+use Rattle.plan_compare.specs.declared.Comparison.{Comparison}
+use Rattle.plan_compare.specs.declared.ComparisonRefusal.{ComparisonRefusal}
+use Rattle.plan_compare.specs.declared.ComparisonRefusal.TheVariants.{Network, First, Second}
+use Rattle.plan_compare.specs.Comparison.{plan_number, refusal_in}
 use Rattle.plancheck_c.specs.declared.NetworkResult.{NetworkResult}
 use Rattle.plancheck_c.specs.declared.CountsResult.{CountsResult}
 use Rattle.plancheck_c.specs.declared.VersionResult.{VersionResult}
@@ -37,10 +38,10 @@ verdict_result (Err r) = record { number = r.number; line = r.line; item = r.ite
 abbrev pub verdict_of : NetworkResult → Verdict
 verdict_of r = cond (eqb r.number 0) (Ok tt) (Err (refusal r.number r.line r.item))
 
-abbrev pub counts_result : CountsAnswer → CountsResult
-counts_result (counts-answer.Counted links signals movements steps trams past) =
-    record { number = 0; line = 0; item = 0; links = links; signals = signals; movements = movements; steps = steps; trams = trams; past = past }
-counts_result (counts-answer.Refused r) =
+abbrev pub counts_result : Result Counts Refusal → CountsResult
+counts_result (Ok c) =
+    record { number = 0; line = 0; item = 0; links = c.links; signals = c.signals; movements = c.movements; steps = c.steps; trams = c.trams; past = c.past }
+counts_result (Err r) =
     record { number = r.number; line = r.line; item = r.item; links = 0; signals = 0; movements = 0; steps = 0; trams = 0; past = 0 }
 
 -- the version of the calls, of their answers and of the texts (CHANGELOG.md)
@@ -93,15 +94,21 @@ order_number Crossing = 4
 abbrev pub order_of : ℕ → Order
 order_of number = cond (eqb number 1) Ahead (cond (eqb number 2) Behind (cond (eqb number 3) Equal Crossing))
 
-abbrev pub comparison_result : ComparisonAnswer → ComparisonResult
-comparison_result (comparison-answer.Compared order gap) = record { number = 0; line = 0; item = 0; plan = 0; order = order_number order; gap = gap }
-comparison_result (comparison-answer.Refused plan r) = record { number = r.number; line = r.line; item = r.item; plan = plan; order = 0; gap = pos 0 }
+-- the refusal of the network, 0, or of a plan, 1 or 2, that a C caller reads off
+abbrev pub refusal_of_plan : ℕ → Refusal → ComparisonRefusal
+refusal_of_plan plan r = cond (eqb plan 0) (Network r) (cond (eqb plan 1) (First r) (Second r))
+
+abbrev pub comparison_result : Result Comparison ComparisonRefusal → ComparisonResult
+comparison_result (Ok c) = record { number = 0; line = 0; item = 0; plan = 0; order = order_number c.order; gap = c.gap }
+comparison_result (Err refused) =
+    let r = refusal_in refused in
+    record { number = r.number; line = r.line; item = r.item; plan = plan_number refused; order = 0; gap = pos 0 }
 
 -- the answer that a C caller reads off: number 0 is two plans that were compared, any other a refusal
-abbrev pub comparison_answer_of : ComparisonResult → ComparisonAnswer
+abbrev pub comparison_answer_of : ComparisonResult → Result Comparison ComparisonRefusal
 comparison_answer_of r =
-    cond (eqb r.number 0) (comparison-answer.Compared (order_of r.order) r.gap)
-    (comparison-answer.Refused r.plan (refusal r.number r.line r.item))
+    cond (eqb r.number 0) (Ok (record { order = order_of r.order; gap = r.gap }))
+    (Err (refusal_of_plan r.plan (refusal r.number r.line r.item)))
 
 abbrev pub split_result : Result Lengths Refusal → SplitResult
 split_result (Ok end) =

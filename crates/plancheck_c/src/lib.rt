@@ -32,9 +32,7 @@ ghost use Rattle.split.specs.Splitting.{texts, buffers, SplitGot};
 ghost use Rattle.plancheck_c.specs.Results.{NumberTells, verdict_result, verdict_of, counts_result, version, plan_result, plan_answer_of, link_result, text_result, text_answer_of, order_number, comparison_result, comparison_answer_of, split_result, split_answer_of, cells_result, cells_answer_of};
 
 use model::{LinkAnswer, LinkState, Totals};
-use network::CountsAnswer;
-use plan_compare::{ComparisonAnswer, Order};
-use base_search::Refusal;
+use plan_compare::{Comparison, Order};
 
 // The answer of a network's check or of a step of vehicles; number 0: the network is valid, the vehicles have moved.
 #[repr(C)]
@@ -175,25 +173,18 @@ pub extern "C" fn plancheck_network_counts(network: &[u8]) -> CountsResult
     ensures padding_ignored { PaddingIgnored network.now (λ padded. result ≡ counts_result (count_network (lines padded))) }
 {
     match network::count_network(network) {
-        CountsAnswer::Counted {
-            links,
-            signals,
-            movements,
-            steps,
-            trams,
-            past,
-        } => CountsResult {
+        Ok(counts) => CountsResult {
             number: 0,
             line: 0,
             item: 0,
-            links,
-            signals,
-            movements,
-            steps,
-            trams,
-            past,
+            links: counts.links as u32,
+            signals: counts.signals as u32,
+            movements: counts.movements as u32,
+            steps: counts.steps as u32,
+            trams: counts.trams as u32,
+            past: counts.past as u32,
         },
-        CountsAnswer::Refused(r) => CountsResult {
+        Err(r) => CountsResult {
             number: r.number,
             line: r.line,
             item: r.item,
@@ -393,7 +384,7 @@ pub extern "C" fn plancheck_compare_plans(
     ensures padding_ignored { PaddingIgnored network.now (λ padded_network. PaddingIgnored first.now (λ padded_first. PaddingIgnored second.now (λ padded_second. ComparisonGot padded_network padded_first padded_second first_ledger.old second_ledger.old (comparison_answer_of result) first_ledger.new second_ledger.new))) }
 {
     match plan_compare::compare_plans(network, first, second, first_ledger, second_ledger) {
-        ComparisonAnswer::Compared { order, gap } => ComparisonResult {
+        Ok(Comparison { order, gap }) => ComparisonResult {
             number: 0,
             line: 0,
             item: 0,
@@ -401,14 +392,17 @@ pub extern "C" fn plancheck_compare_plans(
             order: order_number(order),
             gap,
         },
-        ComparisonAnswer::Refused { plan, refusal: r } => ComparisonResult {
-            number: r.number,
-            line: r.line,
-            item: r.item,
-            plan,
-            order: 0,
-            gap: 0,
-        },
+        Err(refused) => {
+            let r = refused.refusal();
+            ComparisonResult {
+                number: r.number,
+                line: r.line,
+                item: r.item,
+                plan: refused.plan(),
+                order: 0,
+                gap: 0,
+            }
+        }
     }
 }
 
