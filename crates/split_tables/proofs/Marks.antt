@@ -1,5 +1,4 @@
 -- Marks, and those that have one numbered anew.
-use mir.Val.{bool_byte}
 use Rattle.std.specs.List.{count_by}
 use Rattle.std.proofs.lemmas.List.Sums.{count_by_more_yes, count_by_more_no}
 use Rattle.base_laws.proofs.Kit.{ℕ, zero, suc, ◌+◌, ◌-◌, ◌/◌, ◌%◌, ◌^◌, ◌≤◌, ◌<◌, ◌≡◌, refl, sym, ap, ◌∙◌, ◌≢◌, Bool, true, false, not, List, ℕ_discrete, pow-suc, div-div-eq-div-mul, add-one, arith, eq-eqb, ne_eqb, eqb, length, get_or, set, take, drop, length-drop, get_or-drop, ◌⊎◌, inl, inr, length-set, get_or-set_same, get_or-set_other}
@@ -18,11 +17,6 @@ set-at-most xs i v k h Q same other = elim (ℕ_discrete k i) [
   | yes e ↦ rw (e, get_or-set_same xs i v 0 h) (same e)
   | no e ↦ rw (get_or-set_other xs i k v 0 e) (other e)
 ]
-
--- a test as a number
-pub one_where : (t : Bool) → bool_byte t ≡ only t 1
-one_where true = refl
-one_where false = refl
 
 -- ---- `links_in`
 pub links-made : (movements half : List ℕ) (j : ℕ) {x f y t p q : ℕ} → x ≡ link_in movements 0 j → f ≡ x → y ≡ link_in movements 1 j → t ≡ y

@@ -1,6 +1,7 @@
 -- `split_tables::links_in` meets its contract.
 use Rattle.base_laws.proofs.Kit.{◌∙◌, arith}
-use Rattle.split_tables.proofs.Marks.{one_where, links-made}
+use Rattle.split_tables.proofs.Tables.{one_where}
+use Rattle.split_tables.proofs.Marks.{links-made}
 use Rattle.split_tables.proofs.links_in.Goals as goal
 
 pub overflow_sub-from : goal.overflow_sub-from

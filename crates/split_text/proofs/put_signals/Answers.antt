@@ -1,6 +1,5 @@
 use Rattle.std.proofs.Common.{rules}
 use Rattle.base_laws.proofs.Kit.{arith}
-use Rattle.split_text.proofs.Picked.{picks-all}
 use Rattle.split_text.proofs.Lines.{signals-none, width_small, signal-part, signal-early, signals-next}
 use Rattle.split_text.proofs.put_signals.Goals as goal
 
@@ -17,10 +16,7 @@ pub slice_bounds-put_kept-end : goal.slice_bounds-put_kept-end
 slice_bounds-put_kept-end c = search (signal-part, rules)
 
 pub put_kept-end-requires : goal.put_kept-end-requires
-put_kept-end-requires c = signal-early c.requires (omega arith) c.phase_count.ensures c.index.ensures.0 c.loop-k.invariant c.read_again-line.ensures
+put_kept-end-requires c = signal-early c.requires (search rules) c.phase_count.ensures c.index.ensures.0 c.loop-k.invariant c.read_again-line.ensures
 
 pub loop-k-preserved : goal.loop-k-preserved
 loop-k-preserved c = search (signals-next, rules)
-
-pub returns : goal.returns
-returns c = picks-all c.loop-k.invariant.picks (omega arith)
