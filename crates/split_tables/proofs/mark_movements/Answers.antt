@@ -1,10 +1,6 @@
 use Rattle.std.proofs.Common.{rules}
-use Rattle.split_tables.proofs.Tables.{movement-asked}
 use Rattle.split_tables.proofs.Marks.{marked_next}
 use Rattle.split_tables.proofs.mark_movements.Goals as goal
-
-pub links_in-requires : goal.links_in-requires
-links_in-requires c = movement-asked c.requires.0 (search rules)
 
 pub loop-j-preserved : goal.loop-j-preserved
 loop-j-preserved c = marked_next _ _ _ c.loop-j.invariant (search rules) c.links_in.ensures

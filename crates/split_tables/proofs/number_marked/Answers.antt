@@ -1,5 +1,5 @@
 use Rattle.base_laws.proofs.Kit.{arith}
-use Rattle.split_tables.proofs.Marks.{numbered-none, last-small, place-within, numbered_more, numbered-other}
+use Rattle.split_tables.proofs.Marks.{numbered-none, last-small, numbered_more, numbered-other}
 use Rattle.split_tables.proofs.number_marked.Goals as goal
 use Rattle.split_tables.proofs.number_marked.Goals.{then-marks-k, else-marks-k}
 
@@ -8,9 +8,6 @@ loop-k-init c = numbered-none c.requires
 
 pub overflow_add-last : goal.overflow_add-last
 overflow_add-last c = omega (arith, last-small c.requires c.loop-k.invariant, c.requires.room)
-
-pub bounds-half-start : goal.bounds-half-start
-bounds-half-start c = place-within c.requires c.loop-k.invariant (omega arith)
 
 pub loop-k-preserved : goal.loop-k-preserved
 loop-k-preserved c = elim c.if-marks-k.branch [

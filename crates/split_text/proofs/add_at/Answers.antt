@@ -4,9 +4,6 @@ use Rattle.base_laws.proofs.Kit.{arith}
 use Rattle.split_text.proofs.Border.{added-not, added-one}
 use Rattle.split_text.proofs.add_at.Goals as goal
 
-pub overflow_add-sums : goal.overflow_add-sums
-overflow_add-sums c = omega (arith, c.requires, c.wide.ensures)
-
 pub returns-then-inside-eq1 : goal.returns-then-inside-eq1
 returns-then-inside-eq1 c = (added-one _ _ _ _ (omega arith) c.wide.ensures.0, omega (arith, c.wide.ensures))
 

@@ -6,9 +6,6 @@ use Rattle.split_text.proofs.fill_sums.Goals as goal
 pub loop-i-init : goal.loop-i-init
 loop-i-init c = filled_none _ _ _ _
 
-pub overflow_add-sum : goal.overflow_add-sum
-overflow_add-sum c = omega (arith, c.wide.ensures, c.requires.1.small c.loop-i.i (omega arith))
-
 pub fill_one-end-requires : goal.fill_one-end-requires
 fill_one-end-requires c = (omega (arith, filled-end _ _ _ c.loop-i.invariant, c.loop-i.auto.row, c.requires.0.room), omega (arith, c.loop-i.auto.row, c.requires.0.row-few))
 

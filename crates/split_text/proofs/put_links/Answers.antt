@@ -1,17 +1,10 @@
 use Rattle.std.proofs.Common.{rules}
-use Rattle.base_laws.proofs.Kit.{arith}
 use Rattle.split_text.proofs.Picked.{picks-none, picks-early}
 use Rattle.split_text.proofs.Lines.{links-next}
 use Rattle.split_text.proofs.put_links.Goals as goal
 
 pub loop-i-init : goal.loop-i-init
 loop-i-init c = search picks-none
-
-pub overflow_add-exit : goal.overflow_add-exit
-overflow_add-exit c = omega (arith, c.wide.ensures, c.requires.rates-asked.small c.loop-i.i (omega arith))
-
-pub signal_number-requires : goal.signal_number-requires
-signal_number-requires c = (omega (arith, c.requires.signals c.loop-i.i (omega arith), c.signal_of.ensures, c.index.ensures.0), c.requires.half-size)
 
 pub put_kept-end-requires : goal.put_kept-end-requires
 put_kept-end-requires c = search (picks-early, rules)
