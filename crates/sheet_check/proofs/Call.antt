@@ -122,8 +122,8 @@ module _ (network sheet plan : List Line) (old : List ℕ) where
   keep-is = go (verdict (network_checks network)) (verdict (sheet_checks network sheet 0))
     where
       go : (a b : Verdict) → or_else (or_else a (or_else b rest)) (verdict (run_checks network sheet plan)) ≡ or_else (or_else a b) (or_else rest (verdict (run_checks network sheet plan)))
-      go (Ok tt) (Ok tt) = refl
-      go (Ok tt) (Err r) = refl
+      go (Ok _) (Ok _) = refl
+      go (Ok _) (Err r) = refl
       go (Err r) b = refl
 
   plan-is : verdict (plan_checks network plan (length old)) ≡ or_else (verdict (network_checks network)) rest

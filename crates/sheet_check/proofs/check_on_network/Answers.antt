@@ -18,8 +18,8 @@ pass_plan-requires-clause-pass_asked c = pass-asked c.requires c.read_sheet-read
 pub pass_plan-requires-clause-signal_table : goal.pass_plan-requires-clause-signal_table
 pass_plan-requires-clause-signal_table c = c.requires.signal-table
 
-pub returns-in-Ok : goal.returns-in-Ok
-returns-in-Ok c = runs-kept c.requires c.read_sheet-read.ensures c.in_default.is c.judge_plan-answer.ensures c.in-Ok.is c.pass_plan.ensures c.in-Ok.is
+pub returns-in-Ok-pass_plan : goal.returns-in-Ok-pass_plan
+returns-in-Ok-pass_plan c = runs-kept c.requires c.read_sheet-read.ensures c.in_default.is c.judge_plan-answer.ensures c.in-Ok.is c.pass_plan.ensures c.in-Ok-pass_plan.is
 
 pub returns-in-Err-pass_plan : goal.returns-in-Err-pass_plan
 returns-in-Err-pass_plan c = runs-broken c.requires c.read_sheet-read.ensures c.in_default.is c.judge_plan-answer.ensures c.in-Ok.is c.pass_plan.ensures c.in-Err-pass_plan.is
