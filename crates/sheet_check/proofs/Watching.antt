@@ -75,7 +75,7 @@ unfolding least_line least_item
 found_none = record { few = omega arith; line-is = refl; item-is = refl }
 
 module _ {f : ℕ → ℕ} {count line item i : ℕ} (inv : Found f count line item i) where
-  pub found-more : i < count → {b : Bool} → b ≡ earlier (f i) line → {x y : ℕ} → x ≡ cond b (f i) line → y ≡ cond b (i + 1) item → Found f count x y (i + 1)
+  found-more : i < count → {b : Bool} → b ≡ earlier (f i) line → {x y : ℕ} → x ≡ cond b (f i) line → y ≡ cond b (i + 1) item → Found f count x y (i + 1)
   unfolding least_line least_item
   found-more h e p q =
       record {
@@ -83,6 +83,12 @@ module _ {f : ℕ → ℕ} {count line item i : ℕ} (inv : Found f count line i
         line-is = p ∙ rw (e, inv.line-is, add-one);
         item-is = q ∙ rw (e, inv.line-is, inv.item-is, add-one);
       }
+
+  pub found-earlier : i < count → {b : Bool} → b ≡ earlier (f i) line → b ≡ true → {x y : ℕ} → x ≡ f i → y ≡ i + 1 → Found f count x y (i + 1)
+  found-earlier h e t p q = found-more h {b = true} (sym t ∙ e) p q
+
+  pub found-later : i < count → {b : Bool} → b ≡ earlier (f i) line → b ≡ false → {x y : ℕ} → x ≡ line → y ≡ item → Found f count x y (i + 1)
+  found-later h e t p q = found-more h {b = false} (sym t ∙ e) p q
 
   module _ (h : count ≤ i) where
     all-line : line ≡ least_line f count

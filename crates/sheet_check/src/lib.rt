@@ -2,7 +2,7 @@
 // over its steps watches a few numbers of each signal. No table of runs is kept.
 #![tactic(auto)]
 
-ghost use Rattle.std.specs.Prelude.{◌≡◌, cond, ◌<◌, ◌≤◌, length};
+ghost use Rattle.std.specs.Prelude.{◌≡◌, ◌<◌, ◌≤◌, length};
 ghost use Rattle.text_reader.specs.Lines.{lines};
 ghost use Rattle.text_reader.specs.Padding.{PaddingIgnored};
 ghost use Rattle.model.specs.Hold.{plan_of};
@@ -16,12 +16,12 @@ ghost use Rattle.sheet_check.specs.Watch.{watch_in, first_broken, watch_after, n
 ghost use Rattle.sheet_check.specs.Stages.{PassAsked, StepAsked, StepGot, PassGot};
 
 use base_search::Refusal;
+use model::Totals;
 use network_tables::{
     LINE_SIZE, LINK_TABLE_SIZE, MAX_SIGNALS, MOVEMENT_TABLE_SIZE, Reading, SIGNAL_TABLE_SIZE,
     STEP_SIZE, TIME_TABLE_SIZE, TRAM_TABLE_SIZE,
 };
 use sheet_lines::{SHEET_FIELDS, SHEET_TABLE_SIZE};
-use model::Totals;
 
 // What is watched of a signal: whether the run that it shows is to be tested, the line of its last ordinary step, and the line of its first broken run, 0 for
 // none.
@@ -144,13 +144,6 @@ fn is_earlier(x: u32, y: u32) -> bool
     (x != 0) & ((y == 0) | (x < y))
 }
 
-// One of two numbers.
-fn choose(condition: bool, a: u32, b: u32) -> u32
-    ensures { result ≡ cond condition a b }
-{
-    if condition { a } else { b }
-}
-
 // Refusal 34: the least of the lines that were found, then the lowest signal.
 fn first_run(watches: [Watch; 8], count: usize) -> Result<(), Refusal>
     requires { count ≤ max_signals }
@@ -158,13 +151,12 @@ fn first_run(watches: [Watch; 8], count: usize) -> Result<(), Refusal>
 {
     let mut line: u32 = 0;
     let mut item: u32 = 0;
-    let mut i = 0;
-    while i < count {
+    for i in 0..count {
         let broken = watches[i].broken;
-        let first = is_earlier(broken, line);
-        line = choose(first, broken, line);
-        item = choose(first, (i + 1) as u32, item);
-        i += 1;
+        if is_earlier(broken, line) {
+            line = broken;
+            item = (i + 1) as u32;
+        }
     }
     if line == 0 {
         return Ok(());
@@ -252,7 +244,7 @@ fn pass_plan(
         plan_at: 0,
         watches: [watch; 8],
     };
-    while pass.boundary < counts.steps {
+    for _ in 0..counts.steps {
         pass = pass_step(network, plan, reading, &trams, table, signals, pass);
     }
     let watches = pass.watches;
@@ -276,24 +268,21 @@ fn check_on_network(
 {
     let mut table = [0u32; SHEET_TABLE_SIZE];
     let count = reading.counts.signals;
-    let read = sheet_lines::read_sheet(sheet, signals, count, 0, &mut table);
-    if let Err(refusal) = read {
-        return Err(refusal);
-    }
-    let answer = plan_check::judge_plan(
+    sheet_lines::read_sheet(sheet, signals, count, false, &mut table)?;
+    let totals = plan_check::judge_plan(
         network, plan, reading, links, movements, times, signals, ledger,
-    );
-    let Ok(totals) = answer else {
-        return answer;
-    };
-    match pass_plan(network, plan, reading, &table, signals) {
-        Ok(()) => Ok(totals),
-        Err(refusal) => Err(refusal),
-    }
+    )?;
+    pass_plan(network, plan, reading, &table, signals)?;
+    Ok(totals)
 }
 
 // Whether an accepted plan keeps a sheet: refusals 1 to 6, 28 and 30, then 33, 8, the plan's own, and last 34. A refusal by 34 leaves all rows written.
-pub fn check_sheet(network: &[u8], plan: &[u8], sheet: &[u8], ledger: &mut [u32]) -> Result<Totals, Refusal>
+pub fn check_sheet(
+    network: &[u8],
+    plan: &[u8],
+    sheet: &[u8],
+    ledger: &mut [u32],
+) -> Result<Totals, Refusal>
     ensures sheet_promises { SheetPromises (lines network.now) (lines sheet.now) (plan_of network.now plan.now) ledger.old ledger.new result }
     ensures padding_ignored { PaddingIgnored network.now (λ padded_network. PaddingIgnored plan.now (λ padded_plan. PaddingIgnored sheet.now (λ padded_sheet. SheetPromises (lines padded_network) (lines padded_sheet) (plan_of padded_network padded_plan) ledger.old ledger.new result))) }
 {
@@ -301,24 +290,22 @@ pub fn check_sheet(network: &[u8], plan: &[u8], sheet: &[u8], ledger: &mut [u32]
     let mut links = [0u32; LINK_TABLE_SIZE];
     let mut movements = [0u32; MOVEMENT_TABLE_SIZE];
     let mut times = [0u32; TIME_TABLE_SIZE];
-    match network::load_with_signals(
+    let reading = network::load_with_signals(
         network,
         &mut signals,
         &mut links,
         &mut movements,
         &mut times,
-    ) {
-        Err(refusal) => Err(refusal),
-        Ok(reading) => check_on_network(
-            network,
-            plan,
-            sheet,
-            reading,
-            &links,
-            &movements,
-            &times,
-            &mut signals,
-            ledger,
-        ),
-    }
+    )?;
+    check_on_network(
+        network,
+        plan,
+        sheet,
+        reading,
+        &links,
+        &movements,
+        &times,
+        &mut signals,
+        ledger,
+    )
 }

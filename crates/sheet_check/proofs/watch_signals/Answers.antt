@@ -1,5 +1,5 @@
 use Rattle.std.proofs.Common.{rules}
-use Rattle.base_laws.proofs.Kit.{◌≡◌, arith}
+use Rattle.base_laws.proofs.Kit.{arith}
 use Rattle.sheet_check.proofs.Watching.{watched-none, watched-more, duration-asked}
 use Rattle.sheet_check.proofs.watch_signals.Goals as goal
 
@@ -14,9 +14,3 @@ loop-i-preserved c =
     let w = c.loop-i in
     let d = c.duration_of-duration in
     (search rules, watched-more _ _ _ _ _ _ _ w.i w.watches c.next_watch.result (omega arith) w.invariant.1 d.result d.ensures c.next_watch.ensures)
-
-pub returns : goal.returns
-returns c =
-    let w = c.loop-i in
-    let e : w.i ≡ c.args.count = omega arith in
-    rw e at w.invariant.1
