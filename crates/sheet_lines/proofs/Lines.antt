@@ -1,5 +1,5 @@
 -- The lines of a sheet, read and judged one after another: one law for each way through a turn of a loop.
-use Rattle.base_laws.proofs.Kit.{ℕ, zero, suc, ◌+◌, ◌*◌, ◌≤◌, ◌<◌, ◌≡◌, refl, sym, ap, ap₂, ◌∙◌, Bool, true, false, not, ◌⊎◌, inl, inr, List, add-one, eq-or-lt_of_le, arith, leb-true, not-true, not-false, leb, ltb, eqb, length, get_or}
+use Rattle.base_laws.proofs.Kit.{ℕ, zero, suc, ◌+◌, ◌*◌, ◌≤◌, ◌<◌, ◌≡◌, refl, sym, ap, ap₂, ◌∙◌, Bool, true, false, not, ◌⊎◌, inl, inr, List, add-one, eq-or-lt_of_le, arith, leb-true, leb, ltb, eqb, length, get_or}
 use Rattle.base_search.specs.declared.Refusal.{Refusal}
 use Rattle.base_search.specs.Checks.{refusal, Checks, or_else, checked, verdict}
 use Rattle.base_search.proofs.Laws.{or-else-passes, or-else-refused}

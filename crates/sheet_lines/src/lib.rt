@@ -45,7 +45,14 @@ fn valid_numbers(table: &[u32], start: usize, signals: &[u32], r: usize, offset:
 }
 
 // Reads the line of signal `r` into its row of the table, and gives the place of the next line if the line is well formed and its numbers are valid.
-fn read_line(text: &[u8], at: usize, signals: &[u32], r: usize, offset: bool, table: &mut [u32]) -> Option<usize>
+fn read_line(
+    text: &[u8],
+    at: usize,
+    signals: &[u32],
+    r: usize,
+    offset: bool,
+    table: &mut [u32],
+) -> Option<usize>
     requires { LineAsked signals.now r table.old }
     ensures { LineRead signals.now r (from_bool offset) text.now at table.old result table.new }
 {
@@ -56,7 +63,13 @@ fn read_line(text: &[u8], at: usize, signals: &[u32], r: usize, offset: bool, ta
 }
 
 // Reads a sheet for `count` signals; its lines have an offset to write a plan, and none to check one.
-pub fn read_sheet(text: &[u8], signals: &[u32], count: usize, offset: bool, table: &mut [u32]) -> Result<(), Refusal>
+pub fn read_sheet(
+    text: &[u8],
+    signals: &[u32],
+    count: usize,
+    offset: bool,
+    table: &mut [u32],
+) -> Result<(), Refusal>
     requires { SheetAsked signals.now count table.old }
     ensures { SheetRead signals.now count (from_bool offset) text.now result table.new }
 {

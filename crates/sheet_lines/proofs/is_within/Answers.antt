@@ -1,5 +1,5 @@
 -- `sheet_lines::is_within` meets its contract.
-use Rattle.std.proofs.Common.{rules, ◌∙◌, arith}
+use Rattle.std.proofs.Common.{◌∙◌, arith}
 use Rattle.std.proofs.lemmas.Bool.Decides.{nat_tests}
 use Rattle.base_laws.specs.Test.{◌and◌, within}
 use Rattle.sheet_lines.proofs.is_within.Goals as goal

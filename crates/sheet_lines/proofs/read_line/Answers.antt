@@ -1,6 +1,4 @@
 -- `sheet_lines::read_line` meets its contract.
-use Rattle.std.proofs.Common.{rules}
-use Rattle.base_laws.proofs.Kit.{refl, ◌∙◌, ap₂}
 use Rattle.sheet_lines.proofs.Lines.{row_room, line-malformed, numbers-asked, line-judged}
 use Rattle.sheet_lines.proofs.read_line.Goals as goal
 

@@ -1,7 +1,6 @@
 use Rattle.std.proofs.Common.{rules}
 use Rattle.base_laws.proofs.Kit.{refl, arith}
 use Rattle.sheet_lines.proofs.Lines.{summed-none, summed-fits, summed-more, summed-broken, summed_kept, summed-offset}
-use Rattle.base_laws.proofs.Tests.{is_within}
 use Rattle.sheet_lines.proofs.valid_numbers.Goals as goal
 
 pub loop-k-init : goal.loop-k-init
