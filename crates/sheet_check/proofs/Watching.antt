@@ -37,7 +37,7 @@ module _ (w : Watch) (s : Signal) (q line t lasts : ℕ) where
   unfolding next_watch
   watch-on asked e r h = h ∙ sym (rw e)
 
-  pub watch-still : (asked : ℕ) → (asked ≡ 0 → ⊥) → w ≡ next_watch w asked s q line t lasts
+  watch-still : (asked : ℕ) → (asked ≡ 0 → ⊥) → w ≡ next_watch w asked s q line t lasts
   unfolding next_watch
   watch-still asked d = sym (rw (ne_eqb asked 0 d))
 
@@ -59,6 +59,17 @@ watched-more watches signals phases asked table line t i result w h a d q e =
           (get_or-set_same result i w no_watch (omega (arith, a.size)) ∙ e
           ∙ ap₂ (λ x y. next_watch x (get_or asked i 0) (table_signal signals i) (get_or phases i 0) line t y) (a.kept i (le_refl i)) q) r (omega arith);
       kept = λ r l. get_or-set_other result i r w no_watch (λ x. omega arith) ∙ a.kept r (omega arith);
+    }
+
+pub watched-still : (watches : List Watch) (signals phases asked table : List ℕ) (line t i : ℕ) (result : List Watch)
+    → Watched watches signals i phases asked table line t result → (get_or asked i 0 ≡ 0 → ⊥) → Watched watches signals (i + 1) phases asked table line t result
+watched-still watches signals phases asked table line t i result a d =
+    record {
+      size = a.size;
+      on = λ r l. below_more
+          (λ r. watch_in result r ≡ next_watch (watch_in watches r) (get_or asked r 0) (table_signal signals r) (get_or phases r 0) line t (duration_in table r (table_signal signals r))) i
+          a.on (a.kept i (le_refl i) ∙ watch-still _ _ _ _ _ _ _ d) r (omega arith);
+      kept = λ r l. a.kept r (omega arith);
     }
 
 pub duration-asked : {signals : List ℕ} {count : ℕ} {phases asked table : List ℕ} → WatchAsked signals count phases asked table → {i : ℕ} → i < count → DurationAsked table signals i

@@ -12,7 +12,7 @@ ghost use Rattle.network_tables.specs.Tables.{SignalTable};
 ghost use Rattle.network.specs.Loading.{LoadedWithSignals};
 ghost use Rattle.model_sheet.specs.Runs.{earlier, pass_verdict};
 ghost use Rattle.model_sheet.specs.Promises.{SheetPromises};
-ghost use Rattle.sheet_check.specs.Watch.{watch_in, first_broken, watch_after, next_watch, duration_in, DurationAsked, WatchAsked, Watched};
+ghost use Rattle.sheet_check.specs.Watch.{watch_in, first_broken, watch_after, duration_in, DurationAsked, WatchAsked, Watched};
 ghost use Rattle.sheet_check.specs.Stages.{PassAsked, StepAsked, StepGot, PassGot};
 
 use base_search::Refusal;
@@ -24,7 +24,7 @@ use network_tables::{
 use sheet_lines::{SHEET_FIELDS, SHEET_TABLE_SIZE};
 
 // What is watched of a signal: whether the run that it shows is to be tested, the line of its last ordinary step, and the line of its first broken run, 0 for
-// none.
+// none. An Option would let in a line 0, which the definitions of 34 and a refusal have for none, and each contract would have to rule it out.
 #[derive(Clone, Copy)]
 pub struct Watch {
     pub tested: bool,
@@ -84,27 +84,6 @@ fn watch_after(
     }
 }
 
-// The watch after any step: where a tram asks a phase of the signal, nothing moves.
-fn next_watch(
-    watch: Watch,
-    asked: u32,
-    signals: &[u32],
-    i: usize,
-    phase: u32,
-    line: u32,
-    time: u32,
-    duration: u32,
-) -> Watch
-    requires { (i < max_signals) × (length signals.now ≡ signal_table_size) }
-    ensures { result ≡ next_watch watch asked (table_signal signals.now i) phase line time duration }
-{
-    if asked == 0 {
-        watch_after(watch, signals, i, phase, line, time, duration)
-    } else {
-        watch
-    }
-}
-
 // The duration of the phase that signal `i` shows.
 fn duration_of(table: &[u32], signals: &[u32], i: usize) -> u32
     requires { DurationAsked table.now signals.now i }
@@ -114,7 +93,7 @@ fn duration_of(table: &[u32], signals: &[u32], i: usize) -> u32
     table[SHEET_FIELDS * i + place]
 }
 
-// The watches after a step in which the signals show these phases and trams ask these; the signals are those before it.
+// The watches after a step in which the signals show these phases and trams ask these; the signals are those before it. Where a tram asks a phase, nothing moves.
 fn watch_signals(
     mut watches: [Watch; 8],
     signals: &[u32],
@@ -129,10 +108,10 @@ fn watch_signals(
     ensures { Watched watches signals.now count phases.now asked.now table.now line time result }
 {
     for i in 0..count {
-        let duration = duration_of(table, signals, i);
-        watches[i] = next_watch(
-            watches[i], asked[i], signals, i, phases[i], line, time, duration,
-        );
+        if asked[i] == 0 {
+            let duration = duration_of(table, signals, i);
+            watches[i] = watch_after(watches[i], signals, i, phases[i], line, time, duration);
+        }
     }
     watches
 }
