@@ -1,5 +1,5 @@
 -- The ways out of the call, by the definitions on the cut network.
-use Rattle.base_laws.proofs.Kit.{ℕ, suc, ◌+◌, ◌*◌, ◌-◌, ◌≤◌, ◌<◌, ◌≡◌, refl, sym, ap, ◌∙◌, Bool, true, false, not, List, [], dec_lt, add-one, arith, le-leb, lt-leb, eq-eqb, leb, eqb, length, get_or, get_or-take}
+use Rattle.base_laws.proofs.Kit.{ℕ, suc, ◌+◌, ◌*◌, ◌-◌, ◌≤◌, ◌<◌, ◌≡◌, refl, sym, ap, ◌∙◌, true, false, List, [], dec_lt, add-one, arith, le-leb, lt-leb, eq-eqb, leb, eqb, length, get_or, get_or-take}
 use Rattle.base_search.specs.declared.Refusal.{Refusal}
 use Rattle.base_search.specs.Checks.{refusal, verdict, or_else, checked, each, Hold}
 use Rattle.base_search.proofs.Laws.{passes-of-hold, hold-of-passes, or-else-passes, or-else-refused, checked-passes, checked_refused, first-stop, first_passes}
@@ -39,14 +39,6 @@ use Rattle.model_carry.proofs.Agree.{signal-agree, waits-agree}
 use Rattle.carry.specs.Carrying.{StepsAsked, CarryGot}
 use Rattle.base_laws.proofs.Tests.{is_within}
 use Rattle.std.specs.Prelude.{Result, Ok, Err}
-
-pub not-true : (b : Bool) → not b ≡ true → b ≡ false
-not-true false h = refl
-not-true true h = let z : ◌≡◌ {A = ℕ} 0 1 = cc in absurd (omega arith)
-
-pub not-false : (b : Bool) → not b ≡ false → b ≡ true
-not-false true h = refl
-not-false false h = let z : ◌≡◌ {A = ℕ} 0 1 = cc in absurd (omega arith)
 
 boundary-passes : (network : List Line) (b : ℕ) → Hold (network_checks network) → 1 ≤ b → b < step_count network → verdict (boundary_checks network b) ≡ Ok tt
 unfolding boundary_checks verdict
