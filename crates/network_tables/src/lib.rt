@@ -1,6 +1,6 @@
 // The program's tables of a network and a plan: their sizes, and each number by its name in the paper. Links, signals, movements
 // and steps are counted from 0 here.
-#![tactic(auto)]
+#![tactic(auto, unfolding(crate::specs::Fields::table_signal))]
 
 ghost use Rattle.std.specs.Prelude.{◌≡◌, ◌+◌, ◌*◌, ◌<◌, ◌≤◌, length, get_or};
 ghost use Rattle.model.specs.Network.{max_links, max_signals, max_movements, max_steps, max_trams, max_past};
@@ -195,14 +195,11 @@ pub fn add_numbers(line: &[u32], count: usize, sums: &mut [u32]) -> bool
     requires { (count < length line.now) × (count ≤ length sums.old) }
     ensures { Summed line.now count sums.old result sums.new }
 {
-    let mut k = 0;
-    while k < count {
-        let number = line[1 + k];
-        if 4294967295 < wide(sums[k]) + wide(number) {
+    for k in 0..count {
+        let Some(sum) = sums[k].checked_add(line[1 + k]) else {
             return false;
-        }
-        sums[k] = sums[k] + number;
-        k += 1;
+        };
+        sums[k] = sum;
     }
     true
 }
