@@ -4,3 +4,4 @@ pub mod Places
 pub mod Rows
 pub mod Blocks
 pub mod Stages
+pub mod Every
