@@ -102,13 +102,6 @@ pub fn sum_of(line: &[u32], first: usize, count: usize) -> u64
     total
 }
 
-// What a link holds: entered − left.
-fn held(entered: u32, left: u32) -> u64
-    ensures { (result ≡ entered - left) × (result < 4294967296) }
-{
-    wide(entered.saturating_sub(left))
-}
-
 // The vehicles in the network at a boundary: what all links hold, by its row.
 pub fn held_in(row: &[u32], links: usize) -> u64
     requires { (links ≤ max_links) × (2 * links ≤ length row.now) }
@@ -116,7 +109,7 @@ pub fn held_in(row: &[u32], links: usize) -> u64
 {
     let mut total: u64 = 0;
     for i in 0..links {
-        total += held(entered(row, i), left(row, i));
+        total += wide(entered(row, i).saturating_sub(left(row, i)));
     }
     total
 }
