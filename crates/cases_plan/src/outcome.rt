@@ -3,7 +3,7 @@ ghost use Rattle.std.specs.Prelude.{◌≡◌};
 ghost use Rattle.cases_plan.specs.Outcome.{refused_outcome, network_outcome, plan_outcome, link_outcome, written_outcome, text_outcome, modulo64, order_number, comparison_outcome, same_outcome};
 
 use base_search::Refusal;
-use model::{LinkAnswer, LinkState, Totals};
+use model::{LinkState, Totals};
 use plan_compare::{Comparison, ComparisonRefusal, Order};
 
 // The kind is 0 for a network accepted, 1 for a plan accepted, 2 for a state, 3 for a refusal, 4 for a text written, 5 for two plans compared;

@@ -31,7 +31,7 @@ ghost use Rattle.model_split.specs.Splits.{SplitInTwo, room_of};
 ghost use Rattle.split.specs.Splitting.{texts, buffers, SplitGot};
 ghost use Rattle.plancheck_c.specs.Results.{NumberTells, verdict_result, verdict_of, counts_result, version, plan_result, plan_answer_of, link_result, text_result, text_answer_of, order_number, comparison_result, comparison_answer_of, split_result, split_answer_of, cells_result, cells_answer_of};
 
-use model::{LinkAnswer, LinkState, Totals};
+use model::{LinkState, Totals};
 use plan_compare::{Comparison, Order};
 
 // The answer of a network's check or of a step of vehicles; number 0: the network is valid, the vehicles have moved.
