@@ -31,6 +31,7 @@ ghost use Rattle.model_split.specs.Splits.{SplitInTwo, room_of};
 ghost use Rattle.split.specs.Splitting.{texts, buffers, SplitGot};
 ghost use Rattle.plancheck_c.specs.Results.{NumberTells, verdict_result, verdict_of, counts_result, version, plan_result, plan_answer_of, link_result, text_result, text_answer_of, order_number, comparison_result, comparison_answer_of, split_result, split_answer_of, cells_result, cells_answer_of};
 
+use base_search::Refusal;
 use model::{LinkState, Totals};
 use plan_compare::{Comparison, Order};
 
@@ -291,7 +292,7 @@ pub extern "C" fn plancheck_link_state(
     ensures padding_ignored { PaddingIgnored network.now (λ padded. result ≡ link_result (link_state (lines padded) ledger.now boundary link)) }
 {
     match plan_link_state::link_state(network, ledger, boundary, link) {
-        LinkState { queued, in_transit } => LinkResult {
+        Ok(LinkState { queued, in_transit }) => LinkResult {
             number: 0,
             line: 0,
             item: 0,
