@@ -1,5 +1,5 @@
 -- A plan's lines, put one behind another by the table of its numbers.
-use Rattle.base_laws.proofs.Kit.{ℕ, ◌+◌, ◌*◌, ◌-◌, ◌≤◌, ◌<◌, ◌≡◌, sym, ◌∙◌, List, dec_le, mul-le-mul_left, arith, lt-ltb, le-ltb, length, get_or, take, length-take-le, take-length}
+use Rattle.base_laws.proofs.Kit.{ℕ, ◌+◌, ◌*◌, ◌-◌, ◌≤◌, ◌<◌, ◌≡◌, sym, ◌∙◌, List, dec_le, arith, lt-ltb, le-ltb, length, get_or, take, length-take-le, take-length}
 use Rattle.text_writer.specs.Records.{record_text}
 use Rattle.model.specs.Network.{max_signals}
 use Rattle.model.specs.Table.{letter_p}
@@ -51,9 +51,6 @@ module _ (numbers : List ℕ) (columns n column : ℕ) where
   pub number-some : column < columns → get_or numbers (columns * n + column) 0 ≡ plan_number numbers columns n column
   unfolding plan_number
   number-some h = sym (rw (lt-ltb column columns h))
-
-  pub number-inside : NumberAsked numbers columns n → column < columns → (columns * n + column < length numbers) × (length numbers ≤ 14_400)
-  number-inside a h = (omega (arith, a.room, mul-le-mul_left columns a.step), omega (arith, a.room, a.few-columns))
 
 pub plan-fits : {numbers : List ℕ} {columns : ℕ} {counts : Counts} → PlanAsked numbers columns counts → {w : ℕ} → w ≡ plan_width counts → w ≤ line_size
 plan-fits a e = omega (arith, a.few.links, a.few.signals, a.few.movements)
