@@ -1,17 +1,14 @@
 -- Lists by index, and lists that are filled by rising index.
 use Prim.Native.Nat.{ℕ, zero, suc, ◌+◌, ◌-◌, ◌≤◌, ◌<◌}
 use mathlib.Core.Path.{◌≡◌, refl, ◌∙◌, sym, ap}
-use mathlib.Core.Bool.{Bool, true, false, not, ◌&&◌}
 use mathlib.Core.Logic.{inl, inr}
 use mathlib.Core.List.{List, [], ◌∷◌, ◌++◌, append_assoc, append-nil}
 use native.Mathlib.Nat.{eq-or-lt_of_le, le_of_suc-le-suc}
 use native.Mathlib.Numerals.{add-one}
 use native.Mathlib.Omega.{arith}
-use borrow.Author.Tests.{not-true, not-false}
 use lib.ListN.{length, get_or, set, take, drop, length-append, get_or-append, drop_of_length-le}
 use lib.Seq.{drop-cons, take_at, drop_at, set_at, get_or_at, get_or-append-add, get_or-drop, length-take-le}
-use Rattle.base_laws.specs.Indexed.{list, filled, every}
-use Rattle.base_laws.proofs.Bools.{and_left, and_right}
+use Rattle.base_laws.specs.Indexed.{list, filled}
 
 pub length_none : {A : Type 0} (xs : List A) → length xs ≡ 0 → xs ≡ []
 length_none [] e = refl
@@ -70,29 +67,3 @@ module _ {A : Type 0} (f : ℕ → A) where
     pub drop-filled : (n : ℕ) → drop n (filled f old n) ≡ drop n old
     unfolding filled
     drop-filled n = drop_at (list n f) (drop n old) n (length-list n)
-
--- ---- a loop that tests one value after the other: those passed hold, so the test of all is that of the rest
-module _ {A : Type 0} (test : A → Bool) (other : A) (xs : List A) where
-  pub every-at : every test xs ≡ true → (i : ℕ) → i < length xs → test (get_or xs i other) ≡ true
-  unfolding every
-  every-at = go xs
-    where
-      go : (xs : List A) → every test xs ≡ true → (i : ℕ) → i < length xs → test (get_or xs i other) ≡ true
-      go [] h i l = absurd (omega arith)
-      go (x ∷ xs) h zero l = and_left (test x) (every test xs) h
-      go (x ∷ xs) h (suc i) l = go xs (and_right (test x) (every test xs) h) i (le_of_suc-le-suc l)
-
-  module _ (i : ℕ) (same : every test xs ≡ every test (drop i xs)) where
-    next : i < length xs → every test xs ≡ (test (get_or xs i other) && every test (drop (suc i) xs))
-    unfolding every
-    next l = same ∙ rw (drop-cons xs i other)
-
-    pub every-fails : (v : Bool) → i < length xs → v ≡ test (get_or xs i other) → not v ≡ true → false ≡ every test xs
-    every-fails v l e n = sym (next l ∙ rw (← e, not-true v n))
-
-    pub every-goes-on : (v : Bool) → i < length xs → v ≡ test (get_or xs i other) → not v ≡ false → every test xs ≡ every test (drop (i + 1) xs)
-    every-goes-on v l e n = next l ∙ rw (← e, not-false v n, add-one)
-
-pub every-done : {A : Type 0} (test : A → Bool) (xs : List A) (i : ℕ) → every test xs ≡ every test (drop i xs) → length xs ≤ i → true ≡ every test xs
-unfolding every
-every-done test xs i same l = sym (same ∙ rw (drop_of_length-le xs {i = i} l))

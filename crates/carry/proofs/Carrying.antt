@@ -1,5 +1,5 @@
 -- The ways out of the call, by the definitions on the cut network.
-use Rattle.base_laws.proofs.Kit.{ℕ, suc, ◌+◌, ◌*◌, ◌-◌, ◌≤◌, ◌<◌, ◌≡◌, refl, sym, ap, ◌∙◌, Bool, true, false, not, List, [], dec_lt, add-one, arith, le-leb, lt-leb, eq-eqb, leb, eqb, length, get_or, get_or-take}
+use Rattle.base_laws.proofs.Kit.{ℕ, suc, ◌+◌, ◌*◌, ◌-◌, ◌≤◌, ◌<◌, ◌≡◌, refl, sym, ap, ◌∙◌, true, false, List, [], dec_lt, add-one, arith, le-leb, lt-leb, eq-eqb, leb, eqb, length, get_or, get_or-take}
 use Rattle.base_search.specs.declared.Refusal.{Refusal}
 use Rattle.base_search.specs.Checks.{refusal, verdict, or_else, checked, each, Hold}
 use Rattle.base_search.proofs.Laws.{passes-of-hold, hold-of-passes, or-else-passes, or-else-refused, checked-passes, checked_refused, first-stop, first_passes}
@@ -22,7 +22,7 @@ use Rattle.network_tables.specs.declared.Reading.{Reading}
 use Rattle.network_tables.specs.Tables.{Judged, SignalTable}
 use Rattle.network_tables.proofs.Stages.{verdict-refused}
 use Rattle.network.specs.Loading.{Loaded}
-use Rattle.plan_steps.specs.declared.Taken.{Taken}
+use Rattle.plan_steps.specs.declared.State.{State}
 use Rattle.plan_steps.specs.Steps as steps
 use Rattle.plan_steps.proofs.Runs.{lines-within}
 use Rattle.plan_steps.proofs.Ledger.{written-again}
@@ -39,14 +39,6 @@ use Rattle.model_carry.proofs.Agree.{signal-agree, waits-agree}
 use Rattle.carry.specs.Carrying.{StepsAsked, CarryGot}
 use Rattle.base_laws.proofs.Tests.{is_within}
 use Rattle.std.specs.Prelude.{Result, Ok, Err}
-
-pub not-true : (b : Bool) → not b ≡ true → b ≡ false
-not-true false h = refl
-not-true true h = let z : ◌≡◌ {A = ℕ} 0 1 = cc in absurd (omega arith)
-
-pub not-false : (b : Bool) → not b ≡ false → b ≡ true
-not-false true h = refl
-not-false false h = let z : ◌≡◌ {A = ℕ} 0 1 = cc in absurd (omega arith)
 
 boundary-passes : (network : List Line) (b : ℕ) → Hold (network_checks network) → 1 ≤ b → b < step_count network → verdict (boundary_checks network b) ≡ Ok tt
 unfolding boundary_checks verdict
@@ -157,11 +149,11 @@ module _ (network_text plan_text : List ℕ) (b : ℕ) (buffer : List ℕ) {read
         room = a.room;
       }
 
-  module _ {taken : Taken} {signals waiting ledger' : List ℕ} (got : steps.StepsGot network_text plan_text ledger b taken signals waiting ledger') where
+  module _ {result : Result State Refusal} {signals waiting ledger' : List ℕ} (got : steps.StepsGot network_text plan_text ledger b result signals waiting ledger') where
     -- a step is refused
-    pub step-refused : {r : Refusal} → taken.verdict ≡ Err r → CarryGot network_text plan_text b ledger ledger' buffer buffer (Err r)
+    pub step-refused : {r : Refusal} → result ≡ Err r → CarryGot network_text plan_text b ledger ledger' buffer buffer (Err r)
     step-refused {r} e =
-        let s = got.stopped r e in
+        let s = rw e at got.outcome in
         let stops : verdict (each b (line_checks network whole)) ≡ Err r =
         unfold verdict in first-stop (λ m. verdict (line_checks network whole m)) b s.step r s.passed s.within s.refused in
         plan-refused network_text plan_text b ledger buffer within-plan (judged ∙ or-else-refused _ _ r stops)
@@ -169,9 +161,9 @@ module _ (network_text plan_text : List ℕ) (b : ℕ) (buffer : List ℕ) {read
         (λ d. refused-fails (line_checks network whole s.step) r s.refused ((due-of-cut network b is-valid a.first a.last whole first same (length ledger) (suc s.step) d).2 s.step (omega arith)))
         s.rows)
 
-    module _ (p : taken.verdict ≡ Ok tt) where
-      all : steps.AllTaken network_text plan_text ledger b taken.state signals waiting ledger'
-      all = got.reached p
+    module _ {state : State} (p : result ≡ Ok state) where
+      all : steps.AllTaken network_text plan_text ledger b state signals waiting ledger'
+      all = rw p at got.outcome
 
       rows_all : ledger' ≡ ledger_after (cut network b) first ledger
       rows_all = rows_are b (omega arith) all.passed (λ d. omega (arith, (due-of-cut network b is-valid a.first a.last whole first same (length ledger) (suc b) d).0)) all.rows
@@ -180,15 +172,15 @@ module _ (network_text plan_text : List ℕ) (b : ℕ) (buffer : List ℕ) {read
       lines-judged = judged ∙ or-else-passes _ _ (unfold verdict in first_passes (λ m. verdict (line_checks network whole m)) b all.passed)
 
       -- the text is at its end just where no line is behind the b
-      at-end : at_end plan_text taken.state.plan_at ≡ eqb (length first) b
+      at-end : at_end plan_text state.plan_at ≡ eqb (length first) b
       at-end = elim (dec_lt 0 (length plan_text)) [
         | yes h ↦ let e = plan-of-text network_text plan_text h in
-            starts-end plan_text taken.state.plan_at b (all.plan-starts h) (rw e at (lines-within network whole b all.passed)) ∙ ap (λ (l : List Line). eqb (length l) b) (sym (text-first h))
-        | no h ↦ end-of-none plan_text taken.state.plan_at (omega arith)
+            starts-end plan_text state.plan_at b (all.plan-starts h) (rw e at (lines-within network whole b all.passed)) ∙ ap (λ (l : List Line). eqb (length l) b) (sym (text-first h))
+        | no h ↦ end-of-none plan_text state.plan_at (omega arith)
             ∙ sym (eq-eqb _ _ (ap length (empty-first (omega arith)) ∙ held-count))
       ]
 
-      pub more-lines : at_end plan_text taken.state.plan_at ≡ false → CarryGot network_text plan_text b ledger ledger' buffer buffer (Err (refusal 9 (b + 1) 0))
+      pub more-lines : at_end plan_text state.plan_at ≡ false → CarryGot network_text plan_text b ledger ledger' buffer buffer (Err (refusal 9 (b + 1) 0))
       more-lines e =
           let v = lines-judged ∙ checked_refused _ 9 (suc b) 0 (sym at-end ∙ e) in
           rw (add-one b) (plan-refused network_text plan_text b ledger buffer within-plan v rows_all)
@@ -230,7 +222,7 @@ module _ (network_text plan_text : List ℕ) (b : ℕ) (buffer : List ℕ) {read
             stands = stands;
           }
 
-      pub carried-told : at_end plan_text taken.state.plan_at ≡ true → {answer : (Result ℕ Refusal)} {buffer' : List ℕ} → TextWritten network_text b signals waiting ledger' buffer answer buffer'
+      pub carried-told : at_end plan_text state.plan_at ≡ true → {answer : (Result ℕ Refusal)} {buffer' : List ℕ} → TextWritten network_text b signals waiting ledger' buffer answer buffer'
           → CarryGot network_text plan_text b ledger ledger' buffer buffer' answer
       carried-told e text =
           text-told network_text plan_text b ledger buffer within-plan (lines-judged ∙ checked-passes _ 9 (suc b) 0 (sym at-end ∙ e)) rows_all (text first stands)

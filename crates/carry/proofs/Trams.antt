@@ -14,25 +14,32 @@ use Rattle.network_writer.proofs.Put.{put-none, puts-more}
 use Rattle.network_writer.proofs.Trams.{TramsTo, trams-begin, tram-field, trams-on}
 use Rattle.network_writer.proofs.Texts.{texts-more}
 use Rattle.carry.specs.Trams.{left_of, TramsAsked}
+use Rattle.std.specs.Prelude.{Option, Some, None, is_some, option_to_list}
+use Rattle.std.specs.Int.{from_bool}
 
 -- ---- one line
 module _ (b : ℕ) (tram : List ℕ) where
-  pub one_left : b < get_or tram 3 0 → 1 ≡ length (left_of b tram)
-  unfolding left_of
-  one_left h = rw (lt-ltb b (get_or tram 3 0) h) refl
-
-  pub none_left : get_or tram 3 0 ≤ b → 0 ≡ length (left_of b tram)
+  pub none_left : get_or tram 3 0 ≤ b → [] ≡ left_of b tram
   unfolding left_of
   none_left h = rw (le-ltb b (get_or tram 3 0) h) refl
 
-  pub none-put : get_or tram 3 0 ≤ b → (at : ℕ) (old : List ℕ) → Put 1 (line_texts letter_t (left_of b tram)) at old old at
-  unfolding left_of line_texts
-  none-put h at old = rw (le-ltb b (get_or tram 3 0) h) (let p = put-none at old in record { ends = p.ends; few = omega arith; size = refl; is = p.is })
+  pub one_left : b < get_or tram 3 0 → {steps first : ℕ} → steps ≡ get_or tram 2 0 - b → first ≡ max steps 1 → (get_or tram 0 0 ∷ get_or tram 1 0 ∷ first ∷ (get_or tram 3 0 - b) ∷ []) ∷ [] ≡ left_of b tram
+  unfolding left_of
+  one_left h {first = first} d e = let z : first ≡ max (get_or tram 2 0) (suc b) - b = omega arith in rw (lt-ltb b (get_or tram 3 0) h, z) refl
 
-  pub one-put : b < get_or tram 3 0 → {t u v w at end : ℕ} {old new : List ℕ} → t ≡ get_or tram 0 0 → u ≡ get_or tram 1 0 → v ≡ max (get_or tram 2 0) (suc b) - b → w ≡ get_or tram 3 0
-      → Put 1 (record_text letter_t (t ∷ u ∷ v ∷ (w - b) ∷ [])) at old new end → Put 1 (line_texts letter_t (left_of b tram)) at old new end
-  unfolding left_of line_texts
-  one-put h d e f g p = rw (lt-ltb b (get_or tram 3 0) h, append-nil) (rw (d, e, f, g) at p)
+-- what is left is put, or there is none
+pub none-put : {left : List (List ℕ)} → [] ≡ left → (at : ℕ) (old : List ℕ) → Put 1 (line_texts letter_t left) at old old at
+unfolding line_texts
+none-put e at old = rw (← e) (let p = put-none at old in record { ends = p.ends; few = omega arith; size = refl; is = p.is })
+
+pub one-put : {left : List (List ℕ)} {row : List ℕ} → row ∷ [] ≡ left → {at end : ℕ} {old new : List ℕ} → Put 1 (record_text letter_t row) at old new end → Put 1 (line_texts letter_t left) at old new end
+unfolding line_texts
+one-put e p = rw (← e, append-nil) p
+
+-- a line is counted where one is left
+pub counted-one : {left : List (List ℕ)} (o : Option (List ℕ)) → option_to_list o ≡ left → {x : ℕ} → x ≡ from_bool (is_some o) → (x ≡ length left) × (x ≤ 1)
+counted-one (Some row) e d = rw (← e, d) (refl, omega arith)
+counted-one None e d = rw (← e, d) (refl, omega arith)
 
 -- what is left of a line that has passed is what is clipped of it
 module _ (b K : ℕ) (t : Line) (tram : List ℕ) (is : (f : ℕ) → f < tram_fields → get_or tram f 0 ≡ number t f) (first : number t 2 ≤ number t 3) (last : number t 3 ≤ K) where

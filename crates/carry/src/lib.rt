@@ -2,7 +2,7 @@
 // it, then into the buffer, if all of it fits.
 #![tactic(auto)]
 
-ghost use Rattle.std.specs.Prelude.{◌≡◌, ◌∷◌, suc, ◌+◌, ◌*◌, ◌-◌, ◌≤◌, ◌<◌, max, length, get_or};
+ghost use Rattle.std.specs.Prelude.{◌≡◌, ◌∷◌, suc, ◌+◌, ◌*◌, ◌-◌, ◌≤◌, ◌<◌, length, get_or, option_to_list};
 ghost use Rattle.text_reader.specs.Lines.{lines};
 ghost use Rattle.text_reader.specs.Padding.{PaddingIgnored};
 ghost use Rattle.text_reader.specs.Reading.{over};
@@ -46,11 +46,9 @@ fn copy_lines(
     let mut row = [0u32; PAST_SIZE];
     let mut line = from;
     let mut end = at;
-    let mut k = 0;
-    while k < count {
+    for _ in 0..count {
         line = network_writer::read_again(text, line, letter, &mut row, width);
         end = network_writer::put_line(letter, &row[..width], out, end);
-        k += 1;
     }
     end
 }
@@ -71,25 +69,16 @@ fn put_counts(counts: Counts, boundary: usize, trams: usize, out: &mut [u8]) -> 
     network_writer::put_line(b'N', &row, out, 0)
 }
 
-// The first step of a tram line's rest, counted from a boundary before its last step.
-fn first_step(first: u32, boundary: u32) -> u32
-    ensures { result ≡ max first (suc boundary) - boundary }
-{
-    if boundary < first {
-        return first - boundary;
-    }
-    1
-}
-
-// How many lines are left of a tram line behind a boundary: one, or none.
-fn lines_left(tram: &[u32], boundary: u32) -> usize
+// What is left of a tram line behind a boundary: its steps are counted from there.
+fn rest_of(tram: &[u32], boundary: u32) -> Option<[u32; TRAM_FIELDS]>
     requires { length tram.now ≡ tram_fields }
-    ensures { (result ≡ length (left_of boundary tram.now)) × (result ≤ 1) }
+    ensures { option_to_list result ≡ left_of boundary tram.now }
 {
-    if boundary < tram[3] {
-        return 1;
+    if tram[3] <= boundary {
+        return None;
     }
-    0
+    let first = tram[2].saturating_sub(boundary).max(1);
+    Some([tram[0], tram[1], first, tram[3] - boundary])
 }
 
 // Writes what is left of a tram line behind a boundary.
@@ -97,16 +86,10 @@ fn put_tram(tram: &[u32], boundary: u32, out: &mut [u8], at: usize) -> usize
     requires { (length tram.now ≡ tram_fields) × Early 1 at }
     ensures { Put 1 (line_texts letter_t (left_of boundary tram.now)) at out.old out.new result }
 {
-    if tram[3] <= boundary {
-        return at;
+    match rest_of(tram, boundary) {
+        Some(row) => network_writer::put_line(b'T', &row, out, at),
+        None => at,
     }
-    let row = [
-        tram[0],
-        tram[1],
-        first_step(tram[2], boundary),
-        tram[3] - boundary,
-    ];
-    network_writer::put_line(b'T', &row, out, at)
 }
 
 // How many tram lines are left behind a boundary.
@@ -117,11 +100,9 @@ fn count_trams(text: &[u8], from: usize, count: usize, boundary: usize) -> usize
     let mut tram = [0u32; TRAM_FIELDS];
     let mut line = from;
     let mut left = 0;
-    let mut k = 0;
-    while k < count {
+    for _ in 0..count {
         line = network_writer::read_again(text, line, b'T', &mut tram, TRAM_FIELDS);
-        left += lines_left(&tram, boundary as u32);
-        k += 1;
+        left += usize::from(rest_of(&tram, boundary as u32).is_some());
     }
     left
 }
@@ -141,11 +122,9 @@ fn put_trams(
     let mut tram = [0u32; TRAM_FIELDS];
     let mut line = from;
     let mut end = at;
-    let mut k = 0;
-    while k < count {
+    for _ in 0..count {
         line = network_writer::read_again(text, line, b'T', &mut tram, TRAM_FIELDS);
         end = put_tram(&tram, boundary as u32, out, end);
-        k += 1;
     }
     end
 }
@@ -156,12 +135,10 @@ fn put_signals(signals: &[u32], count: usize, out: &mut [u8], at: usize) -> usiz
     ensures { Put count (record_texts letter_g count (λ k. signal_numbers (table_signal signals.now k))) at out.old out.new result }
 {
     let mut end = at;
-    let mut k = 0;
-    while k < count {
+    for k in 0..count {
         let start = SIGNAL_FIELDS * k;
         let stop = start + (6 + 2 * network_tables::index(network_tables::phase_count(signals, k)));
         end = network_writer::put_line(b'G', &signals[start..stop], out, end);
-        k += 1;
     }
     end
 }
@@ -172,8 +149,7 @@ fn put_links(links: &[u32], waiting: &[u32], count: usize, out: &mut [u8], at: u
     ensures { Put count (record_texts letter_q count (link_row links.now waiting.now)) at out.old out.new result }
 {
     let mut end = at;
-    let mut i = 0;
-    while i < count {
+    for i in 0..count {
         let row = [
             network_tables::capacity(links, i),
             network_tables::travel_time(links, i),
@@ -184,7 +160,6 @@ fn put_links(links: &[u32], waiting: &[u32], count: usize, out: &mut [u8], at: u
             waiting[i],
         ];
         end = network_writer::put_line(b'Q', &row, out, end);
-        i += 1;
     }
     end
 }
@@ -195,8 +170,7 @@ fn put_movements(movements: &[u32], count: usize, out: &mut [u8], at: usize) -> 
     ensures { Put count (record_texts letter_m count (movement_row movements.now)) at out.old out.new result }
 {
     let mut end = at;
-    let mut j = 0;
-    while j < count {
+    for j in 0..count {
         let row = [
             network_tables::link_of(movements, j, 0),
             network_tables::link_of(movements, j, 1),
@@ -204,7 +178,6 @@ fn put_movements(movements: &[u32], count: usize, out: &mut [u8], at: usize) -> 
             network_tables::share(movements, j),
         ];
         end = network_writer::put_line(b'M', &row, out, end);
-        j += 1;
     }
     end
 }
@@ -214,13 +187,11 @@ fn fill_volumes(ledger: &[u32], links: usize, boundary: usize, n: usize, row: &m
     requires { VolumesAsked ledger.now links boundary n row.old }
     ensures { row.new ≡ over (get_or row.old 0 0 ∷ joined links (volumes_in ledger.now links n)) row.old }
 {
-    let mut i = 0;
-    while i < links {
+    for i in 0..links {
         let entered = network_tables::entered_at(ledger, links, n, i);
         let left = network_tables::left_at(ledger, links, n, i);
         row[1 + 2 * i] = network_tables::entered_at(ledger, links, n + 1, i) - entered;
         row[2 + 2 * i] = network_tables::left_at(ledger, links, n + 1, i) - left;
-        i += 1;
     }
 }
 
@@ -241,12 +212,10 @@ fn put_steps(
     let width = 1 + 2 * links;
     let mut line = from;
     let mut end = at;
-    let mut n = 0;
-    while n < boundary {
+    for n in 0..boundary {
         line = network_writer::read_again(text, line, b'S', &mut row, 1 + links);
         fill_volumes(ledger, links, boundary, n, &mut row);
         end = network_writer::put_line(b'H', &row[..width], out, end);
-        n += 1;
     }
     Places { line, at: end }
 }
@@ -350,7 +319,7 @@ fn carry_steps(
     ensures { CarryGot network.now plan.now boundary ledger.old ledger.new carried.old carried.new result }
 {
     let mut waiting = [0u32; MAX_LINKS];
-    let taken = plan_steps::take_steps(
+    let state = plan_steps::take_steps(
         network,
         plan,
         reading,
@@ -361,12 +330,8 @@ fn carry_steps(
         signals,
         &mut waiting,
         ledger,
-    );
-    let verdict = taken.verdict;
-    if let Err(refusal) = verdict {
-        return Err(refusal);
-    }
-    if !text_reader::is_end(plan, taken.state.plan_at) {
+    )?;
+    if !text_reader::is_end(plan, state.plan_at) {
         return Err(Refusal::new(9, boundary + 1, 0));
     }
     write_carried(
@@ -421,25 +386,23 @@ pub fn carry_on(
     let mut links = [0u32; LINK_TABLE_SIZE];
     let mut movements = [0u32; MOVEMENT_TABLE_SIZE];
     let mut times = [0u32; TIME_TABLE_SIZE];
-    match network::load_with_signals(
+    let reading = network::load_with_signals(
         network,
         &mut signals,
         &mut links,
         &mut movements,
         &mut times,
-    ) {
-        Err(refusal) => Err(refusal),
-        Ok(reading) => carry_from(
-            network,
-            network_tables::index(boundary),
-            plan,
-            reading,
-            &links,
-            &movements,
-            &times,
-            &mut signals,
-            ledger,
-            carried,
-        ),
-    }
+    )?;
+    carry_from(
+        network,
+        network_tables::index(boundary),
+        plan,
+        reading,
+        &links,
+        &movements,
+        &times,
+        &mut signals,
+        ledger,
+        carried,
+    )
 }

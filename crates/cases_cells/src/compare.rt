@@ -23,9 +23,10 @@ fn judge(
 ) -> bool
     ensures { result ≡ as_stored (run_cells (lines corridor.now)) (final_volumes (lines corridor.now)) stored volumes.now }
 {
-    let run = cells_call::run_cells(corridor);
-    let given = told::numbers_of(run.answer);
-    agrees(rt, number, &given, &stored, run.volumes == *volumes)
+    let answer = cells_call::run_cells(corridor);
+    let given = told::numbers_of(answer);
+    let left = told::volumes_of(answer);
+    agrees(rt, number, &given, &stored, left == *volumes)
 }
 
 // Reads one case and judges it: the place at which it is counted.

@@ -1,9 +1,10 @@
 // The answer of a run in the stored form, which is described in reference/src/cases/corridor_file.rs.
 ghost use Rattle.std.specs.Prelude.{◌≡◌};
-ghost use Rattle.cases_cells.specs.Told.{numbers_of};
+ghost use Rattle.cases_cells.specs.Told.{numbers_of, volumes_of};
 
+use base_search::Refusal;
 use cases_files::reading::{Malformed, read_u32, read_u64};
-use cells_call::CellsAnswer;
+use cells_call::CellsRun;
 use std::fmt;
 use std::fmt::Display;
 use std::io::Read;
@@ -28,23 +29,19 @@ impl Display for Numbers {
 }
 
 // The numbers of what the library answers.
-pub fn numbers_of(answer: CellsAnswer) -> Numbers
+pub fn numbers_of(answer: Result<CellsRun, Refusal>) -> Numbers
     ensures { result ≡ numbers_of answer }
 {
     match answer {
-        CellsAnswer::Ran {
-            cells,
-            flow_in,
-            flow_out,
-        } => Numbers {
+        Ok(run) => Numbers {
             number: 0,
             line: 0,
             item: 0,
-            cells,
-            flow_in,
-            flow_out,
+            cells: run.cells,
+            flow_in: run.flow_in,
+            flow_out: run.flow_out,
         },
-        CellsAnswer::Refused(refusal) => Numbers {
+        Err(refusal) => Numbers {
             number: refusal.number,
             line: refusal.line,
             item: refusal.item,
@@ -52,6 +49,16 @@ pub fn numbers_of(answer: CellsAnswer) -> Numbers
             flow_in: 0,
             flow_out: 0,
         },
+    }
+}
+
+// The volumes of what the library answers; of a refusal, all 0.
+pub fn volumes_of(answer: Result<CellsRun, Refusal>) -> [u32; 64]
+    ensures { result ≡ volumes_of answer }
+{
+    match answer {
+        Ok(run) => run.volumes,
+        Err(_) => [0; 64],
     }
 }
 

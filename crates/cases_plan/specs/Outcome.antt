@@ -6,8 +6,9 @@ use Rattle.model.specs.declared.LinkState.{LinkState}
 use Rattle.model.specs.declared.Totals.{Totals}
 use Rattle.plan_compare.specs.declared.Order.{Order}
 use Rattle.plan_compare.specs.declared.Order.TheVariants.{Ahead, Behind, Equal, Crossing}
-use Rattle.plan_compare.specs.declared.ComparisonAnswer.{ComparisonAnswer}
-use Rattle.plan_compare.specs.declared.ComparisonAnswer.TheVariants as comparison-answer
+use Rattle.plan_compare.specs.declared.Comparison.{Comparison}
+use Rattle.plan_compare.specs.declared.ComparisonRefusal.{ComparisonRefusal}
+use Rattle.plan_compare.specs.Comparison.{plan_number, refusal_in}
 use Rattle.cases_plan.specs.declared.outcome.Kind.{Kind}
 use Rattle.cases_plan.specs.declared.outcome.Kind.TheVariants as kinds
 use Rattle.cases_plan.specs.declared.outcome.Outcome.{Outcome}
@@ -51,9 +52,11 @@ order_number Equal = 3
 order_number Crossing = 4
 
 -- a refusal of a comparison says which plan it means
-abbrev pub comparison_outcome : ComparisonAnswer → Outcome
-comparison_outcome (comparison-answer.Compared order gap) = record { kind = 5; first = order_number order; second = modulo64 gap; third = 0; fourth = 0 }
-comparison_outcome (comparison-answer.Refused plan r) = record { kind = 3; first = r.number; second = r.line; third = r.item; fourth = plan }
+abbrev pub comparison_outcome : Result Comparison ComparisonRefusal → Outcome
+comparison_outcome (Ok c) = record { kind = 5; first = order_number c.order; second = modulo64 c.gap; third = 0; fourth = 0 }
+comparison_outcome (Err refused) =
+    let r = refusal_in refused in
+    record { kind = 3; first = r.number; second = r.line; third = r.item; fourth = plan_number refused }
 
 abbrev pub same_outcome : Outcome → Outcome → Bool
 same_outcome one other =

@@ -4,7 +4,7 @@ ghost use Rattle.cases_plan.specs.Outcome.{refused_outcome, network_outcome, pla
 
 use base_search::Refusal;
 use model::{LinkState, Totals};
-use plan_compare::{ComparisonAnswer, Order};
+use plan_compare::{Comparison, ComparisonRefusal, Order};
 use std::fmt;
 use std::fmt::Display;
 
@@ -129,17 +129,17 @@ fn order_number(order: Order) -> u64
     }
 }
 
-impl From<ComparisonAnswer> for Outcome {
+impl From<Result<Comparison, ComparisonRefusal>> for Outcome {
     ghost from_gives = { λ answer outcome. outcome ≡ comparison_outcome answer };
 
-    fn from(answer: ComparisonAnswer) -> Outcome {
+    fn from(answer: Result<Comparison, ComparisonRefusal>) -> Outcome {
         match answer {
-            ComparisonAnswer::Compared { order, gap } => {
+            Ok(Comparison { order, gap }) => {
                 of_two(Kind::Compared, order_number(order), gap.cast_unsigned())
             }
-            ComparisonAnswer::Refused { plan, refusal } => Outcome {
-                fourth: u64::from(plan),
-                ..Outcome::from(refusal)
+            Err(not_compared) => Outcome {
+                fourth: u64::from(not_compared.plan()),
+                ..Outcome::from(not_compared.refusal())
             },
         }
     }

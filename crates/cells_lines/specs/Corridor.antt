@@ -1,9 +1,11 @@
 -- The text of a corridor in cells (T-12): 1 to 64 lines `C`, flow limit, holding limit, wave ratio, start; one line `X`, exit limit; 1 to 120 lines `D`, demand.
 -- Lines, cells and demands are counted from 0 here, lines from 1 in a refusal.
-use Rattle.std.specs.Prelude.{ℕ, suc, ◌+◌, ◌-◌, Bool, cond, ◌&&◌, List, [], ◌∷◌, leb, ltb, eqb, length, get_or}
+use Rattle.std.specs.Prelude.{ℕ, suc, ◌+◌, ◌-◌, Bool, ◌&&◌, List, leb, ltb, eqb, length, get_or}
+use Rattle.std.specs.List.{prefix_len}
 use Rattle.base_search.specs.Checks.{Checks, check, each, ◌then◌}
 use Rattle.text_reader.specs.Lines.{Line, no_line, is_record, number}
 use Rattle.base_laws.specs.Indexed.{list}
+use Rattle.cells_steps.specs.declared.Cell.{Cell}
 use Rattle.cells_steps.specs.Steps.{Chain, chain_of}
 
 abbrev pub letter_c : ℕ
@@ -19,17 +21,29 @@ letter_d = 68
 abbrev pub is_volume : ℕ → Bool
 is_volume x = leb x 2_000_000_000
 
+-- what a `C` line says: a cell, and its start
+unfoldable pub cell_of : Line → Cell
+cell_of line = record { flow_limit = number line 0; holding_limit = number line 1; wave_ratio = number line 2 }
+
+unfoldable pub start_of : Line → ℕ
+start_of line = number line 3
+
 -- flow limit, holding limit and start are volumes, and the wave ratio is 1 to 1000 thousandths
-unfoldable pub valid_cell : (ℕ → ℕ) → Bool
-valid_cell value = is_volume (value 0) && is_volume (value 1) && leb 1 (value 2) && leb (value 2) 1000 && is_volume (value 3)
+unfoldable pub valid_cell : Cell → ℕ → Bool
+valid_cell cell start =
+    is_volume cell.flow_limit && is_volume cell.holding_limit && leb 1 cell.wave_ratio && leb cell.wave_ratio 1000 && is_volume start
 
 -- 36: the form of a `C` line, and its limits
 unfoldable pub cell_form : Line → Bool
-cell_form line = is_record letter_c 4 line && valid_cell (number line)
+cell_form line = is_record letter_c 4 line && valid_cell (cell_of line) (start_of line)
 
 -- 37: its start is at most its holding limit
 unfoldable pub start_held : Line → Bool
-start_held line = leb (number line 3) (number line 1)
+start_held line = leb (start_of line) (cell_of line).holding_limit
+
+-- line i as a `C` line: 36 (a 65th too), then 37
+unfoldable pub cell_line_checks : ℕ → Line → Checks
+cell_line_checks i line = check 36 (suc i) 0 (ltb i 64 && cell_form line) then check 37 (suc i) 0 (start_held line)
 
 -- 36: the form of a line of one volume, and its limit
 unfoldable pub volume_form : ℕ → Line → Bool
@@ -37,8 +51,7 @@ volume_form letter line = is_record letter 1 line && is_volume (number line 0)
 
 -- how many lines from the first on have the letter C
 unfoldable pub cell_count : List Line → ℕ
-cell_count [] = 0
-cell_count (line ∷ text) = cond (eqb line.letter letter_c) (suc (cell_count text)) 0
+cell_count text = prefix_len (λ line. eqb line.letter letter_c) text
 
 module _ (text : List Line) where
   -- the lines after the `X` line
@@ -49,10 +62,8 @@ module _ (text : List Line) where
   demand_count = length text - demand_line 0
 
   -- ---- the checks, line by line
-  -- 36 (a 65th `C` line too), then 37
   unfoldable pub cell_checks : ℕ → Checks
-  cell_checks i =
-      check 36 (suc i) 0 (ltb i 64 && cell_form (get_or text i no_line)) then check 37 (suc i) 0 (start_held (get_or text i no_line))
+  cell_checks i = cell_line_checks i (get_or text i no_line)
 
   -- 36: after one cell at least comes the `X` line
   unfoldable pub exit_check : Checks
@@ -69,15 +80,15 @@ module _ (text : List Line) where
   corridor_checks = each (cell_count text) cell_checks then exit_check then demand_checks
 
   -- ---- the numbers
-  -- number k of each cell
-  unfoldable pub column : ℕ → List ℕ
-  column k = list (cell_count text) (λ i. number (get_or text i no_line) k)
-
   unfoldable pub chain : Chain
-  chain = chain_of (column 0) (column 1) (column 2) (number (get_or text (cell_count text) no_line) 0)
+  chain = chain_of (list (cell_count text) (λ i. cell_of (get_or text i no_line))) (number (get_or text (cell_count text) no_line) 0)
 
   unfoldable pub starts : List ℕ
-  starts = column 3
+  starts = list (cell_count text) (λ i. start_of (get_or text i no_line))
+
+  -- demand k
+  unfoldable pub demand : ℕ → ℕ
+  demand k = number (get_or text (demand_line k) no_line) 0
 
   unfoldable pub demands : List ℕ
-  demands = list demand_count (λ k. number (get_or text (demand_line k) no_line) 0)
+  demands = list demand_count demand

@@ -1,210 +1,147 @@
 // The text of a corridor in cells (T-12): its `C`, `X` and `D` lines, read into tables; refusals 36 and 37.
 #![tactic(auto)]
 
-ghost use Rattle.std.specs.Prelude.{◌≡◌, eqb, length, get_or};
+ghost use Rattle.std.specs.Prelude.{◌≡◌, ◌<◌, ◌==◌, false, length, IfOk, IfErr};
+ghost use Rattle.base_search.specs.Checks.{refusal, each, verdict};
+ghost use Rattle.text_reader.specs.Lines.{lines};
 ghost use Rattle.text_reader.specs.Reading.{line_at};
-ghost use Rattle.cells_lines.specs.Corridor.{letter_c, valid_cell};
-ghost use Rattle.cells_lines.specs.Reading.{volume_at, CellGot, CellsAsked, CellsGot, DemandsAsked, DemandsGot, RestAsked, RestGot, CorridorGot};
+ghost use Rattle.cells_lines.specs.Corridor.{letter_c, valid_cell, cell_line_checks, volume_form, cell_count, cell_checks, demand_checks, corridor_checks};
+ghost use Rattle.cells_lines.specs.Reading.{CellRead, VolumeRead, CellsRead, DemandsAsked, DemandsRead, CorridorRead};
 
-use text_reader::LineRead;
+use base_search::Refusal;
+use cells_steps::Cell;
 
-// The result of a `C` line: the place of the next line, or the number of its refusal.
+// What of a corridor was read into the tables: how many cells and how many demands; and the exit limit.
 #[derive(Clone, Copy)]
-pub enum CellRead {
-    Passed(usize),
-    Refused(u32),
-}
-
-// The result of the `C` lines: how many there are and the place of the next line, or a refusal.
-#[derive(Clone, Copy)]
-pub enum CellsRead {
-    Passed { cells: usize, next: usize },
-    Stopped { number: u32, line: u32 },
-}
-
-// The result of a line of one volume: the volume and the place of the next line, unless it is refused.
-#[derive(Clone, Copy)]
-pub enum VolumeRead {
-    Passed { volume: u32, next: usize },
-    Malformed,
-}
-
-// The result of the `D` lines: how many there are, or the line that is refused.
-#[derive(Clone, Copy)]
-pub enum DemandsRead {
-    Passed(usize),
-    Stopped(u32),
-}
-
-// The result of a whole text: how many cells, the exit limit and how many demands, or a refusal.
-#[derive(Clone, Copy)]
-pub enum CorridorRead {
-    Loaded {
-        cells: usize,
-        exit: u32,
-        steps: usize,
-    },
-    Refused {
-        number: u32,
-        line: u32,
-    },
+pub struct Corridor {
+    pub cells: usize,
+    pub exit: u32,
+    pub steps: usize,
 }
 
 // Whether the line at a place has the letter C, whatever follows it.
 fn is_cell(text: &[u8], at: usize) -> bool
-    ensures { result ≡ eqb (line_at text.now at).letter letter_c }
+    ensures { result ≡ ((line_at text.now at).letter == letter_c) }
 {
-    let mut none = [0u32; 1];
-    let end = 0;
-    text_reader::head_at(text, at, b'C', &mut none[..end])
+    text_reader::head_at(text, at, b'C', &mut [])
 }
 
 // Refusal 36: whether flow limit, holding limit, wave ratio and start are within their limits.
-fn valid_cell(row: &[u32]) -> bool
-    requires { length row.now ≡ 4 }
-    ensures { result ≡ valid_cell (λ k. get_or row.now k 0) }
+fn valid_cell(cell: Cell, start: u32) -> bool
+    ensures { result ≡ valid_cell cell start }
 {
-    (row[0] <= 2_000_000_000)
-        & (row[1] <= 2_000_000_000)
-        & (1 <= row[2])
-        & (row[2] <= 1000)
-        & (row[3] <= 2_000_000_000)
+    (cell.flow_limit <= 2_000_000_000)
+        & (cell.holding_limit <= 2_000_000_000)
+        & (1 <= cell.wave_ratio)
+        & (cell.wave_ratio <= 1000)
+        & (start <= 2_000_000_000)
 }
 
-// Refusals 36 and 37 of the `C` line at a place, whose four numbers go into `row`.
-fn cell_at(text: &[u8], at: usize, row: &mut [u32]) -> CellRead
-    requires { length row.old ≡ 4 }
-    ensures { CellGot text.now at result row.new }
+// Refusals 36 and 37 of `C` line n, which is at this place: its cell, the cell's start, and the place of the next line.
+fn cell_at(text: &[u8], at: usize, n: usize) -> Result<(Cell, u32, usize), Refusal>
+    requires { n < 64 }
+    ensures ok { IfOk result (λ (cell, start, next). CellRead n text.now at cell start next) }
+    ensures err { IfErr result (λ refusal. verdict (cell_line_checks n (line_at text.now at)) ≡ Err refusal) }
 {
-    let LineRead::Next(next) = text_reader::line_at(text, at, b'C', row) else {
-        return CellRead::Refused(36);
+    let malformed = Refusal::new(36, n + 1, 0);
+    let mut row = [0u32; 4];
+    let next = text_reader::line_at(text, at, b'C', &mut row).ok_or(malformed)?;
+    let [flow_limit, holding_limit, wave_ratio, start] = row;
+    let cell = Cell {
+        flow_limit,
+        holding_limit,
+        wave_ratio,
     };
-    if !valid_cell(row) {
-        return CellRead::Refused(36);
+    if !valid_cell(cell, start) {
+        return Err(malformed);
     }
-    if row[1] < row[3] {
-        return CellRead::Refused(37);
+    if holding_limit < start {
+        return Err(Refusal::new(37, n + 1, 0));
     }
-    CellRead::Passed(next)
+    Ok((cell, start, next))
 }
 
-// Refusals 36 and 37 of all `C` lines. The numbers of cell n go to place n of each table; the starts are the first volumes.
+// Refusals 36 and 37 of all `C` lines: how many there are, and the place of the next line. Cell n and its start go to place n of the tables.
 fn read_cells(
     text: &[u8],
-    flow_limits: &mut [u32],
-    holding_limits: &mut [u32],
-    wave_ratios: &mut [u32],
+    cells: &mut [Cell],
     volumes: &mut [u32],
-) -> CellsRead
-    requires { CellsAsked flow_limits.old holding_limits.old wave_ratios.old volumes.old }
-    ensures { CellsGot text.now result flow_limits.old holding_limits.old wave_ratios.old volumes.old flow_limits.new holding_limits.new wave_ratios.new volumes.new }
+) -> Result<(usize, usize), Refusal>
+    requires cells_len { length cells.old ≡ 64 }
+    requires volumes_len { length volumes.old ≡ 64 }
+    ensures ok { IfOk result (λ (count, next). CellsRead text.now count next cells.old volumes.old cells.new volumes.new) }
+    ensures err { IfErr result (λ refusal. verdict (each (cell_count (lines text.now)) (cell_checks (lines text.now))) ≡ Err refusal) }
 {
-    let mut row = [0u32; 4];
     let mut place = 0;
-    let mut n = 0;
-    while is_cell(text, place) {
-        let line = (n + 1) as u32;
-        if 64 <= n {
-            return CellsRead::Stopped { number: 36, line };
+    for (n, cell) in cells.iter_mut().enumerate() {
+        if !is_cell(text, place) {
+            return Ok((n, place));
         }
-        match cell_at(text, place, &mut row) {
-            CellRead::Refused(number) => {
-                return CellsRead::Stopped { number, line };
-            }
-            CellRead::Passed(next) => {
-                place = next;
-            }
-        }
-        flow_limits[n] = row[0];
-        holding_limits[n] = row[1];
-        wave_ratios[n] = row[2];
-        volumes[n] = row[3];
-        n += 1;
+        (*cell, volumes[n], place) = cell_at(text, place, n)?;
     }
-    CellsRead::Passed {
-        cells: n,
-        next: place,
+    if is_cell(text, place) {
+        return Err(Refusal::new(36, 65, 0));
     }
+    Ok((64, place))
 }
 
-// Refusal 36 of a line of this letter and one volume.
-fn volume_at(text: &[u8], at: usize, letter: u8) -> VolumeRead
-    ensures { result ≡ volume_at letter text.now at }
+// Refusal 36 of a line of this letter and one volume, which is this line of the text: the volume, and the place of the next line.
+fn volume_at(text: &[u8], at: usize, letter: u8, line: usize) -> Result<(u32, usize), Refusal>
+    requires { line < 4294967296 }
+    ensures ok { IfOk result (λ (volume, next). VolumeRead letter text.now at volume next) }
+    ensures err { IfErr result (λ r. (volume_form letter (line_at text.now at) ≡ false) × (r ≡ refusal 36 line 0)) }
 {
+    let malformed = Refusal::new(36, line, 0);
     let mut row = [0u32; 1];
-    let LineRead::Next(next) = text_reader::line_at(text, at, letter, &mut row) else {
-        return VolumeRead::Malformed;
-    };
-    let volume = row[0];
+    let next = text_reader::line_at(text, at, letter, &mut row).ok_or(malformed)?;
+    let [volume] = row;
     if 2_000_000_000 < volume {
-        return VolumeRead::Malformed;
+        return Err(malformed);
     }
-    VolumeRead::Passed { volume, next }
+    Ok((volume, next))
 }
 
-// Refusal 36 of the `D` lines: every line from `at` on, which comes after the lines of the cells and the exit.
-fn read_demands(text: &[u8], at: usize, cells: usize, demands: &mut [u32]) -> DemandsRead
+// Refusal 36 of the `D` lines, which are all lines from `at` on, after those of the cells and the exit: how many there are.
+fn read_demands(text: &[u8], at: usize, cells: usize, demands: &mut [u32]) -> Result<usize, Refusal>
     requires { DemandsAsked text.now at cells demands.old }
-    ensures { DemandsGot text.now result demands.old demands.new }
+    ensures ok { IfOk result (λ count. DemandsRead text.now count demands.old demands.new) }
+    ensures err { IfErr result (λ refusal. verdict (demand_checks (lines text.now)) ≡ Err refusal) }
 {
     let mut place = at;
-    let mut k = 0;
-    while !text_reader::is_end(text, place) {
-        let line = (cells + 2 + k) as u32;
-        if 120 <= k {
-            return DemandsRead::Stopped(line);
+    for (k, demand) in demands.iter_mut().enumerate() {
+        if 0 < k && text_reader::is_end(text, place) {
+            return Ok(k);
         }
-        match volume_at(text, place, b'D') {
-            VolumeRead::Malformed => {
-                return DemandsRead::Stopped(line);
-            }
-            VolumeRead::Passed { volume, next } => {
-                demands[k] = volume;
-                place = next;
-            }
-        }
-        k += 1;
+        (*demand, place) = volume_at(text, place, b'D', cells + 2 + k)?;
     }
-    if k == 0 {
-        let line = (cells + 2) as u32;
-        return DemandsRead::Stopped(line);
+    if !text_reader::is_end(text, place) {
+        return Err(Refusal::new(36, cells + 122, 0));
     }
-    DemandsRead::Passed(k)
+    Ok(120)
 }
 
-// Refusal 36 of what comes after the `C` lines, from `at` on.
-fn load_rest(text: &[u8], at: usize, cells: usize, demands: &mut [u32]) -> CorridorRead
-    requires { RestAsked text.now at cells demands.old }
-    ensures { RestGot text.now cells result demands.old demands.new }
-{
-    let line = (cells + 1) as u32;
-    if cells == 0 {
-        return CorridorRead::Refused { number: 36, line };
-    }
-    let VolumeRead::Passed { volume: exit, next } = volume_at(text, at, b'X') else {
-        return CorridorRead::Refused { number: 36, line };
-    };
-    match read_demands(text, next, cells, demands) {
-        DemandsRead::Stopped(line) => CorridorRead::Refused { number: 36, line },
-        DemandsRead::Passed(steps) => CorridorRead::Loaded { cells, exit, steps },
-    }
-}
-
-// Refusals 36 and 37 of a whole text. The cells' limits and starts and the demands go to the beginning of the tables.
+// Refusals 36 and 37 of a whole text. The cells, their starts and the demands go to the beginning of the tables.
 pub fn load_corridor(
     text: &[u8],
-    flow_limits: &mut [u32],
-    holding_limits: &mut [u32],
-    wave_ratios: &mut [u32],
+    cells: &mut [Cell],
     volumes: &mut [u32],
     demands: &mut [u32],
-) -> CorridorRead
-    requires cells_asked { CellsAsked flow_limits.old holding_limits.old wave_ratios.old volumes.old }
+) -> Result<Corridor, Refusal>
+    requires cells_len { length cells.old ≡ 64 }
+    requires volumes_len { length volumes.old ≡ 64 }
     requires demands_len { length demands.old ≡ 120 }
-    ensures { CorridorGot text.now result volumes.old flow_limits.new holding_limits.new wave_ratios.new volumes.new demands.new }
+    ensures ok { IfOk result (λ corridor. CorridorRead text.now corridor volumes.old cells.new volumes.new demands.new) }
+    ensures err { IfErr result (λ refusal. verdict (corridor_checks (lines text.now)) ≡ Err refusal) }
 {
-    match read_cells(text, flow_limits, holding_limits, wave_ratios, volumes) {
-        CellsRead::Stopped { number, line } => CorridorRead::Refused { number, line },
-        CellsRead::Passed { cells, next } => load_rest(text, next, cells, demands),
+    let (count, place) = read_cells(text, cells, volumes)?;
+    if count == 0 {
+        return Err(Refusal::new(36, 1, 0));
     }
+    let (exit, next) = volume_at(text, place, b'X', count + 1)?;
+    let steps = read_demands(text, next, count, demands)?;
+    Ok(Corridor {
+        cells: count,
+        exit,
+        steps,
+    })
 }

@@ -1,34 +1,38 @@
 -- The steps of a chain of cells (T-12). Cells and borders are counted from 0: border i is the way into cell i, the last border is the way out.
 use Rattle.std.specs.Prelude.{ℕ, zero, suc, ◌+◌, ◌-◌, ◌*◌, ◌/◌, ◌≤◌, ◌<◌, min, ◌≡◌, cond, List, [], ◌∷◌, ltb, length, get_or}
 use Rattle.base_laws.specs.Indexed.{list}
+use Rattle.cells_steps.specs.declared.Cell.{Cell}
 
--- The limits of a chain: of each cell, and of its exit. Wave ratios are in thousandths.
+-- The limits of a chain: of its cells, and of its exit.
 pub record Chain : Type 0 where
-  pub flow_limits : List ℕ
-  pub holding_limits : List ℕ
-  pub wave_ratios : List ℕ
+  pub cells : List Cell
   pub exit_limit : ℕ
 
-abbrev pub chain_of : List ℕ → List ℕ → List ℕ → ℕ → Chain
-chain_of flows holdings ratios exit = record { flow_limits = flows; holding_limits = holdings; wave_ratios = ratios; exit_limit = exit }
+abbrev pub chain_of : List Cell → ℕ → Chain
+chain_of cells exit = record { cells = cells; exit_limit = exit }
 
--- the flow into cell i of this volume: the least of what waits before it, its flow limit, and wave ratio × (holding limit − volume), rounded down
-unfoldable pub inflow : List ℕ → List ℕ → List ℕ → ℕ → ℕ → ℕ → ℕ
-inflow flows holdings ratios i waiting volume = min (min waiting (get_or flows i 0)) (get_or ratios i 0 * (get_or holdings i 0 - volume) / 1000)
+-- what stands where no cell is
+abbrev pub no_cell : Cell
+no_cell = record { flow_limit = 0; holding_limit = 0; wave_ratio = 0 }
+
+abbrev pub cell_at : Chain → ℕ → Cell
+cell_at chain i = get_or chain.cells i no_cell
+
+-- the flow into a cell of this volume: the least of what waits before it, its flow limit, and wave ratio × (holding limit − volume), rounded down
+unfoldable pub inflow : Cell → ℕ → ℕ → ℕ
+inflow cell waiting volume = min (min waiting cell.flow_limit) (cell.wave_ratio * (cell.holding_limit - volume) / 1000)
 
 -- ---- one step: all flows use the volumes before it
 module _ (chain : Chain) where
   -- the flow out of cell i, which holds this volume: into the next cell, or, out of the last, the least of its volume and the exit limit
   unfoldable pub outflow : List ℕ → ℕ → ℕ → ℕ
   outflow volumes i volume =
-      cond (ltb (suc i) (length volumes))
-      (inflow chain.flow_limits chain.holding_limits chain.wave_ratios (suc i) volume (get_or volumes (suc i) 0))
-      (min volume chain.exit_limit)
+      cond (ltb (suc i) (length volumes)) (inflow (cell_at chain (suc i)) volume (get_or volumes (suc i) 0)) (min volume chain.exit_limit)
 
   module _ (demand : ℕ) (volumes : List ℕ) where
     -- the flow over border i: of the demand into the first cell, or out of the cell before
     unfoldable pub flow : ℕ → ℕ
-    flow zero = inflow chain.flow_limits chain.holding_limits chain.wave_ratios 0 demand (get_or volumes 0 0)
+    flow zero = inflow (cell_at chain 0) demand (get_or volumes 0 0)
     flow (suc i) = outflow volumes i (get_or volumes i 0)
 
     -- the volume of cell i after the step
@@ -55,9 +59,7 @@ module _ (chain : Chain) where
 pub record Ready (chain : Chain) (volumes : List ℕ) : Type 0 where
   pub some : 0 < length volumes
   pub few : length volumes ≤ 64
-  pub flows : length chain.flow_limits ≡ length volumes
-  pub holdings : length chain.holding_limits ≡ length volumes
-  pub ratios : length chain.wave_ratios ≡ length volumes
-  pub held : (i : ℕ) → i < length volumes → get_or volumes i 0 ≤ get_or chain.holding_limits i 0
-  pub small : (i : ℕ) → i < length volumes → get_or chain.holding_limits i 0 ≤ 2_000_000_000
-  pub slow : (i : ℕ) → i < length volumes → get_or chain.wave_ratios i 0 ≤ 1000
+  pub same_length : length chain.cells ≡ length volumes
+  pub held : (i : ℕ) → i < length volumes → get_or volumes i 0 ≤ (cell_at chain i).holding_limit
+  pub small : (i : ℕ) → i < length volumes → (cell_at chain i).holding_limit ≤ 2_000_000_000
+  pub slow : (i : ℕ) → i < length volumes → (cell_at chain i).wave_ratio ≤ 1000

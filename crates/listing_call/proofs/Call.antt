@@ -1,5 +1,5 @@
 -- The stages of the call.
-use Rattle.base_laws.proofs.Kit.{ℕ, zero, suc, ◌+◌, ◌-◌, ◌≡◌, refl, sym, ap, ◌∙◌, List, add-one, arith, rules, length, get_or, take, replicate, length-replicate}
+use Rattle.base_laws.proofs.Kit.{ℕ, zero, suc, ◌+◌, ◌≡◌, refl, sym, ap, ◌∙◌, List, add-one, arith, rules, length, get_or, take, replicate, length-replicate}
 use Rattle.base_search.specs.declared.Refusal.{Refusal}
 use Rattle.base_search.specs.Checks.{each, or_else, verdict, Hold, Verdict}
 use Rattle.base_search.specs.Numbers.{is_one_of, CanArise}
@@ -14,7 +14,6 @@ use Rattle.model.specs.Table.{network_checks}
 use Rattle.model.proofs.Accepted.{valid-network}
 use Rattle.model.proofs.Limits.{step-limits}
 use Rattle.model.proofs.Numbers.{network-among}
-use Rattle.network_tables.specs.declared.Counts.{Counts}
 use Rattle.network_tables.specs.declared.Reading.{Reading}
 use Rattle.network_tables.specs.Fields.{signal_table_size, line_size}
 use Rattle.network_tables.specs.Blocks.{block_checks, signal_block}
@@ -22,13 +21,14 @@ use Rattle.network_tables.specs.Tables.{stage_verdict, moved_to, Judged, PhaseTa
 use Rattle.network_signals.specs.Stages.{SignalsAsked, SignalsHeld}
 use Rattle.network.specs.Loading.{Loaded}
 use Rattle.network.proofs.Rooms.{zeros-size, zeros-blank}
-use Rattle.listing_lines.specs.declared.Entry.{Entry}
+use Rattle.listing_lines.specs.Entry.{Entry}
 use Rattle.model_text.specs.Answers.{text_answer, bytes_after, room_verdict, Told}
 use Rattle.model_text.proofs.Answers.{refused-of-answer, told-written}
 use Rattle.listing_call.specs.Listing.{listing_numbers, entry_checks_by, listing_checks, plan_text, write_checks, plan_from_listing, buffer_after}
 use Rattle.listing_call.specs.ReadsBack.{PlanGot}
-use Rattle.listing_call.specs.Tables.{has_in, seconds_in, TablesAsked, ListingGot, ListingAsked, number_table_size, seen_size}
-use Rattle.network_writer.specs.Plan.{plan_lines, PlanAsked}
+use Rattle.step_arrivals.specs.Arrivals.{seconds_in}
+use Rattle.listing_call.specs.Tables.{has_in, TablesFit, Empty, number_table_size, seen_size}
+use Rattle.network_writer.specs.Plan.{plan_lines}
 use Rattle.listing_call.specs.Writing.{WriteGot, NetworkAsked, ListingWritten}
 use Rattle.listing_call.proofs.Theorem.{text-some, text-meant, reads-back}
 use Rattle.step_arrivals.specs.Times.{ShiftAsked, Shifted}
@@ -37,44 +37,19 @@ use Rattle.listing_call.proofs.Whole.{verdict-same, text_same}
 use Rattle.std.specs.Prelude.{Result, Ok, Err}
 
 -- ---- empty tables
-abbrev zeroes : ℕ → List ℕ
-zeroes n = replicate n 0
-
-zero-at : (n k : ℕ) → get_or (zeroes n) k 0 ≡ 0
+zero-at : (n k : ℕ) → ◌≡◌ {A = ℕ} (get_or (replicate n 0) k 0) 0
 zero-at zero k = refl
 zero-at (suc n) zero = refl
 zero-at (suc n) (suc k) = zero-at n k
 
-pub empty-asked : (n k : ℕ) (counts : Counts) (phases times : List ℕ) → n ≡ number_table_size → k ≡ seen_size → TablesAsked counts phases times → ListingAsked counts phases times (zeroes n) (zeroes k)
-empty-asked n k counts phases times e f t =
+pub empty-tables : (n k : ℕ) → n ≡ number_table_size → k ≡ seen_size → Empty (replicate n 0) (replicate k 0)
+empty-tables n k e f =
     record {
-      tables = t;
       number-room = length-replicate n 0 ∙ e;
       seen-room = length-replicate k 0 ∙ f;
       no-numbers = λ j. zero-at n j;
       no-marks = λ j. zero-at k j;
     }
-
-module _ (counts : Counts) (phases times : List ℕ) (listing : List Entry) (v : Verdict) (numbers seen : List ℕ)
-    (g : ListingGot (has_in counts phases) (seconds_in times) listing v numbers seen) where
-  pub write_kept : TablesAsked counts phases times → v ≡ Ok tt → PlanAsked numbers line_size counts
-  write_kept t e = record { few = t.places.few; few-columns = omega arith; room = (g.kept e).number-room }
-
-  pub write-passed : (old : List ℕ) → v ≡ Ok tt → (answer : Result ℕ Refusal) (new : List ℕ) → Told (plan_lines numbers line_size counts) (room_verdict 24 (plan_lines numbers line_size counts) old) old answer new → WriteGot counts phases times listing old answer new
-  write-passed old e answer new s =
-      let told = g.told in
-      record {
-        stopped = λ r q. let z : ◌≡◌ {A = ℕ} 0 1 = cc in absurd (omega arith);
-        passed = λ q. (numbers, seen, g.kept e, s);
-      }
-
-  pub write-stopped : (old : List ℕ) (r : Refusal) → v ≡ Err r → WriteGot counts phases times listing old (Err r) old
-  write-stopped old r e =
-      let told = g.told in
-      record {
-        stopped = λ r' q. (cc, refl);
-        passed = λ q. let z : ◌≡◌ {A = ℕ} 0 1 = cc in absurd (omega arith);
-      }
 
 -- ---- on a network that has passed
 or-passes : (text old : List ℕ) (answer : Result ℕ Refusal) (new : List ℕ) → Told text (room_verdict 24 text old) old answer new → Told text (or_else (Ok tt) (room_verdict 24 text old)) old answer new
@@ -112,18 +87,15 @@ module _ (text : List ℕ) (reading : Reading) (times : List ℕ) (a : NetworkAs
       table : PhaseTable (lines text) phases
       table = (g.held next e).phase-table
 
-      pub tables-asked : TablesAsked reading.counts phases times
-      tables-asked =
+      pub tables-fit : TablesFit reading.counts phases times
+      tables-fit =
           let c = a.counted in
           let t = a.time-table in
           record {
-            places = record {
-              few = c.few;
-              phase-room = table.size;
-              few-phases = λ r h. table.few r (omega (arith, c.signals));
-            };
+            few = c.few;
+            phase-room = table.size;
+            few-phases = λ r h. table.few r (omega (arith, c.signals));
             time-room = t.size;
-            rising = λ n h. omega (arith, t.holds n (omega (arith, c.steps)), t.holds (n + 1) (omega (arith, c.steps)), time-next (lines text) n);
             short = λ n h. omega (arith, t.holds n (omega (arith, c.steps)), t.holds (n + 1) (omega (arith, c.steps)), time-next (lines text) n, (step-limits (lines text) (valid-network (lines text) a.holds) n (omega (arith, c.steps))).length-limit);
           }
 
@@ -195,6 +167,6 @@ module _ (text : List ℕ) (r : Result Reading Refusal) (links movements times :
         passed end q = hold-of-passes (listing_checks (lines text) listing) (parts end q).0
 
 -- the same of a network that differs only in padding
-pub padding-too : (text : List ℕ) {listing : List Entry} {old new : List ℕ} {answer : (Result ℕ Refusal)} → PlanGot (lines text) listing old answer new
-    → PlanGot (lines text) listing old answer new × PaddingIgnored text (λ padded. PlanGot (lines padded) listing old answer new)
-padding-too text got = (got, λ padded same. rw (← same_lines text padded same) got)
+pub padding-too : (text : List ℕ) {listing : List Entry} {old new : List ℕ} {answer : Result ℕ Refusal} → PlanGot (lines text) listing old answer new
+    → PaddingIgnored text (λ padded. PlanGot (lines padded) listing old answer new)
+padding-too text got = λ padded same. rw (← same_lines text padded same) got

@@ -1,7 +1,6 @@
+mod Tests
 mod Bits
-mod Turns
 mod Places
-mod Judge
 mod Stored
 mod Reading
 mod Whole

@@ -1,5 +1,5 @@
 -- Reading the written plan gives just the listing's numbers.
-use Rattle.base_laws.proofs.Kit.{ℕ, zero, suc, ◌+◌, ◌*◌, ◌-◌, ◌≤◌, ◌<◌, ◌≡◌, refl, sym, ap, ◌∙◌, Bool, true, false, cond, List, [], ◌∷◌, ◌++◌, arith, leb-true, eqb, length, get_or, length-append, List·getD-append, get_or-append-add}
+use Rattle.base_laws.proofs.Kit.{ℕ, zero, suc, ◌+◌, ◌*◌, ◌-◌, ◌≤◌, ◌<◌, ◌≡◌, refl, sym, ap, ◌∙◌, Bool, true, false, cond, List, [], ◌∷◌, ◌++◌, arith, eqb, length, get_or, length-append, List·getD-append, get_or-append-add}
 use Rattle.base_search.specs.Checks.{Hold}
 use Rattle.text_reader.specs.Field.{largest}
 use Rattle.text_reader.specs.Lines.{Line, lines, no_line, number}
@@ -10,10 +10,10 @@ use Rattle.base_laws.specs.Indexed.{list}
 use Rattle.model.specs.Network.{entry, link_count, signal_count, movement_count, step_count, step_length}
 use Rattle.model.specs.Flows.{shown_mask, admitted, let_out, moved}
 use Rattle.model.specs.Table.{letter_p, is_form}
-use Rattle.base_laws.proofs.Tests.{and_right}
 use Rattle.listing_lines.specs.declared.Variable.{Variable}
-use Rattle.listing_lines.specs.declared.Entry.{Entry}
-use Rattle.listing_lines.specs.declared.Entry.TheVariants.{Sets, Malformed}
+use Rattle.listing_lines.specs.Entry.{Entry}
+use Rattle.std.specs.Prelude.{Some, None}
+use Rattle.std.proofs.lemmas.Bool.Decides.{nat_tests}
 use Rattle.listing_lines.specs.declared.Variable.TheVariants.{Shown, Admitted, LetOut, Moved}
 use Rattle.listing_call.specs.Listing.{sets, millionths_of, step_of, is_volume, volume, fits, one, line_at, fits_by, entry_checks_by, listing_checks, value_before, value, mask_of, volume_of, plan_numbers, plan_text}
 use Rattle.listing_call.specs.Tables.{has_volume}
@@ -89,20 +89,17 @@ module _ (network : List Line) (listing : List Entry) (n : ℕ) where
 
 -- ---- volumes
 fits-volume : (v : Variable) (m s : ℕ) → has_volume v ≡ true → fits v m s ≡ true → volume m s ≤ largest
-unfolding has_volume fits is_volume
-fits-volume (Shown r k n) m s h e = let z : ◌≡◌ {A = ℕ} 0 1 = cc in absurd (omega arith)
-fits-volume (Admitted i n) m s h e = leb-true (volume m s) largest (and_right _ _ e)
-fits-volume (LetOut i n) m s h e = leb-true (volume m s) largest (and_right _ _ e)
-fits-volume (Moved j n) m s h e = leb-true (volume m s) largest (and_right _ _ e)
+unfolding has_volume fits is_volume ◌and◌
+fits-volume v m s h e = grind (arith, nat_tests)
 
 -- a line that sets a volume and fits has a volume that fits
 line-fits : (seconds : ℕ → ℕ) (v : Variable) (n : ℕ) (e : Entry) → has_volume v ≡ true → step_of v ≡ suc n → sets v e ≡ true → fits_by seconds e ≡ true → volume (millionths_of e) (seconds n) ≤ largest
 unfolding sets fits_by millionths_of
-line-fits seconds v n (Sets w m) h s e f =
-    let vw : v ≡ w = same-is v w e in
-    let q : step_of w - 1 ≡ n = omega (arith, ap step_of vw) in
-    fits-volume w m (seconds n) (ap has_volume (sym vw) ∙ h) (rw q at f)
-line-fits seconds v n Malformed h s e f = let z : ◌≡◌ {A = ℕ} 0 1 = cc in absurd (omega arith)
+line-fits seconds v n (Some s) h t e f =
+    let vw : v ≡ s.variable = same-is v s.variable e in
+    let q : step_of s.variable - 1 ≡ n = omega (arith, ap step_of vw) in
+    fits-volume s.variable s.millionths (seconds n) (ap has_volume (sym vw) ∙ h) (rw q at f)
+line-fits seconds v n None h t e f = cc
 
 module _ (network : List Line) (listing : List Entry) where
   abbrev Fit : Type 0
@@ -124,7 +121,7 @@ module _ (network : List Line) (listing : List Entry) where
 
   pub mask-small : (n r : ℕ) → mask_of network listing n r < 256
   unfolding mask_of
-  mask-small n r = bits_below 8 (λ k. eqb (value listing (Shown (suc r) (suc k) (suc n))) one)
+  mask-small n r = bits_below (λ k. eqb (value listing (Shown (suc r) (suc k) (suc n))) one) 8
 
   module _ (fitting : Hold (listing_checks network listing)) where
     volume-small : (n : ℕ) (v : Variable) → has_volume v ≡ true → step_of v ≡ suc n → volume_of network listing n v ≤ largest

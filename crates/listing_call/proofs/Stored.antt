@@ -1,45 +1,35 @@
 -- The tables while lines come in: what is kept of the first i lines.
-use Rattle.base_laws.proofs.Kit.{ℕ, zero, suc, ◌+◌, ◌-◌, ◌*◌, ◌/◌, ◌^◌, ◌≤◌, ◌<◌, ◌≡◌, refl, sym, ap, ap₂, ◌∙◌, Bool, true, false, cond, List, add-one, ℕ_discrete, zero-div, arith, leb-true, eqb, length, get_or, set, length-set, get_or-set_same, get_or-set_other}
+use Rattle.base_laws.proofs.Kit.{ℕ, zero, suc, ◌+◌, ◌-◌, ◌*◌, ◌/◌, ◌^◌, ◌≤◌, ◌<◌, ◌≡◌, refl, sym, ap, ap₂, ◌∙◌, Bool, true, false, List, add-one, ℕ_discrete, zero-div, arith, leb-true, eqb, length, get_or, set, length-set, get_or-set_same, get_or-set_other}
+use Rattle.std.specs.Prelude.{Some}
+use Rattle.std.proofs.lemmas.Bool.Decides.{nat_tests}
 use Rattle.text_reader.specs.Field.{largest}
-use Rattle.base_laws.specs.Test.{◌and◌, ◌or◌}
+use Rattle.base_laws.specs.Test.{◌and◌, ◌or◌, within}
 use Rattle.base_laws.specs.Sum.{sum, only}
 use Rattle.model.specs.Network.{max_steps, max_signals}
 use Rattle.base_laws.proofs.Sums.{sum-ext, sum_bound}
-use Rattle.base_laws.proofs.Tests.{and_right, or-neither}
+use Rattle.base_laws.proofs.Tests.{and_right, or-neither, or_right}
 use Rattle.network_tables.specs.Fields.{line_size}
 use Rattle.listing_lines.specs.declared.Variable.{Variable}
 use Rattle.listing_lines.specs.declared.Variable.TheVariants.{Shown, Admitted, LetOut, Moved}
-use Rattle.listing_lines.specs.declared.Entry.{Entry}
-use Rattle.listing_lines.specs.declared.Entry.TheVariants.{Sets}
-use Rattle.listing_call.specs.declared.Number.TheVariants.{Whole, NoNumber}
+use Rattle.listing_lines.specs.Entry.{Entry, setting}
 use Rattle.listing_call.specs.Listing.{same, sets, millionths_of, step_of, one, volume, is_volume, line_at, set_before, value_before}
-use Rattle.listing_call.specs.Tables.{bit_place, place, column, Placed, bit_at, with_bit, phase_bit, volume_in, number_in, bits, bit, has_volume, mask_before, Stored, number_table_size, seen_size}
+use Rattle.listing_call.specs.Tables.{bit_place, place, Placed, bit_at, with_bit, number_in, bits, bit, has_volume, mask_before, Stored, Empty}
 use Rattle.listing_call.proofs.Bits.{bit-set, bit-other, bits_below, sum-change}
-use Rattle.listing_call.proofs.Turns.{within-is}
 use Rattle.listing_call.proofs.Places.{same-is, same_self, bit-same, volume-same, mask-only, bit-inside, place_inside}
 
 -- ---- one line more
-or-true : (t : Bool) → t or true ≡ true
-unfolding ◌or◌
-or-true true = refl
-or-true false = refl
-
 or-false : (t : Bool) → t or false ≡ t
 unfolding ◌or◌
 or-false true = refl
 or-false false = refl
 
 pub same_not : (v w : Variable) → (v ≡ w → ⊥) → same v w ≡ false
-same_not v w n = go (same v w) refl
-  where
-    go : (t : Bool) → same v w ≡ t → t ≡ false
-    go true e = absurd (n (same-is v w e))
-    go false e = refl
+same_not v w n = grind (arith, same-is)
 
-module _ (listing : List Entry) (i : ℕ) (w : Variable) (m : ℕ) (e : line_at listing i ≡ Sets w m) where
+module _ (listing : List Entry) (i : ℕ) (w : Variable) (m : ℕ) (e : line_at listing i ≡ Some (setting w m)) where
   set-now : set_before listing (i + 1) w ≡ true
   unfolding set_before sets
-  set-now = rw (add-one, set_before, e, same_self w) (or-true (set_before listing i w))
+  set-now = rw (add-one, set_before, e, same_self w) (or_right (set_before listing i w) true refl)
 
   pub value-now : value_before listing (i + 1) w ≡ m
   unfolding value_before sets millionths_of
@@ -48,7 +38,7 @@ module _ (listing : List Entry) (i : ℕ) (w : Variable) (m : ℕ) (e : line_at 
   module _ (v : Variable) (n : v ≡ w → ⊥) where
     set-kept : set_before listing (i + 1) v ≡ set_before listing i v
     unfolding set_before sets
-    set-kept = rw (add-one, set_before, e, same_not v w n) (or-false (set_before listing i v))
+    set-kept = rw (add-one, set_before, e, same_not v w n, or-false)
 
     value-kept : value_before listing (i + 1) v ≡ value_before listing i v
     unfolding value_before sets millionths_of
@@ -71,50 +61,34 @@ volume-fits : (m s : ℕ) → is_volume m s ≡ true → volume m s ≤ largest
 unfolding is_volume
 volume-fits m s e = leb-true (volume m s) largest (and_right _ _ e)
 
-whole_is : (m s x : ℕ) → volume_in m s ≡ Whole x → (x ≡ volume m s) × (x ≤ largest)
-unfolding volume_in
-whole_is m s x e = go (is_volume m s) refl e
-  where
-    go : (t : Bool) → is_volume m s ≡ t → cond t (Whole (volume m s)) NoNumber ≡ Whole x → (x ≡ volume m s) × (x ≤ largest)
-    go true h q = let z : volume m s ≡ x = cc in (sym z, omega (arith, volume-fits m s h))
-    go false h q = let z : ◌≡◌ {A = ℕ} 0 1 = cc in absurd (omega arith)
+number-volume : (v : Variable) (m s x : ℕ) → has_volume v ≡ true → number_in v m s ≡ Some x → (x ≡ volume m s) × (x ≤ largest)
+unfolding has_volume
+number-volume v m s x h e = grind (arith, volume-fits)
 
-number-volume : (v : Variable) (m s x : ℕ) → has_volume v ≡ true → number_in v m s ≡ Whole x → (x ≡ volume m s) × (x ≤ largest)
-unfolding has_volume number_in
-number-volume (Shown r k n) m s x h e = let z : ◌≡◌ {A = ℕ} 0 1 = cc in absurd (omega arith)
-number-volume (Admitted i n) m s x h e = whole_is m s x e
-number-volume (LetOut i n) m s x h e = whole_is m s x e
-number-volume (Moved j n) m s x h e = whole_is m s x e
-
-number-phase : (r j n m s x : ℕ) → j < 8 → number_in (Shown r (suc j) n) m s ≡ Whole x → x ≡ only (eqb m one) (2 ^ j)
-unfolding number_in phase_bit
-number-phase r j n m s x h e =
-    let z : only (eqb m one) (phase_bit (suc j)) ≡ x = cc in
-    let t : suc j - 1 ≡ j = omega arith in
-    let b : phase_bit (suc j) ≡ 2 ^ j = rw (within-is (suc j) 8 (omega arith) (omega arith), t) in
-    sym z ∙ ap (only (eqb m one)) b
+number-phase : (r j n m s x : ℕ) → j < 8 → number_in (Shown r (suc j) n) m s ≡ Some x → x ≡ only (eqb m one) (2 ^ j)
+unfolding within ◌and◌
+number-phase r j n m s x h e = grind (arith, nat_tests)
 
 bit-false : (t : Bool) → bit t ≡ 0 → t ≡ false
 unfolding bit
-bit-false true e = let z : ◌≡◌ {A = ℕ} 0 1 = cc in absurd (omega arith)
-bit-false false e = refl
+bit-false t e = grind arith
 
 bit-true : (t : Bool) → t ≡ true → bit t ≡ 1
 unfolding bit
 bit-true t e = rw e
 
 shown-place : (n r j : ℕ) → place (Shown (suc r) (suc j) (suc n)) ≡ line_size * n + r
-unfolding place column step_of
+unfolding step_of
 shown-place n r j = omega arith
 
 phase-same : (r t j n : ℕ) → ◌≡◌ {A = Variable} (Shown r (suc t) n) (Shown r (suc j) n) → t ≡ j
-phase-same r t j n c = let z : suc t ≡ suc j = cc in omega arith
+phase-same r t j n c = grind arith
 
 mask-few : (listing : List Entry) (i n r : ℕ) → mask_before listing i n r < 256
 unfolding mask_before
-mask-few listing i n r = bits_below 8 (λ k. eqb (value_before listing i (Shown (suc r) (suc k) (suc n))) one)
+mask-few listing i n r = bits_below (λ k. eqb (value_before listing i (Shown (suc r) (suc k) (suc n))) one) 8
 
-mask-same : (listing : List Entry) (i : ℕ) (w : Variable) (m : ℕ) → line_at listing i ≡ Sets w m → (n r : ℕ) → ((j : ℕ) → Shown (suc r) (suc j) (suc n) ≡ w → ⊥)
+mask-same : (listing : List Entry) (i : ℕ) (w : Variable) (m : ℕ) → line_at listing i ≡ Some (setting w m) → (n r : ℕ) → ((j : ℕ) → Shown (suc r) (suc j) (suc n) ≡ w → ⊥)
     → mask_before listing (i + 1) n r ≡ mask_before listing i n r
 unfolding mask_before
 mask-same listing i w m e n r d =
@@ -140,24 +114,37 @@ no-volume : (listing : List Entry) (v : Variable) (s : ℕ) → 0 ≡ volume (va
 unfolding value_before
 no-volume listing v s = sym (volume-none s)
 
+shown-parts : (w : Variable) → Placed w → has_volume w ≡ false
+    → (n r j : ℕ) × (n < max_steps) × (r < max_signals) × (j < 8) × (w ≡ Shown (suc r) (suc j) (suc n))
+unfolding has_volume
+shown-parts (Shown r j n) p h = (n - 1, r - 1, j - 1, omega arith, omega arith, omega arith, grind arith)
+shown-parts (Admitted i n) p h = cc
+shown-parts (LetOut i n) p h = cc
+shown-parts (Moved i n) p h = cc
+
 -- ---- nothing, and one line more
+-- one line more is kept, and its number fits a field
+pub record Grown (seconds : ℕ → ℕ) (listing : List Entry) (i : ℕ) (numbers seen : List ℕ) (b k x : ℕ) : Type 0 where
+  pub kept : Stored seconds listing (i + 1) (set numbers k (get_or numbers k 0 + x)) (with_bit seen b)
+  pub fits : get_or numbers k 0 + x ≤ largest
+
 module _ (seconds : ℕ → ℕ) (listing : List Entry) where
-  pub stored-none : (numbers seen : List ℕ) → length numbers ≡ number_table_size → length seen ≡ seen_size → ((k : ℕ) → get_or numbers k 0 ≡ 0) → ((k : ℕ) → get_or seen k 0 ≡ 0) → Stored seconds listing 0 numbers seen
-  stored-none numbers seen a b n z =
+  pub stored-none : (numbers seen : List ℕ) → Empty numbers seen → Stored seconds listing 0 numbers seen
+  stored-none numbers seen a =
       record {
-        number-room = a;
-        seen-room = b;
+        number-room = a.number-room;
+        seen-room = a.seen-room;
         marks = λ v p. no-bit (bit_place v) ∙ none-set listing v;
-        masks = λ m r l k. n (line_size * m + r) ∙ no-mask listing m r;
-        volumes = λ v p h. n (place v) ∙ no-volume listing v (seconds (step_of v - 1));
+        masks = λ m r l k. a.no-numbers (line_size * m + r) ∙ no-mask listing m r;
+        volumes = λ v p h. a.no-numbers (place v) ∙ no-volume listing v (seconds (step_of v - 1));
         counted = omega (arith, sum_bound bits 0 (bit_at seen) (λ k l. omega (arith, no-bit k)));
       }
     where
       no-bit : (k : ℕ) → bit_at seen k ≡ 0
-      no-bit k = zero_bit seen k (z (k / 8))
+      no-bit k = zero_bit seen k (a.no-marks (k / 8))
 
-  module _ (i : ℕ) (numbers seen : List ℕ) (s : Stored seconds listing i numbers seen) (w : Variable) (m : ℕ) (e : line_at listing i ≡ Sets w m) (p : Placed w)
-      (b k x : ℕ) (bq : b ≡ bit_place w) (kq : k ≡ place w) (free : bit_at seen b ≡ 0) (xq : number_in w m (seconds (step_of w - 1)) ≡ Whole x) where
+  module _ (i : ℕ) (numbers seen : List ℕ) (s : Stored seconds listing i numbers seen) (w : Variable) (m : ℕ) (e : line_at listing i ≡ Some (setting w m)) (p : Placed w)
+      (b k x : ℕ) (bq : b ≡ bit_place w) (kq : k ≡ place w) (free : bit_at seen b ≡ 0) (xq : number_in w m (seconds (step_of w - 1)) ≡ Some x) where
     unset : set_before listing i w ≡ false
     unset = bit-false (set_before listing i w) (sym (s.marks w p) ∙ ap (bit_at seen) (sym bq) ∙ free)
 
@@ -171,8 +158,8 @@ module _ (seconds : ℕ → ℕ) (listing : List Entry) where
     marks-more v q = elim (ℕ_discrete (bit_place v) b) [
       | yes z ↦
           let vw : v ≡ w = bit-same v w q p (z ∙ bq) in
-          ap (bit_at (with_bit seen b)) z ∙ bit-set seen b bit-room free ∙ sym (bit-true (set_before listing (i + 1) v) (ap (set_before listing (i + 1)) vw ∙ set-now listing i w m e))
-      | no n ↦ bit-other seen b bit-room free (bit_place v) n ∙ s.marks v q ∙ ap bit (sym (set-kept listing i w m e v (λ vw. n (ap bit_place vw ∙ sym bq))))
+          ap (bit_at (with_bit seen b)) z ∙ bit-set seen b bit-room ∙ sym (bit-true (set_before listing (i + 1) v) (ap (set_before listing (i + 1)) vw ∙ set-now listing i w m e))
+      | no n ↦ bit-other seen b bit-room (bit_place v) n ∙ s.marks v q ∙ ap bit (sym (set-kept listing i w m e v (λ vw. n (ap bit_place vw ∙ sym bq))))
     ]
 
     added : get_or (set numbers k (get_or numbers k 0 + x)) k 0 ≡ get_or numbers k 0 + x
@@ -223,38 +210,25 @@ module _ (seconds : ℕ → ℕ) (listing : List Entry) where
           ∙ sym (mask-same listing i w m e n r (λ j vw. d (sym (shown-place n r j) ∙ ap place vw ∙ sym kq)))
     ]
 
-    pub stored_more : Stored seconds listing (i + 1) (set numbers k (get_or numbers k 0 + x)) (with_bit seen b)
-    stored_more =
+    kept-more : Stored seconds listing (i + 1) (set numbers k (get_or numbers k 0 + x)) (with_bit seen b)
+    kept-more =
         record {
           number-room = length-set numbers k (get_or numbers k 0 + x) ∙ s.number-room;
           seen-room = with-bit-length seen b ∙ s.seen-room;
-          marks = λ v q. marks-more v q;
-          masks = λ n r l h. masks-more n r l h;
-          volumes = λ v q h. volumes-more v q h;
-          counted = sum-change bits b 1 (bit_at seen) (bit_at (with_bit seen b)) (omega (arith, bit-inside w p)) (bit-set seen b bit-room free ∙ sym (ap (λ t. t + 1) free)) (λ j l n. bit-other seen b bit-room free j n)
+          marks = marks-more;
+          masks = masks-more;
+          volumes = volumes-more;
+          counted = sum-change bits b 1 (bit_at seen) (bit_at (with_bit seen b)) (omega (arith, bit-inside w p)) (bit-set seen b bit-room ∙ sym (ap (λ t. t + 1) free)) (λ j l n. bit-other seen b bit-room j n)
               ∙ ap (λ t. t + 1) s.counted;
         }
 
-    -- the number fits a field
-    pub number_fits : get_or numbers k 0 + x ≤ largest
-    number_fits = go w refl
-      where
-        volume-case : has_volume w ≡ true → get_or numbers k 0 + x ≤ largest
-        volume-case h = omega (arith, volume-old h, (number-volume w m (seconds (step_of w - 1)) x h xq).1)
+    fits : (t : Bool) → has_volume w ≡ t → get_or numbers k 0 + x ≤ largest
+    fits true h = omega (arith, volume-old h, (number-volume w m (seconds (step_of w - 1)) x h xq).1)
+    fits false h =
+        let (n, r, j, l, a, d, v) = shown-parts w p h in
+        let g = mask-grown n r j d v in
+        let o : get_or numbers k 0 ≡ mask_before listing i n r = ap (λ t. get_or numbers t 0) (kq ∙ ap place v ∙ shown-place n r j) ∙ s.masks n r l a in
+        omega (arith, mask-few listing (i + 1) n r)
 
-        shown_case : (r j n : ℕ) → w ≡ Shown r j n → get_or numbers k 0 + x ≤ largest
-        shown_case r j n q =
-            let pl : Placed (Shown r j n) = rw q at p in
-            let a : suc (r - 1) ≡ r = omega arith in
-            let c : suc (j - 1) ≡ j = omega arith in
-            let d : suc (n - 1) ≡ n = omega arith in
-            let v : w ≡ Shown (suc (r - 1)) (suc (j - 1)) (suc (n - 1)) = cc in
-            let g = mask-grown (n - 1) (r - 1) (j - 1) (omega arith) v in
-            let o : get_or numbers k 0 ≡ mask_before listing i (n - 1) (r - 1) = ap (λ t. get_or numbers t 0) (kq ∙ ap place v ∙ shown-place (n - 1) (r - 1) (j - 1)) ∙ s.masks (n - 1) (r - 1) (omega arith) (omega arith) in
-            omega (arith, mask-few listing (i + 1) (n - 1) (r - 1))
-
-        go : (v : Variable) → w ≡ v → get_or numbers k 0 + x ≤ largest
-        go (Shown r j n) q = shown_case r j n q
-        go (Admitted t n) q = volume-case (ap has_volume q ∙ (unfold has_volume in refl))
-        go (LetOut t n) q = volume-case (ap has_volume q ∙ (unfold has_volume in refl))
-        go (Moved t n) q = volume-case (ap has_volume q ∙ (unfold has_volume in refl))
+    pub grown : Grown seconds listing i numbers seen b k x
+    grown = record { kept = kept-more; fits = fits (has_volume w) refl }

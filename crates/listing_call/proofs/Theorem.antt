@@ -12,16 +12,18 @@ use Rattle.model.specs.Hold.{meant}
 use Rattle.model.proofs.Accepted.{valid-network}
 use Rattle.model.proofs.Hold.{meant-lines}
 use Rattle.model.proofs.Limits.{counts}
-use Rattle.base_laws.proofs.Tests.{and_left, and_right, or_cases, or_left}
+use Rattle.base_laws.proofs.Tests.{and_left, and_right, or_cases, or_left, or_right}
 use Rattle.listing_lines.specs.declared.Variable.{Variable}
 use Rattle.listing_lines.specs.declared.Variable.TheVariants.{Shown, Admitted, LetOut, Moved}
-use Rattle.listing_lines.specs.declared.Entry.{Entry}
-use Rattle.listing_lines.specs.declared.Entry.TheVariants.{Sets, Malformed}
+use Rattle.listing_lines.specs.Entry.{Entry, setting}
 use Rattle.listing_call.specs.Listing.{sets, one, volume, is_volume, has_variable, valid_value, fits, step_of, line_at, set_before, value_before, value, formed_by, fits_by, entry_checks_by, listing_checks, mask_of, volume_of, plan_text}
 use Rattle.listing_call.specs.ReadsBack.{bit_of, planned, in_millionths, stated, ReadsBack}
 use Rattle.listing_call.specs.Tables.{bit}
+use Rattle.listing_call.proofs.Tests.{or_is, tests}
 use Rattle.listing_call.proofs.Bits.{bit_in, bit_past}
-use Rattle.listing_call.proofs.Turns.{within-parts}
+use Rattle.base_laws.proofs.Tests.{within-parts}
+use Rattle.std.specs.Prelude.{Some, None}
+use Rattle.std.proofs.lemmas.Bool.Decides.{nat_tests}
 use Rattle.listing_call.proofs.Places.{same_self}
 use Rattle.listing_call.proofs.Stored.{same_not, value-now, value-unset, volume-none}
 use Rattle.listing_call.proofs.ReadBack.{listing-fits, mask-back, admitted-back, let-out-back, moved_back, form-is, count-is}
@@ -31,25 +33,13 @@ few-phases : (network : List Line) → Hold (network_checks network) → (r : �
 unfolding valid_phases within
 few-phases network valid r h = leb-true (signal network r).phases 8 (and_right _ _ ((valid-network network valid).phases r h))
 
-or-last : (t : Bool) → t or true ≡ true
-unfolding ◌or◌
-or-last true = refl
-or-last false = refl
-
-false-true : {A : Type 0} → ◌≡◌ {A = Bool} false true → A
-false-true e = let z : ◌≡◌ {A = ℕ} 0 1 = cc in absurd (omega arith)
-
-sets-not : (listing : List Entry) (j : ℕ) (v : Variable) → ((m : ℕ) → line_at listing j ≡ Sets v m → ⊥) → sets v (line_at listing j) ≡ false
+sets-not : (listing : List Entry) (j : ℕ) (v : Variable) → ((m : ℕ) → line_at listing j ≡ Some (setting v m) → ⊥) → sets v (line_at listing j) ≡ false
 unfolding sets
 sets-not listing j v n = go (line_at listing j) refl
   where
     go : (e : Entry) → line_at listing j ≡ e → sets v e ≡ false
-    go Malformed q = refl
-    go (Sets w m) q = same_not v w (λ s. n m (q ∙ ap (λ u. Sets u m) (sym s)))
-
-or-none : (a b : Bool) → a ≡ false → b ≡ false → a or b ≡ false
-unfolding ◌or◌
-or-none a b p q = rw (p, q)
+    go None q = refl
+    go (Some s) q = same_not v s.variable (λ t. n s.millionths (q ∙ ap (λ u. Some (setting u s.millionths)) (sym t)))
 
 -- a text that has a line has bytes
 text-of-lines : (text : List ℕ) → 0 < length (lines text) → 1 ≤ length text
@@ -59,37 +49,33 @@ text-of-lines text h = elim (dec_le 1 (length text)) [
 ]
 
 module _ (listing : List Entry) (v : Variable) where
-  unset-of : (k : ℕ) → ((i : ℕ) → i < k → (m : ℕ) → line_at listing i ≡ Sets v m → ⊥) → set_before listing k v ≡ false
+  unset-of : (k : ℕ) → ((i : ℕ) → i < k → (m : ℕ) → line_at listing i ≡ Some (setting v m) → ⊥) → set_before listing k v ≡ false
   unfolding set_before
   unset-of zero n = refl
   unset-of (suc k) n =
-      or-none (set_before listing k v) (sets v (line_at listing k)) (unset-of k (λ i l. n i (omega arith))) (sets-not listing k v (n k (omega arith)))
+      rw (unset-of k (λ i l. n i (omega arith)), sets-not listing k v (n k (omega arith)), or_is)
 
   -- what no line sets is 0
-  unset-value : ((i : ℕ) → i < length listing → (m : ℕ) → line_at listing i ≡ Sets v m → ⊥) → value listing v ≡ 0
+  unset-value : ((i : ℕ) → i < length listing → (m : ℕ) → line_at listing i ≡ Some (setting v m) → ⊥) → value listing v ≡ 0
   unfolding value
   unset-value n = value-unset listing (length listing) v (unset-of (length listing) n)
 
 module _ (network : List Line) (listing : List Entry) (hold : Hold (listing_checks network listing)) where
-  formed : (i : ℕ) → i < length listing → (v : Variable) (m : ℕ) → line_at listing i ≡ Sets v m
+  formed : (i : ℕ) → i < length listing → (v : Variable) (m : ℕ) → line_at listing i ≡ Some (setting v m)
       → (has_variable network v ≡ true) × (valid_value v m ≡ true) × (set_before listing i v ≡ false)
   unfolding listing_checks entry_checks_by Hold formed_by
   formed i l v m e =
       let f : has_variable network v and valid_value v m and not (set_before listing i v) ≡ true = rw e at (hold i l).0 in
-      (and_left _ _ (and_left _ _ f), and_right _ _ (and_left _ _ f), unset (set_before listing i v) (and_right _ _ f))
-    where
-      unset : (t : Bool) → not t ≡ true → t ≡ false
-      unset true q = false-true q
-      unset false q = refl
+      grind (arith, tests)
 
-  module _ (i : ℕ) (v : Variable) (m : ℕ) (e : line_at listing i ≡ Sets v m) where
+  module _ (i : ℕ) (v : Variable) (m : ℕ) (e : line_at listing i ≡ Some (setting v m)) where
     set-of : (k : ℕ) → i < k → set_before listing k v ≡ true
     unfolding set_before sets
     set-of zero l = absurd (omega arith)
     set-of (suc k) l = go (eq-or-lt_of_le l) (set-of k)
       where
         go : (suc i ≡ suc k) ⊎ (suc i < suc k) → (i < k → set_before listing k v ≡ true) → set_before listing k v or sets v (line_at listing k) ≡ true
-        go (inl q) ih = let z : k ≡ i = omega arith in rw (z, e, same_self v) (or-last (set_before listing i v))
+        go (inl q) ih = let z : k ≡ i = omega arith in rw (z, e, same_self v) (or_right (set_before listing i v) true refl)
         go (inr q) ih = or_left (set_before listing k v) (sets v (line_at listing k)) (ih (omega arith))
 
     value_stays : (k : ℕ) → sets v (line_at listing k) ≡ false → value_before listing k v ≡ m → value_before listing (suc k) v ≡ m
@@ -103,10 +89,10 @@ module _ (network : List Line) (listing : List Entry) (hold : Hold (listing_chec
       where
         go : (suc i ≡ suc k) ⊎ (suc i < suc k) → (i < k → k ≤ length listing → value_before listing k v ≡ m) → value_before listing (suc k) v ≡ m
         go (inl q) ih = let z : k ≡ i = omega arith in rw z (rw add-one at (value-now listing i v m e))
-        go (inr q) ih = value_stays k (sets-not listing k v (λ x f. false-true (sym (formed k (omega arith) v x f).2 ∙ set-of k (omega arith)))) (ih (omega arith) (omega arith))
+        go (inr q) ih = value_stays k (sets-not listing k v (λ x f. let g = (formed k (omega arith) v x f).2 in let h = set-of k (omega arith) in cc)) (ih (omega arith) (omega arith))
 
   -- what a line names has its value
-  named_value : (i : ℕ) → i < length listing → (v : Variable) (m : ℕ) → line_at listing i ≡ Sets v m → value listing v ≡ m
+  named_value : (i : ℕ) → i < length listing → (v : Variable) (m : ℕ) → line_at listing i ≡ Some (setting v m) → value listing v ≡ m
   unfolding value
   named_value i l v m e = value_of i v m e (length listing) l (omega arith)
 
@@ -122,32 +108,14 @@ module _ (network : List Line) (listing : List Entry) (hold : Hold (listing_chec
 
   mask-bit : (n r k : ℕ) → k < 8 → n < step_count network → r < signal_count network → bit_of (shown_mask network plan n r) k ≡ bit (eqb (value listing (Shown (suc r) (suc k) (suc n))) one)
   unfolding mask_of
-  mask-bit n r k l h a = ap (λ x. bit_of x k) (mask-back network listing hold n h r a) ∙ bit_in 8 (λ t. eqb (value listing (Shown (suc r) (suc t) (suc n))) one) k l
+  mask-bit n r k l h a = ap (λ x. bit_of x k) (mask-back network listing hold n h r a) ∙ bit_in (λ t. eqb (value listing (Shown (suc r) (suc t) (suc n))) one) 8 k l
 
   back : (x : ℕ) → 1 ≤ x → suc (x - 1) ≡ x
   back x h = omega arith
 
   planned-is : (few : (r : ℕ) → r < signal_count network → (signal network r).phases ≤ 8) (v : Variable) → has_variable network v ≡ true → planned network plan v ≡ given v (value listing v)
   unfolding has_variable planned given volume_of
-  planned-is few (Shown r k n) h =
-      let two = and_left _ _ h in
-      let a = within-parts r (signal_count network) (and_left _ _ two) in
-      let b = within-parts k (signal network (r - 1)).phases (and_right _ _ two) in
-      let c = within-parts n (step_count network) (and_right _ _ h) in
-      let f = few (r - 1) (omega arith) in
-      rw (back r a.0, back k b.0, back n c.0) at (mask-bit (n - 1) (r - 1) (k - 1) (omega arith) (omega arith) (omega arith))
-  planned-is few (Admitted i n) h =
-      let a = within-parts i (link_count network) (and_left _ _ h) in
-      let c = within-parts n (step_count network) (and_right _ _ h) in
-      rw (back i a.0, back n c.0) at (admitted-back network listing hold (n - 1) (omega arith) (i - 1) (omega arith))
-  planned-is few (LetOut i n) h =
-      let a = within-parts i (link_count network) (and_left _ _ h) in
-      let c = within-parts n (step_count network) (and_right _ _ h) in
-      rw (back i a.0, back n c.0) at (let-out-back network listing hold (n - 1) (omega arith) (i - 1) (omega arith))
-  planned-is few (Moved j n) h =
-      let a = within-parts j (movement_count network) (and_left _ _ h) in
-      let c = within-parts n (step_count network) (and_right _ _ h) in
-      rw (back j a.0, back n c.0) at (moved_back network listing hold (n - 1) (omega arith) (j - 1) (omega arith))
+  planned-is few v h = grind (arith, tests, nat_tests, few, mask-bit, admitted-back network listing hold, let-out-back network listing hold, moved_back network listing hold)
 
   -- a volume that is whole, × 1000, is the rate over the step
   whole : (m s : ℕ) → is_volume m s ≡ true → volume m s * 1000 ≡ m * s
@@ -157,21 +125,11 @@ module _ (network : List Line) (listing : List Entry) (hold : Hold (listing_chec
   given-stated : (v : Variable) (m : ℕ) → valid_value v m ≡ true → fits v m (step_length network (step_of v - 1)) ≡ true
       → in_millionths v (given v m) ≡ stated network v m
   unfolding in_millionths given stated valid_value fits step_of bit
-  given-stated (Shown r k n) m e f = go (or_cases (eqb m 0) (eqb m one) e)
-    where
-      go : (eqb m 0 ≡ true) ⊎ (eqb m one ≡ true) → bit (eqb m one) * one ≡ m
-      go (inl z) = let q : m ≡ 0 = eqb-true m 0 z in rw q
-      go (inr z) = let q : m ≡ one = eqb-true m one z in rw q
-  given-stated (Admitted i n) m e f = whole m (step_length network (n - 1)) f
-  given-stated (LetOut i n) m e f = whole m (step_length network (n - 1)) f
-  given-stated (Moved j n) m e f = whole m (step_length network (n - 1)) f
+  given-stated v m e f = grind (arith, tests, nat_tests, whole)
 
   given-none : (v : Variable) → given v 0 ≡ 0
   unfolding given bit
-  given-none (Shown r k n) = refl
-  given-none (Admitted i n) = volume-none (step_length network (n - 1))
-  given-none (LetOut i n) = volume-none (step_length network (n - 1))
-  given-none (Moved j n) = volume-none (step_length network (n - 1))
+  given-none v = grind (arith, volume-none)
 
   -- a phase that a signal has not is never named
   past_value : (n r k : ℕ) → (signal network r).phases ≤ k → value listing (Shown (suc r) (suc k) (suc n)) ≡ 0
@@ -179,11 +137,7 @@ module _ (network : List Line) (listing : List Entry) (hold : Hold (listing_chec
   past_value n r k h = unset-value listing (Shown (suc r) (suc k) (suc n)) (λ i l m e. no-phase (formed i l (Shown (suc r) (suc k) (suc n)) m e).0)
     where
       no-phase : has_variable network (Shown (suc r) (suc k) (suc n)) ≡ true → ⊥
-      no-phase q =
-          let w = within-parts (suc k) (signal network (suc r - 1)).phases (and_right _ _ (and_left _ _ q)) in
-          let z : suc r - 1 ≡ r = omega arith in
-          let u : suc k ≤ (signal network r).phases = rw z at w.1 in
-          omega arith
+      no-phase q = grind (arith, tests, nat_tests)
 
   mask-past : (n r k : ℕ) → n < step_count network → r < signal_count network → (signal network r).phases ≤ k → bit_of (shown_mask network plan n r) k ≡ 0
   unfolding bit mask_of
@@ -193,9 +147,9 @@ module _ (network : List Line) (listing : List Entry) (hold : Hold (listing_chec
   ]
     where
       mask_end : (n r k : ℕ) → 8 ≤ k → bit_of (mask_of network listing n r) k ≡ 0
-      mask_end n r k l = bit_past 8 (λ t. eqb (value listing (Shown (suc r) (suc t) (suc n))) one) k l
+      mask_end n r k l = bit_past (λ t. eqb (value listing (Shown (suc r) (suc t) (suc n))) one) 8 k l
 
-  line-fits : (i : ℕ) → i < length listing → (v : Variable) (m : ℕ) → line_at listing i ≡ Sets v m → fits v m (step_length network (step_of v - 1)) ≡ true
+  line-fits : (i : ℕ) → i < length listing → (v : Variable) (m : ℕ) → line_at listing i ≡ Some (setting v m) → fits v m (step_length network (step_of v - 1)) ≡ true
   unfolding fits_by
   line-fits i l v m e = rw e at (listing-fits network listing hold i l)
 

@@ -9,7 +9,7 @@ use Rattle.base_laws.specs.Test.{◌and◌, within}
 use Rattle.base_laws.specs.Sum.{sum}
 use Rattle.model.specs.Network.{link_count, signal_count, movement_count, step_count, signal, step_length, time}
 use Rattle.model.specs.Table.{letter_p}
-use Rattle.base_laws.proofs.Tests.{and_right}
+use Rattle.base_laws.proofs.Tests.{and_right, within-parts}
 use Rattle.network_tables.specs.declared.Counts.{Counts}
 use Rattle.network_tables.specs.Places.{plan_width}
 use Rattle.network_tables.specs.Tables.{CountsHold, PhaseTable}
@@ -17,25 +17,19 @@ use Rattle.step_arrivals.specs.Times.{PlanTimes}
 use Rattle.network_tables.specs.Fields.{line_size}
 use Rattle.listing_lines.specs.declared.Variable.{Variable}
 use Rattle.listing_lines.specs.declared.Variable.TheVariants.{Shown, Admitted, LetOut, Moved}
-use Rattle.listing_lines.specs.declared.Entry.{Entry}
-use Rattle.listing_lines.specs.declared.Entry.TheVariants.{Sets, Malformed}
+use Rattle.listing_lines.specs.Entry.{Entry}
+use Rattle.std.proofs.lemmas.Bool.Decides.{nat_tests}
+use Rattle.listing_call.proofs.Tests.{tests}
 use Rattle.listing_call.specs.Listing.{step_of, volume, has_variable, valid_value, line_at, set_before, value_before, value, formed_by, fits_by, entry_checks_by, listing_checks, mask_of, volume_of, plan_numbers, plan_text}
-use Rattle.listing_call.specs.Tables.{column, place, has_phase_in, has_in, seconds_in, Placed, has_volume, mask_before, Stored}
+use Rattle.std.specs.Prelude.{Some, None}
+use Rattle.step_arrivals.specs.Arrivals.{seconds_in}
+use Rattle.listing_call.specs.Tables.{column, place, has_in, Placed, has_volume, mask_before, Stored}
 use Rattle.network_writer.specs.Plan.{column_in, plan_number, plan_row, plan_lines}
 use Rattle.network_writer.proofs.Plan.{column-mask, column-admitted, column-let-out, column-moved, number-some}
-use Rattle.listing_call.proofs.Turns.{within-parts}
 use Rattle.base_laws.proofs.Sums.{list_same, list-plus}
 
 -- ---- lists by index
 -- ---- the same judgement
-refused-both : (a b : Bool) (line : ℕ) (x y : Verdict) → or_else (checked (false and a and b) 22 line 0) x ≡ or_else (checked (false and a and b) 22 line 0) y
-unfolding ◌and◌ checked or_else
-refused-both a b line x y = refl
-
-false-both : (a b : Bool) → false and a ≡ false and b
-unfolding ◌and◌
-false-both a b = refl
-
 time-step : (network : List Line) (n : ℕ) → time network (n + 1) - time network n ≡ step_length network n
 unfolding time sum
 time-step network n = rw add-one (omega arith)
@@ -44,15 +38,8 @@ entry-same : (has has' : Variable → Bool) (sec sec' : ℕ → ℕ) (listing : 
     → ((v : Variable) → has v ≡ true → sec (step_of v - 1) ≡ sec' (step_of v - 1))
     → or_else (checked (formed_by has listing i e) 22 (suc i) 0) (checked (fits_by sec e) 23 (suc i) 0)
     ≡ or_else (checked (formed_by has' listing i e) 22 (suc i) 0) (checked (fits_by sec' e) 23 (suc i) 0)
-unfolding formed_by fits_by
-entry-same has has' sec sec' listing i Malformed h s = refl
-entry-same has has' sec sec' listing i (Sets v m) h s = go (has v) refl
-  where
-    go : (t : Bool) → has v ≡ t
-        → or_else (checked (has v and valid_value v m and not (set_before listing i v)) 22 (suc i) 0) (checked (fits_by sec (Sets v m)) 23 (suc i) 0)
-        ≡ or_else (checked (has' v and valid_value v m and not (set_before listing i v)) 22 (suc i) 0) (checked (fits_by sec' (Sets v m)) 23 (suc i) 0)
-    go true t = rw (← h v, s v t)
-    go false t = rw (← h v, t) (refused-both (valid_value v m) (not (set_before listing i v)) (suc i) (checked (fits_by sec (Sets v m)) 23 (suc i) 0) (checked (fits_by sec' (Sets v m)) 23 (suc i) 0))
+unfolding formed_by fits_by checked or_else
+entry-same has has' sec sec' listing i e h s = grind (arith, tests, h, s)
 
 checks-same : (has has' : Variable → Bool) (sec sec' : ℕ → ℕ) (listing : List Entry) → ((v : Variable) → has v ≡ has' v)
     → ((v : Variable) → has v ≡ true → sec (step_of v - 1) ≡ sec' (step_of v - 1))
@@ -64,26 +51,15 @@ checks-same has has' sec sec' listing h s =
 -- ---- the tables of a network
 module _ (network : List Line) (counts : Counts) (phases times : List ℕ) (c : CountsHold network counts) (p : PhaseTable network phases) (t : PlanTimes network times) where
   has_same : (v : Variable) → has_in counts phases v ≡ has_variable network v
-  unfolding has_in has_variable has_phase_in
-  has_same (Shown r k n) = rw (c.steps, c.signals) (ap (λ (x : Bool). x and within 1 n (step_count network)) (go (within 1 r (signal_count network)) refl))
-    where
-      go : (b : Bool) → within 1 r (signal_count network) ≡ b → b and within 1 k (get_or phases (r - 1) 0) ≡ b and within 1 k (signal network (r - 1)).phases
-      go true e = let w = within-parts r (signal_count network) e in rw (p.holds (r - 1) (omega arith))
-      go false e = false-both (within 1 k (get_or phases (r - 1) 0)) (within 1 k (signal network (r - 1)).phases)
-  has_same (Admitted i n) = rw (c.steps, c.links)
-  has_same (LetOut i n) = rw (c.steps, c.links)
-  has_same (Moved j n) = rw (c.steps, c.movements)
+  unfolding has_variable
+  has_same v = grind (arith, tests, nat_tests, c.steps, c.signals, c.links, c.movements, p.holds)
 
   seconds-same : (n : ℕ) → n < step_count network → seconds_in times n ≡ step_length network n
-  unfolding seconds_in
   seconds-same n h = rw (t.holds (n + 1) (omega arith), t.holds n (omega arith)) (time-step network n)
 
   step-of : (v : Variable) → has_variable network v ≡ true → (1 ≤ step_of v) × (step_of v ≤ step_count network)
   unfolding has_variable step_of
-  step-of (Shown r k n) h = within-parts n (step_count network) (and_right _ _ h)
-  step-of (Admitted i n) h = within-parts n (step_count network) (and_right _ _ h)
-  step-of (LetOut i n) h = within-parts n (step_count network) (and_right _ _ h)
-  step-of (Moved j n) h = within-parts n (step_count network) (and_right _ _ h)
+  step-of v h = grind (arith, tests, nat_tests)
 
   pub verdict-same : (listing : List Entry) → verdict (each (length listing) (entry_checks_by (has_in counts phases) (seconds_in times) listing)) ≡ verdict (listing_checks network listing)
   unfolding listing_checks

@@ -1,6 +1,6 @@
 -- Plans straight from the solver (T-01): when a listing is refused, the numbers that it gives, and the plan text that is written of them. The listing is the list of its
 -- lines (crate `listing_lines`). Steps, signals, links and movements are counted from 0 here, from 1 in a variable, phases from 1.
-use Rattle.std.specs.Prelude.{ℕ, zero, suc, ◌+◌, ◌*◌, ◌-◌, ◌/◌, ◌%◌, ◌^◌, Bool, true, false, cond, not, List, [], ◌∷◌, ◌++◌, leb, eqb, length, get_or, Result}
+use Rattle.std.specs.Prelude.{ℕ, zero, suc, ◌*◌, ◌-◌, ◌/◌, ◌%◌, ◌^◌, Bool, true, false, cond, not, List, [], ◌∷◌, ◌++◌, leb, eqb, length, get_or, Some, None, Result}
 use Rattle.base_search.specs.Checks.{Checks, check, each, ◌then◌, verdict}
 use Rattle.text_reader.specs.Field.{largest}
 use Rattle.text_reader.specs.Lines.{Line}
@@ -13,8 +13,7 @@ use Rattle.model.specs.Table.{network_checks, letter_p}
 use Rattle.model.specs.Guarantees.{network_numbers}
 use Rattle.listing_lines.specs.declared.Variable.{Variable}
 use Rattle.listing_lines.specs.declared.Variable.TheVariants.{Shown, Admitted, LetOut, Moved}
-use Rattle.listing_lines.specs.declared.Entry.{Entry}
-use Rattle.listing_lines.specs.declared.Entry.TheVariants.{Sets, Malformed}
+use Rattle.listing_lines.specs.Entry.{Entry}
 use Rattle.model_text.specs.Answers.{text_answer, bytes_after}
 use Rattle.base_search.specs.declared.Refusal.{Refusal}
 
@@ -25,21 +24,10 @@ listing_numbers = network_numbers ++ (22 ∷ 23 ∷ 24 ∷ [])
 -- ---- one variable
 unfoldable pub same : Variable → Variable → Bool
 same (Shown r k n) (Shown r' k' n') = eqb r r' and eqb k k' and eqb n n'
-same (Shown r k n) (Admitted i' n') = false
-same (Shown r k n) (LetOut i' n') = false
-same (Shown r k n) (Moved j' n') = false
-same (Admitted i n) (Shown r' k' n') = false
 same (Admitted i n) (Admitted i' n') = eqb i i' and eqb n n'
-same (Admitted i n) (LetOut i' n') = false
-same (Admitted i n) (Moved j' n') = false
-same (LetOut i n) (Shown r' k' n') = false
-same (LetOut i n) (Admitted i' n') = false
 same (LetOut i n) (LetOut i' n') = eqb i i' and eqb n n'
-same (LetOut i n) (Moved j' n') = false
-same (Moved j n) (Shown r' k' n') = false
-same (Moved j n) (Admitted i' n') = false
-same (Moved j n) (LetOut i' n') = false
 same (Moved j n) (Moved j' n') = eqb j j' and eqb n n'
+same v w = false
 
 unfoldable pub step_of : Variable → ℕ
 step_of (Shown r k n) = n
@@ -81,16 +69,16 @@ fits (Moved j n) millionths seconds = is_volume millionths seconds
 
 -- ---- the lines
 unfoldable pub sets : Variable → Entry → Bool
-sets v (Sets w millionths) = same v w
-sets v Malformed = false
+sets v (Some setting) = same v setting.variable
+sets v None = false
 
 unfoldable pub millionths_of : Entry → ℕ
-millionths_of (Sets w millionths) = millionths
-millionths_of Malformed = 0
+millionths_of (Some setting) = setting.millionths
+millionths_of None = 0
 
 module _ (listing : List Entry) where
-  unfoldable pub line_at : ℕ → Entry
-  line_at i = get_or listing i Malformed
+  abbrev pub line_at : ℕ → Entry
+  line_at i = get_or listing i None
 
   -- one of the first i lines sets the variable
   unfoldable pub set_before : ℕ → Variable → Bool
@@ -108,13 +96,14 @@ module _ (listing : List Entry) where
 -- ---- the checks, line by line: `has` says whether the network has what a variable names, `seconds` the length of each step
 -- 22: line i is not malformed, the network has its variable, a phase's value is 0 or 1, and no line before sets it
 unfoldable pub formed_by : (Variable → Bool) → List Entry → ℕ → Entry → Bool
-formed_by has listing i (Sets v millionths) = has v and valid_value v millionths and not (set_before listing i v)
-formed_by has listing i Malformed = false
+formed_by has listing i (Some setting) =
+    has setting.variable and valid_value setting.variable setting.millionths and not (set_before listing i setting.variable)
+formed_by has listing i None = false
 
 -- 23: the volume is whole and fits a field
 unfoldable pub fits_by : (ℕ → ℕ) → Entry → Bool
-fits_by seconds (Sets v millionths) = fits v millionths (seconds (step_of v - 1))
-fits_by seconds Malformed = false
+fits_by seconds (Some setting) = fits setting.variable setting.millionths (seconds (step_of setting.variable - 1))
+fits_by seconds None = false
 
 unfoldable pub entry_checks_by : (Variable → Bool) → (ℕ → ℕ) → List Entry → ℕ → Checks
 entry_checks_by has seconds listing i =

@@ -11,10 +11,11 @@ use Rattle.network_tables.specs.declared.Reading.{Reading}
 use Rattle.network_tables.specs.Fields.{line_size}
 use Rattle.network_tables.specs.Tables.{CountsHold}
 use Rattle.step_arrivals.specs.Times.{PlanTimes}
-use Rattle.listing_lines.specs.declared.Entry.{Entry}
+use Rattle.listing_lines.specs.Entry.{Entry}
 use Rattle.model_text.specs.Answers.{room_verdict, Told}
 use Rattle.listing_call.specs.Listing.{entry_checks_by, listing_checks, plan_text}
-use Rattle.listing_call.specs.Tables.{has_in, seconds_in, Stored}
+use Rattle.step_arrivals.specs.Arrivals.{seconds_in}
+use Rattle.listing_call.specs.Tables.{has_in, Stored}
 use Rattle.network_writer.specs.Plan.{plan_lines}
 
 -- by the tables: the listing is refused, or its numbers are kept in tables, by which 24 is judged and the text is written

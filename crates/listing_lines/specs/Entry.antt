@@ -1,52 +1,37 @@
 -- What a line of a solver's listing says (request T-01): a variable, a space and a decimal. All that is above the reader is stated over the list of entries alone,
 -- never over bytes.
-use Rattle.std.specs.Prelude.{ℕ, suc, ◌+◌, ◌-◌, ◌*◌, ◌^◌, ◌≤◌, ◌≡◌, List, [], ◌∷◌, Bool, cond, ◌&&◌, length, drop, get_or, leb, ltb, eqb}
+use Rattle.std.specs.Prelude.{ℕ, ◌==◌, ◌+◌, ◌-◌, ◌*◌, ◌^◌, ◌≡◌, List, [], ◌∷◌, Bool, cond, ◌&&◌, length, take, drop, get_or, leb, ltb, eqb, Option, Some, None, option_map, option_and_then}
+use Rattle.std.specs.List.{position, position_or_len, slice_split}
+use Rattle.std.specs.Option.{option_zip}
 use Rattle.text_reader.specs.Field.{digits, decimal}
-use Rattle.text_reader.specs.Lines.{split, letter_of}
+use Rattle.listing_lines.specs.declared.Setting.{Setting}
+use Rattle.listing_lines.specs.declared.Variable.{Variable}
 use Rattle.listing_lines.specs.declared.Variable.TheVariants.{Shown, Admitted, LetOut, Moved}
-use Rattle.listing_lines.specs.declared.Entry.{Entry}
-use Rattle.listing_lines.specs.declared.Entry.TheVariants.{Sets, Malformed}
-use Rattle.listing_lines.specs.declared.EntryRead.{EntryRead}
-use Rattle.listing_lines.specs.declared.EntryRead.TheVariants as read
-use Rattle.listing_lines.specs.declared.Named.{Named}
-use Rattle.listing_lines.specs.declared.Named.TheVariants.{Known, Unknown}
-use Rattle.listing_lines.specs.declared.Pair.{Pair}
-use Rattle.listing_lines.specs.declared.Pair.TheVariants.{Both, NoPair}
-use Rattle.listing_lines.specs.declared.Digits.{Digits}
-use Rattle.listing_lines.specs.declared.Digits.TheVariants.{Value, NoValue}
 
--- the bytes before the first c; all of them where there is none
-unfoldable pub up_to : ℕ → List ℕ → List ℕ
-up_to c [] = []
-up_to c (b ∷ bs) = cond (eqb b c) [] (b ∷ up_to c bs)
+-- what a line says: it sets a variable, or it is malformed
+abbrev pub Entry : Type 0
+Entry = Option Setting
 
--- the bytes behind the first c; none where there is none
-unfoldable pub after : ℕ → List ℕ → List ℕ
-after c bs = drop (suc (length (up_to c bs))) bs
+-- the bytes before and behind the first c, where there is one
+unfoldable pub split_once : ℕ → List ℕ → Option (List ℕ × List ℕ)
+split_once c bs = option_map (λ i. (take i bs, drop (i + 1) bs)) (position (λ b. b == c) bs)
 
 -- ---- the decimal
 -- one to `most` digits; leading zeros may stand
-unfoldable pub digits_of : ℕ → List ℕ → Digits
-digits_of most bs = cond (leb 1 (length bs) && leb (length bs) most && digits bs) (Value (decimal bs)) NoValue
-
-unfoldable pub scaled : ℕ → Digits → Digits
-scaled factor (Value v) = Value (v * factor)
-scaled factor NoValue = NoValue
-
-unfoldable pub plus : Digits → Digits → Digits
-plus (Value v) (Value w) = Value (v + w)
-plus (Value v) NoValue = NoValue
-plus NoValue w = NoValue
+abbrev pub digits_of : ℕ → List ℕ → Option ℕ
+digits_of most bs = cond (leb 1 (length bs) && leb (length bs) most && digits bs) (Some (decimal bs)) None
 
 -- the digits behind a point, one to six, in millionths
-unfoldable pub fraction_of : List ℕ → Digits
-fraction_of bs = scaled (10 ^ (6 - length bs)) (digits_of 6 bs)
+abbrev pub fraction_of : List ℕ → Option ℕ
+fraction_of bs = option_map (λ v. v * 10 ^ (6 - length bs)) (digits_of 6 bs)
 
 -- a decimal in millionths: one to ten digits, then optionally a point (byte 46) and one to six more
-unfoldable pub rate_of : List ℕ → Digits
-rate_of bs =
-    plus (scaled 1_000_000 (digits_of 10 (up_to 46 bs)))
-    (cond (eqb (length (up_to 46 bs)) (length bs)) (Value 0) (fraction_of (after 46 bs)))
+abbrev pub rate_in : List ℕ → Option (List ℕ × List ℕ) → Option ℕ
+rate_in bs None = option_map (λ whole. whole * 1_000_000) (digits_of 10 bs)
+rate_in bs (Some (whole, part)) = option_map (λ n. n.0 * 1_000_000 + n.1) (option_zip (digits_of 10 whole) (fraction_of part))
+
+abbrev pub rate_of : List ℕ → Option ℕ
+rate_of bs = rate_in bs (split_once 46 bs)
 
 -- ---- the variable
 -- the letters of a phase shown, of volumes admitted, let out and moved
@@ -63,88 +48,71 @@ abbrev pub letter_moved : ℕ
 letter_moved = 109
 
 -- a zero (byte 48) with more after it
-unfoldable pub leading_zero : List ℕ → Bool
+abbrev pub leading_zero : List ℕ → Bool
 leading_zero bs = ltb 1 (length bs) && eqb (get_or bs 0 0) 48
 
 -- a number of a name: digits without a leading zero. The listing has its own grammar: that of the records may change. One of more than ten digits names what no
 -- network has, and is refused alike.
-unfoldable pub index_of : List ℕ → Digits
-index_of bs = cond (leading_zero bs) NoValue (digits_of 10 bs)
+abbrev pub index_of : List ℕ → Option ℕ
+index_of bs = cond (leading_zero bs) None (digits_of 10 bs)
 
 -- two numbers, an underscore (byte 95) between them
-unfoldable pub both : Digits → Digits → Pair
-both (Value a) (Value b) = Both a b
-both (Value a) NoValue = NoPair
-both NoValue b = NoPair
-
-unfoldable pub pair_of : List ℕ → Pair
-pair_of bs = both (index_of (up_to 95 bs)) (index_of (after 95 bs))
+abbrev pub pair_of : List ℕ → Option (ℕ × ℕ)
+pair_of bs = option_and_then (λ p. option_zip (index_of p.0) (index_of p.1)) (split_once 95 bs)
 
 -- `p_l_k_n`, by its three numbers
-unfoldable pub phase_named : Digits → Pair → Named
-phase_named (Value signal) (Both phase step) = Known (Shown signal phase step)
-phase_named (Value signal) NoPair = Unknown
-phase_named NoValue rest = Unknown
-
-unfoldable pub phase_in : List ℕ → Named
-phase_in bs = phase_named (index_of (up_to 95 bs)) (pair_of (after 95 bs))
+abbrev pub phase_in : List ℕ → Option Variable
+phase_in bs = option_and_then (λ p. option_map (λ n. Shown n.0 n.1.0 n.1.1) (option_zip (index_of p.0) (pair_of p.1))) (split_once 95 bs)
 
 -- `i_i_n`, `o_i_n` and `m_j_n`, by their two
-unfoldable pub volume_named : ℕ → Pair → Named
-volume_named letter (Both item step) =
-    cond (eqb letter letter_admitted) (Known (Admitted item step))
-    (cond (eqb letter letter_let_out) (Known (LetOut item step)) (cond (eqb letter letter_moved) (Known (Moved item step)) Unknown))
-volume_named letter NoPair = Unknown
+abbrev pub volume_named : ℕ → ℕ × ℕ → Option Variable
+volume_named letter (item, step) =
+    cond (eqb letter letter_admitted) (Some (Admitted item step))
+    (cond (eqb letter letter_let_out) (Some (LetOut item step)) (cond (eqb letter letter_moved) (Some (Moved item step)) None))
 
 -- a name by its letter and what stands behind the underscore after it
-unfoldable pub variable_in : ℕ → List ℕ → Named
-variable_in letter bs = cond (eqb letter letter_shown) (phase_in bs) (volume_named letter (pair_of bs))
+abbrev pub variable_in : ℕ → List ℕ → Option Variable
+variable_in letter bs = cond (eqb letter letter_shown) (phase_in bs) (option_and_then (volume_named letter) (pair_of bs))
 
-unfoldable pub variable_of : List ℕ → Named
-variable_of bs = variable_in (letter_of (up_to 95 bs)) (after 95 bs)
+-- the same by all that stands before that underscore: one byte
+abbrev pub named : List ℕ → List ℕ → Option Variable
+named [] bs = None
+named (letter ∷ []) bs = variable_in letter bs
+named (letter ∷ other ∷ more) bs = None
+
+abbrev pub variable_of : List ℕ → Option Variable
+variable_of bs = option_and_then (λ p. named p.0 p.1) (split_once 95 bs)
 
 -- ---- the line
-unfoldable pub setting : Named → Digits → Entry
-setting (Known variable) (Value millionths) = Sets variable millionths
-setting (Known variable) NoValue = Malformed
-setting Unknown rate = Malformed
+abbrev pub setting : Variable → ℕ → Setting
+setting variable millionths = record { variable = variable; millionths = millionths }
 
 -- a line by its bytes: one space (byte 32)
-unfoldable pub entry_of : List ℕ → Entry
-entry_of bs = setting (variable_of (up_to 32 bs)) (rate_of (after 32 bs))
+abbrev pub entry_of : List ℕ → Entry
+entry_of bs = option_and_then (λ p. option_map (λ n. setting n.0 n.1) (option_zip (variable_of p.0) (rate_of p.1))) (split_once 32 bs)
 
 -- the last piece of a text is a line without an end, so malformed, unless nothing stands there
 unfoldable pub entries_of : List (List ℕ) → List Entry
 entries_of [] = []
-entries_of (last ∷ []) = cond (eqb (length last) 0) [] (Malformed ∷ [])
+entries_of (last ∷ []) = cond (eqb (length last) 0) [] (None ∷ [])
 entries_of (bytes ∷ next ∷ more) = entry_of bytes ∷ entries_of (next ∷ more)
 
 -- a listing's lines: a line feed (byte 10) ends each
 unfoldable pub entries : List ℕ → List Entry
-entries text = entries_of (split 10 text)
+entries text = entries_of (slice_split (λ b. b == 10) text)
 
 -- ---- by places
 -- the line that starts at a place; malformed where none does
 unfoldable pub entry_at : List ℕ → ℕ → Entry
-entry_at text at = get_or (entries (drop at text)) 0 Malformed
+entry_at text at = get_or (entries (drop at text)) 0 None
 
 -- the place past the line feed of the line that starts at a place
 unfoldable pub next_entry : List ℕ → ℕ → ℕ
-next_entry text at = at + length (up_to 10 (drop at text)) + 1
+next_entry text at = at + position_or_len (λ b. b == 10) (drop at text) + 1
 
-unfoldable pub placed : Entry → ℕ → EntryRead
-placed (Sets variable millionths) next = read.Sets variable millionths next
-placed Malformed next = read.Malformed
-
-unfoldable pub read_at : List ℕ → ℕ → EntryRead
-read_at text at = placed (entry_at text at) (next_entry text at)
+unfoldable pub read_at : List ℕ → ℕ → Option (Setting × ℕ)
+read_at text at = option_map (λ s. (s, next_entry text at)) (entry_at text at)
 
 -- A line starts at a place: the lines from there on are those of the text from line i on.
 unfoldable pub EntryStarts : List ℕ → ℕ → ℕ → Type 0
 EntryStarts text at i = entries (drop at text) ≡ drop i (entries text)
-
--- ---- for the reader's own functions
--- the place of the first c, or the end where there is none
-pub record Found (c : ℕ) (bs : List ℕ) (place : ℕ) : Type 0 where
-  pub is : place ≡ length (up_to c bs)
-  pub within : place ≤ length bs

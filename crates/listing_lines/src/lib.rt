@@ -1,9 +1,8 @@
 // One line of a solver's listing: a variable, a space and a decimal. Reads bytes; knows no network.
 #![tactic(auto)]
 
-ghost use Rattle.std.specs.Prelude.{◌≡◌, ◌+◌, ◌-◌, ◌*◌, ◌^◌, ◌≤◌};
-ghost use Rattle.text_reader.specs.Field.{digit};
-ghost use Rattle.listing_lines.specs.Entry.{Found, digits_of, fraction_of, rate_of, leading_zero, index_of, pair_of, phase_in, variable_in, variable_of, entry_of, read_at};
+ghost use Rattle.std.specs.Prelude.{◌≡◌, ◌<◌, ◌≤◌, ◌^◌, length, MatchOption, IfSome, OnSome};
+ghost use Rattle.listing_lines.specs.Entry.{split_once, digits_of, fraction_of, rate_of, index_of, pair_of, phase_in, variable_in, variable_of, entry_of, read_at};
 
 // A variable, by the numbers in its name, counted from 1.
 #[derive(Clone, Copy)]
@@ -14,285 +13,144 @@ pub enum Variable {
     Moved { movement: u64, step: u64 },
 }
 
-// What a line says: it sets a variable to some millionths, or it is malformed.
+// What a line sets a variable to.
 #[derive(Clone, Copy)]
-pub enum Entry {
-    Sets { variable: Variable, millionths: u64 },
-    Malformed,
+pub struct Setting {
+    pub variable: Variable,
+    pub millionths: u64,
 }
 
-// What a line says, and where the next one starts.
-#[derive(Clone, Copy)]
-pub enum EntryRead {
-    Sets {
-        variable: Variable,
-        millionths: u64,
-        next: usize,
-    },
-    Malformed,
-}
-
-// What the first field of a line says.
-#[derive(Clone, Copy)]
-pub enum Named {
-    Known(Variable),
-    Unknown,
-}
-
-// What digits say.
-#[derive(Clone, Copy)]
-pub enum Digits {
-    Value(u64),
-    NoValue,
-}
-
-// Two numbers of a name.
-#[derive(Clone, Copy)]
-enum Pair {
-    Both { first: u64, second: u64 },
-    NoPair,
-}
-
-fn is_digit(b: u8) -> bool
-    ensures { result ≡ digit b }
+// The bytes before and behind the first such byte.
+fn split_once(bytes: &[u8], byte: u8) -> Option<(&[u8], &[u8])>
+    ensures { MatchOption result (split_once byte bytes.now ≡ None) (λ parts. split_once byte bytes.now ≡ Some (parts.0.now, parts.1.now)) }
 {
-    48 <= b && b <= 57
-}
-
-fn is_leading_zero(bytes: &[u8]) -> bool
-    ensures { result ≡ leading_zero bytes.now }
-{
-    if bytes.len() <= 1 {
-        return false;
-    }
-    bytes[0] == 48
-}
-
-// The number of bytes before the first such byte; all where there is none.
-fn find(bytes: &[u8], byte: u8) -> usize
-    ensures { Found byte bytes.now result }
-{
-    let mut i = 0;
-    while i < bytes.len() {
-        if bytes[i] == byte {
-            return i;
-        }
-        i += 1;
-    }
-    i
-}
-
-// A number with one digit more at its right.
-fn shifted(value: u64, b: u8) -> u64
-    requires value_bound { value ≤ 1_000_000_000 }
-    requires le_b { 48 ≤ b }
-    ensures { result ≡ value * 10 + (b - 48) }
-{
-    value * 10 + (b - 48) as u64
+    let end = bytes.iter().position(|b| *b == byte)?;
+    Some((&bytes[..end], &bytes[end + 1..]))
 }
 
 // A number of one to `most` digits; leading zeros may stand.
-fn digits_of(bytes: &[u8], most: usize) -> Digits
+#[tactic(auto, unfolding(text_reader::specs::Field::digit, text_reader::specs::Field::digits, text_reader::specs::Field::shift, text_reader::specs::Field::decimal))]
+fn digits_of(bytes: &[u8], most: usize) -> Option<u64>
     requires { most ≤ 10 }
-    ensures { result ≡ digits_of most bytes.now }
+    ensures value { result ≡ digits_of most bytes.now }
+    ensures few { OnSome result (length bytes.now ≤ most) }
+    ensures small { IfSome result (λ v. v < 10 ^ length bytes.now) }
 {
-    if bytes.len() == 0 {
-        return Digits::NoValue;
+    if bytes.is_empty() || most < bytes.len() {
+        return None;
     }
-    if most < bytes.len() {
-        return Digits::NoValue;
-    }
-    let mut value: u64 = 0;
-    let mut i = 0;
-    while i < bytes.len() {
-        let b = bytes[i];
-        if !is_digit(b) {
-            return Digits::NoValue;
+    let mut value = 0;
+    for b in bytes {
+        if !b.is_ascii_digit() {
+            return None;
         }
-        value = shifted(value, b);
-        i += 1;
+        value = value * 10 + u64::from(*b - b'0');
     }
-    Digits::Value(value)
-}
-
-// Ten to the power of what six digits lack.
-fn scale(count: usize) -> u64
-    ensures { result ≡ 10 ^ (6 - count) }
-{
-    match count {
-        0 => 1_000_000,
-        1 => 100_000,
-        2 => 10_000,
-        3 => 1_000,
-        4 => 100,
-        5 => 10,
-        _ => 1,
-    }
+    Some(value)
 }
 
 // The digits behind a point, one to six, in millionths.
-fn fraction_of(bytes: &[u8]) -> Digits
-    ensures { result ≡ fraction_of bytes.now }
+fn fraction_of(bytes: &[u8]) -> Option<u64>
+    ensures value { result ≡ fraction_of bytes.now }
+    ensures small { IfSome result (λ v. v < 10 ^ 6) }
 {
-    match digits_of(bytes, 6) {
-        Digits::Value(value) => Digits::Value(value * scale(bytes.len())),
-        Digits::NoValue => Digits::NoValue,
-    }
+    let value = digits_of(bytes, 6)?;
+    Some(value * 10u64.pow(6 - bytes.len() as u32))
 }
 
 // A decimal in millionths: one to ten digits, then optionally a point and one to six more.
-fn rate_of(bytes: &[u8]) -> Digits
-    ensures { result ≡ rate_of bytes.now }
+fn rate_of(bytes: &[u8]) -> Option<u64>
+    ensures value { result ≡ rate_of bytes.now }
+    ensures small { IfSome result (λ v. v < 10 ^ 16) }
 {
-    let end = find(bytes, 46);
-    let Digits::Value(whole) = digits_of(&bytes[..end], 10) else {
-        return Digits::NoValue;
+    let (whole, part) = match split_once(bytes, b'.') {
+        Some((whole, part)) => (whole, fraction_of(part)?),
+        None => (bytes, 0),
     };
-    if end == bytes.len() {
-        return Digits::Value(whole * 1_000_000);
-    }
-    let next = end + 1;
-    match fraction_of(&bytes[next..]) {
-        Digits::Value(part) => Digits::Value(whole * 1_000_000 + part),
-        Digits::NoValue => Digits::NoValue,
-    }
+    Some(digits_of(whole, 10)? * 1_000_000 + part)
 }
 
 // A number of a name.
-fn index_of(bytes: &[u8]) -> Digits
+fn index_of(bytes: &[u8]) -> Option<u64>
     ensures { result ≡ index_of bytes.now }
 {
-    if is_leading_zero(bytes) {
-        return Digits::NoValue;
+    match bytes {
+        [b'0', _, ..] => None,
+        _ => digits_of(bytes, 10),
     }
-    digits_of(bytes, 10)
 }
 
 // Two numbers, an underscore between them.
-fn pair_of(bytes: &[u8]) -> Pair
+fn pair_of(bytes: &[u8]) -> Option<(u64, u64)>
     ensures { result ≡ pair_of bytes.now }
 {
-    let end = find(bytes, 95);
-    if bytes.len() <= end {
-        return Pair::NoPair;
-    }
-    let Digits::Value(first) = index_of(&bytes[..end]) else {
-        return Pair::NoPair;
-    };
-    let next = end + 1;
-    match index_of(&bytes[next..]) {
-        Digits::Value(second) => Pair::Both { first, second },
-        Digits::NoValue => Pair::NoPair,
-    }
+    let (first, second) = split_once(bytes, b'_')?;
+    Some((index_of(first)?, index_of(second)?))
 }
 
 // What stands behind `p_`: a signal, a phase and a step.
-fn phase_in(bytes: &[u8]) -> Named
+fn phase_in(bytes: &[u8]) -> Option<Variable>
     ensures { result ≡ phase_in bytes.now }
 {
-    let end = find(bytes, 95);
-    if bytes.len() <= end {
-        return Named::Unknown;
-    }
-    let Digits::Value(signal) = index_of(&bytes[..end]) else {
-        return Named::Unknown;
-    };
-    let next = end + 1;
-    match pair_of(&bytes[next..]) {
-        Pair::Both { first, second } => Named::Known(Variable::Shown {
-            signal,
-            phase: first,
-            step: second,
-        }),
-        Pair::NoPair => Named::Unknown,
-    }
+    let (signal, rest) = split_once(bytes, b'_')?;
+    let signal = index_of(signal)?;
+    let (phase, step) = pair_of(rest)?;
+    Some(Variable::Shown {
+        signal,
+        phase,
+        step,
+    })
 }
 
 // A name by its letter and what stands behind the underscore after it.
-fn variable_in(letter: u8, bytes: &[u8]) -> Named
+fn variable_in(letter: u8, bytes: &[u8]) -> Option<Variable>
     ensures { result ≡ variable_in letter bytes.now }
 {
     if letter == b'p' {
         return phase_in(bytes);
     }
-    let Pair::Both { first, second } = pair_of(bytes) else {
-        return Named::Unknown;
-    };
-    if letter == b'i' {
-        return Named::Known(Variable::Admitted {
-            link: first,
-            step: second,
-        });
+    let (item, step) = pair_of(bytes)?;
+    match letter {
+        b'i' => Some(Variable::Admitted { link: item, step }),
+        b'o' => Some(Variable::LetOut { link: item, step }),
+        b'm' => Some(Variable::Moved {
+            movement: item,
+            step,
+        }),
+        _ => None,
     }
-    if letter == b'o' {
-        return Named::Known(Variable::LetOut {
-            link: first,
-            step: second,
-        });
-    }
-    if letter == b'm' {
-        return Named::Known(Variable::Moved {
-            movement: first,
-            step: second,
-        });
-    }
-    Named::Unknown
 }
 
-fn variable_of(bytes: &[u8]) -> Named
+// A variable by its name: a letter, an underscore and numbers.
+fn variable_of(bytes: &[u8]) -> Option<Variable>
     ensures { result ≡ variable_of bytes.now }
 {
-    let end = find(bytes, 95);
-    if end != 1 {
-        return Named::Unknown;
-    }
-    if bytes.len() <= 1 {
-        return Named::Unknown;
-    }
-    variable_in(bytes[0], &bytes[2..])
+    let (letter, numbers) = split_once(bytes, b'_')?;
+    let [letter] = letter else {
+        return None;
+    };
+    variable_in(*letter, numbers)
 }
 
 // What a line says, by its bytes without the line feed.
-fn entry_of(bytes: &[u8]) -> Entry
-    ensures { result ≡ entry_of bytes.now }
+fn entry_of(bytes: &[u8]) -> Option<Setting>
+    ensures value { result ≡ entry_of bytes.now }
+    ensures small { IfSome result (λ setting. setting.millionths < 10 ^ 16) }
 {
-    let end = find(bytes, 32);
-    if bytes.len() <= end {
-        return Entry::Malformed;
-    }
-    let Named::Known(variable) = variable_of(&bytes[..end]) else {
-        return Entry::Malformed;
-    };
-    let next = end + 1;
-    match rate_of(&bytes[next..]) {
-        Digits::Value(millionths) => Entry::Sets {
-            variable,
-            millionths,
-        },
-        Digits::NoValue => Entry::Malformed,
-    }
+    let (name, rate) = split_once(bytes, b' ')?;
+    Some(Setting {
+        variable: variable_of(name)?,
+        millionths: rate_of(rate)?,
+    })
 }
 
-// Reads the line at a place. A line without a line feed is malformed.
-pub fn entry_at(text: &[u8], at: usize) -> EntryRead
-    ensures { result ≡ read_at text.now at }
+// Reads the line at a place, with the place of the next. A line without a line feed is malformed.
+#[tactic(auto, using(crate::proofs::Lines::at_a_place))]
+pub fn entry_at(text: &[u8], at: usize) -> Option<(Setting, usize)>
+    ensures value { result ≡ read_at text.now at }
+    ensures small { IfSome result (λ read. read.0.millionths < 10 ^ 16) }
 {
-    if text.len() <= at {
-        return EntryRead::Malformed;
-    }
-    let end = at + find(&text[at..], 10);
-    if text.len() <= end {
-        return EntryRead::Malformed;
-    }
-    match entry_of(&text[at..end]) {
-        Entry::Sets {
-            variable,
-            millionths,
-        } => EntryRead::Sets {
-            variable,
-            millionths,
-            next: end + 1,
-        },
-        Entry::Malformed => EntryRead::Malformed,
-    }
+    let rest = text.get(at..)?;
+    let (line, _) = split_once(rest, b'\n')?;
+    Some((entry_of(line)?, at + line.len() + 1))
 }

@@ -1,25 +1,25 @@
 -- The test of a link by its table is the paper's test of the link, and the turns of the loop over the `Q` lines.
-use Rattle.base_laws.proofs.Kit.{ℕ, suc, ◌+◌, ◌-◌, ◌*◌, ◌%◌, ◌^◌, ◌≤◌, ◌<◌, ◌≡◌, refl, sym, ◌∙◌, Bool, true, false, cond, not, ◌&&◌, and-true, and-false, List, add-one, arith, le-leb, lt-leb, eqb-false, leb-true, ne_eqb, not-true, not-false, leb, ltb, eqb, get_or}
+use Rattle.base_laws.proofs.Kit.{ℕ, ◌+◌, ◌-◌, ◌*◌, ◌%◌, ◌^◌, ◌≤◌, ◌<◌, ◌≡◌, refl, sym, ◌∙◌, Bool, true, false, cond, ◌&&◌, and-true, and-false, List, add-one, arith, le-leb, lt-leb, eqb-false, leb-true, ne_eqb, leb, ltb, eqb, length, get_or}
 use Rattle.base_search.specs.declared.Refusal.{Refusal}
-use Rattle.base_search.specs.Checks.{refusal}
+use Rattle.base_search.specs.Checks.{Verdict, checked}
 use Rattle.text_reader.specs.Lines.{Line, lines}
 use Rattle.base_laws.specs.Test.{◌and◌, within}
-use Rattle.model.specs.Network.{entry, link_count, signal_count, link_line, signal, capacity, travel_time, exit_rate, signal_of, phase_mask, standing}
+use Rattle.model.specs.Network.{entry, signal_count, link_line, signal, capacity, travel_time, exit_rate, signal_of, phase_mask, standing}
 use Rattle.model.specs.Rules.{valid_mask, valid_link}
 use Rattle.model.specs.Table.{letter_q, link_checks}
 use Rattle.model.proofs.Phases.{bit_shifted}
 use Rattle.network_tables.specs.declared.Reading.{Reading}
 use Rattle.network_tables.specs.Places.{link_line_in}
-use Rattle.network_tables.specs.Fields.{link_fields, link_table_size, capacity_in, travel_time_in, exit_rate_in, signal_in, phase_mask_in, standing_in}
-use Rattle.network_tables.specs.Rows.{RowRead}
-use Rattle.network_tables.specs.Blocks.{block_checks, Records, TableTo, link_block}
+use Rattle.network_tables.specs.Fields.{link_fields, capacity_in, travel_time_in, exit_rate_in, signal_in, phase_mask_in, standing_in}
+use Rattle.network_tables.specs.Blocks.{block_checks, RowsJudged, RowsHeld, link_block}
 use Rattle.network_tables.specs.Tables.{Judged, PhaseTable, moved_to}
-use Rattle.network_tables.proofs.Places.{link-line-is, movements-after-links}
-use Rattle.network_tables.proofs.Blocks.{passed-all, block-end, records-malformed, records-invalid, records-next, table-begin, table-room, table-rows, table-next}
+use Rattle.network_tables.proofs.Places.{movements-after-links}
+use Rattle.network_tables.proofs.Blocks.{passed-all, block-end, records-judged}
 use Rattle.network_tables.proofs.Stages.{judged-refused, judged-passed, reached-next}
-use Rattle.network_links.specs.Links.{valid_mask_in, valid_link_in, PhasesKnown, LinkAsked}
+use Rattle.network_links.specs.Links.{valid_mask_in, valid_link_in, PhasesKnown}
 use Rattle.network_links.specs.Stages.{LinksAsked, LinksHeld}
-use Rattle.std.specs.Prelude.{Option, Some, None, Ok, Err}
+use Rattle.std.specs.Prelude.{Result, Ok, Err}
+use Rattle.std.specs.Borrow.{Bor}
 
 pub fewer-known : {m n : ℕ} {phases : List ℕ} → PhasesKnown n phases → m ≤ n → PhasesKnown m phases
 fewer-known k h = record { room = omega (arith, k.room); few = λ r l. k.few r (omega arith) }
@@ -77,61 +77,25 @@ module _ {network : List Line} {phases : List ℕ} (t : PhaseTable network phase
       by true h = rw (mask-valid h)
       by false h = rw and-false
 
--- ---- the turns of `read_links`
-link-records : (network : List Line) → Records network (link_block network) letter_q link_fields 4 (valid_link network)
-unfolding link_checks link_line
-link-records network = record { shape = λ i. refl; follow = λ i. omega arith }
-
+-- ---- `read_links`
 module _ {text : List ℕ} {reading : Reading} {phases links₀ : List ℕ} (asked : LinksAsked text reading phases links₀) where
-  pub links-begin : TableTo text (link_block (lines text)) link_fields link_table_size reading.next 0 links₀
-  links-begin = table-begin asked.reached.starts asked.room
+  pub links-judged : {first size : ℕ} → first ≡ link_line_in reading.counts 0 + 1 → {post : Bor (List ℕ) → ℕ → Verdict → Type 0}
+      → ((links : Bor (List ℕ)) (i : ℕ) (said : Verdict) → post links i said → said ≡ checked (valid_link_in links.now i reading.counts.signals phases) 4 (first + i) (i + 1))
+      → RowsJudged (lines text) (link_block (lines text)) letter_q link_fields first reading.counts.links size post
+  unfolding link_checks link_line
+  links-judged e says =
+      records-judged (λ i. refl) (sym asked.reached.counted.links) (λ i. omega (arith, asked.reached.counted.trams, asked.reached.counted.signals))
+      (λ i links said h rows p. says links i said p ∙ rw (add-one i, asked.reached.counted.signals, link-valid asked.phased i links.now (λ k. rows.numbers i k (omega arith))) refl)
 
-  module _ {at i : ℕ} {links : List ℕ} (inv : TableTo text (link_block (lines text)) link_fields link_table_size at i links) where
-    pub links-done : reading.counts.links ≤ i → {after : Reading} → after ≡ moved_to reading at
-        → Judged (block_checks (link_block (lines text))) (LinksHeld text links) (Ok after)
-    links-done h e =
-        let past : link_count (lines text) ≤ i = omega (arith, asked.reached.counted.links) in
-        rw e
-        (judged-passed (passed-all inv.read.passed past)
+  module _ {result : Result ℕ Refusal} {links : List ℕ} (got : RowsHeld text (link_block (lines text)) link_fields (length links₀) result links) where
+    pub links-refused : {r : Refusal} → result ≡ Err r → Judged (block_checks (link_block (lines text))) (LinksHeld text links) (Err r)
+    links-refused {r} e = judged-refused (got.refused r e)
+
+    pub links-held : {next : ℕ} → result ≡ Ok next → Judged (block_checks (link_block (lines text))) (LinksHeld text links) (Ok (moved_to reading next))
+    links-held {next} e =
+        let table = got.held next e in
+        judged-passed (passed-all table.read.passed (omega arith))
         (record {
-          reached = reached-next asked.reached (rw movements-after-links at (block-end inv.read past));
-          table = record { size = inv.room; holds = λ j k l. inv.rows.numbers j k (omega arith) };
-        }))
-
-    module _ (h : i < reading.counts.links) {r : (Option ℕ)} {after : List ℕ} (row : RowRead letter_q link_fields text at (link_fields * i) links r after) where
-      below : i < link_count (lines text)
-      below = omega (arith, asked.reached.counted.links)
-
-      told_line : {line : ℕ} → line ≡ link_line_in reading.counts i → line + 1 ≡ suc (link_line (lines text) i)
-      told_line l = omega (arith, link-line-is asked.reached.counted i)
-
-      pub links-malformed : r ≡ None → {line : ℕ} {q : Refusal} → line ≡ link_line_in reading.counts i → q ≡ refusal 1 (line + 1) 0
-          → Judged (block_checks (link_block (lines text))) (LinksHeld text after) (Err q)
-      links-malformed e l t = rw (t, told_line l) (judged-refused (records-malformed inv.read (link-records (lines text)) below row e))
-
-      pub link-asked : LinkAsked after i reading.counts.signals phases
-      link-asked =
-          record {
-            few = omega (arith, asked.reached.counted.few.links);
-            room = table-room inv row;
-            known =
-                record {
-                  room = omega (arith, asked.reached.counted.few.signals, asked.phased.size);
-                  few = λ r l. asked.phased.few r (omega (arith, asked.reached.counted.signals));
-                };
-          }
-
-      module _ {next : ℕ} (e : r ≡ Some next) {v : Bool} (told : v ≡ valid_link_in after i reading.counts.signals phases) where
-        judged : v ≡ valid_link (lines text) i
-        judged =
-            told
-            ∙ rw asked.reached.counted.signals (link-valid asked.phased i after (λ k. (table-rows inv row e).numbers i k (omega arith)))
-
-        pub links-invalid : not v ≡ true → {line : ℕ} {q : Refusal} → line ≡ link_line_in reading.counts i → q ≡ refusal 4 (line + 1) (i + 1)
-            → Judged (block_checks (link_block (lines text))) (LinksHeld text after) (Err q)
-        links-invalid n l t =
-            rw (t, told_line l, add-one)
-            (judged-refused (records-invalid inv.read (link-records (lines text)) below row e (sym judged ∙ not-true v n)))
-
-        pub links-next : not v ≡ false → TableTo text (link_block (lines text)) link_fields link_table_size next (i + 1) after
-        links-next n = table-next inv row e (records-next inv.read (link-records (lines text)) below row e (sym judged ∙ not-false v n))
+          reached = reached-next asked.reached (rw movements-after-links at (block-end table.read (omega arith)));
+          table = record { size = table.room ∙ asked.room; holds = λ j k l. table.rows.numbers j k (omega arith) };
+        })

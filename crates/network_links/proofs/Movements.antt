@@ -1,7 +1,7 @@
 -- The tests of movements by their table are the paper's, and the turns of the loops over the `M` lines and over the links' shares.
-use Rattle.base_laws.proofs.Kit.{ℕ, zero, suc, ◌+◌, ◌-◌, ◌*◌, ◌≤◌, ◌<◌, ◌≡◌, refl, sym, ap, fun_ext, ◌∙◌, Bool, true, false, not, ◌&&◌, ◌||◌, List, add-one, arith, eq-eqb, ne_eqb, not-true, not-false, leb, ltb, eqb, eqb·suc-zero}
+use Rattle.base_laws.proofs.Kit.{ℕ, zero, suc, ◌+◌, ◌-◌, ◌≤◌, ◌<◌, ◌≡◌, refl, sym, ap, fun_ext, ◌∙◌, Bool, true, false, not, ◌&&◌, ◌||◌, List, add-one, arith, eq-eqb, ne_eqb, not-true, not-false, leb, ltb, eqb, eqb·suc-zero, length}
 use Rattle.base_search.specs.declared.Refusal.{Refusal}
-use Rattle.base_search.specs.Checks.{refusal, each, checked, verdict}
+use Rattle.base_search.specs.Checks.{Verdict, refusal, each, checked, verdict}
 use Rattle.text_reader.specs.Lines.{Line, lines}
 use Rattle.base_laws.specs.Test.{◌and◌, ◌or◌, within}
 use Rattle.base_laws.specs.Sum.{sum, only}
@@ -12,17 +12,17 @@ use Rattle.base_laws.proofs.Sums.{sum-ext}
 use Rattle.network_tables.specs.declared.Counts.{Counts}
 use Rattle.network_tables.specs.declared.Reading.{Reading}
 use Rattle.network_tables.specs.Places.{movement_line_in}
-use Rattle.network_tables.specs.Fields.{movement_fields, movement_table_size, link_in, rate_in, share_in}
-use Rattle.network_tables.specs.Rows.{RowRead}
-use Rattle.network_tables.specs.Blocks.{block_checks, PassedTo, Records, RowsTo, TableTo, movement_block}
+use Rattle.network_tables.specs.Fields.{movement_fields, link_in, rate_in, share_in}
+use Rattle.network_tables.specs.Blocks.{block_checks, PassedTo, RowsTo, RowsJudged, RowsHeld, movement_block}
 use Rattle.network_tables.specs.Tables.{Judged, CountsHold, MovementTable, moved_to}
 use Rattle.network_tables.proofs.Tables.{from-link-at, share-at}
-use Rattle.network_tables.proofs.Places.{movement-line-is, past-after-movements}
-use Rattle.network_tables.proofs.Blocks.{passed-all, passed-stop, passed-next, block-end, records-malformed, records-invalid, records-next, table-begin, table-room, table-rows, table-next}
+use Rattle.network_tables.proofs.Places.{past-after-movements}
+use Rattle.network_tables.proofs.Blocks.{passed-all, passed-stop, passed-next, block-end, records-judged}
 use Rattle.network_tables.proofs.Stages.{judged-refused, judged-passed, reached-next}
-use Rattle.network_links.specs.Movements.{pair_rises_in, valid_movement_in, last_movement_in, share_sum_in, valid_shares_in, share_checks_in, MovementsKnown}
+use Rattle.network_links.specs.Movements.{pair_rises_in, valid_movement_in, last_movement_in, share_sum_in, valid_shares_in, share_checks_in}
 use Rattle.network_links.specs.Stages.{MovementsAsked, MovementsHeld, SharesAsked}
-use Rattle.std.specs.Prelude.{Option, Some, None, Ok, Err}
+use Rattle.std.specs.Prelude.{Result, Ok, Err}
+use Rattle.std.specs.Borrow.{Bor}
 
 -- ---- the turns of `pair_rises`
 module _ (movements : List ℕ) (j : ℕ) where
@@ -44,19 +44,14 @@ unfolding valid_movement_in within ◌and◌
 movement-tested movements links j l f e t v p r = rw (r, f, t, l, e, v, p)
 
 -- ---- the turns of `last_movement`
-module _ (movements : List ℕ) (link j : ℕ) where
-  module _ {leaves from : ℕ} (l : leaves ≡ link_in movements 0 j) (f : from ≡ leaves) where
-    pub last-here : from ≡ link → {last : ℕ} → last ≡ j + 1 → last ≡ last_movement_in movements (j + 1) link
-    unfolding last_movement_in
-    last-here e q = q ∙ rw (add-one j, eq-eqb (link_in movements 0 j) link (sym l ∙ sym f ∙ e))
+module _ (movements : List ℕ) (link j : ℕ) {leaves from : ℕ} (l : leaves ≡ link_in movements 0 j) (f : from ≡ leaves) where
+  pub last-here : from ≡ link → {last : ℕ} → last ≡ j + 1 → last ≡ last_movement_in movements (j + 1) link
+  unfolding last_movement_in
+  last-here e q = q ∙ rw (add-one j, eq-eqb (link_in movements 0 j) link (sym l ∙ sym f ∙ e))
 
-    pub last-other : (from ≡ link → ⊥) → {last before : ℕ} → last ≡ before → before ≡ last_movement_in movements j link → last ≡ last_movement_in movements (j + 1) link
-    unfolding last_movement_in
-    last-other n q e = q ∙ e ∙ rw (add-one j, ← l, ← f, ne_eqb from link n)
-
-  module _ (count : ℕ) (l : j ≤ count) (h : count ≤ j) where
-    pub last-all : {last : ℕ} → last ≡ last_movement_in movements j link → last ≡ last_movement_in movements count link
-    last-all e = let same : j ≡ count = omega arith in rw same at e
+  pub last-other : (from ≡ link → ⊥) → {last before : ℕ} → last ≡ before → before ≡ last_movement_in movements j link → last ≡ last_movement_in movements (j + 1) link
+  unfolding last_movement_in
+  last-other n q e = q ∙ e ∙ rw (add-one j, ← l, ← f, ne_eqb from link n)
 
 -- ---- `valid_shares`
 module _ (movements : List ℕ) (count link : ℕ) {sum : ℕ} (e : sum ≡ share_sum_in movements count link) where
@@ -102,53 +97,29 @@ module _ (network : List Line) (movements : List ℕ) (j : ℕ) (q : RowsTo netw
   movement-valid =
       rw (from_is j (omega arith), to_is j (omega arith), q.numbers j 2 (omega arith) (omega arith), q.numbers j 3 (omega arith) (omega arith), pair-rises)
 
--- ---- the turns of `read_movements`
-movement-records : (network : List Line) → Records network (movement_block network) letter_m movement_fields 5 (valid_movement network)
-unfolding movement_checks movement_line
-movement-records network = record { shape = λ j. refl; follow = λ j. omega arith }
-
+-- ---- `read_movements`
 module _ {text : List ℕ} {reading : Reading} {movements₀ : List ℕ} (asked : MovementsAsked text reading movements₀) where
-  pub movements-begin : TableTo text (movement_block (lines text)) movement_fields movement_table_size reading.next 0 movements₀
-  movements-begin = table-begin asked.reached.starts asked.room
+  pub movements-judged : {first size : ℕ} → first ≡ movement_line_in reading.counts 0 + 1 → {post : Bor (List ℕ) → ℕ → Verdict → Type 0}
+      → ((movements : Bor (List ℕ)) (j : ℕ) (said : Verdict) → post movements j said → said ≡ checked (valid_movement_in movements.now reading.counts.links j) 5 (first + j) (j + 1))
+      → RowsJudged (lines text) (movement_block (lines text)) letter_m movement_fields first reading.counts.movements size post
+  unfolding movement_checks movement_line
+  movements-judged e says =
+      records-judged (λ j. refl) (sym asked.reached.counted.movements)
+      (λ j. omega (arith, asked.reached.counted.trams, asked.reached.counted.signals, asked.reached.counted.links))
+      (λ j movements said h rows p. says movements j said p ∙ rw (add-one j, asked.reached.counted.links, movement-valid (lines text) movements.now j rows) refl)
 
-  module _ {at j : ℕ} {movements : List ℕ} (inv : TableTo text (movement_block (lines text)) movement_fields movement_table_size at j movements) where
-    pub movements-done : reading.counts.movements ≤ j → {after : Reading} → after ≡ moved_to reading at
-        → Judged (block_checks (movement_block (lines text))) (MovementsHeld text movements) (Ok after)
-    movements-done h e =
-        let past : movement_count (lines text) ≤ j = omega (arith, asked.reached.counted.movements) in
-        rw e
-        (judged-passed (passed-all inv.read.passed past)
+  module _ {result : Result ℕ Refusal} {movements : List ℕ} (got : RowsHeld text (movement_block (lines text)) movement_fields (length movements₀) result movements) where
+    pub movements-refused : {r : Refusal} → result ≡ Err r → Judged (block_checks (movement_block (lines text))) (MovementsHeld text movements) (Err r)
+    movements-refused {r} e = judged-refused (got.refused r e)
+
+    pub movements-held : {next : ℕ} → result ≡ Ok next → Judged (block_checks (movement_block (lines text))) (MovementsHeld text movements) (Ok (moved_to reading next))
+    movements-held {next} e =
+        let table = got.held next e in
+        judged-passed (passed-all table.read.passed (omega arith))
         (record {
-          reached = reached-next asked.reached (rw past-after-movements at (block-end inv.read past));
-          table = record { size = inv.room; holds = λ i k l. inv.rows.numbers i k (omega arith) };
-        }))
-
-    module _ (h : j < reading.counts.movements) {r : (Option ℕ)} {after : List ℕ} (row : RowRead letter_m movement_fields text at (movement_fields * j) movements r after) where
-      below : j < movement_count (lines text)
-      below = omega (arith, asked.reached.counted.movements)
-
-      told_line : {line : ℕ} → line ≡ movement_line_in reading.counts j → line + 1 ≡ suc (movement_line (lines text) j)
-      told_line l = omega (arith, movement-line-is asked.reached.counted j)
-
-      pub movements-malformed : r ≡ None → {line : ℕ} {q : Refusal} → line ≡ movement_line_in reading.counts j → q ≡ refusal 1 (line + 1) 0
-          → Judged (block_checks (movement_block (lines text))) (MovementsHeld text after) (Err q)
-      movements-malformed e l t = rw (t, told_line l) (judged-refused (records-malformed inv.read (movement-records (lines text)) below row e))
-
-      pub movement-asked : MovementsKnown after (j + 1)
-      movement-asked = record { room = table-room inv row; few = omega (arith, asked.reached.counted.few.movements) }
-
-      module _ {next : ℕ} (e : r ≡ Some next) {v : Bool} (told : v ≡ valid_movement_in after reading.counts.links j) where
-        judged : v ≡ valid_movement (lines text) j
-        judged = told ∙ rw asked.reached.counted.links (movement-valid (lines text) after j (table-rows inv row e))
-
-        pub movements-invalid : not v ≡ true → {line : ℕ} {q : Refusal} → line ≡ movement_line_in reading.counts j → q ≡ refusal 5 (line + 1) (j + 1)
-            → Judged (block_checks (movement_block (lines text))) (MovementsHeld text after) (Err q)
-        movements-invalid n l t =
-            rw (t, told_line l, add-one)
-            (judged-refused (records-invalid inv.read (movement-records (lines text)) below row e (sym judged ∙ not-true v n)))
-
-        pub movements-next : not v ≡ false → TableTo text (movement_block (lines text)) movement_fields movement_table_size next (j + 1) after
-        movements-next n = table-next inv row e (records-next inv.read (movement-records (lines text)) below row e (sym judged ∙ not-false v n))
+          reached = reached-next asked.reached (rw past-after-movements at (block-end table.read (omega arith)));
+          table = record { size = table.room ∙ asked.room; holds = λ i k l. table.rows.numbers i k (omega arith) };
+        })
 
 -- ---- the turns of `check_shares`
 module _ (movements : List ℕ) (reading : Reading) {i : ℕ} (inv : PassedTo reading.counts.links (share_checks_in movements reading.counts) i) where

@@ -1,11 +1,9 @@
 -- The sums of the shares of each link's movements, in one pass.
-use Rattle.base_laws.proofs.Kit.{ℕ, ◌+◌, ◌-◌, ◌*◌, ◌≤◌, ◌<◌, ◌≡◌, refl, ap, ◌∙◌, Bool, true, false, List, ℕ_discrete, add-one, arith, eq-eqb, ne_eqb, eqb, get_or, set, replicate, length-set, length-replicate, get_or-replicate, get_or-set_same, get_or-set_other}
+use Rattle.base_laws.proofs.Kit.{ℕ, ◌+◌, ◌-◌, ◌*◌, ◌≤◌, ◌<◌, ◌≡◌, refl, ap, ◌∙◌, Bool, true, false, List, ℕ_discrete, add-one, arith, eq-eqb, ne_eqb, eqb, get_or, set, length-set, get_or-set_same, get_or-set_other}
 use Rattle.model.specs.Network.{max_links}
 use Rattle.base_laws.specs.Sum.{sum, only}
-use Rattle.network_tables.specs.declared.Counts.{Counts}
 use Rattle.network_tables.specs.Fields.{link_in, share_in}
 use Rattle.network_links.specs.Movements.{share_sum_in, AddAsked, Added, SumsAsked, ShareSums}
-use Rattle.network_links.specs.Stages.{SharesAsked}
 
 -- ---- the returns of `add_share`
 module _ {from part : ℕ} {sums : List ℕ} (asked : AddAsked part sums) where
@@ -44,39 +42,19 @@ module _ {movements : List ℕ} {m : ℕ} {sums₀ : List ℕ} (asked : SumsAske
   sums-begin =
       record { within = omega arith; held = record { size = asked.size; each-sum = asked.none }; small = λ i l. omega (arith, asked.none i l) }
 
-  module _ {sums : List ℕ} {j : ℕ} (inv : SumsTo movements m sums j) where
-    pub sums-done : m ≤ j → ShareSums movements m sums
-    sums-done h = let e : j ≡ m = omega (arith, inv.within) in rw e at inv.held
-
-    module _ (h : j < m) {part : ℕ} (fits : part < 4294967296) where
-      pub add-asked : AddAsked part sums
-      add-asked = record { size = inv.held.size; fits = λ i l. omega (arith, inv.small i l, asked.known.few) }
-
-      pub sums_next : {leaves from : ℕ} → leaves ≡ link_in movements 0 j → from ≡ leaves → part ≡ share_in movements j → {sums' : List ℕ} → Added from part sums sums' → SumsTo movements m sums' (j + 1)
-      unfolding share_sum_in sum
-      sums_next {leaves} {from} e f p {sums'} got =
-          record {
-            within = omega arith;
-            held = record {
-              size = got.size;
-              each-sum = λ i l. rw (add-one j, ← e, ← f, ← p) (got.each-sum i l ∙ ap (λ x. x + only (eqb from (i + 1)) part) (inv.held.each-sum i l));
-            };
-            small = λ i l. omega (arith, got.each-sum i l, inv.small i l, most (eqb from (i + 1)));
-          }
-        where
-          most : (b : Bool) → only b part ≤ part
-          most true = omega arith
-          most false = omega arith
-
--- ---- what `check_shares` asks of it, and has of it
-module _ {movements : List ℕ} {counts : Counts} (asked : SharesAsked movements counts) where
-  pub sums-asked : {sums : List ℕ} → sums ≡ replicate max_links 0 → SumsAsked movements counts.movements sums
-  sums-asked zeros =
-      record {
-        known = record { room = asked.room; few = asked.few.movements };
-        size = rw zeros (length-replicate {A = ℕ} max_links 0);
-        none = λ i l. rw zeros (get_or-replicate {A = ℕ} max_links i 0 0 l);
-      }
-
-  pub sum-at : {sums : List ℕ} → ShareSums movements counts.movements sums → (i : ℕ) → i < counts.links → get_or sums i 0 ≡ share_sum_in movements counts.movements (i + 1)
-  sum-at got i l = got.each-sum i (omega (arith, asked.few.links))
+  module _ {sums : List ℕ} {j : ℕ} (inv : SumsTo movements m sums j) (h : j < m) {part : ℕ} (fits : part < 4294967296) where
+    pub sums_next : {leaves from : ℕ} → leaves ≡ link_in movements 0 j → from ≡ leaves → part ≡ share_in movements j → {sums' : List ℕ} → Added from part sums sums' → SumsTo movements m sums' (j + 1)
+    unfolding share_sum_in sum
+    sums_next {leaves} {from} e f p {sums'} got =
+        record {
+          within = omega arith;
+          held = record {
+            size = got.size;
+            each-sum = λ i l. rw (add-one j, ← e, ← f, ← p) (got.each-sum i l ∙ ap (λ x. x + only (eqb from (i + 1)) part) (inv.held.each-sum i l));
+          };
+          small = λ i l. omega (arith, got.each-sum i l, inv.small i l, most (eqb from (i + 1)));
+        }
+      where
+        most : (b : Bool) → only b part ≤ part
+        most true = omega arith
+        most false = omega arith

@@ -11,7 +11,7 @@ ghost use Rattle.network_links.specs.Movements.{pair_rises_in, valid_movement_in
 ghost use Rattle.network_links.specs.Stages.{LinksAsked, LinksHeld, MovementsAsked, MovementsHeld, SharesAsked};
 
 use base_search::Refusal;
-use network_tables::{LINK_FIELDS, MAX_LINKS, MOVEMENT_FIELDS, Reading};
+use network_tables::{LINK_FIELDS, MAX_LINKS, MOVEMENT_FIELDS, Reading, checked, read_rows};
 
 // Refusal 4: a link without a signal has no phase; one with a signal has a phase, and none above the signal's number of phases.
 fn valid_mask(mask: u32, signal: usize, phases: &[u32]) -> bool
@@ -44,27 +44,32 @@ fn valid_link(links: &[u32], i: usize, signals: usize, phases: &[u32]) -> bool
 }
 
 // The `Q` lines: each line's form (refusal 1), then its values (refusal 4). Its numbers go straight into the row of its link.
-pub fn read_links(text: &[u8], reading: Reading, phases: &[u32], links: &mut [u32]) -> Result<Reading, Refusal>
+pub fn read_links(
+    text: &[u8],
+    reading: Reading,
+    phases: &[u32],
+    links: &mut [u32],
+) -> Result<Reading, Refusal>
     requires { LinksAsked text.now reading phases.now links.old }
     ensures { Judged (block_checks (link_block (lines text.now))) (LinksHeld text.now links.new) result }
 {
     let counts = reading.counts;
-    let mut place = reading.next;
-    let mut i = 0;
-    while i < counts.links {
-        let line = counts.link_line(i) + 1;
-        let start = LINK_FIELDS * i;
-        let read = network_tables::read_row(text, place, b'Q', links, start, LINK_FIELDS);
-        let Some(next) = read else {
-            return Err(Refusal::new(1, line, 0));
-        };
-        if !valid_link(links, i, counts.signals, phases) {
-            return Err(Refusal::new(4, line, i + 1));
-        }
-        place = next;
-        i += 1;
-    }
-    Ok(reading.moved_to(place))
+    let first = counts.link_line(0) + 1;
+    let judge = |links: &[u32], i: usize| {
+        let valid = valid_link(links, i, counts.signals, phases);
+        checked(valid, 4, first + i, i + 1)
+    };
+    let next = read_rows(
+        text,
+        reading.next,
+        b'Q',
+        LINK_FIELDS,
+        first,
+        counts.links,
+        links,
+        judge,
+    )?;
+    Ok(reading.moved_to(next))
 }
 
 // Refusal 5: the pair (from, to) of movement `j` is above that of the movement before.
@@ -101,27 +106,31 @@ fn valid_movement(movements: &[u32], links: usize, j: usize) -> bool
 }
 
 // The `M` lines: each line's form (refusal 1), then its values (refusal 5). Its numbers go straight into the row of its movement.
-pub fn read_movements(text: &[u8], reading: Reading, movements: &mut [u32]) -> Result<Reading, Refusal>
+pub fn read_movements(
+    text: &[u8],
+    reading: Reading,
+    movements: &mut [u32],
+) -> Result<Reading, Refusal>
     requires { MovementsAsked text.now reading movements.old }
     ensures { Judged (block_checks (movement_block (lines text.now))) (MovementsHeld text.now movements.new) result }
 {
     let counts = reading.counts;
-    let mut place = reading.next;
-    let mut j = 0;
-    while j < counts.movements {
-        let line = counts.movement_line(j) + 1;
-        let start = MOVEMENT_FIELDS * j;
-        let read = network_tables::read_row(text, place, b'M', movements, start, MOVEMENT_FIELDS);
-        let Some(next) = read else {
-            return Err(Refusal::new(1, line, 0));
-        };
-        if !valid_movement(movements, counts.links, j) {
-            return Err(Refusal::new(5, line, j + 1));
-        }
-        place = next;
-        j += 1;
-    }
-    Ok(reading.moved_to(place))
+    let first = counts.movement_line(0) + 1;
+    let judge = |movements: &[u32], j: usize| {
+        let valid = valid_movement(movements, counts.links, j);
+        checked(valid, 5, first + j, j + 1)
+    };
+    let next = read_rows(
+        text,
+        reading.next,
+        b'M',
+        MOVEMENT_FIELDS,
+        first,
+        counts.movements,
+        movements,
+        judge,
+    )?;
+    Ok(reading.moved_to(next))
 }
 
 // The number, from 1, of the last movement that leaves a link, numbered from 1; 0 where none does.
@@ -130,12 +139,10 @@ fn last_movement(movements: &[u32], count: usize, link: usize) -> usize
     ensures { (result ≡ last_movement_in movements.now count link) × (result ≤ count) }
 {
     let mut last = 0;
-    let mut j = 0;
-    while j < count {
+    for j in 0..count {
         if network_tables::index(network_tables::link_of(movements, j, 0)) == link {
             last = j + 1;
         }
-        j += 1;
     }
     last
 }
@@ -160,11 +167,9 @@ fn add_shares(movements: &[u32], count: usize, sums: &mut [u64])
     requires { SumsAsked movements.now count sums.old }
     ensures { ShareSums movements.now count sums.new }
 {
-    let mut j = 0;
-    while j < count {
+    for j in 0..count {
         let from = network_tables::index(network_tables::link_of(movements, j, 0));
         add_share(from, network_tables::share(movements, j), sums);
-        j += 1;
     }
 }
 
@@ -188,13 +193,11 @@ pub fn check_shares(movements: &[u32], reading: Reading) -> Result<Reading, Refu
     let count = counts.movements;
     let mut sums = [0u64; MAX_LINKS];
     add_shares(movements, count, &mut sums);
-    let mut i = 0;
-    while i < counts.links {
+    for i in 0..counts.links {
         if !valid_shares(movements, count, i + 1, sums[i]) {
             let last = last_movement(movements, count, i + 1);
             return Err(Refusal::new(5, counts.movement_line(last), last));
         }
-        i += 1;
     }
     Ok(reading)
 }

@@ -19,9 +19,8 @@ pub fn read_past(text: &[u8], reading: Reading, times: &mut [u32]) -> Result<Rea
     let mut fields = [0u32; PAST_SIZE];
     let mut place = reading.next;
     let mut timed = counts.past + counts.steps <= MAX_STEPS;
-    let mut m = 0;
     times[0] = 0;
-    while m < counts.past {
+    for m in 0..counts.past {
         let line = counts.timeline_line(m) + 1;
         let read = network_tables::read_row(
             text,
@@ -31,22 +30,14 @@ pub fn read_past(text: &[u8], reading: Reading, times: &mut [u32]) -> Result<Rea
             0,
             1 + 2 * counts.links,
         );
-        let Some(next) = read else {
-            return Err(Refusal::new(1, line, 0));
-        };
+        place = read.ok_or(Refusal::new(1, line, 0))?;
         timed = step_arrivals::next_time(times, m, fields[0], timed);
-        place = next;
-        m += 1;
     }
     Ok(Reading {
-        counts,
         next: place,
-        trams_at: reading.trams_at,
-        signals_at: reading.signals_at,
         past_at: reading.next,
-        steps_at: reading.steps_at,
-        shortest: reading.shortest,
         timed,
+        ..reading
     })
 }
 
@@ -98,13 +89,7 @@ fn valid_links(
     requires { LinksAsked counts links.now times.now demands.now row.now arrivals.now curves.now }
     ensures { result ≡ valid_links_in counts links.now times.now demands.now row.now arrivals.now curves.now counts.links }
 {
-    let mut valid = true;
-    let mut i = 0;
-    while i < counts.links {
-        valid = valid & valid_past(counts, links, times, demands, row, arrivals, curves, i);
-        i += 1;
-    }
-    valid
+    (0..counts.links).all(|i| valid_past(counts, links, times, demands, row, arrivals, curves, i))
 }
 
 // Refusal 30, after all lines. The lengths of the past and the number of steps were judged as they were read.

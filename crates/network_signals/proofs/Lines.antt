@@ -13,10 +13,11 @@ use Rattle.base_laws.proofs.Tests.{and_right}
 use Rattle.network_tables.specs.declared.Reading.{Reading}
 use Rattle.network_tables.specs.Places.{signal_line_in}
 use Rattle.network_tables.specs.Rows.{RowRead, HeadRead}
-use Rattle.network_tables.specs.Fields.{signal_fields}
+use Rattle.network_tables.specs.Fields.{signal_fields, signal_by}
 use Rattle.network_tables.specs.Tables.{Judged, moved_to}
 use Rattle.network_tables.proofs.Places.{signal-line-is}
 use Rattle.network_tables.proofs.Stages.{judged-refused, judged-passed}
+use Rattle.network_tables.proofs.Signals.{numbers-same}
 use Rattle.network_signals.specs.Signals.{head_fields, signal_from}
 use Rattle.network_signals.specs.Stages.{SignalAsked, SignalHeld}
 use Rattle.network_signals.proofs.Values.{signal-read}
@@ -119,7 +120,10 @@ module _ {text : List ℕ} {reading : Reading} {r : ℕ} {old : List ℕ} (asked
           few : (signal_from fields).phases ≤ 8
           few = omega (arith, ap (λ (s : Signal). s.phases) signal-here, phases-read, few-valid)
 
-          module _ {s : Signal} (q : s ≡ signal_from fields) where
+          module _ {s : Signal} (here : s ≡ signal_by (λ k. get_or fields (0 + k) 0)) where
+            q : s ≡ signal_from fields
+            q = here ∙ numbers-same _ _ (λ k l. let z : 0 + k ≡ k = omega arith in ap (λ x. get_or fields x 0) z)
+
             pub few-phases : s.phases ≤ 8
             few-phases = rw q few
 

@@ -1,5 +1,5 @@
 -- A signal by its numbers: the tests of its values, one turn of a loop over its phases, and what the shortest time says.
-use Rattle.base_laws.proofs.Kit.{ℕ, zero, suc, ◌+◌, ◌-◌, ◌≤◌, ◌<◌, ◌≡◌, refl, sym, ap, ◌∙◌, fun_ext, Bool, true, false, ◌&&◌, ◌||◌, not, cond, and-true, and-false, and_assoc, List, add-one, arith, lt-leb, leb-true, leb-false, le-leb, ltb-true, ltb-false, leb, ltb, eqb, get_or}
+use Rattle.base_laws.proofs.Kit.{ℕ, zero, suc, ◌+◌, ◌-◌, ◌≤◌, ◌<◌, ◌≡◌, refl, sym, ap, ◌∙◌, fun_ext, Bool, true, false, ◌&&◌, ◌||◌, not, cond, and-true, and-false, and_assoc, List, add-one, arith, lt-leb, leb-true, leb-false, le-leb, leb, eqb, get_or, min}
 use Rattle.text_reader.specs.Lines.{Line}
 use Rattle.model.specs.declared.Signal.{Signal}
 use Rattle.base_laws.specs.Test.{◌and◌, ◌or◌, within, every}
@@ -7,16 +7,10 @@ use Rattle.base_laws.specs.Indexed.{list}
 use Rattle.model.specs.Network.{entry, signal_line, signal}
 use Rattle.model.specs.Rules.{valid_signal}
 use Rattle.network_tables.specs.Fields.{signal_by}
-use Rattle.network_signals.specs.Signals.{signal_from, valid_time, valid_times, lesser, shortest_time}
-
--- the times of one phase more
-pub times_more : (s : Signal) (k : ℕ) (valid time : Bool) → valid ≡ valid_times s k → time ≡ valid_time (get_or s.least k 0) (get_or s.greatest k 0)
-    → valid && time ≡ valid_times s (k + 1)
-unfolding every ◌and◌
-times_more s k valid time e t = rw (add-one, e, t)
+use Rattle.network_signals.specs.Signals.{signal_from, valid_time, valid_times, shortest_time}
 
 -- the greatest time of one phase more
-pub shortest-more : (s : Signal) (k x so_far shortest : ℕ) → so_far ≡ shortest_time s k x → shortest ≡ lesser so_far (get_or s.greatest k 0)
+pub shortest-more : (s : Signal) (k x so_far shortest : ℕ) → so_far ≡ shortest_time s k x → shortest ≡ min so_far (get_or s.greatest k 0)
     → shortest ≡ shortest_time s (k + 1) x
 unfolding shortest_time
 shortest-more s k x so_far shortest e t = rw (add-one, ← e) t
@@ -41,16 +35,14 @@ unfolding valid_signal within valid_time ◌and◌ ◌or◌
 shown-within s l h times e = rw (e, le-leb 1 s.shown l, le-leb s.shown s.phases h)
 
 -- what is at most the lesser of two numbers is at most both
-lesser-both : (x a b : ℕ) → leb x (lesser a b) ≡ leb x a and leb x b
+lesser-both : (x a b : ℕ) → leb x (min a b) ≡ leb x a and leb x b
 unfolding ◌and◌
-lesser-both x a b = by (ltb b a) refl (leb x a) refl (leb x b) refl
+lesser-both x a b = by (leb x a) refl (leb x b) refl
   where
-    by : (t : Bool) → ltb b a ≡ t → (u : Bool) → leb x a ≡ u → (v : Bool) → leb x b ≡ v → leb x (cond t b a) ≡ u && v
-    by true et true eu v ev = ev
-    by true et false eu v ev = let l = ltb-true b a et in let m = leb-false x a eu in lt-leb x b (omega arith)
-    by false et true eu true ev = eu
-    by false et true eu false ev = let l = ltb-false b a et in let m = leb-true x a eu in let n = leb-false x b ev in absurd (omega arith)
-    by false et false eu v ev = eu
+    by : (u : Bool) → leb x a ≡ u → (v : Bool) → leb x b ≡ v → leb x (min a b) ≡ u && v
+    by true eu true ev = let l = leb-true x a eu in let m = leb-true x b ev in le-leb x (min a b) (omega arith)
+    by true eu false ev = let m = leb-false x b ev in lt-leb x (min a b) (omega arith)
+    by false eu v ev = let m = leb-false x a eu in lt-leb x (min a b) (omega arith)
 
 -- what is at most the least of y and the greatest times is at most each of them
 pub shortest-all : (s : Signal) (x y n : ℕ) → leb x (shortest_time s n y) ≡ leb x y and every n (λ k. leb x (get_or s.greatest k 0))

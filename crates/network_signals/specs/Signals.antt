@@ -1,5 +1,5 @@
 -- What is read of the `G` lines.
-use Rattle.std.specs.Prelude.{ℕ, zero, suc, Bool, cond, List, leb, ltb, get_or}
+use Rattle.std.specs.Prelude.{ℕ, zero, suc, Bool, List, min, leb, get_or}
 use Rattle.model.specs.declared.Signal.{Signal}
 use Rattle.base_laws.specs.Test.{◌and◌, within, every}
 use Rattle.network_tables.specs.Fields.{signal_by}
@@ -20,10 +20,7 @@ valid_time least greatest = leb 1 least and within least greatest 3600
 abbrev pub valid_times : Signal → ℕ → Bool
 valid_times s n = every n (λ k. valid_time (get_or s.least k 0) (get_or s.greatest k 0))
 
-abbrev pub lesser : ℕ → ℕ → ℕ
-lesser x y = cond (ltb y x) y x
-
 -- the least of x and the greatest times of the first n phases
 unfoldable pub shortest_time : Signal → ℕ → ℕ → ℕ
 shortest_time s zero x = x
-shortest_time s (suc n) x = lesser (shortest_time s n x) (get_or s.greatest n 0)
+shortest_time s (suc n) x = min (shortest_time s n x) (get_or s.greatest n 0)

@@ -6,11 +6,10 @@ ghost use Rattle.text_reader.specs.Lines.{lines};
 ghost use Rattle.base_laws.specs.Test.{within};
 ghost use Rattle.model.specs.Rules.{valid_signal};
 ghost use Rattle.model.specs.Table.{count_checks, signal_checks};
-ghost use Rattle.network_tables.specs.Fields.{signal_fields};
 ghost use Rattle.network_tables.specs.Tables.{Judged, SignalTable};
 ghost use Rattle.network_tables.specs.Blocks.{block_checks, signal_block};
 ghost use Rattle.network_signals.specs.Counts.{count_fields, counts_from, valid_counts_in, CountsHeld};
-ghost use Rattle.network_signals.specs.Signals.{signal_from, valid_time, valid_times, lesser, shortest_time};
+ghost use Rattle.network_signals.specs.Signals.{valid_time, valid_times, shortest_time};
 ghost use Rattle.network_signals.specs.Stages.{SignalAsked, SignalHeld, SignalsAsked, SignalsHeld, LoadAsked};
 
 use base_search::Refusal;
@@ -58,9 +57,7 @@ pub fn read_counts(text: &[u8]) -> Result<Reading, Refusal>
 {
     let mut fields = [0u32; COUNT_FIELDS];
     let read = network_tables::read_row(text, 0, b'N', &mut fields, 0, COUNT_FIELDS);
-    let Some(next) = read else {
-        return Err(Refusal::new(1, 1, 0));
-    };
+    let next = read.ok_or(Refusal::new(1, 1, 0))?;
     let counts = counts_from(&fields);
     if !valid_counts(counts) {
         return Err(Refusal::new(2, 1, 0));
@@ -77,31 +74,6 @@ pub fn read_counts(text: &[u8]) -> Result<Reading, Refusal>
     })
 }
 
-// The signal of a `G` line's numbers, where those of the phases that it lacks are 0.
-fn signal_from(fields: &[u32]) -> Signal
-    requires { length fields.now ≡ signal_fields }
-    ensures { result ≡ signal_from fields.now }
-{
-    let least = [
-        fields[6], fields[8], fields[10], fields[12], fields[14], fields[16], fields[18],
-        fields[20],
-    ];
-    let greatest = [
-        fields[7], fields[9], fields[11], fields[13], fields[15], fields[17], fields[19],
-        fields[21],
-    ];
-    Signal {
-        least_cycle: fields[0],
-        greatest_cycle: fields[1],
-        phases: fields[2],
-        shown: fields[3],
-        shown_for: fields[4],
-        cycle_clock: fields[5],
-        least,
-        greatest,
-    }
-}
-
 // Refusal 3, the times of one phase.
 fn valid_time(least: u32, greatest: u32) -> bool
     ensures { result ≡ valid_time least greatest }
@@ -114,14 +86,8 @@ fn valid_times(signal: Signal) -> bool
     requires { signal.phases ≤ 8 }
     ensures { result ≡ valid_times signal signal.phases }
 {
-    let mut valid = true;
-    let mut k = 0;
     let phases = signal.phases as usize;
-    while k < phases {
-        valid = valid & valid_time(signal.least[k], signal.greatest[k]);
-        k += 1;
-    }
-    valid
+    (0..phases).all(|k| valid_time(signal.least[k], signal.greatest[k]))
 }
 
 // Refusal 3, the rest of a `G` line whose number of phases is valid.
@@ -144,24 +110,14 @@ fn valid_signal(signal: Signal) -> bool
         & ((signal.shown != 1) | (signal.cycle_clock == signal.shown_for))
 }
 
-// The lesser of two times.
-fn lesser_of(x: u32, y: u32) -> u32
-    ensures { result ≡ lesser x y }
-{
-    if y < x { y } else { x }
-}
-
 // The least of `so_far` and the greatest times of the signal's phases: no step may be longer (refusal 6).
 fn shortest_time(signal: Signal, so_far: u32) -> u32
     requires { signal.phases ≤ 8 }
     ensures { result ≡ shortest_time signal signal.phases so_far }
 {
     let mut shortest = so_far;
-    let mut k = 0;
-    let phases = signal.phases as usize;
-    while k < phases {
-        shortest = lesser_of(shortest, signal.greatest[k]);
-        k += 1;
+    for k in 0..signal.phases as usize {
+        shortest = shortest.min(signal.greatest[k]);
     }
     shortest
 }
@@ -190,10 +146,8 @@ fn read_signal(text: &[u8], reading: Reading, r: usize, fields: &mut [u32]) -> R
         return Err(Refusal::new(3, line, r + 1));
     }
     let read = network_tables::read_row(text, at, b'G', fields, 0, HEAD_FIELDS + 2 * phases);
-    let Some(next) = read else {
-        return Err(Refusal::new(1, line, 0));
-    };
-    if !valid_signal(signal_from(fields)) {
+    let next = read.ok_or(Refusal::new(1, line, 0))?;
+    if !valid_signal(network_tables::signal_from(fields, 0)) {
         return Err(Refusal::new(3, line, r + 1));
     }
     Ok(reading.moved_to(next))
@@ -208,8 +162,7 @@ pub fn read_signals(text: &[u8], reading: Reading, phases: &mut [u32], signals: 
     let counts = reading.counts;
     let mut place = reading.next;
     let mut shortest = 60;
-    let mut r = 0;
-    while r < counts.signals {
+    for r in 0..counts.signals {
         let start = SIGNAL_FIELDS * r;
         let end = start + SIGNAL_FIELDS;
         let passed = read_signal(text, reading.moved_to(place), r, &mut signals[start..end])?;
@@ -217,17 +170,12 @@ pub fn read_signals(text: &[u8], reading: Reading, phases: &mut [u32], signals: 
         phases[r] = signal.phases;
         shortest = shortest_time(signal, shortest);
         place = passed.next;
-        r += 1;
     }
     Ok(Reading {
-        counts,
         next: place,
-        trams_at: reading.trams_at,
         signals_at: reading.next,
-        past_at: reading.past_at,
-        steps_at: reading.steps_at,
         shortest,
-        timed: reading.timed,
+        ..reading
     })
 }
 
@@ -238,8 +186,7 @@ pub fn load_signals(text: &[u8], reading: Reading, signals: &mut [u32])
 {
     let counts = reading.counts;
     let mut place = reading.signals_at;
-    let mut r = 0;
-    while r < counts.signals {
+    for r in 0..counts.signals {
         let start = SIGNAL_FIELDS * r;
         let end = start + SIGNAL_FIELDS;
         let stage = read_signal(text, reading.moved_to(place), r, &mut signals[start..end]);
@@ -247,6 +194,5 @@ pub fn load_signals(text: &[u8], reading: Reading, signals: &mut [u32])
             return;
         };
         place = passed.next;
-        r += 1;
     }
 }

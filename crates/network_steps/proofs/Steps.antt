@@ -24,7 +24,7 @@ use Rattle.step_arrivals.proofs.Timed.{time-ready, timed-next}
 use Rattle.network_steps.specs.Steps.{valid_step_in, LoadAsked, Loaded, AddAsked, Added, StepsAsked, StepsHeld}
 use Rattle.model.proofs.Limits.{limits-of-step}
 use Rattle.network_steps.proofs.Values.{step-within, valid-step-is}
-use Rattle.std.specs.Prelude.{Option, Some, None, Ok, Err}
+use Rattle.std.specs.Prelude.{unwrap_or, Option, Some, None, Ok, Err}
 
 -- ---- one line
 step-line-suc : (network : List Line) (n : ℕ) → step_line network (suc n) ≡ suc (step_line network n)
@@ -37,16 +37,23 @@ held-numbers {step = step} h e size =
     record { size = size; holds = λ k l. let z : k ≡ 0 + k = omega arith in ap (λ x. get_or step x 0) z ∙ h.numbers k (omega arith) }
 
 module _ {text : List ℕ} {at links : ℕ} {old step : List ℕ} {r : (Option ℕ)} (asked : LoadAsked text at links old) (row : RowRead letter_s (1 + links) text at 0 old r step) where
-  pub load-next : {next : ℕ} → r ≡ Some next → Loaded text at links next step
+  load-next : {next : ℕ} → r ≡ Some next → Loaded text at links next step
   load-next {next} e = record { size = row.size ∙ asked.size; held = λ line s. row.held next e line s }
 
   -- a line that has passed is not malformed
-  pub load-never : r ≡ None → Loaded text at links at step
+  load-never : r ≡ None → Loaded text at links at step
   load-never e =
       let f = asked.form in
       let m = row.malformed e asked.line asked.starts in
       let z : ◌≡◌ {A = ℕ} 0 1 = cc in
       absurd (omega arith)
+
+  pub step-loaded : {next : ℕ} → next ≡ unwrap_or r at → Loaded text at links next step
+  step-loaded e = rw e (by r refl)
+    where
+      by : (o : Option ℕ) → r ≡ o → Loaded text at links (unwrap_or o at) step
+      by (Some next) e = load-next e
+      by None e = load-never e
 
 -- an `S` line that has passed can be loaded: its numbers are those of step n, and the next line is that of the step after
 module _ (text : List ℕ) (at n links : ℕ) (s : Starts text at (step_line (lines text) n)) (e : links ≡ link_count (lines text)) where

@@ -17,14 +17,7 @@ fn valid_demands(step: &[u32], links: usize) -> bool
     requires { (links ≤ max_links) × (length step.now ≡ step_size) }
     ensures { result ≡ valid_demands_in step.now links }
 {
-    let mut i = 0;
-    while i < links {
-        if 600_000 < network_tables::demand(step, i) {
-            return false;
-        }
-        i += 1;
-    }
-    true
+    (0..links).all(|i| network_tables::demand(step, i) <= 600_000)
 }
 
 // Refusal 6: whether the length is 1 to 60 and at most the shortest of all greatest times, and the demands are valid.
@@ -41,10 +34,7 @@ pub fn load_step(text: &[u8], at: usize, links: usize, step: &mut [u32]) -> usiz
     requires { LoadAsked text.now at links step.old }
     ensures { Loaded text.now at links result step.new }
 {
-    match network_tables::read_row(text, at, b'S', step, 0, 1 + links) {
-        Some(next) => next,
-        None => at,
-    }
+    network_tables::read_row(text, at, b'S', step, 0, 1 + links).unwrap_or(at)
 }
 
 // Adds the demand of each link to its sum, which fits 32 bits.
@@ -52,10 +42,8 @@ fn add_demands(step: &[u32], links: usize, demands: &mut [u32])
     requires { AddAsked step.now links demands.old }
     ensures { Added step.now links demands.old demands.new }
 {
-    let mut i = 0;
-    while i < links {
+    for i in 0..links {
         demands[i] = demands[i] + network_tables::demand(step, i);
-        i += 1;
     }
 }
 
@@ -68,30 +56,20 @@ pub fn read_steps(text: &[u8], reading: Reading, times: &mut [u32], demands: &mu
     let links = counts.links;
     let mut step = [0u32; STEP_SIZE];
     let mut place = reading.next;
-    let mut n = 0;
-    while n < counts.steps {
+    for n in 0..counts.steps {
         let line = counts.step_line(n) + 1;
         let read = network_tables::read_row(text, place, b'S', &mut step, 0, 1 + links);
-        let Some(next) = read else {
-            return Err(Refusal::new(1, line, 0));
-        };
+        place = read.ok_or(Refusal::new(1, line, 0))?;
         if !valid_step(&step, links, reading.shortest) {
             return Err(Refusal::new(6, line, n + 1));
         }
         let seconds = network_tables::step_length(&step);
         step_arrivals::next_time(times, counts.past + n, seconds, reading.timed);
         add_demands(&step, links, demands);
-        place = next;
-        n += 1;
     }
     Ok(Reading {
-        counts,
         next: place,
-        trams_at: reading.trams_at,
-        signals_at: reading.signals_at,
-        past_at: reading.past_at,
         steps_at: reading.next,
-        shortest: reading.shortest,
-        timed: reading.timed,
+        ..reading
     })
 }

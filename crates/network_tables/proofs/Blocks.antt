@@ -1,15 +1,16 @@
 -- The lines of a block, read one after another: one law for each way through a turn of the loop.
-use Rattle.base_laws.proofs.Kit.{ℕ, suc, ◌+◌, ◌*◌, ◌≤◌, ◌<◌, ◌≡◌, ap, ◌∙◌, Bool, true, false, ◌⊎◌, inl, inr, List, eq-or-lt_of_le, mul-le-mul_left, mul-suc, sub-zero, add-one, arith, length, get_or}
+use Rattle.base_laws.proofs.Kit.{ℕ, suc, ◌+◌, ◌*◌, ◌≤◌, ◌<◌, ◌≡◌, sym, ap, ◌∙◌, Bool, true, false, ◌⊎◌, inl, inr, List, eq-or-lt_of_le, mul-le-mul_left, mul-suc, sub-zero, add-one, arith, length, get_or}
 use Rattle.base_search.specs.declared.Refusal.{Refusal}
-use Rattle.base_search.specs.Checks.{refusal, Checks, each, or_else, checked, verdict}
+use Rattle.base_search.specs.Checks.{refusal, Checks, each, or_else, checked, verdict, Verdict}
 use Rattle.base_search.proofs.Laws.{first-hit, first_next, first_done}
-use Rattle.text_reader.specs.Lines.{lines}
+use Rattle.text_reader.specs.Lines.{Line, lines}
 use Rattle.text_reader.specs.Reading.{Starts}
 use Rattle.model.specs.Network.{entry}
 use Rattle.model.specs.Table.{record_checks}
-use Rattle.network_tables.specs.Rows.{RowRead}
-use Rattle.network_tables.specs.Blocks.{Block, block_checks, PassedTo, ReadTo, Records, RowsTo, TableTo}
+use Rattle.network_tables.specs.Rows.{RowRead, LineHeld}
+use Rattle.network_tables.specs.Blocks.{Block, block_checks, PassedTo, ReadTo, Records, RowsTo, TableTo, RowsJudged, RowsHeld}
 use Rattle.std.specs.Prelude.{Option, Some, None, Ok, Err}
+use Rattle.std.specs.Borrow.{Bor}
 
 -- ---- a line that is a record, by its read
 module _ {letter width : ℕ} {text : List ℕ} {at start : ℕ} {before : List ℕ} {r : (Option ℕ)} {after : List ℕ} (row : RowRead letter width text at start before r after)
@@ -95,3 +96,48 @@ module _ {text : List ℕ} {b : Block} {width size at i : ℕ} {table : List ℕ
 
     pub table-next : ReadTo text b next (i + 1) → TableTo text b width size next (i + 1) after
     table-next read = record { read = read; room = table-room; rows = table-rows }
+
+-- ---- rows that are judged as they are read
+module _ {text : List ℕ} {b : Block} {letter width first count size : ℕ} {post : Bor (List ℕ) → ℕ → Verdict → Type 0} (judged : RowsJudged (lines text) b letter width first count size post)
+    {at i : ℕ} {table : List ℕ} (inv : TableTo text b width size at i table) (h : i < count) {r : Option ℕ} {after : List ℕ} (row : RowRead letter width text at (width * i) table r after) where
+  below : i < b.count
+  below = omega (arith, judged.counted)
+
+  pub judged-malformed : r ≡ None → verdict (block_checks b) ≡ Err (refusal 1 (first + i) 0)
+  judged-malformed e = passed-stop inv.read.passed below (judged.forms i (row.malformed e (b.place i) inv.read.starts))
+
+  module _ {next : ℕ} (e : r ≡ Some next) {shown : Bor (List ℕ)} (shows : shown.now ≡ after) {said : Verdict} (says : post shown i said) where
+    line : LineHeld letter width text (b.place i) next (width * i) after
+    line = row.held next e (b.place i) inv.read.starts
+
+    said-is : verdict (b.checks i) ≡ said
+    said-is = judged.values i shown said h (ap length shows ∙ table-room inv row) (rw shows (table-rows inv row e)) line.form says
+
+    pub judged-broken : {q : Refusal} → said ≡ Err q → verdict (block_checks b) ≡ Err q
+    judged-broken s = passed-stop inv.read.passed below (said-is ∙ s)
+
+    pub judged-next : said ≡ Ok tt → TableTo text b width size next (i + 1) after
+    judged-next s =
+        let follows : b.place (suc i) ≡ suc (b.place i) = omega (arith, judged.places i, judged.places (suc i)) in
+        table-next inv row e (block-next inv.read below (said-is ∙ s) (rw follows line.starts))
+
+pub rows-refused : {text : List ℕ} {b : Block} {width size : ℕ} {table : List ℕ} {r : Refusal} → verdict (block_checks b) ≡ Err r → RowsHeld text b width size (Err r) table
+rows-refused {r} e =
+    record {
+      refused = λ q z. let same : r ≡ q = cc in rw same at e;
+      held = λ next z. let z : ◌≡◌ {A = ℕ} 0 1 = cc in absurd (omega arith);
+    }
+
+-- records are judged by their values
+module _ {text : List Line} {b : Block} {letter width first count size number : ℕ} {valid : ℕ → Bool} {item : ℕ → ℕ} {post : Bor (List ℕ) → ℕ → Verdict → Type 0} where
+  pub records-judged : ((i : ℕ) → b.checks i ≡ record_checks text (b.place i) letter width number (item i) (valid i)) → b.count ≡ count → ((i : ℕ) → suc (b.place i) ≡ first + i)
+      → ((i : ℕ) (table : Bor (List ℕ)) (said : Verdict) → i < count → RowsTo text b width (i + 1) table.now → post table i said → said ≡ checked (valid i) number (first + i) (item i))
+      → RowsJudged text b letter width first count size post
+  unfolding verdict or_else checked
+  records-judged shape counted places values =
+      record {
+        counted = counted;
+        places = places;
+        forms = λ i f. ap verdict (shape i) ∙ rw (f, places i);
+        values = λ i table said h long rows f says. ap verdict (shape i) ∙ rw (f, places i) (sym (values i table said h rows says));
+      }

@@ -1,8 +1,7 @@
-pub mod Product
 pub mod Tables
 pub mod Signals
 pub mod Places
 pub mod Rows
-mod Sums
 pub mod Blocks
 pub mod Stages
+pub mod Every

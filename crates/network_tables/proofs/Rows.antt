@@ -1,12 +1,13 @@
 -- A line that is read into a row of a table.
-use Rattle.base_laws.proofs.Kit.{ℕ, ◌+◌, ◌-◌, ◌≤◌, ◌<◌, ◌≡◌, sym, ap, ◌∙◌, Bool, List, ◌++◌, arith, length, take, drop, get_or, length-append, length-take, length-drop, List·getD-append, length-take-le, get_or-take, get_or-drop, get_or-append-add}
+use Rattle.base_laws.proofs.Kit.{ℕ, ◌+◌, ◌-◌, ◌≤◌, ◌<◌, ◌≡◌, refl, sym, ap, ◌∙◌, Bool, List, ◌++◌, arith, length, take, drop, get_or, length-append, length-take, length-drop, List·getD-append, length-take-le, get_or-take, get_or-drop, get_or-append-add}
 use Rattle.text_reader.specs.Lines.{starts_as, number}
 use Rattle.text_reader.specs.Reading.{line_at, leading_as, record_at, Got}
 use Rattle.text_reader.proofs.Laws.{got-record, got-head, record-read, record-malformed, starts-line, starts-next}
 use Rattle.model.specs.Network.{entry}
 use Rattle.model.specs.Table.{is_form}
 use Rattle.network_tables.specs.Rows.{RowRead, HeadRead}
-use Rattle.std.specs.Prelude.{Option}
+use Rattle.base_search.specs.declared.Refusal.{Refusal}
+use Rattle.std.specs.Prelude.{Option, Some, None, Err, ok_or}
 
 -- a part of a table, w numbers from s on, that comes back as p
 module _ (table p : List ℕ) (s w : ℕ) (h : s + w ≤ length table) (kept : length p ≡ length (take (s + w - s) (drop s table))) where
@@ -74,3 +75,8 @@ module _ (table p : List ℕ) (s w : ℕ) (h : s + w ≤ length table) (kept : l
             let numbers = got-head letter text at (take (s + w - s) (drop s table)) p r g e in
             part-past k ∙ List·getD-append p _ 0 k (omega (arith, kept, part-long)) ∙ numbers.each k (omega (arith, part-long)) ∙ ap (λ line. number line k) (starts-line text at i at_i);
       }
+
+-- a line that is not read is refused
+pub row-refused : (o : Option ℕ) {e q : Refusal} → Err q ≡ ok_or o e → (o ≡ None) × (q ≡ e)
+row-refused None h = (refl, cc)
+row-refused (Some next) h = let z : ◌≡◌ {A = ℕ} 0 1 = cc in absurd (omega arith)

@@ -1,10 +1,12 @@
 -- Lines of one letter that follow each other in a network text, and how far they are read.
-use Rattle.std.specs.Prelude.{ℕ, suc, ◌+◌, ◌*◌, ◌-◌, ◌≤◌, ◌<◌, ◌≡◌, Bool, List, length, get_or}
-use Rattle.base_search.specs.Checks.{Checks, each, first_from, verdict}
+use Rattle.std.specs.Prelude.{ℕ, suc, ◌+◌, ◌*◌, ◌-◌, ◌≤◌, ◌<◌, ◌≡◌, Bool, true, false, List, length, get_or, Result, Ok, Err}
+use Rattle.std.specs.Borrow.{Bor}
+use Rattle.base_search.specs.declared.Refusal.{Refusal}
+use Rattle.base_search.specs.Checks.{Checks, each, first_from, verdict, Verdict, refusal}
 use Rattle.text_reader.specs.Lines.{Line, lines}
 use Rattle.text_reader.specs.Reading.{Starts}
 use Rattle.model.specs.Network.{entry, link_count, signal_count, movement_count, step_count, tram_count, past_count, tram_line, signal_line, link_line, movement_line, timeline_line, step_line}
-use Rattle.model.specs.Table.{record_checks, tram_checks, signal_checks, link_checks, movement_checks, past_checks, step_checks}
+use Rattle.model.specs.Table.{is_form, record_checks, tram_checks, signal_checks, link_checks, movement_checks, past_checks, step_checks}
 
 -- the place of line i of a block, how many lines there are, and the checks of line i
 pub record Block : Type 0 where
@@ -39,6 +41,23 @@ pub record TableTo (text : List ℕ) (b : Block) (width size at i : ℕ) (table 
   pub read : ReadTo text b at i
   pub room : length table ≡ size
   pub rows : RowsTo (lines text) b width i table
+
+-- a line may be judged in a table of this size
+abbrev pub Judges : (Bor (List ℕ) → ℕ → Type 0) → ℕ → ℕ → Type 0
+Judges pre count size = (table : Bor (List ℕ)) (i : ℕ) → length table.now ≡ size → i < count → pre table i
+
+-- the checks of a block of `count` lines are their form, and then what is said of line i when it stands in its row; line `first`, from 1, is the first of them
+pub record RowsJudged (text : List Line) (b : Block) (letter width first count size : ℕ) (post : Bor (List ℕ) → ℕ → Verdict → Type 0) : Type 0 where
+  pub counted : b.count ≡ count
+  pub places : (i : ℕ) → suc (b.place i) ≡ first + i
+  pub forms : (i : ℕ) → is_form text (b.place i) letter width ≡ false → verdict (b.checks i) ≡ Err (refusal 1 (first + i) 0)
+  pub values : (i : ℕ) (table : Bor (List ℕ)) (said : Verdict) → i < count → length table.now ≡ size → RowsTo text b width (i + 1) table.now
+      → is_form text (b.place i) letter width ≡ true → post table i said → verdict (b.checks i) ≡ said
+
+-- all lines of a block have passed and stand in the table, or one of them is refused
+pub record RowsHeld (text : List ℕ) (b : Block) (width size : ℕ) (result : Result ℕ Refusal) (table : List ℕ) : Type 0 where
+  pub refused : (r : Refusal) → result ≡ Err r → verdict (block_checks b) ≡ Err r
+  pub held : (next : ℕ) → result ≡ Ok next → TableTo text b width size next b.count table
 
 -- the `T`, `G`, `Q`, `M`, `H` and `S` lines
 abbrev pub tram_block : List Line → Block

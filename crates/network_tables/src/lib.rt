@@ -1,15 +1,20 @@
 // The program's tables of a network and a plan: their sizes, and each number by its name in the paper. Links, signals, movements
 // and steps are counted from 0 here.
-#![tactic(auto)]
+#![tactic(auto, unfolding(crate::specs::Fields::table_signal))]
 
 ghost use Rattle.std.specs.Prelude.{◌≡◌, ◌+◌, ◌*◌, ◌<◌, ◌≤◌, length, get_or};
 ghost use Rattle.model.specs.Network.{max_links, max_signals, max_movements, max_steps, max_trams, max_past};
 ghost use Rattle.network_tables.specs.Places.{tram_line_in, signal_line_in, link_line_in, movement_line_in, timeline_line_in, step_line_in, plan_width, Few};
 ghost use Rattle.network_tables.specs.Fields.{tram_table_size, tram_in, signal_table_size, signal_by, table_signal, link_table_size, movement_table_size, step_size, line_size, capacity_in, travel_time_in, exit_rate_in, signal_in, phase_mask_in, standing_in, waiting_at_start_in, link_in, rate_in, share_in, length_in, demand_in, admitted_in, let_out_in, moved_in, entered_in, left_in, entered_at, left_at, RowHeld};
+ghost use Rattle.base_search.specs.Checks.{checked};
+ghost use Rattle.text_reader.specs.Lines.{lines};
+ghost use Rattle.text_reader.specs.Reading.{Starts};
 ghost use Rattle.network_tables.specs.Rows.{RowRead, HeadRead};
+ghost use Rattle.network_tables.specs.Blocks.{Block, Judges, RowsJudged, RowsHeld};
 ghost use Rattle.network_tables.specs.Sums.{Summed};
 ghost use Rattle.network_tables.specs.Tables.{moved_to, showing, SignalLaid};
 
+use base_search::Refusal;
 use model::Signal;
 
 pub const MAX_LINKS: usize = 24;
@@ -190,19 +195,55 @@ pub fn read_head(
     text_reader::head_at(text, at, letter, &mut table[start..end])
 }
 
+// Passes where a check holds; else the refusal of this number, line and item.
+pub fn checked(holds: bool, number: u32, line: usize, item: usize) -> Result<(), Refusal>
+    requires { (line < 4294967296) × (item < 4294967296) }
+    ensures { result ≡ checked holds number line item }
+{
+    if holds {
+        Ok(())
+    } else {
+        Err(Refusal::new(number, line, item))
+    }
+}
+
+// Reads `count` lines of a letter, each straight into its row of a table, where it is judged before the next line is read: the place behind the last of them, or
+// the first refusal. `first` is the line, from 1, that starts at `at`.
+pub fn read_rows<F: Fn(&[u32], usize) -> Result<(), Refusal>>(
+    text: &[u8],
+    at: usize,
+    letter: u8,
+    width: usize,
+    first: usize,
+    count: usize,
+    table: &mut [u32],
+    judge: F,
+) -> Result<usize, Refusal>
+    requires room { width * count ≤ length table.old }
+    requires few { first + count < 4294967296 }
+    requires judges { Judges (F.pre judge) count (length table.old) }
+    ensures { (b : Block) → RowsJudged (lines text.now) b letter width first count (length table.old) (F.post judge) → Starts text.now at (b.place 0)
+        → RowsHeld text.now b width (length table.old) result table.new }
+{
+    let mut place = at;
+    for k in 0..count {
+        let read = read_row(text, place, letter, table, width * k, width);
+        place = read.ok_or(Refusal::new(1, first + k, 0))?;
+        judge(table, k)?;
+    }
+    Ok(place)
+}
+
 // Adds the numbers of a line, but for its first, to sums, up to the first sum that does not fit 32 bits. Returns whether all fit.
 pub fn add_numbers(line: &[u32], count: usize, sums: &mut [u32]) -> bool
     requires { (count < length line.now) × (count ≤ length sums.old) }
     ensures { Summed line.now count sums.old result sums.new }
 {
-    let mut k = 0;
-    while k < count {
-        let number = line[1 + k];
-        if 4294967295 < wide(sums[k]) + wide(number) {
+    for k in 0..count {
+        let Some(sum) = sums[k].checked_add(line[1 + k]) else {
             return false;
-        }
-        sums[k] = sums[k] + number;
-        k += 1;
+        };
+        sums[k] = sum;
     }
     true
 }
@@ -263,8 +304,8 @@ pub fn greatest_time(signals: &[u32], r: usize, place: usize) -> u32
 const LEAST_CYCLE: usize = 0;
 
 // A signal by value, by the 22 numbers from a place on.
-fn signal_from(signals: &[u32], start: usize) -> Signal
-    requires { (start + 22 ≤ length signals.now) × (length signals.now ≡ signal_table_size) }
+pub fn signal_from(signals: &[u32], start: usize) -> Signal
+    requires { start + 22 ≤ length signals.now }
     ensures { result ≡ signal_by (λ k. get_or signals.now (start + k) 0) }
 {
     Signal {

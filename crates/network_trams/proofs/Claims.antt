@@ -11,7 +11,7 @@ use Rattle.network_tables.specs.declared.Counts.{Counts}
 use Rattle.network_tables.specs.Fields.{tram_fields, tram_in}
 use Rattle.network_tables.specs.Tables.{CountsHold, TramTable}
 use Rattle.network_tables.proofs.Places.{record-within}
-use Rattle.network_trams.specs.Claims.{covers_in, phase_from, claimed, ClaimAsked, ClaimsAsked, Claimed, TramPhases}
+use Rattle.network_trams.specs.Claims.{covers_in, phase_from, claimed, ClaimsAsked, Claimed, TramPhases}
 
 -- ---- the returns of `claim`
 module _ (table : List ℕ) (k n : ℕ) (asked : List ℕ) {a b first last : ℕ} (p : a ≡ tram_in table k 2) (q : first ≡ a) (s : b ≡ tram_in table k 3) (t : last ≡ b) where
@@ -63,35 +63,20 @@ module _ {table : List ℕ} {count n : ℕ} {asked₀ : List ℕ} (given : Claim
   claims-begin = let e : count - count ≡ 0 = omega arith in record { within = omega arith; room = given.room; holds = λ r l. rw e (given.none r l) }
 
   module _ {k : ℕ} {asked : List ℕ} (inv : ClaimsFrom table count n k asked) where
-    pub claims-done : k ≤ 0 → Claimed table count n asked
-    claims-done h = let e : k ≡ 0 = omega arith in let all : count - 0 ≡ count = omega arith in record { size = inv.room; holds = λ r l. rw (e, all) at (inv.holds r l) }
-
-    module _ (h : 0 < k) where
-      pub claim-asked : ClaimAsked table (k - 1) n asked
-      claim-asked =
-          record {
-            size = given.size;
-            few = omega (arith, inv.within, given.few);
-            few-steps = given.few-steps;
-            room = inv.room;
-            signal-first = given.signal-first (k - 1) (omega (arith, inv.within));
-            signal-last = given.signal-last (k - 1) (omega (arith, inv.within));
-          }
-
-      pub claims-next : {after : List ℕ} → after ≡ claimed table (k - 1) n asked → ClaimsFrom table count n (k - 1) after
-      unfolding phase_from
-      claims-next c =
-          record {
-            within = omega (arith, inv.within);
-            room = ap length c ∙ claimed-length table (k - 1) n asked ∙ inv.room;
-            holds = λ r l. ap (λ a. get_or a r 0) c ∙ claim-on table (k - 1) n asked r (given.signal-first (k - 1) (omega (arith, inv.within))) (omega (arith, inv.room)) ∙ one_more r l;
-          }
-        where
-          one_more : (r : ℕ) → r < max_signals → cond (covers_in table (k - 1) r n) (tram_in table (k - 1) 1) (get_or asked r 0) ≡ phase_from table r n (k - 1) (count - (k - 1))
-          one_more r l =
-              let e : count - (k - 1) ≡ suc (count - k) = omega (arith, inv.within) in
-              let s : suc (k - 1) ≡ k = omega arith in
-              rw (e, s, inv.holds r l)
+    pub claims-next : 0 < k → {after : List ℕ} → after ≡ claimed table (k - 1) n asked → ClaimsFrom table count n (k - 1) after
+    unfolding phase_from
+    claims-next h c =
+        record {
+          within = omega (arith, inv.within);
+          room = ap length c ∙ claimed-length table (k - 1) n asked ∙ inv.room;
+          holds = λ r l. ap (λ a. get_or a r 0) c ∙ claim-on table (k - 1) n asked r (given.signal-first (k - 1) (omega (arith, inv.within))) (omega (arith, inv.room)) ∙ one_more r l;
+        }
+      where
+        one_more : (r : ℕ) → r < max_signals → cond (covers_in table (k - 1) r n) (tram_in table (k - 1) 1) (get_or asked r 0) ≡ phase_from table r n (k - 1) (count - (k - 1))
+        one_more r l =
+            let e : count - (k - 1) ≡ suc (count - k) = omega (arith, inv.within) in
+            let s : suc (k - 1) ≡ k = omega arith in
+            rw (e, s, inv.holds r l)
 
 -- ---- the paper's
 module _ (network : List Line) (table : List ℕ) (held : TramTable network table) (forms : (k : ℕ) → k < tram_count network → is_form network (tram_line network k) letter_t tram_fields ≡ true) where

@@ -1,8 +1,8 @@
 -- The turns and the returns of the loops over the `T` lines of a network, each in the form of a need.
-use Rattle.base_laws.proofs.Kit.{ℕ, suc, ◌+◌, ◌-◌, ◌*◌, ◌≤◌, ◌<◌, ◌≡◌, refl, sym, ap, ◌∙◌, Bool, true, false, not, true≢false, List, arith, leb-true, not-true, not-false}
+use Rattle.base_laws.proofs.Kit.{ℕ, suc, ◌+◌, ◌-◌, ◌≤◌, ◌<◌, ◌≡◌, refl, sym, ap, ◌∙◌, Bool, List, length, arith, leb-true}
 use Rattle.base_search.specs.declared.Refusal.{Refusal}
-use Rattle.base_search.specs.Checks.{refusal, each, checked, verdict, Hold}
-use Rattle.base_search.proofs.Laws.{first-same, hold-of-passes}
+use Rattle.base_search.specs.Checks.{Verdict, each, checked, verdict, Hold}
+use Rattle.base_search.proofs.Laws.{first-same, checked-passes, hold-of-passes, passes-of-hold}
 use Rattle.text_reader.specs.Lines.{lines, number}
 use Rattle.base_laws.specs.Test.{within}
 use Rattle.model.specs.Network.{entry, signal_count, tram_count, tram_line}
@@ -12,115 +12,70 @@ use Rattle.base_laws.proofs.Tests.{and_left, and_right}
 use Rattle.network_tables.specs.declared.Counts.{Counts}
 use Rattle.network_tables.specs.declared.Reading.{Reading}
 use Rattle.network_tables.specs.Places.{tram_line_in}
-use Rattle.network_tables.specs.Fields.{tram_fields, tram_table_size, tram_in}
-use Rattle.network_tables.specs.Rows.{RowRead}
-use Rattle.network_tables.specs.Blocks.{block_checks, PassedTo, TableTo, tram_block}
+use Rattle.network_tables.specs.Fields.{tram_fields, tram_in}
+use Rattle.network_tables.specs.Blocks.{block_checks, RowsJudged, RowsHeld, tram_block}
 use Rattle.network_tables.specs.Tables.{Judged, CountsHold, TramTable, PhaseTable, moved_to}
-use Rattle.network_tables.proofs.Places.{tram-line-is, signals-after-trams}
-use Rattle.network_tables.proofs.Blocks.{line-malformed, line-invalid, line-valid, passed-all, passed-stop, passed-next, block-end, block-next, table-begin, table-room, table-rows, table-next}
+use Rattle.network_tables.proofs.Places.{signals-after-trams}
+use Rattle.network_tables.proofs.Blocks.{passed-all, block-end, records-judged}
 use Rattle.network_tables.proofs.Stages.{judged-refused, judged-passed}
-use Rattle.network_trams.specs.Trams.{valid_tram_in, valid_phase_in, phase_checks_in, TramsKnown, PhaseAsked, PhasesAsked}
+use Rattle.network_trams.specs.Trams.{valid_tram_in, valid_phase_in, phase_checks_in, PhasesAsked}
 use Rattle.network_trams.specs.Stages.{TramsAsked, TramsHeld}
 use Rattle.network_trams.specs.Claims.{LoadAsked}
-use Rattle.model.proofs.Trams.{tram-line-suc}
 use Rattle.network_trams.proofs.Tested.{tram-valid}
-use Rattle.std.specs.Prelude.{Option, Some, None, Ok, Err}
+use Rattle.std.specs.Prelude.{Result, Ok, Err}
+use Rattle.std.specs.Borrow.{Bor}
 
--- ---- the turns of `read_trams`
+-- ---- `read_trams`
 module _ {text : List ℕ} {reading : Reading} {trams₀ : List ℕ} (asked : TramsAsked text reading trams₀) where
-  pub trams-begin : TableTo text (tram_block (lines text)) tram_fields tram_table_size reading.next 0 trams₀
-  trams-begin = table-begin asked.starts asked.room
+  pub trams-judged : {first size : ℕ} → first ≡ tram_line_in reading.counts 0 + 1 → {post : Bor (List ℕ) → ℕ → Verdict → Type 0}
+      → ((trams : Bor (List ℕ)) (k : ℕ) (said : Verdict) → post trams k said → said ≡ checked (valid_tram_in trams.now reading.counts.signals reading.counts.steps k) 28 (first + k) 0)
+      → RowsJudged (lines text) (tram_block (lines text)) letter_t tram_fields first reading.counts.trams size post
+  unfolding tram_checks tram_line
+  trams-judged e says =
+      records-judged (λ k. refl) (sym asked.counted.trams) (λ k. omega arith)
+      (λ k trams said h rows p. says trams k said p ∙ rw (asked.counted.signals, asked.counted.steps, tram-valid (lines text) trams.now k rows) refl)
 
-  module _ {at k : ℕ} {trams : List ℕ} (inv : TableTo text (tram_block (lines text)) tram_fields tram_table_size at k trams) where
-    pub trams-done : reading.counts.trams ≤ k → {after : Reading} → after ≡ moved_to reading at
-        → Judged (block_checks (tram_block (lines text))) (TramsHeld text trams) (Ok after)
-    trams-done h e =
-        let past : tram_count (lines text) ≤ k = omega (arith, asked.counted.trams) in
-        let all = passed-all inv.read.passed past in
-        rw e
-        (judged-passed all
+  module _ {result : Result ℕ Refusal} {trams : List ℕ} (got : RowsHeld text (tram_block (lines text)) tram_fields (length trams₀) result trams) where
+    pub trams-refused : {r : Refusal} → result ≡ Err r → Judged (block_checks (tram_block (lines text))) (TramsHeld text trams) (Err r)
+    trams-refused {r} e = judged-refused (got.refused r e)
+
+    pub trams-held : {next : ℕ} → result ≡ Ok next → Judged (block_checks (tram_block (lines text))) (TramsHeld text trams) (Ok (moved_to reading next))
+    trams-held {next} e =
+        let table = got.held next e in
+        let all = passed-all table.read.passed (omega arith) in
+        judged-passed all
         (record {
           counted = asked.counted;
-          starts = rw signals-after-trams at (block-end inv.read past);
+          starts = rw signals-after-trams at (block-end table.read (omega arith));
           trams-start = asked.trams-start;
-          table = record { size = inv.room; holds = λ i f l. inv.rows.numbers i f (omega arith) };
+          table = record { size = table.room ∙ asked.room; holds = λ i f l. table.rows.numbers i f (omega arith) };
           passed = all;
-        }))
+        })
 
-    module _ (h : k < reading.counts.trams) {r : (Option ℕ)} {after : List ℕ} (row : RowRead letter_t tram_fields text at (tram_fields * k) trams r after) where
-      below : k < tram_count (lines text)
-      below = omega (arith, asked.counted.trams)
+-- ---- `load_trams`
+module _ {text : List ℕ} {at count : ℕ} {trams₀ : List ℕ} (asked : LoadAsked text at count trams₀) where
+  -- every line passes
+  pub load-judged : {size : ℕ} {post : Bor (List ℕ) → ℕ → Verdict → Type 0} → ((trams : Bor (List ℕ)) (k : ℕ) (said : Verdict) → post trams k said → said ≡ Ok tt)
+      → RowsJudged (lines text) (tram_block (lines text)) letter_t tram_fields 2 count size post
+  unfolding tram_checks tram_line
+  load-judged says =
+      records-judged (λ k. refl) (sym asked.counted) (λ k. omega arith)
+      (λ k trams said h rows p. says trams k said p ∙ sym (checked-passes _ 28 (2 + k) 0 (asked.values k h)))
 
-      told_line : {line : ℕ} → line ≡ tram_line_in reading.counts k → line + 1 ≡ suc (tram_line (lines text) k)
-      told_line l = omega (arith, tram-line-is asked.counted k)
+  passes : verdict (block_checks (tram_block (lines text))) ≡ Ok tt
+  unfolding Hold tram_checks
+  passes = passes-of-hold (block_checks (tram_block (lines text))) (λ k h. (asked.forms k (omega (arith, asked.counted)), asked.values k (omega (arith, asked.counted))))
 
-      pub trams-malformed : r ≡ None → {line : ℕ} {q : Refusal} → line ≡ tram_line_in reading.counts k → q ≡ refusal 1 (line + 1) 0
-          → Judged (block_checks (tram_block (lines text))) (TramsHeld text after) (Err q)
-      unfolding tram_checks
-      trams-malformed e l t =
-          rw (t, told_line l) (judged-refused (passed-stop inv.read.passed below (line-malformed row (tram_line (lines text) k) 28 0 (valid_tram (lines text) k) inv.read.starts e)))
-
-      pub tram-known : TramsKnown after k
-      tram-known = record { room = table-room inv row; few = omega (arith, asked.counted.few.trams) }
-
-      module _ {next : ℕ} (e : r ≡ Some next) {v : Bool} (told : v ≡ valid_tram_in after reading.counts.signals reading.counts.steps k) where
-        judged : v ≡ valid_tram (lines text) k
-        judged = told ∙ rw (asked.counted.signals, asked.counted.steps) (tram-valid (lines text) after k (table-rows inv row e))
-
-        pub trams-invalid : not v ≡ true → {line : ℕ} {q : Refusal} → line ≡ tram_line_in reading.counts k → q ≡ refusal 28 (line + 1) 0
-            → Judged (block_checks (tram_block (lines text))) (TramsHeld text after) (Err q)
-        unfolding tram_checks
-        trams-invalid n l t =
-            rw (t, told_line l)
-            (judged-refused (passed-stop inv.read.passed below (line-invalid row (tram_line (lines text) k) 28 0 (valid_tram (lines text) k) inv.read.starts e (sym judged ∙ not-true v n))))
-
-        pub trams-next : not v ≡ false → TableTo text (tram_block (lines text)) tram_fields tram_table_size next (k + 1) after
-        unfolding tram_checks
-        trams-next n =
-            table-next inv row e
-            (block-next inv.read below (line-valid row (tram_line (lines text) k) 28 0 (valid_tram (lines text) k) inv.read.starts e (sym judged ∙ not-false v n))
-            (rw (tram-line-suc (lines text) k) (row.held next e (tram_line (lines text) k) inv.read.starts).starts))
-
--- ---- the turns of `load_trams`
-module _ {text : List ℕ} {at₀ count : ℕ} {trams₀ : List ℕ} (asked : LoadAsked text at₀ count trams₀) where
-  pub load-begin : TableTo text (tram_block (lines text)) tram_fields tram_table_size at₀ 0 trams₀
-  load-begin = table-begin asked.starts asked.room
-
-  module _ {at k : ℕ} {trams : List ℕ} (inv : TableTo text (tram_block (lines text)) tram_fields tram_table_size at k trams) where
-    pub load-done : count ≤ k → TramTable (lines text) trams
-    load-done h = record { size = inv.room; holds = λ i f l. inv.rows.numbers i f (omega (arith, asked.counted)) }
-
-    module _ (h : k < count) {r : (Option ℕ)} {after : List ℕ} (row : RowRead letter_t tram_fields text at (tram_fields * k) trams r after) where
-      -- a line that has passed is not malformed
-      pub load-never : r ≡ None → TramTable (lines text) after
-      load-never e = absurd (true≢false (sym (asked.forms k h) ∙ row.malformed e (tram_line (lines text) k) inv.read.starts))
-
-      pub load-next : {next : ℕ} → r ≡ Some next → TableTo text (tram_block (lines text)) tram_fields tram_table_size next (k + 1) after
-      unfolding tram_checks
-      load-next {next} e =
-          table-next inv row e
-          (block-next inv.read (omega (arith, asked.counted)) (line-valid row (tram_line (lines text) k) 28 0 (valid_tram (lines text) k) inv.read.starts e (asked.values k h))
-          (rw (tram-line-suc (lines text) k) (row.held next e (tram_line (lines text) k) inv.read.starts).starts))
+  pub trams-loaded : (result : Result ℕ Refusal) {trams : List ℕ} → RowsHeld text (tram_block (lines text)) tram_fields (length trams₀) result trams → TramTable (lines text) trams
+  trams-loaded (Ok next) got = let table = got.held next refl in record { size = table.room ∙ asked.room; holds = λ i f l. table.rows.numbers i f (omega (arith, asked.counted)) }
+  trams-loaded (Err r) got = let e = got.refused r refl in let z : ◌≡◌ {A = ℕ} 0 1 = cc (passes, e) in absurd (omega arith)
 
 -- ---- the turns of `check_tram_phases`
-pub phase-asked : {trams phases : List ℕ} {counts : Counts} → PhasesAsked trams phases counts → {k : ℕ} → k < counts.trams → PhaseAsked trams phases k
-phase-asked a {k} h = a.each_line k h
-
-module _ (trams phases : List ℕ) (reading : Reading) {k : ℕ} (inv : PassedTo reading.counts.trams (phase_checks_in trams phases reading.counts) k) where
-  pub phases-done : reading.counts.trams ≤ k → Judged (each reading.counts.trams (phase_checks_in trams phases reading.counts)) (λ after. after ≡ reading) (Ok reading)
-  phases-done h = judged-passed (passed-all inv h) refl
-
-  module _ (h : k < reading.counts.trams) {v : Bool} (told : v ≡ valid_phase_in trams phases k) where
-    pub phases-broken : not v ≡ true → {line : ℕ} → line ≡ tram_line_in reading.counts k → {t : Refusal} → t ≡ refusal 28 (line + 1) 0
-        → Judged (each reading.counts.trams (phase_checks_in trams phases reading.counts)) (λ after. after ≡ reading) (Err t)
-    unfolding verdict phase_checks_in checked
-    phases-broken n {line} l e =
-        let z : line + 1 ≡ suc (tram_line_in reading.counts k) = omega arith in
-        rw (e, z) (judged-refused (passed-stop inv h (rw (← told, not-true v n))))
-
-    pub phases-next : not v ≡ false → PassedTo reading.counts.trams (phase_checks_in trams phases reading.counts) (k + 1)
-    unfolding verdict phase_checks_in checked
-    phases-next n = passed-next inv h (rw (← told, not-false v n))
+module _ (trams phases : List ℕ) (counts : Counts) (k : ℕ) {v : Bool} (told : v ≡ valid_phase_in trams phases k) {line : ℕ} (l : line ≡ tram_line_in counts k) {said : Verdict}
+    (says : said ≡ checked v 28 (line + 1) 0) where
+  pub phase-said : verdict (phase_checks_in trams phases counts k) ≡ said
+  unfolding verdict phase_checks_in
+  phase-said = let z : line + 1 ≡ suc (tram_line_in counts k) = omega arith in rw (says, z, told) refl
 
 -- ---- the paper's phases of trams
 module _ {text : List ℕ} {trams phases : List ℕ} {reading : Reading} (held : TramsHeld text trams reading) (t : PhaseTable (lines text) phases) where

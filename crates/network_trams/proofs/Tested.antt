@@ -1,7 +1,7 @@
 -- The tests of tram lines by their table, one turn of a loop over them, and that they are the paper's.
-use Rattle.base_laws.proofs.Kit.{ℕ, ◌+◌, ◌-◌, ◌≤◌, ◌<◌, ◌≡◌, refl, ap, Bool, true, not, ◌&&◌, ◌||◌, List, add-one, arith, leb, ltb, eqb, get_or}
+use Rattle.base_laws.proofs.Kit.{ℕ, ◌+◌, ◌-◌, ◌<◌, ◌≡◌, ap, Bool, not, ◌&&◌, ◌||◌, List, arith, leb, ltb, eqb, get_or}
 use Rattle.text_reader.specs.Lines.{Line, number}
-use Rattle.base_laws.specs.Test.{◌and◌, ◌or◌, within, every}
+use Rattle.base_laws.specs.Test.{◌and◌, ◌or◌, within}
 use Rattle.model.specs.Network.{entry, signal_count, step_count}
 use Rattle.model.specs.Rules.{apart, tram_exists, tram, valid_tram}
 use Rattle.base_laws.proofs.Tests.{every-same}
@@ -14,17 +14,6 @@ module _ (trams : List ℕ) where
       → e ≡ tram_in trams k 3 → f ≡ tram_in trams j 2 → (not (eqb a b) || ltb c d || ltb e f) ≡ apart_in trams j k
   unfolding apart_in ◌or◌
   apart-tested j k p q s t u v = rw (p, q, s, t, u, v)
-
-  pub apart_none : (k : ℕ) → true ≡ apart_from trams 0 k
-  unfolding apart_from every
-  apart_none k = refl
-
-  pub apart_more : (j k : ℕ) {before here : Bool} → before ≡ apart_from trams j k → here ≡ apart_in trams j k → (before && here) ≡ apart_from trams (j + 1) k
-  unfolding apart_from every ◌and◌
-  apart_more j k e h = rw (add-one, e, h)
-
-  pub apart-all : (j k : ℕ) → j ≤ k → k ≤ j → {before : Bool} → before ≡ apart_from trams j k → before ≡ apart_from trams k k
-  apart-all j k l h e = let same : j ≡ k = omega arith in rw same at e
 
   pub tram-tested : (signals steps k : ℕ) {a signal b first c last : ℕ} → a ≡ tram_in trams k 0 → signal ≡ a → b ≡ tram_in trams k 2 → first ≡ b
       → c ≡ tram_in trams k 3 → last ≡ c → {others : Bool} → others ≡ apart_from trams k k

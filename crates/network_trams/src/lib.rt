@@ -11,7 +11,10 @@ ghost use Rattle.network_trams.specs.Stages.{TramsAsked, TramsHeld};
 ghost use Rattle.network_trams.specs.Claims.{LoadAsked, claimed, ClaimAsked, Claimed, ClaimsAsked};
 
 use base_search::Refusal;
-use network_tables::{Reading, TRAM_FIELDS};
+use network_tables::{Reading, TRAM_FIELDS, checked, read_rows};
+
+// The line of the first `T` line, behind the `N` line.
+const FIRST_LINE: usize = 2;
 
 // Whether two `T` lines have no step in common for one signal.
 fn is_apart(trams: &[u32], j: usize, k: usize) -> bool
@@ -29,13 +32,7 @@ fn is_apart_from_earlier(trams: &[u32], k: usize) -> bool
     requires { TramsKnown trams.now k }
     ensures { result ≡ apart_from trams.now k k }
 {
-    let mut apart = true;
-    let mut j = 0;
-    while j < k {
-        apart = apart & is_apart(trams, j, k);
-        j += 1;
-    }
-    apart
+    (0..k).all(|j| is_apart(trams, j, k))
 }
 
 // Refusal 28, `T` line `k`, but for its phase.
@@ -58,22 +55,22 @@ pub fn read_trams(text: &[u8], reading: Reading, trams: &mut [u32]) -> Result<Re
     ensures { Judged (block_checks (tram_block (lines text.now))) (TramsHeld text.now trams.new) result }
 {
     let counts = reading.counts;
-    let mut place = reading.next;
-    let mut k = 0;
-    while k < counts.trams {
-        let line = counts.tram_line(k) + 1;
-        let start = TRAM_FIELDS * k;
-        let read = network_tables::read_row(text, place, b'T', trams, start, TRAM_FIELDS);
-        let Some(next) = read else {
-            return Err(Refusal::new(1, line, 0));
-        };
-        if !valid_tram(trams, counts.signals, counts.steps, k) {
-            return Err(Refusal::new(28, line, 0));
-        }
-        place = next;
-        k += 1;
-    }
-    Ok(reading.moved_to(place))
+    let first = counts.tram_line(0) + 1;
+    let judge = |trams: &[u32], k: usize| {
+        let valid = valid_tram(trams, counts.signals, counts.steps, k);
+        checked(valid, 28, first + k, 0)
+    };
+    let next = read_rows(
+        text,
+        reading.next,
+        b'T',
+        TRAM_FIELDS,
+        first,
+        counts.trams,
+        trams,
+        judge,
+    )?;
+    Ok(reading.moved_to(next))
 }
 
 // Refusal 28: the phase of `T` line `k` is one of its signal.
@@ -87,17 +84,17 @@ fn valid_phase(trams: &[u32], phases: &[u32], k: usize) -> bool
 }
 
 // Refusal 28 after the last `G` line: each `T` line's phase is one of its signal, reported at the `T` line.
-pub fn check_tram_phases(trams: &[u32], phases: &[u32], reading: Reading) -> Result<Reading, Refusal>
+pub fn check_tram_phases(
+    trams: &[u32],
+    phases: &[u32],
+    reading: Reading,
+) -> Result<Reading, Refusal>
     requires { PhasesAsked trams.now phases.now reading.counts }
     ensures { Judged (each reading.counts.trams (phase_checks_in trams.now phases.now reading.counts)) (λ after. after ≡ reading) result }
 {
-    let counts = reading.counts;
-    let mut k = 0;
-    while k < counts.trams {
-        if !valid_phase(trams, phases, k) {
-            return Err(Refusal::new(28, counts.tram_line(k) + 1, 0));
-        }
-        k += 1;
+    for k in 0..reading.counts.trams {
+        let line = reading.counts.tram_line(k) + 1;
+        checked(valid_phase(trams, phases, k), 28, line, 0)?;
     }
     Ok(reading)
 }
@@ -107,17 +104,9 @@ pub fn load_trams(text: &[u8], at: usize, count: usize, trams: &mut [u32])
     requires { LoadAsked text.now at count trams.old }
     ensures { TramTable (lines text.now) trams.new }
 {
-    let mut place = at;
-    let mut k = 0;
-    while k < count {
-        let start = TRAM_FIELDS * k;
-        let read = network_tables::read_row(text, place, b'T', trams, start, TRAM_FIELDS);
-        let Some(next) = read else {
-            return;
-        };
-        place = next;
-        k += 1;
-    }
+    // None of them is refused again.
+    let pass = |_: &[u32], _: usize| Ok(());
+    let _ = read_rows(text, at, b'T', TRAM_FIELDS, FIRST_LINE, count, trams, pass);
 }
 
 // The claim of `T` line `k` in step `n`: its phase is asked of its signal, where the step is one of its steps.
@@ -139,9 +128,7 @@ pub fn tram_phases(trams: &[u32], count: usize, n: usize, asked: &mut [u32])
     requires { ClaimsAsked trams.now count n asked.old }
     ensures { Claimed trams.now count n asked.new }
 {
-    let mut k = count;
-    while 0 < k {
-        k -= 1;
+    for k in (0..count).rev() {
         claim(trams, k, n, asked);
     }
 }

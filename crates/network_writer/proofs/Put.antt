@@ -1,6 +1,5 @@
 -- Lines that are put one behind another.
-use Rattle.base_laws.proofs.Kit.{ℕ, suc, ◌+◌, ◌*◌, ◌≤◌, ◌<◌, ◌≡◌, refl, sym, ap, ap₂, ◌∙◌, List, [], ◌++◌, add-one, arith, length, take, length-append, take-append-drop, take_at, length-take-le}
-use Rattle.text_reader.specs.Reading.{over}
+use Rattle.base_laws.proofs.Kit.{ℕ, suc, ◌+◌, ◌≤◌, ◌<◌, ◌≡◌, refl, sym, ap₂, ◌∙◌, List, [], ◌++◌, add-one, arith, length, take, length-append, take-append-drop, length-take-le}
 use Rattle.text_writer.specs.Records.{record_text, record_texts}
 use Rattle.text_writer.specs.Writing.{put_at, Wrote}
 use Rattle.text_writer.proofs.Laws.{put-more, wrote-length, record-most}
@@ -57,35 +56,21 @@ module _ {letter : ℕ} {f : ℕ → List ℕ} {count at : ℕ} {old : List ℕ}
 pub part-size : (row : List ℕ) (w : ℕ) → w ≤ length row → w ≡ length (take w row)
 part-size row w h = sym (length-take-le w row h)
 
--- ---- one line
-module _ (row zeros numbers : List ℕ) (e : numbers ≡ over row zeros) (few : length row ≤ line_size) where
-  row_back : take (length row) numbers ≡ row
-  unfolding over
-  row_back = ap (take (length row)) e ∙ take_at row _ (length row) refl
+-- ---- one line, by its numbers as the writer takes them
+module _ {row numbers : List ℕ} (e : numbers ≡ row) (few : length row ≤ line_size) {r : ℕ} (long : (letter : ℕ) → r ≡ length (record_text letter numbers)) where
+  long-is : (letter : ℕ) → r ≡ length (record_text letter row)
+  long-is letter = rw e at (long letter)
 
-  pub row-size : length row ≡ length (take (length row) numbers)
-  row-size = sym (ap length row_back)
+  pub line-few : r ≤ longest
+  line-few = omega (arith, record-most 0 row, long-is 0)
 
-  pub row-few : 2 + 21 * length (take (length row) numbers) ≤ 18_446_744_073_709_551_615
-  row-few = omega (arith, ap length row_back)
+  pub line-short : (letter at : ℕ) (out : List ℕ) → length out < at + r → Put 1 (record_text letter row) at out out (at + r)
+  line-short letter at out h = record { ends = omega (arith, long-is letter); few = omega (arith, line-few, long-is letter); size = refl; is = λ l. absurd (omega arith) }
 
-  module _ (r : ℕ) (long : (letter : ℕ) → r ≡ length (record_text letter (take (length row) numbers))) where
-    long-is : (letter : ℕ) → r ≡ length (record_text letter row)
-    long-is letter = long letter ∙ ap (λ (x : List ℕ). length (record_text letter x)) row_back
+  pub line-room : (letter at : ℕ) (out : List ℕ) → at + r ≤ length out → at + length (record_text letter numbers) ≤ length out
+  line-room letter at out h = omega (arith, long letter)
 
-    long-few : r ≤ longest
-    long-few = omega (arith, record-most 0 row, long-is 0)
-
-    pub line-counted : (at : ℕ) → Early 1 at → at + r ≤ 18_446_744_073_709_551_615
-    line-counted at h = omega (arith, long-few)
-
-    pub line-short : (letter at : ℕ) (out : List ℕ) → length out < at + r → Put 1 (record_text letter row) at out out (at + r)
-    line-short letter at out h = record { ends = omega (arith, long-is letter); few = omega (arith, long-few, long-is letter); size = refl; is = λ l. absurd (omega arith) }
-
-    pub line-room : (letter at : ℕ) (out : List ℕ) → at + r ≤ length out → at + length (record_text letter (take (length row) numbers)) ≤ length out
-    line-room letter at out h = omega (arith, long letter)
-
-    pub line_wrote : (letter at end : ℕ) (out new : List ℕ) → at + r ≤ length out → Wrote (record_text letter (take (length row) numbers)) at out new end → Put 1 (record_text letter row) at out new end
-    line_wrote letter at end out new h w =
-        let same : record_text letter (take (length row) numbers) ≡ record_text letter row = ap (record_text letter) row_back in
-        record { ends = w.ends ∙ ap (λ (x : List ℕ). at + length x) same; few = omega (arith, long-few, long-is letter); size = wrote-length _ at out new end (omega (arith, long letter)) w; is = λ l. w.is ∙ ap (λ (x : List ℕ). put_at at x out) same }
+  pub line_wrote : (letter at : ℕ) {end : ℕ} {out new : List ℕ} → at + r ≤ length out → Wrote (record_text letter numbers) at out new end → Put 1 (record_text letter row) at out new end
+  line_wrote letter at {end} {out} {new} h w =
+      let v = rw e at w in
+      record { ends = v.ends; few = omega (arith, line-few, long-is letter); size = wrote-length _ at out new end (omega (arith, long-is letter)) v; is = λ l. v.is }

@@ -40,4 +40,4 @@ pub record NumberAsked (numbers : List ℕ) (columns n : ℕ) : Type 0 where
 pub record RowAsked (numbers : List ℕ) (columns : ℕ) (counts : Counts) (n : ℕ) (row : List ℕ) : Type 0 where
   pub asked : PlanAsked numbers columns counts
   pub step : n < counts.steps
-  pub size : length row ≡ line_size
+  pub size : length row ≡ plan_width counts

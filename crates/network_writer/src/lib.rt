@@ -3,7 +3,6 @@
 #![tactic(auto)]
 
 ghost use Rattle.std.specs.Prelude.{◌≡◌, ◌≤◌, ◌<◌, length};
-ghost use Rattle.text_reader.specs.Reading.{over};
 ghost use Rattle.text_writer.specs.Records.{record_text};
 ghost use Rattle.model_text.specs.Answers.{room_verdict, Told};
 ghost use Rattle.network_tables.specs.Fields.{line_size};
@@ -22,15 +21,13 @@ pub struct Places {
     pub at: usize,
 }
 
-// A line's numbers go to the front of a table of 64-bit numbers, as the writer takes them.
+// A line's numbers as 64-bit numbers, as the writer takes them.
 fn widen(row: &[u32], numbers: &mut [u64])
-    requires { length row.now ≤ length numbers.old }
-    ensures { numbers.new ≡ over row.now numbers.old }
+    requires { length row.now ≡ length numbers.old }
+    ensures { numbers.new ≡ row.now }
 {
-    let mut k = 0;
-    while k < row.len() {
-        numbers[k] = network_tables::wide(row[k]);
-        k += 1;
+    for (k, field) in row.iter().enumerate() {
+        numbers[k] = u64::from(*field);
     }
 }
 
@@ -39,14 +36,15 @@ pub fn put_line(letter: u8, row: &[u32], out: &mut [u8], at: usize) -> usize
     requires { (length row.now ≤ line_size) × Early 1 at }
     ensures { Put 1 (record_text letter row.now) at out.old out.new result }
 {
-    let mut numbers = [0u64; LINE_SIZE];
-    widen(row, &mut numbers);
+    let mut table = [0u64; LINE_SIZE];
     let width = row.len();
-    let end = at + text_writer::record_length(&numbers[..width]);
+    let numbers = &mut table[..width];
+    widen(row, numbers);
+    let end = at + text_writer::record_length(numbers);
     if out.len() < end {
         return end;
     }
-    text_writer::write_record(out, at, letter, &numbers[..width])
+    text_writer::write_record(out, at, letter, numbers)
 }
 
 // Reads a line that has passed again, and gives the place of the next line. Such a line is never malformed.
@@ -54,10 +52,7 @@ pub fn read_again(text: &[u8], at: usize, letter: u8, row: &mut [u32], width: us
     requires { width ≤ length row.old }
     ensures { ReadAgain letter width text.now at row.old result row.new }
 {
-    match network_tables::read_row(text, at, letter, row, 0, width) {
-        Some(next) => next,
-        None => at,
-    }
+    network_tables::read_row(text, at, letter, row, 0, width).unwrap_or(at)
 }
 
 // Where the columns of what is admitted, let out and moved start in a step's row of a plan's table, behind the masks.
@@ -92,21 +87,19 @@ fn number_at(numbers: &[u32], columns: usize, n: usize, column: usize) -> u32
     ensures { result ≡ plan_number numbers.now columns n column }
 {
     if columns <= column {
-        return 0;
+        0
+    } else {
+        numbers[columns * n + column]
     }
-    numbers[columns * n + column]
 }
 
-// The numbers of the `P` line of step n go to the beginning of a row.
+// Fills a row with the numbers of the `P` line of step n.
 fn fill_row(numbers: &[u32], columns: usize, counts: Counts, n: usize, row: &mut [u32])
     requires { RowAsked numbers.now columns counts n row.old }
-    ensures { row.new ≡ over (plan_row numbers.now columns counts n) row.old }
+    ensures { row.new ≡ plan_row numbers.now columns counts n }
 {
-    let width = counts.plan_width();
-    let mut k = 0;
-    while k < width {
-        row[k] = number_at(numbers, columns, n, column_at(counts, k));
-        k += 1;
+    for (k, field) in row.iter_mut().enumerate() {
+        *field = number_at(numbers, columns, n, column_at(counts, k));
     }
 }
 
@@ -115,20 +108,24 @@ fn put_plan(numbers: &[u32], columns: usize, counts: Counts, out: &mut [u8]) -> 
     requires { PlanAsked numbers.now columns counts }
     ensures { PutWhole (plan_lines numbers.now columns counts) out.old out.new result }
 {
-    let mut row = [0u32; LINE_SIZE];
+    let mut table = [0u32; LINE_SIZE];
     let width = counts.plan_width();
+    let row = &mut table[..width];
     let mut end = 0;
-    let mut n = 0;
-    while n < counts.steps {
-        fill_row(numbers, columns, counts, n, &mut row);
-        end = put_line(b'P', &row[..width], out, end);
-        n += 1;
+    for n in 0..counts.steps {
+        fill_row(numbers, columns, counts, n, row);
+        end = put_line(b'P', row, out, end);
     }
     end
 }
 
 // Writes a plan's text by a table of so many columns for each step: refusal 24 where the buffer is too short.
-pub fn write_plan(numbers: &[u32], columns: usize, counts: Counts, out: &mut [u8]) -> Result<usize, Refusal>
+pub fn write_plan(
+    numbers: &[u32],
+    columns: usize,
+    counts: Counts,
+    out: &mut [u8],
+) -> Result<usize, Refusal>
     requires { PlanAsked numbers.now columns counts }
     ensures { Told (plan_lines numbers.now columns counts) (room_verdict 24 (plan_lines numbers.now columns counts) out.old) out.old result out.new }
 {

@@ -78,23 +78,21 @@ pub fn check_plan(network: &[u8], plan: &[u8], ledger: &mut [u32]) -> Result<Tot
     let mut links = [0u32; LINK_TABLE_SIZE];
     let mut movements = [0u32; MOVEMENT_TABLE_SIZE];
     let mut times = [0u32; TIME_TABLE_SIZE];
-    match network::load_with_signals(
+    let reading = network::load_with_signals(
         network,
         &mut signals,
         &mut links,
         &mut movements,
         &mut times,
-    ) {
-        Err(refusal) => Err(refusal),
-        Ok(reading) => judge_with_signals(
-            network,
-            plan,
-            reading,
-            &links,
-            &movements,
-            &times,
-            &mut signals,
-            ledger,
-        ),
-    }
+    )?;
+    judge_with_signals(
+        network,
+        plan,
+        reading,
+        &links,
+        &movements,
+        &times,
+        &mut signals,
+        ledger,
+    )
 }

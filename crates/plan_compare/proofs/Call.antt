@@ -1,5 +1,5 @@
 -- The ways out of a comparison.
-use Rattle.base_laws.proofs.Kit.{ℕ, ◌<◌, ◌≡◌, refl, sym, ◌∙◌, List, le_refl, arith, length}
+use Rattle.base_laws.proofs.Kit.{ℕ, ◌<◌, ◌≡◌, refl, sym, ap, ◌∙◌, List, le_refl, arith, length}
 use lib.IntN.{ℤ, sub_ℕ}
 use mir.Syntax.{w64}
 use mir.Val.{SFits, to_z, of_z}
@@ -28,15 +28,17 @@ use Rattle.network_tables.proofs.Stages.{verdict-refused}
 use Rattle.plan_check.specs.Plan.{PlanGot}
 use Rattle.plan_check.proofs.Plans.{plan-promised}
 use Rattle.plan_compare.specs.declared.Order.{Order}
-use Rattle.plan_compare.specs.declared.ComparisonAnswer.{ComparisonAnswer}
-use Rattle.plan_compare.specs.declared.ComparisonAnswer.TheVariants.{Compared, Refused}
+use Rattle.plan_compare.specs.declared.Comparison.{Comparison}
+use Rattle.plan_compare.specs.declared.ComparisonRefusal.{ComparisonRefusal}
+use Rattle.plan_compare.specs.declared.ComparisonRefusal.TheVariants.{Network, First, Second}
 use Rattle.plan_compare.specs.Comparison.{plans_answer, network_answer, once_accepted, compare_plans, second_ledger_after}
 use Rattle.plan_compare.specs.Promises.{PlansCompared, ComparisonPromises, ComparisonGot}
 use Rattle.plan_compare.specs.Curves.{lines_order, Formed}
 use Rattle.plan_compare.proofs.Gap.{gap_word, gap-held}
 use Rattle.plan_compare.proofs.Promises.{Accepts, accepts, accepted, compared-told, compared-promises, refused-promises}
 use Rattle.plan_compare.proofs.Curves.{plan-formed, order_is}
-use Rattle.std.specs.Prelude.{Result, Ok, Err}
+use Rattle.std.specs.Prelude.{Result, Ok, Err, MatchResult, IsErrAnd}
+use Rattle.std.proofs.lemmas.Result.{err_from_is_err_and}
 
 -- an accepted plan's doubled time is a number of 63 bits
 pub time-word : {network plan : List Line} {size : ℕ} {t : Totals} → Accepts network plan size t → t.doubled_time < 9223372036854775808
@@ -51,6 +53,21 @@ compared-word p =
     let (t, u, one, other, e) = p.accepted in
     rw e (gap_word t.doubled_time u.doubled_time (time-word (accepts _ _ _ t one)) (time-word (accepts _ _ _ u other)))
 
+-- what `map_err` and `?` make of a call's answer
+module _ (named : Refusal → ComparisonRefusal) {A : Type 0} {mapped : Result A ComparisonRefusal} where
+  pub passed-ok : {a : A} (answer : Result A Refusal) → MatchResult answer (λ x. mapped ≡ Ok x) (λ r. IsErrAnd mapped (λ e. e ≡ named r)) → mapped ≡ Ok a → answer ≡ Ok a
+  passed-ok {a = a} (Ok x) m e = let z : x ≡ a = cc in rw z
+  passed-ok (Err r) m e = absurd (rw e at m)
+
+  pub passed-as : {B : Type 0} {q : ComparisonRefusal} {result : Result B ComparisonRefusal} (answer : Result A Refusal)
+      → MatchResult answer (λ x. mapped ≡ Ok x) (λ r. IsErrAnd mapped (λ e. e ≡ named r)) → mapped ≡ Err q → IsErrAnd result (λ e. e ≡ q)
+      → (r : Refusal) × (answer ≡ Err r) × (result ≡ Err (named r))
+  passed-as (Ok x) m e p = let z : ◌≡◌ {A = ℕ} 0 1 = cc in absurd (omega arith)
+  passed-as {result = result} (Err r) m e p =
+      let q : _ = rw e at m in
+      let (y, is, same) = err_from_is_err_and result p in
+      (r, refl, is ∙ ap Err (same ∙ q))
+
 module _ (network_text first_text second_text first_old second_old : List ℕ) where
   abbrev net : List Line
   net = lines network_text
@@ -63,7 +80,7 @@ module _ (network_text first_text second_text first_old second_old : List ℕ) w
 
   -- the network is refused
   pub network-refused : {stage : (Result Reading Refusal)} {Held : Reading → Type 0} {r : Refusal} → Judged (network_checks net) Held stage → stage ≡ Err r
-      → ComparisonGot network_text first_text second_text first_old second_old (Refused 0 r) first_old second_old
+      → ComparisonGot network_text first_text second_text first_old second_old (Err (Network r)) first_old second_old
   unfolding compare_plans network_answer second_ledger_after once_accepted check_network is_one_of all_of
   network-refused {r = r} got e =
       let v = verdict-refused got e in
@@ -71,7 +88,7 @@ module _ (network_text first_text second_text first_old second_old : List ℕ) w
         answered = sym (rw v refl);
         first_rows = sym (refused-rows net r v one first_old);
         second-rows = sym (rw (refused-answer net r v one (length first_old)) refl);
-        promised = refused-promises 0 r (refused-number plan_numbers (network_checks net) r (network-among net plan_numbers refl) v);
+        promised = refused-promises (Network r) (refused-number plan_numbers (network_checks net) r (network-among net plan_numbers refl) v);
       }
 
   -- it has passed
@@ -82,7 +99,7 @@ module _ (network_text first_text second_text first_old second_old : List ℕ) w
 
     module _ {a : (Result Totals Refusal)} {first_new : List ℕ} (got : PlanGot network_text first_text first_old a first_new) where
       -- the first plan is refused
-      pub first-refused : {r : Refusal} → a ≡ Err r → ComparisonGot network_text first_text second_text first_old second_old (Refused 1 r) first_new second_old
+      pub first-refused : {r : Refusal} → a ≡ Err r → ComparisonGot network_text first_text second_text first_old second_old (Err (First r)) first_new second_old
       unfolding compare_plans network_answer plans_answer second_ledger_after once_accepted
       first-refused {r} q =
           let f = sym got.answered ∙ q in
@@ -90,7 +107,7 @@ module _ (network_text first_text second_text first_old second_old : List ℕ) w
             answered = sym (rw (passes, f) refl);
             first_rows = got.written-rows;
             second-rows = sym (rw f refl);
-            promised = refused-promises 1 r ((plan-promised got).1.1.0.refused-number r q);
+            promised = refused-promises (First r) ((plan-promised got).1.1.0.refused-number r q);
           }
 
       -- it is accepted
@@ -104,14 +121,14 @@ module _ (network_text first_text second_text first_old second_old : List ℕ) w
           second-written = rw first-accepts.told also.written-rows
 
           -- the second plan is refused
-          pub second-refused : {r : Refusal} → b ≡ Err r → ComparisonGot network_text first_text second_text first_old second_old (Refused 2 r) first_new second_new
+          pub second-refused : {r : Refusal} → b ≡ Err r → ComparisonGot network_text first_text second_text first_old second_old (Err (Second r)) first_new second_new
           unfolding compare_plans network_answer plans_answer
           second-refused {r} q =
               record {
                 answered = sym (rw (passes, first-accepts.told, sym also.answered ∙ q) refl);
                 first_rows = got.written-rows;
                 second-rows = second-written;
-                promised = refused-promises 2 r ((plan-promised also).1.1.0.refused-number r q);
+                promised = refused-promises (Second r) ((plan-promised also).1.1.0.refused-number r q);
               }
 
           -- it is accepted too
@@ -127,7 +144,7 @@ module _ (network_text first_text second_text first_old second_old : List ℕ) w
 
             pub both-accepted : {counts : Counts} → CountsHold net counts → {o : Order} → o ≡ lines_order counts first_text second_text
                 → {gap : ℤ} → gap ≡ sub_ℕ t.doubled_time u.doubled_time
-                → ComparisonGot network_text first_text second_text first_old second_old (Compared o (to_z w64 (of_z w64 gap))) first_new second_new
+                → ComparisonGot network_text first_text second_text first_old second_old (Ok (record { order = o; gap = to_z w64 (of_z w64 gap) })) first_new second_new
             both-accepted counted e {gap} g =
                 rw (e ∙ order_is network_text first_text second_text counted, gap-held t.doubled_time u.doubled_time time-words.0 time-words.1 gap g) (record {
                   answered = sym (compared-told first-accepts second-accepts passes);
@@ -136,7 +153,7 @@ module _ (network_text first_text second_text first_old second_old : List ℕ) w
                   promised = compared-promises first-accepts second-accepts passes;
                 })
 
-pub got-promised : {network_text first_text second_text first_old second_old : List ℕ} {answer : ComparisonAnswer} {first_new second_new : List ℕ}
+pub got-promised : {network_text first_text second_text first_old second_old : List ℕ} {answer : Result Comparison ComparisonRefusal} {first_new second_new : List ℕ}
     → ComparisonGot network_text first_text second_text first_old second_old answer first_new second_new
     → (answer ≡ compare_plans (lines network_text) (plan_of network_text first_text) (plan_of network_text second_text) (length first_old) (length second_old))
     × ((first_new ≡ ledger_after (lines network_text) (plan_of network_text first_text) first_old)

@@ -9,8 +9,10 @@ use Rattle.model.proofs.Opened.{opened}
 use Rattle.model.proofs.Texts.{bytes, corridor, plan_with, the_network, the_plan}
 use Rattle.plan_compare.specs.declared.Order.{Order}
 use Rattle.plan_compare.specs.declared.Order.TheVariants.{Ahead, Behind, Equal, Crossing}
-use Rattle.plan_compare.specs.declared.ComparisonAnswer.{ComparisonAnswer}
-use Rattle.plan_compare.specs.declared.ComparisonAnswer.TheVariants.{Compared, Refused}
+use Rattle.plan_compare.specs.declared.Comparison.{Comparison}
+use Rattle.plan_compare.specs.declared.ComparisonRefusal.{ComparisonRefusal}
+use Rattle.plan_compare.specs.declared.ComparisonRefusal.TheVariants.{Network, First, Second}
+use Rattle.std.specs.Prelude.{Result, Ok, Err}
 use Rattle.plan_compare.specs.Comparison.{let_out_by, is_never_fewer, order, plans_answer, network_answer, once_accepted, compare_plans, second_ledger_after}
 
 unfoldable comparison-opened : Unit {0}
@@ -24,7 +26,7 @@ record ComparisonCase : Type 0 where
   second : String
   first_size : ℕ
   second_size : ℕ
-  answer : ComparisonAnswer
+  answer : Result Comparison ComparisonRefusal
 
 -- a plan of the paper's corridor that shows the phases of c1, by what it admits in step 1, moves in steps 2 and 3, and lets out in steps 3 and 4
 abbrev plan : String → String → String → String → String → String
@@ -41,7 +43,7 @@ abbrev all_at_last : String
 all_at_last = plan "5000" "3000" "2000" "0" "5000"
 
 abbrev compares : String → String → Order → ℤ → ComparisonCase
-compares first second order gap = record { network = the_network; first = first; second = second; first_size = 20; second_size = 20; answer = Compared order gap }
+compares first second order gap = record { network = the_network; first = first; second = second; first_size = 20; second_size = 20; answer = Ok (record { order = order; gap = gap }) }
 
 -- two links of the same standing volume, without signals
 abbrev two_links : String
@@ -58,9 +60,9 @@ abbrev from_second : String
 from_second = "P\t0\t0\t0\t3000\nP\t0\t0\t0\t0\n"
 
 abbrev on : String → String → String → Order → ℤ → ComparisonCase
-on network first second order gap = record { network = network; first = first; second = second; first_size = 12; second_size = 12; answer = Compared order gap }
+on network first second order gap = record { network = network; first = first; second = second; first_size = 12; second_size = 12; answer = Ok (record { order = order; gap = gap }) }
 
-abbrev refuses : String → String → String → ℕ → ℕ → ComparisonAnswer → ComparisonCase
+abbrev refuses : String → String → String → ℕ → ℕ → Result Comparison ComparisonRefusal → ComparisonCase
 refuses network first second first_size second_size answer =
     record { network = network; first = first; second = second; first_size = first_size; second_size = second_size; answer = answer }
 
@@ -86,15 +88,15 @@ cases =
     ∷ compares all_at_last (plan "5000" "3000" "0" "3000" "0") Crossing (pos 40_000)
     ∷ compares (plan "5000" "3000" "2000" "1000" "0") (plan "5000" "3000" "2000" "0" "3000") Crossing (pos 0)
     -- the network comes first, then all of the first plan: its ledger and its lines come before the second's ledger
-    ∷ refuses invalid_network the_plan the_plan 0 0 (Refused 0 (refusal 3 2 1))
-    ∷ refuses the_network the_plan the_plan 19 19 (Refused 1 (refusal 8 0 0))
-    ∷ refuses the_network (plan_with "1" "1" "1" "0" "3000") the_plan 20 19 (Refused 1 (refusal 13 4 1))
-    ∷ refuses the_network the_plan (plan_with "3" "1" "2" "0" "3000") 20 19 (Refused 2 (refusal 8 0 0))
-    ∷ refuses the_network the_plan (plan_with "3" "1" "2" "0" "3000") 20 20 (Refused 2 (refusal 10 1 1))
-    ∷ refuses the_network the_plan "" 20 20 (Refused 2 (refusal 13 3 1))
+    ∷ refuses invalid_network the_plan the_plan 0 0 (Err (Network (refusal 3 2 1)))
+    ∷ refuses the_network the_plan the_plan 19 19 (Err (First (refusal 8 0 0)))
+    ∷ refuses the_network (plan_with "1" "1" "1" "0" "3000") the_plan 20 19 (Err (First (refusal 13 4 1)))
+    ∷ refuses the_network the_plan (plan_with "3" "1" "2" "0" "3000") 20 19 (Err (Second (refusal 8 0 0)))
+    ∷ refuses the_network the_plan (plan_with "3" "1" "2" "0" "3000") 20 20 (Err (Second (refusal 10 1 1)))
+    ∷ refuses the_network the_plan "" 20 20 (Err (Second (refusal 13 3 1)))
     ∷ []
 
-abbrev told : ComparisonCase → ComparisonAnswer
+abbrev told : ComparisonCase → Result Comparison ComparisonRefusal
 told c = compare_plans (lines (bytes c.network)) (plan_of (bytes c.network) (bytes c.first)) (plan_of (bytes c.network) (bytes c.second)) c.first_size c.second_size
 
 the-cases : map told cases ≡ map (λ (c : ComparisonCase). c.answer) cases

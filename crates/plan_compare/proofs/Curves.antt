@@ -16,96 +16,89 @@ use Rattle.network_tables.specs.declared.Counts.{Counts}
 use Rattle.network_tables.specs.Places.{let_out_place, plan_width}
 use Rattle.network_tables.specs.Rows.{RowRead}
 use Rattle.network_tables.specs.Tables.{CountsHold}
-use Rattle.plan_compare.specs.declared.Curve.{Curve}
+use Rattle.plan_compare.specs.declared.LetOut.{LetOut}
 use Rattle.plan_compare.specs.Comparison.{order_by, let_out_by, is_never_fewer, order}
-use Rattle.plan_compare.specs.Curves.{line_lets_out, lines_no_fewer, lines_order, Formed, next_curve, NextAsked, NextGot, ReadTo}
-use Rattle.std.specs.Prelude.{Option, Some, None}
+use Rattle.plan_compare.specs.Curves.{line_lets_out, lines_no_fewer, lines_order, Formed, NextAsked, NextGot, ReadTo}
+use Rattle.std.specs.Prelude.{Option, Some, None, IsSome}
 
 -- ---- a step later
-module _ {counts : Counts} {text : List ℕ} {curve : Curve} (asked : NextAsked counts text curve) where
-  abbrev n : ℕ
-  n = curve.boundary
-
+module _ {counts : Counts} {text : List ℕ} {so_far : LetOut} (asked : NextAsked counts text so_far) where
   -- an empty text
-  pub next-empty : length text ≡ 0 → NextGot counts text curve (next_curve curve 0 0)
+  pub next-empty : length text ≡ 0 → NextGot counts text so_far so_far
   unfolding line_lets_out sum
   next-empty e =
       record {
-        there = record {
-          let-out = rw (add-one n, le-ltb 0 (length text) (omega arith)) (omega (arith, asked.here.let-out));
-          small = omega (arith, asked.here.small);
+        there = λ n more here. record {
+          volume = rw (le-ltb 0 (length text) (omega arith)) (omega (arith, here.volume));
+          small = omega (arith, here.small);
           starts = λ h. absurd (omega arith);
         };
-        boundary = refl;
       }
 
-  module _ {width : ℕ} {before line : List ℕ} {result : (Option ℕ)} (some : 0 < length text) (is-width : width ≡ plan_width counts)
-      (row : RowRead letter_p width text curve.at 0 before result line) where
+  module _ {width : ℕ} {before line : List ℕ} {result : Option ℕ} (some : 0 < length text) (is-width : width ≡ plan_width counts)
+      (row : RowRead letter_p width text so_far.at 0 before result line) where
     -- no line is malformed
-    pub next-malformed : result ≡ None → ⊥
-    next-malformed e =
-        let f = row.malformed e n (asked.here.starts some) in
-        let t = rw (← is-width) at (asked.formed.form some n asked.more) in
-        let z : ◌≡◌ {A = ℕ} 0 1 = cc in
-        omega arith
+    pub next-found : IsSome result
+    next-found = go result refl
+      where
+        go : (o : Option ℕ) → result ≡ o → IsSome o
+        go (Some at) e = refl
+        go None e =
+            let f = row.malformed e asked.boundary (asked.here.starts some) in
+            let t = rw (← is-width) at (asked.formed.form some asked.boundary asked.more) in
+            let z : ◌≡◌ {A = ℕ} 0 1 = cc in
+            absurd (omega arith)
 
     -- a line is read
     pub next-read : {at volume : ℕ} → result ≡ Some at → volume ≡ sum counts.links (λ i. get_or line (counts.signals + counts.links + i) 0) → volume ≤ 4294967295 * counts.links
-        → NextGot counts text curve (next_curve curve at volume)
+        → NextGot counts text so_far (record { at = at; volume = so_far.volume + volume })
     unfolding line_lets_out sum
     next-read {at} {volume} e v small =
-        let held = row.held at e n (asked.here.starts some) in
         record {
-          there = record {
-            let-out = rw (add-one n, lt-ltb 0 (length text) some) (omega (arith, asked.here.let-out, v ∙ sum-ext counts.links _ _ (λ i l. place i ∙ held.numbers _ (omega arith))));
-            small = omega (arith, asked.here.small, mul-le-mul_left 4294967295 asked.formed.few.links);
-            starts = λ h. rw add-one held.starts;
-          };
-          boundary = refl;
+          there = λ n more here.
+              let held = row.held at e n (here.starts some) in
+              record {
+                volume = rw (lt-ltb 0 (length text) some) (omega (arith, here.volume, v ∙ sum-ext counts.links _ _ (λ i l. place i ∙ held.numbers _ (omega arith))));
+                small = omega (arith, here.small, mul-le-mul_left 4294967295 asked.formed.few.links);
+                starts = λ h. held.starts;
+              };
         }
       where
         place : (i : ℕ) → get_or line (counts.signals + counts.links + i) 0 ≡ get_or line (0 + let_out_place counts i) 0
         place i = ap (λ k. get_or line k 0) (omega arith)
 
 -- ---- both texts, step by step
-pub read_none : (counts : Counts) (first second : List ℕ) → ReadTo counts first second (record { boundary = 0; at = 0; let_out = 0 }) (record { boundary = 0; at = 0; let_out = 0 }) true true
+pub read_none : (counts : Counts) (first second : List ℕ) → ReadTo counts first second 0 (record { at = 0; volume = 0 }) (record { at = 0; volume = 0 }) true true
 unfolding sum every ◌and◌ lines_no_fewer
 read_none counts first second =
     record {
-      first-at = record { let-out = refl; small = omega arith; starts = λ h. starts_first first };
-      second_at = record { let-out = refl; small = omega arith; starts = λ h. starts_first second };
-      together = refl;
-      within = omega arith;
+      first-at = record { volume = refl; small = omega arith; starts = λ h. starts_first first };
+      second_at = record { volume = refl; small = omega arith; starts = λ h. starts_first second };
       first-so-far = refl;
       second-so-far = refl;
     }
 
-pub next-asked : {counts : Counts} {first second : List ℕ} {one other : Curve} {a b : Bool} → Formed counts first × Formed counts second → ReadTo counts first second one other a b
-    → one.boundary < counts.steps → NextAsked counts first one × NextAsked counts second other
-next-asked formed r h =
-    (record { formed = formed.0; here = r.first-at; more = h }, record { formed = formed.1; here = r.second_at; more = omega (arith, r.together) })
+module _ {counts : Counts} {first second : List ℕ} {n : ℕ} {one other : LetOut} {a b : Bool} (r : ReadTo counts first second n one other a b) where
+  pub next-asked : Formed counts first × Formed counts second → n < counts.steps → NextAsked counts first one × NextAsked counts second other
+  next-asked formed h =
+      (record { formed = formed.0; boundary = n; here = r.first-at; more = h }, record { formed = formed.1; boundary = n; here = r.second_at; more = h })
 
-module _ {counts : Counts} {first second : List ℕ} {one other : Curve} {a b : Bool} (r : ReadTo counts first second one other a b) where
-  pub read_next : one.boundary < counts.steps → {one' other' : Curve} → NextGot counts first one one' → NextGot counts second other other'
-      → ReadTo counts first second one' other' (a && leb other'.let_out one'.let_out) (b && leb one'.let_out other'.let_out)
+  pub read_next : n < counts.steps → {one' other' : LetOut} → NextGot counts first one one' → NextGot counts second other other'
+      → ReadTo counts first second (n + 1) one' other' (a && leb other'.volume one'.volume) (b && leb one'.volume other'.volume)
   unfolding every ◌and◌ lines_no_fewer
-  read_next h {one'} {other'} g k =
-      let e : one'.boundary ≡ suc one.boundary = g.boundary ∙ add-one _ in
-      let f : other'.boundary ≡ suc one.boundary = k.boundary ∙ add-one _ ∙ ap suc r.together in
-      let x = g.there.let-out ∙ ap (λ m. sum m (line_lets_out counts first)) e in
-      let y = k.there.let-out ∙ ap (λ m. sum m (line_lets_out counts second)) f in
-      record {
-        first-at = g.there;
-        second_at = k.there;
-        together = f ∙ sym e;
-        within = omega arith;
-        first-so-far = ap₂ ◌&&◌ r.first-so-far (ap₂ leb y x) ∙ ap (λ m. every (suc m) (lines_no_fewer counts first second)) (sym e);
-        second-so-far = ap₂ ◌&&◌ r.second-so-far (ap₂ leb x y) ∙ ap (λ m. every (suc m) (lines_no_fewer counts second first)) (sym e);
-      }
+  read_next h g k =
+      let x = g.there n h r.first-at in
+      let y = k.there n h r.second_at in
+      rw (add-one n) (record {
+        first-at = x;
+        second_at = y;
+        first-so-far = ap₂ ◌&&◌ r.first-so-far (ap₂ leb y.volume x.volume);
+        second-so-far = ap₂ ◌&&◌ r.second-so-far (ap₂ leb x.volume y.volume);
+      })
 
-  pub read_all : counts.steps ≤ one.boundary → order_by a b ≡ lines_order counts first second
+  pub read_all : n ≡ counts.steps → order_by a b ≡ lines_order counts first second
   unfolding lines_order
-  read_all h = let e : one.boundary ≡ counts.steps = omega (arith, r.within) in ap₂ order_by (rw e at r.first-so-far) (rw e at r.second-so-far)
+  read_all e = ap₂ order_by (rw e at r.first-so-far) (rw e at r.second-so-far)
 
 -- ---- what a text lets out is what the plan that it means does
 module _ (network_text plan_text : List ℕ) {counts : Counts} (counted : CountsHold (lines network_text) counts) where

@@ -15,13 +15,14 @@ use Rattle.model.specs.Guarantees.{plan_numbers}
 use Rattle.model.proofs.Accepted.{AcceptedPlan, accepted-plan}
 use Rattle.model.proofs.Promises.{passes-of-accepted}
 use Rattle.plan_compare.specs.declared.Order.{Order}
-use Rattle.plan_compare.specs.declared.ComparisonAnswer.TheVariants.{Compared, Refused}
-use Rattle.plan_compare.specs.Comparison.{order, plans_answer, network_answer, compare_plans}
+use Rattle.plan_compare.specs.declared.Comparison.{Comparison}
+use Rattle.plan_compare.specs.declared.ComparisonRefusal.{ComparisonRefusal}
+use Rattle.plan_compare.specs.Comparison.{order, refusal_in, plans_answer, network_answer, compare_plans}
 use Rattle.plan_compare.specs.Promises.{NeverFewer, SomewhereMore, PlansCompared, ComparisonPromises}
 use Rattle.plan_compare.proofs.Orders.{order-stands, stands-order, order-swapped}
 use Rattle.plan_compare.proofs.Gap.{gap-none, gap_below, gap-not-above, gap-quicker, gap-as-quick, gap-negated}
 use Rattle.plan_compare.proofs.Times.{time-le, time-less}
-use Rattle.std.specs.Prelude.{Ok}
+use Rattle.std.specs.Prelude.{Result, Ok, Err}
 
 -- a plan that is accepted with these totals
 pub record Accepts (network plan : List Line) (size : ℕ) (t : Totals) : Type 0 where
@@ -51,7 +52,7 @@ module _ {network first second : List Line} {first_size second_size : ℕ} {t u 
   lesser h m = omega (arith, one.time, other.time, time-less network first second (accepted one) (accepted other) h m)
 
   pub compared-told : check_network network ≡ Ok tt
-      → compare_plans network first second first_size second_size ≡ Compared (order network first second) (sub_ℕ t.doubled_time u.doubled_time)
+      → compare_plans network first second first_size second_size ≡ Ok (record { order = order network first second; gap = sub_ℕ t.doubled_time u.doubled_time })
   unfolding compare_plans network_answer plans_answer
   compared-told e = rw (e, one.told, other.told)
 
@@ -70,24 +71,26 @@ module _ {network first second : List Line} {first_size second_size : ℕ} {t u 
         equal-same = λ e.
             let s = rw e at (order-stands network first second) in
             gap-none _ _ (le_antisymm (not-greater one other (λ n l. omega (arith, s n l))) (not-greater other one (λ n l. omega (arith, s n l))));
-        swaps = compared-told other one passes ∙ ap₂ Compared (order-swapped network first second) (gap-negated t.doubled_time u.doubled_time);
+        swaps = compared-told other one passes ∙ ap₂ (λ (o : Order) (gap : ℤ). Ok (record { order = o; gap = gap })) (order-swapped network first second) (gap-negated t.doubled_time u.doubled_time);
       }
 
-  pub compared-promises : ComparisonPromises network first second first_size second_size (Compared (order network first second) (sub_ℕ t.doubled_time u.doubled_time))
+  pub compared-promises : ComparisonPromises network first second first_size second_size (Ok (record { order = order network first second; gap = sub_ℕ t.doubled_time u.doubled_time }))
   compared-promises =
       record {
-        compared = λ o gap e. same plans-compared e;
-        refused-number = λ plan r e. let z : ◌≡◌ {A = ℕ} 0 1 = cc in absurd (omega arith);
+        compared = λ c e. same c e;
+        refused-number = λ r e. let z : ◌≡◌ {A = ℕ} 0 1 = cc in absurd (omega arith);
       }
     where
-      same : {o o' : Order} {gap gap' : ℤ} → PlansCompared network first second first_size second_size o gap → Compared o gap ≡ Compared o' gap'
-          → PlansCompared network first second first_size second_size o' gap'
-      same {o} {o'} {gap} {gap'} p e = let a : o' ≡ o = cc in let b : gap' ≡ gap = cc in rw (a, b) p
+      told : Comparison
+      told = record { order = order network first second; gap = sub_ℕ t.doubled_time u.doubled_time }
+
+      same : (c : Comparison) → ◌≡◌ {A = Result Comparison ComparisonRefusal} (Ok told) (Ok c) → PlansCompared network first second first_size second_size c.order c.gap
+      same c e = let a : c ≡ told = cc in rw a plans-compared
 
 module _ {network first second : List Line} {first_size second_size : ℕ} where
-  pub refused-promises : (plan : ℕ) (r : Refusal) → CanArise plan_numbers r.number → ComparisonPromises network first second first_size second_size (Refused plan r)
-  refused-promises plan r h =
+  pub refused-promises : (r : ComparisonRefusal) → CanArise plan_numbers (refusal_in r).number → ComparisonPromises network first second first_size second_size (Err r)
+  refused-promises r h =
       record {
-        compared = λ o gap e. let z : ◌≡◌ {A = ℕ} 0 1 = cc in absurd (omega arith);
-        refused-number = λ p q e. let a : q ≡ r = cc in rw a h;
+        compared = λ c e. let z : ◌≡◌ {A = ℕ} 0 1 = cc in absurd (omega arith);
+        refused-number = λ q e. let a : q ≡ r = cc in rw a h;
       }

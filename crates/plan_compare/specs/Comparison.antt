@@ -9,8 +9,9 @@ use Rattle.model.specs.Flows.{all_let_out}
 use Rattle.model.specs.Calls.{check_network, check_plan, ledger_after}
 use Rattle.plan_compare.specs.declared.Order.{Order}
 use Rattle.plan_compare.specs.declared.Order.TheVariants.{Ahead, Behind, Equal, Crossing}
-use Rattle.plan_compare.specs.declared.ComparisonAnswer.{ComparisonAnswer}
-use Rattle.plan_compare.specs.declared.ComparisonAnswer.TheVariants.{Compared, Refused}
+use Rattle.plan_compare.specs.declared.Comparison.{Comparison}
+use Rattle.plan_compare.specs.declared.ComparisonRefusal.{ComparisonRefusal}
+use Rattle.plan_compare.specs.declared.ComparisonRefusal.TheVariants.{Network, First, Second}
 use Rattle.base_search.specs.declared.Refusal.{Refusal}
 use Rattle.model.specs.declared.Totals.{Totals}
 use Rattle.base_search.specs.Checks.{Verdict}
@@ -34,16 +35,27 @@ module _ (network : List Line) where
   unfoldable pub order : List Line → List Line → Order
   order first second = order_by (is_never_fewer first second) (is_never_fewer second first)
 
+-- what a refusal of a comparison means, the network, 0, or one of the plans, 1 or 2; and the refusal
+abbrev pub plan_number : ComparisonRefusal → ℕ
+plan_number (Network r) = 0
+plan_number (First r) = 1
+plan_number (Second r) = 2
+
+abbrev pub refusal_in : ComparisonRefusal → Refusal
+refusal_in (Network r) = r
+refusal_in (First r) = r
+refusal_in (Second r) = r
+
 -- two accepted plans are compared by their order and the gap, the doubled time of the first minus that of the second; a refusal of the first comes before the second's ..
-unfoldable pub plans_answer : Order → Result Totals Refusal → Result Totals Refusal → ComparisonAnswer
-plans_answer order (Ok t) (Ok u) = Compared order (sub_ℕ t.doubled_time u.doubled_time)
-plans_answer order (Ok t) (Err r) = Refused 2 r
-plans_answer order (Err r) second = Refused 1 r
+unfoldable pub plans_answer : Order → Result Totals Refusal → Result Totals Refusal → Result Comparison ComparisonRefusal
+plans_answer order (Ok t) (Ok u) = Ok (record { order = order; gap = sub_ℕ t.doubled_time u.doubled_time })
+plans_answer order (Ok t) (Err r) = Err (Second r)
+plans_answer order (Err r) second = Err (First r)
 
 -- .. and the network's own, which means neither plan, before both
-unfoldable pub network_answer : Verdict → ComparisonAnswer → ComparisonAnswer
+unfoldable pub network_answer : Verdict → Result Comparison ComparisonRefusal → Result Comparison ComparisonRefusal
 network_answer (Ok tt) plans = plans
-network_answer (Err r) plans = Refused 0 r
+network_answer (Err r) plans = Err (Network r)
 
 -- the second plan's rows are written once the first is accepted
 unfoldable pub once_accepted : Result Totals Refusal → List ℕ → List ℕ → List ℕ
@@ -52,7 +64,7 @@ once_accepted (Err r) old new = old
 
 module _ (network first second : List Line) where
   -- Compare two plans, with ledgers of so many numbers
-  unfoldable pub compare_plans : ℕ → ℕ → ComparisonAnswer
+  unfoldable pub compare_plans : ℕ → ℕ → Result Comparison ComparisonRefusal
   compare_plans first_size second_size =
       network_answer (check_network network) (plans_answer (order network first second) (check_plan network first first_size) (check_plan network second second_size))
 

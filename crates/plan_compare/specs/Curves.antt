@@ -9,7 +9,7 @@ use Rattle.model.specs.Table.{letter_p, is_form}
 use Rattle.network_tables.specs.declared.Counts.{Counts}
 use Rattle.network_tables.specs.Places.{let_out_place, plan_width, Few}
 use Rattle.plan_compare.specs.declared.Order.{Order}
-use Rattle.plan_compare.specs.declared.Curve.{Curve}
+use Rattle.plan_compare.specs.declared.LetOut.{LetOut}
 use Rattle.plan_compare.specs.Comparison.{order_by}
 
 -- what line n of a plan text lets out of all links; an empty text means hold, and lets nothing out
@@ -29,32 +29,26 @@ pub record Formed (counts : Counts) (text : List ℕ) : Type 0 where
   pub few : Few counts
   pub form : 0 < length text → (n : ℕ) → n < counts.steps → is_form (lines text) n letter_p (plan_width counts) ≡ true
 
--- a curve a step later, with the volume that it lets out
-abbrev pub next_curve : Curve → ℕ → ℕ → Curve
-next_curve curve at volume = record { boundary = curve.boundary + 1; at = at; let_out = curve.let_out + volume }
+-- what a text has let out up to boundary n: each line lets out at most 24 × 4,294,967,295
+pub record LetOutAt (counts : Counts) (text : List ℕ) (n : ℕ) (so_far : LetOut) : Type 0 where
+  pub volume : so_far.volume ≡ sum n (line_lets_out counts text)
+  pub small : so_far.volume ≤ 103_079_215_080 * n
+  pub starts : 0 < length text → Starts text so_far.at n
 
--- the curve of a text at a boundary: each line lets out at most 24 × 4,294,967,295
-pub record CurveAt (counts : Counts) (text : List ℕ) (curve : Curve) : Type 0 where
-  pub let-out : curve.let_out ≡ sum curve.boundary (line_lets_out counts text)
-  pub small : curve.let_out ≤ 103_079_215_080 * curve.boundary
-  pub starts : 0 < length text → Starts text curve.at curve.boundary
-
--- what leading a curve to the next boundary asks ..
-pub record NextAsked (counts : Counts) (text : List ℕ) (curve : Curve) : Type 0 where
+-- what reading a text's next line asks: it has been read up to a boundary before the last ..
+pub record NextAsked (counts : Counts) (text : List ℕ) (so_far : LetOut) : Type 0 where
   pub formed : Formed counts text
-  pub here : CurveAt counts text curve
-  pub more : curve.boundary < counts.steps
+  pub boundary : ℕ
+  pub here : LetOutAt counts text boundary so_far
+  pub more : boundary < counts.steps
 
--- .. and promises
-pub record NextGot (counts : Counts) (text : List ℕ) (curve next : Curve) : Type 0 where
-  pub there : CurveAt counts text next
-  pub boundary : next.boundary ≡ curve.boundary + 1
+-- .. and promises: from any such boundary it is read up to the next
+pub record NextGot (counts : Counts) (text : List ℕ) (so_far next : LetOut) : Type 0 where
+  pub there : (n : ℕ) → n < counts.steps → LetOutAt counts text n so_far → LetOutAt counts text (suc n) next
 
--- Both texts are read up to a boundary, and whether each was never fewer so far.
-pub record ReadTo (counts : Counts) (first second : List ℕ) (one other : Curve) (first_never_fewer second_never_fewer : Bool) : Type 0 where
-  pub first-at : CurveAt counts first one
-  pub second_at : CurveAt counts second other
-  pub together : other.boundary ≡ one.boundary
-  pub within : one.boundary ≤ counts.steps
-  pub first-so-far : first_never_fewer ≡ every (suc one.boundary) (lines_no_fewer counts first second)
-  pub second-so-far : second_never_fewer ≡ every (suc one.boundary) (lines_no_fewer counts second first)
+-- Both texts are read up to boundary n, and whether each was never fewer so far.
+pub record ReadTo (counts : Counts) (first second : List ℕ) (n : ℕ) (one other : LetOut) (first_never_fewer second_never_fewer : Bool) : Type 0 where
+  pub first-at : LetOutAt counts first n one
+  pub second_at : LetOutAt counts second n other
+  pub first-so-far : first_never_fewer ≡ every (suc n) (lines_no_fewer counts first second)
+  pub second-so-far : second_never_fewer ≡ every (suc n) (lines_no_fewer counts second first)

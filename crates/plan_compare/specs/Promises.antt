@@ -1,7 +1,6 @@
 -- What a comparison of two plans promises, and the theorem of T-11.
-use Rattle.std.specs.Prelude.{ℕ, ◌≤◌, ◌<◌, ◌≡◌, ◌↔◌, List, length, ℤ, pos, neg_ℤ, ◌≤ℤ◌, ◌<ℤ◌, Ok}
+use Rattle.std.specs.Prelude.{ℕ, ◌≤◌, ◌<◌, ◌≡◌, ◌↔◌, List, length, ℤ, pos, neg_ℤ, ◌≤ℤ◌, ◌<ℤ◌, Result, Ok, Err}
 use Rattle.std.proofs.Math.IntN.{sub_ℕ}
-use Rattle.base_search.specs.declared.Refusal.{Refusal}
 use Rattle.base_search.specs.Numbers.{CanArise}
 use Rattle.text_reader.specs.Lines.{Line, lines}
 use Rattle.model.specs.declared.Totals.{Totals}
@@ -11,9 +10,9 @@ use Rattle.model.specs.Calls.{check_plan, ledger_after}
 use Rattle.model.specs.Guarantees.{plan_numbers}
 use Rattle.plan_compare.specs.declared.Order.{Order}
 use Rattle.plan_compare.specs.declared.Order.TheVariants.{Ahead, Behind, Equal, Crossing}
-use Rattle.plan_compare.specs.declared.ComparisonAnswer.{ComparisonAnswer}
-use Rattle.plan_compare.specs.declared.ComparisonAnswer.TheVariants.{Compared, Refused}
-use Rattle.plan_compare.specs.Comparison.{let_out_by, compare_plans, second_ledger_after}
+use Rattle.plan_compare.specs.declared.Comparison.{Comparison}
+use Rattle.plan_compare.specs.declared.ComparisonRefusal.{ComparisonRefusal}
+use Rattle.plan_compare.specs.Comparison.{let_out_by, refusal_in, compare_plans, second_ledger_after}
 
 module _ (network : List Line) where
   -- one plan has let out as much as another, or more, up to every boundary
@@ -56,15 +55,15 @@ pub record PlansCompared (network first second : List Line) (first_size second_s
   pub ahead-lesser : order ≡ Ahead → gap <ℤ pos 0
   pub equal-same : order ≡ Equal → gap ≡ pos 0
   -- swapping the plans swaps ahead and behind and negates the gap
-  pub swaps : compare_plans network second first second_size first_size ≡ Compared (swapped order) (neg_ℤ gap)
+  pub swaps : compare_plans network second first second_size first_size ≡ Ok (record { order = swapped order; gap = neg_ℤ gap })
 
 -- What a comparison promises of its answer: of two plans that were compared the theorem of T-11, and of a refusal that its number is one that can arise.
-pub record ComparisonPromises (network first second : List Line) (first_size second_size : ℕ) (answer : ComparisonAnswer) : Type 0 where
-  pub compared : (order : Order) (gap : ℤ) → answer ≡ Compared order gap → PlansCompared network first second first_size second_size order gap
-  pub refused-number : (plan : ℕ) (r : Refusal) → answer ≡ Refused plan r → CanArise plan_numbers r.number
+pub record ComparisonPromises (network first second : List Line) (first_size second_size : ℕ) (answer : Result Comparison ComparisonRefusal) : Type 0 where
+  pub compared : (c : Comparison) → answer ≡ Ok c → PlansCompared network first second first_size second_size c.order c.gap
+  pub refused-number : (r : ComparisonRefusal) → answer ≡ Err r → CanArise plan_numbers (refusal_in r).number
 
 -- what comparing two plan texts gives, whatever was handed in: the answer and both ledgers are those of the definitions
-pub record ComparisonGot (network_text first_text second_text first_old second_old : List ℕ) (answer : ComparisonAnswer) (first_ledger second_ledger : List ℕ) : Type 0 where
+pub record ComparisonGot (network_text first_text second_text first_old second_old : List ℕ) (answer : Result Comparison ComparisonRefusal) (first_ledger second_ledger : List ℕ) : Type 0 where
   pub answered : answer ≡ compare_plans (lines network_text) (plan_of network_text first_text) (plan_of network_text second_text) (length first_old) (length second_old)
   pub first_rows : first_ledger ≡ ledger_after (lines network_text) (plan_of network_text first_text) first_old
   pub second-rows : second_ledger ≡ second_ledger_after (lines network_text) (plan_of network_text first_text) (plan_of network_text second_text) (length first_old) second_old

@@ -4,19 +4,17 @@
 ghost use Rattle.std.specs.Prelude.{◌≡◌, ◌+◌, ◌≤◌};
 ghost use Rattle.text_reader.specs.Lines.{lines};
 ghost use Rattle.text_reader.specs.Padding.{PaddingIgnored};
-ghost use Rattle.base_search.specs.Checks.{refusal};
-ghost use Rattle.model.specs.declared.LinkAnswer.TheVariants.{Refused};
 ghost use Rattle.model.specs.Calls.{link_state};
 ghost use Rattle.model.specs.Guarantees.{StatePromises};
 ghost use Rattle.plan_link_state.specs.State.{Tabled, OverAsked, EnteredOver, ledger_arrival, ArrivalAsked, state_from};
 
 use base_search::Refusal;
+use model::LinkState;
 use network_tables::{LINK_TABLE_SIZE, MOVEMENT_TABLE_SIZE, Reading, TIME_TABLE_SIZE};
 use step_past::Curve;
-use model::LinkState;
 
 // What has arrived at a link's end × the length of the step in which the travel time ends; that length; and whether the entered count does not fall over a step
-// inside which it ends.
+// inside which it ends. That is no Option: `rises` is one of the tests of 21, beside numbers that stand whatever it says.
 #[derive(Clone, Copy)]
 struct Arrival {
     scaled: u64,
@@ -96,26 +94,19 @@ fn state_from(entered: u32, left: u32, arrival: Arrival) -> Result<LinkState, Re
     let scaled = arrival.scaled;
     let seconds = arrival.seconds;
     if !arrival.rises {
-        return refused(21);
+        return Err(Refusal::new(21, 0, 0));
     }
     if scaled < network_tables::times(left, seconds) {
-        return refused(21);
+        return Err(Refusal::new(21, 0, 0));
     }
     if network_tables::times(entered, seconds) < scaled {
-        return refused(21);
+        return Err(Refusal::new(21, 0, 0));
     }
-    let arrived = (scaled / network_tables::wide(seconds)) as u32;
-    LinkState {
+    let arrived = (scaled / u64::from(seconds)) as u32;
+    Ok(LinkState {
         queued: arrived - left,
         in_transit: entered - arrived,
-    }
-}
-
-// A refusal that names no line and no item.
-fn refused(number: u32) -> Result<LinkState, Refusal>
-    ensures { result ≡ Refused (refusal number 0 0) }
-{
-    Err(Refusal::new(number, 0, 0))
+    })
 }
 
 // The state by the tables of a network that has passed: refusals 8, 19, 20 and 21.
@@ -135,18 +126,18 @@ fn state_by(
     let count = counts.links;
     let steps = counts.steps;
     if ledger.len() < network_tables::row_start(steps + 1, count) {
-        return refused(8);
+        return Err(Refusal::new(8, 0, 0));
     }
     let n = boundary as usize;
     if steps < n {
-        return refused(19);
+        return Err(Refusal::new(19, 0, 0));
     }
     let number = link as usize;
     if number < 1 {
-        return refused(20);
+        return Err(Refusal::new(20, 0, 0));
     }
     if count < number {
-        return refused(20);
+        return Err(Refusal::new(20, 0, 0));
     }
     let i = number - 1;
     let entered = network_tables::entered_at(ledger, count, n, i);
@@ -159,7 +150,12 @@ fn state_by(
 }
 
 // State of one link at a boundary: refusals 1 to 6, 28 and 30 of the network, 8 of the ledger, then 19, 20 and 21.
-pub fn link_state(network: &[u8], ledger: &[u32], boundary: u32, link: u32) -> Result<LinkState, Refusal>
+pub fn link_state(
+    network: &[u8],
+    ledger: &[u32],
+    boundary: u32,
+    link: u32,
+) -> Result<LinkState, Refusal>
     ensures value { result ≡ link_state (lines network.now) ledger.now boundary link }
     ensures state_promises { StatePromises result }
     ensures padding_ignored { PaddingIgnored network.now (λ padded. result ≡ link_state (lines padded) ledger.now boundary link) }
@@ -167,10 +163,6 @@ pub fn link_state(network: &[u8], ledger: &[u32], boundary: u32, link: u32) -> R
     let mut links = [0u32; LINK_TABLE_SIZE];
     let mut movements = [0u32; MOVEMENT_TABLE_SIZE];
     let mut times = [0u32; TIME_TABLE_SIZE];
-    match network::load_network(network, &mut links, &mut movements, &mut times) {
-        Ok(reading) => {
-            state_by(network, reading, &links, &times, ledger, boundary, link)
-        }
-        Err(refusal) => Err(refusal),
-    }
+    let reading = network::load_network(network, &mut links, &mut movements, &mut times)?;
+    state_by(network, reading, &links, &times, ledger, boundary, link)
 }

@@ -1,5 +1,5 @@
 -- The steps of a plan, taken one after another.
-use Rattle.base_laws.proofs.Kit.{ℕ, zero, suc, ◌+◌, ◌*◌, ◌-◌, ◌≤◌, ◌<◌, ◌≡◌, refl, sym, ap, ◌∙◌, Bool, true, false, cond, List, [], dec_le, dec_lt, mul-le-mul_right, add-one, arith, le-leb, eqb, length, get_or, replicate, length-replicate, get_or-replicate, List·getD-eq-default}
+use Rattle.base_laws.proofs.Kit.{ℕ, zero, suc, ◌+◌, ◌*◌, ◌≤◌, ◌<◌, ◌≡◌, refl, sym, ap, ◌∙◌, Bool, true, false, cond, List, [], dec_le, dec_lt, mul-le-mul_right, add-one, arith, le-leb, eqb, length, get_or, replicate, length-replicate, get_or-replicate, List·getD-eq-default}
 use Rattle.base_search.specs.declared.Refusal.{Refusal}
 use Rattle.base_search.specs.Checks.{refusal, verdict, Hold}
 use Rattle.base_search.proofs.Laws.{hold-of-passes}
@@ -9,7 +9,7 @@ use Rattle.text_reader.proofs.Laws.{starts_first}
 use Rattle.model.specs.declared.Totals.{Totals}
 use Rattle.base_laws.specs.Sum.{sum}
 use Rattle.model.specs.Network.{max_links, max_steps, link_count, step_count, past_count, on_timeline, signal}
-use Rattle.model.specs.Flows.{signal_at, totals}
+use Rattle.model.specs.Flows.{signal_at}
 use Rattle.model.specs.Table.{is_form, letter_p, ledger_checks, line_checks, plan_line_checks}
 use Rattle.model.specs.Hold.{plan_of}
 use Rattle.model.specs.Calls.{plan_answer, written, ledger_after}
@@ -32,10 +32,10 @@ use Rattle.step_signals.specs.Step.{SignalsAt}
 use Rattle.step_signals.proofs.Rules.{ready-first}
 use Rattle.step_rows.specs.Rows.{RowHolds}
 use Rattle.step_rows.proofs.Ledger.{first-written}
-use Rattle.plan_steps.specs.declared.Taken.{Taken}
+use Rattle.plan_steps.specs.declared.State.{State}
 use Rattle.plan_steps.specs.Totals.{held_in}
 use Rattle.plan_steps.specs.State.{StepAsked, StepGot, finished}
-use Rattle.plan_steps.specs.Steps.{RunAsked, RunGot, StepsAsked, AllTaken, StepsGot, Running}
+use Rattle.plan_steps.specs.Steps.{RunAsked, RunGot, StepsAsked, Stopped, AllTaken, StepsGot, Running}
 use Rattle.plan_steps.proofs.Verdicts.{formed, plan-stops, plan-surplus, plan-passes}
 use Rattle.plan_steps.proofs.PlanLines.{plan-ends}
 use Rattle.plan_steps.proofs.Ledger.{written-again}
@@ -123,9 +123,6 @@ module _ {network_text plan_text : List ℕ} {reading : Reading} {steps : ℕ} {
         rooms = record { curve-size = c; place-size = p };
       }
 
-  pub first-waiting-asked : FirstAsked links reading.counts.links waiting₀
-  first-waiting-asked = record { few = a.tables.counted.few.links; link-size = a.tables.link-table.size; size = a.waiting-size }
-
   module _ {ledger arrivals curves places : List ℕ} {fit : Bool} (loaded : PastLoaded network_text reading.counts old fit ledger arrivals curves places) where
     -- every number of row 0 fits 32 bits
     fits : fit ≡ true
@@ -152,44 +149,37 @@ module _ {network_text plan_text : List ℕ} {reading : Reading} {steps : ℕ} {
     since-lent : (m : ℕ) → 1 ≤ m → written netw plnn ledger m ≡ written netw plnn old m
     since-lent m h = ap (λ x. written netw plnn x m) first ∙ written-again netw plnn old 1 m h
 
-    pub steps-since : {taken : Taken} {signals waiting ledger' : List ℕ} → StepsGot network_text plan_text ledger steps taken signals waiting ledger' → StepsGot network_text plan_text old steps taken signals waiting ledger'
-    steps-since got =
-        record {
-          stopped = λ r e. let s = got.stopped r e in
-              record { step = s.step; within = s.within; passed = s.passed; refused = s.refused; rows = s.rows ∙ since-lent (suc s.step) (omega arith) };
-          reached = λ e. let s = got.reached e in
-              record {
-                passed = s.passed;
-                plan-starts = s.plan-starts;
-                signals-at = s.signals-at;
-                totals-at = s.totals-at;
-                waiting-at = s.waiting-at;
-                rows = s.rows ∙ since-lent (suc steps) (omega arith);
-              };
-        }
+    module _ {signals waiting ledger' : List ℕ} where
+      pub stopped-since : {r : Refusal} → Stopped network_text plan_text ledger steps r ledger' → StepsGot network_text plan_text old steps (Err r) signals waiting ledger'
+      stopped-since s =
+          record { outcome = record { step = s.step; within = s.within; passed = s.passed; refused = s.refused; rows = s.rows ∙ since-lent (suc s.step) (omega arith) } }
 
-    pub held-asked : (reading.counts.links ≤ max_links) × (2 * reading.counts.links ≤ length ledger)
-    held-asked = (a.tables.counted.few.links, omega (arith, a.tables.counted.links, loaded.size, start-room))
+      pub taken-since : {state : State} → AllTaken network_text plan_text ledger steps state signals waiting ledger' → StepsGot network_text plan_text old steps (Ok state) signals waiting ledger'
+      taken-since s =
+          record {
+            outcome = record {
+              passed = s.passed;
+              plan-starts = s.plan-starts;
+              signals-at = s.signals-at;
+              totals-at = s.totals-at;
+              waiting-at = s.waiting-at;
+              rows = s.rows ∙ since-lent (suc steps) (omega arith);
+            };
+          }
 
     module _ {waiting : List ℕ} (waits : FirstWaits links reading.counts.links waiting) where
       waiting-start : WaitingTable netw plnn 0 waiting
       waiting-start = waiting-first plnn a.tables.link-table (rw a.tables.counted.links at waits)
 
-      pub sum-asked : (reading.counts.links ≤ max_links) × (0 + reading.counts.links ≤ length waiting)
-      sum-asked = (a.tables.counted.few.links, omega (arith, waits.size, a.tables.counted.few.links))
-
       pub running-first : (held : ℕ) → held ≡ held_in reading.counts ledger → (out : ℕ) → out ≡ sum reading.counts.links (λ i. get_or waiting (0 + i) 0) → (signals : List ℕ) → SignalTable netw signals
-          → {trams : List ℕ} → TramTable netw trams → Running network_text plan_text reading.counts steps trams links movements times ledger
-          (record {
-            verdict = Ok tt;
-            state =
-                record { boundary = 0; step_at = reading.steps_at; plan_at = 0; totals = record { admitted = 0; let_out = 0; inside = held; doubled_time = 0 }; outside = out };
-          }) signals arrivals curves places waiting ledger (replicate step_size 0) (replicate line_size 0)
+          → {trams : List ℕ} → TramTable netw trams → Running network_text plan_text reading.counts steps 0 trams links movements times ledger
+          (record { boundary = 0; step_at = reading.steps_at; plan_at = 0; totals = record { admitted = 0; let_out = 0; inside = held; doubled_time = 0 }; outside = out })
+          signals arrivals curves places waiting ledger (replicate step_size 0) (replicate line_size 0)
       running-first held e out o signals table trams-held =
           record {
             tables = a.tables;
             tram-table = trams-held;
-            passes = refl;
+            taken = refl;
             state-at = record {
               within = omega arith;
               passed = λ m l. absurd (omega arith);
@@ -205,85 +195,71 @@ module _ {network_text plan_text : List ℕ} {reading : Reading} {steps : ℕ} {
             };
             lent = record { step-size = length-replicate {A = ℕ} step_size 0; line-size = length-replicate {A = ℕ} line_size 0; no-volume = λ empty k l. no_number line_size k };
             few-steps = a.few-steps;
-            within = omega arith;
             since = since-self;
             long = refl;
             room = omega (arith, loaded.size, a.room);
           }
 
-module _ {network_text plan_text : List ℕ} {counts : Counts} {steps : ℕ} {trams links movements times old : List ℕ} {taken : Taken} {signals arrivals curves places waiting ledger step line : List ℕ}
-    (r : Running network_text plan_text counts steps trams links movements times old taken signals arrivals curves places waiting ledger step line) where
+module _ {network_text plan_text : List ℕ} {counts : Counts} {steps n : ℕ} {trams links movements times old : List ℕ} {state : State} {signals arrivals curves places waiting ledger step line : List ℕ}
+    (r : Running network_text plan_text counts steps n trams links movements times old state signals arrivals curves places waiting ledger step line) where
   abbrev net : List Line
   net = lines network_text
 
   abbrev pln : List Line
   pln = plan_of network_text plan_text
 
-  abbrev n : ℕ
-  n = taken.state.boundary
+  passed-before : (m : ℕ) → m < n → verdict (line_checks net pln m) ≡ Ok tt
+  passed-before m h = r.state-at.passed m (omega (arith, r.taken))
 
-  pub running-asked : n < steps → StepAsked network_text plan_text counts trams links movements times signals arrivals curves places waiting ledger step line taken.state
-  running-asked h =
-      record {
-        tables = r.tables;
-        tram-table = r.tram-table;
-        state-at = r.state-at;
-        more = omega (arith, r.few-steps);
-        lent = r.lent;
-        room = let m : suc (suc n) ≤ suc steps = omega arith in omega (arith, r.room, r.long, mul-le-mul_right (2 * link_count net) m);
-      }
-
-  module _ {after : Taken} {signals' arrivals' curves' places' waiting' ledger' step' line' : List ℕ} (got : StepGot network_text plan_text ledger taken.state after signals' arrivals' curves' places' waiting' ledger' step' line') (h : n < steps) where
-    -- a step is refused
-    pub steps-stopped : {q : Refusal} → after.verdict ≡ Err q → StepsGot network_text plan_text old steps after signals' waiting' ledger'
-    steps-stopped {q} e =
-        record {
-          stopped = λ q' e'. record { step = n; within = h; passed = r.state-at.passed; refused = sym got.told ∙ e'; rows = got.kept q' e' ∙ r.since };
-          reached = λ p. let z : ◌≡◌ {A = ℕ} 0 1 = cc in absurd (omega arith);
-        }
-
-    -- it passes
-    pub running-next : after.verdict ≡ Ok tt → Running network_text plan_text counts steps trams links movements times old after signals' arrivals' curves' places' waiting' ledger' step' line'
-    running-next e =
-        let m : after.state.boundary ≡ suc n = got.boundary e ∙ add-one n in
-        let w = got.row_more e in
+  module _ (h : n < steps) where
+    pub running-asked : StepAsked network_text plan_text counts trams links movements times signals arrivals curves places waiting ledger step line state
+    running-asked =
         record {
           tables = r.tables;
           tram-table = r.tram-table;
-          passes = e;
-          state-at = got.reached e;
-          lent = got.lent e;
-          few-steps = r.few-steps;
-          within = omega (arith, m);
-          since = rw m (w ∙ ap (λ x. written net pln x (suc (suc n))) r.since ∙ written-again net pln old (suc n) (suc (suc n)) (omega arith));
-          long = ap length w ∙ length-written net pln ledger (suc (suc n)) (running-asked h).room ∙ r.long;
-          room = r.room;
+          state-at = r.state-at;
+          more = omega (arith, r.taken, r.few-steps);
+          lent = r.lent;
+          room = let m : suc (suc n) ≤ suc steps = omega arith in rw r.taken (omega (arith, r.room, r.long, mul-le-mul_right (2 * link_count net) m));
         }
 
-    pub running-less : after.verdict ≡ Ok tt → steps - after.state.boundary < steps - n
-    running-less e = omega (arith, got.boundary e)
+    module _ {result : Result State Refusal} {signals' arrivals' curves' places' waiting' ledger' step' line' : List ℕ}
+        (got : StepGot network_text plan_text ledger state result signals' arrivals' curves' places' waiting' ledger' step' line') where
+      -- a step is refused
+      pub steps-stopped : {q : Refusal} → result ≡ Err q → Stopped network_text plan_text old steps q ledger'
+      steps-stopped e =
+          let refused = rw e at got.outcome in
+          record { step = n; within = h; passed = passed-before; refused = rw r.taken at refused.told; rows = refused.kept ∙ r.since }
+
+      -- it passes
+      pub running-next : {next : State} → result ≡ Ok next
+          → Running network_text plan_text counts steps (n + 1) trams links movements times old next signals' arrivals' curves' places' waiting' ledger' step' line'
+      running-next e =
+          let passed = rw e at got.outcome in
+          let w : ledger' ≡ written net pln ledger (suc (suc n)) = rw r.taken at passed.row_more in
+          rw (add-one n) (record {
+            tables = r.tables;
+            tram-table = r.tram-table;
+            taken = omega (arith, passed.boundary, r.taken);
+            state-at = passed.reached;
+            lent = passed.lent;
+            few-steps = r.few-steps;
+            since = w ∙ ap (λ x. written net pln x (suc (suc n))) r.since ∙ written-again net pln old (suc n) (suc (suc n)) (omega arith);
+            long = ap length w ∙ length-written net pln ledger (suc (suc n)) (rw r.taken at running-asked.room) ∙ r.long;
+            room = r.room;
+          })
 
   -- all of them have passed
-  pub steps-taken : steps ≤ n → StepsGot network_text plan_text old steps taken signals waiting ledger
-  steps-taken h =
-      record {
-        stopped = λ q e. let p = r.passes in let z : ◌≡◌ {A = ℕ} 0 1 = cc in absurd (omega arith);
-        reached = λ p. rw (← is) all;
-      }
-    where
-      is : n ≡ steps
-      is = omega (arith, r.within)
-
-      all : AllTaken network_text plan_text old n taken.state signals waiting ledger
-      all =
-          record {
-            passed = r.state-at.passed;
-            plan-starts = r.state-at.plan-starts;
-            signals-at = r.state-at.signals-at;
-            totals-at = r.state-at.totals-at;
-            waiting-at = r.state-at.waiting-at;
-            rows = r.since;
-          }
+  pub steps-taken : n ≡ steps → AllTaken network_text plan_text old steps state signals waiting ledger
+  steps-taken e =
+      rw (← e) (record {
+        passed = passed-before;
+        plan-starts = rw r.taken at r.state-at.plan-starts;
+        signals-at = rw r.taken at r.state-at.signals-at;
+        totals-at = rw r.taken at r.state-at.totals-at;
+        waiting-at = rw r.taken at r.state-at.waiting-at;
+        rows = r.since;
+      })
 
 -- ---- all steps
 module _ {network_text plan_text : List ℕ} {reading : Reading} {links movements times signals₀ old : List ℕ} (a : RunAsked network_text plan_text reading links movements times signals₀ old) where
@@ -323,11 +299,11 @@ module _ {network_text plan_text : List ℕ} {reading : Reading} {links movement
   unfolding ledger_after
   rows_are n d h since = since ∙ ap (written network plan old) (sym (rows-until network plan (length old) n d h))
 
-  module _ {taken : Taken} {signals waiting ledger : List ℕ} (got : StepsGot network_text plan_text old reading.counts.steps taken signals waiting ledger) where
+  module _ {result : Result State Refusal} {signals waiting ledger : List ℕ} (got : StepsGot network_text plan_text old reading.counts.steps result signals waiting ledger) where
     -- a step is refused
-    pub run-refused : {q : Refusal} → taken.verdict ≡ Err q → RunGot network_text plan_text old (Err q) ledger
+    pub run-refused : {q : Refusal} → result ≡ Err q → RunGot network_text plan_text old (Err q) ledger
     run-refused {q} e =
-        let s = got.stopped q e in
+        let s = rw e at got.outcome in
         let more : s.step < step_count network = omega (arith, s.within, a.tables.counted.steps) in
         let d = due s.step (omega arith) s.passed in
         record {
@@ -337,19 +313,19 @@ module _ {network_text plan_text : List ℕ} {reading : Reading} {links movement
         }
 
     -- all have passed
-    pub run-finished : {answer : (Result Totals Refusal)} → taken.verdict ≡ Ok tt → answer ≡ finished plan_text taken.state.plan_at reading.counts.steps taken.state.totals → RunGot network_text plan_text old answer ledger
-    run-finished {answer} p f = go (eqb (length plan) (step_count network)) refl
+    pub run-finished : {state : State} {answer : Result Totals Refusal} → result ≡ Ok state → answer ≡ finished plan_text state.plan_at reading.counts.steps state.totals → RunGot network_text plan_text old answer ledger
+    run-finished {state} {answer} p f = go (eqb (length plan) (step_count network)) refl
       where
-        all : AllTaken network_text plan_text old (step_count network) taken.state signals waiting ledger
-        all = rw a.tables.counted.steps at (got.reached p)
+        all : AllTaken network_text plan_text old (step_count network) state signals waiting ledger
+        all = rw a.tables.counted.steps at (rw p at got.outcome)
 
-        at-end : (b : Bool) → eqb (length plan) (step_count network) ≡ b → at_end plan_text taken.state.plan_at ≡ b
-        at-end b e = plan-ends network_text plan_text taken.state.plan_at (step_count network) all.plan-starts (lines-within network plan (step_count network) all.passed) refl ∙ e
+        at-end : (b : Bool) → eqb (length plan) (step_count network) ≡ b → at_end plan_text state.plan_at ≡ b
+        at-end b e = plan-ends network_text plan_text state.plan_at (step_count network) all.plan-starts (lines-within network plan (step_count network) all.passed) refl ∙ e
 
-        made : (b : Bool) → eqb (length plan) (step_count network) ≡ b → answer ≡ cond b (Ok taken.state.totals) (Err (refusal 9 (reading.counts.steps + 1) 0))
-        made b e = f ∙ (unfold finished in ap (λ x. cond x (Ok taken.state.totals) (Err (refusal 9 (reading.counts.steps + 1) 0))) (at-end b e))
+        made : (b : Bool) → eqb (length plan) (step_count network) ≡ b → answer ≡ cond b (Ok state.totals) (Err (refusal 9 (reading.counts.steps + 1) 0))
+        made b e = f ∙ (unfold finished in ap (λ x. cond x (Ok state.totals) (Err (refusal 9 (reading.counts.steps + 1) 0))) (at-end b e))
 
-        accepted-is : Ok taken.state.totals ≡ plan_answer network plan (Ok tt)
+        accepted-is : Ok state.totals ≡ plan_answer network plan (Ok tt)
         accepted-is = unfold plan_answer in ap Ok all.totals-at
 
         refused-is : (q : Refusal) → Err q ≡ plan_answer network plan (Err q)

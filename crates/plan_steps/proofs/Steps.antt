@@ -126,11 +126,8 @@ module _ {network_text plan_text : List ℕ} {counts : Counts} {table links move
   valid : ValidNetwork net
   valid = valid-network net asked.tables.holds
 
-  pub step-few : n < max_steps
+  step-few : n < max_steps
   step-few = omega (arith, asked.more, counted.steps, counted.few.steps)
-
-  pub line-asked : LineAsked signals counts line₀
-  line-asked = record { few = counted.few; signals-size = asked.state-at.signals-at.size; ready = λ r l. asked.state-at.signals-at.ready r (omega (arith, counted.signals)); size = asked.lent.line-size }
 
   pub load-asked : LoadAsked network_text state.step_at counts.links step₀
   load-asked = load-ready network_text state.step_at n counts.links asked.state-at.step-starts counted.links (step-form net asked.tables.holds n asked.more) counted.few.links asked.lent.step-size
@@ -138,13 +135,10 @@ module _ {network_text plan_text : List ℕ} {counts : Counts} {table links move
   pub tram-asked : ClaimsAsked table counts.trams n (replicate max_signals 0)
   tram-asked = claims-ready asked.tram-table counted valid.trams step-few (length-replicate {A = ℕ} max_signals 0) (λ r l. get_or-replicate {A = ℕ} max_signals r 0 0 l)
 
-  pub place-small : 2 * (n + 1) * counts.links ≤ 5760
-  place-small = let m : 2 * (n + 1) ≤ 240 = omega (arith, step-few) in omega (arith, mul-le-mul_right counts.links m, counted.few.links)
-
   room_after : 2 * suc (suc n) * link_count net ≤ length ledger
   room_after = asked.room
 
-  pub room-before : 2 * n * counts.links ≤ length ledger
+  room-before : 2 * n * counts.links ≤ length ledger
   room-before = rw counted.links (omega (arith, room_after))
 
   row_room : 2 * link_count net ≤ length ledger - 2 * n * counts.links
@@ -176,17 +170,10 @@ module _ {network_text plan_text : List ℕ} {counts : Counts} {table links move
 
     module _ {result : (Option ℕ)} {line : List ℕ} (read : LineGot plan_text state.plan_at signals counts line₀ result line) where
       -- the line has not the form of a `P` line
-      pub step-malformed : result ≡ None → StepGot network_text plan_text ledger state (record { verdict = Err (refusal 9 (n + 1) 0); state = state }) signals arrivals curves places waiting ledger step line
+      pub step-malformed : result ≡ None → StepGot network_text plan_text ledger state (Err (refusal 9 (n + 1) 0)) signals arrivals curves places waiting ledger step line
       step-malformed e =
           let v = line-malformed net pln n (line-bad network_text plan_text valid counted asked.more asked.state-at.plan-starts (shown-at network_text plan_text valid asked.more asked.state-at.signals-at) asked.lent.no-volume asked.lent.line-size read e) in
-          record {
-            told = rw (add-one n) (sym v);
-            kept = λ r q. refl;
-            boundary = λ p. let z : ◌≡◌ {A = ℕ} 0 1 = cc in absurd (omega arith);
-            lent = λ p. let z : ◌≡◌ {A = ℕ} 0 1 = cc in absurd (omega arith);
-            reached = λ p. let z : ◌≡◌ {A = ℕ} 0 1 = cc in absurd (omega arith);
-            row_more = λ p. let z : ◌≡◌ {A = ℕ} 0 1 = cc in absurd (omega arith);
-          }
+          record { outcome = record { told = rw (add-one n) v; kept = refl } }
 
       module _ {plan_end : ℕ} (e : result ≡ Some plan_end) where
         plan-numbers : PlanNumbers net pln n line
@@ -286,16 +273,8 @@ module _ {network_text plan_text : List ℕ} {counts : Counts} {table links move
                     ∙ rules-are asked.tables.holds counted plan-numbers asked.tables.link-table asked.tables.movement-table asked.state-at.signals-at shown claimed offers before after ledger asked.state-at.rows asked.tables.time-table arrivals-at moved.curves-at asked.more
                     ∙ sym (line-formed net pln n is-formed)
 
-                pub step-refused : {r : Refusal} → v ≡ Err r → StepGot network_text plan_text ledger state (record { verdict = v; state = state }) signals arrivals' curves' places' waiting ledger step line
-                step-refused q =
-                    record {
-                      told = line-judged;
-                      kept = λ r p. refl;
-                      boundary = λ p. let z : ◌≡◌ {A = ℕ} 0 1 = cc in absurd (omega arith);
-                      lent = λ p. let z : ◌≡◌ {A = ℕ} 0 1 = cc in absurd (omega arith);
-                      reached = λ p. let z : ◌≡◌ {A = ℕ} 0 1 = cc in absurd (omega arith);
-                      row_more = λ p. let z : ◌≡◌ {A = ℕ} 0 1 = cc in absurd (omega arith);
-                    }
+                pub step-refused : {r : Refusal} → v ≡ Err r → StepGot network_text plan_text ledger state (Err r) signals arrivals' curves' places' waiting ledger step line
+                step-refused q = record { outcome = record { told = sym line-judged ∙ q; kept = refl } }
 
                 module _ (passes : v ≡ Ok tt) (same : length row' ≡ length row) where
                   made : row' ≡ made_row counts line movements (row_from counts ledger n) row
@@ -303,9 +282,6 @@ module _ {network_text plan_text : List ℕ} {counts : Counts} {table links move
 
                   passed-line : verdict (line_checks net pln n) ≡ Ok tt
                   passed-line = sym line-judged ∙ passes
-
-                  pub write-asked : (2 * counts.links ≤ length row') × (2 * (n + 1) * counts.links + 2 * counts.links ≤ length ledger)
-                  write-asked = (omega (arith, same, row-size, counted.few.links), rw counted.links (omega (arith, room_after)))
 
                   lawful : LawfulStep net pln n
                   lawful = passed-lawful net pln n passed-line
@@ -390,13 +366,5 @@ module _ {network_text plan_text : List ℕ} {counts : Counts} {table links move
                           no-volume = λ empty k l. (read.held empty).kept k (omega (arith, counted.signals)) ∙ asked.lent.no-volume empty k l;
                         }
 
-                    pub step_kept : StepGot network_text plan_text ledger state (record { verdict = v; state = next }) signals' arrivals' curves' places' waiting' ledger' step line
-                    step_kept =
-                        record {
-                          told = line-judged;
-                          kept = λ r q. let z : ◌≡◌ {A = ℕ} 0 1 = cc in absurd (omega arith);
-                          boundary = λ p. on.boundary;
-                          reached = λ p. state-next;
-                          lent = λ p. lent-next;
-                          row_more = λ p. rows_written;
-                        }
+                    pub step-passed : StepGot network_text plan_text ledger state (Ok next) signals' arrivals' curves' places' waiting' ledger' step line
+                    step-passed = record { outcome = record { told = passed-line; boundary = on.boundary; reached = state-next; lent = lent-next; row_more = rows_written } }

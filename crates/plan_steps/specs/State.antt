@@ -1,5 +1,5 @@
 -- What taking the steps of a plan one after another asks and promises.
-use Rattle.std.specs.Prelude.{ℕ, suc, ◌+◌, ◌*◌, ◌≤◌, ◌<◌, ◌≡◌, cond, List, length, get_or, Result, Ok, Err}
+use Rattle.std.specs.Prelude.{ℕ, suc, ◌+◌, ◌*◌, ◌≤◌, ◌<◌, ◌≡◌, cond, List, length, get_or, Result, Ok, Err, MatchResult}
 use Rattle.base_search.specs.declared.Refusal.{Refusal}
 use Rattle.base_search.specs.Checks.{refusal, verdict, Hold}
 use Rattle.text_reader.specs.Lines.{lines}
@@ -19,7 +19,6 @@ use Rattle.step_past.specs.Curves.{CurvesAt}
 use Rattle.step_rows.specs.Waiting.{waiting_in, WaitingTable}
 use Rattle.step_signals.specs.Step.{SignalsAt}
 use Rattle.plan_steps.specs.declared.State.{State}
-use Rattle.plan_steps.specs.declared.Taken.{Taken}
 use Rattle.plan_steps.specs.Totals.{totals_after, TotalsAsked}
 use Rattle.plan_steps.specs.PlanLine.{PlanAt}
 
@@ -75,15 +74,22 @@ pub record StepAsked (network_text plan_text : List ℕ) (counts : Counts) (tram
   pub lent : LinesLent network_text plan_text step line
   pub room : 2 * suc (suc state.boundary) * link_count (lines network_text) ≤ length ledger
 
--- .. and promises: the verdict on the step's line; where it is refused, the ledger is what it was, and where it passes, the next state is reached and the ledger
--- has one row more
-pub record StepGot (network_text plan_text old : List ℕ) (state : State) (taken : Taken) (signals arrivals curves places waiting ledger step line : List ℕ) : Type 0 where
-  pub told : taken.verdict ≡ verdict (line_checks (lines network_text) (plan_of network_text plan_text) state.boundary)
-  pub kept : (r : Refusal) → taken.verdict ≡ Err r → ledger ≡ old
-  pub boundary : taken.verdict ≡ Ok tt → taken.state.boundary ≡ state.boundary + 1
-  pub reached : taken.verdict ≡ Ok tt → StateAt network_text plan_text taken.state signals arrivals curves places waiting ledger
-  pub lent : taken.verdict ≡ Ok tt → LinesLent network_text plan_text step line
-  pub row_more : taken.verdict ≡ Ok tt → ledger ≡ written (lines network_text) (plan_of network_text plan_text) old (suc (suc state.boundary))
+-- .. and promises: a step that is refused leaves the ledger as it was; one that passes reaches the next state, and the ledger has one row more
+pub record StepRefused (network_text plan_text old : List ℕ) (state : State) (r : Refusal) (ledger : List ℕ) : Type 0 where
+  pub told : verdict (line_checks (lines network_text) (plan_of network_text plan_text) state.boundary) ≡ Err r
+  pub kept : ledger ≡ old
+
+pub record StepPassed (network_text plan_text old : List ℕ) (state next : State) (signals arrivals curves places waiting ledger step line : List ℕ) : Type 0 where
+  pub told : verdict (line_checks (lines network_text) (plan_of network_text plan_text) state.boundary) ≡ Ok tt
+  pub boundary : next.boundary ≡ state.boundary + 1
+  pub reached : StateAt network_text plan_text next signals arrivals curves places waiting ledger
+  pub lent : LinesLent network_text plan_text step line
+  pub row_more : ledger ≡ written (lines network_text) (plan_of network_text plan_text) old (suc (suc state.boundary))
+
+pub record StepGot (network_text plan_text old : List ℕ) (state : State) (result : Result State Refusal) (signals arrivals curves places waiting ledger step line : List ℕ) : Type 0 where
+  pub outcome : MatchResult result
+      (λ next. StepPassed network_text plan_text old state next signals arrivals curves places waiting ledger step line)
+      (λ r. StepRefused network_text plan_text old state r ledger)
 
 -- the answer once all steps have passed: the plan's text is at its end, or one line more is refused
 unfoldable pub finished : List ℕ → ℕ → ℕ → Totals → Result Totals Refusal

@@ -1,5 +1,5 @@
 -- What taking the steps of a plan one after another asks and promises: the first of them, and all.
-use Rattle.std.specs.Prelude.{ℕ, suc, ◌*◌, ◌≤◌, ◌<◌, ◌≡◌, List, length, Result, Ok, Err}
+use Rattle.std.specs.Prelude.{ℕ, suc, ◌*◌, ◌≤◌, ◌<◌, ◌≡◌, List, length, Result, Ok, Err, MatchResult}
 use Rattle.base_search.specs.declared.Refusal.{Refusal}
 use Rattle.base_search.specs.Checks.{verdict}
 use Rattle.text_reader.specs.Lines.{lines}
@@ -15,7 +15,6 @@ use Rattle.network_tables.specs.Tables.{SignalTable, TramTable}
 use Rattle.step_rows.specs.Waiting.{WaitingTable}
 use Rattle.step_signals.specs.Step.{SignalsAt}
 use Rattle.plan_steps.specs.declared.State.{State}
-use Rattle.plan_steps.specs.declared.Taken.{Taken}
 use Rattle.plan_steps.specs.State.{Tables, StateAt, LinesLent}
 use Rattle.plan_steps.specs.PlanLine.{PlanAt}
 use Rattle.model.specs.declared.Totals.{Totals}
@@ -64,19 +63,19 @@ pub record AllTaken (network_text plan_text old : List ℕ) (steps : ℕ) (state
   pub rows : ledger ≡ written (lines network_text) (plan_of network_text plan_text) old (suc steps)
 
 -- what taking the first steps promises, since the ledger was `old`
-pub record StepsGot (network_text plan_text old : List ℕ) (steps : ℕ) (taken : Taken) (signals waiting ledger : List ℕ) : Type 0 where
-  pub stopped : (r : Refusal) → taken.verdict ≡ Err r → Stopped network_text plan_text old steps r ledger
-  pub reached : taken.verdict ≡ Ok tt → AllTaken network_text plan_text old steps taken.state signals waiting ledger
+pub record StepsGot (network_text plan_text old : List ℕ) (steps : ℕ) (result : Result State Refusal) (signals waiting ledger : List ℕ) : Type 0 where
+  pub outcome : MatchResult result
+      (λ state. AllTaken network_text plan_text old steps state signals waiting ledger)
+      (λ r. Stopped network_text plan_text old steps r ledger)
 
--- the state while they are taken
-pub record Running (network_text plan_text : List ℕ) (counts : Counts) (steps : ℕ) (trams links movements times old : List ℕ) (taken : Taken) (signals arrivals curves places waiting ledger step line : List ℕ) : Type 0 where
+-- the state after `done` of them, while they are taken
+pub record Running (network_text plan_text : List ℕ) (counts : Counts) (steps done : ℕ) (trams links movements times old : List ℕ) (state : State) (signals arrivals curves places waiting ledger step line : List ℕ) : Type 0 where
   pub tables : Tables network_text counts links movements times
   pub tram-table : TramTable (lines network_text) trams
-  pub passes : taken.verdict ≡ Ok tt
-  pub state-at : StateAt network_text plan_text taken.state signals arrivals curves places waiting ledger
+  pub taken : state.boundary ≡ done
+  pub state-at : StateAt network_text plan_text state signals arrivals curves places waiting ledger
   pub lent : LinesLent network_text plan_text step line
   pub few-steps : steps ≤ step_count (lines network_text)
-  pub within : taken.state.boundary ≤ steps
-  pub since : ledger ≡ written (lines network_text) (plan_of network_text plan_text) old (suc taken.state.boundary)
+  pub since : ledger ≡ written (lines network_text) (plan_of network_text plan_text) old (suc done)
   pub long : length ledger ≡ length old
   pub room : 2 * suc steps * link_count (lines network_text) ≤ length old

@@ -11,7 +11,7 @@ ghost use Rattle.model.specs.Network.{max_steps};
 use base_search::Refusal;
 use model::Totals;
 use network_tables::{
-    Counts, LINE_SIZE, MAX_LINKS, MAX_SIGNALS, ROW_SIZE, Reading, STEP_SIZE, TRAM_TABLE_SIZE, wide,
+    Counts, LINE_SIZE, MAX_LINKS, MAX_SIGNALS, ROW_SIZE, Reading, STEP_SIZE, TRAM_TABLE_SIZE,
 };
 
 // The state at a boundary: where the `S` and the `P` line of the next step start, the totals so far, and how many wait outside. The signals stand in a table that
@@ -25,19 +25,12 @@ pub struct State {
     pub outside: u64,
 }
 
-// What a step comes to: the verdict on it, and where it passes the state after it.
-#[derive(Clone, Copy)]
-pub struct Taken {
-    pub verdict: Result<(), Refusal>,
-    pub state: State,
-}
-
 // Length × (vehicles under way at the step's start + at its end).
 fn travel_time(seconds: u32, start: u64, end: u64) -> u64
     requires { (seconds ≤ 60) × (start ≤ 192220015080) × (end ≤ 192220015080) }
     ensures { (result ≡ seconds * (start + end)) × (result ≤ 23066401809600) }
 {
-    wide(seconds) * (start + end)
+    u64::from(seconds) * (start + end)
 }
 
 // The totals with one step more. What is inside changes by what the step admits and lets out; those who wait outside, so many before the step and after it, are in its travel time alone.
@@ -73,10 +66,9 @@ fn next_state(state: State, step: &[u32], line: &[u32], waiting: &[u32], counts:
     let totals = add_step(state.totals, state.outside, outside, line, step, counts);
     State {
         boundary: state.boundary + 1,
-        step_at: state.step_at,
-        plan_at: state.plan_at,
         totals,
         outside,
+        ..state
     }
 }
 
@@ -98,8 +90,8 @@ pub fn read_line(
     network_tables::read_row(plan, at, b'P', line, 0, counts.plan_width())
 }
 
-// Takes the next step: reads its `S` and `P` lines, and what trams ask in it, judges it and, where every rule is kept, writes the row after it into the ledger.
-// The tables of the two lines are lent from step to step, so that they need not be cleared anew.
+// Takes the next step: reads its `S` and `P` lines, and what trams ask in it, judges it and, where every rule is kept, writes the row after it into the ledger
+// and gives the state there. The tables of the two lines are lent from step to step, so that they need not be cleared anew.
 fn take_step(
     network: &[u8],
     plan: &[u8],
@@ -117,7 +109,7 @@ fn take_step(
     step: &mut [u32],
     line: &mut [u32],
     mut state: State,
-) -> Taken
+) -> Result<State, Refusal>
     requires { StepAsked network.now plan.now counts trams.now links.now movements.now times.now signals.old arrivals.old curves.old places.old waiting.old ledger.old step.old line.old state }
     ensures { StepGot network.now plan.now ledger.old state result signals.new arrivals.new curves.new places.new waiting.new ledger.new step.new line.new }
 {
@@ -127,10 +119,8 @@ fn take_step(
     let n = state.boundary;
     let step_end = network_steps::load_step(network, state.step_at, counts.links, step);
     step_rows::add_waiting(waiting, counts.links, step);
-    let read = read_line(plan, state.plan_at, signals, counts, line);
-    let Some(plan_end) = read else {
-        let verdict = Err(Refusal::new(9, n + 1, 0));
-        return Taken { verdict, state };
+    let Some(plan_end) = read_line(plan, state.plan_at, signals, counts, line) else {
+        return Err(Refusal::new(9, n + 1, 0));
     };
     step_signals::shown_phases(signals, counts.signals, line, &mut phases);
     network_trams::tram_phases(trams, counts.trams, n, &mut asked);
@@ -148,19 +138,13 @@ fn take_step(
         signals, line, step, links, movements, &phases, &asked, ledger, times, arrivals, curves,
         &mut row, counts, n,
     );
-    let Ok(()) = verdict else {
-        return Taken { verdict, state };
-    };
+    verdict?;
     step_rows::write_row(ledger, 2 * (n + 1) * counts.links, &row, 2 * counts.links);
     step_rows::next_waiting(step, line, counts, waiting);
     step_signals::advance(signals, counts.signals, &phases, &asked, step[0]);
     state.step_at = step_end;
     state.plan_at = plan_end;
-    let next = next_state(state, step, line, waiting, counts);
-    Taken {
-        verdict,
-        state: next,
-    }
+    Ok(next_state(state, step, line, waiting, counts))
 }
 
 // The answer once all steps have passed.
@@ -175,8 +159,8 @@ fn finish(plan: &[u8], at: usize, steps: usize, totals: Totals) -> Result<Totals
     }
 }
 
-// Takes the first steps, so many, one after another, up to the first that is refused: row 0 is written, and the past gives what arrives before time 0. `signals`
-// and `waiting` have what the signals show and who waits after them.
+// Takes the first steps, so many, one after another, up to the first that is refused: row 0 is written, and the past gives what arrives before time 0. The state
+// is that after them; `signals` and `waiting` have what the signals show and who waits there.
 pub fn take_steps(
     network: &[u8],
     plan: &[u8],
@@ -188,7 +172,7 @@ pub fn take_steps(
     signals: &mut [u32],
     waiting: &mut [u32],
     ledger: &mut [u32],
-) -> Taken
+) -> Result<State, Refusal>
     requires { StepsAsked network.now plan.now reading steps links.now movements.now times.now signals.old waiting.old ledger.old }
     ensures { StepsGot network.now plan.now ledger.old steps result signals.new waiting.new ledger.new }
 {
@@ -216,22 +200,17 @@ pub fn take_steps(
         inside: step_rows::held_in(ledger, counts.links),
         doubled_time: 0,
     };
-    let state = State {
+    let mut state = State {
         boundary: 0,
         step_at: reading.steps_at,
         plan_at: 0,
         totals,
         outside: step_rows::sum_of(waiting, 0, counts.links),
     };
-    let mut taken = Taken {
-        verdict: Ok(()),
-        state,
-    };
     let mut step = [0u32; STEP_SIZE];
     let mut line = [0u32; LINE_SIZE];
-    while taken.state.boundary < steps {
-        let state = taken.state;
-        taken = take_step(
+    for _ in 0..steps {
+        state = take_step(
             network,
             plan,
             counts,
@@ -248,13 +227,9 @@ pub fn take_steps(
             &mut step,
             &mut line,
             state,
-        );
-        let verdict = taken.verdict;
-        let Ok(()) = verdict else {
-            return taken;
-        };
+        )?;
     }
-    taken
+    Ok(state)
 }
 
 // Takes all steps, from the signals before the plan on. A plan with more lines than steps is refused after the last.
@@ -273,7 +248,7 @@ pub fn run_steps(
 {
     let mut waiting = [0u32; MAX_LINKS];
     let steps = reading.counts.steps;
-    let taken = take_steps(
+    let state = take_steps(
         network,
         plan,
         reading,
@@ -284,11 +259,6 @@ pub fn run_steps(
         signals,
         &mut waiting,
         ledger,
-    );
-    let verdict = taken.verdict;
-    if let Err(refusal) = verdict {
-        return Err(refusal);
-    }
-    let totals = taken.state.totals;
-    finish(plan, taken.state.plan_at, steps, totals)
+    )?;
+    finish(plan, state.plan_at, steps, state.totals)
 }

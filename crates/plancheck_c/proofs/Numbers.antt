@@ -13,7 +13,7 @@ use Rattle.model.specs.Guarantees.{network_numbers, state_numbers, plan_numbers}
 use Rattle.model.proofs.Numbers.{network-numbered, plan-numbered, state-numbered}
 use Rattle.network.specs.Counting.{counts_answer, count_network}
 use Rattle.model_text.specs.Answers.{text_answer}
-use Rattle.listing_lines.specs.declared.Entry.{Entry}
+use Rattle.listing_lines.specs.Entry.{Entry}
 use Rattle.listing_call.specs.Listing.{listing_numbers, write_checks as listing_checks, plan_from_listing}
 use Rattle.listing_call.proofs.Call.{write-numbered as listing-numbered}
 use Rattle.model_carry.specs.Call.{carry_numbers, carry_checks, carry_on}

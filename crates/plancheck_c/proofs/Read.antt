@@ -2,18 +2,22 @@
 use Rattle.base_laws.proofs.Kit.{ℕ, ◌≡◌, refl, sym, subst, false, List, arith, ne_eqb, eqb}
 use Rattle.base_search.specs.declared.Refusal.{Refusal}
 use Rattle.base_search.specs.Numbers.{CanArise}
+use Rattle.plan_compare.specs.declared.Order.{Order}
 use Rattle.plan_compare.specs.declared.Order.TheVariants.{Ahead, Behind, Equal, Crossing}
-use Rattle.plan_compare.specs.declared.ComparisonAnswer.{ComparisonAnswer}
-use Rattle.plan_compare.specs.declared.ComparisonAnswer.TheVariants as comparison-answer
-use Rattle.cells_call.specs.declared.CellsAnswer.{CellsAnswer}
-use Rattle.cells_call.specs.declared.CellsAnswer.TheVariants as cells-answer
+use Rattle.cells_call.specs.declared.CellsRun.{CellsRun}
+use Rattle.cells_call.specs.Call.{zeros}
+use Rattle.plancheck_c.specs.declared.CellsResult.{CellsResult}
+use Rattle.plan_compare.specs.declared.Comparison.{Comparison}
+use Rattle.plan_compare.specs.declared.ComparisonRefusal.{ComparisonRefusal}
+use Rattle.plan_compare.specs.declared.ComparisonRefusal.TheVariants.{Network, First, Second}
+use Rattle.plan_compare.specs.Comparison.{refusal_in}
 use Rattle.plancheck_c.specs.declared.NetworkResult.{NetworkResult}
 use Rattle.plancheck_c.specs.declared.PlanResult.{PlanResult}
 use Rattle.plancheck_c.specs.declared.TextResult.{TextResult}
 use Rattle.plancheck_c.specs.declared.ComparisonResult.{ComparisonResult}
 use Rattle.plancheck_c.specs.declared.SplitResult.{SplitResult}
-use Rattle.plancheck_c.specs.Results.{verdict_result, verdict_of, plan_result, plan_answer_of, text_result, text_answer_of, comparison_result, comparison_answer_of, split_result, split_answer_of, cells_result, cells_answer_of}
-use Rattle.std.specs.Prelude.{Result, Ok, Err}
+use Rattle.plancheck_c.specs.Results.{verdict_result, verdict_of, plan_result, plan_answer_of, text_result, text_answer_of, comparison_result, comparison_answer_of, split_result, split_answer_of, cells_result, cells_answer_of, order_number, order_of}
+use Rattle.std.specs.Prelude.{Result, Ok, Err, MatchResult}
 use Rattle.model_split.specs.declared.Lengths.{Lengths}
 use Rattle.model.specs.declared.Totals.{Totals}
 use Rattle.base_search.specs.Checks.{Verdict}
@@ -50,21 +54,28 @@ module _ {numbers : List ℕ} where
   pub of-split : (P : Result Lengths Refusal → Type 0) (a : Result Lengths Refusal) (r : SplitResult) → r ≡ split_result a → ((q : Refusal) → a ≡ Err q → CanArise numbers q.number) → P a → P (split_answer_of r)
   of-split P a r e h p = rw e (subst P (sym (split-back a h)) p)
 
-  comparison-back : (a : ComparisonAnswer) → ((plan : ℕ) (q : Refusal) → a ≡ comparison-answer.Refused plan q → CanArise numbers q.number) → comparison_answer_of (comparison_result a) ≡ a
-  comparison-back (comparison-answer.Compared Ahead gap) h = refl
-  comparison-back (comparison-answer.Compared Behind gap) h = refl
-  comparison-back (comparison-answer.Compared Equal gap) h = refl
-  comparison-back (comparison-answer.Compared Crossing gap) h = refl
-  comparison-back (comparison-answer.Refused plan r) h = rw (not-zero r (h plan r refl))
+  order-back : (o : Order) → order_of (order_number o) ≡ o
+  order-back Ahead = refl
+  order-back Behind = refl
+  order-back Equal = refl
+  order-back Crossing = refl
 
-  pub of-comparison : (P : ComparisonAnswer → Type 0) (a : ComparisonAnswer) (r : ComparisonResult) → r ≡ comparison_result a
-      → ((plan : ℕ) (q : Refusal) → a ≡ comparison-answer.Refused plan q → CanArise numbers q.number) → P a → P (comparison_answer_of r)
+  comparison-back : (a : Result Comparison ComparisonRefusal) → ((q : ComparisonRefusal) → a ≡ Err q → CanArise numbers (refusal_in q).number) → comparison_answer_of (comparison_result a) ≡ a
+  comparison-back (Ok c) h = rw (order-back c.order)
+  comparison-back (Err (Network r)) h = rw (not-zero r (h (Network r) refl))
+  comparison-back (Err (First r)) h = rw (not-zero r (h (First r) refl))
+  comparison-back (Err (Second r)) h = rw (not-zero r (h (Second r) refl))
+
+  pub of-comparison : (P : Result Comparison ComparisonRefusal → Type 0) (a : Result Comparison ComparisonRefusal) (r : ComparisonResult) → r ≡ comparison_result a
+      → ((q : ComparisonRefusal) → a ≡ Err q → CanArise numbers (refusal_in q).number) → P a → P (comparison_answer_of r)
   of-comparison P a r e h p = rw e (subst P (sym (comparison-back a h)) p)
 
-  cells-back : (a : CellsAnswer) (volumes : List ℕ) → ((q : Refusal) → a ≡ cells-answer.Refused q → CanArise numbers q.number) → cells_answer_of (cells_result a volumes) ≡ a
-  cells-back (cells-answer.Ran cells entered left) volumes h = refl
-  cells-back (cells-answer.Refused r) volumes h = rw (not-zero r (h r refl))
+  -- the volumes of a run; of a refusal, all 0
+  cells-back : (a : Result CellsRun Refusal) (volumes : List ℕ) → MatchResult a (λ run. run.volumes ≡ volumes) (λ r. volumes ≡ zeros 64)
+      → ((q : Refusal) → a ≡ Err q → CanArise numbers q.number) → cells_answer_of (cells_result a volumes) ≡ a
+  cells-back (Ok run) volumes v h = rw (← v)
+  cells-back (Err r) volumes v h = rw (not-zero r (h r refl))
 
-  pub of-cells : (P : CellsAnswer → Type 0) (a : CellsAnswer) (volumes : List ℕ) → ((q : Refusal) → a ≡ cells-answer.Refused q → CanArise numbers q.number) → P a
-      → P (cells_answer_of (cells_result a volumes))
-  of-cells P a volumes h p = subst P (sym (cells-back a volumes h)) p
+  pub of-cells : (P : Result CellsRun Refusal → Type 0) (a : Result CellsRun Refusal) (volumes : List ℕ) (r : CellsResult) → r ≡ cells_result a volumes
+      → MatchResult a (λ run. run.volumes ≡ volumes) (λ r. volumes ≡ zeros 64) → ((q : Refusal) → a ≡ Err q → CanArise numbers q.number) → P a → P (cells_answer_of r)
+  of-cells P a volumes r e v h p = rw e (subst P (sym (cells-back a volumes v h)) p)

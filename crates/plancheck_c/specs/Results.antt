@@ -2,14 +2,14 @@
 use Rattle.std.specs.Prelude.{ℕ, cond, List, ◌≡◌, ◌≢◌, eqb, pos, Result, Ok, Err}
 use Rattle.base_search.specs.Checks.{refusal, Checks, Hold, Verdict}
 use Rattle.base_search.specs.Numbers.{CanArise}
-use Rattle.network.specs.declared.CountsAnswer.{CountsAnswer}
-use Rattle.network.specs.declared.CountsAnswer.TheVariants as counts-answer
+use Rattle.network_tables.specs.declared.Counts.{Counts}
 use Rattle.plan_compare.specs.declared.Order.{Order}
 use Rattle.plan_compare.specs.declared.Order.TheVariants.{Ahead, Behind, Equal, Crossing}
-use Rattle.plan_compare.specs.declared.ComparisonAnswer.{ComparisonAnswer}
-use Rattle.plan_compare.specs.declared.ComparisonAnswer.TheVariants as comparison-answer
-use Rattle.cells_call.specs.declared.CellsAnswer.{CellsAnswer}
-use Rattle.cells_call.specs.declared.CellsAnswer.TheVariants as cells-answer
+use Rattle.cells_call.specs.declared.CellsRun.{CellsRun}
+use Rattle.plan_compare.specs.declared.Comparison.{Comparison}
+use Rattle.plan_compare.specs.declared.ComparisonRefusal.{ComparisonRefusal}
+use Rattle.plan_compare.specs.declared.ComparisonRefusal.TheVariants.{Network, First, Second}
+use Rattle.plan_compare.specs.Comparison.{plan_number, refusal_in}
 use Rattle.plancheck_c.specs.declared.NetworkResult.{NetworkResult}
 use Rattle.plancheck_c.specs.declared.CountsResult.{CountsResult}
 use Rattle.plancheck_c.specs.declared.VersionResult.{VersionResult}
@@ -38,10 +38,10 @@ verdict_result (Err r) = record { number = r.number; line = r.line; item = r.ite
 abbrev pub verdict_of : NetworkResult → Verdict
 verdict_of r = cond (eqb r.number 0) (Ok tt) (Err (refusal r.number r.line r.item))
 
-abbrev pub counts_result : CountsAnswer → CountsResult
-counts_result (counts-answer.Counted links signals movements steps trams past) =
-    record { number = 0; line = 0; item = 0; links = links; signals = signals; movements = movements; steps = steps; trams = trams; past = past }
-counts_result (counts-answer.Refused r) =
+abbrev pub counts_result : Result Counts Refusal → CountsResult
+counts_result (Ok c) =
+    record { number = 0; line = 0; item = 0; links = c.links; signals = c.signals; movements = c.movements; steps = c.steps; trams = c.trams; past = c.past }
+counts_result (Err r) =
     record { number = r.number; line = r.line; item = r.item; links = 0; signals = 0; movements = 0; steps = 0; trams = 0; past = 0 }
 
 -- the version of the calls, of their answers and of the texts (CHANGELOG.md)
@@ -72,16 +72,17 @@ text_result (Err r) = record { number = r.number; line = r.line; item = r.item; 
 abbrev pub text_answer_of : TextResult → Result ℕ Refusal
 text_answer_of r = cond (eqb r.number 0) (Ok r.length) (Err (refusal r.number r.line r.item))
 
-abbrev pub cells_result : CellsAnswer → List ℕ → CellsResult
-cells_result (cells-answer.Ran cells flow_in flow_out) volumes =
-    record { number = 0; line = 0; item = 0; cells = cells; flow_in = flow_in; flow_out = flow_out; volumes = volumes }
-cells_result (cells-answer.Refused r) volumes =
+abbrev pub cells_result : Result CellsRun Refusal → List ℕ → CellsResult
+cells_result (Ok run) volumes =
+    record { number = 0; line = 0; item = 0; cells = run.cells; flow_in = run.flow_in; flow_out = run.flow_out; volumes = volumes }
+cells_result (Err r) volumes =
     record { number = r.number; line = r.line; item = r.item; cells = 0; flow_in = 0; flow_out = 0; volumes = volumes }
 
 -- the answer that a C caller reads off: number 0 is a corridor that was run, any other a refusal
-abbrev pub cells_answer_of : CellsResult → CellsAnswer
+abbrev pub cells_answer_of : CellsResult → Result CellsRun Refusal
 cells_answer_of r =
-    cond (eqb r.number 0) (cells-answer.Ran r.cells r.flow_in r.flow_out) (cells-answer.Refused (refusal r.number r.line r.item))
+    cond (eqb r.number 0) (Ok (record { cells = r.cells; flow_in = r.flow_in; flow_out = r.flow_out; volumes = r.volumes }))
+    (Err (refusal r.number r.line r.item))
 
 -- the number of an order, and the order that a C caller reads off
 abbrev pub order_number : Order → ℕ
@@ -93,15 +94,21 @@ order_number Crossing = 4
 abbrev pub order_of : ℕ → Order
 order_of number = cond (eqb number 1) Ahead (cond (eqb number 2) Behind (cond (eqb number 3) Equal Crossing))
 
-abbrev pub comparison_result : ComparisonAnswer → ComparisonResult
-comparison_result (comparison-answer.Compared order gap) = record { number = 0; line = 0; item = 0; plan = 0; order = order_number order; gap = gap }
-comparison_result (comparison-answer.Refused plan r) = record { number = r.number; line = r.line; item = r.item; plan = plan; order = 0; gap = pos 0 }
+-- the refusal of the network, 0, or of a plan, 1 or 2, that a C caller reads off
+abbrev pub refusal_of_plan : ℕ → Refusal → ComparisonRefusal
+refusal_of_plan plan r = cond (eqb plan 0) (Network r) (cond (eqb plan 1) (First r) (Second r))
+
+abbrev pub comparison_result : Result Comparison ComparisonRefusal → ComparisonResult
+comparison_result (Ok c) = record { number = 0; line = 0; item = 0; plan = 0; order = order_number c.order; gap = c.gap }
+comparison_result (Err refused) =
+    let r = refusal_in refused in
+    record { number = r.number; line = r.line; item = r.item; plan = plan_number refused; order = 0; gap = pos 0 }
 
 -- the answer that a C caller reads off: number 0 is two plans that were compared, any other a refusal
-abbrev pub comparison_answer_of : ComparisonResult → ComparisonAnswer
+abbrev pub comparison_answer_of : ComparisonResult → Result Comparison ComparisonRefusal
 comparison_answer_of r =
-    cond (eqb r.number 0) (comparison-answer.Compared (order_of r.order) r.gap)
-    (comparison-answer.Refused r.plan (refusal r.number r.line r.item))
+    cond (eqb r.number 0) (Ok (record { order = order_of r.order; gap = r.gap }))
+    (Err (refusal_of_plan r.plan (refusal r.number r.line r.item)))
 
 abbrev pub split_result : Result Lengths Refusal → SplitResult
 split_result (Ok end) =

@@ -31,11 +31,9 @@ ghost use Rattle.model_split.specs.Splits.{SplitInTwo, room_of};
 ghost use Rattle.split.specs.Splitting.{texts, buffers, SplitGot};
 ghost use Rattle.plancheck_c.specs.Results.{NumberTells, verdict_result, verdict_of, counts_result, version, plan_result, plan_answer_of, link_result, text_result, text_answer_of, order_number, comparison_result, comparison_answer_of, split_result, split_answer_of, cells_result, cells_answer_of};
 
-use cells_call::CellsAnswer;
-use model::{LinkAnswer, LinkState, Totals};
-use network::CountsAnswer;
-use plan_compare::{ComparisonAnswer, Order};
 use base_search::Refusal;
+use model::{LinkState, Totals};
+use plan_compare::{Comparison, Order};
 
 // The answer of a network's check or of a step of vehicles; number 0: the network is valid, the vehicles have moved.
 #[repr(C)]
@@ -176,25 +174,18 @@ pub extern "C" fn plancheck_network_counts(network: &[u8]) -> CountsResult
     ensures padding_ignored { PaddingIgnored network.now (λ padded. result ≡ counts_result (count_network (lines padded))) }
 {
     match network::count_network(network) {
-        CountsAnswer::Counted {
-            links,
-            signals,
-            movements,
-            steps,
-            trams,
-            past,
-        } => CountsResult {
+        Ok(counts) => CountsResult {
             number: 0,
             line: 0,
             item: 0,
-            links,
-            signals,
-            movements,
-            steps,
-            trams,
-            past,
+            links: counts.links as u32,
+            signals: counts.signals as u32,
+            movements: counts.movements as u32,
+            steps: counts.steps as u32,
+            trams: counts.trams as u32,
+            past: counts.past as u32,
         },
-        CountsAnswer::Refused(r) => CountsResult {
+        Err(r) => CountsResult {
             number: r.number,
             line: r.line,
             item: r.item,
@@ -301,7 +292,7 @@ pub extern "C" fn plancheck_link_state(
     ensures padding_ignored { PaddingIgnored network.now (λ padded. result ≡ link_result (link_state (lines padded) ledger.now boundary link)) }
 {
     match plan_link_state::link_state(network, ledger, boundary, link) {
-        LinkState { queued, in_transit } => LinkResult {
+        Ok(LinkState { queued, in_transit }) => LinkResult {
             number: 0,
             line: 0,
             item: 0,
@@ -394,7 +385,7 @@ pub extern "C" fn plancheck_compare_plans(
     ensures padding_ignored { PaddingIgnored network.now (λ padded_network. PaddingIgnored first.now (λ padded_first. PaddingIgnored second.now (λ padded_second. ComparisonGot padded_network padded_first padded_second first_ledger.old second_ledger.old (comparison_answer_of result) first_ledger.new second_ledger.new))) }
 {
     match plan_compare::compare_plans(network, first, second, first_ledger, second_ledger) {
-        ComparisonAnswer::Compared { order, gap } => ComparisonResult {
+        Ok(Comparison { order, gap }) => ComparisonResult {
             number: 0,
             line: 0,
             item: 0,
@@ -402,14 +393,17 @@ pub extern "C" fn plancheck_compare_plans(
             order: order_number(order),
             gap,
         },
-        ComparisonAnswer::Refused { plan, refusal: r } => ComparisonResult {
-            number: r.number,
-            line: r.line,
-            item: r.item,
-            plan,
-            order: 0,
-            gap: 0,
-        },
+        Err(refused) => {
+            let r = refused.refusal();
+            ComparisonResult {
+                number: r.number,
+                line: r.line,
+                item: r.item,
+                plan: refused.plan(),
+                order: 0,
+                gap: 0,
+            }
+        }
     }
 }
 
@@ -470,35 +464,31 @@ pub extern "C" fn plancheck_step_vehicles(
 #[unsafe(no_mangle)]
 pub extern "C" fn plancheck_run_cells(corridor: &[u8]) -> CellsResult
     ensures value { result ≡ cells_result (run_cells (lines corridor.now)) (final_volumes (lines corridor.now)) }
-    ensures run_keeps { RunKeeps (lines corridor.now) (cells_answer_of result) result.volumes }
+    ensures run_keeps { RunKeeps (lines corridor.now) (cells_answer_of result) }
     ensures number_tells { NumberTells (corridor_checks (lines corridor.now)) cells_numbers result.number }
     ensures padding_ignored { PaddingIgnored corridor.now (λ padded. result ≡ cells_result (run_cells (lines padded)) (final_volumes (lines padded))) }
 {
-    let run = cells_call::run_cells(corridor);
-    let answer = run.answer;
-    let volumes = run.volumes;
-    match answer {
-        CellsAnswer::Ran {
-            cells,
-            flow_in,
-            flow_out,
-        } => CellsResult {
-            number: 0,
-            line: 0,
-            item: 0,
-            cells,
-            flow_in,
-            flow_out,
-            volumes,
-        },
-        CellsAnswer::Refused(r) => CellsResult {
+    match cells_call::run_cells(corridor) {
+        Ok(run) => {
+            let volumes = run.volumes;
+            CellsResult {
+                number: 0,
+                line: 0,
+                item: 0,
+                cells: run.cells,
+                flow_in: run.flow_in,
+                flow_out: run.flow_out,
+                volumes,
+            }
+        }
+        Err(r) => CellsResult {
             number: r.number,
             line: r.line,
             item: r.item,
             cells: 0,
             flow_in: 0,
             flow_out: 0,
-            volumes,
+            volumes: [0; 64],
         },
     }
 }

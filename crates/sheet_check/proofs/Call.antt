@@ -8,7 +8,7 @@ use Rattle.text_reader.specs.Padding.{PaddingIgnored}
 use Rattle.text_reader.proofs.Padding.{same_lines}
 use Rattle.text_reader.proofs.Laws.{starts_first}
 use Rattle.model.specs.declared.Totals.{Totals}
-use Rattle.model.specs.Network.{max_signals, signal_count, step_count, time}
+use Rattle.model.specs.Network.{max_signals, signal_count, step_count}
 use Rattle.model.specs.Table.{network_checks, ledger_checks, plan_line_checks, plan_checks}
 use Rattle.model.specs.Hold.{plan_of}
 use Rattle.model.specs.Calls.{plan_answer, check_plan}
@@ -82,8 +82,8 @@ module _ {network_text plan_text table : List ℕ} {reading : Reading} (asked : 
   trams-asked room = trams-ready network_text reading.trams_at asked.network-held.trams-start asked.network-held.counted asked.network-held.holds room
 
   module _ {pass : Pass} {signals : List ℕ} (inv : Passing network_text plan_text table pass signals) where
-    pub passing-asked : {trams : List ℕ} → TramTable net trams → pass.boundary < reading.counts.steps → StepAsked network_text plan_text table reading trams signals pass
-    passing-asked held h = record { pass-asked = asked; tram-table = held; pass-at = inv.at; more = omega (arith, asked.network-held.counted.steps) }
+    pub passing-asked : {trams : List ℕ} → TramTable net trams → {n : ℕ} → pass.boundary ≡ n → n < reading.counts.steps → StepAsked network_text plan_text table reading trams signals pass
+    passing-asked held e h = record { pass-asked = asked; tram-table = held; pass-at = inv.at; more = omega (arith, asked.network-held.counted.steps) }
 
     pub passing-next : {next : Pass} {signals' : List ℕ} → StepGot network_text plan_text table pass next signals' → Passing network_text plan_text table next signals'
     passing-next got = record { at = got.reached; watched = got.watched inv.watched }
@@ -91,10 +91,10 @@ module _ {network_text plan_text table : List ℕ} {reading : Reading} (asked : 
     pub signals-few : reading.counts.signals ≤ max_signals
     signals-few = asked.network-held.counted.few.signals
 
-    pub passing-all : reading.counts.steps ≤ pass.boundary → {v : Verdict} → v ≡ pass_verdict (λ i. (watch_in pass.watches i).broken) reading.counts.signals
+    pub passing-all : {n : ℕ} → pass.boundary ≡ n → reading.counts.steps ≤ n → {v : Verdict} → v ≡ pass_verdict (λ i. (watch_in pass.watches i).broken) reading.counts.signals
         → PassGot network_text plan_text table v
     unfolding pass_verdict watch_at
-    passing-all h {v} e = record { told = told }
+    passing-all at-end h {v} e = record { told = told }
       where
         end : pass.boundary ≡ step_count net
         end = omega (arith, inv.at.within, asked.network-held.counted.steps)
@@ -122,8 +122,8 @@ module _ (network sheet plan : List Line) (old : List ℕ) where
   keep-is = go (verdict (network_checks network)) (verdict (sheet_checks network sheet 0))
     where
       go : (a b : Verdict) → or_else (or_else a (or_else b rest)) (verdict (run_checks network sheet plan)) ≡ or_else (or_else a b) (or_else rest (verdict (run_checks network sheet plan)))
-      go (Ok tt) (Ok tt) = refl
-      go (Ok tt) (Err r) = refl
+      go (Ok _) (Ok _) = refl
+      go (Ok _) (Err r) = refl
       go (Err r) b = refl
 
   plan-is : verdict (plan_checks network plan (length old)) ≡ or_else (verdict (network_checks network)) rest
@@ -147,10 +147,10 @@ network-refused judged e = first-refused _ _ _ _ (or-else-refused _ _ _ (verdict
 
 -- it has passed
 pub read_asked : {text signals links movements times : List ℕ} {reading : Reading} → LoadedWithSignals text signals links movements times reading → {table : List ℕ} → length table ≡ sheet_table_size
-    → SheetAsked signals reading.counts.signals 0 table
+    → SheetAsked signals reading.counts.signals table
 read_asked {text} held l =
     let loaded = held.loaded in
-    sheet-asked held.signal-table loaded.counted.signals (valid-network (lines text) loaded.holds) loaded.counted.few.signals (omega arith) l
+    sheet-asked held.signal-table loaded.counted.signals (valid-network (lines text) loaded.holds) loaded.counted.few.signals l
 
 -- a sheet is read for its signals
 module _ {text signals links movements times : List ℕ} {reading : Reading} (held : LoadedWithSignals text signals links movements times reading)
@@ -186,11 +186,11 @@ module _ {text signals links movements times : List ℕ} {reading : Reading} (he
     kept-is : verdict (keep_checks network sheet plan (length old)) ≡ or_else (rest network sheet plan old) (verdict (run_checks network sheet plan))
     kept-is = keep-is network sheet plan old ∙ or-else-passes _ _ (first-is ∙ e)
 
-    pub plan-refused : {q : Refusal} → answer ≡ Err q → SheetPromises network sheet plan old after answer
+    pub plan-refused : {q : Refusal} → answer ≡ Err q → SheetPromises network sheet plan old after (Err q)
     unfolding check_plan plan_answer
     plan-refused {q} g =
         let v = refused-of-refused network plan (verdict (plan_checks network plan (length old))) q (sym judged.answered ∙ g) in
-        promised network sheet plan old (kept-is ∙ or-else-refused _ _ q (sym rest-is ∙ v)) g ledger-is
+        promised network sheet plan old (kept-is ∙ or-else-refused _ _ q (sym rest-is ∙ v)) refl ledger-is
 
     -- the plan is accepted, and gone through again
     module _ {t : Totals} (g : answer ≡ Ok t) where

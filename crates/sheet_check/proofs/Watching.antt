@@ -37,7 +37,7 @@ module _ (w : Watch) (s : Signal) (q line t lasts : ℕ) where
   unfolding next_watch
   watch-on asked e r h = h ∙ sym (rw e)
 
-  pub watch-still : (asked : ℕ) → (asked ≡ 0 → ⊥) → w ≡ next_watch w asked s q line t lasts
+  watch-still : (asked : ℕ) → (asked ≡ 0 → ⊥) → w ≡ next_watch w asked s q line t lasts
   unfolding next_watch
   watch-still asked d = sym (rw (ne_eqb asked 0 d))
 
@@ -61,6 +61,17 @@ watched-more watches signals phases asked table line t i result w h a d q e =
       kept = λ r l. get_or-set_other result i r w no_watch (λ x. omega arith) ∙ a.kept r (omega arith);
     }
 
+pub watched-still : (watches : List Watch) (signals phases asked table : List ℕ) (line t i : ℕ) (result : List Watch)
+    → Watched watches signals i phases asked table line t result → (get_or asked i 0 ≡ 0 → ⊥) → Watched watches signals (i + 1) phases asked table line t result
+watched-still watches signals phases asked table line t i result a d =
+    record {
+      size = a.size;
+      on = λ r l. below_more
+          (λ r. watch_in result r ≡ next_watch (watch_in watches r) (get_or asked r 0) (table_signal signals r) (get_or phases r 0) line t (duration_in table r (table_signal signals r))) i
+          a.on (a.kept i (le_refl i) ∙ watch-still _ _ _ _ _ _ _ d) r (omega arith);
+      kept = λ r l. a.kept r (omega arith);
+    }
+
 pub duration-asked : {signals : List ℕ} {count : ℕ} {phases asked table : List ℕ} → WatchAsked signals count phases asked table → {i : ℕ} → i < count → DurationAsked table signals i
 duration-asked a {i} h = record { ready-in = record { size = a.size; few = omega (arith, a.few); ready = a.ready i h }; room = a.room }
 
@@ -75,7 +86,7 @@ unfolding least_line least_item
 found_none = record { few = omega arith; line-is = refl; item-is = refl }
 
 module _ {f : ℕ → ℕ} {count line item i : ℕ} (inv : Found f count line item i) where
-  pub found-more : i < count → {b : Bool} → b ≡ earlier (f i) line → {x y : ℕ} → x ≡ cond b (f i) line → y ≡ cond b (i + 1) item → Found f count x y (i + 1)
+  found-more : i < count → {b : Bool} → b ≡ earlier (f i) line → {x y : ℕ} → x ≡ cond b (f i) line → y ≡ cond b (i + 1) item → Found f count x y (i + 1)
   unfolding least_line least_item
   found-more h e p q =
       record {
@@ -83,6 +94,12 @@ module _ {f : ℕ → ℕ} {count line item i : ℕ} (inv : Found f count line i
         line-is = p ∙ rw (e, inv.line-is, add-one);
         item-is = q ∙ rw (e, inv.line-is, inv.item-is, add-one);
       }
+
+  pub found-earlier : i < count → {b : Bool} → b ≡ earlier (f i) line → b ≡ true → {x y : ℕ} → x ≡ f i → y ≡ i + 1 → Found f count x y (i + 1)
+  found-earlier h e t p q = found-more h {b = true} (sym t ∙ e) p q
+
+  pub found-later : i < count → {b : Bool} → b ≡ earlier (f i) line → b ≡ false → {x y : ℕ} → x ≡ line → y ≡ item → Found f count x y (i + 1)
+  found-later h e t p q = found-more h {b = false} (sym t ∙ e) p q
 
   module _ (h : count ≤ i) where
     all-line : line ≡ least_line f count

@@ -2,7 +2,7 @@
 // over its steps watches a few numbers of each signal. No table of runs is kept.
 #![tactic(auto)]
 
-ghost use Rattle.std.specs.Prelude.{◌≡◌, cond, ◌<◌, ◌≤◌, length};
+ghost use Rattle.std.specs.Prelude.{◌≡◌, ◌<◌, ◌≤◌, length};
 ghost use Rattle.text_reader.specs.Lines.{lines};
 ghost use Rattle.text_reader.specs.Padding.{PaddingIgnored};
 ghost use Rattle.model.specs.Hold.{plan_of};
@@ -12,19 +12,19 @@ ghost use Rattle.network_tables.specs.Tables.{SignalTable};
 ghost use Rattle.network.specs.Loading.{LoadedWithSignals};
 ghost use Rattle.model_sheet.specs.Runs.{earlier, pass_verdict};
 ghost use Rattle.model_sheet.specs.Promises.{SheetPromises};
-ghost use Rattle.sheet_check.specs.Watch.{watch_in, first_broken, watch_after, next_watch, duration_in, DurationAsked, WatchAsked, Watched};
+ghost use Rattle.sheet_check.specs.Watch.{watch_in, first_broken, watch_after, duration_in, DurationAsked, WatchAsked, Watched};
 ghost use Rattle.sheet_check.specs.Stages.{PassAsked, StepAsked, StepGot, PassGot};
 
 use base_search::Refusal;
+use model::Totals;
 use network_tables::{
     LINE_SIZE, LINK_TABLE_SIZE, MAX_SIGNALS, MOVEMENT_TABLE_SIZE, Reading, SIGNAL_TABLE_SIZE,
     STEP_SIZE, TIME_TABLE_SIZE, TRAM_TABLE_SIZE,
 };
 use sheet_lines::{SHEET_FIELDS, SHEET_TABLE_SIZE};
-use model::Totals;
 
 // What is watched of a signal: whether the run that it shows is to be tested, the line of its last ordinary step, and the line of its first broken run, 0 for
-// none.
+// none. An Option would let in a line 0, which the definitions of 34 and a refusal have for none, and each contract would have to rule it out.
 #[derive(Clone, Copy)]
 pub struct Watch {
     pub tested: bool,
@@ -84,27 +84,6 @@ fn watch_after(
     }
 }
 
-// The watch after any step: where a tram asks a phase of the signal, nothing moves.
-fn next_watch(
-    watch: Watch,
-    asked: u32,
-    signals: &[u32],
-    i: usize,
-    phase: u32,
-    line: u32,
-    time: u32,
-    duration: u32,
-) -> Watch
-    requires { (i < max_signals) × (length signals.now ≡ signal_table_size) }
-    ensures { result ≡ next_watch watch asked (table_signal signals.now i) phase line time duration }
-{
-    if asked == 0 {
-        watch_after(watch, signals, i, phase, line, time, duration)
-    } else {
-        watch
-    }
-}
-
 // The duration of the phase that signal `i` shows.
 fn duration_of(table: &[u32], signals: &[u32], i: usize) -> u32
     requires { DurationAsked table.now signals.now i }
@@ -114,7 +93,7 @@ fn duration_of(table: &[u32], signals: &[u32], i: usize) -> u32
     table[SHEET_FIELDS * i + place]
 }
 
-// The watches after a step in which the signals show these phases and trams ask these; the signals are those before it.
+// The watches after a step in which the signals show these phases and trams ask these; the signals are those before it. Where a tram asks a phase, nothing moves.
 fn watch_signals(
     mut watches: [Watch; 8],
     signals: &[u32],
@@ -129,10 +108,10 @@ fn watch_signals(
     ensures { Watched watches signals.now count phases.now asked.now table.now line time result }
 {
     for i in 0..count {
-        let duration = duration_of(table, signals, i);
-        watches[i] = next_watch(
-            watches[i], asked[i], signals, i, phases[i], line, time, duration,
-        );
+        if asked[i] == 0 {
+            let duration = duration_of(table, signals, i);
+            watches[i] = watch_after(watches[i], signals, i, phases[i], line, time, duration);
+        }
     }
     watches
 }
@@ -144,13 +123,6 @@ fn is_earlier(x: u32, y: u32) -> bool
     (x != 0) & ((y == 0) | (x < y))
 }
 
-// One of two numbers.
-fn choose(condition: bool, a: u32, b: u32) -> u32
-    ensures { result ≡ cond condition a b }
-{
-    if condition { a } else { b }
-}
-
 // Refusal 34: the least of the lines that were found, then the lowest signal.
 fn first_run(watches: [Watch; 8], count: usize) -> Result<(), Refusal>
     requires { count ≤ max_signals }
@@ -158,13 +130,12 @@ fn first_run(watches: [Watch; 8], count: usize) -> Result<(), Refusal>
 {
     let mut line: u32 = 0;
     let mut item: u32 = 0;
-    let mut i = 0;
-    while i < count {
+    for i in 0..count {
         let broken = watches[i].broken;
-        let first = is_earlier(broken, line);
-        line = choose(first, broken, line);
-        item = choose(first, (i + 1) as u32, item);
-        i += 1;
+        if is_earlier(broken, line) {
+            line = broken;
+            item = (i + 1) as u32;
+        }
     }
     if line == 0 {
         return Ok(());
@@ -252,7 +223,7 @@ fn pass_plan(
         plan_at: 0,
         watches: [watch; 8],
     };
-    while pass.boundary < counts.steps {
+    for _ in 0..counts.steps {
         pass = pass_step(network, plan, reading, &trams, table, signals, pass);
     }
     let watches = pass.watches;
@@ -276,24 +247,21 @@ fn check_on_network(
 {
     let mut table = [0u32; SHEET_TABLE_SIZE];
     let count = reading.counts.signals;
-    let read = sheet_lines::read_sheet(sheet, signals, count, 0, &mut table);
-    if let Err(refusal) = read {
-        return Err(refusal);
-    }
-    let answer = plan_check::judge_plan(
+    sheet_lines::read_sheet(sheet, signals, count, false, &mut table)?;
+    let totals = plan_check::judge_plan(
         network, plan, reading, links, movements, times, signals, ledger,
-    );
-    let Ok(totals) = answer else {
-        return answer;
-    };
-    match pass_plan(network, plan, reading, &table, signals) {
-        Ok(()) => Ok(totals),
-        Err(refusal) => Err(refusal),
-    }
+    )?;
+    pass_plan(network, plan, reading, &table, signals)?;
+    Ok(totals)
 }
 
 // Whether an accepted plan keeps a sheet: refusals 1 to 6, 28 and 30, then 33, 8, the plan's own, and last 34. A refusal by 34 leaves all rows written.
-pub fn check_sheet(network: &[u8], plan: &[u8], sheet: &[u8], ledger: &mut [u32]) -> Result<Totals, Refusal>
+pub fn check_sheet(
+    network: &[u8],
+    plan: &[u8],
+    sheet: &[u8],
+    ledger: &mut [u32],
+) -> Result<Totals, Refusal>
     ensures sheet_promises { SheetPromises (lines network.now) (lines sheet.now) (plan_of network.now plan.now) ledger.old ledger.new result }
     ensures padding_ignored { PaddingIgnored network.now (λ padded_network. PaddingIgnored plan.now (λ padded_plan. PaddingIgnored sheet.now (λ padded_sheet. SheetPromises (lines padded_network) (lines padded_sheet) (plan_of padded_network padded_plan) ledger.old ledger.new result))) }
 {
@@ -301,24 +269,22 @@ pub fn check_sheet(network: &[u8], plan: &[u8], sheet: &[u8], ledger: &mut [u32]
     let mut links = [0u32; LINK_TABLE_SIZE];
     let mut movements = [0u32; MOVEMENT_TABLE_SIZE];
     let mut times = [0u32; TIME_TABLE_SIZE];
-    match network::load_with_signals(
+    let reading = network::load_with_signals(
         network,
         &mut signals,
         &mut links,
         &mut movements,
         &mut times,
-    ) {
-        Err(refusal) => Err(refusal),
-        Ok(reading) => check_on_network(
-            network,
-            plan,
-            sheet,
-            reading,
-            &links,
-            &movements,
-            &times,
-            &mut signals,
-            ledger,
-        ),
-    }
+    )?;
+    check_on_network(
+        network,
+        plan,
+        sheet,
+        reading,
+        &links,
+        &movements,
+        &times,
+        &mut signals,
+        ledger,
+    )
 }

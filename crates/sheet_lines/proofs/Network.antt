@@ -14,13 +14,12 @@ use Rattle.sheet_lines.specs.Reading.{sheet_fields, sheet_table_size, SheetAsked
 use Rattle.std.specs.Prelude.{Ok}
 
 module _ {network : List Line} {signals : List ℕ} (signal-table : SignalTable network signals) {count : ℕ} (is-count : count ≡ signal_count network) where
-  pub sheet-asked : ValidNetwork network → count ≤ max_signals → {offsets : ℕ} → offsets ≤ 1 → {table : List ℕ} → length table ≡ sheet_table_size → SheetAsked signals count offsets table
-  sheet-asked valid few o l =
+  pub sheet-asked : ValidNetwork network → count ≤ max_signals → {table : List ℕ} → length table ≡ sheet_table_size → SheetAsked signals count table
+  sheet-asked valid few l =
       record {
         size = signal-table.size;
         few = few;
         ready = λ r h. let u : r < signal_count network = omega arith in rw (signal-table.holds r u) (ready-first (signal network r) (valid.phases r u) (valid.signals r u));
-        some-offsets = o;
         room = l;
       }
 

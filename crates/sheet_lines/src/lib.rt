@@ -2,10 +2,11 @@
 #![tactic(auto)]
 
 ghost use Rattle.std.specs.Prelude.{◌≡◌};
+ghost use Rattle.std.specs.Int.{from_bool};
 ghost use Rattle.base_laws.specs.Test.{within};
 ghost use Rattle.network_tables.specs.Fields.{table_signal};
 ghost use Rattle.sheet_lines.specs.Sheet.{valid_numbers};
-ghost use Rattle.sheet_lines.specs.Reading.{number_in, NumbersAsked, SheetAsked, SheetRead};
+ghost use Rattle.sheet_lines.specs.Reading.{number_in, NumbersAsked, LineAsked, LineRead, SheetAsked, SheetRead};
 
 use base_search::Refusal;
 use network_tables::MAX_SIGNALS;
@@ -20,19 +21,18 @@ pub const SHEET_TABLE_SIZE: usize = SHEET_FIELDS * MAX_SIGNALS;
 fn is_within(duration: u32, least: u32, greatest: u32) -> bool
     ensures { result ≡ within least duration greatest }
 {
-    (least <= duration) & (duration <= greatest)
+    (least..=greatest).contains(&duration)
 }
 
 // Refusal 33, the numbers of a line that stand in the table from `start` on. A duration goes into the sum only once it is within its limits, so that the sum
 // fits.
-fn valid_numbers(table: &[u32], start: usize, signals: &[u32], r: usize, offsets: usize) -> bool
-    requires { NumbersAsked table.now start signals.now r offsets }
-    ensures { result ≡ valid_numbers offsets (table_signal signals.now r) (number_in table.now start) }
+fn valid_numbers(table: &[u32], start: usize, signals: &[u32], r: usize, offset: bool) -> bool
+    requires { NumbersAsked table.now start signals.now r (from_bool offset) }
+    ensures { result ≡ valid_numbers (from_bool offset) (table_signal signals.now r) (number_in table.now start) }
 {
     let phases = network_tables::phase_count(signals, r) as usize;
     let mut sum: u32 = 0;
-    let mut k = 0;
-    while k < phases {
+    for k in 0..phases {
         let duration = table[start + k];
         let least = network_tables::least_time(signals, r, k);
         let greatest = network_tables::greatest_time(signals, r, k);
@@ -40,42 +40,48 @@ fn valid_numbers(table: &[u32], start: usize, signals: &[u32], r: usize, offsets
             return false;
         }
         sum += duration;
-        k += 1;
     }
-    if offsets == 0 {
-        return true;
-    }
-    table[start + phases] < sum
+    !offset || table[start + phases] < sum
 }
 
-// Reads a sheet for `count` signals; its lines have `offsets` offsets: none to check a plan, one to write a plan.
+// Reads the line of signal `r` into its row of the table, and gives the place of the next line if the line is well formed and its numbers are valid.
+fn read_line(
+    text: &[u8],
+    at: usize,
+    signals: &[u32],
+    r: usize,
+    offset: bool,
+    table: &mut [u32],
+) -> Option<usize>
+    requires { LineAsked signals.now r table.old }
+    ensures { LineRead signals.now r (from_bool offset) text.now at table.old result table.new }
+{
+    let start = SHEET_FIELDS * r;
+    let width = network_tables::phase_count(signals, r) as usize + usize::from(offset);
+    let next = network_tables::read_row(text, at, b'F', table, start, width)?;
+    valid_numbers(table, start, signals, r, offset).then_some(next)
+}
+
+// Reads a sheet for `count` signals; its lines have an offset to write a plan, and none to check one.
 pub fn read_sheet(
     text: &[u8],
     signals: &[u32],
     count: usize,
-    offsets: usize,
+    offset: bool,
     table: &mut [u32],
 ) -> Result<(), Refusal>
-    requires { SheetAsked signals.now count offsets table.old }
-    ensures { SheetRead signals.now count offsets text.now result table.new }
+    requires { SheetAsked signals.now count table.old }
+    ensures { SheetRead signals.now count (from_bool offset) text.now result table.new }
 {
     let mut place = 0;
-    let mut r = 0;
-    while r < count {
-        let start = SHEET_FIELDS * r;
-        let width = network_tables::phase_count(signals, r) as usize + offsets;
-        let read = network_tables::read_row(text, place, b'F', table, start, width);
-        let Some(next) = read else {
+    for r in 0..count {
+        let Some(next) = read_line(text, place, signals, r, offset, table) else {
             return Err(Refusal::new(33, r + 1, 0));
         };
-        if !valid_numbers(table, start, signals, r, offsets) {
-            return Err(Refusal::new(33, r + 1, 0));
-        }
         place = next;
-        r += 1;
     }
-    if text_reader::is_end(text, place) {
-        return Ok(());
+    if !text_reader::is_end(text, place) {
+        return Err(Refusal::new(33, count + 1, 0));
     }
-    Err(Refusal::new(33, count + 1, 0))
+    Ok(())
 }

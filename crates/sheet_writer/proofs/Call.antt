@@ -39,7 +39,8 @@ use Rattle.model_sheet.proofs.Cycle.{phase-most}
 use Rattle.model_sheet.proofs.Steps.{time-zero}
 use Rattle.model_sheet.proofs.Checks.{two-phases, duration-some, offset-short}
 use Rattle.model_sheet.proofs.Promises.{write-promises}
-use Rattle.sheet_writer.specs.Tables.{CycleLine, LineAsked, time_in, seconds_in, fits_in, can_write_in, boundary_checks_in, phase_in, cycle_text}
+use Rattle.step_arrivals.specs.Arrivals.{seconds_in}
+use Rattle.sheet_writer.specs.Tables.{CycleLine, LineAsked, time_in, fits_in, can_write_in, boundary_checks_in, phase_in, cycle_text}
 use Rattle.sheet_writer.specs.Stages.{CyclesAsked, MasksGot, CyclesWritten, NetworkAsked, SheetWritten}
 use Rattle.std.specs.Prelude.{Result, Ok, Err}
 
@@ -115,8 +116,8 @@ module _ {text : List ℕ} {reading : Reading} {times : List ℕ} (asked : Netwo
     signal-is : (r : ℕ) → r < signal_count network → table_signal signals r ≡ signal network r
     signal-is = signal-table.holds
 
-    pub cycle-asked : {table : List ℕ} → length table ≡ sheet_table_size → SheetAsked signals reading.counts.signals 1 table
-    cycle-asked l = sheet-asked signal-table count-is valid asked.counted.few.signals (omega arith) l
+    pub cycle-asked : {table : List ℕ} → length table ≡ sheet_table_size → SheetAsked signals reading.counts.signals table
+    cycle-asked l = sheet-asked signal-table count-is valid asked.counted.few.signals l
 
     module _ {sheet_text' table : List ℕ} {v : Verdict} (read : SheetRead signals reading.counts.signals 1 sheet_text' v table) where
       abbrev sheet : List Line
@@ -205,7 +206,7 @@ module _ {text : List ℕ} {reading : Reading} {times : List ℕ} (asked : Netwo
 written_is : (network sheet : List Line) (old : List ℕ) → verdict (write_checks network sheet (length old))
     ≡ or_else (verdict (network_checks network)) (or_else (verdict (sheet_checks network sheet 1)) (or_else (verdict (boundary_checks network sheet)) (room_verdict 24 (sheet_text network sheet) old)))
 unfolding verdict write_checks
-written_is network sheet old = refl
+written_is _ _ _ = refl
 
 pub call-told : {network sheet : List Line} {old : List ℕ} {answer : (Result ℕ Refusal)} {new : List ℕ} → Told (sheet_text network sheet) (verdict (write_checks network sheet (length old))) old answer new
     → WritePromises network sheet old answer new

@@ -1,5 +1,5 @@
 -- The masks of one signal, step by step, and those of all signals: one law for each way through a turn.
-use Rattle.base_laws.proofs.Kit.{ℕ, zero, suc, ◌+◌, ◌*◌, ◌-◌, ◌^◌, ◌≤◌, ◌<◌, ◌≡◌, refl, sym, ap, ◌∙◌, Bool, true, false, not, true≢false, ◌⊎◌, inl, inr, ◌≢◌, List, add-one, eq-or-lt_of_le, arith, le-leb, lt-leb, not-true, not-false, eq-eqb, ne_eqb, eqb, length, get_or, set, length-set, get_or-set_same, get_or-set_other}
+use Rattle.base_laws.proofs.Kit.{ℕ, suc, ◌+◌, ◌*◌, ◌-◌, ◌^◌, ◌≤◌, ◌<◌, ◌≡◌, refl, sym, ap, ◌∙◌, Bool, true, false, not, true≢false, ◌⊎◌, inl, inr, ◌≢◌, List, add-one, eq-or-lt_of_le, arith, le-leb, lt-leb, eq-eqb, ne_eqb, eqb, length, get_or, set, length-set, get_or-set_same, get_or-set_other}
 use Rattle.base_search.specs.declared.Refusal.{Refusal}
 use Rattle.base_search.specs.Checks.{refusal, Checks, check, checked, verdict}
 use Rattle.text_reader.specs.Lines.{Line, lines}
@@ -9,17 +9,19 @@ use Rattle.model.specs.Network.{max_signals, entry, tram_count, tram_line}
 use Rattle.model.specs.Table.{letter_t}
 use Rattle.network_tables.specs.declared.Reading.{Reading}
 use Rattle.network_tables.specs.Fields.{tram_fields, table_signal}
-use Rattle.network_tables.specs.Rows.{RowRead}
+use Rattle.network_tables.specs.Rows.{LineHeld}
+use Rattle.network_writer.specs.Reading.{ReadAgain}
 use Rattle.network_tables.specs.Blocks.{PassedTo}
 use Rattle.network_tables.proofs.Blocks.{passed_none, passed-all, passed-stop, passed-next}
 use Rattle.sheet_lines.specs.Reading.{number_in}
 use Rattle.model_sheet.specs.Cycle.{phase_at, fits_at, has_no_tram}
 use Rattle.sheet_writer.specs.declared.Run.{Run}
-use Rattle.sheet_writer.specs.Tables.{RunAt, NextAsked, NextRun, time_in, seconds_in, mask_table_size, fits_in, ColumnAsked, Column, ColumnGot, can_write_in, boundary_checks_in, phase_in, MasksHeld}
+use Rattle.step_arrivals.specs.Arrivals.{seconds_in}
+use Rattle.sheet_writer.specs.Tables.{RunAt, NextAsked, NextRun, time_in, mask_table_size, fits_in, ColumnAsked, Column, ColumnGot, can_write_in, boundary_checks_in, phase_in, MasksHeld}
 use Rattle.sheet_writer.specs.Stages.{TramsAsked, CyclesAsked, MasksGot}
 use Rattle.sheet_writer.proofs.Cycle.{run-phase, fits-run}
 use Rattle.base_laws.proofs.Tests.{every-not}
-use Rattle.std.specs.Prelude.{Option, Some, None, Ok, Err}
+use Rattle.std.specs.Prelude.{Ok, Err}
 
 -- ---- one signal: the first n steps fit, their masks are set, and this run shows next
 pub record ColumnTo (value : ℕ → ℕ) (P : ℕ) (times : List ℕ) (steps r : ℕ) (before masks : List ℕ) (run : Run) (n : ℕ) : Type 0 where
@@ -119,14 +121,13 @@ module _ {text : List ℕ} {at₀ count : ℕ} (asked : TramsAsked text at₀ co
     unfolding has_no_tram
     trams-all h = let e : k ≡ tram_count (lines text) = omega (arith, inv.within, asked.counted) in sym (rw e at inv.none)
 
-    module _ (h : k < count) {x : (Option ℕ)} {old fields : List ℕ} (row : RowRead letter_t tram_fields text at 0 old x fields) where
-      -- a line that has passed is not malformed
-      pub trams-never : x ≡ None → true ≡ has_no_tram (lines text) r
-      trams-never e = absurd (true≢false (sym (asked.forms k h) ∙ row.malformed e (tram_line (lines text) k) inv.starts))
+    module _ (h : k < count) {next : ℕ} {old fields : List ℕ} (row : ReadAgain letter_t tram_fields text at old next fields) where
+      held : LineHeld letter_t tram_fields text (tram_line (lines text) k) next 0 fields
+      held = row.held (tram_line (lines text) k) inv.starts (asked.forms k h)
 
-      module _ {next : ℕ} (e : x ≡ Some next) {i : ℕ} (q : i ≡ get_or fields 0 0) where
+      module _ {i : ℕ} (q : i ≡ get_or fields 0 0) where
         named : i ≡ entry (lines text) (tram_line (lines text) k) 0
-        named = q ∙ (row.held next e (tram_line (lines text) k) inv.starts).numbers 0 (omega arith)
+        named = q ∙ held.numbers 0 (omega arith)
 
         pub trams-hit : i ≡ r + 1 → false ≡ has_no_tram (lines text) r
         unfolding has_no_tram
@@ -140,7 +141,7 @@ module _ {text : List ℕ} {at₀ count : ℕ} (asked : TramsAsked text at₀ co
             let w : entry (lines text) (tram_line (lines text) k) 0 ≢ suc r = λ y. z (omega (arith, named)) in
             record {
               within = omega (arith, asked.counted);
-              starts = rw (add-one, line-suc) (row.held next e (tram_line (lines text) k) inv.starts).starts;
+              starts = rw (add-one, line-suc) held.starts;
               none = rw (add-one, inv.none) (ap not (ne_eqb _ _ w));
             }
 
@@ -189,28 +190,28 @@ module _ {network_text : List ℕ} {reading : Reading} {signals table times : Li
           }
 
       module _ {b : Bool} (tram : b ≡ has_no_tram (lines network_text) r) where
-        pub masks-tram : not b ≡ true → {q : Refusal} → q ≡ refusal 35 0 (r + 1) → MasksGot network_text reading.counts signals table times (Err q) masks
-        masks-tram n z = stopped inv.size (unfold can_write_in ◌and◌ in rw (sym tram ∙ not-true b n)) z
+        pub masks-tram : b ≡ false → {q : Refusal} → q ≡ refusal 35 0 (r + 1) → MasksGot network_text reading.counts signals table times (Err q) masks
+        masks-tram n z = stopped inv.size (unfold can_write_in ◌and◌ in rw (sym tram ∙ n)) z
 
-        module _ (n : not b ≡ false) {phases : ℕ} (p : phases ≡ (table_signal signals r).phases) {c : Bool} {after : List ℕ} (filled : ColumnGot (number_in table (9 * r)) phases times steps r masks c after) where
+        module _ (n : b ≡ true) {phases : ℕ} (p : phases ≡ (table_signal signals r).phases) {c : Bool} {after : List ℕ} (filled : ColumnGot (number_in table (9 * r)) phases times steps r masks c after) where
           got : ColumnGot (number_in table (9 * r)) (table_signal signals r).phases times steps r masks c after
           got = rw p at filled
 
           judged : can_write_in (lines network_text) signals table times steps r ≡ c
           unfolding can_write_in ◌and◌
-          judged = rw (sym tram ∙ not-false b n) (sym got.told)
+          judged = rw (sym tram ∙ n) (sym got.told)
 
-          pub masks-off : not c ≡ true → {q : Refusal} → q ≡ refusal 35 0 (r + 1) → MasksGot network_text reading.counts signals table times (Err q) after
-          masks-off f z = stopped got.size (judged ∙ not-true c f) z
+          pub masks-off : c ≡ false → {q : Refusal} → q ≡ refusal 35 0 (r + 1) → MasksGot network_text reading.counts signals table times (Err q) after
+          masks-off f z = stopped got.size (judged ∙ f) z
 
-          pub masks-next : not c ≡ false → MasksTo (lines network_text) signals table times steps count after (r + 1)
+          pub masks-next : c ≡ true → MasksTo (lines network_text) signals table times steps count after (r + 1)
           masks-next t =
               record {
-                passed = passed-next inv.passed h (unfold verdict checked in rw (judged ∙ not-false c t));
+                passed = passed-next inv.passed h (unfold verdict checked in rw (judged ∙ t));
                 size = got.size;
                 held = record { size = got.size; shows = λ m s u l. shown m s u (eq-or-lt_of_le {n = s} {m = r} (omega arith)) };
               }
             where
               shown : (m s : ℕ) → m < steps → (s ≡ r) ⊎ (s < r) → get_or after (8 * m + s) 0 ≡ 2 ^ (phase_in signals table times m s - 1)
-              shown m s u (inl e) = rw e (got.column (not-false c t) m u)
+              shown m s u (inl e) = rw e (got.column t m u)
               shown m s u (inr l) = got.others m s (omega (arith, signal-few)) (λ e. omega arith) ∙ inv.held.shows m s u l

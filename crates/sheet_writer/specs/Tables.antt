@@ -14,6 +14,7 @@ use Rattle.network_tables.specs.Places.{plan_width}
 use Rattle.network_tables.specs.Fields.{time_table_size, table_signal}
 use Rattle.sheet_lines.specs.Reading.{sheet_fields, number_in}
 use Rattle.model_sheet.specs.Cycle.{place_at, phase_at, fits_at, has_no_tram}
+use Rattle.step_arrivals.specs.Arrivals.{seconds_in}
 use Rattle.sheet_writer.specs.declared.Run.{Run}
 
 -- ---- one signal
@@ -49,9 +50,6 @@ pub record NextRun (value : ℕ → ℕ) (P : ℕ) (run : Run) (seconds : ℕ) (
 -- ---- the times of the boundaries
 abbrev pub time_in : List ℕ → ℕ → ℕ
 time_in times n = get_or times n 0
-
-abbrev pub seconds_in : List ℕ → ℕ → ℕ
-seconds_in times n = get_or times (n + 1) 0 - get_or times n 0
 
 pub record TimesAsked (times : List ℕ) (steps : ℕ) : Type 0 where
   pub size : length times ≡ time_table_size

@@ -9,7 +9,7 @@ ghost use Rattle.model.specs.Signals.{phase_after};
 ghost use Rattle.sheet_lines.specs.Reading.{number_in};
 ghost use Rattle.model_sheet.specs.Cycle.{has_no_tram};
 ghost use Rattle.model_sheet.specs.Promises.{WritePromises};
-ghost use Rattle.sheet_writer.specs.Tables.{LineAsked, RunAt, NextAsked, NextRun, seconds_in, TimesAsked, ColumnAsked, ColumnGot};
+ghost use Rattle.sheet_writer.specs.Tables.{LineAsked, RunAt, NextAsked, NextRun, ColumnAsked, ColumnGot};
 ghost use Rattle.sheet_writer.specs.Stages.{TramsAsked, CyclesAsked, MasksGot, CyclesWritten, NetworkAsked, SheetWritten};
 
 use base_search::Refusal;
@@ -35,6 +35,7 @@ fn first_run(table: &[u32], start: usize, phases: usize) -> Run
     ensures { RunAt (number_in table.now start) phases 0 result }
 {
     let mut rest = table[start + phases];
+    // A for over the phases would need an end past the last, which no offset reaches.
     let mut k = 0;
     while table[start + k] <= rest {
         rest -= table[start + k];
@@ -73,14 +74,6 @@ fn next_run(run: Run, table: &[u32], start: usize, phases: u32, seconds: u32) ->
     }
 }
 
-// The length of a step, by the times of the boundaries.
-fn seconds_in(times: &[u32], steps: usize, n: usize) -> u32
-    requires { TimesAsked times.now steps × (n + 1 ≤ steps) }
-    ensures { result ≡ seconds_in times.now n }
-{
-    times[n + 1] - times[n]
-}
-
 // Refusal 35 of one signal by its cycle, and its column of the masks: whether no run ends inside a step.
 fn fill_column(
     table: &[u32],
@@ -95,15 +88,13 @@ fn fill_column(
     ensures { ColumnGot (number_in table.now start) phases times.now steps r masks.old result masks.new }
 {
     let mut run = first_run(table, start, phases as usize);
-    let mut n = 0;
-    while n < steps {
-        let seconds = seconds_in(times, steps, n);
+    for n in 0..steps {
+        let seconds = step_arrivals::seconds(times, n);
         if run.remaining < seconds {
             return false;
         }
         masks[MAX_SIGNALS * n + r] = step_signals::mask_of(run.phase);
         run = next_run(run, table, start, phases, seconds);
-        n += 1;
     }
     true
 }
@@ -116,17 +107,11 @@ fn has_no_tram(network: &[u8], at: usize, count: usize, r: usize) -> bool
 {
     let mut fields = [0u32; TRAM_FIELDS];
     let mut place = at;
-    let mut k = 0;
-    while k < count {
-        let read = network_tables::read_row(network, place, b'T', &mut fields, 0, TRAM_FIELDS);
-        let Some(next) = read else {
-            return true;
-        };
+    for _ in 0..count {
+        place = network_writer::read_again(network, place, b'T', &mut fields, TRAM_FIELDS);
         if network_tables::index(fields[0]) == r + 1 {
             return false;
         }
-        place = next;
-        k += 1;
     }
     true
 }
@@ -145,17 +130,14 @@ fn fill_masks(
     ensures { MasksGot network.now reading.counts signals.now table.now times.now result masks.new }
 {
     let counts = reading.counts;
-    let mut r = 0;
-    while r < counts.signals {
+    for r in 0..counts.signals {
         let phases = network_tables::phase_count(signals, r);
         let start = SHEET_FIELDS * r;
-        if !has_no_tram(network, reading.trams_at, counts.trams, r) {
+        if !has_no_tram(network, reading.trams_at, counts.trams, r)
+            || !fill_column(table, start, phases, times, counts.steps, r, masks)
+        {
             return Err(Refusal::new(35, 0, r + 1));
         }
-        if !fill_column(table, start, phases, times, counts.steps, r, masks) {
-            return Err(Refusal::new(35, 0, r + 1));
-        }
-        r += 1;
     }
     Ok(())
 }
@@ -173,10 +155,8 @@ fn write_cycles(
     ensures { CyclesWritten network.now reading.counts signals.now table.now times.now out.old result out.new }
 {
     let mut masks = [0u32; MASK_TABLE_SIZE];
-    match fill_masks(network, reading, signals, table, times, &mut masks) {
-        Ok(()) => network_writer::write_plan(&masks, MAX_SIGNALS, reading.counts, out),
-        Err(refusal) => Err(refusal),
-    }
+    fill_masks(network, reading, signals, table, times, &mut masks)?;
+    network_writer::write_plan(&masks, MAX_SIGNALS, reading.counts, out)
 }
 
 // The sheet on a network that has passed, whose `G` lines are read again for the limits of their phases: refusals 33, 35 and 24.
@@ -194,10 +174,8 @@ fn write_on_network(
     let mut table = [0u32; SHEET_TABLE_SIZE];
     let counts = reading.counts;
     network_signals::load_signals(network, reading, &mut signals);
-    match sheet_lines::read_sheet(sheet, &signals, counts.signals, 1, &mut table) {
-        Ok(()) => write_cycles(network, reading, &signals, &table, times, out),
-        Err(refusal) => Err(refusal),
-    }
+    sheet_lines::read_sheet(sheet, &signals, counts.signals, true, &mut table)?;
+    write_cycles(network, reading, &signals, &table, times, out)
 }
 
 // The plan text of a sheet with offsets: refusals 1 to 6, 28 and 30, then 33, 35 and 24.
@@ -208,12 +186,8 @@ pub fn plan_from_sheet(network: &[u8], sheet: &[u8], out: &mut [u8]) -> Result<u
     let mut links = [0u32; LINK_TABLE_SIZE];
     let mut movements = [0u32; MOVEMENT_TABLE_SIZE];
     let mut times = [0u32; TIME_TABLE_SIZE];
-    match network::load_network(network, &mut links, &mut movements, &mut times) {
-        Ok(reading) => {
-            let counts = reading.counts;
-            step_arrivals::from_start(&mut times, counts.past, counts.steps);
-            write_on_network(network, reading, sheet, &times, out)
-        }
-        Err(refusal) => Err(refusal),
-    }
+    let reading = network::load_network(network, &mut links, &mut movements, &mut times)?;
+    let counts = reading.counts;
+    step_arrivals::from_start(&mut times, counts.past, counts.steps);
+    write_on_network(network, reading, sheet, &times, out)
 }

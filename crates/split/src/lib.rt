@@ -204,12 +204,9 @@ fn split_loaded(
     );
     let mut signals = [0u32; SIGNAL_TABLE_SIZE];
     network_signals::load_signals(network, reading, &mut signals);
-    let verdict = judge_halves(
+    judge_halves(
         network, plan, reading, above, &signals, links, movements, &first, &second,
-    );
-    if let Err(refusal) = verdict {
-        return Err(refusal);
-    }
+    )?;
     write_halves(
         network, plan, reading, &signals, links, movements, &first, &second, network_1, plan_1,
         network_2, plan_2,
@@ -232,11 +229,9 @@ pub fn split(
     let mut links = [0u32; LINK_TABLE_SIZE];
     let mut movements = [0u32; MOVEMENT_TABLE_SIZE];
     let mut times = [0u32; TIME_TABLE_SIZE];
-    match network::load_network(network, &mut links, &mut movements, &mut times) {
-        Err(refusal) => Err(refusal),
-        Ok(reading) => split_loaded(
-            network, plan, first_half, reading, &links, &movements, network_1, plan_1, network_2,
-            plan_2,
-        ),
-    }
+    let reading = network::load_network(network, &mut links, &mut movements, &mut times)?;
+    split_loaded(
+        network, plan, first_half, reading, &links, &movements, network_1, plan_1, network_2,
+        plan_2,
+    )
 }

@@ -20,12 +20,10 @@ fn nobody_waits(links: &[u32], count: usize) -> bool
     requires { (count ≤ max_links) × (length links.now ≡ link_table_size) }
     ensures { result ≡ every count (none_wait_in links.now) }
 {
-    let mut i = 0;
-    while i < count {
+    for i in 0..count {
         if network_tables::waiting_at_start(links, i) != 0 {
             return false;
         }
-        i += 1;
     }
     true
 }
@@ -56,12 +54,10 @@ fn stands_alone(movements: &[u32], half: &[u32], count: usize, j: usize) -> bool
     requires { MovementsAsked movements.now half.now count × (j < count) }
     ensures { result ≡ every count (stands_apart_in movements.now half.now j) }
 {
-    let mut k = 0;
-    while k < count {
+    for k in 0..count {
         if !stands_apart(movements, half, count, j, k) {
             return false;
         }
-        k += 1;
     }
     true
 }
@@ -85,12 +81,10 @@ fn right_kinds(links: &[u32], movements: &[u32], half: &[u32], count: usize) -> 
     requires { KindAsked links.now movements.now half.now count }
     ensures { result ≡ every count (right_kind_in links.now movements.now half.now count) }
 {
-    let mut j = 0;
-    while j < count {
+    for j in 0..count {
         if !right_kind(links, movements, half, count, j) {
             return false;
         }
-        j += 1;
     }
     true
 }
@@ -109,12 +103,10 @@ fn step_free(step: &[u32], movements: &[u32], half: &[u32], count: usize) -> boo
     requires { MovementsAsked movements.now half.now count × (length step.now ≡ step_size) }
     ensures { result ≡ every count (demand_free_in (demand_in step.now) movements.now half.now) }
 {
-    let mut j = 0;
-    while j < count {
+    for j in 0..count {
         if !demand_free(step, movements, half, count, j) {
             return false;
         }
-        j += 1;
     }
     true
 }
@@ -126,13 +118,11 @@ fn steps_free(network: &[u8], from: usize, counts: Counts, movements: &[u32], ha
 {
     let mut step = [0u32; STEP_SIZE];
     let mut line = from;
-    let mut n = 0;
-    while n < counts.steps {
+    for _ in 0..counts.steps {
         line = network_steps::load_step(network, line, counts.links, &mut step);
         if !step_free(&step, movements, half, counts.movements) {
             return false;
         }
-        n += 1;
     }
     true
 }
@@ -176,13 +166,11 @@ pub fn parts_signals(links: &[u32], half: &[u32], count: usize) -> bool
     requires { PartsAsked links.now half.now count }
     ensures { PartsTold links.now half.now count result }
 {
-    let mut i = 0;
-    while i < count {
+    for i in 0..count {
         let signal = network_tables::index(network_tables::signal_of(links, i));
         if !own_signal(half, half[i], signal) {
             return false;
         }
-        i += 1;
     }
     true
 }
@@ -202,14 +190,12 @@ pub fn plan_form(plan: &[u8], signals: &[u32], counts: Counts) -> Result<(), Ref
     ensures { FormTold plan.now signals.now counts result }
 {
     let mut at = 0;
-    let mut n = 0;
-    while n < counts.steps {
+    for n in 0..counts.steps {
         let read = line_form(plan, at, signals, counts);
         let Some(next) = read else {
             return Err(Refusal::new(9, n + 1, 0));
         };
         at = next;
-        n += 1;
     }
     if !text_reader::is_end(plan, at) {
         return Err(Refusal::new(9, counts.steps + 1, 0));

@@ -1,5 +1,5 @@
 -- Both halves numbered by the set of links in the first.
-use Rattle.base_laws.proofs.Kit.{ℕ, zero, suc, ◌+◌, ◌-◌, ◌/◌, ◌%◌, ◌^◌, ◌<◌, ◌≡◌, refl, ap, ap₂, ◌∙◌, Bool, true, false, not, List, dec_le, mod-lt, arith, eqb, length, get_or, replicate, length-replicate, get_or-replicate, List·getD-eq-default}
+use Rattle.base_laws.proofs.Kit.{ℕ, zero, suc, ◌+◌, ◌/◌, ◌%◌, ◌^◌, ◌<◌, ◌≡◌, refl, ap, ap₂, ◌∙◌, Bool, true, false, not, List, dec_le, mod-lt, arith, eqb, length, get_or, replicate, length-replicate, get_or-replicate, List·getD-eq-default}
 use Rattle.text_reader.specs.Lines.{Line}
 use Rattle.base_laws.specs.Test.{◌or◌}
 use Rattle.base_laws.specs.Sum.{only}

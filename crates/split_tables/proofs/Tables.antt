@@ -1,4 +1,5 @@
 -- What a half's table says of its links, signals and movements.
+use mir.Val.{bool_byte}
 use Rattle.base_laws.proofs.Kit.{ℕ, suc, ◌+◌, ◌-◌, ◌<◌, ◌≡◌, refl, ap, ◌∙◌, Bool, true, false, not, cond, List, arith, ne_eqb, eqb, get_or}
 use Rattle.text_reader.specs.Lines.{Line}
 use Rattle.base_laws.specs.Test.{◌and◌}
@@ -9,6 +10,11 @@ use Rattle.network_tables.proofs.Tables.{from-link-at, to-link-at}
 use Rattle.model_split.specs.Numbering.{rank}
 use Rattle.model_split.specs.Halves.{Half, inside}
 use Rattle.split_tables.specs.Tables.{signals_at, movements_at, is_in, links_in, HalfTable, MovementAsked, MovementsAsked}
+
+-- a test as a number
+pub one_where : (t : Bool) → bool_byte t ≡ only t 1
+one_where true = refl
+one_where false = refl
 
 -- a number from 1, where the test holds
 pub in-where : (half : List ℕ) (place : ℕ) (test : Bool) (n : ℕ) → get_or half place 0 ≡ only test (suc n) → is_in half place ≡ test

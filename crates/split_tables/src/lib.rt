@@ -17,16 +17,6 @@ pub const MOVEMENTS_AT: usize = MAX_LINKS + MAX_SIGNALS;
 
 pub const HALF_SIZE: usize = MAX_LINKS + MAX_SIGNALS + MAX_MOVEMENTS;
 
-// 1 for a number that is not 0.
-pub fn one_if(number: u32) -> u32
-    ensures { (result ≡ only (not (eqb number 0)) 1) × (result ≤ 1) }
-{
-    if number == 0 {
-        return 0;
-    }
-    1
-}
-
 // How many of a movement's links are in the half: both where it is inside, one where it is a border movement.
 pub fn links_in(movements: &[u32], half: &[u32], j: usize) -> u32
     requires { MovementAsked movements.now half.now j }
@@ -34,7 +24,7 @@ pub fn links_in(movements: &[u32], half: &[u32], j: usize) -> u32
 {
     let from = network_tables::index(network_tables::link_of(movements, j, 0));
     let to = network_tables::index(network_tables::link_of(movements, j, 1));
-    one_if(half[from - 1]) + one_if(half[to - 1])
+    u32::from(half[from - 1] != 0) + u32::from(half[to - 1] != 0)
 }
 
 // How many of `count` places from `start` on are in the half.
@@ -42,13 +32,10 @@ pub fn count_in(half: &[u32], start: usize, count: usize) -> usize
     requires { (start + count ≤ length half.now) × (length half.now ≤ 1000) }
     ensures { (result ≡ rank (λ k. is_in half.now (start + k)) count) × (result ≤ count) }
 {
-    let mut found = 0;
-    let mut k = 0;
-    while k < count {
-        found += network_tables::index(one_if(half[start + k]));
-        k += 1;
-    }
-    found
+    half[start..start + count]
+        .iter()
+        .filter(|number| **number != 0)
+        .count()
 }
 
 // Marks each link with its bit in a set, and returns the bits above the last link.
@@ -57,11 +44,9 @@ fn mark_links(set: u32, count: usize, marks: &mut [u32]) -> u32
     ensures { (result ≡ set / 2 ^ count) × LinksMarked set count marks.new }
 {
     let mut rest = set;
-    let mut i = 0;
-    while i < count {
+    for i in 0..count {
         marks[i] = rest % 2;
         rest /= 2;
-        i += 1;
     }
     rest
 }
@@ -86,11 +71,9 @@ fn mark_signals(links: &[u32], half: &[u32], count: usize, marks: &mut [u32])
     requires { SignalsAsked links.now half.now count marks.old }
     ensures { SignalsMarked links.now half.now count marks.new }
 {
-    let mut i = 0;
-    while i < count {
+    for i in 0..count {
         let signal = network_tables::index(network_tables::signal_of(links, i));
         mark_signal(half[i], signal, marks);
-        i += 1;
     }
 }
 
@@ -99,10 +82,8 @@ fn mark_movements(movements: &[u32], half: &[u32], count: usize, marks: &mut [u3
     requires { MovementsAsked movements.now half.now count × (count ≤ length marks.old) }
     ensures { MovementsMarked movements.now half.now count marks.new }
 {
-    let mut j = 0;
-    while j < count {
+    for j in 0..count {
         marks[j] = links_in(movements, half, j);
-        j += 1;
     }
 }
 
@@ -112,13 +93,11 @@ fn number_marked(marks: &[u32], mark: u32, count: usize, half: &mut [u32], start
     ensures { Numbered marks.now mark count start half.old half.new }
 {
     let mut last = 0;
-    let mut k = 0;
-    while k < count {
+    for k in 0..count {
         if marks[k] == mark {
             last += 1;
             half[start + k] = last;
         }
-        k += 1;
     }
 }
 

@@ -37,22 +37,14 @@ module _ (number value : ℕ) (row : List ℕ) (at : ℕ) where
       })
 
 -- ---- the first k
-pub record FilledTo (test : ℕ → Bool) (f : ℕ → ℕ) (count at : ℕ) (old row : List ℕ) (end k : ℕ) : Type 0 where
-  pub few : k ≤ count
-  pub filled : Filled (picked k test f) at old row end
+pub filled_none : (test : ℕ → Bool) (f : ℕ → ℕ) (at : ℕ) (row : List ℕ) → Filled (picked 0 test f) at row row at
+unfolding picked
+filled_none test f at row = fill_none at row
 
-module _ {test : ℕ → Bool} {f : ℕ → ℕ} {count at : ℕ} {old : List ℕ} where
-  pub filled_none : FilledTo test f count at old old at 0
+module _ (test : ℕ → Bool) (f : ℕ → ℕ) (k : ℕ) {at : ℕ} {old row : List ℕ} {end : ℕ} (t : Filled (picked k test f) at old row end) where
+  pub filled-end : end ≤ at + k
+  filled-end = omega (arith, t.ends, picked-length test f k, rank-le test k)
+
+  pub filled_next : {new : List ℕ} {next : ℕ} → Filled (cond (test k) (f k ∷ []) []) end row new next → Filled (picked (k + 1) test f) at old new next
   unfolding picked
-  filled_none = record { few = omega arith; filled = fill_none at old }
-
-  module _ {row : List ℕ} {end k : ℕ} (t : FilledTo test f count at old row end k) where
-    pub filled-end : end ≤ at + k
-    filled-end = omega (arith, t.filled.ends, picked-length test f k, rank-le test k)
-
-    pub filled_next : k < count → {new : List ℕ} {next : ℕ} → Filled (cond (test k) (f k ∷ []) []) end row new next → FilledTo test f count at old new next (k + 1)
-    unfolding picked
-    filled_next h q = record { few = omega arith; filled = rw (add-one k) (fills-more t.filled q) }
-
-    pub filled-all : count ≤ k → Filled (picked count test f) at old row end
-    filled-all h = let z : k ≡ count = omega (arith, t.few) in rw z at t.filled
+  filled_next q = rw (add-one k) (fills-more t q)

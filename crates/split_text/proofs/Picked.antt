@@ -1,5 +1,5 @@
 -- Lines of what is in the half, put one behind another.
-use Rattle.base_laws.proofs.Kit.{ℕ, zero, suc, ◌+◌, ◌≤◌, ◌<◌, ◌≡◌, refl, ap, ap₂, ◌∙◌, ◌≢◌, Bool, true, false, not, cond, List, [], ◌∷◌, ◌++◌, append-nil, add-one, arith, eq-eqb, ne_eqb, eqb, get_or}
+use Rattle.base_laws.proofs.Kit.{ℕ, zero, suc, ◌+◌, ◌<◌, ◌≡◌, refl, ap, ap₂, ◌∙◌, ◌≢◌, Bool, true, false, not, cond, List, [], ◌∷◌, ◌++◌, append-nil, add-one, arith, eq-eqb, ne_eqb, eqb, get_or}
 use Rattle.text_writer.specs.Records.{record_text, record_texts}
 use Rattle.network_writer.specs.Put.{Put, Early}
 use Rattle.network_writer.specs.Texts.{line_texts}
@@ -19,29 +19,21 @@ module _ (number letter : ℕ) (row : List ℕ) {at : ℕ} {old : List ℕ} wher
   unfolding line_texts
   kept-one e p = rw (ne_eqb number 0 e, append-nil) p
 
--- ---- of `count` lines of one letter the first k are put, or left out
-pub record PickedTo (letter : ℕ) (test : ℕ → Bool) (f : ℕ → List ℕ) (count at : ℕ) (old out : List ℕ) (end k : ℕ) : Type 0 where
-  pub few : k ≤ count
-  pub put : Put k (line_texts letter (picked k test f)) at old out end
+-- ---- of the first k lines of one letter those that are picked
+pub picks-none : (letter : ℕ) (test : ℕ → Bool) (f : ℕ → List ℕ) (at : ℕ) (old : List ℕ) → Put 0 (line_texts letter (picked 0 test f)) at old old at
+unfolding picked line_texts
+picks-none letter test f at old = put-none at old
 
-module _ {letter : ℕ} {test : ℕ → Bool} {f : ℕ → List ℕ} {count at : ℕ} {old : List ℕ} where
-  pub picks-none : PickedTo letter test f count at old old at 0
-  unfolding picked line_texts
-  picks-none = record { few = omega arith; put = put-none at old }
+pub picks-early : {count at end k : ℕ} {text old out : List ℕ} → Put k text at old out end → Early count at → k < count → Early 1 end
+picks-early t e h = omega (arith, t.ends, t.few)
 
-  module _ {out : List ℕ} {end k : ℕ} (t : PickedTo letter test f count at old out end k) where
-    pub picks-early : Early count at → k < count → Early 1 end
-    picks-early e h = omega (arith, t.put.ends, t.put.few)
-
-    pub picks-next : k < count → {new : List ℕ} {next : ℕ} → Put 1 (line_texts letter (cond (test k) (f k ∷ []) [])) end out new next → PickedTo letter test f count at old new next (k + 1)
-    unfolding picked
-    picks-next h p =
-        let e : k + 1 ≡ suc k = add-one k in
-        let w = puts-more t.put p in
-        record { few = omega arith; put = rw (e, texts-more letter (picked k test f) (cond (test k) (f k ∷ []) [])) (rw e at w) }
-
-    pub picks-all : count ≤ k → Put count (line_texts letter (picked count test f)) at old out end
-    picks-all h = let z : k ≡ count = omega (arith, t.few) in rw z at t.put
+pub picks-next : (letter : ℕ) (test : ℕ → Bool) (f : ℕ → List ℕ) {at end next k : ℕ} {old out new : List ℕ} → Put k (line_texts letter (picked k test f)) at old out end
+    → Put 1 (line_texts letter (cond (test k) (f k ∷ []) [])) end out new next → Put (k + 1) (line_texts letter (picked (k + 1) test f)) at old new next
+unfolding picked
+picks-next letter test f {k = k} t p =
+    let e : k + 1 ≡ suc k = add-one k in
+    let w = puts-more t p in
+    rw (e, texts-more letter (picked k test f) (cond (test k) (f k ∷ []) [])) (rw e at w)
 
 -- ---- what is picked by two tests that agree
 one_same : {A : Type 0} (b c : Bool) (x y : A) → b ≡ c → (c ≡ true → x ≡ y) → cond b (x ∷ []) [] ≡ cond c (y ∷ []) []

@@ -1,5 +1,6 @@
 -- The `P` line that was read again is that of the plan.
-use Rattle.base_laws.proofs.Kit.{ℕ, suc, ◌<◌, ◌≡◌, refl, ap, List, arith, length, get_or}
+use Rattle.std.specs.Option.{unwrap_or}
+use Rattle.base_laws.proofs.Kit.{◌∙◌, ℕ, suc, ◌<◌, ◌≡◌, refl, ap, List, arith, length, get_or}
 use Rattle.text_reader.specs.Lines.{lines}
 use Rattle.model.specs.declared.Signal.{Signal}
 use Rattle.model.specs.Network.{signal_count, step_count, signal}
@@ -17,11 +18,8 @@ use Rattle.std.specs.Prelude.{Option, Some, None}
 
 -- ---- `read_plan`
 module _ {plan_text : List ℕ} {at : ℕ} {signals : List ℕ} {counts : Counts} {before after : List ℕ} {r : (Option ℕ)} (got : LineGot plan_text at signals counts before r after) where
-  pub plan-next : {next : ℕ} → r ≡ Some next → PlanLineRead plan_text at signals counts before next after
-  plan-next e = record { result = r; got = got; next-is = λ place d. cc }
-
-  pub plan-never : r ≡ None → PlanLineRead plan_text at signals counts before at after
-  plan-never e = record { result = r; got = got; next-is = λ place d. let z : ◌≡◌ {A = ℕ} 0 1 = cc in absurd (omega arith) }
+  pub plan-next : {next : ℕ} → next ≡ unwrap_or r at → PlanLineRead plan_text at signals counts before next after
+  plan-next e = record { result = r; got = got; next-is = λ place d. e ∙ ap (λ o. unwrap_or o at) d }
 
 -- ---- by the plan
 module _ {network_text plan_text signals movements : List ℕ} {counts : Counts} (held : Held network_text plan_text signals movements counts) where

@@ -1,5 +1,5 @@
 -- The `S` lines and the `P` lines of all steps, put one behind another.
-use Rattle.base_laws.proofs.Kit.{ℕ, ◌+◌, ◌≤◌, ◌<◌, ◌≡◌, ◌∙◌, List, add-one, arith, length}
+use Rattle.base_laws.proofs.Kit.{ℕ, ◌+◌, ◌<◌, ◌≡◌, ◌∙◌, List, add-one, arith}
 use Rattle.text_reader.specs.Lines.{lines}
 use Rattle.text_reader.specs.Reading.{Starts}
 use Rattle.text_reader.proofs.Laws.{starts_first}
@@ -16,11 +16,10 @@ use Rattle.plan_steps.specs.PlanLine.{PlanAt}
 use Rattle.model_split.specs.Halves.{Half, step_numbers, plan_numbers, half_plan_text}
 use Rattle.model_split.specs.Call.{in_set}
 use Rattle.split_text.specs.declared.StepPlaces.{StepPlaces}
-use Rattle.split_text.specs.Halves.{OneHalf, Held, StepAsked, StepPut, StepsAsked, StepsPut, PlanAsked, PlanLineAsked, LinePut, PlanPut}
+use Rattle.split_text.specs.Halves.{OneHalf, Held, StepAsked, StepPut, StepsAsked, PlanAsked, PlanLineAsked, LinePut, PlanPut}
 
 -- ---- `put_steps`: n lines are put
 pub record StepsTo (network_text plan_text half : List ℕ) (counts : Counts) (at : ℕ) (old : List ℕ) (places : StepPlaces) (out : List ℕ) (n : ℕ) : Type 0 where
-  pub few : n ≤ counts.steps
   pub step-starts : Starts network_text places.step (step_line (lines network_text) n)
   pub plan-starts : PlanAt plan_text places.plan n
   pub put : (set : ℕ) (h : Half) → OneHalf (lines network_text) set h half
@@ -28,7 +27,7 @@ pub record StepsTo (network_text plan_text half : List ℕ) (counts : Counts) (a
 
 module _ {network_text : List ℕ} {from : ℕ} {plan_text signals movements : List ℕ} {counts : Counts} {half : List ℕ} {at : ℕ} (a : StepsAsked network_text from plan_text signals movements counts half at) where
   pub steps-none : {old : List ℕ} → StepsTo network_text plan_text half counts at old (record { step = from; plan = 0; at = at }) old 0
-  steps-none {old} = record { few = omega arith; step-starts = a.starts; plan-starts = λ l. starts_first plan_text; put = λ set h one. lines_none letter_s _ at old }
+  steps-none {old} = record { step-starts = a.starts; plan-starts = λ l. starts_first plan_text; put = λ set h one. lines_none letter_s _ at old }
 
   module _ {old out : List ℕ} {places : StepPlaces} {n : ℕ} (t : StepsTo network_text plan_text half counts at old places out n) where
     pub step-asked : n < counts.steps → StepAsked network_text plan_text signals movements counts half places
@@ -51,28 +50,20 @@ module _ {network_text : List ℕ} {from : ℕ} {plan_text signals movements : L
         let w : n < step_count (lines network_text) = omega (arith, a.held.counted.steps) in
         let one = s a.set a.h a.one n w t.step-starts t.plan-starts in
         record {
-          few = omega arith;
           step-starts = rw (add-one n) one.1;
           plan-starts = rw (add-one n) one.2;
           put = λ set h u. lines_more letter_s _ (t.put set h u) (s set h u n w t.step-starts t.plan-starts).0;
         }
 
-    pub steps-size : length out ≡ length old
-    steps-size = (t.put a.set a.h a.one).size
-
-    pub steps_all : counts.steps ≤ n → StepsPut network_text plan_text half counts at old out places.at
-    steps_all h set g one = let z : n ≡ counts.steps = omega (arith, t.few) in rw z at (t.put set g one)
-
 -- ---- `put_plan`: n lines are put
 pub record PlanTo (plan_text signals movements : List ℕ) (counts : Counts) (half old : List ℕ) (places : Places) (out : List ℕ) (n : ℕ) : Type 0 where
-  pub few : n ≤ counts.steps
   pub starts : PlanAt plan_text places.line n
   pub put : (network_text : List ℕ) → Held network_text plan_text signals movements counts → (set : ℕ) (h : Half) → OneHalf (lines network_text) set h half
       → Put n (record_texts letter_p n (plan_numbers (lines network_text) (in_set set) (plan_of network_text plan_text) h)) 0 old out places.at
 
 module _ {plan_text signals movements : List ℕ} {counts : Counts} {half : List ℕ} (a : PlanAsked plan_text signals movements counts half) where
   pub plan-none : {old : List ℕ} → PlanTo plan_text signals movements counts half old (record { line = 0; at = 0 }) old 0
-  plan-none {old} = record { few = omega arith; starts = λ l. starts_first plan_text; put = λ network_text held set h one. lines_none letter_p _ 0 old }
+  plan-none {old} = record { starts = λ l. starts_first plan_text; put = λ network_text held set h one. lines_none letter_p _ 0 old }
 
   module _ {old out : List ℕ} {places : Places} {n : ℕ} (t : PlanTo plan_text signals movements counts half old places out n) where
     pub plan-line-asked : n < counts.steps → PlanLineAsked plan_text signals movements counts half places
@@ -83,18 +74,13 @@ module _ {plan_text signals movements : List ℕ} {counts : Counts} {half : List
     pub plan-next : n < counts.steps → {new : List ℕ} {next : Places} → LinePut plan_text signals movements counts half places out new next → PlanTo plan_text signals movements counts half old next new (n + 1)
     plan-next h s =
         record {
-          few = omega arith;
           starts = rw (add-one n) (s a.network_text a.held a.set a.h a.one n (omega (arith, a.held.counted.steps)) t.starts).1;
           put = λ network_text held set g one.
               lines_more letter_p _ (t.put network_text held set g one) (s network_text held set g one n (omega (arith, held.counted.steps)) t.starts).0;
         }
 
-    pub plan-size : length out ≡ length old
-    plan-size = (t.put a.network_text a.held a.set a.h a.one).size
-
-    pub plan-all : counts.steps ≤ n → PlanPut plan_text signals movements counts half old out places.at
-    unfolding half_plan_text
-    plan-all h network_text held set g one =
-        let z : n ≡ step_count (lines network_text) = omega (arith, t.few, held.counted.steps) in
-        let p = rw z at (t.put network_text held set g one) in
-        record { long = omega (arith, p.ends); is = λ l. p.is l ∙ put_first _ old }
+  pub plan-all : {old out : List ℕ} {places : Places} {n : ℕ} → n ≡ counts.steps → PlanTo plan_text signals movements counts half old places out n → PlanPut plan_text signals movements counts half old out places.at
+  unfolding half_plan_text
+  plan-all {old} e t network_text held set g one =
+      let p = rw (e, held.counted.steps) at (t.put network_text held set g one) in
+      record { long = omega (arith, p.ends); is = λ l. p.is l ∙ put_first _ old }

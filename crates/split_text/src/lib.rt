@@ -56,14 +56,10 @@ fn count_trams(text: &[u8], from: usize, count: usize, half: &[u32]) -> usize
     let mut tram = [0u32; TRAM_FIELDS];
     let mut line = from;
     let mut found = 0;
-    let mut k = 0;
-    while k < count {
+    for _ in 0..count {
         line = network_writer::read_again(text, line, b'T', &mut tram, TRAM_FIELDS);
-        found += network_tables::index(split_tables::one_if(signal_number(
-            half,
-            network_tables::index(tram[0]),
-        )));
-        k += 1;
+        let number = signal_number(half, network_tables::index(tram[0]));
+        found += usize::from(number != 0);
     }
     found
 }
@@ -102,13 +98,11 @@ fn put_trams(
     let mut tram = [0u32; TRAM_FIELDS];
     let mut line = from;
     let mut end = at;
-    let mut k = 0;
-    while k < count {
+    for _ in 0..count {
         line = network_writer::read_again(text, line, b'T', &mut tram, TRAM_FIELDS);
         let number = signal_number(half, network_tables::index(tram[0]));
         let row = [number, tram[1], tram[2], tram[3]];
         end = put_kept(number, b'T', &row, out, end);
-        k += 1;
     }
     end
 }
@@ -129,12 +123,10 @@ fn put_signals(
     let mut row = [0u32; SIGNAL_FIELDS];
     let mut line = from;
     let mut end = at;
-    let mut k = 0;
-    while k < count {
+    for k in 0..count {
         let width = 6 + 2 * network_tables::index(network_tables::phase_count(signals, k));
         line = network_writer::read_again(text, line, b'G', &mut row, width);
         end = put_kept(half[SIGNALS_AT + k], b'G', &row[..width], out, end);
-        k += 1;
     }
     end
 }
@@ -152,8 +144,7 @@ fn put_links(
     ensures { Put count (line_texts letter_q (picked count (is_in half.now) (link_row links.now rates.now half.now))) at out.old out.new result }
 {
     let mut end = at;
-    let mut i = 0;
-    while i < count {
+    for i in 0..count {
         let exit = network_tables::wide(network_tables::exit_rate(links, i)) + rates[i];
         let row = [
             network_tables::capacity(links, i),
@@ -168,7 +159,6 @@ fn put_links(
             network_tables::waiting_at_start(links, i),
         ];
         end = put_kept(half[i], b'Q', &row, out, end);
-        i += 1;
     }
     end
 }
@@ -179,8 +169,7 @@ fn put_movements(movements: &[u32], count: usize, half: &[u32], out: &mut [u8], 
     ensures { Put count (line_texts letter_m (picked count (λ j. is_in half.now (movements_at + j)) (movement_row movements.now half.now))) at out.old out.new result }
 {
     let mut end = at;
-    let mut j = 0;
-    while j < count {
+    for j in 0..count {
         let from = network_tables::index(network_tables::link_of(movements, j, 0));
         let to = network_tables::index(network_tables::link_of(movements, j, 1));
         let row = [
@@ -190,7 +179,6 @@ fn put_movements(movements: &[u32], count: usize, half: &[u32], out: &mut [u8], 
             network_tables::share(movements, j),
         ];
         end = put_kept(half[MOVEMENTS_AT + j], b'M', &row, out, end);
-        j += 1;
     }
     end
 }
@@ -199,10 +187,7 @@ fn put_movements(movements: &[u32], count: usize, half: &[u32], out: &mut [u8], 
 fn in_field(sum: u64) -> u32
     ensures { result ≡ in_field sum }
 {
-    if 4294967295 < sum {
-        return 4294967295;
-    }
-    sum as u32
+    sum.min(u64::from(u32::MAX)) as u32
 }
 
 // Adds the number of a movement that has one link in the half to the sum of a link, from 1.
@@ -210,10 +195,9 @@ fn add_at(inside: u32, link: usize, number: u32, sums: &mut [u64])
     requires { (1 ≤ link) × (link ≤ length sums.old) × (get_or sums.old (link - 1) 0 ≤ 1_000_000_000_000) }
     ensures { (sums.new ≡ added_at inside link number sums.old) × (number < 4294967296) }
 {
-    if inside != 1 {
-        return;
+    if inside == 1 {
+        sums[link - 1] += network_tables::wide(number);
     }
-    sums[link - 1] = sums[link - 1] + network_tables::wide(number);
 }
 
 // Adds up, for each link, the numbers of the border movements that leave it (side 0) or enter it (side 1), in a table of zeros. The number of movement j stands at
@@ -231,12 +215,10 @@ fn add_border(
     requires { BorderAsked movements.now half.now count side values.now start stride sums.old }
     ensures { Bordered movements.now half.now count side values.now start stride sums.new }
 {
-    let mut j = 0;
-    while j < count {
+    for j in 0..count {
         let inside = split_tables::links_in(movements, half, j);
         let link = network_tables::index(network_tables::link_of(movements, j, side));
         add_at(inside, link, values[start + stride * j], sums);
-        j += 1;
     }
 }
 
@@ -266,10 +248,8 @@ fn fill_kept(
     ensures { Filled (picked count (λ k. is_in half.now (first + k)) (λ k. get_or values.now (start + k) 0)) at row.old row.new result }
 {
     let mut end = at;
-    let mut k = 0;
-    while k < count {
+    for k in 0..count {
         end = fill_one(half[first + k], values[start + k], row, end);
-        k += 1;
     }
     end
 }
@@ -288,11 +268,9 @@ fn fill_sums(
     ensures { Filled (picked count (is_in half.now) (λ i. in_field (get_or values.now (start + i) 0 + get_or sums.now i 0))) at row.old row.new result }
 {
     let mut end = at;
-    let mut i = 0;
-    while i < count {
+    for i in 0..count {
         let sum = network_tables::wide(values[start + i]) + sums[i];
         end = fill_one(half[i], in_field(sum), row, end);
-        i += 1;
     }
     end
 }
@@ -310,10 +288,7 @@ fn read_plan(plan: &[u8], at: usize, signals: &[u32], counts: Counts, line: &mut
     requires { LineAsked signals.now counts line.old }
     ensures { PlanLineRead plan.now at signals.now counts line.old result line.new }
 {
-    match plan_steps::read_line(plan, at, signals, counts, line) {
-        Some(next) => next,
-        None => at,
-    }
+    plan_steps::read_line(plan, at, signals, counts, line).unwrap_or(at)
 }
 
 // Writes the `S` line of the next step, with the volumes of border movements as demand.
@@ -434,10 +409,8 @@ fn put_steps(
         plan: 0,
         at,
     };
-    let mut n = 0;
-    while n < counts.steps {
+    for _ in 0..counts.steps {
         places = put_step(network, plan, signals, movements, counts, half, places, out);
-        n += 1;
     }
     places.at
 }
@@ -455,10 +428,8 @@ pub fn put_plan(
     ensures { PlanPut plan.now signals.now movements.now counts half.now out.old out.new result }
 {
     let mut places = Places { line: 0, at: 0 };
-    let mut n = 0;
-    while n < counts.steps {
+    for _ in 0..counts.steps {
         places = put_plan_line(plan, signals, movements, counts, half, places, out);
-        n += 1;
     }
     places.at
 }

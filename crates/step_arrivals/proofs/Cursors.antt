@@ -1,7 +1,7 @@
 -- The arrival step of each link, moved on one link after another.
 use Rattle.base_laws.proofs.Kit.{ℕ, ◌+◌, ◌≤◌, ◌<◌, ◌≡◌, refl, ap, ◌∙◌, ◌⊎◌, inl, inr, List, eq-or-lt_of_le, arith, get_or, set, length-set, get_or-set_same, get_or-set_other}
 use Rattle.network_tables.specs.Fields.{travel_time_in}
-use Rattle.step_arrivals.specs.Arrivals.{arrival_step_in, Cursor, ArrivalsAsked, Arrived}
+use Rattle.step_arrivals.specs.Arrivals.{arrival_step_in, ArrivalsAsked, Arrived}
 
 -- the cursors while they are moved on: those of the first n links are there, the others stand where they stood
 pub record Moving (times links : List ℕ) (count boundary : ℕ) (before arrivals : List ℕ) (n : ℕ) : Type 0 where
@@ -21,9 +21,6 @@ module _ (times links : List ℕ) (count boundary : ℕ) (before : List ℕ) whe
       }
 
   module _ (arrivals : List ℕ) (n : ℕ) (m : Moving times links count boundary before arrivals n) where
-    pub moving-cursor : (travel : ℕ) → n < count → travel ≡ travel_time_in links n → Cursor times (get_or arrivals n 0) boundary travel
-    moving-cursor travel h t = rw (t, m.rest n (omega arith)) (m.asked.cursors n h)
-
     pub moving-more : (v travel : ℕ) → n < count → travel ≡ travel_time_in links n → v ≡ arrival_step_in times boundary travel
         → Moving times links count boundary before (set arrivals n v) (n + 1)
     moving-more v travel h t e =
@@ -38,6 +35,3 @@ module _ (times links : List ℕ) (count boundary : ℕ) (before : List ℕ) whe
         at i (inl q) =
             rw q (get_or-set_same arrivals n v 0 (omega (arith, m.moved.size, m.asked.few)) ∙ e ∙ ap (arrival_step_in times boundary) t)
         at i (inr q) = get_or-set_other arrivals n i v 0 (λ o. omega arith) ∙ m.moved.arrived i q
-
-    pub moving-all : count ≤ n → Arrived times links count boundary arrivals
-    moving-all h = record { size = m.moved.size; arrived = λ i l. m.moved.arrived i (omega arith) }

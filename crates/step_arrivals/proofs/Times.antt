@@ -27,9 +27,6 @@ module _ {before : List ℕ} {past steps : ℕ} where
     shift-room : n ≤ steps → past + n < length times
     shift-room h = omega (arith, inv.size, inv.asked.size, inv.asked.few)
 
-    pub shift-since : n ≤ steps → base ≤ get_or times (past + n) 0
-    shift-since h = omega (arith, inv.rest (past + n) (omega arith), inv.asked.since n h)
-
     pub shift-next : n ≤ steps → ShiftedTo before past steps (set times n (get_or times (past + n) 0 - base)) (n + 1)
     shift-next h =
         let v = get_or times (past + n) 0 - base in
@@ -43,9 +40,6 @@ module _ {before : List ℕ} {past steps : ℕ} where
           ];
           rest = λ k l. get_or-set_other times n k v 0 (λ q. omega arith) ∙ inv.rest k (omega arith);
         }
-
-    pub shift-all : steps < n → Shifted before past steps times
-    shift-all h = record { size = inv.size ∙ inv.asked.size; shifted = λ k l. inv.shifted k (omega arith) }
 
 -- ---- by the network
 module _ {network : List Line} {counts₀ : Counts} {times : List ℕ} (counted : CountsHold network counts₀) (holds : Hold (network_checks network)) (t : TimeTable network times) where

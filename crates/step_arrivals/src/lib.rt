@@ -8,13 +8,6 @@ ghost use Rattle.step_arrivals.specs.Arrivals.{arrival_step_in, seconds_in, elap
 ghost use Rattle.step_arrivals.specs.Timed.{TimeAsked, TimeSet};
 ghost use Rattle.step_arrivals.specs.Times.{ShiftAsked, Shifted};
 
-// a − b, cut off at 0.
-fn minus(a: u32, b: u32) -> u32
-    ensures { result ≡ a - b }
-{
-    if a < b { 0 } else { a - b }
-}
-
 // Sets the time at the end of step `m`, if it and all steps before it last 1 to 60 seconds; else the table is kept.
 pub fn next_time(times: &mut [u32], m: usize, seconds: u32, timed: bool) -> bool
     requires { TimeAsked times.old m timed }
@@ -33,8 +26,9 @@ pub fn arrival_step(times: &[u32], from: usize, boundary: usize, travel: u32) ->
     requires { Cursor times.now from boundary travel }
     ensures { result ≡ arrival_step_in times.now boundary travel }
 {
-    let latest = minus(times[boundary], travel);
+    let latest = times[boundary].saturating_sub(travel);
     let mut m = from;
+    // No `for`: nothing is counted to an end, and the table's end is no end of the search.
     while times[m + 1] <= latest {
         m += 1;
     }
@@ -46,7 +40,7 @@ pub fn seconds(times: &[u32], step: usize) -> u32
     requires { step + 1 < length times.now }
     ensures { result ≡ seconds_in times.now step }
 {
-    minus(times[step + 1], times[step])
+    times[step + 1].saturating_sub(times[step])
 }
 
 // The seconds of a step that have elapsed when the travel time before `boundary` ends.
@@ -54,7 +48,8 @@ pub fn elapsed(times: &[u32], step: usize, boundary: usize, travel: u32) -> u32
     requires { (step < length times.now) × (boundary < length times.now) }
     ensures { result ≡ elapsed_in times.now step boundary travel }
 {
-    minus(minus(times[boundary], travel), times[step])
+    let reached = times[boundary].saturating_sub(travel);
+    reached.saturating_sub(times[step])
 }
 
 // What has arrived × the length of the step in which the travel time ends, so that nothing is rounded: `start` had entered by the step's start, `end` by its end.
@@ -62,7 +57,8 @@ pub fn scaled_arrived(start: u32, end: u32, seconds: u32, elapsed: u32) -> u64
     requires { (seconds ≤ 7200) × (elapsed ≤ 7200) }
     ensures { result ≡ scaled_in start end seconds elapsed }
 {
-    network_tables::times(start, seconds) + network_tables::times(minus(end, start), elapsed)
+    network_tables::times(start, seconds)
+        + network_tables::times(end.saturating_sub(start), elapsed)
 }
 
 // Moves the arrival step of each link on to a boundary.
@@ -76,11 +72,9 @@ pub fn next_arrivals(
     requires { ArrivalsAsked times.now links.now count boundary arrivals.old }
     ensures { Arrived times.now links.now count boundary arrivals.new }
 {
-    let mut i = 0;
-    while i < count {
+    for i in 0..count {
         let travel = network_tables::travel_time(links, i);
         arrivals[i] = arrival_step(times, arrivals[i], boundary, travel);
-        i += 1;
     }
 }
 
@@ -90,9 +84,7 @@ pub fn from_start(times: &mut [u32], past: usize, steps: usize)
     ensures { Shifted times.old past steps times.new }
 {
     let base = times[past];
-    let mut n = 0;
-    while n <= steps {
+    for n in 0..steps + 1 {
         times[n] = times[past + n] - base;
-        n += 1;
     }
 }

@@ -36,8 +36,6 @@ module _ (links : List ℕ) (count : ℕ) (before : List ℕ) where
       }
 
   module _ {row : List ℕ} {n : ℕ} (inv : StartingTo links count before row n) where
-    pub start-done : count ≤ n → Started links count count before row
-    start-done h = let e : n ≡ count = omega (arith, inv.within) in rw e at inv.started
 
     pub start-next : n < count → {stood : ℕ} → stood ≡ standing_in links n → StartingTo links count before (pair_set row n stood 0) (n + 1)
     start-next h {stood} e =
@@ -100,8 +98,6 @@ module _ {fields row arrivals : List ℕ} {links : ℕ} (m next : ℕ) {curves�
   keep-begin = record { within = omega arith; rooms = asked.rooms; done = λ i l. absurd (omega arith); rest = λ i l. refl }
 
   module _ {curves places : List ℕ} {n : ℕ} (inv : KeepingTo fields row arrivals links m next curves₀ places₀ curves places n) where
-    pub keep-done : links ≤ n → KeptAll fields row arrivals links m next curves₀ places₀ curves places
-    keep-done h = record { rooms = inv.rooms; each-link = λ i l. inv.done i (omega arith) }
 
     module _ (h : n < links) where
       pub keep-asked : KeepAsked fields row n curves places

@@ -42,17 +42,6 @@ pub record PastTo (text : List ℕ) (counts : Counts) (row₀ arrivals row curve
 
 module _ {text : List ℕ} {at : ℕ} {counts : Counts} {links times before arrivals₀ curves₀ places₀ : List ℕ}
     (asked : PastAsked text at counts links times before arrivals₀ curves₀ places₀) where
-  pub start-asked : StartAsked links counts.links before
-  start-asked = record { few = asked.counted.few.links; link-size = asked.link-table.size; room = asked.row_room }
-
-  pub arrivals-asked : ArrivalsAsked times links counts.links counts.past arrivals₀
-  arrivals-asked =
-      record {
-        few = asked.counted.few.links;
-        link-size = asked.link-table.size;
-        size = asked.arrival-size;
-        cursors = λ i l. rw (asked.none i (omega (arith, asked.counted.few.links))) (asked.cursors i l);
-      }
 
   module _ {row₀ : List ℕ} (started : Started links counts.links counts.links before row₀) {arrivals : List ℕ} (arrived : Arrived times links counts.links counts.past arrivals) where
     own-link : (i : ℕ) → i < link_count (lines text) → i < counts.links

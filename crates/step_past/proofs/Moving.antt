@@ -93,18 +93,6 @@ module _ {fields : List ℕ} {counts : Counts} {links : List ℕ} {line : PastLi
       same_stop : get_or curves (2 * n + 1) 0 ≡ get_or curves₀ (2 * n + 1) 0
       same_stop = ap (λ (c : Curve). c.stop) (inv.rest n (omega arith)).1
 
-      pub link-asked : LinkAsked fields links line n arrivals curves places
-      link-asked =
-          record {
-            link = omega (arith, asked.few-links);
-            field-size = asked.field-size;
-            link-size = asked.link-size;
-            arrival-size = inv.arrival-size;
-            rooms = inv.rooms;
-            few = asked.few;
-            fits = λ e l. omega (arith, same_stop, asked.fits n inv.onward h (sym (inv.rest n (omega arith)).0 ∙ e) l);
-          }
-
       pub moving-next : {arrivals' curves' places' : List ℕ} → LinkMoved fields links line n arrivals curves places arrivals' curves' places'
           → MovingTo fields counts links line first arrivals₀ curves₀ places₀ arrivals' curves' places' (n + 1)
       moving-next got =
@@ -343,16 +331,8 @@ module _ {text : List ℕ} {counts : Counts} {links times : List ℕ} {at : ℕ}
       }
 
   module _ {arrivals curves places : List ℕ} {n : ℕ} (inv : MovedTo text counts links times at arrivals curves places n) where
-    pub moved_all : counts.links ≤ n → NextGot text counts links times at arrivals curves places
-    moved_all h =
-        record {
-          steps-at = record { size = inv.size; arrived = λ i l. inv.steps i (omega arith) };
-          curves-at = record { rooms = inv.rooms; curved = λ i l. (inv.behind i (omega (arith, asked.tables.counted.links))).curved };
-        }
 
     module _ (h : n < counts.links) where
-      pub move-asked : MoveAsked text counts links times at n arrivals curves places
-      move-asked = record { tables = asked.tables; link = h; arrival-size = inv.size; rooms = inv.rooms; behind = λ j l o. inv.behind j o }
 
       pub moved_more : {arrivals' curves' places' : List ℕ} → Moved text counts links times at n arrivals curves places arrivals' curves' places'
           → MovedTo text counts links times at arrivals' curves' places' (n + 1)

@@ -24,8 +24,7 @@ pub fn read_on(text: &[u8], links: usize, i: usize, from: usize, to: usize, curv
     let mut start = curve.start;
     let mut stop = curve.stop;
     let mut place = curve.place;
-    let mut m = from;
-    while m < to {
+    for _m in from..to {
         let read = network_tables::read_row(text, place, b'H', &mut fields, 0, 1 + 2 * links);
         let Some(next) = read else {
             return curve;
@@ -33,7 +32,6 @@ pub fn read_on(text: &[u8], links: usize, i: usize, from: usize, to: usize, curv
         start = stop;
         stop = stop + fields[1 + 2 * i];
         place = next;
-        m += 1;
     }
     Curve { start, stop, place }
 }
@@ -43,11 +41,9 @@ fn start_row(links: &[u32], count: usize, row: &mut [u32])
     requires { StartAsked links.now count row.old }
     ensures { Started links.now count count row.old row.new }
 {
-    let mut i = 0;
-    while i < count {
+    for i in 0..count {
         row[2 * i] = network_tables::standing(links, i);
         row[2 * i + 1] = 0;
-        i += 1;
     }
 }
 
@@ -88,10 +84,8 @@ fn keep_curves(
     requires { KeepAllAsked fields.now row.now arrivals.now links curves.old places.old }
     ensures { KeptAll fields.now row.now arrivals.now links m next curves.old places.old curves.new places.new }
 {
-    let mut i = 0;
-    while i < links {
+    for i in 0..links {
         keep_curve(fields, row, arrivals[i], m, i, next, curves, places);
-        i += 1;
     }
 }
 
@@ -115,8 +109,7 @@ pub fn load_past(
     step_arrivals::next_arrivals(times, links, counts.links, counts.past, arrivals);
     let mut fields = [0u32; PAST_SIZE];
     let mut place = at;
-    let mut m = 0;
-    while m < counts.past {
+    for m in 0..counts.past {
         let read = network_tables::read_row(
             text,
             place,
@@ -142,7 +135,6 @@ pub fn load_past(
             places,
         );
         place = next;
-        m += 1;
     }
     true
 }
@@ -196,10 +188,8 @@ fn move_links(
     requires { LinksAsked fields.now counts links.now line first arrivals.old curves.old places.old }
     ensures { LinksMoved fields.now counts links.now line first arrivals.old curves.old places.old arrivals.new curves.new places.new }
 {
-    let mut i = first;
-    while i < counts.links {
+    for i in first..counts.links {
         move_link(fields, links, line, i, arrivals, curves, places);
-        i += 1;
     }
 }
 
@@ -225,6 +215,7 @@ fn move_past(
         network_tables::travel_time(links, i),
     );
     let mut fields = [0u32; PAST_SIZE];
+    // No `for`: how many lines are read is known only by where they move the link.
     while arrivals[i] < to {
         let from = arrivals[i];
         let read = network_tables::read_row(
@@ -285,9 +276,7 @@ pub fn next_arrivals(
     requires { NextAsked text.now counts links.now times.now at arrivals.old curves.old places.old }
     ensures { NextGot text.now counts links.now times.now at arrivals.new curves.new places.new }
 {
-    let mut i = 0;
-    while i < counts.links {
+    for i in 0..counts.links {
         move_on(text, counts, links, times, at, i, arrivals, curves, places);
-        i += 1;
     }
 }

@@ -44,14 +44,12 @@ fn add_movements(row: &mut [u32], line: &[u32], movements: &[u32], counts: Count
     requires { Room counts line.now movements.now row.old }
     ensures { Added counts line.now movements.now row.old counts.movements row.new }
 {
-    let mut j: usize = 0;
-    while j < counts.movements {
+    for j in 0..counts.movements {
         let volume = moved(line, counts, j);
         let to = 2 * link_index(movements, j, 1);
         let from = 2 * link_index(movements, j, 0) + 1;
         add_at(row, to, volume);
         add_at(row, from, volume);
-        j += 1;
     }
 }
 
@@ -60,11 +58,9 @@ fn base_row(previous: &[u32], line: &[u32], counts: Counts, row: &mut [u32])
     requires { Base counts line.now previous.now row.old }
     ensures { row.new ≡ pairs (base_entered counts line.now previous.now) (base_left counts line.now previous.now) counts.links ++ drop (2 * counts.links) row.old }
 {
-    let mut i: usize = 0;
-    while i < counts.links {
+    for i in 0..counts.links {
         row[2 * i] = entered(previous, i) + admitted(line, counts, i);
         row[2 * i + 1] = left(previous, i) + let_out(line, counts, i);
-        i += 1;
     }
 }
 
@@ -83,11 +79,7 @@ fn copy_row(part: &mut [u32], row: &[u32], count: usize)
     requires { (count ≤ length row.now) × (count ≤ length part.old) }
     ensures { part.new ≡ take count row.now ++ drop count part.old }
 {
-    let mut k: usize = 0;
-    while k < count {
-        part[k] = row[k];
-        k += 1;
-    }
+    part[..count].copy_from_slice(&row[..count]);
 }
 
 // Writes a row into the ledger from index `at` on, through the part of the lent ledger that starts there; all else is kept.
@@ -104,23 +96,10 @@ pub fn sum_of(line: &[u32], first: usize, count: usize) -> u64
     ensures { (result ≡ sum count (λ i. get_or line.now (first + i) 0)) × (result ≤ 4294967295 * count) }
 {
     let mut total: u64 = 0;
-    let mut i: usize = 0;
-    while i < count {
+    for i in 0..count {
         total += wide(line[first + i]);
-        i += 1;
     }
     total
-}
-
-// What a link holds: entered − left.
-fn held(entered: u32, left: u32) -> u64
-    ensures { (result ≡ entered - left) × (result < 4294967296) }
-{
-    if left <= entered {
-        wide(entered - left)
-    } else {
-        0
-    }
 }
 
 // The vehicles in the network at a boundary: what all links hold, by its row.
@@ -129,10 +108,8 @@ pub fn held_in(row: &[u32], links: usize) -> u64
     ensures { (result ≡ sum links (λ i. entered_in row.now i - left_in row.now i)) × (result ≤ 4294967295 * links) }
 {
     let mut total: u64 = 0;
-    let mut i: usize = 0;
-    while i < links {
-        total += held(entered(row, i), left(row, i));
-        i += 1;
+    for i in 0..links {
+        total += wide(entered(row, i).saturating_sub(left(row, i)));
     }
     total
 }
@@ -142,10 +119,8 @@ pub fn first_waiting(links: &[u32], count: usize, waiting: &mut [u32])
     requires { FirstAsked links.now count waiting.old }
     ensures { FirstWaits links.now count waiting.new }
 {
-    let mut i: usize = 0;
-    while i < count {
+    for i in 0..count {
         waiting[i] = network_tables::waiting_at_start(links, i);
-        i += 1;
     }
 }
 
@@ -154,10 +129,8 @@ pub fn add_waiting(waiting: &[u32], links: usize, step: &mut [u32])
     requires { AddAsked links waiting.now step.old }
     ensures { Offers links waiting.now step.old step.new }
 {
-    let mut i: usize = 0;
-    while i < links {
+    for i in 0..links {
         step[1 + i] = step[1 + i] + waiting[i];
-        i += 1;
     }
 }
 
@@ -166,9 +139,7 @@ pub fn next_waiting(step: &[u32], line: &[u32], counts: Counts, waiting: &mut [u
     requires { WaitsAsked counts step.now line.now waiting.old }
     ensures { Waits counts step.now line.now counts.links waiting.new }
 {
-    let mut i: usize = 0;
-    while i < counts.links {
+    for i in 0..counts.links {
         waiting[i] = step[1 + i] - admitted(line, counts, i);
-        i += 1;
     }
 }

@@ -15,7 +15,7 @@ use Rattle.model.proofs.Accepted.{valid-network}
 use Rattle.model.proofs.Limits.{Counts, counts}
 use Rattle.listing_lines.specs.declared.Variable.{Variable}
 use Rattle.listing_lines.specs.declared.Variable.TheVariants.{Admitted, LetOut, Moved}
-use Rattle.listing_lines.specs.declared.Entry.{Entry}
+use Rattle.listing_lines.specs.Entry.{Entry}
 use Rattle.listing_call.specs.Listing.{listing_checks, mask_of, volume_of, plan_numbers, plan_text}
 use Rattle.listing_call.proofs.ReadBack.{mask-small, numbers-small}
 use Rattle.sheet_lines.specs.Sheet.{phases_of}

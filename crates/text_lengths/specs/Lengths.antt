@@ -7,7 +7,7 @@ use Rattle.model.specs.Table.{network_checks, plan_checks}
 use Rattle.model.specs.Hold.{plan_of}
 use Rattle.model_carry.specs.Part.{carried_text}
 use Rattle.model_carry.specs.Call.{carry_checks}
-use Rattle.listing_lines.specs.declared.Entry.{Entry}
+use Rattle.listing_lines.specs.Entry.{Entry}
 use Rattle.listing_call.specs.Listing as listing
 use Rattle.model_sheet.specs.Cycle as sheet
 

@@ -1,5 +1,6 @@
 -- A written numeral reads back as its number.
-use Rattle.base_laws.proofs.Kit.{ℕ, zero, suc, ◌+◌, ◌-◌, ◌*◌, ◌/◌, ◌%◌, ◌^◌, ◌≤◌, ◌<◌, ◌≡◌, refl, sym, ap, ◌∙◌, ◌≢◌, Bool, true, false, ◌&&◌, List, [], ◌∷◌, ◌++◌, foldl, dec_le, pow-suc, arith, le-leb, length, get_or, length-append, List·getD-append}
+use Rattle.base_laws.proofs.Kit.{ℕ, zero, suc, ◌+◌, ◌-◌, ◌*◌, ◌/◌, ◌%◌, ◌^◌, ◌≤◌, ◌<◌, ◌≡◌, refl, sym, ap, ◌∙◌, ◌≢◌, true, List, [], ◌∷◌, ◌++◌, foldl, dec_le, pow-suc, arith, le-leb, length, get_or, length-append, List·getD-append}
+use Rattle.base_laws.proofs.Bools.{and_both, and_left, and_right}
 use Rattle.text_reader.specs.Field.{digit, digits, shift, decimal, largest, is_numeral, field_of}
 use Rattle.text_writer.specs.Records.{numeral}
 use Rattle.text_writer.proofs.Laws.{numeral-short, numeral-long}
@@ -12,11 +13,8 @@ digit-is x h = rw (le-leb 48 (48 + x) (omega arith), le-leb (48 + x) 57 (omega a
 digits_more : (bs : List ℕ) (b : ℕ) → digits bs ≡ true → digit b ≡ true → digits (bs ++ (b ∷ [])) ≡ true
 unfolding digits
 digits_more [] b e h = rw h
-digits_more (a ∷ bs) b e h = by (digit a) e (λ f. digits_more bs b f h)
-  where
-    by : (t : Bool) → (t && digits bs) ≡ true → (digits bs ≡ true → digits (bs ++ (b ∷ [])) ≡ true) → (t && digits (bs ++ (b ∷ []))) ≡ true
-    by true f ih = ih f
-    by false f ih = f
+digits_more (a ∷ bs) b e h =
+    and_both (digit a) (digits (bs ++ (b ∷ []))) (and_left (digit a) (digits bs) e) (digits_more bs b (and_right (digit a) (digits bs) e) h)
 
 fold_more : (v : ℕ) (bs : List ℕ) (b : ℕ) → foldl shift v (bs ++ (b ∷ [])) ≡ shift (foldl shift v bs) b
 fold_more v [] b = refl

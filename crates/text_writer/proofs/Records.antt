@@ -1,5 +1,11 @@
 -- The `lines` of a written text are the records written.
-use Rattle.base_laws.proofs.Kit.{ℕ, zero, suc, ◌+◌, ◌≤◌, ◌<◌, ◌≡◌, refl, sym, ap, ap₂, ◌∙◌, ◌⊎◌, inl, inr, ◌≢◌, Bool, true, false, ◌&&◌, List, [], ◌∷◌, ◌++◌, map, append_assoc, append-nil, eq-or-lt_of_le, arith, eq-eqb, length, get_or, length-append, List·getD-append, get_or-append-add}
+use Rattle.std.specs.List.{All}
+use Rattle.std.proofs.lemmas.List.{length-map}
+use Rattle.std.proofs.lemmas.List.Elements.{All-nil, All-cons, All-head, All-tail, All-append}
+use Rattle.base_laws.specs.Indexed.{list}
+use Rattle.base_laws.proofs.Bools.{and_left, and_right}
+use Rattle.base_laws.proofs.Laws.{length-list, get-list}
+use Rattle.base_laws.proofs.Kit.{ℕ, zero, suc, ◌≤◌, ◌<◌, ◌≡◌, refl, sym, ap, ap₂, ◌∙◌, ◌≢◌, true, List, [], ◌∷◌, ◌++◌, map, append_assoc, append-nil, arith, eq-eqb, length, get_or}
 use Rattle.text_reader.specs.Field.{digit, digits, largest, field_of}
 use Rattle.text_reader.specs.Lines.{split, Line, line_of, lines_of, lines, letter_of, no_line, number_of, number, is_number, all_numbers, is_record}
 use Rattle.text_reader.proofs.Bytes.{split-headed, split-here, split-on}
@@ -9,48 +15,38 @@ use Rattle.text_writer.proofs.Numerals.{numeral-spells, field_back}
 use Rattle.std.specs.Prelude.{Option, Some, None}
 
 -- ---- pieces
--- no byte of bs is c
-abbrev Without : ℕ → List ℕ → Type 0
-Without c [] = 0 ≤ 0
-Without c (b ∷ bs) = (b ≢ c) × Without c bs
-
-without-both : (c : ℕ) (xs bs : List ℕ) → Without c xs → Without c bs → Without c (xs ++ bs)
-without-both c [] bs u w = w
-without-both c (a ∷ xs) bs u w = (u.0, without-both c xs bs u.1 w)
-
 -- digits hold no separator
-digits-without : (c : ℕ) (bs : List ℕ) → c < 48 → digits bs ≡ true → Without c bs
+digits-without : (c : ℕ) (bs : List ℕ) → c < 48 → digits bs ≡ true → All (λ b. b ≢ c) bs
 unfolding digits
-digits-without c [] h e = omega arith
-digits-without c (b ∷ bs) h e = by (digit b) refl e (digits-without c bs h)
-  where
-    by : (t : Bool) → digit b ≡ t → (t && digits bs) ≡ true → (digits bs ≡ true → Without c bs) → (b ≢ c) × Without c bs
-    by true d f ih = (λ q. omega (arith, digit-bounds b d), ih f)
-    by false d f ih = let z : ◌≡◌ {A = ℕ} 0 1 = cc in absurd (omega arith)
+digits-without c [] h e = All-nil (λ b. b ≢ c)
+digits-without c (b ∷ bs) h e =
+    All-cons (λ b. b ≢ c) b bs (λ q. omega (arith, digit-bounds b (and_left (digit b) (digits bs) e))) (digits-without c bs h (and_right (digit b) (digits bs) e))
 
-split-ends : (c : ℕ) (a b : List ℕ) → Without c a → split c (a ++ (c ∷ b)) ≡ a ∷ split c b
+split-ends : (c : ℕ) (a b : List ℕ) → All (λ b. b ≢ c) a → split c (a ++ (c ∷ b)) ≡ a ∷ split c b
 split-ends c [] b w = split-here c b
-split-ends c (x ∷ a) b w = split-on c x (a ++ (c ∷ b)) w.0 ∙ rw (split-ends c a b w.1)
+split-ends c (x ∷ a) b w =
+    split-on c x (a ++ (c ∷ b)) (All-head (λ b. b ≢ c) x a w) ∙ rw (split-ends c a b (All-tail (λ b. b ≢ c) x a w))
 
-split-all : (c : ℕ) (a : List ℕ) → Without c a → split c a ≡ a ∷ []
+split-all : (c : ℕ) (a : List ℕ) → All (λ b. b ≢ c) a → split c a ≡ a ∷ []
 split-all c [] w = unfold split in refl
-split-all c (x ∷ a) w = split-on c x a w.0 ∙ rw (split-all c a w.1)
+split-all c (x ∷ a) w = split-on c x a (All-head (λ b. b ≢ c) x a w) ∙ rw (split-all c a (All-tail (λ b. b ≢ c) x a w))
 
 -- ---- the fields of a record
 -- every number is one that a field may say
 abbrev pub Small : List ℕ → Type 0
 Small ns = (k : ℕ) → get_or ns k 0 ≤ largest
 
-numeral-without : (c n : ℕ) → c < 48 → n ≤ largest → Without c (numeral 19 n)
+numeral-without : (c n : ℕ) → c < 48 → n ≤ largest → All (λ b. b ≢ c) (numeral 19 n)
 numeral-without c n h l = digits-without c (numeral 19 n) h (numeral-spells 19 n (omega arith)).all
 
-fields-without : (ns : List ℕ) → Small ns → Without 10 (field_texts ns)
+fields-without : (ns : List ℕ) → Small ns → All (λ b. b ≢ 10) (field_texts ns)
 unfolding field_texts field_text
-fields-without [] s = omega arith
+fields-without [] s = All-nil (λ b. b ≢ 10)
 fields-without (n ∷ ns) s =
-    (λ e. omega arith, without-both 10 (numeral 19 n) (field_texts ns) (numeral-without 10 n (omega arith) (s 0)) (fields-without ns (λ k. s (suc k))))
+    All-cons (λ b. b ≢ 10) 9 _ (λ e. omega arith)
+    (All-append (λ b. b ≢ 10) (numeral 19 n) (field_texts ns) (numeral-without 10 n (omega arith) (s 0)) (fields-without ns (λ k. s (suc k))))
 
-split-fields : (w : List ℕ) (ns : List ℕ) → Without 9 w → Small ns → split 9 (w ++ field_texts ns) ≡ w ∷ map (numeral 19) ns
+split-fields : (w : List ℕ) (ns : List ℕ) → All (λ b. b ≢ 9) w → Small ns → split 9 (w ++ field_texts ns) ≡ w ∷ map (numeral 19) ns
 unfolding field_texts field_text
 split-fields w [] u s = ap (split 9) (append-nil w) ∙ split-all 9 w u
 split-fields w (n ∷ ns) u s =
@@ -65,7 +61,7 @@ fields_back (n ∷ ns) s = ap₂ (λ (x : Option ℕ) (xs : List (Option ℕ)). 
 module _ (letter : ℕ) (tab : letter ≢ 9) (feed : letter ≢ 10) where
   line-back : (ns : List ℕ) → Small ns → line_of true (letter ∷ field_texts ns) ≡ record_line letter ns
   unfolding line_of letter_of record_line
-  line-back ns s = rw (split-fields (letter ∷ []) ns (tab, omega arith) s, fields_back ns s)
+  line-back ns s = rw (split-fields (letter ∷ []) ns (All-cons (λ b. b ≢ 9) letter [] tab (All-nil (λ b. b ≢ 9))) s, fields_back ns s)
 
   -- its line comes first, and the text behind it is read as if it stood alone
   pub record-back : (ns rest : List ℕ) → Small ns → lines (record_text letter ns ++ rest) ≡ record_line letter ns ∷ lines rest
@@ -73,7 +69,7 @@ module _ (letter : ℕ) (tab : letter ≢ 9) (feed : letter ≢ 10) where
   record-back ns rest s =
       let whole : (letter ∷ (field_texts ns ++ (10 ∷ []))) ++ rest ≡ (letter ∷ field_texts ns) ++ (10 ∷ rest) =
       ap (λ (x : List ℕ). letter ∷ x) (append_assoc (field_texts ns) (10 ∷ []) rest) in
-      let parts = split-ends 10 (letter ∷ field_texts ns) rest (feed, fields-without ns s) in
+      let parts = split-ends 10 (letter ∷ field_texts ns) rest (All-cons (λ b. b ≢ 10) letter (field_texts ns) feed (fields-without ns s)) in
       rw (whole, parts, split-headed 10 rest) (rw (line-back ns s))
 
   -- n records
@@ -93,23 +89,16 @@ module _ (letter : ℕ) (tab : letter ≢ 9) (feed : letter ≢ 10) where
 
 -- ---- what the lines of written records say
 module _ (letter : ℕ) where
+  lines_list : (n : ℕ) (f : ℕ → List ℕ) → record_lines letter n f ≡ list n (λ i. record_line letter (f i))
+  unfolding record_lines list
+  lines_list zero f = refl
+  lines_list (suc n) f = ap (λ (x : List Line). x ++ (record_line letter (f n) ∷ [])) (lines_list n f)
+
   pub lines-count : (n : ℕ) (f : ℕ → List ℕ) → length (record_lines letter n f) ≡ n
-  unfolding record_lines
-  lines-count zero f = refl
-  lines-count (suc n) f = omega (arith, length-append (record_lines letter n f) (record_line letter (f n) ∷ []), lines-count n f)
+  lines-count n f = ap length (lines_list n f) ∙ length-list (λ i. record_line letter (f i)) n
 
   lines_at : (n : ℕ) (f : ℕ → List ℕ) (i : ℕ) → i < n → get_or (record_lines letter n f) i no_line ≡ record_line letter (f i)
-  unfolding record_lines
-  lines_at zero f i h = absurd (omega arith)
-  lines_at (suc n) f i h = go (eq-or-lt_of_le h) (lines_at n f i)
-    where
-      go : (suc i ≡ suc n) ⊎ (suc i < suc n) → (i < n → get_or (record_lines letter n f) i no_line ≡ record_line letter (f i))
-          → get_or (record_lines letter n f ++ (record_line letter (f n) ∷ [])) i no_line ≡ record_line letter (f i)
-      go (inl e) ih =
-          let q : i ≡ n = omega arith in
-          let p : length (record_lines letter n f) + 0 ≡ n = omega (arith, lines-count n f) in
-          rw q (rw p at (get_or-append-add (record_lines letter n f) (record_line letter (f n) ∷ []) 0 no_line))
-      go (inr l) ih = List·getD-append (record_lines letter n f) (record_line letter (f n) ∷ []) no_line i (omega (arith, lines-count n f)) ∙ ih (omega arith)
+  lines_at n f i h = rw lines_list (get-list (λ i. record_line letter (f i)) no_line n i h)
 
 number-back : (ns : List ℕ) (k : ℕ) → number_of (get_or (map Some ns) k None) ≡ get_or ns k 0
 unfolding number_of
@@ -122,10 +111,6 @@ unfolding all_numbers is_number
 numbers-all [] = refl
 numbers-all (n ∷ ns) = numbers-all ns
 
-map-length : (ns : List ℕ) → length (map Some ns) ≡ length ns
-map-length [] = refl
-map-length (n ∷ ns) = ap suc (map-length ns)
-
 module _ (letter n : ℕ) (f : ℕ → List ℕ) (i : ℕ) (h : i < n) where
   -- number k of line i is number k that was written there
   pub entry-back : (k : ℕ) → number (get_or (record_lines letter n f) i no_line) k ≡ get_or (f i) k 0
@@ -136,4 +121,4 @@ module _ (letter n : ℕ) (f : ℕ → List ℕ) (i : ℕ) (h : i < n) where
   pub form-back : is_record letter (length (f i)) (get_or (record_lines letter n f) i no_line) ≡ true
   unfolding is_record record_line
   form-back =
-      rw (lines_at letter n f i h) (rw (eq-eqb letter letter refl, map-length (f i), eq-eqb (length (f i)) (length (f i)) refl, numbers-all (f i)))
+      rw (lines_at letter n f i h) (rw (eq-eqb letter letter refl, length-map (f i) Some, eq-eqb (length (f i)) (length (f i)) refl, numbers-all (f i)))

@@ -1,5 +1,6 @@
 -- Records as they are written, and the lines that they are.
 use Rattle.std.specs.Prelude.{ℕ, zero, suc, ◌+◌, ◌/◌, ◌%◌, true, cond, List, [], ◌∷◌, ◌++◌, map, ltb, Some}
+use Rattle.std.specs.List.{flat_map}
 use Rattle.text_reader.specs.Lines.{Line}
 
 -- a number in decimal without leading zeros, of at most d + 1 digits
@@ -12,8 +13,7 @@ unfoldable pub field_text : ℕ → List ℕ
 field_text n = 9 ∷ numeral 19 n
 
 unfoldable pub field_texts : List ℕ → List ℕ
-field_texts [] = []
-field_texts (n ∷ ns) = field_text n ++ field_texts ns
+field_texts ns = flat_map field_text ns
 
 -- a letter, numbers, and a line feed
 unfoldable pub record_text : ℕ → List ℕ → List ℕ

@@ -4,85 +4,72 @@
 
 ghost use Rattle.std.specs.Prelude.{◌≡◌, ℕ, ◌+◌, ◌*◌, ◌≤◌, [], ◌∷◌, length};
 ghost use Rattle.text_writer.specs.Records.{numeral, field_text, field_texts, record_text};
-ghost use Rattle.text_writer.specs.Writing.{put_at, digits, Wrote};
+ghost use Rattle.text_writer.specs.Writing.{Wrote, HasRoom, Writes};
 
-// How many digits a number has in decimal.
+// How many digits a number has in decimal: 0 has one, as 1 has.
+#[tactic(auto, using(crate::proofs::Laws::numeral_count))]
 fn digit_count(value: u64) -> usize
-    ensures { result ≡ length (numeral 19 value) }
+    ensures count { result ≡ length (numeral 19 value) }
+    ensures few { result ≤ 20 }
 {
-    let mut count = 1;
-    let mut rest = value;
-    while 10 <= rest {
-        rest /= 10;
-        count += 1;
+    1 + value.max(1).ilog10() as usize
+}
+
+// A lent buffer, and the place where the next byte is written.
+#[derive(Drop)]
+struct Cursor<'a> {
+    out: &'a mut [u8],
+    at: usize,
+}
+
+impl Cursor<'_> {
+    // Writes one byte.
+    fn write_byte(&mut self, byte: u8)
+        requires { HasRoom (byte ∷ []) self.old }
+        ensures { Writes (byte ∷ []) self.old self.new }
+    {
+        self.out[self.at] = byte;
+        self.at += 1;
     }
-    count
-}
 
-// Writes the last `count` digits of a number, from the last to the first.
-fn write_digits(out: &mut [u8], at: usize, count: usize, value: u64)
-    requires { at + count ≤ length out.old }
-    ensures { out.new ≡ put_at at (digits count value) out.old }
-{
-    let mut left = count;
-    let mut rest = value;
-    while 0 < left {
-        left -= 1;
-        out[at + left] = 48 + (rest % 10) as u8;
-        rest /= 10;
+    // Writes a number in decimal, from the last digit to the first.
+    fn write_number(&mut self, value: u64)
+        requires { HasRoom (numeral 19 value) self.old }
+        ensures { Writes (numeral 19 value) self.old self.new }
+    {
+        let end = self.at + digit_count(value);
+        let mut rest = value;
+        for place in (self.at..end).rev() {
+            self.out[place] = b'0' + (rest % 10) as u8;
+            rest /= 10;
+        }
+        self.at = end;
     }
-}
 
-// Writes a number in decimal.
-fn write_number(out: &mut [u8], at: usize, value: u64) -> usize
-    requires { at + length (numeral 19 value) ≤ length out.old }
-    ensures { Wrote (numeral 19 value) at out.old out.new result }
-{
-    let count = digit_count(value);
-    write_digits(out, at, count, value);
-    at + count
-}
-
-// Writes one byte.
-fn write_byte(out: &mut [u8], at: usize, byte: u8) -> usize
-    requires { at + 1 ≤ length out.old }
-    ensures { Wrote (byte ∷ []) at out.old out.new result }
-{
-    out[at] = byte;
-    at + 1
-}
-
-// Writes a number behind a tab.
-fn write_field(out: &mut [u8], at: usize, value: u64) -> usize
-    requires { at + length (field_text value) ≤ length out.old }
-    ensures { Wrote (field_text value) at out.old out.new result }
-{
-    let next = write_byte(out, at, 9);
-    write_number(out, next, value)
-}
-
-// Writes numbers, each behind a tab.
-fn write_fields(out: &mut [u8], at: usize, numbers: &[u64]) -> usize
-    requires { at + length (field_texts numbers.now) ≤ length out.old }
-    ensures { Wrote (field_texts numbers.now) at out.old out.new result }
-{
-    let mut next = at;
-    let mut k = 0;
-    while k < numbers.len() {
-        next = write_field(out, next, numbers[k]);
-        k += 1;
+    // Writes a number behind a tab.
+    #[tactic(auto, unfolding(crate::specs::Records::field_text))]
+    fn write_field(&mut self, value: u64)
+        requires { HasRoom (field_text value) self.old }
+        ensures { Writes (field_text value) self.old self.new }
+    {
+        self.write_byte(b'\t');
+        self.write_number(value);
     }
-    next
 }
 
 // Writes a record: a letter, the numbers, each behind a tab, and a line feed.
+#[tactic(auto, using(crate::proofs::Laws::record_is))]
 pub fn write_record(out: &mut [u8], at: usize, letter: u8, numbers: &[u64]) -> usize
     requires { at + length (record_text letter numbers.now) ≤ length out.old }
     ensures { Wrote (record_text letter numbers.now) at out.old out.new result }
 {
-    let first = write_byte(out, at, letter);
-    let last = write_fields(out, first, numbers);
-    write_byte(out, last, 10)
+    let mut cursor = Cursor { out, at };
+    cursor.write_byte(letter);
+    for number in numbers {
+        cursor.write_field(*number);
+    }
+    cursor.write_byte(b'\n');
+    cursor.at
 }
 
 // How long a record of these numbers is, whatever its letter.
@@ -90,11 +77,8 @@ pub fn record_length(numbers: &[u64]) -> usize
     requires { 2 + 21 * length numbers.now ≤ 18_446_744_073_709_551_615 }
     ensures { (letter : ℕ) → result ≡ length (record_text letter numbers.now) }
 {
-    let mut total: usize = 2;
-    let mut k = 0;
-    while k < numbers.len() {
-        total += 1 + digit_count(numbers[k]);
-        k += 1;
-    }
-    total
+    2 + numbers
+        .iter()
+        .map(|number| 1 + digit_count(*number))
+        .sum::<usize>()
 }

@@ -1,69 +1,78 @@
--- What a call gives, one law for each way through it.
-use Rattle.base_laws.proofs.Kit.{◌≡◌, refl, ◌∙◌, sym, Bool, true, false, not, ◌&&◌, List, arith, not-true, not-false, eqb-true, leb, length, ℕ}
+-- What a call gives: a refusal of one of its checks, or the step.
+use Rattle.std.specs.Prelude.{Ok, Err}
+use Rattle.base_laws.proofs.Kit.{◌≡◌, refl, ◌∙◌, sym, ◌&&◌, List, eqb-true, leb, length, true}
 use lib.Ieee.{Float}
-use Rattle.base_search.specs.Checks.{refusal, verdict, checked, or_else, Verdict}
-use Rattle.base_search.specs.Numbers.{is_one_of, CanArise}
+use Rattle.base_search.specs.declared.Refusal.{Refusal}
+use Rattle.base_search.specs.Checks.{verdict, checked, Verdict}
+use Rattle.base_search.specs.Numbers.{is_one_of}
+use Rattle.base_search.proofs.Laws.{checked-true, or-else-refused, or-else-passes}
+use Rattle.base_search.proofs.Numbers.{Numbered, refused-number}
 use Rattle.base_laws.specs.Indexed.{list}
 use Rattle.base_laws.proofs.Bools.{and_right, zero_one}
 use Rattle.traces.specs.Step.{place_after}
 use Rattle.traces.specs.Call.{vehicles_numbers, valid_counts, valid_values, step_checks, step_vehicles, places_by, places_after}
 use Rattle.traces.specs.Guarantees.{StepKeeps}
 use Rattle.traces.proofs.Guarantees.{valid-of, keeps}
-use Rattle.std.specs.Prelude.{Ok, Err}
-
-pub one-advance-each : (places advances lines : List Float) (v : Bool) → v ≡ valid_counts places advances lines → not v ≡ false → length advances ≡ length places
-unfolding valid_counts
-one-advance-each places advances lines v p n =
-    eqb-true (length advances) (length places) (and_right (leb (length places) 64 && leb (length lines) 64) _ (sym p ∙ not-false v n))
-
--- all that the call promises of its answer and of the places after it
-pub record Done (places advances lines : List Float) (spacing : Float) (answer : Verdict) (after : List Float) : Type 0 where
-  pub is-answer : answer ≡ step_vehicles places advances lines spacing
-  pub are-places : after ≡ places_after places advances lines spacing
-  pub kept : StepKeeps places advances lines spacing answer after
 
 module _ (places advances lines : List Float) (spacing : Float) where
-  pub promised : (answer : Verdict) (after : List Float) → Done places advances lines spacing answer after
-      → (answer ≡ step_vehicles places advances lines spacing)
-      × ((after ≡ places_after places advances lines spacing) × StepKeeps places advances lines spacing answer after)
-  promised answer after d = (d.is-answer, (d.are-places, d.kept))
+  -- all that the call promises of its answer and of the places after it
+  pub record Done (answer : Verdict) (after : List Float) : Type 0 where
+    pub value : answer ≡ step_vehicles places advances lines spacing
+    pub places_after : after ≡ places_after places advances lines spacing
+    pub step_keeps : StepKeeps places advances lines spacing answer after
+
+  numbered : Numbered vehicles_numbers (step_checks places advances lines spacing)
+  unfolding Numbered is_one_of step_checks
+  numbered = (refl, refl)
 
   -- a refused step: no vehicle has moved
-  refused-keeps : (answer : Verdict) (number : ℕ) → CanArise vehicles_numbers number → answer ≡ Err (refusal number 0 0) → StepKeeps places advances lines spacing answer places
-  refused-keeps answer number l e =
+  stopped : (answer : Verdict) (r : Refusal) → answer ≡ Err r → step_vehicles places advances lines spacing ≡ Err r → Done answer places
+  unfolding places_after places_by step_vehicles
+  stopped answer r e s =
       record {
-        stepped = λ s. zero_one (cc);
-        unchanged = λ r f. refl;
-        refused-number = λ r f. let q : number ≡ r.number = cc in rw q at l;
+        value = e ∙ sym s;
+        places_after = rw s;
+        step_keeps =
+            record {
+              stepped = λ p. zero_one (cc);
+              unchanged = λ q f. refl;
+              refused-number = λ q f. refused-number vehicles_numbers (step_checks places advances lines spacing) q numbered (s ∙ sym e ∙ f);
+            };
       }
 
-  pub counts-refused : (v : Bool) (answer : Verdict) → v ≡ valid_counts places advances lines → not v ≡ true → answer ≡ Err (refusal 39 0 0) → Done places advances lines spacing answer places
-  unfolding step_vehicles places_after places_by step_checks verdict checked or_else
-  counts-refused v answer p n e =
-      let c = sym p ∙ not-true v n in
-      record { is-answer = e ∙ rw c; are-places = rw c; kept = refused-keeps answer 39 (record { not-0 = omega arith; one_of = unfold is_one_of in refl }) e }
+  module _ (first : Verdict) (counts : first ≡ checked (valid_counts places advances lines) 39 0 0) where
+    pub counts-stop : (answer : Verdict) (r : Refusal) → answer ≡ Err r → first ≡ Err r → Done answer places
+    unfolding step_vehicles step_checks verdict
+    counts-stop answer r e f = stopped answer r e (or-else-refused _ _ r (sym counts ∙ f))
 
-  module _ (u : Bool) (p : u ≡ valid_counts places advances lines) (n : not u ≡ false) where
-    pub values-refused : (v : Bool) (answer : Verdict) → v ≡ valid_values places advances lines spacing → not v ≡ true → answer ≡ Err (refusal 38 0 0) → Done places advances lines spacing answer places
-    unfolding step_vehicles places_after places_by step_checks verdict checked or_else
-    values-refused v answer q m e =
-        let c = sym p ∙ not-false u n in
-        let d = sym q ∙ not-true v m in
-        record { is-answer = e ∙ rw (c, d); are-places = rw (c, d); kept = refused-keeps answer 38 (record { not-0 = omega arith; one_of = unfold is_one_of in refl }) e }
+    module _ (passed : first ≡ Ok tt) where
+      counted : valid_counts places advances lines ≡ true
+      counted = checked-true (valid_counts places advances lines) 39 0 0 (sym counts ∙ passed)
 
-    pub all-stepped : (v : Bool) (after : List Float) → v ≡ valid_values places advances lines spacing → not v ≡ false
-        → after ≡ list (length places) (place_after places advances lines spacing) → Done places advances lines spacing (Ok tt) after
-    unfolding step_vehicles places_after places_by step_checks verdict checked or_else
-    all-stepped v after q m e =
-        let c = sym p ∙ not-false u n in
-        let d = sym q ∙ not-false v m in
-        record {
-          is-answer = rw (c, d);
-          are-places = e ∙ rw (c, d);
-          kept =
-              record {
-                stepped = λ _. rw e (keeps places advances lines spacing (valid-of places advances lines spacing c d));
-                unchanged = λ r f. zero_one (cc);
-                refused-number = λ r f. zero_one (cc);
-              };
-        }
+      pub one-advance-each : length advances ≡ length places
+      unfolding valid_counts
+      one-advance-each =
+          eqb-true (length advances) (length places) (and_right (leb (length places) 64 && leb (length lines) 64) _ counted)
+
+      module _ (second : Verdict) (values : second ≡ checked (valid_values places advances lines spacing) 38 0 0) where
+        answer-is : step_vehicles places advances lines spacing ≡ second
+        unfolding step_vehicles step_checks verdict
+        answer-is = or-else-passes _ _ (sym counts ∙ passed) ∙ sym values
+
+        pub values-stop : (answer : Verdict) (r : Refusal) → answer ≡ Err r → second ≡ Err r → Done answer places
+        values-stop answer r e f = stopped answer r e (answer-is ∙ f)
+
+        pub all-stepped : (after : List Float) → second ≡ Ok tt → after ≡ list (length places) (place_after places advances lines spacing) → Done (Ok tt) after
+        unfolding places_after places_by
+        all-stepped after p e =
+            let valued = checked-true (valid_values places advances lines spacing) 38 0 0 (sym values ∙ p) in
+            record {
+              value = sym (answer-is ∙ p);
+              places_after = e ∙ rw (answer-is ∙ p);
+              step_keeps =
+                  record {
+                    stepped = λ _. rw e (keeps places advances lines spacing (valid-of places advances lines spacing counted valued));
+                    unchanged = λ r f. zero_one (cc);
+                    refused-number = λ r f. zero_one (cc);
+                  };
+            }

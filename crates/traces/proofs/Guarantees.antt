@@ -1,10 +1,12 @@
 -- A step that is not refused keeps what `Keeps` says.
 use Rattle.base_laws.proofs.Kit.{ℕ, zero, suc, ◌*◌, ◌<◌, ◌≡◌, refl, true, false, ◌&&◌, List, arith, eqb-true, leb, length, get_or}
+use Rattle.std.specs.List.{list_all}
+use Rattle.std.proofs.lemmas.List.Sums.{AllPass-from_list_all}
 use lib.Ieee.{Float, nan, binary64, add, sub, round, is_nan}
 use lib.Ieee.Scale.{finite}
-use Rattle.base_laws.specs.Indexed.{list, every}
+use Rattle.base_laws.specs.Indexed.{list}
 use Rattle.base_laws.proofs.Bools.{and_left, and_right}
-use Rattle.base_laws.proofs.Laws.{length-list, get-list, every-at}
+use Rattle.base_laws.proofs.Laws.{length-list, get-list}
 use Rattle.base_floats.proofs.Sums.{finite-real, sub-real, add-finite}
 use Rattle.traces.specs.Step.{place_after, leader_of}
 use Rattle.traces.specs.Call.{valid_place, valid_distance, valid_counts, valid_values}
@@ -28,17 +30,17 @@ module _ (places advances lines : List Float) (spacing : Float) where
   pub valid-of : valid_counts places advances lines ≡ true → valid_values places advances lines spacing ≡ true → Valid places advances lines spacing
   unfolding valid_counts valid_values
   valid-of c v =
-      let p = every valid_place places in
-      let a = every valid_distance advances in
-      let l = every valid_place lines in
+      let p = list_all valid_place places in
+      let a = list_all valid_distance advances in
+      let l = list_all valid_place lines in
       let three = and_left (p && a && l) _ v in
       let two = and_left (p && a) l three in
       record {
         matched = eqb-true (length advances) (length places) (and_right (leb (length places) 64 && leb (length lines) 64) _ c);
         gap = place-finite spacing (distance-place spacing (and_right (p && a && l) _ v));
-        place = every-at valid_place nan places (and_left p a two);
-        advance = every-at valid_distance nan advances (and_right p a two);
-        line = every-at valid_place nan lines (and_right (p && a) l three);
+        place = λ i. AllPass-from_list_all valid_place places (and_left p a two) i nan;
+        advance = λ i. AllPass-from_list_all valid_distance advances (and_right p a two) i nan;
+        line = λ j. AllPass-from_list_all valid_place lines (and_right (p && a) l three) j nan;
       }
 
 module _ (places advances lines : List Float) (spacing : Float) (s : Valid places advances lines spacing) where

@@ -1,5 +1,5 @@
 -- Where one vehicle ends: its target is at most each obstacle.
-use Rattle.base_laws.proofs.Kit.{ℕ, zero, suc, ◌<◌, ◌≡◌, refl, Bool, true, false, cond, ◌⊎◌, inl, inr, List, eq-or-lt_of_le, le_of_suc-le-suc, arith, length, get_or}
+use Rattle.base_laws.proofs.Kit.{ℕ, zero, suc, ◌<◌, ◌≡◌, refl, Bool, true, false, cond, ◌⊎◌, inl, inr, List, [], ◌∷◌, arith, length, get_or}
 use lib.Ieee.{Float, nan, binary64, add, sub, lt, le, is_nan}
 use lib.Ieee.Scale.{finite}
 use Rattle.traces.specs.declared.Vehicle.{Vehicle}
@@ -62,30 +62,28 @@ line-cut : (spacing place line target : Float) → is_nan line ≡ false → is_
 unfolding cut_to line_for
 line-cut spacing place line target r p h = rw h (nearer-is target line p r).to-stop
 
-module _ (spacing place : Float) (lines : List Float) (target : Float) (p : is_nan target ≡ false) where
-  lines_cut : (n : ℕ) → ((j : ℕ) → j < n → is_nan (get_or lines j nan) ≡ false) → Cut target (cut_to_lines spacing place lines n target)
-  unfolding cut_to_lines
-  lines_cut zero r = record { real = p; at_most = float-le-refl target p }
-  lines_cut (suc n) r =
-      let c = lines_cut n (λ j h. r j (omega arith)) in
-      let line = get_or lines n nan in
-      let before = cut_to_lines spacing place lines n target in
-      let d = cut-is spacing (line_for place line) before (line-real spacing place line (r n (omega arith))) c.real in
-      record { real = d.real; at_most = float-le-trans _ before target d.at_most c.at_most }
+module _ (spacing place : Float) where
+  one_cut : (line target : Float) → is_nan line ≡ false → is_nan target ≡ false → Cut target (cut_to spacing (line_for place line) target)
+  one_cut line target r p = cut-is spacing (line_for place line) target (line-real spacing place line r) p
 
-  each_line : (n : ℕ) → ((j : ℕ) → j < n → is_nan (get_or lines j nan) ≡ false) → (k : ℕ) → k < n → le place (get_or lines k nan) ≡ true
-      → le (cut_to_lines spacing place lines n target) (get_or lines k nan) ≡ true
+  lines_cut : (lines : List Float) (target : Float) → is_nan target ≡ false → ((j : ℕ) → j < length lines → is_nan (get_or lines j nan) ≡ false)
+      → Cut target (cut_to_lines spacing place lines target)
   unfolding cut_to_lines
-  each_line zero r k h a = absurd (omega arith)
-  each_line (suc n) r k h a =
-      let line = get_or lines n nan in
-      let before = cut_to_lines spacing place lines n target in
-      let c = lines_cut n (λ j l. r j (omega arith)) in
-      let d = cut-is spacing (line_for place line) before (line-real spacing place line (r n (omega arith))) c.real in
-      elim (eq-or-lt_of_le (le_of_suc-le-suc h)) [
-        | inl e ↦ let a' : le place line ≡ true = rw (← e) a in rw e (line-cut spacing place line before (r n (omega arith)) c.real a')
-        | inr l ↦ float-le-trans _ before (get_or lines k nan) d.at_most (each_line n (λ j g. r j (omega arith)) k l a)
-      ]
+  lines_cut [] target p r = record { real = p; at_most = float-le-refl target p }
+  lines_cut (line ∷ lines) target p r =
+      let c = one_cut line target (r 0 (omega arith)) p in
+      let d = lines_cut lines (cut_to spacing (line_for place line) target) c.real (λ j h. r (suc j) (omega arith)) in
+      record { real = d.real; at_most = float-le-trans _ _ target d.at_most c.at_most }
+
+  each_line : (lines : List Float) (target : Float) → is_nan target ≡ false → ((j : ℕ) → j < length lines → is_nan (get_or lines j nan) ≡ false)
+      → (k : ℕ) → k < length lines → le place (get_or lines k nan) ≡ true → le (cut_to_lines spacing place lines target) (get_or lines k nan) ≡ true
+  unfolding cut_to_lines
+  each_line [] target p r k h a = absurd (omega arith)
+  each_line (line ∷ lines) target p r zero h a =
+      let c = one_cut line target (r 0 h) p in
+      float-le-trans _ _ line (lines_cut lines _ c.real (λ j l. r (suc j) (omega arith))).at_most (line-cut spacing place line target (r 0 h) p a)
+  each_line (line ∷ lines) target p r (suc k) h a =
+      each_line lines _ (one_cut line target (r 0 (omega arith)) p).real (λ j l. r (suc j) (omega arith)) k (omega arith) a
 
 -- ---- one vehicle, with what is known of its numbers
 module _ (spacing : Float) (vehicle : Vehicle) (ahead : Obstacle) (lines : List Float)
@@ -98,10 +96,10 @@ module _ (spacing : Float) (vehicle : Vehicle) (ahead : Obstacle) (lines : List 
   start = cut_to spacing ahead (add binary64 vehicle.place vehicle.advance)
 
   abbrev target : Float
-  target = cut_to_lines spacing vehicle.place lines (length lines) start
+  target = cut_to_lines spacing vehicle.place lines start
 
   at-start : Cut start target
-  at-start = lines_cut spacing vehicle.place lines start first.real (length lines) all
+  at-start = lines_cut spacing vehicle.place lines start first.real all
 
   -- where it ends: at the target, which is ahead, or where it was
   pub ends : ((moved spacing vehicle ahead lines ≡ target) × (lt vehicle.place target ≡ true)) ⊎ (moved spacing vehicle ahead lines ≡ vehicle.place)
@@ -122,7 +120,7 @@ module _ (spacing : Float) (vehicle : Vehicle) (ahead : Obstacle) (lines : List 
   pub moved-not-across : (j : ℕ) → j < length lines → le vehicle.place (get_or lines j nan) ≡ true
       → le (moved spacing vehicle ahead lines) (get_or lines j nan) ≡ true
   moved-not-across j h a = elim ends [
-    | inl e ↦ rw e.0 (each_line spacing vehicle.place lines start first.real (length lines) all j h a)
+    | inl e ↦ rw e.0 (each_line spacing vehicle.place lines start first.real all j h a)
     | inr e ↦ rw e a
   ]
 

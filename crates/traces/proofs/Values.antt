@@ -1,12 +1,11 @@
 -- Refusal 38: what a valid value is.
-use Rattle.base_laws.proofs.Kit.{◌≡◌, refl, Bool, true, false, ◌&&◌, List}
+use Rattle.base_laws.proofs.Kit.{◌≡◌, refl, true, false, ◌&&◌}
 use lib.Ieee.{Float, nan, inf, fin, neg, le, of_int}
 use lib.Ieee.Scale.{finite}
-use Rattle.base_laws.specs.Indexed.{every}
 use Rattle.base_laws.proofs.Bools.{no_truth, and_left, and_right}
 use Rattle.base_floats.proofs.Order.{under}
 use Rattle.base_floats.proofs.Sums.{Within, size-within}
-use Rattle.traces.specs.Call.{million, valid_place, valid_distance, valid_values}
+use Rattle.traces.specs.Call.{million, valid_place, valid_distance}
 
 -- a NaN and an infinity fail one of the two comparisons
 pub valid-place-is : (x : Float) → (le (neg million) x && le x million) ≡ valid_place x
@@ -31,8 +30,3 @@ place-within (inf s) h = no_truth h
 place-within (fin s m e) h =
     size-within 1_000_000 s _ _ (under (neg million) (fin s m e) (and_left (le (neg million) (fin s m e)) (le (fin s m e) million) h))
     (under (fin s m e) million (and_right (le (neg million) (fin s m e)) (le (fin s m e) million) h))
-
-pub valid-values-is : (places advances lines : List Float) (spacing : Float) (a b c d : Bool) → a ≡ every valid_place places → b ≡ every valid_distance advances → c ≡ every valid_place lines
-    → d ≡ valid_distance spacing → (a && b && c && d) ≡ valid_values places advances lines spacing
-unfolding valid_values
-valid-values-is places advances lines spacing a b c d p q r s = rw (p, q, r, s)

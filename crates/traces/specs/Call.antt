@@ -1,10 +1,11 @@
 -- The call `step_vehicles` (T-13): its refusals, its answer, and the places after it.
 use Rattle.std.specs.Prelude.{ℕ, Bool, ◌&&◌, not, List, [], ◌∷◌, leb, eqb, length, pos, Float, Ok, Err}
+use Rattle.std.specs.List.{list_all}
 use Rattle.std.specs.Float.{binary64}
 use Rattle.std.specs.Float.Ieee.{neg, lt, le, of_int}
 use Rattle.std.specs.Float.Ieee.Scale.{finite}
 use Rattle.base_search.specs.Checks.{Checks, check, ◌then◌, verdict, Verdict}
-use Rattle.base_laws.specs.Indexed.{list, every}
+use Rattle.base_laws.specs.Indexed.{list}
 use Rattle.traces.specs.Step.{place_after}
 
 -- a million metres
@@ -21,7 +22,7 @@ valid_distance x = valid_place x && not (lt x (of_int binary64 (pos 0)))
 
 -- 38
 unfoldable pub valid_values : List Float → List Float → List Float → Float → Bool
-valid_values places advances lines spacing = every valid_place places && every valid_distance advances && every valid_place lines && valid_distance spacing
+valid_values places advances lines spacing = list_all valid_place places && list_all valid_distance advances && list_all valid_place lines && valid_distance spacing
 
 -- 39: at most 64 vehicles and 64 lines, and one advance for each vehicle
 unfoldable pub valid_counts : List Float → List Float → List Float → Bool

@@ -1,6 +1,7 @@
 -- A step of vehicles along a street (T-13). A value is a 64-bit float: `add binary64` and `sub binary64` are the exact sum and difference, rounded once.
 -- Vehicles and lines are counted from 0; the first vehicle leads.
-use Rattle.std.specs.Prelude.{ℕ, zero, suc, cond, List, length, get_or, Float}
+use Rattle.std.specs.Prelude.{ℕ, zero, suc, cond, List, get_or, Float}
+use Rattle.std.specs.List.{fold}
 use Rattle.std.specs.Float.{nan, binary64}
 use Rattle.std.specs.Float.Ieee.{add, sub, lt, le}
 use Rattle.traces.specs.declared.Vehicle.{Vehicle}
@@ -21,16 +22,13 @@ cut_to spacing (RedLine line) target = nearer target line
 unfoldable pub line_for : Float → Float → Obstacle
 line_for place line = cond (le place line) (RedLine line) OpenRoad
 
--- a target, cut to each of the first j red lines
-unfoldable pub cut_to_lines : Float → Float → List Float → ℕ → Float → Float
-cut_to_lines spacing place lines zero target = target
-cut_to_lines spacing place lines (suc j) target =
-    cut_to spacing (line_for place (get_or lines j nan)) (cut_to_lines spacing place lines j target)
+-- place plus advance, cut to what is ahead and to each red line in turn
+unfoldable pub cut_to_lines : Float → Float → List Float → Float → Float
+cut_to_lines spacing place lines target = fold (λ target line. cut_to spacing (line_for place line) target) target lines
 
--- place plus advance, cut to what is ahead and to each red line
 unfoldable pub target_of : Float → Vehicle → Obstacle → List Float → Float
 target_of spacing vehicle ahead lines =
-    cut_to_lines spacing vehicle.place lines (length lines) (cut_to spacing ahead (add binary64 vehicle.place vehicle.advance))
+    cut_to_lines spacing vehicle.place lines (cut_to spacing ahead (add binary64 vehicle.place vehicle.advance))
 
 -- a vehicle moves to its target only if that is greater than its place
 unfoldable pub furthest : Float → Float → Float

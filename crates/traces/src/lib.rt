@@ -1,9 +1,10 @@
 // Time-distance traces: vehicles along a street, in metres as 64-bit floats. `step_vehicles` moves them by one step. Each sum and difference is rounded once.
 #![tactic(auto)]
 
-ghost use Rattle.std.specs.Prelude.{◌≡◌, length};
-ghost use Rattle.base_search.specs.Checks.{refusal};
-ghost use Rattle.base_laws.specs.Indexed.{list, every};
+ghost use Rattle.std.specs.Prelude.{◌≡◌, length, Float};
+ghost use Rattle.std.specs.List.{list_all};
+ghost use Rattle.base_search.specs.Checks.{checked};
+ghost use Rattle.base_laws.specs.Indexed.{list};
 ghost use Rattle.traces.specs.Step.{nearer, cut_to, line_for, moved, place_after};
 ghost use Rattle.traces.specs.Call.{valid_place, valid_distance, valid_counts, valid_values, step_vehicles, places_after};
 ghost use Rattle.traces.specs.Guarantees.{StepKeeps};
@@ -26,13 +27,16 @@ pub enum Obstacle {
 }
 
 // A target, cut to a stop that is nearer.
+#[tactic(auto, unfolding(crate::specs::Step::nearer))]
 fn cut_at(target: f64, stop: f64) -> f64
     ensures { result ≡ nearer target stop }
 {
+    // Not `f64::min`, which may give either of two zeros, and a number for a NaN.
     if stop < target { stop } else { target }
 }
 
 // A target, cut to an obstacle.
+#[tactic(auto, unfolding(crate::specs::Step::cut_to))]
 fn cut_to(obstacle: Obstacle, spacing: f64, target: f64) -> f64
     ensures { result ≡ cut_to spacing obstacle target }
 {
@@ -43,28 +47,28 @@ fn cut_to(obstacle: Obstacle, spacing: f64, target: f64) -> f64
     }
 }
 
-// A red line as an obstacle: one behind the vehicle is none.
-fn line_for(place: f64, line: f64) -> Obstacle
-    ensures { result ≡ line_for place line }
+// A target, cut to a red line as an obstacle: one behind the vehicle is none. Half the instructions of `cut_to` at it.
+#[tactic(auto, unfolding(crate::specs::Step::cut_to, crate::specs::Step::line_for, crate::specs::Step::nearer))]
+fn cut_to_line(place: f64, line: f64, target: f64) -> f64
+    ensures { (spacing : Float) → result ≡ cut_to spacing (line_for place line) target }
 {
-    if place <= line {
-        Obstacle::RedLine(line)
+    if line < target && place <= line {
+        line
     } else {
-        Obstacle::OpenRoad
+        target
     }
 }
 
 // Where a vehicle stands after the step.
+#[tactic(auto, unfolding(crate::specs::Step::moved, crate::specs::Step::target_of, crate::specs::Step::cut_to_lines, crate::specs::Step::furthest))]
 fn move_one(vehicle: Vehicle, ahead: Obstacle, red_lines: &[f64], spacing: f64) -> f64
     ensures { result ≡ moved spacing vehicle ahead red_lines.now }
 {
     let place = vehicle.place;
-    let mut target = cut_to(ahead, spacing, place + vehicle.advance);
-    let mut j = 0;
-    while j < red_lines.len() {
-        target = cut_to(line_for(place, red_lines[j]), spacing, target);
-        j += 1;
-    }
+    let start = cut_to(ahead, spacing, place + vehicle.advance);
+    let target = red_lines
+        .iter()
+        .fold(start, |target, line| cut_to_line(place, *line, target));
     if place < target { target } else { place }
 }
 
@@ -74,76 +78,75 @@ fn move_all(places: &mut [f64], advances: &[f64], red_lines: &[f64], spacing: f6
     ensures { places.new ≡ list (length places.old) (place_after places.old advances.now red_lines.now spacing) }
 {
     let mut ahead = Obstacle::OpenRoad;
-    let mut i = 0;
-    while i < places.len() {
-        let last = places[i];
-        let advance = advances[i];
+    // Not a `zip` with the advances: a proof knows no element that is written through one.
+    for (i, place) in places.iter_mut().enumerate() {
         let vehicle = Vehicle {
-            place: last,
-            advance,
+            place: *place,
+            advance: advances[i],
         };
-        let next = move_one(vehicle, ahead, red_lines, spacing);
-        places[i] = next;
-        ahead = Obstacle::LeaderPlace(last);
-        i += 1;
+        *place = move_one(vehicle, ahead, red_lines, spacing);
+        ahead = Obstacle::LeaderPlace(vehicle.place);
     }
 }
 
-// Refusal 38: whether a place or a line is finite and not beyond a million metres either way. A NaN and an infinity fail a comparison.
+// Whether a place or a line is finite and not beyond a million metres either way. A NaN and an infinity fail a comparison.
 fn valid_place(x: f64) -> bool
     ensures { result ≡ valid_place x }
 {
-    (-1000000.0 <= x) & (x <= 1000000.0)
+    -1_000_000.0 <= x && x <= 1_000_000.0
 }
 
-// Refusal 38: the same of an advance or a spacing, which is not negative either.
+// Whether an advance or a spacing is that, and not negative.
+#[tactic(auto, unfolding(crate::specs::Call::valid_distance))]
 fn valid_distance(x: f64) -> bool
     ensures { result ≡ valid_distance x }
 {
-    valid_place(x) & !(x < 0.0)
+    valid_place(x) && !(x < 0.0)
 }
 
 fn valid_places(values: &[f64]) -> bool
-    ensures { result ≡ every valid_place values.now }
+    ensures { result ≡ list_all valid_place values.now }
 {
-    let mut i = 0;
-    while i < values.len() {
-        if !valid_place(values[i]) {
-            return false;
-        }
-        i += 1;
-    }
-    true
+    values.iter().copied().all(valid_place)
 }
 
 fn valid_distances(values: &[f64]) -> bool
-    ensures { result ≡ every valid_distance values.now }
+    ensures { result ≡ list_all valid_distance values.now }
 {
-    let mut i = 0;
-    while i < values.len() {
-        if !valid_distance(values[i]) {
-            return false;
-        }
-        i += 1;
+    values.iter().copied().all(valid_distance)
+}
+
+// Refusal 39, unless there are at most 64 vehicles and 64 lines, and one advance for each vehicle.
+#[tactic(auto, unfolding(base_search::specs::Checks::checked, crate::specs::Call::valid_counts))]
+fn check_counts(places: &[f64], advances: &[f64], red_lines: &[f64]) -> Result<(), Refusal>
+    ensures { result ≡ checked (valid_counts places.now advances.now red_lines.now) 39 0 0 }
+{
+    if places.len() <= 64 && red_lines.len() <= 64 && advances.len() == places.len() {
+        Ok(())
+    } else {
+        Err(Refusal::new(39, 0, 0))
     }
-    true
 }
 
-// Refusal 39: whether there are at most 64 vehicles and 64 lines, and one advance for each vehicle.
-fn valid_counts(places: &[f64], advances: &[f64], red_lines: &[f64]) -> bool
-    ensures { result ≡ valid_counts places.now advances.now red_lines.now }
+// Refusal 38, unless every place, advance and line and the spacing is valid.
+#[tactic(auto, unfolding(base_search::specs::Checks::checked, crate::specs::Call::valid_values))]
+fn check_values(
+    places: &[f64],
+    advances: &[f64],
+    red_lines: &[f64],
+    spacing: f64,
+) -> Result<(), Refusal>
+    ensures { result ≡ checked (valid_values places.now advances.now red_lines.now spacing) 38 0 0 }
 {
-    (places.len() <= 64) & (red_lines.len() <= 64) & (advances.len() == places.len())
-}
-
-// Refusal 38: whether every place, advance and line and the spacing is valid.
-fn valid_values(places: &[f64], advances: &[f64], red_lines: &[f64], spacing: f64) -> bool
-    ensures { result ≡ valid_values places.now advances.now red_lines.now spacing }
-{
-    valid_places(places)
-        & valid_distances(advances)
-        & valid_places(red_lines)
-        & valid_distance(spacing)
+    if valid_places(places)
+        && valid_distances(advances)
+        && valid_places(red_lines)
+        && valid_distance(spacing)
+    {
+        Ok(())
+    } else {
+        Err(Refusal::new(38, 0, 0))
+    }
 }
 
 // One step. The places are changed where nothing is refused, and kept where something is.
@@ -157,19 +160,8 @@ pub fn step_vehicles(
     ensures places_after { places.new ≡ places_after places.old advances.now red_lines.now spacing }
     ensures step_keeps { StepKeeps places.old advances.now red_lines.now spacing result places.new }
 {
-    if !valid_counts(places, advances, red_lines) {
-        return refused(39);
-    }
-    if !valid_values(places, advances, red_lines, spacing) {
-        return refused(38);
-    }
+    check_counts(places, advances, red_lines)?;
+    check_values(places, advances, red_lines, spacing)?;
     move_all(places, advances, red_lines, spacing);
     Ok(())
-}
-
-// No line and no item is named.
-fn refused(number: u32) -> Result<(), Refusal>
-    ensures { result ≡ Verdict.Refused (refusal number 0 0) }
-{
-    Err(Refusal::new(number, 0, 0))
 }

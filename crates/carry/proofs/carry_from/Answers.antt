@@ -1,5 +1,4 @@
 -- `carry::carry_from` meets its contract: one law for each way out.
-use Rattle.base_laws.proofs.Kit.{◌+◌, ◌*◌, ◌≤◌, mul-le-mul_right, arith}
 use Rattle.carry.proofs.Carrying.{too-early, too-late, ledger-short, asked}
 use Rattle.carry.proofs.carry_from.Goals as goal
 
@@ -9,17 +8,8 @@ returns-then-boundary-lt1 c = rw c.new.ensures (too-early _ _ _ _ _ c.requires.l
 pub returns-then-counts-boundary : goal.returns-then-counts-boundary
 returns-then-counts-boundary c = rw c.new-then-counts-boundary.ensures (too-late _ _ _ _ _ c.requires.loaded c.if-boundary-lt1.false c.if-counts-boundary.true)
 
-pub overflow_mul-boundary-2 : goal.overflow_mul-boundary-2
-overflow_mul-boundary-2 c =
-    let few = c.requires.loaded.counted.few in
-    let h : 2 * (c.args.boundary + 1) ≤ 242 = omega (arith, few.steps, c.if-counts-boundary.false) in
-    omega (arith, mul-le-mul_right c.args.reading.counts.links h, few.links)
-
 pub returns-then-ledger-boundary : goal.returns-then-ledger-boundary
 returns-then-ledger-boundary c = rw c.new-then-ledger-boundary.ensures (ledger-short _ _ _ _ _ c.requires.loaded c.if-boundary-lt1.false c.if-counts-boundary.false c.if-ledger-boundary.true)
 
 pub carry_steps-requires : goal.carry_steps-requires
 carry_steps-requires c = asked _ c.args.plan.now _ _ c.args.carried.now c.requires.loaded c.if-boundary-lt1.false c.if-counts-boundary.false c.if-ledger-boundary.false c.requires.signal-table
-
-pub returns : goal.returns
-returns c = c.carry_steps.ensures

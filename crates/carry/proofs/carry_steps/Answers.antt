@@ -1,26 +1,21 @@
 -- `carry::carry_steps` meets its contract: one law for each way out.
 use Rattle.std.proofs.Common.{rules}
-use Rattle.base_laws.proofs.Kit.{sym, ◌∙◌, arith}
-use Rattle.carry.proofs.Carrying.{not-true, not-false, steps-asked, step-refused, more-lines, write-asked, carried-told}
+use Rattle.base_search.proofs.Laws.{passed_on}
+use Rattle.base_laws.proofs.Kit.{sym, ◌∙◌}
+use Rattle.carry.proofs.Carrying.{steps-asked, step-refused, more-lines, write-asked, carried-told}
 use Rattle.carry.proofs.carry_steps.Goals as goal
 
-pub take_steps-taken-requires : goal.take_steps-taken-requires
-take_steps-taken-requires c = steps-asked _ _ _ c.args.carried.now c.requires (search rules)
+pub take_steps-requires : goal.take_steps-requires
+take_steps-requires c = steps-asked _ _ _ c.args.carried.now c.requires (search rules)
 
-pub returns-in-Err : goal.returns-in-Err
-returns-in-Err c = step-refused _ _ _ _ c.requires c.take_steps-taken.ensures c.in-Err.is
-
-pub overflow_add-boundary : goal.overflow_add-boundary
-overflow_add-boundary c = let p = c.requires in omega (arith, p.last, p.loaded.counted.steps, p.loaded.counted.few.steps)
-
-pub new-requires : goal.new-requires
-new-requires c = let p = c.requires in (omega (arith, p.last, p.loaded.counted.steps, p.loaded.counted.few.steps), omega arith)
+pub returns-in_err-state : goal.returns-in_err-state
+returns-in_err-state c = rw (passed_on _ _ c.from_residual.ensures.1) (step-refused _ _ _ _ c.requires c.take_steps.ensures c.in_err-state.was)
 
 pub returns-then-not-is_end : goal.returns-then-not-is_end
-returns-then-not-is_end c = rw c.new.ensures (more-lines _ _ _ _ c.requires c.take_steps-taken.ensures c.in_default.is (sym c.is_end.ensures ∙ not-true _ c.if-not-is_end.true-raw))
+returns-then-not-is_end c = rw c.new.ensures (more-lines _ _ _ _ c.requires c.take_steps.ensures c.in_ok-state.was (sym c.is_end.ensures ∙ c.if-not-is_end.true))
 
 pub write_carried-requires : goal.write_carried-requires
-write_carried-requires c = write-asked _ c.args.plan.now _ c.args.carried.now c.requires c.take_steps-taken.ensures c.in_default.is c.take_steps-taken.auto.ledger
+write_carried-requires c = write-asked _ c.args.plan.now _ c.args.carried.now c.requires c.take_steps.ensures c.in_ok-state.was c.take_steps.auto.ledger
 
 pub returns : goal.returns
-returns c = carried-told _ _ _ _ c.requires c.take_steps-taken.ensures c.in_default.is (sym c.is_end.ensures ∙ not-false _ c.if-not-is_end.false-raw) c.write_carried.ensures
+returns c = carried-told _ _ _ _ c.requires c.take_steps.ensures c.in_ok-state.was (sym c.is_end.ensures ∙ c.if-not-is_end.false) c.write_carried.ensures

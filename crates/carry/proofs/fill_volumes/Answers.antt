@@ -1,5 +1,4 @@
 use Rattle.std.proofs.Common.{rules}
-use Rattle.base_laws.proofs.Kit.{length-set}
 use Rattle.carry.proofs.Filling.{volumes-none, held-before, held_after, entered-rises, left-rises, volumes-next, volumes-all}
 use Rattle.carry.proofs.fill_volumes.Goals as goal
 
@@ -23,9 +22,6 @@ left_at-requires c = search (held_after, rules)
 
 pub overflow_sub-row-in-loop-i : goal.overflow_sub-row-in-loop-i
 overflow_sub-row-in-loop-i c = search (left-rises, rules)
-
-pub bounds-row-i-in-loop-i : goal.bounds-row-i-in-loop-i
-bounds-row-i-in-loop-i c = simp length-set (search rules)
 
 pub loop-i-preserved : goal.loop-i-preserved
 loop-i-preserved c = search (volumes-next, rules)

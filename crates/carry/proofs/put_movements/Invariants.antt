@@ -1,5 +1,4 @@
 -- `carry::put_movements` meets its contract.
-use Rattle.base_laws.proofs.Kit.{◌-◌}
 use Rattle.carry.specs.Rows.{movement_row}
 use Rattle.model.specs.Table.{letter_m}
 use Rattle.network_writer.proofs.Put.{LinesTo}
@@ -7,6 +6,3 @@ use Rattle.carry.proofs.put_movements.Given as goal
 
 abbrev pub invariant-loop-j : goal.invariant-loop-j
 invariant-loop-j l = LinesTo letter_m (movement_row l.movements) l.count l.at l.initial.out l.out l.end l.j
-
-abbrev pub decreases-loop-j : goal.decreases-loop-j
-decreases-loop-j l = l.count - l.j

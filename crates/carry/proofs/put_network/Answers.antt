@@ -21,23 +21,11 @@ put_links-end-requires c = links-ready c.requires c.put_counts-end.ensures c.put
 pub put_movements-end-requires : goal.put_movements-end-requires
 put_movements-end-requires c = movements-ready c.requires c.put_counts-end.ensures c.put_trams-end.ensures c.put_signals-end.ensures c.put_links-end.ensures
 
-pub overflow_mul-width : goal.overflow_mul-width
-overflow_mul-width c = omega (arith, c.requires.counted.few.links)
-
-pub overflow_add-width : goal.overflow_add-width
-overflow_add-width c = omega (arith, c.requires.counted.few.links)
-
 pub copy_lines-end-requires : goal.copy_lines-end-requires
 copy_lines-end-requires c = past-ready c.requires c.put_counts-end.ensures c.put_trams-end.ensures c.put_signals-end.ensures c.put_links-end.ensures c.put_movements-end.ensures
 
 pub put_steps-places-requires : goal.put_steps-places-requires
 put_steps-places-requires c = steps-ready c.requires c.put_counts-end.ensures c.put_trams-end.ensures c.put_signals-end.ensures c.put_links-end.ensures c.put_movements-end.ensures c.copy_lines-end.ensures
-
-pub overflow_sub-rest : goal.overflow_sub-rest
-overflow_sub-rest c = omega (arith, c.requires.within, c.requires.counted.steps)
-
-pub overflow_add-counts : goal.overflow_add-counts
-overflow_add-counts c = omega (arith, c.requires.counted.few.links)
 
 pub copy_lines-requires : goal.copy_lines-requires
 copy_lines-requires c = rest-ready c.requires c.put_counts-end.ensures c.put_trams-end.ensures c.put_signals-end.ensures c.put_links-end.ensures c.put_movements-end.ensures c.copy_lines-end.ensures c.put_steps-places.result c.put_steps-places.ensures

@@ -6,12 +6,6 @@ use Rattle.carry.proofs.put_signals.Goals as goal
 pub loop-k-init : goal.loop-k-init
 loop-k-init c = rows_none
 
-pub overflow_mul-start : goal.overflow_mul-start
-overflow_mul-start c = omega (arith, c.requires.few)
-
-pub phase_count-requires : goal.phase_count-requires
-phase_count-requires c = (omega (arith, c.requires.few), c.requires.size)
-
 pub overflow_mul-stop : goal.overflow_mul-stop
 overflow_mul-stop c = omega (arith, signal-few c.requires c.loop-k.invariant (omega arith) c.phase_count.ensures c.index.ensures.0)
 
@@ -29,9 +23,6 @@ slice_bounds-put_line-end c = omega (arith, signal-few c.requires c.loop-k.invar
 
 pub put_line-end-requires : goal.put_line-end-requires
 put_line-end-requires c = signal-early c.requires c.loop-k.invariant (omega arith) c.phase_count.ensures c.index.ensures.0
-
-pub overflow_add-k : goal.overflow_add-k
-overflow_add-k c = omega (arith, c.requires.few)
 
 pub loop-k-preserved : goal.loop-k-preserved
 loop-k-preserved c = signals-next c.requires c.loop-k.invariant (omega arith) c.phase_count.ensures c.index.ensures.0 c.put_line-end.ensures

@@ -1,5 +1,4 @@
 -- `carry::put_signals` meets its contract.
-use Rattle.base_laws.proofs.Kit.{◌-◌}
 use Rattle.model.specs.Table.{letter_g}
 use Rattle.network_tables.specs.Fields.{table_signal}
 use Rattle.model_carry.specs.Part.{signal_numbers}
@@ -8,6 +7,3 @@ use Rattle.carry.proofs.put_signals.Given as goal
 
 abbrev pub invariant-loop-k : goal.invariant-loop-k
 invariant-loop-k l = LinesTo letter_g (λ r. signal_numbers (table_signal l.signals r)) l.count l.at l.initial.out l.out l.end l.k
-
-abbrev pub decreases-loop-k : goal.decreases-loop-k
-decreases-loop-k l = l.count - l.k

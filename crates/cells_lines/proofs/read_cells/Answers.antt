@@ -1,18 +1,22 @@
-use Rattle.std.proofs.Common.{rules}
-use Rattle.cells_lines.proofs.Cells.{cells-none, cells-all, cells-too-many, cells-refused, cells-more}
+use Rattle.std.proofs.Common.{rules, arith, refl}
+use Rattle.std.proofs.Math.Seq.{set-get_or}
+use Rattle.cells_lines.proofs.Cells.{cells-none, cells-all, cells-refused, cells-too-many, cells-more}
 use Rattle.cells_lines.proofs.read_cells.Goals as goal
 
-pub loop-row-init : goal.loop-row-init
-loop-row-init c = search (cells-none, rules)
+pub loop-n-init : goal.loop-n-init
+loop-n-init c = search (cells-none, rules)
 
-pub returns-then-n-ge64 : goal.returns-then-n-ge64
-returns-then-n-ge64 c = search (cells-too-many, rules)
+pub returns-then-not-is_cell-clause-ok : goal.returns-then-not-is_cell-clause-ok
+returns-then-not-is_cell-clause-ok c = rw set-get_or (cells-all c.loop-n.invariant refl (omega arith) (grind arith))
 
-pub returns-in-Refused : goal.returns-in-Refused
-returns-in-Refused c = search (cells-refused, rules)
+pub returns-in_err-cell-clause-err : goal.returns-in_err-cell-clause-err
+returns-in_err-cell-clause-err c = let e = cells-refused c.loop-n.invariant (grind arith) c.in_err-cell.ensures.err in grind arith
 
-pub loop-row-preserved : goal.loop-row-preserved
-loop-row-preserved c = search (cells-more, rules)
+pub loop-n-preserved : goal.loop-n-preserved
+loop-n-preserved c = cells-more c.loop-n.invariant (grind arith) c.in_ok-cell.ensures.ok (omega arith) (omega arith)
 
-pub returns : goal.returns
-returns c = search (cells-all, rules)
+pub returns-then-is_cell-clause-err : goal.returns-then-is_cell-clause-err
+returns-then-is_cell-clause-err c = rw c.new.ensures (cells-too-many c.loop-n.invariant (grind arith) (omega arith))
+
+pub returns-clause-ok : goal.returns-clause-ok
+returns-clause-ok c = cells-all c.loop-n.invariant (omega arith) (omega arith) (grind arith)

@@ -1,21 +1,22 @@
-use Rattle.std.proofs.Common.{rules}
-use Rattle.cells_lines.proofs.Demands.{demands-none, demands-too-many, demands-malformed, demands-more, demands-empty, demands-all}
+use Rattle.std.proofs.Common.{rules, arith, refl}
+use Rattle.std.proofs.Math.Seq.{set-get_or}
+use Rattle.cells_lines.proofs.Demands.{demands-none, demands-all, demands-refused, demands-too-many, demands-more}
 use Rattle.cells_lines.proofs.read_demands.Goals as goal
 
-pub loop-line-init : goal.loop-line-init
-loop-line-init c = search (demands-none, rules)
+pub loop-k-init : goal.loop-k-init
+loop-k-init c = demands-none c.requires
 
-pub returns-then-k-ge120 : goal.returns-then-k-ge120
-returns-then-k-ge120 c = search (demands-too-many, rules)
+pub returns-then-is_end-clause-ok : goal.returns-then-is_end-clause-ok
+returns-then-is_end-clause-ok c = rw set-get_or (demands-all c.requires c.loop-k.invariant refl (omega arith) (omega arith) cc)
 
-pub returns-in-Malformed : goal.returns-in-Malformed
-returns-in-Malformed c = search (demands-malformed, rules)
+pub returns-in_err-demand-clause-err : goal.returns-in_err-demand-clause-err
+returns-in_err-demand-clause-err c = let e = demands-refused c.requires c.loop-k.invariant (omega arith) (grind arith) c.in_err-demand.ensures.err in search rules
 
-pub loop-line-preserved : goal.loop-line-preserved
-loop-line-preserved c = search (demands-more, rules)
+pub loop-k-preserved : goal.loop-k-preserved
+loop-k-preserved c = demands-more c.requires c.loop-k.invariant c.in_ok-demand.ensures.ok (omega arith)
 
-pub returns-then-k-eq0 : goal.returns-then-k-eq0
-returns-then-k-eq0 c = search (demands-empty, rules)
+pub returns-then-not-is_end-clause-err : goal.returns-then-not-is_end-clause-err
+returns-then-not-is_end-clause-err c = rw c.new.ensures (demands-too-many c.requires c.loop-k.invariant (omega arith) (grind arith))
 
-pub returns : goal.returns
-returns c = search (demands-all, rules)
+pub returns-clause-ok : goal.returns-clause-ok
+returns-clause-ok c = demands-all c.requires c.loop-k.invariant (omega arith) (omega arith) (omega arith) (grind arith)

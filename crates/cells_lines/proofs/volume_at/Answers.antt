@@ -1,13 +1,18 @@
 -- `cells_lines::volume_at` meets its contract.
-use Rattle.std.proofs.Common.{rules}
-use Rattle.cells_lines.proofs.Lines.{volume-malformed, volume-beyond, volume-passed}
+use Rattle.std.proofs.Common.{arith}
+use Rattle.text_reader.specs.Reading.{record_at}
+use Rattle.cells_lines.specs.Corridor.{volume_form}
+use Rattle.cells_lines.proofs.Lines.{no-record, row_of}
 use Rattle.cells_lines.proofs.volume_at.Goals as goal
 
-pub returns-in_default : goal.returns-in_default
-returns-in_default c = search (volume-malformed, rules)
+pub returns-in_err-next-clause-err : goal.returns-in_err-next-clause-err
+unfolding volume_form
+returns-in_err-next-clause-err c = let n = no-record c.args.letter c.args.text.now c.args.at c.line_at.ensures c.in_err-next.ensures.ok_part in grind arith
 
-pub returns-then-volume-gt2000000000 : goal.returns-then-volume-gt2000000000
-returns-then-volume-gt2000000000 c = search (volume-beyond, rules)
+pub returns-then-volume-gt2000000000-clause-err : goal.returns-then-volume-gt2000000000-clause-err
+unfolding volume_form
+returns-then-volume-gt2000000000-clause-err c = let r = row_of c.args.letter c.args.text.now c.args.at c.line_at.ensures c.in_ok-next.ensures.ok_part in grind arith
 
-pub returns : goal.returns
-returns c = search (volume-passed, rules)
+pub returns-clause-ok : goal.returns-clause-ok
+unfolding volume_form record_at
+returns-clause-ok c = let r = row_of c.args.letter c.args.text.now c.args.at c.line_at.ensures c.in_ok-next.ensures.ok_part in grind arith

@@ -1,15 +1,10 @@
-use Rattle.std.proofs.Common.{rules}
-use Rattle.cells_steps.proofs.Turns.{running_none, running-ready, running_more, running-done}
+use Rattle.std.proofs.Common.{rules, arith}
+use Rattle.cells_steps.proofs.Turns.{running_more, running_done}
 use Rattle.cells_steps.proofs.run_steps.Goals as goal
 
-pub loop-t-init : goal.loop-t-init
-loop-t-init c = search (running_none, rules)
-
-pub step_cells-passed-requires : goal.step_cells-passed-requires
-step_cells-passed-requires c = search (running-ready, rules)
-
-pub loop-t-preserved : goal.loop-t-preserved
-loop-t-preserved c = search (running_more, rules)
+pub loop-demand-preserved : goal.loop-demand-preserved
+loop-demand-preserved c =
+    running_more c.loop-demand.invariant (omega arith) c.step_cells-step.ensures c.from.ensures c.from-in-loop-demand.ensures (search rules) (search rules)
 
 pub returns : goal.returns
-returns c = search (running-done, rules)
+returns c = running_done c.loop-demand.invariant (omega arith)

@@ -1,10 +1,12 @@
--- `listing_lines::digits_of` meets its contract.
-use Rattle.base_laws.proofs.Kit.{◌-◌, length}
-use Rattle.listing_lines.proofs.Laws.{Said}
+use Rattle.std.proofs.Common.{◌≡◌, ◌<◌, ◌^◌, drop}
+use mathlib.Core.List.{foldl}
+use Rattle.text_reader.specs.Field.{digits, shift, decimal}
 use Rattle.listing_lines.proofs.digits_of.Given as goal
 
-abbrev pub invariant-loop-i : goal.invariant-loop-i
-invariant-loop-i l = Said l.most l.bytes l.value l.i
-
-abbrev pub decreases-loop-i : goal.decreases-loop-i
-decreases-loop-i l = length l.bytes - l.i
+-- the digits so far say the value
+abbrev pub invariant-loop-b : goal.invariant-loop-b
+invariant-loop-b l = record {
+  small : l.value < 10 ^ l.b-index;
+  all : digits l.bytes ≡ digits (drop l.b-index l.bytes);
+  says : decimal l.bytes ≡ foldl shift l.value (drop l.b-index l.bytes);
+}

@@ -1,17 +1,11 @@
 use Rattle.std.proofs.Common.{rules}
-use Rattle.network_links.proofs.Shares.{sums-begin, add-asked, sums_next, sums-done}
+use Rattle.network_links.proofs.Shares.{sums-begin, sums_next}
 use Rattle.network_links.proofs.add_shares.Goals as goal
 
 pub loop-j-init : goal.loop-j-init
 loop-j-init c = search (sums-begin, rules)
 
-pub add_share-requires : goal.add_share-requires
-add_share-requires c = search (add-asked, rules)
-
 pub loop-j-preserved : goal.loop-j-preserved
 loop-j-preserved c =
     sums_next c.requires c.loop-j.invariant (search rules) (search rules) c.link_of.ensures
     c.index-from.ensures.0 c.share.ensures c.add_share.ensures
-
-pub returns : goal.returns
-returns c = search (sums-done, rules)

@@ -1,10 +1,6 @@
 -- `network_links::add_shares` meets its contract. The invariant: the shares of j movements are summed up.
-use Rattle.base_laws.proofs.Kit.{◌-◌}
 use Rattle.network_links.proofs.Shares.{SumsTo}
 use Rattle.network_links.proofs.add_shares.Given as goal
 
 abbrev pub invariant-loop-j : goal.invariant-loop-j
 invariant-loop-j l = SumsTo l.movements l.count l.sums l.j
-
-abbrev pub decreases-loop-j : goal.decreases-loop-j
-decreases-loop-j l = l.count - l.j

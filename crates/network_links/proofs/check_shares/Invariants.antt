@@ -1,11 +1,7 @@
 -- `network_links::check_shares` meets its contract.
-use Rattle.base_laws.proofs.Kit.{◌-◌}
 use Rattle.network_tables.specs.Blocks.{PassedTo}
 use Rattle.network_links.specs.Movements.{share_checks_in}
 use Rattle.network_links.proofs.check_shares.Given as goal
 
 abbrev pub invariant-loop-i : goal.invariant-loop-i
 invariant-loop-i l = PassedTo l.reading.counts.links (share_checks_in l.movements l.reading.counts) l.i
-
-abbrev pub decreases-loop-i : goal.decreases-loop-i
-decreases-loop-i l = l.counts.links - l.i

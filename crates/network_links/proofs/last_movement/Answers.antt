@@ -1,7 +1,7 @@
 use Rattle.std.proofs.Common.{rules}
 use Rattle.base_laws.proofs.Kit.{refl}
 use Rattle.network_links.specs.Movements.{last_movement_in}
-use Rattle.network_links.proofs.Movements.{last-here, last-other, last-all}
+use Rattle.network_links.proofs.Movements.{last-here, last-other}
 use Rattle.network_links.proofs.last_movement.Goals as goal
 use Rattle.network_links.proofs.last_movement.Goals.{then-index-link, else-index-link}
 
@@ -14,6 +14,3 @@ loop-j-preserved c = elim c.if-index-link.branch [
   | then-index-link w ↦ search (last-here, rules)
   | else-index-link w ↦ search (last-other, rules)
 ]
-
-pub returns : goal.returns
-returns c = search (last-all, rules)

@@ -5,6 +5,3 @@ use Rattle.network_past.proofs.read_past.Given as goal
 
 abbrev pub invariant-loop-m : goal.invariant-loop-m
 invariant-loop-m l = FormsTo l.text l.times l.fields l.place l.timed l.m
-
-abbrev pub decreases-loop-m : goal.decreases-loop-m
-decreases-loop-m l = l.counts.past - l.m

@@ -1,14 +1,15 @@
-use Rattle.std.proofs.Common.{rules}
-use Rattle.base_laws.specs.Test.{◌and◌}
-use Rattle.network_past.proofs.End.{links-none, links-more, links-all}
+-- `network_past::valid_links` meets its contract.
+use Rattle.std.proofs.Common.{refl, ◌∙◌, ℕ, arith, rules, tests}
+use Rattle.std.proofs.lemmas.Iterator.{YieldsList-from_range}
+use Rattle.std.proofs.lemmas.Iterator.Search.{all_from_yields_List}
+use Rattle.network_tables.proofs.Every.{all-every}
+use Rattle.network_past.specs.Past.{valid_past_in, valid_links_in}
 use Rattle.network_past.proofs.valid_links.Goals as goal
 
-pub loop-i-init : goal.loop-i-init
-loop-i-init c = search (links-none, rules)
-
-pub loop-i-preserved : goal.loop-i-preserved
-unfolding ◌and◌
-loop-i-preserved c = search (links-more, rules)
-
 pub returns : goal.returns
-returns c = search (links-all, rules)
+unfolding valid_links_in
+returns c =
+    let a = c.args in
+    let valid = λ (i : ℕ). valid_past_in a.counts a.links.now a.times.now a.demands.now a.row.now a.arrivals.now a.curves.now i in
+    all_from_yields_List valid _ _ _ c.all.ensures.ran (YieldsList-from_range 0 a.counts.links a.counts.links refl (omega arith)) (λ i b q k. search (rules, tests))
+    ∙ all-every a.counts.links valid

@@ -21,9 +21,6 @@ read_signal-stage-requires c = search (loaded-asked, rules)
 pub returns-in_default : goal.returns-in_default
 returns-in_default c = search (loaded-stop, rules)
 
-pub overflow_add-r : goal.overflow_add-r
-overflow_add-r c = omega (arith, c.requires.on-text.counted.few.signals)
-
 pub loop-r-preserved : goal.loop-r-preserved
 loop-r-preserved c =
     loaded-next c.requires c.loop-r.invariant c.loop-r-test.true

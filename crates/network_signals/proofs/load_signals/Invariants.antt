@@ -5,6 +5,3 @@ use Rattle.network_signals.proofs.load_signals.Given as goal
 
 abbrev pub invariant-loop-r : goal.invariant-loop-r
 invariant-loop-r l = LoadedTo l.text l.signals l.place l.r
-
-abbrev pub decreases-loop-r : goal.decreases-loop-r
-decreases-loop-r l = l.counts.signals - l.r

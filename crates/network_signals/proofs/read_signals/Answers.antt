@@ -42,9 +42,6 @@ shortest_time-shortest-requires c =
     c.read_signal.ensures c.read_signal.auto.fields
     c.in_ok-passed.was c.signal_in-signal.ensures
 
-pub overflow_add-r : goal.overflow_add-r
-overflow_add-r c = omega (arith, c.loop-r-test.true, c.requires.counted.few.signals)
-
 pub loop-r-preserved : goal.loop-r-preserved
 loop-r-preserved c =
     signals-next c.requires c.loop-r.invariant c.loop-r-test.true c.read_signal.ensures

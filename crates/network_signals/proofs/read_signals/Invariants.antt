@@ -5,6 +5,3 @@ use Rattle.network_signals.proofs.read_signals.Given as goal
 
 abbrev pub invariant-loop-r : goal.invariant-loop-r
 invariant-loop-r l = SignalsTo l.text l.phases l.signals l.place l.shortest l.r
-
-abbrev pub decreases-loop-r : goal.decreases-loop-r
-decreases-loop-r l = l.counts.signals - l.r

@@ -1,18 +1,14 @@
-use Rattle.std.proofs.Common.{rules}
-use Rattle.base_laws.proofs.Kit.{◌≡◌, refl, arith}
-use Rattle.base_laws.specs.Test.{every}
-use Rattle.network_signals.proofs.Values.{times_more}
+-- `network_signals::valid_times` meets its contract.
+use Rattle.std.proofs.Common.{refl, ◌∙◌, ℕ, arith, rules, tests, get_or}
+use Rattle.std.proofs.lemmas.Iterator.{YieldsList-from_range}
+use Rattle.std.proofs.lemmas.Iterator.Search.{all_from_yields_List}
+use Rattle.network_tables.proofs.Every.{all-every}
+use Rattle.network_signals.specs.Signals.{valid_time}
 use Rattle.network_signals.proofs.valid_times.Goals as goal
-
-pub loop-k-init : goal.loop-k-init
-unfolding every
-loop-k-init c = (search rules, refl, refl)
-
-pub loop-k-preserved : goal.loop-k-preserved
-loop-k-preserved c = (search rules, refl, times_more c.args.signal c.loop-k.k _ _ c.loop-k.invariant.2 c.valid_time-valid.ensures)
 
 pub returns : goal.returns
 returns c =
     let s = c.args.signal in
-    let e : c.loop-k.k ≡ s.phases = omega arith in
-    rw e at c.loop-k.invariant.2
+    let valid = λ (k : ℕ). valid_time (get_or s.least k 0) (get_or s.greatest k 0) in
+    all_from_yields_List valid _ _ _ c.all.ensures.ran (YieldsList-from_range 0 s.phases s.phases refl (omega arith)) (λ k b q h. search (rules, tests))
+    ∙ all-every s.phases valid

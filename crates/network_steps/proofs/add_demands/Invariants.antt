@@ -5,6 +5,3 @@ use Rattle.network_steps.proofs.add_demands.Given as goal
 
 abbrev pub invariant-loop-i : goal.invariant-loop-i
 invariant-loop-i l = AddedTo l.step l.links l.initial.demands l.demands l.i
-
-abbrev pub decreases-loop-i : goal.decreases-loop-i
-decreases-loop-i l = l.links - l.i

@@ -5,6 +5,3 @@ use Rattle.network_steps.proofs.read_steps.Given as goal
 
 abbrev pub invariant-loop-n : goal.invariant-loop-n
 invariant-loop-n l = StepsTo l.text l.reading.timed l.times l.demands l.step l.place l.n
-
-abbrev pub decreases-loop-n : goal.decreases-loop-n
-decreases-loop-n l = l.counts.steps - l.n

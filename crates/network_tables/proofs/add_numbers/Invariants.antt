@@ -1,10 +1,11 @@
--- `network_tables::add_numbers` meets its contract. The invariant: the first k sums have their numbers.
-use Rattle.base_laws.proofs.Kit.{◌-◌}
-use Rattle.network_tables.proofs.Sums.{SummedTo}
+-- `network_tables::add_numbers` meets its contract. The invariant: the first k sums have their numbers, and the others are as they were.
+use Rattle.std.proofs.Common.{◌≡◌, ℕ, ◌+◌, ◌<◌, ◌≤◌, List, length, get_or}
 use Rattle.network_tables.proofs.add_numbers.Given as goal
 
-abbrev pub invariant-loop-k : goal.invariant-loop-k
-invariant-loop-k l = SummedTo l.line l.count l.initial.sums l.sums l.k
+pub record SummedTo (line before after : List ℕ) (n : ℕ) : Type 0 where
+  pub size : length after ≡ length before
+  pub added : (k : ℕ) → k < n → get_or after k 0 ≡ get_or before k 0 + get_or line (1 + k) 0
+  pub rest : (k : ℕ) → n ≤ k → get_or after k 0 ≡ get_or before k 0
 
-abbrev pub decreases-loop-k : goal.decreases-loop-k
-decreases-loop-k l = l.count - l.k
+abbrev pub invariant-loop-k : goal.invariant-loop-k
+invariant-loop-k l = SummedTo l.line l.initial.sums l.sums l.k

@@ -1,19 +1,21 @@
-use Rattle.std.proofs.Common.{rules}
-use Rattle.network_tables.proofs.Blocks.{passed_none}
-use Rattle.network_trams.proofs.Lines.{phase-asked, phases-broken, phases-next, phases-done}
+use Rattle.std.proofs.Common.{refl, ◌∙◌, arith, rules}
+use Rattle.base_search.proofs.Laws.{passed_on}
+use Rattle.network_tables.proofs.Blocks.{passed_none, passed-all, passed-stop, passed-next}
+use Rattle.network_tables.proofs.Stages.{judged-refused, judged-passed}
+use Rattle.network_trams.proofs.Lines.{phase-said}
 use Rattle.network_trams.proofs.check_tram_phases.Goals as goal
 
 pub loop-k-init : goal.loop-k-init
 loop-k-init c = search (passed_none, rules)
 
-pub valid_phase-requires : goal.valid_phase-requires
-valid_phase-requires c = search (phase-asked, rules)
-
-pub returns-then-not-valid_phase : goal.returns-then-not-valid_phase
-returns-then-not-valid_phase c = search (phases-broken, rules)
+pub returns-in_err-checked : goal.returns-in_err-checked
+returns-in_err-checked c =
+    rw (passed_on _ _ c.from_residual.ensures.1)
+    (judged-refused (passed-stop c.loop-k.invariant c.loop-k-test.true (phase-said _ _ _ _ c.valid_phase.ensures c.tram_line-line.ensures c.checked.ensures ∙ c.in_err-checked.was)))
 
 pub loop-k-preserved : goal.loop-k-preserved
-loop-k-preserved c = search (phases-next, rules)
+loop-k-preserved c =
+    passed-next c.loop-k.invariant c.loop-k-test.true (phase-said _ _ _ _ c.valid_phase.ensures c.tram_line-line.ensures c.checked.ensures ∙ c.in_ok-checked.was)
 
 pub returns : goal.returns
-returns c = search (phases-done, rules)
+returns c = judged-passed (passed-all c.loop-k.invariant (omega arith)) refl

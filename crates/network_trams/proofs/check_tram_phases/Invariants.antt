@@ -1,11 +1,7 @@
 -- `network_trams::check_tram_phases` meets its contract.
-use Rattle.base_laws.proofs.Kit.{◌-◌}
 use Rattle.network_tables.specs.Blocks.{PassedTo}
 use Rattle.network_trams.specs.Trams.{phase_checks_in}
 use Rattle.network_trams.proofs.check_tram_phases.Given as goal
 
 abbrev pub invariant-loop-k : goal.invariant-loop-k
 invariant-loop-k l = PassedTo l.reading.counts.trams (phase_checks_in l.trams l.phases l.reading.counts) l.k
-
-abbrev pub decreases-loop-k : goal.decreases-loop-k
-decreases-loop-k l = l.counts.trams - l.k

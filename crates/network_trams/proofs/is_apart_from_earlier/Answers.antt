@@ -1,12 +1,13 @@
-use Rattle.std.proofs.Common.{rules}
-use Rattle.network_trams.proofs.Tested.{apart_none, apart_more, apart-all}
+use Rattle.std.proofs.Common.{refl, ◌∙◌, ℕ, arith, rules, tests}
+use Rattle.std.proofs.lemmas.Iterator.{YieldsList-from_range}
+use Rattle.std.proofs.lemmas.Iterator.Search.{all_from_yields_List}
+use Rattle.network_tables.proofs.Every.{all-every}
+use Rattle.network_trams.specs.Trams.{apart_in, apart_from}
 use Rattle.network_trams.proofs.is_apart_from_earlier.Goals as goal
 
-pub loop-j-init : goal.loop-j-init
-loop-j-init c = search (apart_none, rules)
-
-pub loop-j-preserved : goal.loop-j-preserved
-loop-j-preserved c = search (apart_more, rules)
-
 pub returns : goal.returns
-returns c = search (apart-all, rules)
+unfolding apart_from
+returns c =
+    let apart = λ (j : ℕ). apart_in c.args.trams.now j c.args.k in
+    all_from_yields_List apart _ _ _ c.all.ensures.ran (YieldsList-from_range 0 c.args.k c.args.k refl (omega arith)) (λ j b q k. search (rules, tests))
+    ∙ all-every c.args.k apart

@@ -1,15 +1,10 @@
 use Rattle.std.proofs.Common.{rules}
-use Rattle.network_trams.proofs.Lines.{load-begin, load-never, load-next, load-done}
+use Rattle.text_reader.specs.Lines.{lines}
+use Rattle.network_tables.specs.Blocks.{tram_block}
+use Rattle.network_trams.proofs.Lines.{load-judged, trams-loaded}
 use Rattle.network_trams.proofs.load_trams.Goals as goal
 
-pub loop-k-init : goal.loop-k-init
-loop-k-init c = search (load-begin, rules)
-
-pub returns-in_default : goal.returns-in_default
-returns-in_default c = search (load-never, rules)
-
-pub loop-k-preserved : goal.loop-k-preserved
-loop-k-preserved c = search (load-next, rules)
-
 pub returns : goal.returns
-returns c = search (load-done, rules)
+returns c =
+    trams-loaded c.requires c.read_rows.result
+    (c.read_rows.ensures (tram_block (lines c.args.text.now)) (load-judged c.requires (λ trams k said p. search rules)) c.requires.starts)

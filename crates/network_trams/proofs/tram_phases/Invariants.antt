@@ -4,6 +4,3 @@ use Rattle.network_trams.proofs.tram_phases.Given as goal
 
 abbrev pub invariant-loop-k : goal.invariant-loop-k
 invariant-loop-k l = ClaimsFrom l.trams l.count l.n l.k l.asked
-
-abbrev pub decreases-loop-k : goal.decreases-loop-k
-decreases-loop-k l = l.k

@@ -1,10 +1,6 @@
 -- `network_writer::widen` meets its contract.
-use Rattle.base_laws.proofs.Kit.{length, ◌-◌}
-use Rattle.network_writer.proofs.Filling.{WideTo}
+use Rattle.base_laws.proofs.Kit.{ℕ, ◌<◌, ◌≡◌, get_or}
 use Rattle.network_writer.proofs.widen.Given as goal
 
 abbrev pub invariant-loop-k : goal.invariant-loop-k
-invariant-loop-k l = WideTo l.row l.initial.numbers l.numbers l.k
-
-abbrev pub decreases-loop-k : goal.decreases-loop-k
-decreases-loop-k l = length l.row - l.k
+invariant-loop-k l = (j : ℕ) → j < l.k → get_or l.numbers j 0 ≡ get_or l.row j 0

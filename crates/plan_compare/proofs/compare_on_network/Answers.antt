@@ -1,27 +1,33 @@
 -- `plan_compare::compare_on_network` meets its contract.
-use Rattle.std.proofs.Common.{rules}
-use Rattle.plan_compare.proofs.Call.{first-refused, second-refused, texts-formed, time-words, both-accepted}
+use Rattle.plan_compare.specs.declared.ComparisonRefusal.TheVariants.{First, Second}
+use Rattle.plan_compare.proofs.Call.{passed-ok, passed-as, first-refused, second-refused, texts-formed, time-words, both-accepted}
 use Rattle.plan_compare.proofs.compare_on_network.Goals as goal
 
-pub returns-in-Err : goal.returns-in-Err
-returns-in-Err c = search (first-refused, rules)
+pub returns-in_err-one : goal.returns-in_err-one
+returns-in_err-one c =
+    let (r, refused, is) = passed-as First _ c.map_err.ensures.cases c.in_err-one.was c.from_residual.ensures.1 in
+    rw is (first-refused _ _ _ _ _ c.requires.loaded.holds c.judge_plan.ensures refused)
+
+pub returns-in_err-other : goal.returns-in_err-other
+returns-in_err-other c =
+    let (r, refused, is) = passed-as Second _ c.map_err-2.ensures.cases c.in_err-other.was c.from_residual-in_err-other.ensures.1 in
+    rw is
+    (second-refused _ _ _ _ _ c.requires.loaded.holds c.judge_plan.ensures (passed-ok First _ c.map_err.ensures.cases c.in_ok-one.was) c.judge_with_signals.ensures refused)
 
 pub order_of_texts-requires : goal.order_of_texts-requires
 order_of_texts-requires c =
     let l = c.requires.loaded in
-    texts-formed _ _ _ _ _ l.holds c.judge_plan-judged.ensures c.in-Ok.is c.judge_with_signals.ensures c.in-Ok-judge_with_signals.is l.counted
+    let one = passed-ok First _ c.map_err.ensures.cases c.in_ok-one.was in
+    texts-formed _ _ _ _ _ l.holds c.judge_plan.ensures one c.judge_with_signals.ensures (passed-ok Second _ c.map_err-2.ensures.cases c.in_ok-other.was) l.counted
 
 pub gap_between-requires : goal.gap_between-requires
 gap_between-requires c =
-    let l = c.requires.loaded in
-    time-words _ _ _ _ _ l.holds c.judge_plan-judged.ensures c.in-Ok.is c.judge_with_signals.ensures c.in-Ok-judge_with_signals.is
+    let one = passed-ok First _ c.map_err.ensures.cases c.in_ok-one.was in
+    time-words _ _ _ _ _ c.requires.loaded.holds c.judge_plan.ensures one c.judge_with_signals.ensures (passed-ok Second _ c.map_err-2.ensures.cases c.in_ok-other.was)
 
-pub returns-in-Err-judge_with_signals : goal.returns-in-Err-judge_with_signals
-returns-in-Err-judge_with_signals c =
+pub returns : goal.returns
+returns c =
     let l = c.requires.loaded in
-    second-refused _ _ _ _ _ l.holds c.judge_plan-judged.ensures c.in-Ok.is c.judge_with_signals.ensures c.in-Err-judge_with_signals.is
-
-pub returns-in-Ok-judge_with_signals : goal.returns-in-Ok-judge_with_signals
-returns-in-Ok-judge_with_signals c =
-    let l = c.requires.loaded in
-    both-accepted _ _ _ _ _ l.holds c.judge_plan-judged.ensures c.in-Ok.is c.judge_with_signals.ensures c.in-Ok-judge_with_signals.is l.counted c.order_of_texts.ensures c.gap_between.ensures
+    let one = passed-ok First _ c.map_err.ensures.cases c.in_ok-one.was in
+    let other = passed-ok Second _ c.map_err-2.ensures.cases c.in_ok-other.was in
+    both-accepted _ _ _ _ _ l.holds c.judge_plan.ensures one c.judge_with_signals.ensures other l.counted c.order_of_texts.ensures c.gap_between.ensures

@@ -1,18 +1,20 @@
 -- `plan_link_state::state_by` meets its contract. One law for each way out.
+use Rattle.base_laws.proofs.Kit.{ap}
+use Rattle.std.specs.Prelude.{Err}
 use Rattle.plan_link_state.proofs.State.{short-told, past-told, below-told, above-told, row-held, arrival-asked, arrival-lasts, found-told}
 use Rattle.plan_link_state.proofs.state_by.Goals as goal
 
 pub returns-then-ledger-row_start : goal.returns-then-ledger-row_start
-returns-then-ledger-row_start c = short-told c.requires c.args.ledger.now c.args.boundary c.args.link c.row_start.ensures c.if-ledger-row_start.true c.refused.ensures
+returns-then-ledger-row_start c = short-told c.requires c.args.ledger.now c.args.boundary c.args.link c.row_start.ensures c.if-ledger-row_start.true (ap Err c.new.ensures)
 
 pub returns-then-steps-n : goal.returns-then-steps-n
-returns-then-steps-n c = past-told c.requires c.args.ledger.now c.args.boundary c.args.link c.row_start.ensures c.if-ledger-row_start.false c.if-steps-n.true c.refused-then-steps-n.ensures
+returns-then-steps-n c = past-told c.requires c.args.ledger.now c.args.boundary c.args.link c.row_start.ensures c.if-ledger-row_start.false c.if-steps-n.true (ap Err c.new-then-steps-n.ensures)
 
 pub returns-then-number-lt1 : goal.returns-then-number-lt1
-returns-then-number-lt1 c = below-told c.requires c.args.ledger.now c.args.boundary c.args.link c.row_start.ensures c.if-ledger-row_start.false c.if-steps-n.false c.if-number-lt1.true c.refused-then-number-lt1.ensures
+returns-then-number-lt1 c = below-told c.requires c.args.ledger.now c.args.boundary c.args.link c.row_start.ensures c.if-ledger-row_start.false c.if-steps-n.false c.if-number-lt1.true (ap Err c.new-then-number-lt1.ensures)
 
 pub returns-then-count-number : goal.returns-then-count-number
-returns-then-count-number c = above-told c.requires c.args.ledger.now c.args.boundary c.args.link c.row_start.ensures c.if-ledger-row_start.false c.if-steps-n.false c.if-number-lt1.false c.if-count-number.true c.refused-then-count-number.ensures
+returns-then-count-number c = above-told c.requires c.args.ledger.now c.args.boundary c.args.link c.row_start.ensures c.if-ledger-row_start.false c.if-steps-n.false c.if-number-lt1.false c.if-count-number.true (ap Err c.new-then-count-number.ensures)
 
 pub entered_at-entered-requires : goal.entered_at-entered-requires
 entered_at-entered-requires c = row-held c.requires c.args.ledger.now c.args.boundary c.args.link c.row_start.ensures c.if-ledger-row_start.false c.if-steps-n.false c.if-number-lt1.false c.if-count-number.false

@@ -5,8 +5,9 @@ use mir.Syntax.{w64}
 use mir.Val.{SFits, to_z, of_z}
 use mir.Facts.{to_z-of_z}
 use Rattle.plan_compare.specs.declared.Order.{Order}
-use Rattle.plan_compare.specs.declared.ComparisonAnswer.{ComparisonAnswer}
-use Rattle.plan_compare.specs.declared.ComparisonAnswer.TheVariants as comparison-answer
+use Rattle.std.specs.Prelude.{Result, Ok, Err}
+use Rattle.plan_compare.specs.declared.Comparison.{Comparison}
+use Rattle.plan_compare.specs.declared.ComparisonRefusal.{ComparisonRefusal}
 use Rattle.plan_compare.specs.Promises.{ComparisonPromises, ComparisonGot}
 use Rattle.plan_compare.proofs.Call.{compared-word}
 use Rattle.plancheck_c.specs.Results.{order_number, comparison_result, comparison_answer_of}
@@ -17,19 +18,19 @@ use Rattle.text_reader.specs.Lines.{Line}
 use Rattle.plancheck_c.proofs.plancheck_compare_plans.Goals as goal
 
 -- what is promised of an answer is promised of the answer that its result is read as
-module _ (a : ComparisonAnswer) (r : ComparisonResult) (is : r ≡ comparison_result a) where
+module _ (a : Result Comparison ComparisonRefusal) (r : ComparisonResult) (is : r ≡ comparison_result a) where
   promised : {network first second : List Line} {first_size second_size : ℕ} → ComparisonPromises network first second first_size second_size a
       → ComparisonPromises network first second first_size second_size (comparison_answer_of r)
   promised {network} {first} {second} {first_size} {second_size} g =
-      of-comparison (λ (x : ComparisonAnswer). ComparisonPromises network first second first_size second_size x) a r is g.refused-number g
+      of-comparison (λ (x : Result Comparison ComparisonRefusal). ComparisonPromises network first second first_size second_size x) a r is g.refused-number g
 
   got : {network first second first_old second_old first_new second_new : List ℕ} → ComparisonGot network first second first_old second_old a first_new second_new
       → ComparisonGot network first second first_old second_old (comparison_answer_of r) first_new second_new
   got {network} {first} {second} {first_old} {second_old} {first_new} {second_new} g =
-      of-comparison (λ (x : ComparisonAnswer). ComparisonGot network first second first_old second_old x first_new second_new) a r is g.promised.refused-number g
+      of-comparison (λ (x : Result Comparison ComparisonRefusal). ComparisonGot network first second first_old second_old x first_new second_new) a r is g.promised.refused-number g
 
 compared-result : (o : Order) (gap : ℤ) (n : ℕ) → n ≡ order_number o → SFits w64 gap
-    → record { number = 0; line = 0; item = 0; plan = 0; order = n; gap = to_z w64 (of_z w64 gap) } ≡ comparison_result (comparison-answer.Compared o gap)
+    → record { number = 0; line = 0; item = 0; plan = 0; order = n; gap = to_z w64 (of_z w64 gap) } ≡ comparison_result (Ok (record { order = o; gap = gap }))
 compared-result o gap n e fits = rw (e, to_z-of_z fits)
 
 pub returns-in-Compared : goal.returns-in-Compared

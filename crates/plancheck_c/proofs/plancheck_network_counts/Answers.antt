@@ -4,10 +4,10 @@ use Rattle.plancheck_c.specs.Results.{counts_result}
 use Rattle.plancheck_c.proofs.Numbers.{counts-tells}
 use Rattle.plancheck_c.proofs.plancheck_network_counts.Goals as goal
 
-pub returns-in-Counted : goal.returns-in-Counted
-returns-in-Counted c =
+pub returns-in-Ok : goal.returns-in-Ok
+returns-in-Ok c =
     let got = c.count_network.ensures in
-    let is = c.in-Counted.is in
+    let is = c.in-Ok.is in
     let told = sym (ap counts_result (sym got.value ∙ is)) in
     record { value = told; number_tells = counts-tells _ told; padding_ignored = λ padded same. sym (ap counts_result (sym (got.padding_ignored padded same) ∙ is)) }
 

@@ -1,7 +1,7 @@
 -- `plancheck_c::plancheck_plan_from_listing` meets its contract.
 use Rattle.base_laws.proofs.Kit.{ℕ, List, ◌≡◌, ap, ◌∙◌}
 use Rattle.text_reader.specs.Lines.{Line}
-use Rattle.listing_lines.specs.declared.Entry.{Entry}
+use Rattle.listing_lines.specs.Entry.{Entry}
 use Rattle.listing_call.specs.ReadsBack.{PlanGot}
 use Rattle.plancheck_c.specs.declared.TextResult.{TextResult}
 use Rattle.plancheck_c.specs.Results.{text_result, text_answer_of}

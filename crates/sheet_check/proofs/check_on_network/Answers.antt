@@ -1,25 +1,24 @@
 -- `sheet_check::check_on_network` meets its contract.
 use Rattle.std.proofs.Common.{rules}
+use Rattle.base_search.proofs.Laws.{passed_on}
 use Rattle.sheet_check.proofs.Call.{read_asked, sheet-refused, plan-refused, pass-asked, runs-kept, runs-broken}
 use Rattle.sheet_check.proofs.check_on_network.Goals as goal
 
-pub read_sheet-read-requires : goal.read_sheet-read-requires
-read_sheet-read-requires c = search (read_asked, rules)
+pub read_sheet-requires : goal.read_sheet-requires
+read_sheet-requires c = search (read_asked, rules)
 
-pub returns-in-Err : goal.returns-in-Err
-returns-in-Err c = search (sheet-refused, rules)
+pub returns-in_err-read_sheet : goal.returns-in_err-read_sheet
+returns-in_err-read_sheet c = rw (passed_on _ _ c.from_residual.ensures.1) (sheet-refused c.requires c.read_sheet.ensures c.in_err-read_sheet.was)
 
-pub returns-in_default-answer : goal.returns-in_default-answer
-returns-in_default-answer c = search (plan-refused, rules)
+pub returns-in_err-totals : goal.returns-in_err-totals
+returns-in_err-totals c = rw (passed_on _ _ c.from_residual-in_err-totals.ensures.1) (plan-refused c.requires c.read_sheet.ensures c.in_ok-read_sheet.was c.judge_plan.ensures c.in_err-totals.was)
 
 pub pass_plan-requires-clause-pass_asked : goal.pass_plan-requires-clause-pass_asked
-pass_plan-requires-clause-pass_asked c = pass-asked c.requires c.read_sheet-read.ensures c.in_default.is c.judge_plan-answer.ensures c.in-Ok.is
+pass_plan-requires-clause-pass_asked c = pass-asked c.requires c.read_sheet.ensures c.in_ok-read_sheet.was c.judge_plan.ensures c.in_ok-totals.was
 
-pub pass_plan-requires-clause-signal_table : goal.pass_plan-requires-clause-signal_table
-pass_plan-requires-clause-signal_table c = c.requires.signal-table
+pub returns-in_err-pass_plan : goal.returns-in_err-pass_plan
+returns-in_err-pass_plan c = rw (passed_on _ _ c.from_residual-in_err-pass_plan.ensures.1)
+    (runs-broken c.requires c.read_sheet.ensures c.in_ok-read_sheet.was c.judge_plan.ensures c.in_ok-totals.was c.pass_plan.ensures c.in_err-pass_plan.was)
 
-pub returns-in-Ok : goal.returns-in-Ok
-returns-in-Ok c = runs-kept c.requires c.read_sheet-read.ensures c.in_default.is c.judge_plan-answer.ensures c.in-Ok.is c.pass_plan.ensures c.in-Ok.is
-
-pub returns-in-Err-pass_plan : goal.returns-in-Err-pass_plan
-returns-in-Err-pass_plan c = runs-broken c.requires c.read_sheet-read.ensures c.in_default.is c.judge_plan-answer.ensures c.in-Ok.is c.pass_plan.ensures c.in-Err-pass_plan.is
+pub returns : goal.returns
+returns c = runs-kept c.requires c.read_sheet.ensures c.in_ok-read_sheet.was c.judge_plan.ensures c.in_ok-totals.was c.pass_plan.ensures c.in_ok-pass_plan.was

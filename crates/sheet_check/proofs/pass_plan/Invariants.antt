@@ -1,10 +1,7 @@
 -- `sheet_check::pass_plan` meets its contract. The loop's invariant: the steps up to a boundary are gone through.
-use Rattle.base_laws.proofs.Kit.{◌-◌}
+use Rattle.base_laws.proofs.Kit.{◌≡◌}
 use Rattle.sheet_check.proofs.Call.{Passing}
 use Rattle.sheet_check.proofs.pass_plan.Given as goal
 
-abbrev pub invariant-loop-pass : goal.invariant-loop-pass
-invariant-loop-pass l = Passing l.network l.plan l.table l.pass l.signals
-
-abbrev pub decreases-loop-pass : goal.decreases-loop-pass
-decreases-loop-pass l = l.reading.counts.steps - l.pass.boundary
+abbrev pub invariant-loop : goal.invariant-loop
+invariant-loop l = (l.pass.boundary ≡ l.counter) × Passing l.network l.plan l.table l.pass l.signals

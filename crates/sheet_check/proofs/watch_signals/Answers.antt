@@ -1,22 +1,23 @@
 use Rattle.std.proofs.Common.{rules}
 use Rattle.base_laws.proofs.Kit.{◌≡◌, arith}
-use Rattle.sheet_check.proofs.Watching.{watched-none, watched-more, duration-asked}
+use Rattle.sheet_check.proofs.Watching.{watch-on, watched-none, watched-more, watched-still, duration-asked}
 use Rattle.sheet_check.proofs.watch_signals.Goals as goal
+use Rattle.sheet_check.proofs.watch_signals.Goals.{then-asked-i-eq0, else-asked-i-eq0}
 
 pub loop-i-init : goal.loop-i-init
-loop-i-init c = (search rules, watched-none _ _ _ _ _ _ _ (search rules))
+loop-i-init c = watched-none _ _ _ _ _ _ _ (search rules)
 
 pub duration_of-duration-requires : goal.duration_of-duration-requires
 duration_of-duration-requires c = duration-asked c.requires (omega arith)
 
 pub loop-i-preserved : goal.loop-i-preserved
 loop-i-preserved c =
-    let w = c.loop-i in
-    let d = c.duration_of-duration in
-    (search rules, watched-more _ _ _ _ _ _ _ w.i w.watches c.next_watch.result (omega arith) w.invariant.1 d.result d.ensures c.next_watch.ensures)
+    let l = c.loop-i in
+    elim c.if-asked-i-eq0.branch [
+      | then-asked-i-eq0 w ↦ rw w.watches-is (watched-more _ _ _ _ _ _ _ l.i l.watches w.watch_after.result (omega arith) l.invariant w.duration_of-duration.result w.duration_of-duration.ensures
+          (watch-on _ _ _ _ _ _ _ w.if-asked-i-eq0.true _ w.watch_after.ensures))
+      | else-asked-i-eq0 w ↦ rw w.watches-is (watched-still _ _ _ _ _ _ _ l.i l.watches l.invariant w.if-asked-i-eq0.false)
+    ]
 
 pub returns : goal.returns
-returns c =
-    let w = c.loop-i in
-    let e : w.i ≡ c.args.count = omega arith in
-    rw e at w.invariant.1
+returns c = let e : c.loop-i.i ≡ c.args.count = omega arith in rw e at c.loop-i.invariant

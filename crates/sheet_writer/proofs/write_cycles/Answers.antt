@@ -1,13 +1,14 @@
 -- `sheet_writer::write_cycles` meets its contract.
 use Rattle.std.proofs.Common.{rules}
+use Rattle.base_search.proofs.Laws.{passed_on}
 use Rattle.sheet_writer.proofs.Call.{cycles-stopped, masks-asked, cycles-written}
 use Rattle.sheet_writer.proofs.write_cycles.Goals as goal
 
 pub write_plan-requires : goal.write_plan-requires
-write_plan-requires c = search (masks-asked, rules)
+write_plan-requires c = search (masks-asked, c.in_ok-fill_masks.was, rules)
 
-pub returns-in-Ok : goal.returns-in-Ok
-returns-in-Ok c = search (cycles-written, rules)
+pub returns-in_err-fill_masks : goal.returns-in_err-fill_masks
+returns-in_err-fill_masks c = rw (passed_on _ _ c.from_residual.ensures.1) (search (cycles-stopped, c.in_err-fill_masks.was, rules))
 
-pub returns-in-Err : goal.returns-in-Err
-returns-in-Err c = search (cycles-stopped, rules)
+pub returns : goal.returns
+returns c = search (cycles-written, c.in_ok-fill_masks.was, rules)

@@ -1,6 +1,7 @@
 -- `sheet_writer::write_on_network` meets its contract.
 use Rattle.std.proofs.Common.{rules}
 use Rattle.base_laws.proofs.Kit.{refl}
+use Rattle.base_search.proofs.Laws.{passed_on}
 use Rattle.sheet_writer.proofs.Call.{load-asked, cycle-asked, cycles-asked, sheet-stopped, sheet-written}
 use Rattle.sheet_writer.proofs.write_on_network.Goals as goal
 
@@ -11,10 +12,10 @@ pub read_sheet-requires : goal.read_sheet-requires
 read_sheet-requires c = cycle-asked c.requires c.load_signals.ensures (search rules)
 
 pub write_cycles-requires : goal.write_cycles-requires
-write_cycles-requires c = cycles-asked c.requires c.load_signals.ensures c.read_sheet.ensures c.in-Ok.is
+write_cycles-requires c = cycles-asked c.requires c.load_signals.ensures c.read_sheet.ensures c.in_ok-read_sheet.was
 
-pub returns-in-Ok : goal.returns-in-Ok
-returns-in-Ok c = sheet-written c.requires c.load_signals.ensures c.read_sheet.ensures c.in-Ok.is c.write_cycles.ensures
+pub returns-in_err-read_sheet : goal.returns-in_err-read_sheet
+returns-in_err-read_sheet c = rw (passed_on _ _ c.from_residual.ensures.1) (sheet-stopped c.requires c.load_signals.ensures c.read_sheet.ensures c.in_err-read_sheet.was)
 
-pub returns-in-Err : goal.returns-in-Err
-returns-in-Err c = sheet-stopped c.requires c.load_signals.ensures c.read_sheet.ensures c.in-Err.is
+pub returns : goal.returns
+returns c = sheet-written c.requires c.load_signals.ensures c.read_sheet.ensures c.in_ok-read_sheet.was c.write_cycles.ensures

@@ -1,11 +1,8 @@
 -- `split_checks::parts_signals` meets its contract.
-use Rattle.base_laws.proofs.Kit.{◌-◌, ◌≤◌, ◌≡◌, true}
+use Rattle.base_laws.proofs.Kit.{◌≡◌, true}
 use Rattle.base_laws.specs.Test.{every}
 use Rattle.split_checks.specs.Tables.{own_signal_in}
 use Rattle.split_checks.proofs.parts_signals.Given as goal
 
 abbrev pub invariant-loop-i : goal.invariant-loop-i
-invariant-loop-i l = (l.i ≤ l.count) × (every l.i (own_signal_in l.links l.half) ≡ true)
-
-abbrev pub decreases-loop-i : goal.decreases-loop-i
-decreases-loop-i l = l.count - l.i
+invariant-loop-i l = every l.i (own_signal_in l.links l.half) ≡ true

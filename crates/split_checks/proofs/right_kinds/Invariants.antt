@@ -1,11 +1,8 @@
 -- `split_checks::right_kinds` meets its contract.
-use Rattle.base_laws.proofs.Kit.{◌-◌, ◌≤◌, ◌≡◌, true}
+use Rattle.base_laws.proofs.Kit.{◌≡◌, true}
 use Rattle.base_laws.specs.Test.{every}
 use Rattle.split_checks.specs.Tables.{right_kind_in}
 use Rattle.split_checks.proofs.right_kinds.Given as goal
 
 abbrev pub invariant-loop-j : goal.invariant-loop-j
-invariant-loop-j l = (l.j ≤ l.count) × (every l.j (right_kind_in l.links l.movements l.half l.count) ≡ true)
-
-abbrev pub decreases-loop-j : goal.decreases-loop-j
-decreases-loop-j l = l.count - l.j
+invariant-loop-j l = every l.j (right_kind_in l.links l.movements l.half l.count) ≡ true

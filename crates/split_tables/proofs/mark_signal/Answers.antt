@@ -9,11 +9,5 @@ returns-then-number-ne0 c = signal-in _ _ _ c.if-number-ne0.true
 pub returns-then-signal-eq0 : goal.returns-then-signal-eq0
 returns-then-signal-eq0 c = signal-none _ _ _ (omega arith) c.if-signal-eq0.true
 
-pub overflow_sub-marks : goal.overflow_sub-marks
-overflow_sub-marks c = omega arith
-
-pub bounds-marks-signal : goal.bounds-marks-signal
-bounds-marks-signal c = omega (arith, c.requires)
-
 pub returns : goal.returns
 returns c = signal-marked _ _ _ (omega arith) c.if-signal-eq0.false

@@ -1,11 +1,8 @@
 -- `split_tables::number_halves` meets its contract.
 use Rattle.std.proofs.Common.{rules}
-use Rattle.base_laws.proofs.Kit.{refl, arith}
+use Rattle.base_laws.proofs.Kit.{refl}
 use Rattle.split_tables.proofs.Halves.{links-asked, marks-asked, signals-asked, inside-asked, halves-numbered}
 use Rattle.split_tables.proofs.number_halves.Goals as goal
-
-pub mark_links-rest-requires : goal.mark_links-rest-requires
-mark_links-rest-requires c = omega (arith, c.requires.few.links)
 
 pub number_marked-requires : goal.number_marked-requires
 number_marked-requires c = links-asked c.requires (search rules) c.requires.first-size c.requires.first-blank

@@ -3,9 +3,6 @@ use Rattle.std.proofs.Common.{rules}
 use Rattle.split_tables.proofs.Halves.{movements-asked, movements-numbered}
 use Rattle.split_tables.proofs.number_movements.Goals as goal
 
-pub mark_movements-requires : goal.mark_movements-requires
-mark_movements-requires c = (c.requires.0, search rules)
-
 pub number_marked-requires : goal.number_marked-requires
 number_marked-requires c = movements-asked c.requires.0 c.requires.1 (search rules)
 

@@ -1,10 +1,6 @@
 -- `split_text::add_border` meets its contract.
-use Rattle.base_laws.proofs.Kit.{◌-◌}
 use Rattle.split_text.proofs.Border.{BorderTo}
 use Rattle.split_text.proofs.add_border.Given as goal
 
 abbrev pub invariant-loop-j : goal.invariant-loop-j
-invariant-loop-j l = BorderTo l.movements l.half l.count l.side l.values l.start l.stride l.sums l.j
-
-abbrev pub decreases-loop-j : goal.decreases-loop-j
-decreases-loop-j l = l.count - l.j
+invariant-loop-j l = BorderTo l.movements l.half l.side l.values l.start l.stride l.sums l.j

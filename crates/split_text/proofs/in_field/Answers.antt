@@ -1,10 +1,7 @@
 -- `split_text::in_field` meets its contract.
-use Rattle.std.proofs.Common.{rules}
-use Rattle.split_text.proofs.Border.{field_cut, field-same}
+use Rattle.base_laws.proofs.Kit.{arith}
+use Rattle.model_split.specs.Halves.{in_field}
 use Rattle.split_text.proofs.in_field.Goals as goal
 
-pub returns-then-sum-gt4294967295 : goal.returns-then-sum-gt4294967295
-returns-then-sum-gt4294967295 c = search (field_cut, rules)
-
 pub returns : goal.returns
-returns c = search (field-same, rules)
+returns c = unfold in_field in omega (arith, c.min.ensures, c.from.ensures)

@@ -1,5 +1,5 @@
 -- `split_text::put_plan_line` meets its contract.
-use Rattle.base_laws.proofs.Kit.{refl, sym, arith}
+use Rattle.base_laws.proofs.Kit.{refl, arith}
 use Rattle.network_tables.specs.Fields.{line_size}
 use Rattle.split_text.proofs.Reading.{plan-asked}
 use Rattle.split_text.proofs.Rows.{row_at, row_on, line-fits, volumes-asked, sums-asked, masks-asked, admissions-asked, exits-asked, moves-asked, line-put}
@@ -7,12 +7,6 @@ use Rattle.split_text.proofs.put_plan_line.Goals as goal
 
 pub read_plan-next-requires : goal.read_plan-next-requires
 read_plan-next-requires c = plan-asked c.requires.asked.held refl
-
-pub overflow_add-let_out : goal.overflow_add-let_out
-overflow_add-let_out c = omega (arith, c.requires.asked.held.counted.few.signals, c.requires.asked.held.counted.few.links)
-
-pub overflow_add-moved : goal.overflow_add-moved
-overflow_add-moved c = omega (arith, c.requires.asked.held.counted.few.signals, c.requires.asked.held.counted.few.links)
 
 pub add_border-requires : goal.add_border-requires
 add_border-requires c = volumes-asked c.requires.asked.held c.requires.asked.one.table.size (omega arith) c.read_plan-next.ensures.got.size refl
@@ -28,9 +22,6 @@ fill_sums-end-requires c = (admissions-asked c.requires.asked.held c.requires.as
 
 pub fill_sums-end-requires-2 : goal.fill_sums-end-requires-2
 fill_sums-end-requires-2 c = (exits-asked c.requires.asked.held c.requires.asked.one.table.size c.read_plan-next.ensures.got.size (row_on _ _ _ (row_on _ _ _ (row_at line_size 0 refl) c.fill_kept-end.ensures) c.fill_sums-end.ensures), sums-asked c.requires.asked.held c.add_border-2.ensures)
-
-pub slice_bounds-fill_kept-end-3 : goal.slice_bounds-fill_kept-end-3
-slice_bounds-fill_kept-end-3 c = sym c.read_plan-next.ensures.got.size
 
 pub fill_kept-end-requires-2 : goal.fill_kept-end-requires-2
 fill_kept-end-requires-2 c = moves-asked c.requires.asked.held c.requires.asked.one.table.size c.read_plan-next.ensures.got.size (row_on _ _ _ (row_on _ _ _ (row_on _ _ _ (row_at line_size 0 refl) c.fill_kept-end.ensures) c.fill_sums-end.ensures) c.fill_sums-end-2.ensures)

@@ -7,9 +7,6 @@ use Rattle.split_text.proofs.put_step.Goals as goal
 pub read_plan-after-requires : goal.read_plan-after-requires
 read_plan-after-requires c = plan-asked c.requires.held refl
 
-pub overflow_add-moved : goal.overflow_add-moved
-overflow_add-moved c = omega (arith, c.requires.held.counted.few.signals, c.requires.held.counted.few.links)
-
 pub add_border-requires : goal.add_border-requires
 add_border-requires c = volumes-asked c.requires.held c.requires.one.table.size (omega arith) c.read_plan-after.ensures.got.size refl
 

@@ -1,9 +1,7 @@
 -- `split_text::read_plan` meets its contract.
-use Rattle.split_text.proofs.Reading.{plan-next, plan-never}
+use Rattle.std.proofs.Common.{rules}
+use Rattle.split_text.proofs.Reading.{plan-next}
 use Rattle.split_text.proofs.read_plan.Goals as goal
 
-pub returns-in-Some : goal.returns-in-Some
-returns-in-Some c = search plan-next
-
-pub returns-in-None : goal.returns-in-None
-returns-in-None c = search plan-never
+pub returns : goal.returns
+returns c = search (plan-next, rules)

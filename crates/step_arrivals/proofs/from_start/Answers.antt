@@ -1,15 +1,9 @@
 use Rattle.std.proofs.Common.{rules}
-use Rattle.step_arrivals.proofs.Times.{shift-begin, shift-since, shift-next, shift-all}
+use Rattle.step_arrivals.proofs.Times.{shift-begin, shift-next}
 use Rattle.step_arrivals.proofs.from_start.Goals as goal
 
 pub loop-n-init : goal.loop-n-init
 loop-n-init c = search (shift-begin, rules)
 
-pub overflow_sub-times : goal.overflow_sub-times
-overflow_sub-times c = search (shift-since, rules)
-
 pub loop-n-preserved : goal.loop-n-preserved
 loop-n-preserved c = search (shift-next, rules)
-
-pub returns : goal.returns
-returns c = search (shift-all, rules)

@@ -1,10 +1,6 @@
 -- `step_arrivals::next_arrivals` meets its contract. The invariant: the cursors of the first i links have been moved on.
-use Rattle.base_laws.proofs.Kit.{◌-◌}
 use Rattle.step_arrivals.proofs.Cursors.{Moving}
 use Rattle.step_arrivals.proofs.next_arrivals.Given as goal
 
 abbrev pub invariant-loop-i : goal.invariant-loop-i
 invariant-loop-i l = Moving l.times l.links l.count l.boundary l.initial.arrivals l.arrivals l.i
-
-abbrev pub decreases-loop-i : goal.decreases-loop-i
-decreases-loop-i l = l.count - l.i

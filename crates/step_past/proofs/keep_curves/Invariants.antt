@@ -5,6 +5,3 @@ use Rattle.step_past.proofs.keep_curves.Given as goal
 
 abbrev pub invariant-loop-i : goal.invariant-loop-i
 invariant-loop-i l = KeepingTo l.fields l.row l.arrivals l.links l.m l.next l.initial.curves l.initial.places l.curves l.places l.i
-
-abbrev pub decreases-loop-i : goal.decreases-loop-i
-decreases-loop-i l = l.links - l.i

@@ -5,6 +5,3 @@ use Rattle.step_past.proofs.load_past.Given as goal
 
 abbrev pub invariant-loop-m : goal.invariant-loop-m
 invariant-loop-m l = PastTo l.text l.counts l.initial.row l.arrivals l.row l.curves l.places l.fields l.place l.m
-
-abbrev pub decreases-loop-m : goal.decreases-loop-m
-decreases-loop-m l = l.counts.past - l.m

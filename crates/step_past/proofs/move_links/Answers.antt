@@ -1,15 +1,9 @@
 use Rattle.std.proofs.Common.{rules}
-use Rattle.step_past.proofs.Moving.{moving-begin, link-asked, moving-next, moving-done}
+use Rattle.step_past.proofs.Moving.{moving-begin, moving-next, moving-done}
 use Rattle.step_past.proofs.move_links.Goals as goal
 
 pub loop-i-init : goal.loop-i-init
 loop-i-init c = search (moving-begin, rules)
 
-pub move_link-requires : goal.move_link-requires
-move_link-requires c = search (link-asked, rules)
-
 pub loop-i-preserved : goal.loop-i-preserved
 loop-i-preserved c = search (moving-next, rules)
-
-pub returns : goal.returns
-returns c = search (moving-done, rules)

@@ -4,7 +4,4 @@ use Rattle.step_past.proofs.Moving.{MovingTo}
 use Rattle.step_past.proofs.move_links.Given as goal
 
 abbrev pub invariant-loop-i : goal.invariant-loop-i
-invariant-loop-i l = MovingTo l.fields l.counts l.links l.line l.first l.initial.arrivals l.initial.curves l.initial.places l.arrivals l.curves l.places l.i
-
-abbrev pub decreases-loop-i : goal.decreases-loop-i
-decreases-loop-i l = l.counts.links - l.i
+invariant-loop-i l = MovingTo l.fields l.fn.counts l.links l.line l.first l.initial.arrivals l.initial.curves l.initial.places l.arrivals l.curves l.places l.i

@@ -5,6 +5,3 @@ use Rattle.step_past.proofs.next_arrivals.Given as goal
 
 abbrev pub invariant-loop-i : goal.invariant-loop-i
 invariant-loop-i l = MovedTo l.text l.counts l.links l.times l.at l.arrivals l.curves l.places l.i
-
-abbrev pub decreases-loop-i : goal.decreases-loop-i
-decreases-loop-i l = l.counts.links - l.i

@@ -1,5 +1,5 @@
 use Rattle.std.proofs.Common.{rules}
-use Rattle.step_past.proofs.Reading.{read-begin, read-never, stop-fits, read_next, read_done}
+use Rattle.step_past.proofs.Reading.{read-begin, read-never, stop-fits, read_next}
 use Rattle.step_past.proofs.read_on.Goals as goal
 
 pub loop-m-init : goal.loop-m-init
@@ -13,6 +13,3 @@ overflow_add-stop-in-loop-m c = search (stop-fits, rules)
 
 pub loop-m-preserved : goal.loop-m-preserved
 loop-m-preserved c = search (read_next, rules)
-
-pub returns : goal.returns
-returns c = search (read_done, rules)

@@ -4,7 +4,4 @@ use Rattle.step_past.proofs.Reading.{ReadTo}
 use Rattle.step_past.proofs.read_on.Given as goal
 
 abbrev pub invariant-loop-m : goal.invariant-loop-m
-invariant-loop-m l = ReadTo l.text l.i l.to l.fields l.start l.stop l.place l.m
-
-abbrev pub decreases-loop-m : goal.decreases-loop-m
-decreases-loop-m l = l.to - l.m
+invariant-loop-m l = ReadTo l.text l.i l.to l.fields l.start l.stop l.place l._m

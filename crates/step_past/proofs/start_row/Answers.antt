@@ -1,16 +1,10 @@
 use Rattle.std.proofs.Common.{rules}
 use Rattle.base_laws.proofs.Kit.{length-set}
-use Rattle.step_past.proofs.Keeping.{start-begin, start-next, start-done}
+use Rattle.step_past.proofs.Keeping.{start-begin, start-next}
 use Rattle.step_past.proofs.start_row.Goals as goal
 
 pub loop-i-init : goal.loop-i-init
 loop-i-init c = search start-begin
 
-pub bounds-row-i-in-loop-i : goal.bounds-row-i-in-loop-i
-bounds-row-i-in-loop-i c = rw length-set (search rules)
-
 pub loop-i-preserved : goal.loop-i-preserved
 loop-i-preserved c = search (start-next, rules)
-
-pub returns : goal.returns
-returns c = search start-done

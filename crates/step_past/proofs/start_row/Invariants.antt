@@ -5,6 +5,3 @@ use Rattle.step_past.proofs.start_row.Given as goal
 
 abbrev pub invariant-loop-i : goal.invariant-loop-i
 invariant-loop-i l = StartingTo l.links l.count l.initial.row l.row l.i
-
-abbrev pub decreases-loop-i : goal.decreases-loop-i
-decreases-loop-i l = l.count - l.i

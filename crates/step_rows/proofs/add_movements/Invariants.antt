@@ -5,6 +5,3 @@ use Rattle.step_rows.proofs.add_movements.Given as goal
 
 abbrev pub invariant-loop-j : goal.invariant-loop-j
 invariant-loop-j l = (l.j ≤ l.counts.movements) × Added l.counts l.line l.movements l.initial.row l.j l.row
-
-abbrev pub decreases-loop-j : goal.decreases-loop-j
-decreases-loop-j l = l.counts.movements - l.j

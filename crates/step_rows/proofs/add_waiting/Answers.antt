@@ -4,11 +4,5 @@ use Rattle.step_rows.proofs.add_waiting.Goals as goal
 pub loop-i-init : goal.loop-i-init
 loop-i-init c = search adding-first
 
-pub overflow_add-step-in-loop-i : goal.overflow_add-step-in-loop-i
-overflow_add-step-in-loop-i c = record { fits = search adding-fits }
-
 pub loop-i-preserved : goal.loop-i-preserved
 loop-i-preserved c = search adding-more
-
-pub returns : goal.returns
-returns c = search adding-all

@@ -5,6 +5,3 @@ use Rattle.step_rows.proofs.add_waiting.Given as goal
 
 abbrev pub invariant-loop-i : goal.invariant-loop-i
 invariant-loop-i l = Adding l.links l.waiting l.initial.step l.step l.i
-
-abbrev pub decreases-loop-i : goal.decreases-loop-i
-decreases-loop-i l = l.links - l.i

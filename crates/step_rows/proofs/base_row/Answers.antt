@@ -13,14 +13,5 @@ overflow_add-row c = record { fits = search base-entered-fits }
 pub overflow_add-row-in-loop-i : goal.overflow_add-row-in-loop-i
 overflow_add-row-in-loop-i c = record { fits = search base-left-fits }
 
-pub bounds-row-i-in-loop-i : goal.bounds-row-i-in-loop-i
-bounds-row-i-in-loop-i c = rw length-set (search rules)
-
 pub loop-i-preserved : goal.loop-i-preserved
 loop-i-preserved c = (search rules, search base-turn, simp length-set (search rules))
-
-pub returns : goal.returns
-returns c =
-    let l = c.loop-i in
-    let e : l.i ≡ c.args.counts.links = omega arith in
-    rw e at l.invariant.1

@@ -6,6 +6,3 @@ use Rattle.step_rows.proofs.base_row.Given as goal
 
 abbrev pub invariant-loop-i : goal.invariant-loop-i
 invariant-loop-i l = (l.i ≤ l.counts.links) × (l.row ≡ pairs (base_entered l.counts l.line l.previous) (base_left l.counts l.line l.previous) l.i ++ drop (2 * l.i) l.initial.row) × (length l.row ≡ row_size)
-
-abbrev pub decreases-loop-i : goal.decreases-loop-i
-decreases-loop-i l = l.counts.links - l.i

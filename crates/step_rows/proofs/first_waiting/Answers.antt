@@ -7,6 +7,3 @@ loop-i-init c = search first-begin
 
 pub loop-i-preserved : goal.loop-i-preserved
 loop-i-preserved c = search (first_more, rules)
-
-pub returns : goal.returns
-returns c = search first-all

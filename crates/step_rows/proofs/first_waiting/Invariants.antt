@@ -5,6 +5,3 @@ use Rattle.step_rows.proofs.first_waiting.Given as goal
 
 abbrev pub invariant-loop-i : goal.invariant-loop-i
 invariant-loop-i l = FirstTo l.links l.count l.waiting l.i
-
-abbrev pub decreases-loop-i : goal.decreases-loop-i
-decreases-loop-i l = l.count - l.i

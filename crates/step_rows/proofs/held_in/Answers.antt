@@ -10,10 +10,4 @@ loop-i-init c = (search rules, sym (sum-none _), search rules)
 pub loop-i-preserved : goal.loop-i-preserved
 loop-i-preserved c =
     let r = c.args.row.now in
-    (search rules, held-turn r c.loop-i.i c.loop-i.invariant.1 c.entered.ensures c.left.ensures c.held-total.ensures.0, search rules)
-
-pub returns : goal.returns
-returns c =
-    let l = c.loop-i in
-    let e : l.i ≡ c.args.links = omega arith in
-    (rw e at l.invariant.1, omega arith)
+    (search rules, held-turn r c.loop-i.i c.loop-i.invariant.1 c.entered.ensures c.left.ensures (omega arith), search rules)

@@ -6,6 +6,3 @@ use Rattle.step_rows.proofs.held_in.Given as goal
 
 abbrev pub invariant-loop-i : goal.invariant-loop-i
 invariant-loop-i l = (l.i ≤ l.links) × (l.total ≡ sum l.i (λ k. entered_in l.row k - left_in l.row k)) × (l.total ≤ 4294967295 * l.i)
-
-abbrev pub decreases-loop-i : goal.decreases-loop-i
-decreases-loop-i l = l.links - l.i

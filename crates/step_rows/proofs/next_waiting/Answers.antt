@@ -4,11 +4,5 @@ use Rattle.step_rows.proofs.next_waiting.Goals as goal
 pub loop-i-init : goal.loop-i-init
 loop-i-init c = search keeping-first
 
-pub overflow_sub-waiting : goal.overflow_sub-waiting
-overflow_sub-waiting c = search keeping-enough
-
 pub loop-i-preserved : goal.loop-i-preserved
 loop-i-preserved c = search keeping-more
-
-pub returns : goal.returns
-returns c = search keeping_all

@@ -5,6 +5,3 @@ use Rattle.step_rows.proofs.next_waiting.Given as goal
 
 abbrev pub invariant-loop-i : goal.invariant-loop-i
 invariant-loop-i l = Keeping l.counts l.step l.line l.initial.waiting l.waiting l.i
-
-abbrev pub decreases-loop-i : goal.decreases-loop-i
-decreases-loop-i l = l.counts.links - l.i

@@ -5,6 +5,3 @@ use Rattle.step_rows.proofs.sum_of.Given as goal
 
 abbrev pub invariant-loop-i : goal.invariant-loop-i
 invariant-loop-i l = (l.i ≤ l.count) × (l.total ≡ sum l.i (λ k. get_or l.line (l.first + k) 0)) × (l.total ≤ 4294967295 * l.i)
-
-abbrev pub decreases-loop-i : goal.decreases-loop-i
-decreases-loop-i l = l.count - l.i

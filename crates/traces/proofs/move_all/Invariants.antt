@@ -1,10 +1,5 @@
--- `traces::move_all` meets its contract. The measure is how many vehicles are left.
-use Rattle.base_laws.proofs.Kit.{◌-◌, length}
 use Rattle.traces.proofs.Turns.{Moving}
 use Rattle.traces.proofs.move_all.Given as goal
 
 abbrev pub invariant-loop-i : goal.invariant-loop-i
 invariant-loop-i l = Moving l.initial.places l.advances l.red_lines l.spacing l.places l.ahead l.i
-
-abbrev pub decreases-loop-i : goal.decreases-loop-i
-decreases-loop-i l = length l.initial.places - l.i

@@ -1,8 +1,0 @@
--- `network_tables::shown_for` meets its contract.
-use Rattle.std.proofs.Common.{rules}
-use Rattle.network_tables.specs.Fields.{table_signal}
-use Rattle.network_tables.proofs.shown_for.Goals as goal
-
-pub returns : goal.returns
-unfolding table_signal
-returns c = search rules

@@ -1,8 +1,0 @@
--- `network_tables::shown_phase` meets its contract.
-use Rattle.std.proofs.Common.{rules}
-use Rattle.network_tables.specs.Fields.{table_signal}
-use Rattle.network_tables.proofs.shown_phase.Goals as goal
-
-pub returns : goal.returns
-unfolding table_signal
-returns c = search rules
