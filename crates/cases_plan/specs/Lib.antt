@@ -1,3 +1,4 @@
+pub mod Call
 pub mod Checksum
 pub mod Outcome
 pub mod Compare

@@ -1,15 +1,25 @@
 -- The answers of the calls in the stored form.
 use Rattle.std.specs.Prelude.{ℕ, suc, ◌-◌, ◌^◌, Bool, ◌&&◌, ℤ, pos, negsuc, ◌==◌, Result, Ok, Err}
 use Rattle.base_search.specs.declared.Refusal.{Refusal}
+use Rattle.base_search.specs.Checks.{Verdict}
+use Rattle.model.specs.declared.LinkState.{LinkState}
+use Rattle.model.specs.declared.Totals.{Totals}
 use Rattle.plan_compare.specs.declared.Order.{Order}
 use Rattle.plan_compare.specs.declared.Order.TheVariants.{Ahead, Behind, Equal, Crossing}
 use Rattle.plan_compare.specs.declared.Comparison.{Comparison}
 use Rattle.plan_compare.specs.declared.ComparisonRefusal.{ComparisonRefusal}
 use Rattle.plan_compare.specs.Comparison.{plan_number, refusal_in}
+use Rattle.cases_plan.specs.declared.outcome.Kind.{Kind}
+use Rattle.cases_plan.specs.declared.outcome.Kind.TheVariants as kinds
 use Rattle.cases_plan.specs.declared.outcome.Outcome.{Outcome}
-use Rattle.model.specs.declared.LinkState.{LinkState}
-use Rattle.model.specs.declared.Totals.{Totals}
-use Rattle.base_search.specs.Checks.{Verdict}
+
+abbrev pub kind_number : Kind → ℕ
+kind_number kinds.NetworkAccepted = 0
+kind_number kinds.PlanAccepted = 1
+kind_number kinds.State = 2
+kind_number kinds.Refused = 3
+kind_number kinds.Written = 4
+kind_number kinds.Compared = 5
 
 abbrev pub refused_outcome : Refusal → Outcome
 refused_outcome r = record { kind = 3; first = r.number; second = r.line; third = r.item; fourth = 0 }
@@ -27,11 +37,8 @@ abbrev pub link_outcome : Result LinkState Refusal → Outcome
 link_outcome (Ok state) = record { kind = 2; first = state.queued; second = state.in_transit; third = 0; fourth = 0 }
 link_outcome (Err r) = refused_outcome r
 
-abbrev pub written_outcome : ℕ → Outcome
-written_outcome length = record { kind = 4; first = length; second = 0; third = 0; fourth = 0 }
-
 abbrev pub text_outcome : Result ℕ Refusal → Outcome
-text_outcome (Ok length) = written_outcome length
+text_outcome (Ok length) = record { kind = 4; first = length; second = 0; third = 0; fourth = 0 }
 text_outcome (Err r) = refused_outcome r
 
 abbrev pub modulo64 : ℤ → ℕ

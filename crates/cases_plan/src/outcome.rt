@@ -1,15 +1,27 @@
 // What a call gives, in the stored form.
 ghost use Rattle.std.specs.Prelude.{◌≡◌};
-ghost use Rattle.cases_plan.specs.Outcome.{refused_outcome, network_outcome, plan_outcome, link_outcome, written_outcome, text_outcome, modulo64, order_number, comparison_outcome, same_outcome};
+ghost use Rattle.cases_plan.specs.Outcome.{refused_outcome, network_outcome, plan_outcome, link_outcome, text_outcome, kind_number, order_number, comparison_outcome};
 
 use base_search::Refusal;
 use model::{LinkState, Totals};
 use plan_compare::{Comparison, ComparisonRefusal, Order};
+use std::fmt;
+use std::fmt::Display;
 
-// The kind is 0 for a network accepted, 1 for a plan accepted, 2 for a state, 3 for a refusal, 4 for a text written, 5 for two plans compared;
-// the numbers are the totals, queued and in transit, the refusal's number, line, item and plan, the text's length, or order and gap; 0 where
-// there is none.
+// The kinds of outcomes, by their numbers in the stored form.
 #[derive(Clone, Copy)]
+pub enum Kind {
+    NetworkAccepted,
+    PlanAccepted,
+    State,
+    Refused,
+    Written,
+    Compared,
+}
+
+// The numbers are the totals, queued and in transit, the refusal's number, line, item and plan, the text's length, or order and gap; 0 where
+// there is none. The kind is a number, since a stored answer of a kind that no call gives is told as it stands.
+#[derive(Clone, Copy, PartialEq)]
 pub struct Outcome {
     pub kind: u32,
     pub first: u64,
@@ -18,92 +30,92 @@ pub struct Outcome {
     pub fourth: u64,
 }
 
-fn refused(refusal: Refusal) -> Outcome
-    ensures { result ≡ refused_outcome refusal }
+impl Display for Outcome {
+    fn fmt<W: fmt::Write>(&self, f: &mut fmt::Formatter<W>) -> fmt::Result {
+        write!(f, "\t{}\t{}\t{}", self.kind, self.first, self.second)?;
+        write!(f, "\t{}\t{}", self.third, self.fourth)
+    }
+}
+
+// The outcome of a kind that has no more than two numbers.
+fn of_two(kind: Kind, first: u64, second: u64) -> Outcome
+    ensures { result ≡ record { kind = kind_number kind; first = first; second = second; third = 0; fourth = 0 } }
 {
     Outcome {
-        kind: 3,
-        first: refusal.number as u64,
-        second: refusal.line as u64,
-        third: refusal.item as u64,
-        fourth: 0,
-    }
-}
-
-pub fn of_network(verdict: Result<(), Refusal>) -> Outcome
-    ensures { result ≡ network_outcome verdict }
-{
-    match verdict {
-        Ok(()) => Outcome {
-            kind: 0,
-            first: 0,
-            second: 0,
-            third: 0,
-            fourth: 0,
-        },
-        Err(refusal) => refused(refusal),
-    }
-}
-
-pub fn of_plan(answer: Result<Totals, Refusal>) -> Outcome
-    ensures { result ≡ plan_outcome answer }
-{
-    match answer {
-        Ok(totals) => Outcome {
-            kind: 1,
-            first: totals.admitted,
-            second: totals.let_out,
-            third: totals.inside,
-            fourth: totals.doubled_time,
-        },
-        Err(refusal) => refused(refusal),
-    }
-}
-
-pub fn of_link(answer: Result<LinkState, Refusal>) -> Outcome
-    ensures { result ≡ link_outcome answer }
-{
-    match answer {
-        LinkState { queued, in_transit } => Outcome {
-            kind: 2,
-            first: queued as u64,
-            second: in_transit as u64,
-            third: 0,
-            fourth: 0,
-        },
-        Err(refusal) => refused(refusal),
-    }
-}
-
-fn written(length: usize) -> Outcome
-    ensures { result ≡ written_outcome length }
-{
-    Outcome {
-        kind: 4,
-        first: length as u64,
-        second: 0,
+        kind: kind as u32,
+        first,
+        second,
         third: 0,
         fourth: 0,
     }
 }
 
-pub fn of_text(answer: Result<usize, Refusal>) -> Outcome
-    ensures { result ≡ text_outcome answer }
-{
-    match answer {
-        Ok(length) => written(length),
-        Err(refusal) => refused(refusal),
+impl From<Refusal> for Outcome {
+    ghost from_gives = { λ refusal outcome. outcome ≡ refused_outcome refusal };
+
+    fn from(refusal: Refusal) -> Outcome {
+        Outcome {
+            kind: Kind::Refused as u32,
+            first: u64::from(refusal.number),
+            second: u64::from(refusal.line),
+            third: u64::from(refusal.item),
+            fourth: 0,
+        }
     }
 }
 
-// A gap modulo 2^64.
-fn modulo_64(gap: i64) -> u64
-    ensures { result ≡ modulo64 gap }
-{
-    if gap < 0 {
-        return 18446744073709551615 - (-1 - gap) as u64;
+impl From<Result<(), Refusal>> for Outcome {
+    ghost from_gives = { λ verdict outcome. outcome ≡ network_outcome verdict };
+
+    fn from(verdict: Result<(), Refusal>) -> Outcome {
+        match verdict {
+            Ok(()) => of_two(Kind::NetworkAccepted, 0, 0),
+            Err(refusal) => Outcome::from(refusal),
+        }
     }
-    gap as u64
+}
+
+impl From<Result<Totals, Refusal>> for Outcome {
+    ghost from_gives = { λ answer outcome. outcome ≡ plan_outcome answer };
+
+    fn from(answer: Result<Totals, Refusal>) -> Outcome {
+        match answer {
+            Ok(totals) => Outcome {
+                kind: Kind::PlanAccepted as u32,
+                first: totals.admitted,
+                second: totals.let_out,
+                third: totals.inside,
+                fourth: totals.doubled_time,
+            },
+            Err(refusal) => Outcome::from(refusal),
+        }
+    }
+}
+
+impl From<Result<LinkState, Refusal>> for Outcome {
+    ghost from_gives = { λ answer outcome. outcome ≡ link_outcome answer };
+
+    fn from(answer: Result<LinkState, Refusal>) -> Outcome {
+        match answer {
+            Ok(state) => of_two(
+                Kind::State,
+                u64::from(state.queued),
+                u64::from(state.in_transit),
+            ),
+            Err(refusal) => Outcome::from(refusal),
+        }
+    }
+}
+
+impl From<Result<usize, Refusal>> for Outcome {
+    ghost from_gives = { λ answer outcome. outcome ≡ text_outcome answer };
+
+    fn from(answer: Result<usize, Refusal>) -> Outcome {
+        match answer {
+            Ok(length) => of_two(Kind::Written, length as u64, 0),
+            Err(refusal) => Outcome::from(refusal),
+        }
+    }
 }
 
 fn order_number(order: Order) -> u64
@@ -117,31 +129,18 @@ fn order_number(order: Order) -> u64
     }
 }
 
-pub fn of_comparison(answer: Result<Comparison, ComparisonRefusal>) -> Outcome
-    ensures { result ≡ comparison_outcome answer }
-{
-    match answer {
-        Ok(Comparison { order, gap }) => Outcome {
-            kind: 5,
-            first: order_number(order),
-            second: modulo_64(gap),
-            third: 0,
-            fourth: 0,
-        },
-        Err(not_compared) => Outcome {
-            fourth: u64::from(not_compared.plan()),
-            ..refused(not_compared.refusal())
-        },
-    }
-}
+impl From<Result<Comparison, ComparisonRefusal>> for Outcome {
+    ghost from_gives = { λ answer outcome. outcome ≡ comparison_outcome answer };
 
-// Whether two outcomes are the same in every part.
-pub fn is_same(one: Outcome, other: Outcome) -> bool
-    ensures { result ≡ same_outcome one other }
-{
-    (one.kind == other.kind)
-        & (one.first == other.first)
-        & (one.second == other.second)
-        & (one.third == other.third)
-        & (one.fourth == other.fourth)
+    fn from(answer: Result<Comparison, ComparisonRefusal>) -> Outcome {
+        match answer {
+            Ok(Comparison { order, gap }) => {
+                of_two(Kind::Compared, order_number(order), gap.cast_unsigned())
+            }
+            Err(not_compared) => Outcome {
+                fourth: u64::from(not_compared.plan()),
+                ..Outcome::from(not_compared.refusal())
+            },
+        }
+    }
 }
