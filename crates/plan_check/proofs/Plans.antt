@@ -16,10 +16,10 @@ use Rattle.model.proofs.Written.{refused-fails, rows_none}
 use Rattle.model.proofs.Promises.{promises}
 use Rattle.model.proofs.Hold.{empty_holds}
 use Rattle.network_tables.specs.declared.Reading.{Reading}
-use Rattle.network_tables.specs.Tables.{Judged, SignalTable}
+use Rattle.network_tables.specs.Tables.{Judged}
 use Rattle.network_tables.proofs.Stages.{verdict-refused}
 use Rattle.network.specs.Loading.{Loaded}
-use Rattle.plan_steps.specs.Steps.{RunAsked, RunGot}
+use Rattle.plan_steps.specs.Steps.{RunGot}
 use Rattle.plan_check.specs.Plan.{PlanGot}
 use Rattle.std.specs.Prelude.{Result, Ok, Err}
 use Rattle.model.specs.declared.Totals.{Totals}
@@ -70,17 +70,6 @@ module _ (network_text plan_text links movements times old : List ℕ) (reading 
   module _ (h : 2 * (reading.counts.steps + 1) * reading.counts.links ≤ length old) where
     room : 2 * suc (step_count net) * link_count net ≤ length old
     room = rw needed at h
-
-    pub run-asked : {signals : List ℕ} → SignalTable net signals → RunAsked network_text plan_text reading links movements times signals old
-    run-asked table =
-        record {
-          tables = record { holds = loaded.holds; counted = loaded.counted; link-table = loaded.link-table; movement-table = loaded.movement-table; time-table = loaded.time-table };
-          trams-start = loaded.trams-start;
-          signal-table = table;
-          past-start = loaded.past-start;
-          steps-start = loaded.steps-start;
-          room = room;
-        }
 
     pub plan_run : {answer : (Result Totals Refusal)} {after : List ℕ} → RunGot network_text plan_text old answer after → PlanGot network_text plan_text old answer after
     plan_run got =

@@ -11,10 +11,10 @@ ghost use Rattle.network.specs.Loading.{LoadedWithSignals};
 ghost use Rattle.plan_check.specs.Plan.{PlanGot};
 
 use base_search::Refusal;
+use model::Totals;
 use network_tables::{
     LINK_TABLE_SIZE, MOVEMENT_TABLE_SIZE, Reading, SIGNAL_TABLE_SIZE, TIME_TABLE_SIZE,
 };
-use model::Totals;
 
 // Judges a plan on a network that has passed, from its signals on: the ledger's length, then the steps.
 pub fn judge_with_signals(

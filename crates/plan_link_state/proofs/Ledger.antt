@@ -1,5 +1,5 @@
 -- What is read of one link in the past and in a ledger.
-use Rattle.base_laws.proofs.Kit.{ℕ, suc, ◌+◌, ◌*◌, ◌-◌, ◌/◌, ◌≤◌, ◌<◌, ◌≡◌, refl, sym, ap, ap₂, ◌∙◌, Bool, true, false, not, cond, List, [], mul-le-mul_right, mul_comm, le-div_iff_mul-le, div-le_of_le-mul, dec_le, arith, le-leb, lt-leb, ltb-true, ltb-false, not-true, not-false, leb, ltb, eqb, length, get_or}
+use Rattle.base_laws.proofs.Kit.{ℕ, suc, ◌+◌, ◌*◌, ◌-◌, ◌/◌, ◌≤◌, ◌<◌, ◌≡◌, refl, sym, ap, ap₂, ◌∙◌, Bool, true, false, not, cond, List, [], mul-le-mul_right, dec_le, arith, le-leb, lt-leb, ltb-true, ltb-false, not-true, not-false, leb, ltb, eqb, length, get_or}
 use Rattle.base_search.specs.Checks.{refusal}
 use Rattle.text_reader.specs.Lines.{Line, lines}
 use Rattle.base_laws.specs.Sum.{sum}
@@ -258,12 +258,6 @@ module _ (entered left : ℕ) (arrival : Arrival) where
           rw (not-false arrival.rises h, le-leb (left * arrival.seconds) arrival.scaled (omega arith), lt-leb arrival.scaled (entered * arrival.seconds) (omega arith)) e
 
       module _ (u : arrival.scaled ≤ y) (some : 1 ≤ arrival.seconds) {w : ℕ} (s : w ≡ arrival.seconds) where
-        pub arrived-entered : arrival.scaled / w ≤ entered
-        arrived-entered = rw s (div-le_of_le-mul arrival.seconds (omega (arith, mul_comm entered arrival.seconds)))
-
-        pub left-arrived : left ≤ arrival.scaled / w
-        left-arrived = rw s ((le-div_iff_mul-le some).1 (omega arith))
-
         pub state-told : Ok (state_of (arrival.scaled / w - left) (entered - arrival.scaled / w)) ≡ state_from entered left arrival
         unfolding state_from ◌and◌
         state-told =

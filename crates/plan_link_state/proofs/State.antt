@@ -1,5 +1,5 @@
 -- The state of a link by the tables of a network is the paper's.
-use Rattle.base_laws.proofs.Kit.{ℕ, suc, ◌+◌, ◌*◌, ◌-◌, ◌≤◌, ◌<◌, ◌≡◌, refl, sym, ap, ◌∙◌, Bool, true, false, cond, List, add-one, mul-le-mul_right, arith, le-leb, lt-leb, leb, length}
+use Rattle.base_laws.proofs.Kit.{ℕ, suc, ◌+◌, ◌*◌, ◌-◌, ◌≤◌, ◌<◌, ◌≡◌, refl, sym, ap, ◌∙◌, Bool, true, false, cond, List, add-one, arith, le-leb, lt-leb, leb, length}
 use Rattle.base_search.specs.declared.Refusal.{Refusal}
 use Rattle.base_search.specs.Checks.{refusal, or_else, checked, verdict, Verdict}
 use Rattle.base_search.proofs.Laws.{or-else-passes, or-else-refused, checked-passes, checked_refused, passes-of-hold}
@@ -13,11 +13,11 @@ use Rattle.model.specs.Calls.{state_of, ledger_entered, ledger_left, end_step, e
 use Rattle.model.specs.Guarantees.{StatePromises}
 use Rattle.model.proofs.Numbers.{state-promises}
 use Rattle.network_tables.specs.declared.Reading.{Reading}
-use Rattle.network_tables.specs.Fields.{entered_at, left_at, RowHeld}
+use Rattle.network_tables.specs.Fields.{entered_at, left_at}
 use Rattle.network_tables.specs.Tables.{Judged}
 use Rattle.network_tables.proofs.Stages.{verdict-refused}
 use Rattle.network.specs.Loading.{Loaded}
-use Rattle.plan_link_state.specs.State.{Tabled, ArrivalAsked, ledger_arrival, state_from}
+use Rattle.plan_link_state.specs.State.{Tabled, ledger_arrival, state_from}
 use Rattle.plan_link_state.specs.declared.Arrival.{Arrival}
 use Rattle.plan_link_state.proofs.Ledger.{arrival-step-lasts}
 use Rattle.base_laws.proofs.Tests.{is_within}
@@ -131,19 +131,6 @@ module _ {text : List ℕ} {reading : Reading} {links times : List ℕ} (t : Tab
       above-told h l e = e ∙ no-link network ledger boundary link passed room reached (within-above 1 link (link_count network) h (omega (arith, t.counted.links)))
 
       module _ (first : 1 ≤ link) (last : link ≤ reading.counts.links) where
-        pub row-held : RowHeld ledger reading.counts.links boundary (link - 1)
-        row-held =
-            let m : suc boundary ≤ suc (step_count network) = omega (arith, reached) in
-            record {
-              few-boundaries = omega (arith, t.counted.few.steps);
-              few-links = t.counted.few.links;
-              within = omega arith;
-              rows = rw t.counted.links (omega (arith, room, mul-le-mul_right (2 * link_count network) m));
-            }
-
-        pub arrival-asked : ArrivalAsked text reading links times ledger boundary (link - 1)
-        arrival-asked = record { tabled = t; early = reached; link = omega (arith, t.counted.links); room = room }
-
         own : link - 1 + 1 ≡ link
         own = omega arith
 

@@ -27,12 +27,6 @@ returns-in_err-reading-clause-empty_holds c = rw (passed_on _ _ c.from_residual.
 pub returns-in_err-reading-clause-padding_ignored : goal.returns-in_err-reading-clause-padding_ignored
 returns-in_err-reading-clause-padding_ignored c = rw (passed_on _ _ c.from_residual.ensures.1) (plan-promised (plan-refused _ _ _ c.load_with_signals.ensures c.in_err-reading.was)).1.1.1.1
 
-pub returns-clause-value : goal.returns-clause-value
-returns-clause-value c = (plan-promised c.judge_with_signals.ensures).0
-
-pub returns-clause-ledger_after : goal.returns-clause-ledger_after
-returns-clause-ledger_after c = (plan-promised c.judge_with_signals.ensures).1.0
-
 pub returns-clause-promises : goal.returns-clause-promises
 returns-clause-promises c = (plan-promised c.judge_with_signals.ensures).1.1.0
 

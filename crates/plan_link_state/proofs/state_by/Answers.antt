@@ -1,7 +1,7 @@
 -- `plan_link_state::state_by` meets its contract. One law for each way out.
 use Rattle.base_laws.proofs.Kit.{ap}
 use Rattle.std.specs.Prelude.{Err}
-use Rattle.plan_link_state.proofs.State.{short-told, past-told, below-told, above-told, row-held, arrival-asked, arrival-lasts, found-told}
+use Rattle.plan_link_state.proofs.State.{short-told, past-told, below-told, above-told, arrival-lasts, found-told}
 use Rattle.plan_link_state.proofs.state_by.Goals as goal
 
 pub returns-then-ledger-row_start : goal.returns-then-ledger-row_start
@@ -15,15 +15,6 @@ returns-then-number-lt1 c = below-told c.requires c.args.ledger.now c.args.bound
 
 pub returns-then-count-number : goal.returns-then-count-number
 returns-then-count-number c = above-told c.requires c.args.ledger.now c.args.boundary c.args.link c.row_start.ensures c.if-ledger-row_start.false c.if-steps-n.false c.if-number-lt1.false c.if-count-number.true (ap Err c.new-then-count-number.ensures)
-
-pub entered_at-entered-requires : goal.entered_at-entered-requires
-entered_at-entered-requires c = row-held c.requires c.args.ledger.now c.args.boundary c.args.link c.row_start.ensures c.if-ledger-row_start.false c.if-steps-n.false c.if-number-lt1.false c.if-count-number.false
-
-pub left_at-left-requires : goal.left_at-left-requires
-left_at-left-requires c = row-held c.requires c.args.ledger.now c.args.boundary c.args.link c.row_start.ensures c.if-ledger-row_start.false c.if-steps-n.false c.if-number-lt1.false c.if-count-number.false
-
-pub arrival_by-requires : goal.arrival_by-requires
-arrival_by-requires c = arrival-asked c.requires c.args.ledger.now c.args.boundary c.args.link c.row_start.ensures c.if-ledger-row_start.false c.if-steps-n.false c.if-number-lt1.false c.if-count-number.false
 
 pub state_from-requires : goal.state_from-requires
 state_from-requires c = arrival-lasts c.requires c.args.ledger.now c.args.boundary c.args.link c.row_start.ensures c.if-ledger-row_start.false c.if-steps-n.false c.if-number-lt1.false c.if-count-number.false c.arrival_by.ensures

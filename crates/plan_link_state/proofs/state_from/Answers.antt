@@ -1,8 +1,7 @@
 -- `plan_link_state::state_from` meets its contract: one law for each way out.
-use Rattle.std.proofs.Common.{rules}
 use Rattle.base_laws.proofs.Kit.{ap}
 use Rattle.std.specs.Prelude.{Err}
-use Rattle.plan_link_state.proofs.Ledger.{falls-inside, left-above, arrived-above, arrived-entered, left-arrived, state-told}
+use Rattle.plan_link_state.proofs.Ledger.{falls-inside, left-above, arrived-above, state-told}
 use Rattle.plan_link_state.proofs.state_from.Goals as goal
 
 pub returns-then-not-arrival : goal.returns-then-not-arrival
@@ -13,21 +12,6 @@ returns-then-scaled-times c = left-above _ _ _ c.if-not-arrival.false c.times.en
 
 pub returns-then-times-scaled : goal.returns-then-times-scaled
 returns-then-times-scaled c = arrived-above _ _ _ c.if-not-arrival.false c.times.ensures c.if-scaled-times.false c.times-2.ensures c.if-times-scaled.true (ap Err c.new-then-times-scaled.ensures)
-
-pub overflow_cast-arrived : goal.overflow_cast-arrived
-overflow_cast-arrived c =
-    let h = arrived-entered _ _ c.args.arrival c.if-not-arrival.false c.times.ensures c.if-scaled-times.false c.times-2.ensures c.if-times-scaled.false c.requires c.from.ensures in
-    search rules
-
-pub overflow_sub-result : goal.overflow_sub-result
-overflow_sub-result c =
-    let h = left-arrived _ _ c.args.arrival c.if-not-arrival.false c.times.ensures c.if-scaled-times.false c.times-2.ensures c.if-times-scaled.false c.requires c.from.ensures in
-    search rules
-
-pub overflow_sub-result-2 : goal.overflow_sub-result-2
-overflow_sub-result-2 c =
-    let h = arrived-entered _ _ c.args.arrival c.if-not-arrival.false c.times.ensures c.if-scaled-times.false c.times-2.ensures c.if-times-scaled.false c.requires c.from.ensures in
-    search rules
 
 pub returns : goal.returns
 returns c = state-told _ _ _ c.if-not-arrival.false c.times.ensures c.if-scaled-times.false c.times-2.ensures c.if-times-scaled.false c.requires c.from.ensures
