@@ -28,21 +28,6 @@ use Rattle.network_past.specs.Past.{valid_past_in, valid_links_in, LinksAsked, p
 use Rattle.network_past.proofs.Links.{valid-is}
 use Rattle.std.specs.Prelude.{Ok, Err}
 
--- ---- the turns of `valid_links`
-module _ (counts : Counts) (links times demands row arrivals curves : List ℕ) where
-  pub links-none : true ≡ valid_links_in counts links times demands row arrivals curves 0
-  unfolding valid_links_in every
-  links-none = refl
-
-  pub links-more : (n : ℕ) {valid found : Bool} → valid ≡ valid_links_in counts links times demands row arrivals curves n → found ≡ valid_past_in counts links times demands row arrivals curves n
-      → (valid and found) ≡ valid_links_in counts links times demands row arrivals curves (n + 1)
-  unfolding valid_links_in every
-  links-more n v f = rw (v, f, add-one n)
-
-  pub links-all : {n : ℕ} {valid : Bool} → counts.links ≤ n → n ≤ counts.links → valid ≡ valid_links_in counts links times demands row arrivals curves n
-      → valid ≡ valid_links_in counts links times demands row arrivals curves counts.links
-  links-all {n} h l e = let q : n ≡ counts.links = omega arith in e ∙ ap (valid_links_in counts links times demands row arrivals curves) q
-
 -- ---- 30
 module _ {text : List ℕ} {reading : Reading} {links times demands : List ℕ} (asked : EndAsked text reading links times demands) where
   abbrev net : List Line

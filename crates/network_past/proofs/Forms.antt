@@ -75,9 +75,6 @@ module _ {text : List ℕ} {reading : Reading} {times₀ : List ℕ} (asked : Fo
       below : m < past_count (lines text)
       below = omega (arith, asked.reached.counted.past)
 
-      pub time-asked : TimeAsked times m timed
-      time-asked = time-ready inv.timed-to (omega (arith, below))
-
       module _ {r : (Option ℕ)} {after : List ℕ} (row : RowRead letter_h (1 + 2 * reading.counts.links) text at 0 fields r after) where
         wide : 1 + 2 * reading.counts.links ≡ 1 + 2 * link_count (lines text)
         wide = omega (arith, asked.reached.counted.links)

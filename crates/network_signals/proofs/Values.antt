@@ -1,5 +1,5 @@
 -- A signal by its numbers: the tests of its values, one turn of a loop over its phases, and what the shortest time says.
-use Rattle.base_laws.proofs.Kit.{ℕ, zero, suc, ◌+◌, ◌-◌, ◌≤◌, ◌<◌, ◌≡◌, refl, sym, ap, ◌∙◌, fun_ext, Bool, true, false, ◌&&◌, ◌||◌, not, cond, and-true, and-false, and_assoc, List, add-one, arith, lt-leb, leb-true, leb-false, le-leb, leb, eqb, get_or, min}
+use Rattle.base_laws.proofs.Kit.{ℕ, zero, suc, ◌+◌, ◌-◌, ◌≤◌, ◌<◌, ◌≡◌, refl, sym, ap, ◌∙◌, fun_ext, Bool, true, false, ◌&&◌, ◌||◌, not, and-true, and-false, and_assoc, List, add-one, arith, lt-leb, leb-true, leb-false, le-leb, leb, eqb, get_or, min}
 use Rattle.text_reader.specs.Lines.{Line}
 use Rattle.model.specs.declared.Signal.{Signal}
 use Rattle.base_laws.specs.Test.{◌and◌, ◌or◌, within, every}

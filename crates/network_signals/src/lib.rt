@@ -131,7 +131,12 @@ fn valid_phases(phases: usize) -> bool
 
 // The `G` line of signal `r` into `fields`: refusal 1 for its first seven fields, 3 for its number of phases, 1 for the rest of its form, 3 for its other
 // values.
-fn read_signal(text: &[u8], reading: Reading, r: usize, fields: &mut [u32]) -> Result<Reading, Refusal>
+fn read_signal(
+    text: &[u8],
+    reading: Reading,
+    r: usize,
+    fields: &mut [u32],
+) -> Result<Reading, Refusal>
     requires { SignalAsked text.now reading r fields.old }
     ensures { Judged (signal_checks (lines text.now) r) (SignalHeld text.now r fields.new) result }
 {
@@ -155,7 +160,12 @@ fn read_signal(text: &[u8], reading: Reading, r: usize, fields: &mut [u32]) -> R
 
 // All `G` lines, into a table of zeros: the first refusal, or the signals, the number of phases of each, and the shortest of all greatest times, 60 where all
 // are longer: no step has more seconds (refusal 6).
-pub fn read_signals(text: &[u8], reading: Reading, phases: &mut [u32], signals: &mut [u32]) -> Result<Reading, Refusal>
+pub fn read_signals(
+    text: &[u8],
+    reading: Reading,
+    phases: &mut [u32],
+    signals: &mut [u32],
+) -> Result<Reading, Refusal>
     requires { SignalsAsked text.now reading phases.old signals.old }
     ensures { Judged (block_checks (signal_block (lines text.now))) (SignalsHeld text.now phases.new signals.new) result }
 {

@@ -19,8 +19,8 @@ use Rattle.network_tables.proofs.Tables.{step-length-at, demand-at}
 use Rattle.network_tables.proofs.Places.{step-line-is}
 use Rattle.network_tables.proofs.Blocks.{passed-all, block-begin, block-end, records-malformed, records-invalid, records-next}
 use Rattle.network_tables.proofs.Stages.{judged-refused, judged-passed}
-use Rattle.step_arrivals.specs.Timed.{TimeAsked, TimeSet, TimedTo}
-use Rattle.step_arrivals.proofs.Timed.{time-ready, timed-next}
+use Rattle.step_arrivals.specs.Timed.{TimeSet, TimedTo}
+use Rattle.step_arrivals.proofs.Timed.{timed-next}
 use Rattle.network_steps.specs.Steps.{valid_step_in, LoadAsked, Loaded, AddAsked, Added, StepsAsked, StepsHeld}
 use Rattle.model.proofs.Limits.{limits-of-step}
 use Rattle.network_steps.proofs.Values.{step-within, valid-step-is}
@@ -78,15 +78,9 @@ module _ {step : List ℕ} {links : ℕ} {before : List ℕ} (asked : AddAsked s
   add_begin = record { within = omega arith; added = record { size = refl; added = λ i l. absurd (omega arith) }; rest = λ i l. refl }
 
   module _ {demands : List ℕ} {n : ℕ} (inv : AddedTo step links before demands n) where
-    pub add_done : links ≤ n → Added step links before demands
-    add_done h = let e : n ≡ links = omega (arith, inv.within) in rw e at inv.added
-
     module _ (h : n < links) {asks : ℕ} (e : asks ≡ demand_in step n) where
       room : n < length demands
       room = omega (arith, inv.added.size, asked.size, asked.few)
-
-      pub add-fits : get_or demands n 0 + asks < 4294967296
-      add-fits = omega (arith, inv.rest n (omega arith), asked.fits n h)
 
       pub add-next : AddedTo step links before (set demands n (get_or demands n 0 + asks)) (n + 1)
       add-next =
@@ -165,9 +159,6 @@ module _ {text : List ℕ} {reading : Reading} {times₀ demands₀ : List ℕ} 
       pub steps-malformed : r ≡ None → {line : ℕ} {q : Refusal} → line ≡ step_line_in reading.counts n → q ≡ refusal 1 (line + 1) 0
           → Judged (block_checks (step_block (lines text))) (StepsHeld text times demands) (Err q)
       steps-malformed e l t = rw (t, told_line l) (judged-refused (records-malformed inv.read (step-records (lines text)) below own e))
-
-      pub time-asked : {m : ℕ} → m ≡ reading.counts.past + n → TimeAsked times m reading.timed
-      time-asked e = rw (e, asked.reached.counted.past) (time-ready inv.timed-to (omega (arith, below)))
 
       module _ {next : ℕ} (e : r ≡ Some next) {v : Bool} (told : v ≡ valid_step_in after reading.counts.links reading.shortest) where
         numbers : StepNumbers (lines text) n after

@@ -1,31 +1,13 @@
 -- The values of an `S` line: the demands are taken one by one, and the test of the numbers is the paper's, where they are a network's.
-use Rattle.base_laws.proofs.Kit.{ℕ, ◌+◌, ◌≤◌, ◌<◌, ◌≡◌, refl, sym, ap₂, Bool, true, false, List, add-one, arith, le-leb, lt-leb, leb}
+use Rattle.base_laws.proofs.Kit.{ℕ, ◌≡◌, refl, ap₂, Bool, true, false, List}
 use Rattle.text_reader.specs.Lines.{Line}
-use Rattle.base_laws.specs.Test.{◌and◌, within, every}
-use Rattle.model.specs.Network.{link_count, step_length, demand}
+use Rattle.base_laws.specs.Test.{◌and◌, within}
+use Rattle.model.specs.Network.{link_count, step_length}
 use Rattle.model.specs.Rules.{valid_step}
-use Rattle.base_laws.proofs.Tests.{and_left, every-same, every-not, within-parts}
-use Rattle.network_tables.specs.Fields.{demand_in}
+use Rattle.base_laws.proofs.Tests.{and_left, every-same, within-parts}
 use Rattle.network_tables.specs.Tables.{Shortest, StepNumbers}
 use Rattle.network_tables.proofs.Tables.{step-length-at, demand-at}
 use Rattle.network_steps.specs.Steps.{valid_demands_in, valid_step_in}
-
-module _ (step : List ℕ) (links i : ℕ) where
-  pub demands-none : valid_demands_in step 0 ≡ true
-  unfolding valid_demands_in every
-  demands-none = refl
-
-  module _ {demand : ℕ} (d : demand ≡ demand_in step i) where
-    pub demands-on : valid_demands_in step i ≡ true → demand ≤ 600_000 → valid_demands_in step (i + 1) ≡ true
-    unfolding valid_demands_in every ◌and◌
-    demands-on h l = rw (add-one, h, ← d, le-leb demand 600_000 l)
-
-    pub demands-broken : i < links → 600_000 < demand → false ≡ valid_demands_in step links
-    unfolding valid_demands_in
-    demands-broken h l = sym (every-not links (λ i. leb (demand_in step i) 600_000) i h (lt-leb (demand_in step i) 600_000 (omega arith)))
-
-  pub demands-all : i ≤ links → links ≤ i → valid_demands_in step i ≡ true → true ≡ valid_demands_in step links
-  demands-all u l h = let e : i ≡ links = omega arith in sym (rw e at h)
 
 module _ (network : List Line) (n : ℕ) (v : valid_step network n ≡ true) where
   pub step-within : within 1 (step_length network n) 60 ≡ true

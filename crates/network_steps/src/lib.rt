@@ -48,7 +48,12 @@ fn add_demands(step: &[u32], links: usize, demands: &mut [u32])
 }
 
 // Refusals 1 and 6: reads the `S` lines, sets the time of each boundary, if the past is timed, and sums up the demands of each link.
-pub fn read_steps(text: &[u8], reading: Reading, times: &mut [u32], demands: &mut [u32]) -> Result<Reading, Refusal>
+pub fn read_steps(
+    text: &[u8],
+    reading: Reading,
+    times: &mut [u32],
+    demands: &mut [u32],
+) -> Result<Reading, Refusal>
     requires { StepsAsked text.now reading times.old demands.old }
     ensures { Judged (block_checks (step_block (lines text.now))) (StepsHeld text.now times.new demands.new) result }
 {

@@ -1,5 +1,5 @@
 -- What `all` says of a range, as a test of every index.
-use Rattle.base_laws.proofs.Kit.{ℕ, zero, suc, ◌+◌, ◌<◌, ◌≡◌, refl, sym, ap, ap₂, ◌∙◌, Bool, true, false, ◌&&◌, and-true, arith}
+use Rattle.base_laws.proofs.Kit.{ℕ, zero, suc, ◌+◌, ◌≡◌, refl, sym, ap, ap₂, ◌∙◌, Bool, true, false, ◌&&◌, and-true, arith}
 use Rattle.base_laws.specs.Test.{◌and◌, every}
 use Rattle.base_laws.proofs.Tests.{every-same}
 use Rattle.std.specs.List.{list_all, range_with_len}

@@ -1,8 +1,8 @@
 -- The times of the timeline's boundaries as they are set.
-use Rattle.base_laws.proofs.Kit.{ℕ, ◌+◌, ◌≤◌, ◌<◌, ◌≡◌, refl, sym, ap, ◌∙◌, Bool, true, ◌&&◌, List, ℕ_discrete, add-one, arith, leb-true, leb, length, get_or, set, length-set, get_or-set_same, get_or-set_other}
+use Rattle.base_laws.proofs.Kit.{ℕ, ◌+◌, ◌≤◌, ◌<◌, ◌≡◌, refl, sym, ap, ◌∙◌, Bool, true, List, ℕ_discrete, add-one, arith, leb-true, length, get_or, set, length-set, get_or-set_same, get_or-set_other}
 use Rattle.text_reader.specs.Lines.{Line}
 use Rattle.base_laws.specs.Sum.{sum}
-use Rattle.base_laws.specs.Test.{◌and◌, within}
+use Rattle.base_laws.specs.Test.{within}
 use Rattle.model.specs.Network.{past_count, step_count, on_timeline, timeline_length, timeline_time}
 use Rattle.base_laws.proofs.Tests.{and_left, and_right}
 use Rattle.model.proofs.Times.{timeline-suc}
@@ -10,19 +10,6 @@ use Rattle.network_tables.specs.Fields.{time_table_size}
 use Rattle.network_tables.specs.Tables.{TimeTable}
 use Rattle.step_arrivals.specs.Arrivals.{Rising}
 use Rattle.step_arrivals.specs.Timed.{TimeSet, TimeAsked, TimedTo}
-
--- ---- the needs of `next_time`
-module _ {times : List ℕ} {m : ℕ} {timed : Bool} (asked : TimeAsked times m timed) (seconds : ℕ) (valid : (timed && (leb 1 seconds && leb seconds 60)) ≡ true) where
-  is-timed : timed ≡ true
-  unfolding ◌and◌
-  is-timed = and_left timed (leb 1 seconds && leb seconds 60) valid
-
-  pub time-room : m + 1 < length times
-  time-room = asked.room is-timed
-
-  pub time-fits : get_or times m 0 + seconds ≤ 7260
-  unfolding ◌and◌
-  time-fits = omega (arith, asked.small is-timed, leb-true seconds 60 (and_right (leb 1 seconds) _ (and_right timed _ valid)))
 
 -- the time at the end of a step that is set
 module _ {before : List ℕ} {m seconds : ℕ} {timed result : Bool} {after : List ℕ} (got : TimeSet before m seconds timed result after) (e : result ≡ true) where

@@ -1,7 +1,7 @@
 -- Row 0 at the start of the timeline, and the curves of the links as they are kept.
 use Rattle.base_laws.proofs.Kit.{ℕ, ◌+◌, ◌*◌, ◌-◌, ◌≤◌, ◌<◌, ◌≡◌, refl, ◌∙◌, List, ℕ_discrete, arith, length, get_or, set, length-set, get_or-set_same, get_or-set_other}
 use Rattle.network_tables.specs.Fields.{standing_in, past_entries_in, entered_in}
-use Rattle.step_past.specs.Curves.{StartAsked, Started, curve_in, CurveRooms, KeepAsked, KeptAt, Kept, KeepAllAsked, KeptAll}
+use Rattle.step_past.specs.Curves.{StartAsked, Started, curve_in, CurveRooms, KeepAsked, KeptAt, Kept, KeepAllAsked}
 
 -- ---- two numbers of link i set in a table, and one
 module _ (table : List ℕ) (i a b : ℕ) where
@@ -36,7 +36,6 @@ module _ (links : List ℕ) (count : ℕ) (before : List ℕ) where
       }
 
   module _ {row : List ℕ} {n : ℕ} (inv : StartingTo links count before row n) where
-
     pub start-next : n < count → {stood : ℕ} → stood ≡ standing_in links n → StartingTo links count before (pair_set row n stood 0) (n + 1)
     start-next h {stood} e =
         record {
@@ -98,7 +97,6 @@ module _ {fields row arrivals : List ℕ} {links : ℕ} (m next : ℕ) {curves�
   keep-begin = record { within = omega arith; rooms = asked.rooms; done = λ i l. absurd (omega arith); rest = λ i l. refl }
 
   module _ {curves places : List ℕ} {n : ℕ} (inv : KeepingTo fields row arrivals links m next curves₀ places₀ curves places n) where
-
     module _ (h : n < links) where
       pub keep-asked : KeepAsked fields row n curves places
       keep-asked =

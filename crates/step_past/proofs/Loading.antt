@@ -14,9 +14,9 @@ use Rattle.network_tables.specs.Rows.{RowRead}
 use Rattle.network_tables.specs.Sums.{Overflow, Summed}
 use Rattle.network_tables.specs.Tables.{PastNumbers}
 use Rattle.network_tables.proofs.Tables.{standing-at, travel-time-at, past-entries-at, past-exits-at}
-use Rattle.step_arrivals.specs.Arrivals.{ArrivalsAsked, Arrived, ArrivalTable}
+use Rattle.step_arrivals.specs.Arrivals.{Arrived, ArrivalTable}
 use Rattle.step_arrivals.proofs.Boundaries.{arrival-is}
-use Rattle.step_past.specs.Curves.{past_entered, past_left, CurveTo, StartAsked, Started, curve_in, CurveRooms, KeepAllAsked, KeptAll, PastAsked, PastRow, PastOverflows, PastLoaded}
+use Rattle.step_past.specs.Curves.{past_entered, past_left, CurveTo, Started, curve_in, CurveRooms, KeepAllAsked, KeptAll, PastAsked, PastRow, PastOverflows, PastLoaded}
 use Rattle.step_past.proofs.Reading.{past-never, past-numbers, past_next, entered-past}
 use Rattle.std.specs.Prelude.{Option, Some, None}
 
@@ -42,7 +42,6 @@ pub record PastTo (text : List ℕ) (counts : Counts) (row₀ arrivals row curve
 
 module _ {text : List ℕ} {at : ℕ} {counts : Counts} {links times before arrivals₀ curves₀ places₀ : List ℕ}
     (asked : PastAsked text at counts links times before arrivals₀ curves₀ places₀) where
-
   module _ {row₀ : List ℕ} (started : Started links counts.links counts.links before row₀) {arrivals : List ℕ} (arrived : Arrived times links counts.links counts.past arrivals) where
     own-link : (i : ℕ) → i < link_count (lines text) → i < counts.links
     own-link i l = omega (arith, asked.counted.links)
@@ -101,9 +100,6 @@ module _ {text : List ℕ} {at : ℕ} {counts : Counts} {links times before arri
 
         pub past-malformed : r ≡ None → PastLoaded text counts before false row arrivals curves places
         past-malformed e = absurd (past-never m inv.starts wide read asked.forms below e)
-
-        pub sums-asked : (2 * counts.links < length after) × (2 * counts.links ≤ length row)
-        sums-asked = (omega (arith, read.size, inv.field-size, asked.counted.few.links), omega (arith, inv.size, started.size, asked.row_room))
 
         module _ {next : ℕ} (e : r ≡ Some next) {fit : Bool} {row' : List ℕ} (summed : Summed after (2 * counts.links) row fit row') where
           numbers : PastNumbers (lines text) m after

@@ -13,7 +13,7 @@ use Rattle.step_arrivals.specs.Arrivals.{arrival_step_in, Cursor}
 use Rattle.step_arrivals.proofs.Arrivals.{arrival-on, arrival-reached}
 use Rattle.step_past.specs.declared.Curve.{Curve}
 use Rattle.step_past.specs.declared.PastLine.{PastLine}
-use Rattle.step_past.specs.Curves.{past_entered, CurveTo, curve_in, CurveRooms, SameLink, MovedBy, LinkAsked, LinkMoved, LinksAsked, LinksMoved, Behind, MoveAsked, PastMoveAsked, Moved, NextAsked, NextGot}
+use Rattle.step_past.specs.Curves.{past_entered, CurveTo, curve_in, CurveRooms, SameLink, MovedBy, LinkAsked, LinkMoved, LinksAsked, LinksMoved, Behind, MoveAsked, PastMoveAsked, Moved, NextAsked}
 use Rattle.step_past.proofs.Reading.{past-never, past-numbers, past_next, entered-past}
 use Rattle.step_past.proofs.Keeping.{pair_set, rooms-set, curve-set, curve-other}
 use Rattle.std.specs.Prelude.{Option, Some, None}
@@ -86,9 +86,6 @@ module _ {fields : List ℕ} {counts : Counts} {links : List ℕ} {line : PastLi
       }
 
   module _ {arrivals curves places : List ℕ} {n : ℕ} (inv : MovingTo fields counts links line first arrivals₀ curves₀ places₀ arrivals curves places n) where
-    pub moving-done : counts.links ≤ n → LinksMoved fields counts links line first arrivals₀ curves₀ places₀ arrivals curves places
-    moving-done h = record { arrival-size = inv.arrival-size; rooms = inv.rooms; each-link = λ i l o. inv.done i l (omega arith); before = inv.before }
-
     module _ (h : n < counts.links) where
       same_stop : get_or curves (2 * n + 1) 0 ≡ get_or curves₀ (2 * n + 1) 0
       same_stop = ap (λ (c : Curve). c.stop) (inv.rest n (omega arith)).1
@@ -331,9 +328,7 @@ module _ {text : List ℕ} {counts : Counts} {links times : List ℕ} {at : ℕ}
       }
 
   module _ {arrivals curves places : List ℕ} {n : ℕ} (inv : MovedTo text counts links times at arrivals curves places n) where
-
     module _ (h : n < counts.links) where
-
       pub moved_more : {arrivals' curves' places' : List ℕ} → Moved text counts links times at n arrivals curves places arrivals' curves' places'
           → MovedTo text counts links times at arrivals' curves' places' (n + 1)
       moved_more got =

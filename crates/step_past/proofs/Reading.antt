@@ -58,7 +58,6 @@ module _ {text : List ℕ} {links i from to : ℕ} {curve : Curve} (asked : Read
   read-begin size = record { onward = asked.onward; size = size; curve-to = asked.curve-from }
 
   module _ {fields : List ℕ} {start stop place m : ℕ} (inv : ReadTo text i to fields start stop place m) where
-
     module _ (h : m < to) {r : (Option ℕ)} {after : List ℕ} (row : RowRead letter_h (1 + 2 * links) text place 0 fields r after) where
       below : m < past_count (lines text)
       below = omega (arith, asked.within)

@@ -1,5 +1,5 @@
 -- Rows as lists of pairs, and a row that goes into the middle of a list.
-use Rattle.base_laws.proofs.Kit.{◌≡◌, refl, ap, sym, ◌∙◌, ◌⊎◌, inl, inr, ⊎_elim, List, [], ◌∷◌, ◌++◌, append_assoc, append-nil, ℕ, zero, suc, ◌+◌, ◌*◌, ◌-◌, ◌/◌, ◌≤◌, ◌<◌, mul-suc, eq-or-lt_of_le, le_of_suc-le-suc, add-one, dec_le, arith, length, get_or, take, drop, set, length-append, length-drop, List·getD-append, drop_of_length-le, append_snoc, take_all, drop-cons, drop-drop, set_at, get_or-append-add, get_or_at, get_or-drop, ext_get_or, take-suc, length-take-le}
+use Rattle.base_laws.proofs.Kit.{◌≡◌, refl, ap, sym, ◌∙◌, ◌⊎◌, inl, inr, ⊎_elim, List, [], ◌∷◌, ◌++◌, append_assoc, append-nil, ℕ, zero, suc, ◌+◌, ◌*◌, ◌-◌, ◌/◌, ◌≤◌, ◌<◌, mul-suc, eq-or-lt_of_le, le_of_suc-le-suc, add-one, dec_le, arith, length, get_or, take, drop, set, length-append, length-drop, List·getD-append, drop_of_length-le, append_snoc, take_all, drop-cons, drop-drop, set_at, get_or-append-add, get_or_at, get_or-drop, ext_get_or}
 use Rattle.step_rows.specs.Rows.{pairs}
 
 pub length_pairs : (e l : ℕ → ℕ) (n : ℕ) → length (pairs e l n) ≡ 2 * n
@@ -84,12 +84,6 @@ begun-turn e l d n q h a b =
     let k : drop (2 * n) d ≡ get_or d (2 * n) 0 ∷ get_or d (2 * n + 1) 0 ∷ drop (2 * (n + 1)) d =
     drop-cons d (2 * n) 0 (omega arith) ∙ rw (e1, drop-cons d (2 * n + 1) 0 h, e2) in
     rw (q, a, b, k) (set-two (pairs e l n) _ _ _ _ _ (2 * n) (length_pairs e l n) ∙ rw add-one (sym (append_assoc (pairs e l n) (e n ∷ l n ∷ []) _)))
-
--- one turn of a loop that copies into the front of a list
-pub copy-turn : (d s : List ℕ) (k : ℕ) {p : List ℕ} → k < length d → k < length s → p ≡ take k s ++ drop k d → set p k (get_or s k 0) ≡ take (k + 1) s ++ drop (k + 1) d
-copy-turn d s k hd hs e =
-    rw (e, add-one, drop-cons d k 0, take-suc s k 0)
-    (set_at (take k s) _ _ _ k (length-take-le k s (omega arith)) ∙ sym (append_snoc (take k s) (get_or s k 0) _))
 
 -- a part that starts at index a and into whose front n numbers were copied, back in the whole
 pub part-copied : (d s : List ℕ) (a n : ℕ) {p : List ℕ} → a + n ≤ length d → p ≡ take n s ++ drop n (take (length d - a) (drop a d))

@@ -30,9 +30,6 @@ module _ (links : List ℕ) (count : ℕ) where
           };
         }
 
-    pub first-all : count ≤ n → FirstWaits links count waiting
-    first-all h = let e : n ≡ count = omega (arith, m.within) in rw e at m.told
-
 -- those who wait have been added to the demand of the first n links
 pub record Adding (links : ℕ) (waiting before step : List ℕ) (n : ℕ) : Type 0 where
   pub asked : AddAsked links waiting before
@@ -51,9 +48,6 @@ module _ (links : ℕ) (waiting before : List ℕ) where
       }
 
   module _ (step : List ℕ) (n : ℕ) (m : Adding links waiting before step n) where
-    pub adding-fits : n < links → demand_in step n + waiting_in waiting n < 4294967296
-    adding-fits h = rw (m.rest n (omega arith)) (m.asked.fits n h)
-
     pub adding-more : n < links → Adding links waiting before (set step (1 + n) (demand_in step n + waiting_in waiting n)) (n + 1)
     adding-more h =
         record {
@@ -75,9 +69,6 @@ module _ (links : ℕ) (waiting before : List ℕ) where
             rw q (get_or-set_same step (1 + n) v 0 (omega (arith, m.added.size, m.asked.few)) ∙ omega (arith, m.rest n (omega arith)))
         at i (inr q) = get_or-set_other step (1 + n) (1 + i) v 0 (λ o. omega arith) ∙ m.added.offers i q
 
-    pub adding-all : links ≤ n → Offers links waiting before step
-    adding-all h = record { size = m.added.size; lasts = m.added.lasts; offers = λ i l. m.added.offers i (omega arith) }
-
 -- the first n links have who waits after the step
 pub record Keeping (counts : Counts) (step line before waiting : List ℕ) (n : ℕ) : Type 0 where
   pub asked : WaitsAsked counts step line before
@@ -89,9 +80,6 @@ module _ (counts : Counts) (step line before : List ℕ) where
   keeping-first a = record { asked = a; within = omega arith; kept = record { size = a.size; rest = λ i l. absurd (omega arith) } }
 
   module _ (waiting : List ℕ) (n : ℕ) (m : Keeping counts step line before waiting n) where
-    pub keeping-enough : {a : ℕ} → n < counts.links → a ≡ admitted_in counts line n → a ≤ offer_in step n
-    keeping-enough h e = rw e (m.asked.enough n h)
-
     pub keeping-more : {a : ℕ} → n < counts.links → a ≡ admitted_in counts line n → Keeping counts step line before (set waiting n (offer_in step n - a)) (n + 1)
     keeping-more {a} h e =
         record {
@@ -106,6 +94,3 @@ module _ (counts : Counts) (step line before : List ℕ) where
         at : (i : ℕ) → (i ≡ n) ⊎ (i < n) → waiting_in (set waiting n v) i ≡ offer_in step i - admitted_in counts line i
         at i (inl q) = rw (q, ← e) (get_or-set_same waiting n v 0 (omega (arith, m.kept.size, m.asked.few.links)))
         at i (inr q) = get_or-set_other waiting n i v 0 (λ o. omega arith) ∙ m.kept.rest i q
-
-    pub keeping_all : counts.links ≤ n → Waits counts step line counts.links waiting
-    keeping_all h = record { size = m.kept.size; rest = λ i l. m.kept.rest i (omega arith) }

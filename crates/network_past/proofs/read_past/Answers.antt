@@ -2,7 +2,7 @@ use Rattle.std.proofs.Common.{◌≡◌, rules, Some}
 use Rattle.base_laws.proofs.Kit.{refl, arith}
 use Rattle.base_search.proofs.Laws.{passed_on}
 use Rattle.network_tables.proofs.Rows.{row-refused}
-use Rattle.network_past.proofs.Forms.{forms-begin, forms-malformed, time-asked, forms-next, forms-done}
+use Rattle.network_past.proofs.Forms.{forms-begin, forms-malformed, forms-next, forms-done}
 use Rattle.network_past.proofs.read_past.Goals as goal
 
 pub loop-m-init : goal.loop-m-init

@@ -1,5 +1,4 @@
 -- `network_signals::load_signals` meets its contract.
-use Rattle.base_laws.proofs.Kit.{◌-◌}
 use Rattle.network_signals.proofs.Loops.{LoadedTo}
 use Rattle.network_signals.proofs.load_signals.Given as goal
 

@@ -1,5 +1,4 @@
 -- `network_signals::read_signals` meets its contract.
-use Rattle.base_laws.proofs.Kit.{◌-◌}
 use Rattle.network_signals.proofs.Loops.{SignalsTo}
 use Rattle.network_signals.proofs.read_signals.Given as goal
 

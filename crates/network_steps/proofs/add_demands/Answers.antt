@@ -1,5 +1,5 @@
 use Rattle.std.proofs.Common.{rules}
-use Rattle.network_steps.proofs.Steps.{add_begin, add-fits, add-next, add_done}
+use Rattle.network_steps.proofs.Steps.{add_begin, add-next}
 use Rattle.network_steps.proofs.add_demands.Goals as goal
 
 pub loop-i-init : goal.loop-i-init

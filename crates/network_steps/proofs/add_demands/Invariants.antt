@@ -1,5 +1,4 @@
 -- `network_steps::add_demands` meets its contract. The invariant: the demands of i links are added.
-use Rattle.base_laws.proofs.Kit.{◌-◌}
 use Rattle.network_steps.proofs.Steps.{AddedTo}
 use Rattle.network_steps.proofs.add_demands.Given as goal
 

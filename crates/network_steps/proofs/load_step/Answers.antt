@@ -1,5 +1,4 @@
 -- `network_steps::load_step` meets its contract.
-use Rattle.std.proofs.Common.{rules}
 use Rattle.network_steps.proofs.Steps.{step-loaded}
 use Rattle.network_steps.proofs.load_step.Goals as goal
 

@@ -2,7 +2,7 @@ use Rattle.std.proofs.Common.{◌≡◌, rules, arith, Some}
 use Rattle.base_laws.proofs.Kit.{refl}
 use Rattle.base_search.proofs.Laws.{passed_on}
 use Rattle.network_tables.proofs.Rows.{row-refused}
-use Rattle.network_steps.proofs.Steps.{steps-begin, steps-malformed, steps-invalid, time-asked, add-asked, steps_next, steps-done}
+use Rattle.network_steps.proofs.Steps.{steps-begin, steps-malformed, steps-invalid, add-asked, steps_next, steps-done}
 use Rattle.network_steps.proofs.read_steps.Goals as goal
 
 pub loop-n-init : goal.loop-n-init

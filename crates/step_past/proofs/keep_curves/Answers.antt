@@ -1,5 +1,5 @@
 use Rattle.std.proofs.Common.{rules}
-use Rattle.step_past.proofs.Keeping.{keep-begin, keep-asked, keep-next}
+use Rattle.step_past.proofs.Keeping.{keep-begin, keep-next}
 use Rattle.step_past.proofs.keep_curves.Goals as goal
 
 pub loop-i-init : goal.loop-i-init

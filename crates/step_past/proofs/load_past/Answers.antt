@@ -1,6 +1,5 @@
 use Rattle.std.proofs.Common.{rules}
-use Rattle.base_laws.proofs.Kit.{arith}
-use Rattle.step_past.proofs.Loading.{past-begin, past-malformed, sums-asked, past-over, keep-asked, past-next-line, past-done}
+use Rattle.step_past.proofs.Loading.{past-begin, past-malformed, past-over, keep-asked, past-next-line, past-done}
 use Rattle.step_past.proofs.load_past.Goals as goal
 
 pub loop-m-init : goal.loop-m-init

@@ -1,5 +1,4 @@
 -- `step_past::load_past` meets its contract. The invariant: the row at boundary m of the timeline, and the curves of the links whose travel time ends before it.
-use Rattle.base_laws.proofs.Kit.{◌-◌}
 use Rattle.step_past.proofs.Loading.{PastTo}
 use Rattle.step_past.proofs.load_past.Given as goal
 

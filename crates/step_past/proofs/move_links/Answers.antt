@@ -1,5 +1,5 @@
 use Rattle.std.proofs.Common.{rules}
-use Rattle.step_past.proofs.Moving.{moving-begin, moving-next, moving-done}
+use Rattle.step_past.proofs.Moving.{moving-begin, moving-next}
 use Rattle.step_past.proofs.move_links.Goals as goal
 
 pub loop-i-init : goal.loop-i-init

@@ -1,5 +1,4 @@
 -- `step_past::move_links` meets its contract. The invariant: the links before i are moved on by the line.
-use Rattle.base_laws.proofs.Kit.{◌-◌}
 use Rattle.step_past.proofs.Moving.{MovingTo}
 use Rattle.step_past.proofs.move_links.Given as goal
 

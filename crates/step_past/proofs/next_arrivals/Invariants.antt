@@ -1,5 +1,4 @@
 -- `step_past::next_arrivals` meets its contract. The invariant: the first i links are moved on.
-use Rattle.base_laws.proofs.Kit.{◌-◌}
 use Rattle.step_past.proofs.Moving.{MovedTo}
 use Rattle.step_past.proofs.next_arrivals.Given as goal
 

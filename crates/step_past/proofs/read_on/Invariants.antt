@@ -1,5 +1,4 @@
 -- `step_past::read_on` meets its contract. The invariant: the curve of the lines read so far.
-use Rattle.base_laws.proofs.Kit.{◌-◌}
 use Rattle.step_past.proofs.Reading.{ReadTo}
 use Rattle.step_past.proofs.read_on.Given as goal
 

@@ -1,5 +1,4 @@
 use Rattle.std.proofs.Common.{rules}
-use Rattle.base_laws.proofs.Kit.{length-set}
 use Rattle.step_past.proofs.Keeping.{start-begin, start-next}
 use Rattle.step_past.proofs.start_row.Goals as goal
 

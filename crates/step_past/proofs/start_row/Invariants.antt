@@ -1,5 +1,4 @@
 -- `step_past::start_row` meets its contract. The invariant: the first i links are at their start.
-use Rattle.base_laws.proofs.Kit.{◌-◌}
 use Rattle.step_past.proofs.Keeping.{StartingTo}
 use Rattle.step_past.proofs.start_row.Given as goal
 

@@ -1,5 +1,5 @@
 use Rattle.std.proofs.Common.{rules}
-use Rattle.base_laws.proofs.Kit.{◌≡◌, arith}
+use Rattle.base_laws.proofs.Kit.{arith}
 use Rattle.step_rows.proofs.Scatter.{added_none, room-to, room-second, added-turn}
 use Rattle.step_rows.proofs.add_movements.Goals as goal
 

@@ -1,5 +1,5 @@
 -- `step_rows::add_movements` meets its contract. The invariant: the first j movements have been added to the row. Each store has room, since what is added so far is at most what all movements add.
-use Rattle.base_laws.proofs.Kit.{◌-◌, ◌≤◌}
+use Rattle.base_laws.proofs.Kit.{◌≤◌}
 use Rattle.step_rows.specs.Rows.{Added}
 use Rattle.step_rows.proofs.add_movements.Given as goal
 

@@ -1,4 +1,4 @@
-use Rattle.step_rows.proofs.WaitingTurns.{adding-first, adding-fits, adding-more, adding-all}
+use Rattle.step_rows.proofs.WaitingTurns.{adding-first, adding-more}
 use Rattle.step_rows.proofs.add_waiting.Goals as goal
 
 pub loop-i-init : goal.loop-i-init

@@ -1,5 +1,4 @@
 -- `step_rows::add_waiting` meets its contract. The invariant: those who wait have been added to the demand of the first i links.
-use Rattle.base_laws.proofs.Kit.{◌-◌}
 use Rattle.step_rows.proofs.WaitingTurns.{Adding}
 use Rattle.step_rows.proofs.add_waiting.Given as goal
 

@@ -1,5 +1,5 @@
 use Rattle.std.proofs.Common.{rules}
-use Rattle.base_laws.proofs.Kit.{◌≡◌, arith, length-set}
+use Rattle.base_laws.proofs.Kit.{length-set}
 use Rattle.step_rows.proofs.Lists.{begun-none}
 use Rattle.step_rows.proofs.Turns.{base-entered-fits, base-left-fits, base-turn}
 use Rattle.step_rows.proofs.base_row.Goals as goal

@@ -1,5 +1,5 @@
 use Rattle.std.proofs.Common.{rules}
-use Rattle.step_rows.proofs.WaitingTurns.{first-begin, first_more, first-all}
+use Rattle.step_rows.proofs.WaitingTurns.{first-begin, first_more}
 use Rattle.step_rows.proofs.first_waiting.Goals as goal
 
 pub loop-i-init : goal.loop-i-init

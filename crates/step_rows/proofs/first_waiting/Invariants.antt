@@ -1,5 +1,4 @@
 -- `step_rows::first_waiting` meets its contract. The invariant: who waits at the first i entries is told.
-use Rattle.base_laws.proofs.Kit.{◌-◌}
 use Rattle.step_rows.proofs.WaitingTurns.{FirstTo}
 use Rattle.step_rows.proofs.first_waiting.Given as goal
 

@@ -1,5 +1,5 @@
 use Rattle.std.proofs.Common.{rules}
-use Rattle.base_laws.proofs.Kit.{◌≡◌, sym, arith}
+use Rattle.base_laws.proofs.Kit.{sym, arith}
 use Rattle.step_rows.proofs.Sums.{sum-none}
 use Rattle.step_rows.proofs.Turns.{held-turn}
 use Rattle.step_rows.proofs.held_in.Goals as goal

@@ -1,4 +1,4 @@
-use Rattle.step_rows.proofs.WaitingTurns.{keeping-first, keeping-enough, keeping-more, keeping_all}
+use Rattle.step_rows.proofs.WaitingTurns.{keeping-first, keeping-more}
 use Rattle.step_rows.proofs.next_waiting.Goals as goal
 
 pub loop-i-init : goal.loop-i-init

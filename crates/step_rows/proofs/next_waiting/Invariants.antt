@@ -1,5 +1,4 @@
 -- `step_rows::next_waiting` meets its contract. The invariant: the first i links have who waits after the step.
-use Rattle.base_laws.proofs.Kit.{◌-◌}
 use Rattle.step_rows.proofs.WaitingTurns.{Keeping}
 use Rattle.step_rows.proofs.next_waiting.Given as goal
 

@@ -1,5 +1,5 @@
 use Rattle.std.proofs.Common.{rules}
-use Rattle.base_laws.proofs.Kit.{◌≡◌, sym, ◌+◌, arith, get_or}
+use Rattle.base_laws.proofs.Kit.{sym, ◌+◌, arith, get_or}
 use Rattle.step_rows.proofs.Sums.{sum-none, sum-next}
 use Rattle.step_rows.proofs.sum_of.Goals as goal
 

@@ -1,5 +1,5 @@
 -- `step_rows::sum_of` meets its contract. The invariant: the total is the sum of the first i numbers.
-use Rattle.base_laws.proofs.Kit.{◌≡◌, ◌+◌, ◌*◌, ◌-◌, ◌≤◌, get_or}
+use Rattle.base_laws.proofs.Kit.{◌≡◌, ◌+◌, ◌*◌, ◌≤◌, get_or}
 use Rattle.base_laws.specs.Sum.{sum}
 use Rattle.step_rows.proofs.sum_of.Given as goal
 
