@@ -26,10 +26,9 @@ fn put_row(fields: &mut [u64], row: &[u32])
     requires { 2 + length row.now ≤ length fields.old }
     ensures { fields.new ≡ put_at 2 row.now fields.old }
 {
-    let mut k: usize = 0;
-    while k < row.len() {
-        fields[2 + k] = network_tables::wide(row[k]);
-        k += 1;
+    // Not a `zip`: a proof knows no element that is written through one.
+    for k in 0..row.len() {
+        fields[2 + k] = u64::from(row[k]);
     }
 }
 
@@ -40,7 +39,7 @@ fn write_boundary(out: &mut [u8], at: usize, n: usize, time: u32, row: &[u32]) -
 {
     let mut fields = [0u64; 2 + ROW_SIZE];
     fields[0] = n as u64;
-    fields[1] = network_tables::wide(time);
+    fields[1] = u64::from(time);
     put_row(&mut fields, row);
     let end = 2 + row.len();
     text_writer::write_record(out, at, b'B', &fields[..end])
@@ -52,12 +51,10 @@ fn write_rows(out: &mut [u8], at: usize, counts: Counts, times: &[u32], ledger: 
     ensures { Wrote (boundary_texts counts times.now ledger.now) at out.old out.new result }
 {
     let mut next = at;
-    let mut n: usize = 0;
-    while n <= counts.steps {
+    for n in 0..counts.steps + 1 {
         let start = 2 * n * counts.links;
         let end = start + 2 * counts.links;
         next = write_boundary(out, next, n, times[n], &ledger[start..end]);
-        n += 1;
     }
     next
 }
@@ -89,9 +86,9 @@ fn write_refusal(out: &mut [u8], refusal: Refusal) -> usize
     ensures { Wrote (refusal_text refusal) 0 out.old out.new result }
 {
     let fields = [
-        network_tables::wide(refusal.number),
-        network_tables::wide(refusal.line),
-        network_tables::wide(refusal.item),
+        u64::from(refusal.number),
+        u64::from(refusal.line),
+        u64::from(refusal.item),
     ];
     text_writer::write_record(out, 0, b'R', &fields)
 }

@@ -6,15 +6,15 @@ use Rattle.plancheck_report.proofs.write_boundary.Goals as goal
 
 pub slice_bounds-write_record-end : goal.slice_bounds-write_record-end
 slice_bounds-write_record-end c =
-    let f = fields_read c.args.n c.wide.result c.args.time c.args.row.now _ c.put_row.new.fields (omega arith) c.wide.ensures.0 c.put_row.ensures in
+    let f = fields_read c.args.n c.from.result c.args.time c.args.row.now _ c.put_row.new.fields (omega arith) c.from.ensures c.put_row.ensures in
     omega (arith, ap length f)
 
 pub write_record-requires : goal.write_record-requires
 write_record-requires c =
-    let f = fields_read c.args.n c.wide.result c.args.time c.args.row.now _ c.put_row.new.fields (omega arith) c.wide.ensures.0 c.put_row.ensures in
+    let f = fields_read c.args.n c.from.result c.args.time c.args.row.now _ c.put_row.new.fields (omega arith) c.from.ensures c.put_row.ensures in
     record-fits _ _ _ _ (omega (arith, ap length f))
 
 pub returns : goal.returns
 returns c =
-    let f = fields_read c.args.n c.wide.result c.args.time c.args.row.now _ c.put_row.new.fields (omega arith) c.wide.ensures.0 c.put_row.ensures in
+    let f = fields_read c.args.n c.from.result c.args.time c.args.row.now _ c.put_row.new.fields (omega arith) c.from.ensures c.put_row.ensures in
     rw f at c.write_record.ensures

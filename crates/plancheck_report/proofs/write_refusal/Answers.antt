@@ -8,4 +8,4 @@ pub write_record-requires : goal.write_record-requires
 write_record-requires c = record-fits _ _ _ _ (search rules)
 
 pub returns : goal.returns
-returns c = refusal-wrote _ c.wide.ensures.0 c.wide-2.ensures.0 c.wide-3.ensures.0 c.write_record.ensures
+returns c = refusal-wrote _ c.from.ensures c.from-2.ensures c.from-3.ensures c.write_record.ensures

@@ -5,6 +5,3 @@ use Rattle.plancheck_report.proofs.write_rows.Given as goal
 
 abbrev pub invariant-loop-n : goal.invariant-loop-n
 invariant-loop-n l = Written l.counts l.times l.ledger l.at l.initial.out l.out l.next l.n
-
-abbrev pub decreases-loop-n : goal.decreases-loop-n
-decreases-loop-n l = suc l.counts.steps - l.n

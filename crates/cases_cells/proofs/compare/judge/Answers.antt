@@ -1,5 +1,5 @@
 -- `cases_cells::compare::judge` meets its contract.
-use Rattle.std.proofs.Common.{List, ℕ, ◌≡◌, sym}
+use Rattle.std.proofs.Common.{rules, List, ℕ, ◌≡◌, sym}
 use Rattle.std.specs.Prelude.{Result, Ok, Err, MatchResult}
 use Rattle.base_search.specs.declared.Refusal.{Refusal}
 use Rattle.text_reader.specs.Lines.{lines}
@@ -15,4 +15,4 @@ final (Ok run) volumes v = v
 final (Err r) volumes v = sym v
 
 pub returns : goal.returns
-returns g c = let left = final _ _ (volumes-told (lines c.args.corridor.now)) in rw (← left, ← c.run_cells-answer.ensures.answer_value) cc
+returns g c = let left = final _ _ (volumes-told (lines c.args.corridor.now)) in rw (← left, ← c.run_cells-answer.ensures.answer_value) (search rules)
