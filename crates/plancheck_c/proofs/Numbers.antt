@@ -102,8 +102,8 @@ module _ (network plan : List Line) where
 module _ (network first second : List Line) where
   plans-number : (o : Order) (v w : Verdict) → (comparison_result (plans_answer o (plan_answer network first v) (plan_answer network second w))).number ≡ number_of (or_else v w)
   unfolding plans_answer plan_answer or_else
-  plans-number o (Ok tt) (Ok tt) = refl
-  plans-number o (Ok tt) (Err r) = refl
+  plans-number o (Ok _) (Ok _) = refl
+  plans-number o (Ok _) (Err r) = refl
   plans-number o (Err r) w = refl
 
   module _ (first_size second_size : ℕ) where

@@ -22,6 +22,12 @@ use Rattle.model_split.specs.declared.Lengths.{Lengths}
 use Rattle.model.specs.declared.Totals.{Totals}
 use Rattle.base_search.specs.Checks.{Verdict}
 
+order-back : (o : Order) → order_of (order_number o) ≡ o
+order-back Ahead = refl
+order-back Behind = refl
+order-back Equal = refl
+order-back Crossing = refl
+
 module _ {numbers : List ℕ} where
   not-zero : (r : Refusal) → CanArise numbers r.number → eqb r.number 0 ≡ false
   not-zero r a = ne_eqb r.number 0 (λ e. omega (arith, a.not-0))
@@ -53,12 +59,6 @@ module _ {numbers : List ℕ} where
 
   pub of-split : (P : Result Lengths Refusal → Type 0) (a : Result Lengths Refusal) (r : SplitResult) → r ≡ split_result a → ((q : Refusal) → a ≡ Err q → CanArise numbers q.number) → P a → P (split_answer_of r)
   of-split P a r e h p = rw e (subst P (sym (split-back a h)) p)
-
-  order-back : (o : Order) → order_of (order_number o) ≡ o
-  order-back Ahead = refl
-  order-back Behind = refl
-  order-back Equal = refl
-  order-back Crossing = refl
 
   comparison-back : (a : Result Comparison ComparisonRefusal) → ((q : ComparisonRefusal) → a ≡ Err q → CanArise numbers (refusal_in q).number) → comparison_answer_of (comparison_result a) ≡ a
   comparison-back (Ok c) h = rw (order-back c.order)

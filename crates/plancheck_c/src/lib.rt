@@ -32,8 +32,8 @@ ghost use Rattle.split.specs.Splitting.{texts, buffers, SplitGot};
 ghost use Rattle.plancheck_c.specs.Results.{NumberTells, verdict_result, verdict_of, counts_result, version, plan_result, plan_answer_of, link_result, text_result, text_answer_of, order_number, comparison_result, comparison_answer_of, split_result, split_answer_of, cells_result, cells_answer_of};
 
 use base_search::Refusal;
-use model::{LinkState, Totals};
-use plan_compare::{Comparison, Order};
+use model::Totals;
+use plan_compare::Order;
 
 // The answer of a network's check or of a step of vehicles; number 0: the network is valid, the vehicles have moved.
 #[repr(C)]
@@ -292,12 +292,12 @@ pub extern "C" fn plancheck_link_state(
     ensures padding_ignored { PaddingIgnored network.now (λ padded. result ≡ link_result (link_state (lines padded) ledger.now boundary link)) }
 {
     match plan_link_state::link_state(network, ledger, boundary, link) {
-        Ok(LinkState { queued, in_transit }) => LinkResult {
+        Ok(state) => LinkResult {
             number: 0,
             line: 0,
             item: 0,
-            queued,
-            in_transit,
+            queued: state.queued,
+            in_transit: state.in_transit,
         },
         Err(r) => LinkResult {
             number: r.number,
@@ -385,13 +385,13 @@ pub extern "C" fn plancheck_compare_plans(
     ensures padding_ignored { PaddingIgnored network.now (λ padded_network. PaddingIgnored first.now (λ padded_first. PaddingIgnored second.now (λ padded_second. ComparisonGot padded_network padded_first padded_second first_ledger.old second_ledger.old (comparison_answer_of result) first_ledger.new second_ledger.new))) }
 {
     match plan_compare::compare_plans(network, first, second, first_ledger, second_ledger) {
-        Ok(Comparison { order, gap }) => ComparisonResult {
+        Ok(comparison) => ComparisonResult {
             number: 0,
             line: 0,
             item: 0,
             plan: 0,
-            order: order_number(order),
-            gap,
+            order: order_number(comparison.order),
+            gap: comparison.gap,
         },
         Err(refused) => {
             let r = refused.refusal();

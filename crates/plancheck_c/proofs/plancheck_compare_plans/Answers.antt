@@ -1,14 +1,15 @@
 -- `plancheck_c::plancheck_compare_plans` meets its contract.
 use Rattle.base_laws.proofs.Kit.{List, ℕ, ◌≡◌, sym, ap, ◌∙◌}
-use lib.IntN.{ℤ}
+use lib.IntN.{pos}
 use mir.Syntax.{w64}
 use mir.Val.{SFits, to_z, of_z}
 use mir.Facts.{to_z-of_z}
-use Rattle.plan_compare.specs.declared.Order.{Order}
+use Rattle.base_search.specs.declared.Refusal.{Refusal}
 use Rattle.std.specs.Prelude.{Result, Ok, Err}
 use Rattle.plan_compare.specs.declared.Comparison.{Comparison}
 use Rattle.plan_compare.specs.declared.ComparisonRefusal.{ComparisonRefusal}
 use Rattle.plan_compare.specs.Promises.{ComparisonPromises, ComparisonGot}
+use Rattle.plan_compare.specs.Comparison.{plan_number, refusal_in}
 use Rattle.plan_compare.proofs.Call.{compared-word}
 use Rattle.plancheck_c.specs.Results.{order_number, comparison_result, comparison_answer_of}
 use Rattle.plancheck_c.proofs.Numbers.{compared-tells}
@@ -29,16 +30,20 @@ module _ (a : Result Comparison ComparisonRefusal) (r : ComparisonResult) (is : 
   got {network} {first} {second} {first_old} {second_old} {first_new} {second_new} g =
       of-comparison (λ (x : Result Comparison ComparisonRefusal). ComparisonGot network first second first_old second_old x first_new second_new) a r is g.promised.refused-number g
 
-compared-result : (o : Order) (gap : ℤ) (n : ℕ) → n ≡ order_number o → SFits w64 gap
-    → record { number = 0; line = 0; item = 0; plan = 0; order = n; gap = to_z w64 (of_z w64 gap) } ≡ comparison_result (Ok (record { order = o; gap = gap }))
-compared-result o gap n e fits = rw (e, to_z-of_z fits)
+-- how an order and a gap, or a refusal, are told
+compared-result : (a : Comparison) (n : ℕ) → n ≡ order_number a.order → SFits w64 a.gap
+    → record { number = 0; line = 0; item = 0; plan = 0; order = n; gap = to_z w64 (of_z w64 a.gap) } ≡ comparison_result (Ok a)
+compared-result a n e fits = rw (e, to_z-of_z fits)
 
-pub returns-in-Compared : goal.returns-in-Compared
-returns-in-Compared c =
+refused-result : (a : ComparisonRefusal) (r : Refusal) (plan : ℕ) → r ≡ refusal_in a → plan ≡ plan_number a
+    → record { number = r.number; line = r.line; item = r.item; plan = plan; order = 0; gap = pos 0 } ≡ comparison_result (Err a)
+refused-result a r plan e f = rw (e, f)
+
+pub returns-in-Ok : goal.returns-in-Ok
+returns-in-Ok c =
     let e = c.compare_plans.ensures in
-    let given = c.in-Compared.is in
-    let fits = compared-word (e.comparison_promises.compared _ _ given) in
-    let is = compared-result c.in-Compared.order _ _ c.order_number.ensures fits ∙ sym (ap comparison_result given) in
+    let fits = compared-word (e.comparison_promises.compared _ c.in-Ok.is) in
+    let is = compared-result c.in-Ok.comparison _ c.order_number.ensures fits ∙ sym (ap comparison_result c.in-Ok.is) in
     let told = is ∙ ap comparison_result e.value in record {
       value = told;
       first_ledger_after = e.first_ledger_after;
@@ -52,7 +57,7 @@ returns-in-Compared c =
 pub returns-in-Err : goal.returns-in-Err
 returns-in-Err c =
     let e = c.compare_plans.ensures in
-    let is = sym (ap comparison_result c.in-Err.is) in
+    let is = refused-result c.in-Err.refused _ _ c.refusal-r.ensures c.plan.ensures ∙ sym (ap comparison_result c.in-Err.is) in
     let told = is ∙ ap comparison_result e.value in record {
       value = told;
       first_ledger_after = e.first_ledger_after;
