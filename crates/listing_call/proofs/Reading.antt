@@ -1,5 +1,5 @@
 -- The loop over the lines of a listing: what a line comes to is the verdict on it.
-use Rattle.base_laws.proofs.Kit.{ℕ, suc, ◌+◌, ◌-◌, ◌≤◌, ◌<◌, ◌≡◌, refl, sym, ◌∙◌, Bool, true, false, not, cond, List, add-one, arith, eqb, length, get_or, set}
+use Rattle.base_laws.proofs.Kit.{ℕ, suc, ◌+◌, ◌-◌, ◌≤◌, ◌<◌, ◌≡◌, sym, ◌∙◌, Bool, true, not, cond, List, add-one, arith, eqb, length, get_or, set}
 use Rattle.std.specs.Prelude.{Option, Some, None, Result, Ok, Err, is_some, ok_or, option_map}
 use Rattle.std.proofs.Common.{below_more}
 use Rattle.std.proofs.lemmas.Bool.Decides.{nat_tests}

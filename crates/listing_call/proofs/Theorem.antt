@@ -1,10 +1,10 @@
 -- Reading the written plan gives just the listing's numbers.
-use Rattle.base_laws.proofs.Kit.{ℕ, zero, suc, ◌*◌, ◌-◌, ◌%◌, ◌≤◌, ◌<◌, ◌≡◌, refl, sym, ap, ◌∙◌, ◌⊎◌, inl, inr, Bool, true, false, not, List, add-one, dec_le, eq-or-lt_of_le, div-add-mod', arith, eqb-true, leb-true, eqb, length}
+use Rattle.base_laws.proofs.Kit.{ℕ, zero, suc, ◌*◌, ◌-◌, ◌%◌, ◌≤◌, ◌<◌, ◌≡◌, refl, sym, ap, ◌∙◌, ◌⊎◌, inl, inr, true, false, not, List, add-one, dec_le, eq-or-lt_of_le, div-add-mod', arith, eqb-true, leb-true, eqb, length}
 use Rattle.base_search.specs.Checks.{Hold}
 use Rattle.text_reader.specs.Lines.{Line, lines}
 use Rattle.text_reader.proofs.Laws.{starts_first, starts-end, end-of-none}
 use Rattle.base_laws.specs.Test.{◌and◌, ◌or◌, within}
-use Rattle.model.specs.Network.{link_count, signal_count, movement_count, step_count, signal, step_length}
+use Rattle.model.specs.Network.{signal_count, step_count, signal, step_length}
 use Rattle.model.specs.Flows.{shown_mask}
 use Rattle.model.specs.Rules.{valid_phases}
 use Rattle.model.specs.Table.{network_checks}
@@ -12,7 +12,7 @@ use Rattle.model.specs.Hold.{meant}
 use Rattle.model.proofs.Accepted.{valid-network}
 use Rattle.model.proofs.Hold.{meant-lines}
 use Rattle.model.proofs.Limits.{counts}
-use Rattle.base_laws.proofs.Tests.{and_left, and_right, or_cases, or_left, or_right}
+use Rattle.base_laws.proofs.Tests.{and_left, and_right, or_left, or_right}
 use Rattle.listing_lines.specs.declared.Variable.{Variable}
 use Rattle.listing_lines.specs.declared.Variable.TheVariants.{Shown, Admitted, LetOut, Moved}
 use Rattle.listing_lines.specs.Entry.{Entry, setting}
@@ -21,7 +21,6 @@ use Rattle.listing_call.specs.ReadsBack.{bit_of, planned, in_millionths, stated,
 use Rattle.listing_call.specs.Tables.{bit}
 use Rattle.listing_call.proofs.Tests.{or_is, tests}
 use Rattle.listing_call.proofs.Bits.{bit_in, bit_past}
-use Rattle.base_laws.proofs.Tests.{within-parts}
 use Rattle.std.specs.Prelude.{Some, None}
 use Rattle.std.proofs.lemmas.Bool.Decides.{nat_tests}
 use Rattle.listing_call.proofs.Places.{same_self}

@@ -1,27 +1,24 @@
 -- Where the tables hold a network's numbers, what is judged and written by them is what the request says of the network.
-use Rattle.base_laws.proofs.Kit.{ℕ, suc, ◌+◌, ◌-◌, ◌*◌, ◌≤◌, ◌<◌, ◌≡◌, refl, sym, ap, ap₂, ◌∙◌, Bool, true, false, not, List, ◌++◌, dec_le, add-one, arith, length, get_or}
-use Rattle.base_search.specs.Checks.{each, or_else, checked, verdict, Verdict}
+use Rattle.base_laws.proofs.Kit.{ℕ, suc, ◌+◌, ◌-◌, ◌*◌, ◌≤◌, ◌<◌, ◌≡◌, refl, sym, ap, ap₂, ◌∙◌, Bool, true, List, ◌++◌, dec_le, add-one, arith, length, get_or}
+use Rattle.base_search.specs.Checks.{each, or_else, checked, verdict}
 use Rattle.base_search.proofs.Laws.{first-same}
 use Rattle.text_reader.specs.Lines.{Line}
 use Rattle.text_writer.specs.Records.{record_texts}
 use Rattle.text_writer.proofs.Laws.{records-same}
-use Rattle.base_laws.specs.Test.{◌and◌, within}
 use Rattle.base_laws.specs.Sum.{sum}
-use Rattle.model.specs.Network.{link_count, signal_count, movement_count, step_count, signal, step_length, time}
+use Rattle.model.specs.Network.{link_count, signal_count, movement_count, step_count, step_length, time}
 use Rattle.model.specs.Table.{letter_p}
-use Rattle.base_laws.proofs.Tests.{and_right, within-parts}
 use Rattle.network_tables.specs.declared.Counts.{Counts}
 use Rattle.network_tables.specs.Places.{plan_width}
 use Rattle.network_tables.specs.Tables.{CountsHold, PhaseTable}
 use Rattle.step_arrivals.specs.Times.{PlanTimes}
 use Rattle.network_tables.specs.Fields.{line_size}
 use Rattle.listing_lines.specs.declared.Variable.{Variable}
-use Rattle.listing_lines.specs.declared.Variable.TheVariants.{Shown, Admitted, LetOut, Moved}
+use Rattle.listing_lines.specs.declared.Variable.TheVariants.{Admitted, LetOut, Moved}
 use Rattle.listing_lines.specs.Entry.{Entry}
 use Rattle.std.proofs.lemmas.Bool.Decides.{nat_tests}
 use Rattle.listing_call.proofs.Tests.{tests}
-use Rattle.listing_call.specs.Listing.{step_of, volume, has_variable, valid_value, line_at, set_before, value_before, value, formed_by, fits_by, entry_checks_by, listing_checks, mask_of, volume_of, plan_numbers, plan_text}
-use Rattle.std.specs.Prelude.{Some, None}
+use Rattle.listing_call.specs.Listing.{step_of, volume, has_variable, line_at, value_before, value, formed_by, fits_by, entry_checks_by, listing_checks, mask_of, volume_of, plan_numbers, plan_text}
 use Rattle.step_arrivals.specs.Arrivals.{seconds_in}
 use Rattle.listing_call.specs.Tables.{column, place, has_in, Placed, has_volume, mask_before, Stored}
 use Rattle.network_writer.specs.Plan.{column_in, plan_number, plan_row, plan_lines}

@@ -4,13 +4,13 @@
 ghost use Rattle.std.specs.Prelude.{◌≡◌, ◌+◌, ◌/◌, ◌^◌, ◌≤◌, ◌<◌, length, eqb, not, IfSome, IfOk};
 ghost use Rattle.text_reader.specs.Lines.{lines};
 ghost use Rattle.text_reader.specs.Padding.{PaddingIgnored};
+ghost use Rattle.network_tables.specs.Fields.{line_size};
+ghost use Rattle.step_arrivals.specs.Arrivals.{seconds_in};
 ghost use Rattle.listing_lines.specs.Entry.{entries};
 ghost use Rattle.listing_call.specs.Listing.{valid_value};
 ghost use Rattle.listing_call.specs.ReadsBack.{PlanGot};
-ghost use Rattle.listing_call.specs.Writing.{WriteGot, NetworkAsked, ListingWritten};
-ghost use Rattle.network_tables.specs.Fields.{line_size};
-ghost use Rattle.step_arrivals.specs.Arrivals.{seconds_in};
 ghost use Rattle.listing_call.specs.Tables.{has_in, index_in, place_in, place_of, Inside, bit_at, with_bit, phase_bit, volume_in, number_in, outcome, TablesFit, seen_size, step_bits, Empty, ListingGot};
+ghost use Rattle.listing_call.specs.Writing.{WriteGot, NetworkAsked, ListingWritten};
 
 use base_search::Refusal;
 use listing_lines::{Setting, Variable};
@@ -35,7 +35,8 @@ struct Place {
     number: usize,
 }
 
-// What a listing is judged by: the counts of a network, the number of phases of each signal, and the times of the plan's boundaries.
+// What a listing is judged by: the counts of a network, the number of phases of each signal, and the times of the plan's boundaries. All are lent: no table
+// is copied.
 #[derive(Clone, Copy)]
 struct Tables<'a> {
     counts: Counts,
@@ -162,6 +163,7 @@ fn is_valid_value(setting: Setting) -> bool
     }
 }
 
+// Whether bit `k` is set, eight bits to a byte.
 fn is_set(bytes: &[u8], k: usize) -> bool
     requires { k / 8 < length bytes.now }
     ensures { result ≡ not (eqb (bit_at bytes.now k) 0) }
@@ -169,6 +171,7 @@ fn is_set(bytes: &[u8], k: usize) -> bool
     bytes[k / 8] >> (k % 8) & 1 != 0
 }
 
+// Sets bit `k`, eight bits to a byte.
 fn set_bit(bytes: &mut [u8], k: usize)
     requires { k / 8 < length bytes.old }
     ensures { bytes.new ≡ with_bit bytes.old k }
