@@ -168,7 +168,7 @@ refused-first (a then b) r h = go (or-else-which (verdict a) (verdict b) r h) (r
     go (inl e) f g = inl (f e)
     go (inr e) f g = inr (hold-of-passes a e.0, g e.1)
 
--- what a `?` returns is the refusal that it was given
-pub passed_on : {A : Type 0} (r : Result A Refusal) (q : Refusal) → IsErrAnd r (λ p. p ≡ q) → r ≡ Err q
+-- what a `?` returns is the error that it was given
+pub passed_on : {A E : Type 0} (r : Result A E) (q : E) → IsErrAnd r (λ p. p ≡ q) → r ≡ Err q
 passed_on (Ok a) q h = absurd h
 passed_on (Err p) q h = ap Err h

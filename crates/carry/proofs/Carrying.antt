@@ -9,7 +9,8 @@ use Rattle.text_reader.specs.Reading.{at_end}
 use Rattle.text_reader.proofs.Laws.{some-lines, no_lines, starts-end, end-of-none}
 use Rattle.text_reader.proofs.Padding.{same_lines}
 use Rattle.base_laws.specs.Test.{◌and◌, within}
-use Rattle.model.specs.Network.{entry, max_links, link_count, step_count}
+use Rattle.model.specs.declared.Signal.{Signal}
+use Rattle.model.specs.Network.{entry, link_count, step_count}
 use Rattle.model.specs.Flows.{waits}
 use Rattle.model.specs.Table.{network_checks, line_checks, plan_checks}
 use Rattle.model.specs.Hold.{meant, plan_of}
@@ -19,7 +20,10 @@ use Rattle.model.proofs.Hold.{meant-lines, plan-of-text, hold-count}
 use Rattle.model.proofs.Rows.{written_none}
 use Rattle.model.proofs.Written.{refused-fails, rows_none, rows-until}
 use Rattle.network_tables.specs.declared.Reading.{Reading}
-use Rattle.network_tables.specs.Tables.{Judged, SignalTable}
+use Rattle.network_tables.specs.declared.NetworkTables.{NetworkTables}
+use Rattle.network_tables.specs.declared.Link.{Link}
+use Rattle.network_tables.specs.declared.Movement.{Movement}
+use Rattle.network_tables.specs.Tables.{Judged}
 use Rattle.network_tables.proofs.Stages.{verdict-refused}
 use Rattle.network.specs.Loading.{Loaded}
 use Rattle.plan_steps.specs.declared.State.{State}
@@ -27,6 +31,7 @@ use Rattle.plan_steps.specs.Steps as steps
 use Rattle.plan_steps.proofs.Runs.{lines-within}
 use Rattle.plan_steps.proofs.Ledger.{written-again}
 use Rattle.model_text.specs.Answers.{text_answer, bytes_after, room_verdict, Told}
+use Rattle.carry.specs.declared.Standing.{Standing}
 use Rattle.carry.specs.Carried.{StandsAt, CarryAsked, TextWritten}
 use Rattle.model_carry.specs.Part.{cut, carried_text}
 use Rattle.model_carry.specs.Call.{planned_on, boundary_checks, carry_checks, carry_on, carry_ledger, carry_buffer}
@@ -85,7 +90,7 @@ module _ (network_text plan_text : List ℕ) (b : ℕ) (ledger buffer : List ℕ
       unfolding carry_on carry_ledger carry_buffer
       text-told t = record { told = rw text-judged t.answered; rows = rw within rows; holds = rw text-judged t.holds }
 
-module _ (network_text plan_text : List ℕ) (b : ℕ) (buffer : List ℕ) {reading : Reading} {links movements times signals₀ ledger : List ℕ} (a : StepsAsked network_text b reading links movements times signals₀ ledger) where
+module _ (network_text plan_text : List ℕ) (b : ℕ) (buffer : List ℕ) {tables : NetworkTables} {signals₀ : List Signal} {ledger : List ℕ} (a : StepsAsked network_text b tables signals₀ ledger) where
   abbrev network : List Line
   network = lines network_text
 
@@ -96,18 +101,18 @@ module _ (network_text plan_text : List ℕ) (b : ℕ) (buffer : List ℕ) {read
   abbrev first : List Line
   first = planned_on network b plan_text
 
-  is-valid : Hold (network_checks network)
-  is-valid = a.loaded.holds
+  network-holds : Hold (network_checks network)
+  network-holds = a.loaded.holds
 
   within-plan : verdict (boundary_checks network b) ≡ Ok tt
-  within-plan = boundary-passes network b is-valid a.first a.last
+  within-plan = boundary-passes network b network-holds a.first a.last
 
   empty-first : length plan_text ≡ 0 → first ≡ meant (cut network b) []
   empty-first h = ap (meant (cut network b)) (no_lines plan_text h)
 
   held-count : length (meant (cut network b) []) ≡ b
   unfolding meant
-  held-count = hold-count (cut network b) ∙ cut-steps network b is-valid a.first a.last
+  held-count = hold-count (cut network b) ∙ cut-steps network b network-holds a.first a.last
 
   text-first : 0 < length plan_text → first ≡ lines plan_text
   text-first h = meant-lines (cut network b) (lines plan_text) (some-lines plan_text h)
@@ -116,7 +121,7 @@ module _ (network_text plan_text : List ℕ) (b : ℕ) (buffer : List ℕ) {read
   same : (n : ℕ) → n < b → get_or first n no_line ≡ get_or whole n no_line
   same n h = elim (dec_lt 0 (length plan_text)) [
     | yes t ↦ ap (λ (l : List Line). get_or l n no_line) (text-first t ∙ sym (plan-of-text network_text plan_text t))
-    | no t ↦ ap (λ (l : List Line). get_or l n no_line) (empty-first (omega arith) ∙ sym (held_first network b is-valid a.first a.last))
+    | no t ↦ ap (λ (l : List Line). get_or l n no_line) (empty-first (omega arith) ∙ sym (held_first network b network-holds a.first a.last))
         ∙ get_or-take b (meant network []) n no_line h ∙ ap (λ (l : List Line). get_or (meant network l) n no_line) (sym (no_lines plan_text (omega arith)))
   ]
 
@@ -125,31 +130,17 @@ module _ (network_text plan_text : List ℕ) (b : ℕ) (buffer : List ℕ) {read
 
   -- the plan's verdict on the cut network
   judged : verdict (plan_checks (cut network b) first (length ledger)) ≡ or_else (verdict (each b (line_checks network whole))) (checked (eqb (length first) b) 9 (suc b) 0)
-  judged = cut-judged network b is-valid a.first a.last whole first same (length ledger) ∙ or-else-passes _ _ (checked-passes _ 8 0 0 enough)
+  judged = cut-judged network b network-holds a.first a.last whole first same (length ledger) ∙ or-else-passes _ _ (checked-passes _ 8 0 0 enough)
 
   -- the rows up to n are all that are due
   rows_are : {ledger' : List ℕ} (n : ℕ) → n ≤ b → ((m : ℕ) → m < n → verdict (line_checks network whole m) ≡ Ok tt) → (RowDue (cut network b) first (length ledger) (suc n) → ⊥)
       → ledger' ≡ written network whole ledger (suc n) → ledger' ≡ ledger_after (cut network b) first ledger
   unfolding ledger_after
   rows_are n h passed last rows =
-      let d = cut-due network b is-valid a.first a.last whole first same (length ledger) n h a.room (λ m l. hold-of-passes (line_checks network whole m) (passed m l)) in
-      rows ∙ sym (cut-written network b is-valid a.first a.last whole first same ledger (suc n) (omega arith)) ∙ ap (written (cut network b) first ledger) (sym (rows-until (cut network b) first (length ledger) n d last))
+      let d = cut-due network b network-holds a.first a.last whole first same (length ledger) n h a.room (λ m l. hold-of-passes (line_checks network whole m) (passed m l)) in
+      rows ∙ sym (cut-written network b network-holds a.first a.last whole first same ledger (suc n) (omega arith)) ∙ ap (written (cut network b) first ledger) (sym (rows-until (cut network b) first (length ledger) n d last))
 
-  pub steps-asked : {waiting : List ℕ} → length waiting ≡ max_links → steps.StepsAsked network_text plan_text reading b links movements times signals₀ waiting ledger
-  steps-asked size =
-      let loaded = a.loaded in
-      record {
-        tables = record { holds = loaded.holds; counted = loaded.counted; link-table = loaded.link-table; movement-table = loaded.movement-table; time-table = loaded.time-table };
-        trams-start = loaded.trams-start;
-        signal-table = a.signal-table;
-        past-start = loaded.past-start;
-        steps-start = loaded.steps-start;
-        few-steps = omega (arith, a.last);
-        waiting-size = size;
-        room = a.room;
-      }
-
-  module _ {result : Result State Refusal} {signals waiting ledger' : List ℕ} (got : steps.StepsGot network_text plan_text ledger b result signals waiting ledger') where
+  module _ {result : Result State Refusal} {signals : List Signal} {waiting ledger' : List ℕ} (got : steps.StepsGot network_text plan_text ledger b result signals waiting ledger') where
     -- a step is refused
     pub step-refused : {r : Refusal} → result ≡ Err r → CarryGot network_text plan_text b ledger ledger' buffer buffer (Err r)
     step-refused {r} e =
@@ -158,7 +149,7 @@ module _ (network_text plan_text : List ℕ) (b : ℕ) (buffer : List ℕ) {read
         unfold verdict in first-stop (λ m. verdict (line_checks network whole m)) b s.step r s.passed s.within s.refused in
         plan-refused network_text plan_text b ledger buffer within-plan (judged ∙ or-else-refused _ _ r stops)
         (rows_are s.step (omega (arith, s.within)) s.passed
-        (λ d. refused-fails (line_checks network whole s.step) r s.refused ((due-of-cut network b is-valid a.first a.last whole first same (length ledger) (suc s.step) d).2 s.step (omega arith)))
+        (λ d. refused-fails (line_checks network whole s.step) r s.refused ((due-of-cut network b network-holds a.first a.last whole first same (length ledger) (suc s.step) d).2 s.step (omega arith)))
         s.rows)
 
     module _ {state : State} (p : result ≡ Ok state) where
@@ -166,14 +157,14 @@ module _ (network_text plan_text : List ℕ) (b : ℕ) (buffer : List ℕ) {read
       all = rw p at got.outcome
 
       rows_all : ledger' ≡ ledger_after (cut network b) first ledger
-      rows_all = rows_are b (omega arith) all.passed (λ d. omega (arith, (due-of-cut network b is-valid a.first a.last whole first same (length ledger) (suc b) d).0)) all.rows
+      rows_all = rows_are b (omega arith) all.passed (λ d. omega (arith, (due-of-cut network b network-holds a.first a.last whole first same (length ledger) (suc b) d).0)) all.rows
 
       lines-judged : verdict (plan_checks (cut network b) first (length ledger)) ≡ checked (eqb (length first) b) 9 (suc b) 0
       lines-judged = judged ∙ or-else-passes _ _ (unfold verdict in first_passes (λ m. verdict (line_checks network whole m)) b all.passed)
 
       -- the text is at its end just where no line is behind the b
-      at-end : at_end plan_text state.plan_at ≡ eqb (length first) b
-      at-end = elim (dec_lt 0 (length plan_text)) [
+      plan-ended : at_end plan_text state.plan_at ≡ eqb (length first) b
+      plan-ended = elim (dec_lt 0 (length plan_text)) [
         | yes h ↦ let e = plan-of-text network_text plan_text h in
             starts-end plan_text state.plan_at b (all.plan-starts h) (rw e at (lines-within network whole b all.passed)) ∙ ap (λ (l : List Line). eqb (length l) b) (sym (text-first h))
         | no h ↦ end-of-none plan_text state.plan_at (omega arith)
@@ -182,53 +173,56 @@ module _ (network_text plan_text : List ℕ) (b : ℕ) (buffer : List ℕ) {read
 
       pub more-lines : at_end plan_text state.plan_at ≡ false → CarryGot network_text plan_text b ledger ledger' buffer buffer (Err (refusal 9 (b + 1) 0))
       more-lines e =
-          let v = lines-judged ∙ checked_refused _ 9 (suc b) 0 (sym at-end ∙ e) in
+          let v = lines-judged ∙ checked_refused _ 9 (suc b) 0 (sym plan-ended ∙ e) in
           rw (add-one b) (plan-refused network_text plan_text b ledger buffer within-plan v rows_all)
 
       agree : (n k : ℕ) → n < b → entry whole n k ≡ entry first n k
       unfolding entry
       agree n k h = ap (λ (l : Line). number l k) (sym (same n h))
 
-      stands : StandsAt network first b signals waiting ledger'
-      unfolding waits
-      stands =
-          record {
-            signals-at = λ r l. all.signals-at.holds r l ∙ signal-agree network whole first b agree b r (omega arith);
-            waiting-at = λ i l. (omega (arith, all.waiting-at.holds i l)) ∙ waits-agree network whole first b agree i;
-            rows = all.rows ∙ sym (written-again network whole ledger (suc b) (suc b) (omega arith)) ∙ ap (λ x. written network whole x (suc b)) (sym all.rows) ∙ rows_agree ledger';
-          }
-        where
-          rows_agree : (old : List ℕ) → written network whole old (suc b) ≡ written network first old (suc b)
-          rows_agree old =
-              sym (cut-written network b is-valid a.first a.last whole first same old (suc b) (omega arith))
-              ∙ cut-written network b is-valid a.first a.last first first (λ n h. refl) old (suc b) (omega arith)
+      rows_agree : (old : List ℕ) → written network whole old (suc b) ≡ written network first old (suc b)
+      rows_agree old =
+          sym (cut-written network b network-holds a.first a.last whole first same old (suc b) (omega arith))
+          ∙ cut-written network b network-holds a.first a.last first first (λ n h. refl) old (suc b) (omega arith)
 
-      pub write-asked : length ledger' ≡ length ledger → CarryAsked network_text reading b signals links movements waiting ledger'
-      write-asked long =
-          let loaded = a.loaded in
-          record {
-            holds = loaded.holds;
-            counted = loaded.counted;
-            trams-start = loaded.trams-start;
-            past-start = loaded.past-start;
-            steps-start = loaded.steps-start;
-            signals-size = all.signals-at.size;
-            link-table = loaded.link-table;
-            movement-table = loaded.movement-table;
-            waiting-size = all.waiting-at.size;
-            within = a.last;
-            ledger-room = rw long a.room;
-            plan = first;
-            stands = stands;
-          }
+      -- how the network stands there
+      module _ {at : Standing} (here : at.boundary ≡ b) (is-signals : at.signals.now ≡ signals) (is-waiting : at.waiting.now ≡ waiting) (is-ledger : at.ledger.now ≡ ledger') where
+        stands : StandsAt network first at
+        unfolding waits
+        stands =
+            record {
+              signals-at = λ r l. rw (here, is-signals) (all.signals-at.holds r l ∙ signal-agree network whole first b agree b r (omega arith));
+              waiting-at = λ i l. rw (here, is-waiting) ((omega (arith, all.waiting-at.holds i l)) ∙ waits-agree network whole first b agree i);
+              rows = rw (here, is-ledger) (all.rows ∙ sym (written-again network whole ledger (suc b) (suc b) (omega arith)) ∙ ap (λ x. written network whole x (suc b)) (sym all.rows) ∙ rows_agree ledger');
+            }
 
-      pub carried-told : at_end plan_text state.plan_at ≡ true → {answer : (Result ℕ Refusal)} {buffer' : List ℕ} → TextWritten network_text b signals waiting ledger' buffer answer buffer'
-          → CarryGot network_text plan_text b ledger ledger' buffer buffer' answer
-      carried-told e text =
-          text-told network_text plan_text b ledger buffer within-plan (lines-judged ∙ checked-passes _ 9 (suc b) 0 (sym at-end ∙ e)) rows_all (text first stands)
+        pub write-asked : length ledger' ≡ length ledger → CarryAsked network_text tables.reading tables.links.now tables.movements.now at
+        write-asked long =
+            let loaded = a.loaded in
+            record {
+              holds = loaded.holds;
+              counted = loaded.counted;
+              trams-start = loaded.trams-start;
+              past-start = loaded.past-start;
+              steps-start = loaded.steps-start;
+              link-table = loaded.link-table;
+              movement-table = loaded.movement-table;
+              signals-size = ap length is-signals ∙ all.signals-at.size;
+              waiting-size = ap length is-waiting ∙ all.waiting-at.size;
+              within = rw here a.last;
+              ledger-room = rw (here, is-ledger, long) a.room;
+              plan = first;
+              stands = stands;
+            }
+
+        pub carried-told : at_end plan_text state.plan_at ≡ true → {answer : (Result ℕ Refusal)} {buffer' : List ℕ} → TextWritten network_text at buffer answer buffer'
+            → CarryGot network_text plan_text b ledger ledger' buffer buffer' answer
+        carried-told e text =
+            text-told network_text plan_text b ledger buffer within-plan (lines-judged ∙ checked-passes _ 9 (suc b) 0 (sym plan-ended ∙ e)) rows_all (rw here at (text first stands))
 
 -- ---- before the steps
-module _ (network_text plan_text : List ℕ) (b : ℕ) (ledger buffer : List ℕ) {reading : Reading} {links movements times : List ℕ} (loaded : Loaded network_text links movements times reading) where
+module _ (network_text plan_text : List ℕ) (b : ℕ) (ledger buffer : List ℕ) {signals : List Signal} {links : List Link} {movements : List Movement} {times : List ℕ} {reading : Reading}
+    (loaded : Loaded network_text signals links movements times reading) where
   abbrev found : List Line
   found = lines network_text
 
@@ -259,9 +253,6 @@ module _ (network_text plan_text : List ℕ) (b : ℕ) (ledger buffer : List ℕ
         plan-refused network_text plan_text b ledger buffer (boundary-passes found b loaded.holds o last)
         (cut-judged found b loaded.holds o last plan plan (λ n l. refl) (length ledger) ∙ or-else-refused _ _ _ (checked_refused _ 8 0 0 (lt-leb _ _ few)))
         (rows-none-are (cut found b) plan ledger (λ d. omega (arith, (due-of-cut found b loaded.holds o last plan plan (λ n l. refl) (length ledger) 0 d).1)))
-
-    pub asked : 2 * (b + 1) * reading.counts.links ≤ length ledger → {signals : List ℕ} → SignalTable found signals → StepsAsked network_text b reading links movements times signals ledger
-    asked h table = record { loaded = loaded; signal-table = table; first = o; last = last; room = rw needed at h }
 
 -- a network's refusal
 pub network-refused : (network_text plan_text : List ℕ) (b : ℕ) (ledger buffer : List ℕ) {stage : (Result Reading Refusal)} {Held : Reading → Type 0} {r : Refusal} → Judged (network_checks (lines network_text)) Held stage

@@ -7,13 +7,13 @@ use Rattle.base_laws.specs.Sum.{joined}
 use Rattle.base_laws.specs.Indexed.{list}
 use Rattle.model.specs.Network.{entry}
 use Rattle.model.specs.Table.{is_form, letter_h, letter_s}
-use Rattle.network_tables.specs.Fields.{past_size, line_size}
-use Rattle.network_writer.specs.Put.{longest, Put, Early}
-use Rattle.network_writer.specs.Reading.{ReadAgain}
-use Rattle.network_writer.proofs.Put.{lines_none, lines_more, part-size}
+use Rattle.network_tables.specs.Fields.{past_size}
+use Rattle.network_writer.specs.Put.{longest, Put}
+use Rattle.network_tables.specs.Rows.{ReadAgain}
+use Rattle.network_writer.proofs.Put.{lines_none, lines_more}
 use Rattle.network_writer.proofs.Filling.{front-is}
 use Rattle.network_writer.proofs.Reading.{numbers-are}
-use Rattle.carry.specs.Rows.{volumes_in, Copied, StepsPut, Rising, VolumesAsked}
+use Rattle.carry.specs.Rows.{volumes_in, Rising}
 use Rattle.carry.proofs.Filling.{volumes-length}
 
 -- ---- `copy_lines`: k lines are put
@@ -22,7 +22,7 @@ Forms text first letter width count = (k : ℕ) → k < count → is_form (lines
 
 pub record CopiedTo (text : List ℕ) (from letter width count at : ℕ) (old : List ℕ) (row : List ℕ) (line : ℕ) (out : List ℕ) (end k : ℕ) : Type 0 where
   pub few : k ≤ count
-  pub row-size : length row ≡ past_size
+  pub sized-row : length row ≡ past_size
   pub small : end ≤ at + longest * k
   pub size : length out ≡ length old
   pub when : (first : ℕ) → Starts text from first → Forms text first letter width count
@@ -33,31 +33,22 @@ module _ {text : List ℕ} {from letter width count at : ℕ} {old : List ℕ} w
   copied_none l =
       record {
         few = omega arith;
-        row-size = l;
+        sized-row = l;
         small = omega arith;
         size = refl;
         when = λ first s f. let e : first + 0 ≡ first = omega arith in (rw e s, lines_none letter (λ j. list width (entry (lines text) (first + j))) at old);
       }
 
   module _ {row out : List ℕ} {line end k : ℕ} (inv : CopiedTo text from letter width count at old row line out end k) where
-    copied-early : Early count at → k < count → Early 1 end
-    copied-early e h = omega (arith, inv.small)
-
     module _ (fits : width ≤ past_size) (h : k < count) {next : ℕ} {row' : List ℕ} (r : ReadAgain letter width text line row next row') where
       copied-size : length row' ≡ past_size
-      copied-size = r.size ∙ inv.row-size
-
-      pub copied-part : width ≡ length (take width row')
-      copied-part = part-size row' width (omega (arith, copied-size))
-
-      pub copied-asked : Early count at → (length (take width row') ≤ line_size) × Early 1 end
-      copied-asked e = (omega (arith, copied-part), copied-early e h)
+      copied-size = r.size ∙ inv.sized-row
 
       pub copied_next : {out' : List ℕ} {end' : ℕ} → Put 1 (record_text letter (take width row')) end out out' end' → CopiedTo text from letter width count at old row' next out' end' (k + 1)
       copied_next {out'} {end'} p =
           record {
             few = omega arith;
-            row-size = copied-size;
+            sized-row = copied-size;
             small = omega (arith, p.ends, p.few, inv.small);
             size = p.size ∙ inv.size;
             when = λ first s f. go first (inv.when first s f) (f k h);
@@ -72,13 +63,10 @@ module _ {text : List ℕ} {from letter width count at : ℕ} {old : List ℕ} w
               let e : first + (k + 1) ≡ suc (first + k) = omega arith in
               (rw e held.starts, lines_more letter (λ j. list width (entry (lines text) (first + j))) q (rw same at p))
 
-    pub copied_all : count ≤ k → Copied text from letter width count at old out end
-    copied_all h first s f = let z : k ≡ count = omega (arith, inv.few) in rw z at (inv.when first s f).1
-
 -- ---- `put_steps`: n steps are put
 pub record StepsTo (text : List ℕ) (from : ℕ) (ledger : List ℕ) (links b at : ℕ) (old : List ℕ) (row : List ℕ) (line : ℕ) (out : List ℕ) (end n : ℕ) : Type 0 where
   pub few : n ≤ b
-  pub row-size : length row ≡ past_size
+  pub sized-row : length row ≡ past_size
   pub small : end ≤ at + longest * n
   pub size : length out ≡ length old
   pub when : (first : ℕ) → Starts text from first → Forms text first letter_s (1 + links) b
@@ -89,36 +77,24 @@ module _ {text : List ℕ} {from : ℕ} {ledger : List ℕ} {links b at : ℕ} {
   steps-none l =
       record {
         few = omega arith;
-        row-size = l;
+        sized-row = l;
         small = omega arith;
         size = refl;
         when = λ first s f. let e : first + 0 ≡ first = omega arith in (lines_none letter_h (λ k. entry (lines text) (first + k) 0 ∷ joined links (volumes_in ledger links k)) at old, rw e s);
       }
 
   module _ {row out : List ℕ} {line end n : ℕ} (inv : StepsTo text from ledger links b at old row line out end n) where
-    steps-early : Early b at → n < b → Early 1 end
-    steps-early e h = omega (arith, inv.small)
-
     module _ (rising : Rising ledger links b) (h : n < b) {next : ℕ} {row' : List ℕ} (r : ReadAgain letter_s (1 + links) text line row next row') where
-      pub volumes-asked : VolumesAsked ledger links b n row'
-      volumes-asked = record { rising = rising; before = h; size = r.size ∙ inv.row-size }
-
       module _ {row'' : List ℕ} (filled : row'' ≡ over (get_or row' 0 0 ∷ joined links (volumes_in ledger links n)) row') where
         same : take (1 + 2 * links) row'' ≡ get_or row' 0 0 ∷ joined links (volumes_in ledger links n)
         same = front-is (get_or row' 0 0 ∷ joined links (volumes_in ledger links n)) row' row'' (1 + 2 * links) filled (omega (arith, volumes-length ledger links n links))
-
-        pub steps-part : 1 + 2 * links ≡ length (take (1 + 2 * links) row'')
-        steps-part = omega (arith, ap length same, volumes-length ledger links n links)
-
-        pub steps-asked : Early b at → (length (take (1 + 2 * links) row'') ≤ line_size) × Early 1 end
-        steps-asked e = (omega (arith, steps-part, rising.few-links), steps-early e h)
 
         pub steps_next : length row'' ≡ length row' → {out' : List ℕ} {end' : ℕ} → Put 1 (record_text letter_h (take (1 + 2 * links) row'')) end out out' end'
             → StepsTo text from ledger links b at old row'' next out' end' (n + 1)
         steps_next l {out'} {end'} p =
             record {
               few = omega arith;
-              row-size = l ∙ r.size ∙ inv.row-size;
+              sized-row = l ∙ r.size ∙ inv.sized-row;
               small = omega (arith, p.ends, p.few, inv.small);
               size = p.size ∙ inv.size;
               when = λ first s f. go first (inv.when first s f) (f n h);
@@ -132,6 +108,3 @@ module _ {text : List ℕ} {from : ℕ} {ledger : List ℕ} {links b at : ℕ} {
                 let e : first + (n + 1) ≡ suc (first + n) = omega arith in
                 let whole : take (1 + 2 * links) row'' ≡ entry (lines text) (first + n) 0 ∷ joined links (volumes_in ledger links n) = same ∙ ap (λ x. x ∷ joined links (volumes_in ledger links n)) (held.numbers 0 (omega arith)) in
                 (lines_more letter_h (λ k. entry (lines text) (first + k) 0 ∷ joined links (volumes_in ledger links k)) q (rw whole at p), rw e held.starts)
-
-    pub steps_all : b ≤ n → StepsPut text from ledger links b at old out (record { line = line; at = end })
-    steps_all h first s f = let z : n ≡ b = omega (arith, inv.few) in rw z at (inv.when first s f)

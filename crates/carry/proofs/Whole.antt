@@ -1,7 +1,5 @@
 -- The lines that are put, one block behind another, are the carried network's.
 use Rattle.base_laws.proofs.Kit.{ℕ, zero, suc, ◌+◌, ◌*◌, ◌-◌, ◌≤◌, ◌<◌, ◌≡◌, refl, sym, ap, ap₂, ◌∙◌, true, List, [], ◌∷◌, ◌++◌, append_assoc, append-nil, add-one, arith, leb-true, length, get_or, take, drop, length-take}
-use Rattle.base_search.specs.declared.Refusal.{Refusal}
-use Rattle.base_search.specs.Checks.{refusal}
 use Rattle.text_reader.specs.Lines.{Line, lines}
 use Rattle.text_reader.specs.Reading.{Starts, over}
 use Rattle.text_writer.specs.Records.{record_text, record_texts}
@@ -10,7 +8,7 @@ use Rattle.model.specs.declared.Signal.{Signal}
 use Rattle.base_laws.specs.Test.{within}
 use Rattle.base_laws.specs.Sum.{joined}
 use Rattle.base_laws.specs.Indexed.{list}
-use Rattle.model.specs.Network.{entry, link_count, signal_count, movement_count, step_count, tram_count, past_count, on_timeline, tram_line, timeline_line, step_line, trams, timeline_length, past_entries, past_exits, step_length, demand}
+use Rattle.model.specs.Network.{entry, link_count, signal_count, movement_count, step_count, tram_count, past_count, on_timeline, tram_line, timeline_line, step_line, trams as tram_lines, timeline_length, past_entries, past_exits, step_length, demand}
 use Rattle.model.specs.Rules.{tram_exists, valid_tram, valid_phases}
 use Rattle.model.specs.Flows.{signal_at, timeline_inflow, timeline_outflow, entered, left}
 use Rattle.model.specs.Table.{is_form, letter_n, letter_t, letter_g, letter_q, letter_m, letter_h, letter_s}
@@ -22,7 +20,12 @@ use Rattle.model.proofs.Rows.{written_at}
 use Rattle.network_tables.specs.declared.Counts.{Counts}
 use Rattle.network_tables.specs.declared.Reading.{Reading}
 use Rattle.network_tables.specs.Places.{Few}
-use Rattle.network_tables.specs.Fields.{table_signal, past_size, entered_at, left_at}
+use Rattle.network_tables.specs.declared.Tram.{Tram}
+use Rattle.network_tables.specs.declared.Link.{Link}
+use Rattle.network_tables.specs.declared.Movement.{Movement}
+use Rattle.network_tables.specs.Fields as fields
+use Rattle.network_tables.specs.Fields.{past_size, entered_at, left_at}
+use Rattle.network_tables.specs.Tables.{TramTable}
 use Rattle.network_tables.proofs.Tables.{capacity-at, travel-time-at, exit-rate-at, signal-of-at, phase-mask-at, standing-at, from-link-at, to-link-at, rate-at, share-at}
 use Rattle.model_text.specs.NetworkText.{count_numbers, network_text}
 use Rattle.model_text.proofs.Formed.{Formed, formed-of-holds}
@@ -32,12 +35,13 @@ use Rattle.network_writer.specs.declared.Places.{Places}
 use Rattle.network_writer.specs.Put.{longest, Put, Early}
 use Rattle.network_writer.specs.Texts.{line_texts}
 use Rattle.network_writer.proofs.Put.{puts-more}
-use Rattle.network_writer.proofs.Texts.{texts-of-list, put_first, told-short, told-whole}
-use Rattle.carry.specs.Rows.{count_row, link_row, movement_row, volumes_in, Copied, StepsPut, Rising, SignalsAsked, LinksAsked, MovementsAsked}
-use Rattle.carry.specs.Trams.{TramsAsked}
-use Rattle.carry.specs.Carried.{StandsAt, CarryAsked, TextPut, TextWritten}
+use Rattle.network_writer.proofs.Texts.{texts-of-list, put_first}
+use Rattle.carry.specs.Rows.{count_row, link_row, movement_row, volumes_in, Copied, StepsPut, Rising, SignalsAsked}
+use Rattle.carry.specs.Trams.{all_left}
+use Rattle.carry.specs.declared.Standing.{Standing}
+use Rattle.carry.proofs.Trams.{left-is}
+use Rattle.carry.specs.Carried.{StandsAt, CarryAsked, TextPut}
 use Rattle.base_laws.proofs.Sums.{joined_same}
-use Rattle.std.specs.Prelude.{Ok, Err}
 
 -- ---- lists and texts
 list-first : (n : ℕ) (f : ℕ → ℕ) → list (1 + n) f ≡ f 0 ∷ list n (λ k. f (1 + k))
@@ -62,12 +66,25 @@ module _ (letter : ℕ) where
       rw e (ap (λ (xs : List ℕ). xs ++ record_text letter (f (m + n))) (texts-plus m n f) ∙ append_assoc (record_texts letter m f) (record_texts letter n (λ k. f (m + k))) (record_text letter (f (m + n))))
 
 -- ---- what is asked of each block
-module _ {text : List ℕ} {reading : Reading} {b : ℕ} {signals links movements waiting ledger : List ℕ} (a : CarryAsked text reading b signals links movements waiting ledger) where
+module _ {text : List ℕ} {reading : Reading} {links : List Link} {movements : List Movement} {st : Standing} (a : CarryAsked text reading links movements st)
+    {trams : List Tram} (held : TramTable (lines text) trams) where
   abbrev net : List Line
   net = lines text
 
   abbrev C : Counts
   C = reading.counts
+
+  abbrev b : ℕ
+  b = st.boundary
+
+  abbrev signals : List Signal
+  signals = st.signals.now
+
+  abbrev waiting : List ℕ
+  waiting = st.waiting.now
+
+  abbrev ledger : List ℕ
+  ledger = st.ledger.now
 
   formed : Formed net
   formed = formed-of-holds net a.holds
@@ -80,44 +97,30 @@ module _ {text : List ℕ} {reading : Reading} {b : ℕ} {signals links movement
   tram-within k h =
       let v = and_right _ _ (and_left _ _ (valid.trams k h)) in (leb-true _ _ (and_left _ _ v), leb-true _ _ (and_right _ _ v))
 
-  pub trams-asked : TramsAsked text reading.trams_at C.trams b
+  left-clipped : all_left b trams C.trams ≡ clipped b (step_count net) (tram_lines net)
   unfolding is_form
-  trams-asked =
-      let c = a.counted in
-      record {
-        passed = record { starts = a.trams-start; few = c.few.trams; forms = λ k l. formed.tram-forms k (omega (arith, c.trams)) };
-        counted = c.trams;
-        few-steps = omega (arith, a.within, c.steps, c.few.steps);
-        first-steps = λ k l. (tram-within k (omega (arith, c.trams))).0;
-        last-steps = λ k l. (tram-within k (omega (arith, c.trams))).1;
-      }
+  left-clipped = rw a.counted.trams (left-is b held formed.tram-forms (λ k l. (tram-within k l).0) (λ k l. (tram-within k l).1))
 
-  left-few : length (clipped b (step_count net) (trams net)) ≤ C.trams
-  unfolding trams
-  left-few = omega (arith, clipped-length b (step_count net) (take (tram_count net) (drop 1 net)), length-take (tram_count net) (drop 1 net), a.counted.trams)
+  left-few : length (all_left b trams C.trams) ≤ C.trams
+  unfolding tram_lines
+  left-few = omega (arith, ap length left-clipped, clipped-length b (step_count net) (take (tram_count net) (drop 1 net)), length-take (tram_count net) (drop 1 net), a.counted.trams)
 
-  pub counts-asked : {left : ℕ} → left ≡ length (clipped b (step_count net) (trams net)) → Few C × (b ≤ C.steps) × (left ≤ 16)
+  pub counts-asked : {left : ℕ} → left ≡ length (all_left b trams C.trams) → Few C × (b ≤ C.steps) × (left ≤ 16)
   counts-asked e = (a.counted.few, omega (arith, a.within, a.counted.steps), omega (arith, left-few, a.counted.few.trams))
 
   pub signals-asked : {at : ℕ} → Early C.signals at → SignalsAsked signals C.signals at
   signals-asked e = record { few = a.counted.few.signals; size = a.signals-size; phases = λ r l. eight r (omega (arith, a.counted.signals)); early = e }
     where
-      eight : (r : ℕ) → r < signal_count net → (table_signal signals r).phases ≤ 8
+      eight : (r : ℕ) → r < signal_count net → (fields.signal_at signals r).phases ≤ 8
       eight r h = unfold valid_phases within in
           rw (ap (λ (s : Signal). s.phases) (a.stands.signals-at r h) ∙ same-phases net a.plan r b) (leb-true _ _ (and_right _ _ (valid.phases r h)))
 
-  pub links-asked : {at : ℕ} → Early C.links at → LinksAsked links waiting C.links at
-  links-asked e = record { few = a.counted.few.links; size = a.link-table.size; waiting-size = a.waiting-size; early = e }
-
-  pub movements-asked : {at : ℕ} → Early C.movements at → MovementsAsked movements C.movements at
-  movements-asked e = record { few = a.counted.few.movements; size = a.movement-table.size; early = e }
-
   -- the ledger's numbers are those of the plan
-  ledger-entered : (plan : List Line) → StandsAt net plan b signals waiting ledger → (n i : ℕ) → n ≤ b → i < link_count net → entered_at ledger (link_count net) n i ≡ entered net plan n i
-  ledger-entered plan s n i h l = ap (λ (x : List ℕ). get_or x (2 * n * link_count net + 2 * i) 0) s.rows ∙ (written_at net plan ledger (suc b) n i (omega arith) l).0
+  standing-entered : (plan : List Line) → StandsAt net plan st → (n i : ℕ) → n ≤ b → i < link_count net → entered_at ledger (link_count net) n i ≡ entered net plan n i
+  standing-entered plan s n i h l = ap (λ (x : List ℕ). get_or x (2 * n * link_count net + 2 * i) 0) s.rows ∙ (written_at net plan ledger (suc b) n i (omega arith) l).0
 
-  ledger-left : (plan : List Line) → StandsAt net plan b signals waiting ledger → (n i : ℕ) → n ≤ b → i < link_count net → left_at ledger (link_count net) n i ≡ left net plan n i
-  ledger-left plan s n i h l = ap (λ (x : List ℕ). get_or x (2 * n * link_count net + 2 * i + 1) 0) s.rows ∙ (written_at net plan ledger (suc b) n i (omega arith) l).1
+  standing-left : (plan : List Line) → StandsAt net plan st → (n i : ℕ) → n ≤ b → i < link_count net → left_at ledger (link_count net) n i ≡ left net plan n i
+  standing-left plan s n i h l = ap (λ (x : List ℕ). get_or x (2 * n * link_count net + 2 * i + 1) 0) s.rows ∙ (written_at net plan ledger (suc b) n i (omega arith) l).1
 
   pub rising : Rising ledger C.links b
   rising = rw a.counted.links (
@@ -125,8 +128,8 @@ module _ {text : List ℕ} {reading : Reading} {b : ℕ} {signals links movement
         few-links = omega (arith, a.counted.links, a.counted.few.links);
         few-steps = omega (arith, a.within, a.counted.steps, a.counted.few.steps);
         rows = a.ledger-room;
-        entered = λ n i h l. rw (add-one n) (omega (arith, ledger-entered a.plan a.stands n i (omega arith) l, ledger-entered a.plan a.stands (suc n) i h l, entered-suc net a.plan n i));
-        left = λ n i h l. rw (add-one n) (omega (arith, ledger-left a.plan a.stands n i (omega arith) l, ledger-left a.plan a.stands (suc n) i h l, left-suc net a.plan n i));
+        entered = λ n i h l. rw (add-one n) (omega (arith, standing-entered a.plan a.stands n i (omega arith) l, standing-entered a.plan a.stands (suc n) i h l, entered-suc net a.plan n i));
+        left = λ n i h l. rw (add-one n) (omega (arith, standing-left a.plan a.stands n i (omega arith) l, standing-left a.plan a.stands (suc n) i h l, left-suc net a.plan n i));
       })
 
   -- ---- the `H` and `S` lines have passed
@@ -170,30 +173,18 @@ module _ {text : List ℕ} {reading : Reading} {b : ℕ} {signals links movement
   few = a.counted.few
 
   module _ {t₁ old o₁ : List ℕ} {e₁ : ℕ} (p₁ : Put 1 t₁ 0 old o₁ e₁) where
-    pub trams-ready : TramsAsked text reading.trams_at C.trams b × Early C.trams e₁
-    trams-ready = (trams-asked, omega (arith, p₁.ends, p₁.few, few.trams))
-
     module _ {t₂ o₂ : List ℕ} {e₂ : ℕ} (p₂ : Put C.trams t₂ e₁ o₁ o₂ e₂) where
       pub signals-ready : SignalsAsked signals C.signals e₂
       signals-ready = signals-asked (omega (arith, p₁.ends, p₁.few, p₂.ends, p₂.few, few.trams, few.signals))
 
       module _ {t₃ o₃ : List ℕ} {e₃ : ℕ} (p₃ : Put C.signals t₃ e₂ o₂ o₃ e₃) where
-        pub links-ready : LinksAsked links waiting C.links e₃
-        links-ready = links-asked (omega (arith, p₁.ends, p₁.few, p₂.ends, p₂.few, p₃.ends, p₃.few, few.trams, few.signals, few.links))
-
         module _ {t₄ o₄ : List ℕ} {e₄ : ℕ} (p₄ : Put C.links t₄ e₃ o₃ o₄ e₄) where
           before-movements : e₄ ≤ longest * 49
           before-movements = omega (arith, p₁.ends, p₁.few, p₂.ends, p₂.few, p₃.ends, p₃.few, p₄.ends, p₄.few, few.trams, few.signals, few.links)
 
-          pub movements-ready : MovementsAsked movements C.movements e₄
-          movements-ready = movements-asked (omega (arith, before-movements, few.movements))
-
           module _ {t₅ o₅ : List ℕ} {e₅ : ℕ} (p₅ : Put C.movements t₅ e₄ o₄ o₅ e₅) where
             before-past : e₅ ≤ longest * 113
             before-past = omega (arith, before-movements, p₅.ends, p₅.few, few.movements)
-
-            pub past-ready : (1 + 2 * C.links ≤ past_size) × Early C.past e₅
-            past-ready = (omega (arith, few.links), omega (arith, before-past, few.past))
 
             module _ {o₆ : List ℕ} {e₆ : ℕ} (p₆ : Copied text reading.past_at letter_h (1 + 2 * C.links) C.past e₅ o₅ o₆ e₆) where
               before-steps : e₆ ≤ longest * 233
@@ -209,12 +200,12 @@ module _ {text : List ℕ} {reading : Reading} {b : ℕ} {signals links movement
                   (omega (arith, few.links), omega (arith, before-steps, q.ends, q.few, a.within, a.counted.steps, few.steps))
 
   -- ---- each block is the carried network's
-  module _ (plan : List Line) (s : StandsAt net plan b signals waiting ledger) where
-    counts_same : {left : ℕ} → left ≡ length (clipped b (step_count net) (trams net)) → count_row C b left ≡ count_numbers (part net plan b (step_count net))
+  module _ (plan : List Line) (s : StandsAt net plan st) where
+    counts_same : {left : ℕ} → left ≡ length (all_left b trams C.trams) → count_row C b left ≡ count_numbers (part net plan b (step_count net))
     unfolding count_row count_numbers part on_timeline
-    counts_same e = let c = a.counted in rw (c.links, c.signals, c.movements, c.steps, c.past, e) refl
+    counts_same e = let c = a.counted in rw (c.links, c.signals, c.movements, c.steps, c.past, e ∙ ap length left-clipped) refl
 
-    signals-same : record_texts letter_g C.signals (λ r. signal_numbers (table_signal signals r)) ≡ record_texts letter_g (signal_count net) (λ r. signal_numbers (signal_at net plan b r))
+    signals-same : record_texts letter_g C.signals (λ r. signal_numbers (fields.signal_at signals r)) ≡ record_texts letter_g (signal_count net) (λ r. signal_numbers (signal_at net plan b r))
     signals-same = rw a.counted.signals (records-same letter_g _ _ (signal_count net) (λ r l. ap signal_numbers (s.signals-at r l)))
 
     links-same : record_texts letter_q C.links (link_row links waiting) ≡ record_texts letter_q (link_count net) (link_numbers net plan b (step_count net))
@@ -241,9 +232,9 @@ module _ {text : List ℕ} {reading : Reading} {b : ℕ} {signals links movement
     unfolding volumes_in
     step-volumes n i h l =
         let x : entered_at ledger (link_count net) (n + 1) i - entered_at ledger (link_count net) n i ≡ timeline_inflow net plan (on_timeline net n) i =
-        rw (add-one n) (omega (arith, ledger-entered plan s n i (omega arith) l, ledger-entered plan s (suc n) i h l, entered-suc net plan n i, plan-inflow net plan n i)) in
+        rw (add-one n) (omega (arith, standing-entered plan s n i (omega arith) l, standing-entered plan s (suc n) i h l, entered-suc net plan n i, plan-inflow net plan n i)) in
         let y : left_at ledger (link_count net) (n + 1) i - left_at ledger (link_count net) n i ≡ timeline_outflow net plan (on_timeline net n) i =
-        rw (add-one n) (omega (arith, ledger-left plan s n i (omega arith) l, ledger-left plan s (suc n) i h l, left-suc net plan n i, plan-outflow net plan n i)) in
+        rw (add-one n) (omega (arith, standing-left plan s n i (omega arith) l, standing-left plan s (suc n) i h l, left-suc net plan n i, plan-outflow net plan n i)) in
         ap₂ (λ x y. x ∷ y ∷ []) x y
 
     step_row : (n : ℕ) → n < b → entry net (step_line net 0 + n) 0 ∷ joined (link_count net) (volumes_in ledger (link_count net) n) ≡ past_numbers net plan b (step_count net) (on_timeline net n)
@@ -267,19 +258,19 @@ module _ {text : List ℕ} {reading : Reading} {b : ℕ} {signals links movement
 
   -- ---- all blocks, one behind another
   module _ {left e₁ e₂ e₃ e₄ e₅ e₆ : ℕ} {end : ℕ} (places : Places) {old o₁ o₂ o₃ o₄ o₅ o₆ o₇ new : List ℕ}
-      (counted : left ≡ length (clipped b (step_count net) (trams net)))
+      (counted : left ≡ length (all_left b trams C.trams))
       (p₁ : Put 1 (record_text letter_n (count_row C b left)) 0 old o₁ e₁)
-      (p₂ : Put C.trams (line_texts letter_t (clipped b (step_count net) (trams net))) e₁ o₁ o₂ e₂)
-      (p₃ : Put C.signals (record_texts letter_g C.signals (λ r. signal_numbers (table_signal signals r))) e₂ o₂ o₃ e₃)
+      (p₂ : Put C.trams (line_texts letter_t (all_left b trams C.trams)) e₁ o₁ o₂ e₂)
+      (p₃ : Put C.signals (record_texts letter_g C.signals (λ r. signal_numbers (fields.signal_at signals r))) e₂ o₂ o₃ e₃)
       (p₄ : Put C.links (record_texts letter_q C.links (link_row links waiting)) e₃ o₃ o₄ e₄)
       (p₅ : Put C.movements (record_texts letter_m C.movements (movement_row movements)) e₄ o₄ o₅ e₅)
       (p₆ : Copied text reading.past_at letter_h (1 + 2 * C.links) C.past e₅ o₅ o₆ e₆)
       (p₇ : StepsPut text reading.steps_at ledger C.links b e₆ o₆ o₇ places)
       (p₈ : Copied text places.line letter_s (1 + C.links) (C.steps - b) places.at o₇ new end) where
-    whole-text : (plan : List Line) → StandsAt net plan b signals waiting ledger
+    whole-text : (plan : List Line) → StandsAt net plan st
         → record_text letter_n (count_row C b left)
-        ++ (line_texts letter_t (clipped b (step_count net) (trams net))
-        ++ (record_texts letter_g C.signals (λ r. signal_numbers (table_signal signals r))
+        ++ (line_texts letter_t (all_left b trams C.trams)
+        ++ (record_texts letter_g C.signals (λ r. signal_numbers (fields.signal_at signals r))
         ++ (record_texts letter_q C.links (link_row links waiting)
         ++ (record_texts letter_m C.movements (movement_row movements)
         ++ ((record_texts letter_h C.past (λ k. list (1 + 2 * C.links) (entry net (timeline_line net 0 + k)))
@@ -290,7 +281,8 @@ module _ {text : List ℕ} {reading : Reading} {b : ℕ} {signals links movement
     whole-text plan s =
         rw (
           counts_same plan s counted,
-          texts-of-list letter_t (clipped b (step_count net) (trams net)),
+          left-clipped,
+          texts-of-list letter_t (clipped b (step_count net) (tram_lines net)),
           signals-same plan s,
           links-same plan s,
           movements-same plan s,
@@ -300,22 +292,9 @@ module _ {text : List ℕ} {reading : Reading} {b : ℕ} {signals links movement
           ← texts-plus letter_h (past_count net) b (past_numbers net plan b (step_count net)),
         ) refl
 
-    pub all-size : length new ≡ length old
-    all-size =
-        let (q, starts) = steps-put places p₇ in
-        (rest_put places.line starts p₈).size ∙ q.size ∙ (past-put p₆).size ∙ p₅.size ∙ p₄.size ∙ p₃.size ∙ p₂.size ∙ p₁.size
-
-    pub all-put : TextPut text b signals waiting ledger old new end
+    pub all-put : TextPut text st old new end
     all-put plan s =
         let (q, starts) = steps-put places p₇ in
         let p = puts-more p₁ (puts-more p₂ (puts-more p₃ (puts-more p₄ (puts-more p₅ (puts-more (puts-more (past-put p₆) q) (rest_put places.line starts p₈)))))) in
         let e = whole-text plan s in
         record { long = omega (arith, p.ends, ap length e); is = λ h. p.is h ∙ put_first _ old ∙ ap (λ (x : List ℕ). over x old) e }
-
--- ---- the text is measured, and then written if there is room
-module _ (text : List ℕ) {b : ℕ} {signals waiting ledger none none' old : List ℕ} {size : ℕ} (p : TextPut text b signals waiting ledger none none' size) where
-  pub short-written : length old < size → {q : Refusal} → q ≡ refusal 32 0 0 → TextWritten text b signals waiting ledger old (Err q) old
-  short-written h e plan s = told-short (p plan s) 32 h e
-
-  pub whole-written : size ≤ length old → {new : List ℕ} {again : ℕ} → TextPut text b signals waiting ledger old new again → TextWritten text b signals waiting ledger old (Ok size) new
-  whole-written h q plan s = told-whole (p plan s) 32 h (q plan s)

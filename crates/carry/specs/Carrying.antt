@@ -2,16 +2,15 @@
 use Rattle.std.specs.Prelude.{ℕ, suc, ◌*◌, ◌≤◌, ◌<◌, ◌≡◌, List, length, Result}
 use Rattle.text_reader.specs.Lines.{lines}
 use Rattle.model.specs.Network.{link_count, step_count}
-use Rattle.network_tables.specs.declared.Reading.{Reading}
-use Rattle.network_tables.specs.Tables.{SignalTable}
+use Rattle.model.specs.declared.Signal.{Signal}
+use Rattle.network_tables.specs.declared.NetworkTables.{NetworkTables}
 use Rattle.network.specs.Loading.{Loaded}
 use Rattle.model_carry.specs.Call.{planned_on, carry_on, carry_ledger, carry_buffer}
 use Rattle.base_search.specs.declared.Refusal.{Refusal}
 
 -- a boundary of the plan, and room for the rows up to it
-pub record StepsAsked (network_text : List ℕ) (b : ℕ) (reading : Reading) (links movements times signals ledger : List ℕ) : Type 0 where
-  pub loaded : Loaded network_text links movements times reading
-  pub signal-table : SignalTable (lines network_text) signals
+pub record StepsAsked (network_text : List ℕ) (b : ℕ) (tables : NetworkTables) (signals : List Signal) (ledger : List ℕ) : Type 0 where
+  pub loaded : Loaded network_text signals tables.links.now tables.movements.now tables.times.now tables.reading
   pub first : 1 ≤ b
   pub last : b < step_count (lines network_text)
   pub room : 2 * suc b * link_count (lines network_text) ≤ length ledger

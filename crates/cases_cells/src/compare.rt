@@ -8,6 +8,7 @@ use crate::told;
 use crate::told::Numbers;
 use cases_files::agreement::agrees;
 use cases_files::reading::{Malformed, read_each, read_text, read_u32};
+use cases_files::tally;
 use std::io::Read;
 
 // The refusal numbers that cases are counted by, 0 where nothing is refused; the cases that differ are counted behind them.
@@ -24,7 +25,7 @@ fn judge(
     ensures { result ≡ as_stored (run_cells (lines corridor.now)) (final_volumes (lines corridor.now)) stored volumes.now }
 {
     let answer = cells_call::run_cells(corridor);
-    let given = told::numbers_of(answer);
+    let given = Numbers::from(answer);
     let left = told::volumes_of(answer);
     agrees(rt, number, &given, &stored, left == *volumes)
 }
@@ -37,8 +38,5 @@ pub fn run_case(rt: &impl Print, file: &mut impl Read, number: u32) -> Result<us
     let stored = told::read_numbers(file)?;
     read_each(file, &mut volumes, read_u32)?;
     let same = judge(rt, number, corridor, stored, &volumes);
-    let place = NUMBERS
-        .iter()
-        .position(|known| same && *known == stored.number);
-    Ok(place.unwrap_or(NUMBERS.len()))
+    Ok(tally::place_of(&NUMBERS, stored.number, same))
 }

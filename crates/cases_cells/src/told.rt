@@ -1,6 +1,7 @@
 // The answer of a run in the stored form, which is described in reference/src/cases/corridor_file.rs.
 ghost use Rattle.std.specs.Prelude.{◌≡◌};
-ghost use Rattle.cases_cells.specs.Told.{numbers_of, volumes_of};
+ghost use Rattle.cells_call.specs.Call.{volumes_in};
+ghost use Rattle.cases_cells.specs.Told.{numbers_of};
 
 use base_search::Refusal;
 use cases_files::reading::{Malformed, read_u32, read_u64};
@@ -29,32 +30,34 @@ impl Display for Numbers {
 }
 
 // The numbers of what the library answers.
-pub fn numbers_of(answer: Result<CellsRun, Refusal>) -> Numbers
-    ensures { result ≡ numbers_of answer }
-{
-    match answer {
-        Ok(run) => Numbers {
-            number: 0,
-            line: 0,
-            item: 0,
-            cells: run.cells,
-            flow_in: run.flow_in,
-            flow_out: run.flow_out,
-        },
-        Err(refusal) => Numbers {
-            number: refusal.number,
-            line: refusal.line,
-            item: refusal.item,
-            cells: 0,
-            flow_in: 0,
-            flow_out: 0,
-        },
+impl From<Result<CellsRun, Refusal>> for Numbers {
+    ghost from_gives = { λ answer numbers. numbers ≡ numbers_of answer };
+
+    fn from(answer: Result<CellsRun, Refusal>) -> Numbers {
+        match answer {
+            Ok(run) => Numbers {
+                number: 0,
+                line: 0,
+                item: 0,
+                cells: run.cells,
+                flow_in: run.flow_in,
+                flow_out: run.flow_out,
+            },
+            Err(refusal) => Numbers {
+                number: refusal.number,
+                line: refusal.line,
+                item: refusal.item,
+                cells: 0,
+                flow_in: 0,
+                flow_out: 0,
+            },
+        }
     }
 }
 
 // The volumes of what the library answers; of a refusal, all 0.
 pub fn volumes_of(answer: Result<CellsRun, Refusal>) -> [u32; 64]
-    ensures { result ≡ volumes_of answer }
+    ensures { result ≡ volumes_in answer }
 {
     match answer {
         Ok(run) => run.volumes,

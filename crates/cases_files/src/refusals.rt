@@ -1,10 +1,9 @@
-// Refusals: as they are stored and compared.
-ghost use Rattle.std.specs.Prelude.{◌≡◌, ◌&&◌, ◌++◌, IfOk};
+// Refusals: as they are stored, compared and printed.
+ghost use Rattle.std.specs.Prelude.{◌≡◌, ◌++◌, IfOk};
 ghost use Rattle.std.specs.Int.{w32, to_le_bytes};
 ghost use Rattle.std.specs.Io.KnownBytes.{Consumes};
-ghost use Rattle.cases_files.specs.Refusals.{refusal_of, same_refusal};
+ghost use Rattle.cases_files.specs.Refusals.{refusal_of};
 
-use crate::agreement;
 use crate::reading::{Malformed, read_u32};
 use base_search::Refusal;
 use std::fmt;
@@ -29,31 +28,12 @@ pub fn refusal_of<T: Drop>(answer: Result<T, Refusal>) -> Refusal
     answer.err().unwrap_or(Refusal::new(0, 0, 0))
 }
 
-// A refusal as it is printed, each number behind a tab.
+// A refusal as it is compared and printed, each number behind a tab.
 #[derive(Clone, Copy, PartialEq)]
-struct Columns(Refusal);
+pub struct Columns(pub Refusal);
 
 impl Display for Columns {
     fn fmt<W: fmt::Write>(&self, f: &mut fmt::Formatter<W>) -> fmt::Result {
         write!(f, "\t{}\t{}\t{}", self.0.number, self.0.line, self.0.item)
     }
-}
-
-// Whether the refusal is the one that was stored, and what the call left is as stored. Where not, the case is printed.
-pub fn agrees(
-    rt: &impl Print,
-    number: u32,
-    given: Refusal,
-    stored: Refusal,
-    is_left_as_stored: bool,
-) -> bool
-    ensures { result ≡ (same_refusal given stored && is_left_as_stored) }
-{
-    agreement::agrees(
-        rt,
-        number,
-        &Columns(given),
-        &Columns(stored),
-        is_left_as_stored,
-    )
 }

@@ -5,9 +5,16 @@ ghost use Rattle.std.specs.Prelude.{◌≡◌, ◌+◌, ◌%◌, ◌^◌, ◌<�
 pub fn add_one(counts: &mut [u64], place: usize)
     ensures { place < length counts.old → counts.new ≡ slice_set counts.old place ((slice_index counts.old place + 1) % 2 ^ 64) }
 {
+    // Not by `get_mut`: a proof knows no element that is written through it.
     if place < counts.len() {
         counts[place] = counts[place].wrapping_add(1);
     }
+}
+
+// The place of a case: that of its refusal number among those that cases are counted by, if it agreed; else the one behind them.
+pub fn place_of(numbers: &[u32], number: u32, same: bool) -> usize {
+    let place = numbers.iter().position(|known| same && *known == number);
+    place.unwrap_or(numbers.len())
 }
 
 // Prints the counts, a line each. Nothing is done about an output that takes no more.

@@ -4,11 +4,9 @@ use Rattle.base_search.specs.declared.Refusal.{Refusal}
 use Rattle.base_search.specs.Checks.{Verdict}
 use Rattle.model.specs.declared.LinkState.{LinkState}
 use Rattle.model.specs.declared.Totals.{Totals}
-use Rattle.plan_compare.specs.declared.Order.{Order}
-use Rattle.plan_compare.specs.declared.Order.TheVariants.{Ahead, Behind, Equal, Crossing}
 use Rattle.plan_compare.specs.declared.Comparison.{Comparison}
 use Rattle.plan_compare.specs.declared.ComparisonRefusal.{ComparisonRefusal}
-use Rattle.plan_compare.specs.Comparison.{plan_number, refusal_in}
+use Rattle.plan_compare.specs.Comparison.{order_number, plan_number, refusal_in}
 use Rattle.cases_plan.specs.declared.outcome.Kind.{Kind}
 use Rattle.cases_plan.specs.declared.outcome.Kind.TheVariants as kinds
 use Rattle.cases_plan.specs.declared.outcome.Outcome.{Outcome}
@@ -44,12 +42,6 @@ text_outcome (Err r) = refused_outcome r
 abbrev pub modulo64 : ℤ → ℕ
 modulo64 (pos n) = n
 modulo64 (negsuc n) = 2 ^ 64 - suc n
-
-abbrev pub order_number : Order → ℕ
-order_number Ahead = 1
-order_number Behind = 2
-order_number Equal = 3
-order_number Crossing = 4
 
 -- a refusal of a comparison says which plan it means
 abbrev pub comparison_outcome : Result Comparison ComparisonRefusal → Outcome

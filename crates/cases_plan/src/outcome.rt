@@ -1,10 +1,10 @@
 // What a call gives, in the stored form.
 ghost use Rattle.std.specs.Prelude.{◌≡◌};
-ghost use Rattle.cases_plan.specs.Outcome.{refused_outcome, network_outcome, plan_outcome, link_outcome, text_outcome, kind_number, order_number, comparison_outcome};
+ghost use Rattle.cases_plan.specs.Outcome.{refused_outcome, network_outcome, plan_outcome, link_outcome, text_outcome, kind_number, comparison_outcome};
 
 use base_search::Refusal;
 use model::{LinkState, Totals};
-use plan_compare::{Comparison, ComparisonRefusal, Order};
+use plan_compare::{Comparison, ComparisonRefusal};
 use std::fmt;
 use std::fmt::Display;
 
@@ -118,24 +118,14 @@ impl From<Result<usize, Refusal>> for Outcome {
     }
 }
 
-fn order_number(order: Order) -> u64
-    ensures { result ≡ order_number order }
-{
-    match order {
-        Order::Ahead => 1,
-        Order::Behind => 2,
-        Order::Equal => 3,
-        Order::Crossing => 4,
-    }
-}
-
 impl From<Result<Comparison, ComparisonRefusal>> for Outcome {
     ghost from_gives = { λ answer outcome. outcome ≡ comparison_outcome answer };
 
     fn from(answer: Result<Comparison, ComparisonRefusal>) -> Outcome {
         match answer {
             Ok(Comparison { order, gap }) => {
-                of_two(Kind::Compared, order_number(order), gap.cast_unsigned())
+                let number = u64::from(order.number());
+                of_two(Kind::Compared, number, gap.cast_unsigned())
             }
             Err(not_compared) => Outcome {
                 fourth: u64::from(not_compared.plan()),

@@ -1,6 +1,4 @@
 // How many cases agreed, and what is printed.
-ghost use Rattle.std.specs.Prelude.{◌<◌};
-
 use crate::call::Call;
 use crate::outcome::{Kind, Outcome};
 use std::fmt::Display;
@@ -29,12 +27,10 @@ pub fn place_of(call: Call, outcome: Outcome) -> usize {
 }
 
 // A line of the table: how many cases of each call were accepted (0) or refused with a number.
-fn print_line(rt: &impl Print, name: impl Display + Drop, counts: &[u64; COUNTERS], number: usize)
-    requires { number < 36 }
-{
+fn print_line(rt: &impl Print, name: impl Display + Drop, counts: &[u64; COUNTERS], number: usize) {
     let _ = print!(rt; "{name}");
-    for call in 0..CALLS {
-        let _ = print!(rt; "\t{}", counts[call * ANSWERS + number]);
+    for count in counts.iter().skip(number).step_by(ANSWERS).take(CALLS) {
+        let _ = print!(rt; "\t{count}");
     }
     let _ = println!(rt);
 }

@@ -4,10 +4,12 @@ ghost use Rattle.split.specs.Splitting.{texts, buffers};
 ghost use Rattle.cases_split.specs.Compare.{as_stored, answer_to, left_by};
 
 use crate::told;
-use crate::told::{Buffers, Stored};
+use crate::told::{Buffers, Stored, Texts};
 use base_search::Refusal;
+use cases_files::agreement::agrees;
 use cases_files::reading::{Malformed, read_array, read_text, read_u32};
 use cases_files::refusals;
+use cases_files::refusals::Columns;
 use model_split::Lengths;
 use std::io::Read;
 
@@ -42,17 +44,16 @@ fn is_as_stored(
     ensures { result ≡ as_stored answer (buffers left.entry.network_1.now left.entry.plan_1.now left.entry.network_2.now left.entry.plan_2.now) stored
         (buffers told.entry.network_1.now told.entry.plan_1.now told.entry.network_2.now told.entry.plan_2.now) }
 {
-    let given = refusals::refusal_of(answer);
-    let is_left = (told::lengths_of(answer) == stored.lengths) & told::are_as_told(left, told);
-    refusals::agrees(rt, stored.number, given, stored.refusal, is_left)
+    let given = Columns(refusals::refusal_of(answer));
+    let is_left = told::lengths_of(answer) == stored.lengths && told::are_as_told(left, told);
+    agrees(rt, stored.number, &given, &Columns(stored.refusal), is_left)
 }
 
 // Splits by the library: whether all is as stored.
 fn judge(
     rt: &impl Print,
     stored: Stored,
-    network: &[u8],
-    plan: &[u8],
+    whole: Texts<'_>,
     network_1: &mut [u8],
     plan_1: &mut [u8],
     network_2: &mut [u8],
@@ -60,9 +61,11 @@ fn judge(
     told: Buffers<'_>,
 ) -> bool
     ensures { let before = buffers network_1.old plan_1.old network_2.old plan_2.old in
-        result ≡ as_stored (answer_to (texts network.now plan.now) stored before) (left_by (texts network.now plan.now) stored before) stored
+        let split = texts whole.entry.network.now whole.entry.plan.now in
+        result ≡ as_stored (answer_to split stored before) (left_by split stored before) stored
         (buffers told.entry.network_1.now told.entry.plan_1.now told.entry.network_2.now told.entry.plan_2.now) }
 {
+    let Texts { network, plan } = whole;
     let set = stored.first_half;
     let answer = split::split(network, plan, set, network_1, plan_1, network_2, plan_2);
     let left = Buffers {
@@ -78,8 +81,7 @@ fn judge(
 fn judge_filled(
     rt: &impl Print,
     stored: Stored,
-    network: &[u8],
-    plan: &[u8],
+    whole: Texts<'_>,
     lengths: Lengths,
     rest: u8,
     told: Buffers<'_>,
@@ -91,8 +93,7 @@ fn judge_filled(
     Ok(judge(
         rt,
         stored,
-        network,
-        plan,
+        whole,
         network_1.get_mut(..lengths.network_1).ok_or(Malformed)?,
         plan_1.get_mut(..lengths.plan_1).ok_or(Malformed)?,
         network_2.get_mut(..lengths.network_2).ok_or(Malformed)?,
@@ -105,8 +106,10 @@ fn judge_filled(
 pub fn run_case(rt: &impl Print, file: &mut impl Read, number: u32) -> Result<usize, Malformed> {
     let mut network = [0; ROOM];
     let mut plan = [0; ROOM];
-    let network = read_text(file, &mut network)?;
-    let plan = read_text(file, &mut plan)?;
+    let whole = Texts {
+        network: read_text(file, &mut network)?,
+        plan: read_text(file, &mut plan)?,
+    };
     let first_half = read_u32(file)?;
     let lengths = told::read_lengths(file)?;
     let rest = read_array::<_, 4>(file)?[0];
@@ -132,7 +135,7 @@ pub fn run_case(rt: &impl Print, file: &mut impl Read, number: u32) -> Result<us
         network_2: &network_2,
         plan_2: &plan_2,
     };
-    let same = judge_filled(rt, stored, network, plan, lengths, rest, told)?;
+    let same = judge_filled(rt, stored, whole, lengths, rest, told)?;
     Ok(if same {
         place_of(refusal.number)
     } else {

@@ -8,6 +8,13 @@ use cases_files::reading::{Malformed, read_u32};
 use model_split::Lengths;
 use std::io::Read;
 
+// The texts of the network and the plan that are split.
+#[derive(Clone, Copy)]
+pub struct Texts<'a> {
+    pub network: &'a [u8],
+    pub plan: &'a [u8],
+}
+
 // What was stored of a split, by its number from 0: the set of links, the refusal, one of the number 0 where the texts are written, and how long they are.
 #[derive(Clone, Copy)]
 pub struct Stored {

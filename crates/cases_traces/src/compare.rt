@@ -5,8 +5,10 @@ ghost use Rattle.cases_traces.specs.Compare.{as_stored};
 
 use crate::values;
 use base_search::Refusal;
+use cases_files::agreement::agrees;
 use cases_files::reading::{Malformed, read_u32};
-use cases_files::refusals;
+use cases_files::refusals::Columns;
+use cases_files::{refusals, tally};
 use std::io::Read;
 
 // Room for some vehicles and lines too many.
@@ -28,8 +30,10 @@ fn judge(
 ) -> bool
     ensures { result ≡ as_stored (step_vehicles places.old advances.now red_lines.now spacing) (places_after places.old advances.now red_lines.now spacing) stored told.now }
 {
-    let given = refusals::refusal_of(traces::step_vehicles(places, advances, red_lines, spacing));
-    refusals::agrees(rt, number, given, stored, values::are_same(places, told))
+    let answer = traces::step_vehicles(places, advances, red_lines, spacing);
+    let given = Columns(refusals::refusal_of(answer));
+    let stored = Columns(stored);
+    agrees(rt, number, &given, &stored, values::are_same(places, told))
 }
 
 // Reads one case and judges it: the place at which it is counted.
@@ -50,8 +54,5 @@ pub fn run_case(rt: &impl Print, file: &mut impl Read, number: u32) -> Result<us
     let same = judge(
         rt, number, places, advances, red_lines, spacing, stored, told,
     );
-    let place = NUMBERS
-        .iter()
-        .position(|known| same && *known == stored.number);
-    Ok(place.unwrap_or(NUMBERS.len()))
+    Ok(tally::place_of(&NUMBERS, stored.number, same))
 }

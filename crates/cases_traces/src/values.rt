@@ -10,26 +10,27 @@ use cases_files::reading::{Malformed, read_each, read_u64};
 use std::io::Read;
 
 // The bits of an infinity, and the weight of the sign: without the sign, a NaN's bits are a number above the former.
-const INFINITY: u64 = 9218868437227405312;
+const INFINITY: u64 = 0x7ff0_0000_0000_0000;
 
-const SIGN: u64 = 9223372036854775808;
+const SIGN: u64 = 1 << 63;
+
+// The bits that stand for every NaN.
+const NAN: u64 = 0x7ff8_0000_0000_0000;
 
 // The value of bits.
 fn value_of(bits: u64) -> f64 {
     if INFINITY < bits % SIGN {
-        return 0.0 / 0.0;
+        f64::NAN
+    } else {
+        f64::from_bits(bits)
     }
-    f64::from_bits(bits)
 }
 
 // The bits of a value; the same ones for every NaN.
 fn bits_of(value: f64) -> u64
     ensures { result ≡ to_bits binary64 value }
 {
-    if value <= value {
-        return f64::to_bits(value);
-    }
-    9221120237041090560
+    if value.is_nan() { NAN } else { value.to_bits() }
 }
 
 // Whether two values are the same; zeros of either sign are not.
@@ -46,7 +47,7 @@ pub fn are_same(values: &[f64], told: &[f64]) -> bool
     values.len() == told.len() && all_same(values, told)
 }
 
-// Whether each value is the one that stands beside it, as far as both go.
+// Whether each value is the one that stands beside it, as far as both go. Behind the `&&` of `are_same`, `search` does not prove it.
 fn all_same(values: &[f64], told: &[f64]) -> bool
     ensures { result ≡ list_all (λ p. same_value p.0 p.1) (zip values.now told.now) }
 {

@@ -1,7 +1,7 @@
 -- What a run keeps, by its definitions.
 use Rattle.std.proofs.Common.{rules}
 use Rattle.base_laws.proofs.Kit.{ℕ, ◌-◌, ◌≡◌, refl, ◌∙◌, List, arith, length, List·getD-append}
-use Rattle.std.specs.Prelude.{Ok, Err, MatchResult, sum, replicate}
+use Rattle.std.specs.Prelude.{Ok, Err, sum, replicate}
 use Rattle.std.proofs.lemmas.List.Sums.{sum_by-append}
 use Rattle.std.proofs.lemmas.List.Folds.{sum_by-replicate}
 use Rattle.base_search.specs.Checks.{Verdict, verdict}
@@ -12,7 +12,7 @@ use Rattle.base_laws.proofs.Bools.{zero_one}
 use Rattle.cells_steps.specs.Steps.{volumes_after}
 use Rattle.cells_steps.proofs.Guarantees.{keeps, length-all-after}
 use Rattle.cells_lines.specs.Corridor.{cell_count, cell_line_checks, cell_checks, exit_check, demand_check, demand_checks, corridor_checks, chain, starts, demands}
-use Rattle.cells_call.specs.Call.{cells_numbers, run_of, answer_of, run_cells, padded, volumes_of, final_volumes, zeros, Kept, RunKeeps}
+use Rattle.cells_call.specs.Call.{cells_numbers, run_of, answer_of, run_cells, padded, volumes_of, final_volumes, volumes_in, Kept, RunKeeps}
 use Rattle.cells_call.proofs.Ready.{starts-length, corridor-ready}
 
 sum-padded : (volumes : List ℕ) → sum (padded volumes) ≡ sum volumes
@@ -50,11 +50,11 @@ module _ (text : List Line) where
             refused-number = λ s q. let same : r ≡ s = cc in rw (← same) (refused-number cells_numbers (corridor_checks text) r corridor-numbered e);
           }
 
--- the volumes of a run are the final ones, which are all 0 where the text is refused
-pub volumes-told : (text : List Line) → MatchResult (run_cells text) (λ run. run.volumes ≡ final_volumes text) (λ r. final_volumes text ≡ zeros 64)
+-- what is told of an answer are the final volumes
+pub volumes-told : (text : List Line) → volumes_in (run_cells text) ≡ final_volumes text
 unfolding run_cells answer_of run_of final_volumes volumes_of padded
 volumes-told text = go (verdict (corridor_checks text)) refl
   where
-    go : (v : Verdict) → verdict (corridor_checks text) ≡ v → MatchResult (answer_of v text) (λ run. run.volumes ≡ final_volumes text) (λ r. final_volumes text ≡ zeros 64)
+    go : (v : Verdict) → verdict (corridor_checks text) ≡ v → volumes_in (answer_of v text) ≡ final_volumes text
     go (Ok tt) e = refl
     go (Err r) e = rw e

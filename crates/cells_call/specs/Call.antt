@@ -46,6 +46,11 @@ answer_of (Err r) text = Err r
 unfoldable pub run_cells : List Line → Result CellsRun Refusal
 run_cells text = answer_of (verdict (corridor_checks text)) text
 
+-- the volumes that are told of an answer; of a refusal, all 0
+abbrev pub volumes_in : Result CellsRun Refusal → List ℕ
+volumes_in (Ok run) = run.volumes
+volumes_in (Err r) = zeros 64
+
 -- what a run that is not refused keeps: its chain for every list of demands, and what it gives back for those of the text
 pub record Kept (text : List Line) (run : CellsRun) : Type 0 where
   pub always : Keeps (chain text) (starts text)

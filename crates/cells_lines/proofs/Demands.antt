@@ -26,13 +26,13 @@ module _ {text : List ℕ} {cells at : ℕ} {table₀ : List ℕ} (asked : Deman
   demands-none = let e : cells + 1 + 0 ≡ cells + 1 = omega arith in record { begins = rw e asked.begins; inside = omega (arith, asked.inside); passed = below_none _; are = filled_none _ table₀ }
 
   module _ {table : List ℕ} {place k : ℕ} (g : DemandsReading text cells table₀ table place k) where
-    line-at : demand_line (lines text) k ≡ cells + 1 + k
+    demand-line-is : demand_line (lines text) k ≡ cells + 1 + k
     unfolding demand_line
-    line-at = rw (← asked.counted)
+    demand-line-is = rw (← asked.counted)
 
     -- the line at the place is that of demand k
     line-is : line_at text place ≡ get_or (lines text) (demand_line (lines text) k) no_line
-    line-is = rw line-at (starts-line text place (cells + 1 + k) g.begins)
+    line-is = rw demand-line-is (starts-line text place (cells + 1 + k) g.begins)
 
     count-is : demand_count (lines text) + (cells + 1) ≡ length (lines text)
     unfolding demand_count demand_line
@@ -42,8 +42,8 @@ module _ {text : List ℕ} {cells at : ℕ} {table₀ : List ℕ} (asked : Deman
     left : at_end text place ≡ false → k < demand_count (lines text)
     left e = grind (arith, starts-end text place (cells + 1 + k) g.begins g.inside, count-is, g.inside)
 
-    none-left : at_end text place ≡ true → demand_count (lines text) ≡ k
-    none-left e = grind (arith, starts-end text place (cells + 1 + k) g.begins g.inside, count-is)
+    demands-ended : at_end text place ≡ true → demand_count (lines text) ≡ k
+    demands-ended e = grind (arith, starts-end text place (cells + 1 + k) g.begins g.inside, count-is)
 
     passed : demand_count (lines text) ≡ k → verdict (each (demand_count (lines text)) (demand_check (lines text))) ≡ Ok tt
     unfolding verdict
@@ -52,12 +52,12 @@ module _ {text : List ℕ} {cells at : ℕ} {table₀ : List ℕ} (asked : Deman
     pub demands-all : {count : ℕ} → count ≡ k → 0 < k → k ≤ 120 → at_end text place ≡ true → DemandsRead text count table₀ table
     unfolding demand_checks verdict checked
     demands-all is some few e =
-        let all = none-left e in
+        let all = demands-ended e in
         rw is
         record { passed = or-else-passes _ _ (passed all) ∙ grind arith; counted = sym all; few = few; are = g.are }
 
     line-told : suc (demand_line (lines text) k) ≡ cells + 2 + k
-    line-told = omega (arith, line-at)
+    line-told = omega (arith, demand-line-is)
 
     stop : k < demand_count (lines text) → verdict (demand_check (lines text) k) ≡ Err (refusal 36 (cells + 2 + k) 0) → verdict (demand_checks (lines text)) ≡ Err (refusal 36 (cells + 2 + k) 0)
     unfolding demand_checks verdict

@@ -7,7 +7,7 @@ use Rattle.text_reader.proofs.Laws.{parts, record-read, record-malformed, got-re
 
 -- a line of n numbers that was read into a row
 pub record Row (letter n : ℕ) (text : List ℕ) (at next : ℕ) (row : List ℕ) : Type 0 where
-  pub is-record : is_record letter n (line_at text at) ≡ true
+  pub has-form : is_record letter n (line_at text at) ≡ true
   pub place : next ≡ next_line text at
   pub numbers : (k : ℕ) → k < n → get_or row k 0 ≡ number (line_at text at) k
 
@@ -19,7 +19,7 @@ module _ (letter : ℕ) (text : List ℕ) (at : ℕ) {row₀ : List ℕ} {read :
   pub row_of : {next : ℕ} → read ≡ Some next → Row letter (length row₀) text at next row
   row_of {next} e =
       let r = record-read letter (length row₀) text at next (sym got.told ∙ e) in
-      record { is-record = r.is-record; place = r.place; numbers = (got-record letter text at row₀ row read next got e).each }
+      record { has-form = r.is-record; place = r.place; numbers = (got-record letter text at row₀ row read next got e).each }
 
 -- a line with a letter is one of the text
 pub letter-inside : (text : List Line) (i letter : ℕ) → letter < 256 → eqb (get_or text i no_line).letter letter ≡ true → i < length text

@@ -30,6 +30,7 @@ fn is_cell(text: &[u8], at: usize) -> bool
 fn valid_cell(cell: Cell, start: u32) -> bool
     ensures { result ≡ valid_cell cell start }
 {
+    // By `&`, which the proof takes as one fact; by `&&` it has a goal for each way.
     (cell.flow_limit <= 2_000_000_000)
         & (cell.holding_limit <= 2_000_000_000)
         & (1 <= cell.wave_ratio)
@@ -73,6 +74,7 @@ fn read_cells(
     ensures err { IfErr result (λ refusal. verdict (each (cell_count (lines text.now)) (cell_checks (lines text.now))) ≡ Err refusal) }
 {
     let mut place = 0;
+    // Not a `zip` with the volumes: a proof knows no element that is written through one.
     for (n, cell) in cells.iter_mut().enumerate() {
         if !is_cell(text, place) {
             return Ok((n, place));

@@ -41,6 +41,7 @@ fn step_cells(cells: &[Cell], exit: u32, demand: u32, volumes: &mut [u32]) -> Pa
 {
     let first = cells[0].inflow(demand, volumes[0]);
     let mut entering = first;
+    // By index: a turn reads the volume of the next cell, and writes that of its own.
     for i in 0..volumes.len() {
         let before = volumes[i];
         let filled = before + entering;

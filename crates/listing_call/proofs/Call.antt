@@ -9,18 +9,18 @@ use Rattle.text_reader.specs.Lines.{Line, lines}
 use Rattle.text_reader.specs.Padding.{PaddingIgnored}
 use Rattle.text_reader.proofs.Padding.{same_lines}
 use Rattle.base_laws.specs.Sum.{sum}
+use Rattle.model.specs.declared.Signal.{Signal}
 use Rattle.model.specs.Network.{step_length, time}
 use Rattle.model.specs.Table.{network_checks}
 use Rattle.model.proofs.Accepted.{valid-network}
 use Rattle.model.proofs.Limits.{step-limits}
 use Rattle.model.proofs.Numbers.{network-among}
 use Rattle.network_tables.specs.declared.Reading.{Reading}
-use Rattle.network_tables.specs.Fields.{signal_table_size, line_size}
-use Rattle.network_tables.specs.Blocks.{block_checks, signal_block}
-use Rattle.network_tables.specs.Tables.{stage_verdict, moved_to, Judged, PhaseTable}
-use Rattle.network_signals.specs.Stages.{SignalsAsked, SignalsHeld}
+use Rattle.network_tables.specs.declared.Link.{Link}
+use Rattle.network_tables.specs.declared.Movement.{Movement}
+use Rattle.network_tables.specs.Fields.{line_size}
+use Rattle.network_tables.specs.Tables.{stage_verdict, Judged}
 use Rattle.network.specs.Loading.{Loaded}
-use Rattle.network.proofs.Rooms.{zeros-size, zeros-blank}
 use Rattle.listing_lines.specs.Entry.{Entry}
 use Rattle.model_text.specs.Answers.{text_answer, bytes_after, room_verdict, Told}
 use Rattle.model_text.proofs.Answers.{refused-of-answer, told-written}
@@ -29,9 +29,9 @@ use Rattle.listing_call.specs.ReadsBack.{PlanGot}
 use Rattle.step_arrivals.specs.Arrivals.{seconds_in}
 use Rattle.listing_call.specs.Tables.{has_in, TablesFit, Empty, number_table_size, seen_size}
 use Rattle.network_writer.specs.Plan.{plan_lines}
-use Rattle.listing_call.specs.Writing.{WriteGot, NetworkAsked, ListingWritten}
+use Rattle.listing_call.specs.Writing.{WriteGot}
 use Rattle.listing_call.proofs.Theorem.{text-some, text-meant, reads-back}
-use Rattle.step_arrivals.specs.Times.{ShiftAsked, Shifted}
+use Rattle.step_arrivals.specs.Times.{ShiftAsked, Shifted, PlanTimes}
 use Rattle.step_arrivals.proofs.Times.{shift-asked, plan-times}
 use Rattle.listing_call.proofs.Whole.{verdict-same, text_same}
 use Rattle.std.specs.Prelude.{Result, Ok, Err}
@@ -60,57 +60,44 @@ or-refused : (text old : List ℕ) (answer : Result ℕ Refusal) (new : List ℕ
 unfolding or_else text_answer bytes_after
 or-refused text old answer new r a b = record { answered = a; holds = b }
 
-signals-pass : (network : List Line) → Hold (network_checks network) → verdict (block_checks (signal_block network)) ≡ Ok tt
-unfolding network_checks Hold
-signals-pass network (counts, (trams, (signals, rest))) = passes-of-hold (block_checks (signal_block network)) (unfold Hold in signals)
-
 time-next : (network : List Line) (n : ℕ) → time network (n + 1) ≡ time network n + step_length network n
 unfolding time sum
 time-next network n = rw add-one
 
-module _ (text : List ℕ) (reading : Reading) (times : List ℕ) (a : NetworkAsked text reading times) where
-  pub signals-asked : (first : Reading) → first ≡ moved_to reading reading.signals_at → (phases : List ℕ) → length phases ≡ 8
-      → (signals : List ℕ) → signals ≡ replicate signal_table_size 0 → SignalsAsked text first phases signals
-  signals-asked first e phases l signals zeros =
-      rw e (record { counted = a.counted; trams-start = a.trams-start; starts = a.signals-start; room = l; signal-room = zeros-size zeros; blank = zeros-blank zeros })
+-- what is written on a network that has passed
+abbrev ListingWritten : List Line → List Entry → List ℕ → Result ℕ Refusal → List ℕ → Type 0
+ListingWritten network listing old answer new =
+    Told (plan_text network listing) (or_else (verdict (listing_checks network listing)) (room_verdict 24 (plan_text network listing) old)) old answer new
 
-  module _ (phases signals : List ℕ) (r : Result Reading Refusal) (g : Judged (block_checks (signal_block (lines text))) (SignalsHeld text phases signals) r) where
-    pub signals-stopped : (listing : List Entry) (old : List ℕ) (q : Refusal) → r ≡ Err q → ListingWritten (lines text) listing old (Err q) old
-    unfolding stage_verdict
-    signals-stopped listing old q e =
-        let v : Err q ≡ verdict (block_checks (signal_block (lines text))) = ap stage_verdict (sym e) ∙ g.told in
-        let p = signals-pass (lines text) a.holds in
-        let z : ◌≡◌ {A = ℕ} 0 1 = cc in
-        absurd (omega arith)
+module _ {text : List ℕ} {signals : List Signal} {links : List Link} {movements : List Movement} {times₀ : List ℕ} {reading : Reading} (loaded : Loaded text signals links movements times₀ reading)
+    {times : List ℕ} (shifted : Shifted times₀ reading.counts.past reading.counts.steps times) where
+  plan-table : PlanTimes (lines text) times
+  plan-table = plan-times loaded.counted loaded.holds loaded.time-table shifted
 
-    module _ (next : Reading) (e : r ≡ Ok next) where
-      table : PhaseTable (lines text) phases
-      table = (g.held next e).phase-table
+  pub tables-fit : TablesFit reading.counts signals times
+  tables-fit =
+      let c = loaded.counted in
+      let t = plan-table in
+      record {
+        few = c.few;
+        signal-room = loaded.signal-table.size;
+        few-phases = λ r h. loaded.few-phases.few r (omega (arith, c.signals));
+        time-room = t.size;
+        short = λ n h. omega (arith, t.holds n (omega (arith, c.steps)), t.holds (n + 1) (omega (arith, c.steps)), time-next (lines text) n, (step-limits (lines text) (valid-network (lines text) loaded.holds) n (omega (arith, c.steps))).length-limit);
+      }
 
-      pub tables-fit : TablesFit reading.counts phases times
-      tables-fit =
-          let c = a.counted in
-          let t = a.time-table in
-          record {
-            few = c.few;
-            phase-room = table.size;
-            few-phases = λ r h. table.few r (omega (arith, c.signals));
-            time-room = t.size;
-            short = λ n h. omega (arith, t.holds n (omega (arith, c.steps)), t.holds (n + 1) (omega (arith, c.steps)), time-next (lines text) n, (step-limits (lines text) (valid-network (lines text) a.holds) n (omega (arith, c.steps))).length-limit);
-          }
+  network-written : (listing : List Entry) (old : List ℕ) (answer : Result ℕ Refusal) (new : List ℕ) → WriteGot reading.counts signals times listing old answer new → ListingWritten (lines text) listing old answer new
+  network-written listing old answer new w = go (verdict (listing_checks (lines text) listing)) refl
+    where
+      same : verdict (each (length listing) (entry_checks_by (has_in reading.counts signals) (seconds_in times) listing)) ≡ verdict (listing_checks (lines text) listing)
+      same = verdict-same (lines text) reading.counts signals times loaded.counted loaded.signal-table plan-table listing
 
-      pub network-written : (listing : List Entry) (old : List ℕ) (answer : Result ℕ Refusal) (new : List ℕ) → WriteGot reading.counts phases times listing old answer new → ListingWritten (lines text) listing old answer new
-      network-written listing old answer new w = go (verdict (listing_checks (lines text) listing)) refl
-        where
-          same : verdict (each (length listing) (entry_checks_by (has_in reading.counts phases) (seconds_in times) listing)) ≡ verdict (listing_checks (lines text) listing)
-          same = verdict-same (lines text) reading.counts phases times a.counted table a.time-table listing
-
-          go : (v : Verdict) → verdict (listing_checks (lines text) listing) ≡ v → Told (plan_text (lines text) listing) (or_else v (room_verdict 24 (plan_text (lines text) listing) old)) old answer new
-          go (Ok tt) q =
-              let k = w.passed (same ∙ q) in
-              let t : plan_lines k.0 line_size reading.counts ≡ plan_text (lines text) listing = text_same (lines text) reading.counts phases times a.counted table a.time-table listing k.0 k.1 k.2 in
-              or-passes (plan_text (lines text) listing) old answer new (rw t at k.3)
-          go (Err r) q = let s = w.stopped r (same ∙ q) in or-refused (plan_text (lines text) listing) old answer new r s.0 s.1
+      go : (v : Verdict) → verdict (listing_checks (lines text) listing) ≡ v → Told (plan_text (lines text) listing) (or_else v (room_verdict 24 (plan_text (lines text) listing) old)) old answer new
+      go (Ok tt) q =
+          let k = w.passed (same ∙ q) in
+          let t : plan_lines k.0 line_size reading.counts ≡ plan_text (lines text) listing = text_same (lines text) reading.counts signals times loaded.counted loaded.signal-table plan-table listing k.0 k.1 k.2 in
+          or-passes (plan_text (lines text) listing) old answer new (rw t at k.3)
+      go (Err r) q = let s = w.stopped r (same ∙ q) in or-refused (plan_text (lines text) listing) old answer new r s.0 s.1
 
 -- ---- the whole call
 pub write-numbered : (network : List Line) (listing : List Entry) (size : ℕ) → Numbered listing_numbers (write_checks network listing size)
@@ -122,19 +109,15 @@ unfolding plan_from_listing
 answer-number network listing size r h =
     refused-number listing_numbers (write_checks network listing size) r (write-numbered network listing size) (refused-of-answer (plan_text network listing) _ r h)
 
-module _ (text : List ℕ) (r : Result Reading Refusal) (links movements times : List ℕ) (g : Judged (network_checks (lines text)) (Loaded text links movements times) r) where
-  pub times-asked : (reading : Reading) → r ≡ Ok reading → ShiftAsked times reading.counts.past reading.counts.steps
-  times-asked reading e = let l = g.held reading e in shift-asked l.counted l.holds l.time-table
-
-  pub plan-asked : (reading : Reading) → r ≡ Ok reading → (after : List ℕ) → Shifted times reading.counts.past reading.counts.steps after → NetworkAsked text reading after
-  plan-asked reading e after s =
-      let l = g.held reading e in
-      record { counted = l.counted; trams-start = l.trams-start; signals-start = l.signals-start; time-table = plan-times l.counted l.holds l.time-table s; holds = l.holds }
+module _ {text : List ℕ} {r : Result Reading Refusal} {signals : List Signal} {links : List Link} {movements : List Movement} {times : List ℕ}
+    (g : Judged (network_checks (lines text)) (Loaded text signals links movements times) r) where
+  pub times-asked : {reading : Reading} → r ≡ Ok reading → ShiftAsked times reading.counts.past reading.counts.steps
+  times-asked {reading} e = let l = g.held reading e in shift-asked l.counted l.holds l.time-table
 
   module _ (listing : List Entry) (old : List ℕ) where
-    pub plan-refused : (q : Refusal) → r ≡ Err q → PlanGot (lines text) listing old (Err q) old
+    pub plan-refused : {q : Refusal} → r ≡ Err q → PlanGot (lines text) listing old (Err q) old
     unfolding stage_verdict write_checks verdict plan_from_listing buffer_after text_answer bytes_after
-    plan-refused q e =
+    plan-refused {q} e =
         let v : verdict (network_checks (lines text)) ≡ Err q = sym g.told ∙ ap stage_verdict e in
         let o = or-else-refused (verdict (network_checks (lines text))) (or_else (verdict (listing_checks (lines text) listing)) (room_verdict 24 (plan_text (lines text) listing) old)) q v in
         let t : Err q ≡ plan_from_listing (lines text) listing (length old) = sym (ap (text_answer (plan_text (lines text) listing)) o) in
@@ -146,9 +129,9 @@ module _ (text : List ℕ) (r : Result Reading Refusal) (links movements times :
           refused-number = λ r e. answer-number (lines text) listing (length old) r (sym t ∙ e);
         }
 
-    pub plan-written : (reading : Reading) → r ≡ Ok reading → (answer : Result ℕ Refusal) (new : List ℕ) → ListingWritten (lines text) listing old answer new → PlanGot (lines text) listing old answer new
+    listing-written : (reading : Reading) → r ≡ Ok reading → (answer : Result ℕ Refusal) (new : List ℕ) → ListingWritten (lines text) listing old answer new → PlanGot (lines text) listing old answer new
     unfolding write_checks verdict plan_from_listing buffer_after
-    plan-written reading e answer new w =
+    listing-written reading e answer new w =
         let loaded = g.held reading e in
         let o = or-else-passes (verdict (network_checks (lines text))) (or_else (verdict (listing_checks (lines text) listing)) (room_verdict 24 (plan_text (lines text) listing) old)) (passes-of-hold (network_checks (lines text)) loaded.holds) in
         let t : answer ≡ plan_from_listing (lines text) listing (length old) = w.answered ∙ ap (text_answer (plan_text (lines text) listing)) (sym o) in
@@ -165,6 +148,10 @@ module _ (text : List ℕ) (r : Result Reading Refusal) (links movements times :
 
         passed : (end : ℕ) → answer ≡ Ok end → Hold (listing_checks (lines text) listing)
         passed end q = hold-of-passes (listing_checks (lines text) listing) (parts end q).0
+
+    pub plan-written : {reading : Reading} → r ≡ Ok reading → {times' : List ℕ} → Shifted times reading.counts.past reading.counts.steps times' → {answer : Result ℕ Refusal} {new : List ℕ}
+        → WriteGot reading.counts signals times' listing old answer new → PlanGot (lines text) listing old answer new
+    plan-written {reading} e shifted {answer} {new} got = listing-written reading e answer new (network-written (g.held reading e) shifted listing old answer new got)
 
 -- the same of a network that differs only in padding
 pub padding-too : (text : List ℕ) {listing : List Entry} {old new : List ℕ} {answer : Result ℕ Refusal} → PlanGot (lines text) listing old answer new

@@ -4,6 +4,7 @@ use Rattle.std.proofs.lemmas.Bool.Decides.{nat_tests}
 use Rattle.base_laws.specs.Test.{◌and◌}
 use Rattle.base_laws.proofs.Tests.{within-parts}
 use Rattle.model.specs.Network.{max_steps, max_signals}
+use Rattle.model.specs.declared.Signal.{Signal}
 use Rattle.network_tables.specs.declared.Counts.{Counts}
 use Rattle.network_tables.specs.Fields.{line_size}
 use Rattle.listing_lines.specs.declared.Variable.{Variable}
@@ -74,8 +75,8 @@ mask-only w n r p l m e =
     mask-column w n r p m (omega arith) (omega arith)
 
 -- ---- what the network has is placed
-module _ (counts : Counts) (phases times : List ℕ) (fit : TablesFit counts phases times) where
-  pub has-placed : (v : Variable) → has_in counts phases v ≡ true → Placed v
+module _ (counts : Counts) (signals : List Signal) (times : List ℕ) (fit : TablesFit counts signals times) where
+  pub has-placed : (v : Variable) → has_in counts signals v ≡ true → Placed v
   unfolding ◌and◌
   has-placed v h = grind (arith, within-parts)
 

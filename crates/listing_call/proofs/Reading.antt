@@ -7,6 +7,7 @@ use Rattle.base_search.specs.declared.Refusal.{Refusal}
 use Rattle.base_search.specs.Checks.{Verdict, refusal, or_else, checked, verdict}
 use Rattle.base_search.proofs.Laws.{first-stop, first_passes}
 use Rattle.text_reader.specs.Field.{largest}
+use Rattle.model.specs.declared.Signal.{Signal}
 use Rattle.base_laws.specs.Test.{◌and◌}
 use Rattle.step_arrivals.specs.Arrivals.{seconds_in}
 use Rattle.network_tables.specs.declared.Counts.{Counts}
@@ -45,44 +46,44 @@ unfolding bit
 mark-test t x e = grind (arith, nat_tests)
 
 -- what is added, and where
-record Added (counts : Counts) (phases times seen : List ℕ) (s : Setting) (p : Place) (x : ℕ) : Type 0 where
-  known : has_in counts phases s.variable ≡ true
+record Added (counts : Counts) (signals : List Signal) (times seen : List ℕ) (s : Setting) (p : Place) (x : ℕ) : Type 0 where
+  known : has_in counts signals s.variable ≡ true
   bit : p.bit ≡ bit_place s.variable
   number : p.number ≡ place s.variable
   free : bit_at seen p.bit ≡ 0
   adds : number_in s.variable s.millionths (seconds_in times (step_of s.variable - 1)) ≡ Some x
 
-module _ (counts : Counts) (phases times seen : List ℕ) where
-  added : (line : ℕ) (s : Setting) (p : Place) (x : ℕ) → outcome counts phases times seen line s ≡ Ok (p, x) → Added counts phases times seen s p x
+module _ (counts : Counts) (signals : List Signal) (times seen : List ℕ) where
+  added : (line : ℕ) (s : Setting) (p : Place) (x : ℕ) → outcome counts signals times seen line s ≡ Ok (p, x) → Added counts signals times seen s p x
   unfolding outcome ◌and◌
   added line s p x e = grind (arith, nat_tests)
 
   module _ (listing : List Entry) (i : ℕ) (numbers : List ℕ) (kept : Stored (seconds_in times) listing i numbers seen) (s : Setting) (e : line_at listing i ≡ Some s)
-      (placed : has_in counts phases s.variable ≡ true → Placed s.variable) where
-    formed-same : has_in counts phases s.variable and valid_value s.variable s.millionths and not (set_before listing i s.variable)
-        ≡ has_in counts phases s.variable and valid_value s.variable s.millionths and eqb (bit_at seen (bit_place s.variable)) 0
-    formed-same = let m : has_in counts phases s.variable ≡ true → not (set_before listing i s.variable) ≡ eqb (bit_at seen (bit_place s.variable)) 0 = λ h. mark-test _ _ (kept.marks s.variable (placed h)) in grind (arith, tests, m)
+      (placed : has_in counts signals s.variable ≡ true → Placed s.variable) where
+    formed-same : has_in counts signals s.variable and valid_value s.variable s.millionths and not (set_before listing i s.variable)
+        ≡ has_in counts signals s.variable and valid_value s.variable s.millionths and eqb (bit_at seen (bit_place s.variable)) 0
+    formed-same = let m : has_in counts signals s.variable ≡ true → not (set_before listing i s.variable) ≡ eqb (bit_at seen (bit_place s.variable)) 0 = λ h. mark-test _ _ (kept.marks s.variable (placed h)) in grind (arith, tests, m)
 
-    told : verdict (entry_checks_by (has_in counts phases) (seconds_in times) listing i) ≡ as_verdict (outcome counts phases times seen (suc i) s)
+    told : verdict (entry_checks_by (has_in counts signals) (seconds_in times) listing i) ≡ as_verdict (outcome counts signals times seen (suc i) s)
     unfolding entry_checks_by verdict outcome formed_by fits_by
     told = rw (e, formed-same, fits_some s.variable s.millionths (seconds_in times (step_of s.variable - 1))) (outcome-told (suc i) _ (spot s.variable) _)
 
 -- ---- the loop
-abbrev line_verdict : Counts → List ℕ → List ℕ → List ℕ → ℕ → Verdict
-line_verdict counts phases times text i = verdict (entry_checks_by (has_in counts phases) (seconds_in times) (entries text) i)
+abbrev line_verdict : Counts → List Signal → List ℕ → List ℕ → ℕ → Verdict
+line_verdict counts signals times text i = verdict (entry_checks_by (has_in counts signals) (seconds_in times) (entries text) i)
 
-pub record Reading (counts : Counts) (phases times text : List ℕ) (numbers seen : List ℕ) (at line : ℕ) : Type 0 where
+pub record Reading (counts : Counts) (signals : List Signal) (times text : List ℕ) (numbers seen : List ℕ) (at line : ℕ) : Type 0 where
   pub kept : Stored (seconds_in times) (entries text) line numbers seen
   pub starts : EntryStarts text at line
-  pub passed : (k : ℕ) → k < line → line_verdict counts phases times text k ≡ Ok tt
+  pub passed : (k : ℕ) → k < line → line_verdict counts signals times text k ≡ Ok tt
   pub within : line ≤ length (entries text)
   pub few : line ≤ bits
 
-abbrev pub GotListing : Counts → List ℕ → List ℕ → List ℕ → Verdict → List ℕ → List ℕ → Type 0
-GotListing counts phases times text r numbers seen = ListingGot (has_in counts phases) (seconds_in times) (entries text) r numbers seen
+abbrev pub GotListing : Counts → List Signal → List ℕ → List ℕ → Verdict → List ℕ → List ℕ → Type 0
+GotListing counts signals times text r numbers seen = ListingGot (has_in counts signals) (seconds_in times) (entries text) r numbers seen
 
-module _ (counts : Counts) (phases times text : List ℕ) (numbers seen : List ℕ) where
-  pub reading-none : Empty numbers seen → Reading counts phases times text numbers seen 0 0
+module _ (counts : Counts) (signals : List Signal) (times text : List ℕ) (numbers seen : List ℕ) where
+  pub reading-none : Empty numbers seen → Reading counts signals times text numbers seen 0 0
   reading-none a =
       record {
         kept = stored-none (seconds_in times) (entries text) numbers seen a;
@@ -92,53 +93,53 @@ module _ (counts : Counts) (phases times text : List ℕ) (numbers seen : List �
         few = omega arith;
       }
 
-  module _ (at i : ℕ) (inv : Reading counts phases times text numbers seen at i) where
-    refused : (r : Refusal) → i < length (entries text) → line_verdict counts phases times text i ≡ Err r → GotListing counts phases times text (Err r) numbers seen
+  module _ (at i : ℕ) (inv : Reading counts signals times text numbers seen at i) where
+    refused : (r : Refusal) → i < length (entries text) → line_verdict counts signals times text i ≡ Err r → GotListing counts signals times text (Err r) numbers seen
     unfolding verdict
     refused r l e =
         record {
-          told = sym (first-stop (line_verdict counts phases times text) (length (entries text)) i r inv.passed l e);
+          told = sym (first-stop (line_verdict counts signals times text) (length (entries text)) i r inv.passed l e);
           kept = λ z. cc;
         }
 
-    pub reading-done : length text ≤ at → GotListing counts phases times text (Ok tt) numbers seen
+    pub reading-done : length text ≤ at → GotListing counts signals times text (Ok tt) numbers seen
     unfolding verdict
     reading-done h =
         let z : i ≡ length (entries text) = omega (arith, entry-end text at i inv.starts h, inv.within) in
         record {
-          told = sym (first_passes (line_verdict counts phases times text) (length (entries text)) (λ k l. inv.passed k (omega arith)));
+          told = sym (first_passes (line_verdict counts signals times text) (length (entries text)) (λ k l. inv.passed k (omega arith)));
           kept = λ y. rw z at inv.kept;
         }
 
     module _ (h : at < length text) where
-      pub reading-bad : read_at text at ≡ None → GotListing counts phases times text (Err (refusal 22 (i + 1) 0)) numbers seen
+      pub reading-bad : read_at text at ≡ None → GotListing counts signals times text (Err (refusal 22 (i + 1) 0)) numbers seen
       reading-bad e =
-          rw add-one (refused (refusal 22 (suc i) 0) (entry-within text at i inv.starts h) (bad-line (has_in counts phases) (seconds_in times) (entries text) i (read-malformed text at i inv.starts e)))
+          rw add-one (refused (refusal 22 (suc i) 0) (entry-within text at i inv.starts h) (bad-line (has_in counts signals) (seconds_in times) (entries text) i (read-malformed text at i inv.starts e)))
 
-      module _ (s : Setting) (next : ℕ) (e : read_at text at ≡ Some (s, next)) (fit : TablesFit counts phases times) where
+      module _ (s : Setting) (next : ℕ) (e : read_at text at ≡ Some (s, next)) (fit : TablesFit counts signals times) where
         read : Read text at i s next
         read = read-sets text at i inv.starts s next e
 
-        judged : line_verdict counts phases times text i ≡ as_verdict (outcome counts phases times seen (i + 1) s)
-        judged = rw add-one (told counts phases times seen (entries text) i numbers inv.kept s read.line (has-placed counts phases times fit s.variable))
+        judged : line_verdict counts signals times text i ≡ as_verdict (outcome counts signals times seen (i + 1) s)
+        judged = rw add-one (told counts signals times seen (entries text) i numbers inv.kept s read.line (has-placed counts signals times fit s.variable))
 
-        pub reading-stop : (r : Refusal) → outcome counts phases times seen (i + 1) s ≡ Err r → GotListing counts phases times text (Err r) numbers seen
+        pub reading-stop : (r : Refusal) → outcome counts signals times seen (i + 1) s ≡ Err r → GotListing counts signals times text (Err r) numbers seen
         unfolding as_verdict
         reading-stop r g = refused r (entry-within text at i inv.starts h) (judged ∙ rw g)
 
-        module _ (p : Place) (x : ℕ) (g : outcome counts phases times seen (i + 1) s ≡ Ok (p, x)) where
-          adds : Added counts phases times seen s p x
-          adds = added counts phases times seen (i + 1) s p x g
+        module _ (p : Place) (x : ℕ) (g : outcome counts signals times seen (i + 1) s ≡ Ok (p, x)) where
+          adds : Added counts signals times seen s p x
+          adds = added counts signals times seen (i + 1) s p x g
 
           more : Grown (seconds_in times) (entries text) i numbers seen p.bit p.number x
           more =
-              grown (seconds_in times) (entries text) i numbers seen inv.kept s.variable s.millionths read.line (has-placed counts phases times fit s.variable adds.known)
+              grown (seconds_in times) (entries text) i numbers seen inv.kept s.variable s.millionths read.line (has-placed counts signals times fit s.variable adds.known)
               p.bit p.number x adds.bit adds.number adds.free adds.adds
 
           pub adds-fit : get_or numbers p.number 0 + x ≤ largest
           adds-fit = more.fits
 
-          pub reading-more : Reading counts phases times text (set numbers p.number (get_or numbers p.number 0 + x)) (with_bit seen p.bit) next (i + 1)
+          pub reading-more : Reading counts signals times text (set numbers p.number (get_or numbers p.number 0 + x)) (with_bit seen p.bit) next (i + 1)
           unfolding as_verdict
           reading-more =
               record {

@@ -6,13 +6,14 @@ use Rattle.text_reader.specs.Lines.{Line}
 use Rattle.text_writer.specs.Records.{record_texts}
 use Rattle.text_writer.proofs.Laws.{records-same}
 use Rattle.base_laws.specs.Sum.{sum}
-use Rattle.model.specs.Network.{link_count, signal_count, movement_count, step_count, step_length, time}
+use Rattle.model.specs.declared.Signal.{Signal}
+use Rattle.model.specs.Network.{link_count, signal_count, movement_count, step_count, signal, step_length, time}
 use Rattle.model.specs.Table.{letter_p}
 use Rattle.network_tables.specs.declared.Counts.{Counts}
 use Rattle.network_tables.specs.Places.{plan_width}
-use Rattle.network_tables.specs.Tables.{CountsHold, PhaseTable}
+use Rattle.network_tables.specs.Tables.{CountsHold, SignalTable}
 use Rattle.step_arrivals.specs.Times.{PlanTimes}
-use Rattle.network_tables.specs.Fields.{line_size}
+use Rattle.network_tables.specs.Fields.{line_size, signal_at}
 use Rattle.listing_lines.specs.declared.Variable.{Variable}
 use Rattle.listing_lines.specs.declared.Variable.TheVariants.{Admitted, LetOut, Moved}
 use Rattle.listing_lines.specs.Entry.{Entry}
@@ -46,10 +47,13 @@ checks-same has has' sec sec' listing h s =
     first-same _ _ (length listing) 0 (λ k _ _. entry-same has has' sec sec' listing k (line_at listing k) h s)
 
 -- ---- the tables of a network
-module _ (network : List Line) (counts : Counts) (phases times : List ℕ) (c : CountsHold network counts) (p : PhaseTable network phases) (t : PlanTimes network times) where
-  has_same : (v : Variable) → has_in counts phases v ≡ has_variable network v
+module _ (network : List Line) (counts : Counts) (signals : List Signal) (times : List ℕ) (c : CountsHold network counts) (p : SignalTable network signals) (t : PlanTimes network times) where
+  phases-same : (r : ℕ) → r < signal_count network → (signal_at signals r).phases ≡ (signal network r).phases
+  phases-same r h = ap (λ (s : Signal). s.phases) (p.holds r h)
+
+  has_same : (v : Variable) → has_in counts signals v ≡ has_variable network v
   unfolding has_variable
-  has_same v = grind (arith, tests, nat_tests, c.steps, c.signals, c.links, c.movements, p.holds)
+  has_same v = grind (arith, tests, nat_tests, c.steps, c.signals, c.links, c.movements, phases-same)
 
   seconds-same : (n : ℕ) → n < step_count network → seconds_in times n ≡ step_length network n
   seconds-same n h = rw (t.holds (n + 1) (omega arith), t.holds n (omega arith)) (time-step network n)
@@ -58,10 +62,10 @@ module _ (network : List Line) (counts : Counts) (phases times : List ℕ) (c : 
   unfolding has_variable step_of
   step-of v h = grind (arith, tests, nat_tests)
 
-  pub verdict-same : (listing : List Entry) → verdict (each (length listing) (entry_checks_by (has_in counts phases) (seconds_in times) listing)) ≡ verdict (listing_checks network listing)
+  pub verdict-same : (listing : List Entry) → verdict (each (length listing) (entry_checks_by (has_in counts signals) (seconds_in times) listing)) ≡ verdict (listing_checks network listing)
   unfolding listing_checks
   verdict-same listing =
-      checks-same (has_in counts phases) (has_variable network) (seconds_in times) (step_length network) listing has_same (λ v h. seconds-same (step_of v - 1) (omega (arith, step-of v (sym (has_same v) ∙ h))))
+      checks-same (has_in counts signals) (has_variable network) (seconds_in times) (step_length network) listing has_same (λ v h. seconds-same (step_of v - 1) (omega (arith, step-of v (sym (has_same v) ∙ h))))
 
   module _ (listing : List Entry) (numbers seen : List ℕ) (st : Stored (seconds_in times) listing (length listing) numbers seen) (n : ℕ) (h : n < step_count network) where
     mask-same : (r : ℕ) → r < signal_count network → get_or numbers (line_size * n + column_in counts r) 0 ≡ mask_of network listing n r

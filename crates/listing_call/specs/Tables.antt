@@ -5,11 +5,12 @@ use Rattle.base_search.specs.declared.Refusal.{Refusal}
 use Rattle.base_search.specs.Checks.{Verdict, refusal, each, verdict}
 use Rattle.base_laws.specs.Test.{◌and◌, within}
 use Rattle.base_laws.specs.Sum.{sum, only}
+use Rattle.model.specs.declared.Signal.{Signal}
 use Rattle.model.specs.Network.{max_signals, max_steps, max_links, max_movements}
 use Rattle.step_arrivals.specs.Arrivals.{seconds_in}
 use Rattle.network_tables.specs.declared.Counts.{Counts}
 use Rattle.network_tables.specs.Places.{Few}
-use Rattle.network_tables.specs.Fields.{line_size}
+use Rattle.network_tables.specs.Fields.{line_size, signal_at}
 use Rattle.listing_lines.specs.declared.Variable.{Variable}
 use Rattle.listing_lines.specs.declared.Variable.TheVariants.{Shown, Admitted, LetOut, Moved}
 use Rattle.listing_lines.specs.declared.Setting.{Setting}
@@ -65,11 +66,11 @@ Placed (Moved j n) = (1 ≤ n) × (n ≤ max_steps) × (1 ≤ j) × (j ≤ max_m
 abbrev pub index_in : ℕ → ℕ → Option ℕ
 index_in number count = cond (within 1 number count) (Some (number - 1)) None
 
-abbrev pub has_in : Counts → List ℕ → Variable → Bool
-has_in counts phases (Shown r k n) = within 1 r counts.signals and within 1 k (get_or phases (r - 1) 0) and within 1 n counts.steps
-has_in counts phases (Admitted i n) = within 1 i counts.links and within 1 n counts.steps
-has_in counts phases (LetOut i n) = within 1 i counts.links and within 1 n counts.steps
-has_in counts phases (Moved j n) = within 1 j counts.movements and within 1 n counts.steps
+abbrev pub has_in : Counts → List Signal → Variable → Bool
+has_in counts signals (Shown r k n) = within 1 r counts.signals and within 1 k (signal_at signals (r - 1)).phases and within 1 n counts.steps
+has_in counts signals (Admitted i n) = within 1 i counts.links and within 1 n counts.steps
+has_in counts signals (LetOut i n) = within 1 i counts.links and within 1 n counts.steps
+has_in counts signals (Moved j n) = within 1 j counts.movements and within 1 n counts.steps
 
 -- a place by its columns, where the network has the step
 abbrev pub place_in : ℕ → ℕ → ℕ → ℕ → Option Place
@@ -79,8 +80,8 @@ place_in steps n bit number = option_map (λ step. record { step = step; bit = s
 abbrev pub spot : Variable → Place
 spot v = record { step = step_of v - 1; bit = bit_place v; number = place v }
 
-abbrev pub place_of : Counts → List ℕ → Variable → Option Place
-place_of counts phases v = cond (has_in counts phases v) (Some (spot v)) None
+abbrev pub place_of : Counts → List Signal → Variable → Option Place
+place_of counts signals v = cond (has_in counts signals v) (Some (spot v)) None
 
 -- it lies inside the tables
 pub record Inside (counts : Counts) (place : Place) : Type 0 where
@@ -111,9 +112,9 @@ number_in (LetOut i n) millionths seconds = volume_in millionths seconds
 number_in (Moved j n) millionths seconds = volume_in millionths seconds
 
 -- what a line adds to which place, by the bits of the variables that were set before; or its refusal
-unfoldable pub outcome : Counts → List ℕ → List ℕ → List ℕ → ℕ → Setting → Result (Place × ℕ) Refusal
-outcome counts phases times seen line s =
-    cond (has_in counts phases s.variable and valid_value s.variable s.millionths and eqb (bit_at seen (bit_place s.variable)) 0)
+unfoldable pub outcome : Counts → List Signal → List ℕ → List ℕ → ℕ → Setting → Result (Place × ℕ) Refusal
+outcome counts signals times seen line s =
+    cond (has_in counts signals s.variable and valid_value s.variable s.millionths and eqb (bit_at seen (bit_place s.variable)) 0)
     (ok_or (option_map (λ x. (spot s.variable, x)) (number_in s.variable s.millionths (seconds_in times (step_of s.variable - 1)))) (refusal 23 line 0))
     (Err (refusal 22 line 0))
 
@@ -139,10 +140,10 @@ pub record Stored (seconds : ℕ → ℕ) (listing : List Entry) (i : ℕ) (numb
   pub counted : sum bits (bit_at seen) ≡ i
 
 -- ---- what the functions ask and promise
-pub record TablesFit (counts : Counts) (phases times : List ℕ) : Type 0 where
+pub record TablesFit (counts : Counts) (signals : List Signal) (times : List ℕ) : Type 0 where
   pub few : Few counts
-  pub phase-room : length phases ≡ 8
-  pub few-phases : (r : ℕ) → r < counts.signals → get_or phases r 0 ≤ 8
+  pub signal-room : length signals ≡ 8
+  pub few-phases : (r : ℕ) → r < counts.signals → (signal_at signals r).phases ≤ 8
   pub time-room : length times ≡ 121
   pub short : (n : ℕ) → n < counts.steps → get_or times (n + 1) 0 ≤ get_or times n 0 + 60
 

@@ -10,13 +10,14 @@ ghost use Rattle.listing_lines.specs.Entry.{entries};
 ghost use Rattle.listing_call.specs.Listing.{valid_value};
 ghost use Rattle.listing_call.specs.ReadsBack.{PlanGot};
 ghost use Rattle.listing_call.specs.Tables.{has_in, index_in, place_in, place_of, Inside, bit_at, with_bit, phase_bit, volume_in, number_in, outcome, TablesFit, seen_size, step_bits, Empty, ListingGot};
-ghost use Rattle.listing_call.specs.Writing.{WriteGot, NetworkAsked, ListingWritten};
+ghost use Rattle.listing_call.specs.Writing.{WriteGot};
 
 use base_search::Refusal;
 use listing_lines::{Setting, Variable};
+use model::Signal;
 use network_tables::{
-    Counts, LINE_SIZE, LINK_TABLE_SIZE, MAX_LINKS, MAX_MOVEMENTS, MAX_SIGNALS, MAX_STEPS,
-    MOVEMENT_TABLE_SIZE, Reading, SIGNAL_TABLE_SIZE, TIME_TABLE_SIZE,
+    Counts, LINE_SIZE, Link, MAX_LINKS, MAX_MOVEMENTS, MAX_SIGNALS, MAX_STEPS, Movement,
+    TIME_TABLE_SIZE,
 };
 
 // How many variables a step has at most: a signal's phases, 8 at most, and what is admitted, let out and moved.
@@ -35,14 +36,13 @@ struct Place {
     number: usize,
 }
 
-// What a listing is judged by: the counts of a network, the number of phases of each signal, and the times of the plan's boundaries. All are lent: no table
-// is copied.
+// What a listing is judged by: the counts and the signals of a network, and the times of the plan's boundaries. All are lent: no table is copied.
 #[derive(Clone, Copy)]
 struct Tables<'a> {
     counts: Counts,
-    phases: &'a [u32],
+    signals: &'a [Signal],
     times: &'a [u32],
-    ghost fit: { TablesFit counts phases.now times.now },
+    ghost fit: { TablesFit counts signals.now times.now },
 }
 
 // A number counted from 1 to `count`, from 0.
@@ -75,7 +75,7 @@ impl Tables<'_> {
     // The place of a variable, where the network has what it names.
     #[tactic(auto, using(crate::proofs::Tests::tests), unfolding(crate::specs::Listing::step_of))]
     fn place_of(&self, variable: Variable) -> Option<Place>
-        ensures value { result ≡ place_of self.now.counts self.now.phases.now variable }
+        ensures value { result ≡ place_of self.now.counts self.now.signals.now variable }
         ensures inside { IfSome result (λ place. Inside self.now.counts place) }
     {
         match variable {
@@ -85,7 +85,7 @@ impl Tables<'_> {
                 step,
             } => {
                 let signal = index_in(signal, self.counts.signals)?;
-                let phase = index_in(phase, self.phases[signal] as usize)?;
+                let phase = index_in(phase, self.signals[signal].phases as usize)?;
                 self.place_in(step, 8 * signal + phase, signal)
             }
             Variable::Admitted { link, step } => {
@@ -109,7 +109,7 @@ impl Tables<'_> {
         requires small { setting.millionths < 10 ^ 16 }
         requires seen_room { length seen.now ≡ seen_size }
         requires few_lines { line < 4294967296 }
-        ensures value { result ≡ outcome self.now.counts self.now.phases.now self.now.times.now seen.now line setting }
+        ensures value { result ≡ outcome self.now.counts self.now.signals.now self.now.times.now seen.now line setting }
         ensures inside { IfOk result (λ added. Inside self.now.counts added.0) }
     {
         let malformed = Refusal::new(22, line, 0);
@@ -125,10 +125,11 @@ impl Tables<'_> {
     // Reads a listing into empty tables, refusals 22 and 23: each line adds to one number and sets the bit of its variable.
     fn read_listing(&self, text: &[u8], numbers: &mut [u32], seen: &mut [u8]) -> Result<(), Refusal>
         requires { Empty numbers.old seen.old }
-        ensures { ListingGot (has_in self.now.counts self.now.phases.now) (seconds_in self.now.times.now) (entries text.now) result numbers.new seen.new }
+        ensures { ListingGot (has_in self.now.counts self.now.signals.now) (seconds_in self.now.times.now) (entries text.now) result numbers.new seen.new }
     {
         let mut at = 0;
         let mut line = 0;
+        // How many lines there are shows only as they are read, so that no `for` counts them.
         while at < text.len() {
             line += 1;
             let malformed = Refusal::new(22, line, 0);
@@ -143,7 +144,7 @@ impl Tables<'_> {
 
     // The listing on a network that has passed: refusals 22 to 24.
     fn write_listing(&self, listing: &[u8], out: &mut [u8]) -> Result<usize, Refusal>
-        ensures { WriteGot self.now.counts self.now.phases.now self.now.times.now (entries listing.now) out.old result out.new }
+        ensures { WriteGot self.now.counts self.now.signals.now self.now.times.now (entries listing.now) out.old result out.new }
     {
         let mut numbers = [0u32; NUMBER_TABLE_SIZE];
         let mut seen = [0u8; SEEN_SIZE];
@@ -217,38 +218,28 @@ fn number_of(setting: Setting, seconds: u32) -> Option<u32>
     }
 }
 
-// The listing on a network that has passed, whose `G` lines are read again for the number of phases of each signal.
-fn write_on_network(
-    network: &[u8],
-    reading: Reading,
-    listing: &[u8],
-    times: &[u32],
-    out: &mut [u8],
-) -> Result<usize, Refusal>
-    requires { NetworkAsked network.now reading times.now }
-    ensures { ListingWritten (lines network.now) (entries listing.now) out.old result out.new }
-{
-    let mut phases = [0u32; MAX_SIGNALS];
-    let mut signals = [0u32; SIGNAL_TABLE_SIZE];
-    let first = reading.moved_to(reading.signals_at);
-    network_signals::read_signals(network, first, &mut phases, &mut signals)?;
-    let tables = Tables {
-        counts: reading.counts,
-        phases: &phases,
-        times,
-    };
-    tables.write_listing(listing, out)
-}
-
 // The plan text of a solver's listing: refusals 1 to 6, 28 and 30, then 22 and 23 line by line, then 24.
 pub fn plan_from_listing(network: &[u8], listing: &[u8], out: &mut [u8]) -> Result<usize, Refusal>
     ensures plan_got { PlanGot (lines network.now) (entries listing.now) out.old result out.new }
     ensures padding_ignored { PaddingIgnored network.now (λ padded. PlanGot (lines padded) (entries listing.now) out.old result out.new) }
 {
-    let mut links = [0u32; LINK_TABLE_SIZE];
-    let mut movements = [0u32; MOVEMENT_TABLE_SIZE];
+    let mut signals = [Signal::default(); MAX_SIGNALS];
+    let mut links = [Link::default(); MAX_LINKS];
+    let mut movements = [Movement::default(); MAX_MOVEMENTS];
     let mut times = [0u32; TIME_TABLE_SIZE];
-    let reading = network::load_network(network, &mut links, &mut movements, &mut times)?;
-    step_arrivals::from_start(&mut times, reading.counts.past, reading.counts.steps);
-    write_on_network(network, reading, listing, &times, out)
+    let reading = network::read_network(
+        network,
+        &mut signals,
+        &mut links,
+        &mut movements,
+        &mut times,
+    )?;
+    let counts = reading.counts;
+    step_arrivals::from_start(&mut times, counts.past, counts.steps);
+    let tables = Tables {
+        counts,
+        signals: &signals,
+        times: &times,
+    };
+    tables.write_listing(listing, out)
 }

@@ -4,7 +4,7 @@
 
 // A signal (the paper's light): its `G` line, with the phase that it shows, for how many seconds, and the seconds since phase 1 last began.
 // `least` and `greatest` have phase k's times at k - 1.
-#[derive(Clone, Copy)]
+#[derive(Clone, Copy, Default)]
 pub struct Signal {
     pub least_cycle: u32,
     pub greatest_cycle: u32,

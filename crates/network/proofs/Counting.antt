@@ -1,7 +1,7 @@
--- The counts that a network's reading holds are those that the call tells.
+-- The counts that a network's reading holds are those that the call tells, and its verdict is that of the check.
 use Rattle.base_laws.proofs.Kit.{ℕ, ◌≡◌, refl, sym, ap, ◌∙◌, List, arith}
 use Rattle.base_search.specs.declared.Refusal.{Refusal}
-use Rattle.text_reader.specs.Lines.{Line, lines}
+use Rattle.text_reader.specs.Lines.{lines}
 use Rattle.text_reader.specs.Padding.{PaddingIgnored}
 use Rattle.text_reader.proofs.Padding.{same_lines}
 use Rattle.model.specs.Table.{network_checks}
@@ -9,16 +9,19 @@ use Rattle.model.specs.Calls.{check_network}
 use Rattle.model.specs.Guarantees.{NetworkPromises}
 use Rattle.model.proofs.Numbers.{network-promises}
 use Rattle.network_tables.specs.declared.Reading.{Reading}
-use Rattle.network_tables.specs.Places.{Few}
 use Rattle.network_tables.specs.Tables.{Judged}
 use Rattle.network_tables.proofs.Stages.{verdict-passed, verdict-refused}
+use Rattle.model.specs.declared.Signal.{Signal}
+use Rattle.network_tables.specs.declared.Link.{Link}
+use Rattle.network_tables.specs.declared.Movement.{Movement}
 use Rattle.network.specs.Loading.{Loaded}
 use Rattle.network_tables.specs.declared.Counts.{Counts}
-use Rattle.network.specs.Counting.{counts_of, counts_answer, count_network, CountPromises}
+use Rattle.network.specs.Counting.{counts_answer, count_network, CountPromises}
 use Rattle.std.specs.Prelude.{Result, Ok, Err}
 use Rattle.base_search.specs.Checks.{Verdict}
 
-module _ {text : List ℕ} {stage : Result Reading Refusal} {links movements times : List ℕ} (got : Judged (network_checks (lines text)) (Loaded text links movements times) stage) where
+module _ {text : List ℕ} {stage : Result Reading Refusal} {signals : List Signal} {links : List Link} {movements : List Movement} {times : List ℕ}
+    (got : Judged (network_checks (lines text)) (Loaded text signals links movements times) stage) where
   -- all that the call promises of its answer
   abbrev pub Promised : Result Counts Refusal → Type 0
   Promised answer = (answer ≡ count_network (lines text)) × (CountPromises answer × PaddingIgnored text (λ padded. answer ≡ count_network (lines padded)))
@@ -48,3 +51,29 @@ module _ {text : List ℕ} {stage : Result Reading Refusal} {links movements tim
         few = λ counts q. let z : ◌≡◌ {A = ℕ} 0 1 = cc in absurd (omega arith);
         refused-number = λ other q. let same : r ≡ other = cc in rw (← same) ((network-promises (lines text)).refused-number r refused);
       })
+
+-- ---- the verdict, by the counts
+module _ (text : List ℕ) where
+  -- all that the check promises of its verdict
+  abbrev pub Checked : Verdict → Type 0
+  Checked v = (v ≡ check_network (lines text)) × (NetworkPromises v × PaddingIgnored text (λ padded. v ≡ check_network (lines padded)))
+
+  checked : {v : Verdict} → v ≡ check_network (lines text) → Checked v
+  checked e = (e, (rw e (network-promises (lines text)), λ padded same. e ∙ ap check_network (same_lines text padded same)))
+
+  module _ {answer : Result Counts Refusal} (told : answer ≡ count_network (lines text)) where
+    pub check-passes : {counts : Counts} → answer ≡ Ok counts → Checked (Ok tt)
+    unfolding count_network counts_answer
+    check-passes e = checked (by (check_network (lines text)) (sym told ∙ e))
+      where
+        by : {counts : Counts} (v : Verdict) → counts_answer (lines text) v ≡ Ok counts → Ok tt ≡ v
+        by (Ok tt) a = refl
+        by (Err q) a = let z : ◌≡◌ {A = ℕ} 0 1 = cc in absurd (omega arith)
+
+    pub check-refused : {r : Refusal} → answer ≡ Err r → Checked (Err r)
+    unfolding count_network counts_answer
+    check-refused e = checked (by (check_network (lines text)) (sym told ∙ e))
+      where
+        by : {r : Refusal} (v : Verdict) → counts_answer (lines text) v ≡ Err r → Err r ≡ v
+        by (Ok tt) a = let z : ◌≡◌ {A = ℕ} 0 1 = cc in absurd (omega arith)
+        by {r} (Err q) a = let same : r ≡ q = cc in ap Err same

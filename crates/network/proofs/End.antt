@@ -1,5 +1,5 @@
 -- What comes after the `S` lines: the end of the text.
-use Rattle.base_laws.proofs.Kit.{ℕ, suc, ◌+◌, ◌-◌, ◌≤◌, ◌≡◌, refl, sym, ◌∙◌, Bool, true, false, List, arith, length}
+use Rattle.base_laws.proofs.Kit.{ℕ, suc, ◌+◌, ◌-◌, ◌≤◌, ◌≡◌, sym, ◌∙◌, Bool, true, false, List, arith, length}
 use Rattle.base_search.specs.declared.Refusal.{Refusal}
 use Rattle.base_search.specs.Checks.{refusal, Hold, verdict}
 use Rattle.base_search.proofs.Laws.{first-all, checked-passes, checked_refused, hold-of-passes}
@@ -11,9 +11,7 @@ use Rattle.model.specs.Table.{is_form, letter_s, step_checks}
 use Rattle.network_tables.specs.declared.Reading.{Reading}
 use Rattle.network_tables.specs.Places.{step_line_in}
 use Rattle.network_tables.specs.Blocks.{block_checks, step_block}
-use Rattle.network_tables.specs.Tables.{Judged}
 use Rattle.network_tables.proofs.Places.{record-within, step-line-is}
-use Rattle.network_tables.proofs.Stages.{judged-refused, judged-passed}
 use Rattle.network.specs.Loading.{end_checks, EndAsked}
 use Rattle.std.specs.Prelude.{Ok, Err}
 
@@ -26,14 +24,14 @@ lines-within network some e =
     omega (arith, record-within letter_s (1 + link_count network) network (step_line network last) h.0)
 
 module _ {text : List ℕ} {reading : Reading} (asked : EndAsked text reading) {ended : Bool} (e : ended ≡ at_end text reading.next) where
-  pub text-ended : ended ≡ true → Judged (end_checks (lines text)) (λ after. after ≡ reading) (Ok reading)
+  pub text-ended : ended ≡ true → Ok tt ≡ verdict (end_checks (lines text))
   unfolding verdict end_checks
-  text-ended n = judged-passed (checked-passes _ _ _ _ (sym (starts-end text reading.next _ asked.reached.starts asked.within) ∙ sym e ∙ n)) refl
+  text-ended n = sym (checked-passes _ _ _ _ (sym (starts-end text reading.next _ asked.reached.starts asked.within) ∙ sym e ∙ n))
 
   pub surplus-line : ended ≡ false → {line : ℕ} {q : Refusal} → line ≡ step_line_in reading.counts reading.counts.steps → q ≡ refusal 1 (line + 1) 0
-      → Judged (end_checks (lines text)) (λ after. after ≡ reading) (Err q)
+      → Err q ≡ verdict (end_checks (lines text))
   unfolding verdict end_checks
   surplus-line n {line} l t =
       let counted = asked.reached.counted in
       let told : line + 1 ≡ suc (step_line (lines text) (step_count (lines text))) = omega (arith, l, rw counted.steps at (step-line-is counted reading.counts.steps)) in
-      rw (t, told) (judged-refused (checked_refused _ _ _ _ (sym (starts-end text reading.next _ asked.reached.starts asked.within) ∙ sym e ∙ n)))
+      rw (t, told) (sym (checked_refused _ _ _ _ (sym (starts-end text reading.next _ asked.reached.starts asked.within) ∙ sym e ∙ n)))

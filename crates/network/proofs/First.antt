@@ -1,21 +1,22 @@
 -- The `T` lines, the `G` lines and the trams' phases, one after another.
-use Rattle.base_laws.proofs.Kit.{ℕ, ◌≡◌, refl, sym, ap, ◌∙◌, List, length}
+use Rattle.base_laws.proofs.Kit.{ℕ, ◌≡◌, refl, sym, ap, ◌∙◌, List}
 use Rattle.base_search.specs.declared.Refusal.{Refusal}
 use Rattle.base_search.specs.Checks.{Checks, each, or_else, ◌then◌, verdict, Verdict}
-use Rattle.base_search.proofs.Laws.{or-else-passes, or-else-refused}
 use Rattle.text_reader.specs.Lines.{Line, lines}
+use Rattle.model.specs.declared.Signal.{Signal}
 use Rattle.model.specs.Network.{tram_count}
 use Rattle.model.specs.Table.{tram_phase_checks}
 use Rattle.network_tables.specs.declared.Reading.{Reading}
 use Rattle.network_tables.specs.Blocks.{block_checks, tram_block, signal_block}
-use Rattle.network_tables.specs.Fields.{tram_table_size}
+use Rattle.network_tables.specs.declared.Tram.{Tram}
 use Rattle.network_tables.specs.Tables.{Judged}
-use Rattle.network_tables.proofs.Stages.{judged-refused, verdict-passed, verdict-refused}
-use Rattle.network_signals.specs.Stages.{SignalsAsked, SignalsHeld}
+use Rattle.network_tables.proofs.Stages.{judged-refused, judged-passed, verdict-passed, verdict-refused}
+use Rattle.network_signals.specs.Stages.{SignalsHeld}
 use Rattle.network_trams.specs.Trams.{phase_checks_in, PhasesAsked}
-use Rattle.network_trams.specs.Stages.{TramsAsked, TramsHeld}
+use Rattle.network_trams.specs.Stages.{TramsHeld}
 use Rattle.network_trams.proofs.Lines.{phases-asked, phases-checked}
-use Rattle.network.specs.Loading.{first_checks, FirstAsked}
+use Rattle.network.specs.Loading.{first_checks}
+use Rattle.network.proofs.Left.{on, stop}
 use Rattle.std.specs.Prelude.{Result, Ok, Err}
 
 -- ---- checks in order
@@ -34,35 +35,35 @@ first-joined network before rest =
     (ap (or_else (verdict (block_checks (tram_block network)))) (or-else-assoc _ _ (verdict rest)) ∙ or-else-assoc _ _ (verdict rest))
 
 -- ---- the stages
-module _ {text : List ℕ} {reading : Reading} {phases₀ signals₀ : List ℕ} (asked : FirstAsked text reading phases₀ signals₀) where
-  pub trams-asked : {trams : List ℕ} → length trams ≡ tram_table_size → TramsAsked text reading trams
-  trams-asked room = record { counted = asked.counted; starts = asked.starts; trams-start = asked.trams-start; room = room }
+module _ (text : List ℕ) where
+  abbrev from_phases : Checks
+  from_phases = each (tram_count (lines text)) (tram_phase_checks (lines text))
 
-  module _ {trams : List ℕ} {tracked : (Result Reading Refusal)} (j : Judged (block_checks (tram_block (lines text))) (TramsHeld text trams) tracked) where
-    pub trams-stop : {Held : Reading → Type 0} {r : Refusal} → tracked ≡ Err r → Judged (first_checks (lines text)) Held (Err r)
-    unfolding verdict
-    trams-stop {r = r} e = judged-refused (or-else-refused _ _ r (verdict-refused j e))
+  abbrev from_signals : Checks
+  from_signals = block_checks (signal_block (lines text)) then from_phases
 
-    module _ {at_signals : Reading} (e₁ : tracked ≡ Ok at_signals) where
-      pub signals-asked : SignalsAsked text at_signals phases₀ signals₀
-      signals-asked = let held = j.held _ e₁ in record { counted = held.counted; trams-start = held.trams-start; starts = held.starts; room = asked.room; signal-room = asked.signal-room; blank = asked.blank }
+module _ {text : List ℕ} {trams : List Tram} {tracked : Result Reading Refusal} (j : Judged (block_checks (tram_block (lines text))) (TramsHeld text trams) tracked) where
+  pub trams-stop : {Held : Reading → Type 0} {r : Refusal} → tracked ≡ Err r → Judged (first_checks (lines text)) Held (Err r)
+  trams-stop e = stop (first_checks (lines text)) _ (from_signals text) refl (verdict-refused j e)
 
-      module _ {phases table : List ℕ} {signals : (Result Reading Refusal)} (j₁ : Judged (block_checks (signal_block (lines text))) (SignalsHeld text phases table) signals) where
-        pub signals-stop : {Held : Reading → Type 0} {r : Refusal} → signals ≡ Err r → Judged (first_checks (lines text)) Held (Err r)
-        unfolding verdict
-        signals-stop {r = r} e = judged-refused (or-else-passes _ _ (verdict-passed j e₁) ∙ or-else-refused _ _ r (verdict-refused j₁ e))
+  module _ {at_signals : Reading} (e₁ : tracked ≡ Ok at_signals) where
+    left₁ : verdict (first_checks (lines text)) ≡ verdict (from_signals text)
+    left₁ = on (first_checks (lines text)) _ (from_signals text) refl (verdict-passed j e₁)
 
-        module _ {at_phases : Reading} (e₂ : signals ≡ Ok at_phases) where
-          pub tram-phases-asked : PhasesAsked trams phases at_phases.counts
-          tram-phases-asked = phases-asked (j.held _ e₁) (j₁.held _ e₂).phase-table (j₁.held _ e₂).reached.counted
+    module _ {signals : List Signal} {stage : Result Reading Refusal} (j₁ : Judged (block_checks (signal_block (lines text))) (SignalsHeld text signals) stage) where
+      pub signals-stop : {Held : Reading → Type 0} {r : Refusal} → stage ≡ Err r → Judged (first_checks (lines text)) Held (Err r)
+      signals-stop e = stop (first_checks (lines text)) _ (from_phases text) left₁ (verdict-refused j₁ e)
 
-          pub first-judged : {stage : (Result Reading Refusal)} → Judged (each at_phases.counts.trams (phase_checks_in trams phases at_phases.counts)) (λ after. after ≡ at_phases) stage
-              → Judged (first_checks (lines text)) (SignalsHeld text phases table) stage
-          unfolding verdict
-          first-judged jₚ =
-              record {
-                told =
-                    jₚ.told ∙ phases-checked (j.held _ e₁) (j₁.held _ e₂).phase-table (j₁.held _ e₂).reached.counted
-                    ∙ sym (or-else-passes _ _ (verdict-passed j e₁) ∙ or-else-passes _ _ (verdict-passed j₁ e₂));
-                held = λ after e. rw (jₚ.held after e) (j₁.held _ e₂);
-              }
+      module _ {at_phases : Reading} (e₂ : stage ≡ Ok at_phases) where
+        pub tram-phases-asked : PhasesAsked trams signals at_phases.counts
+        tram-phases-asked = phases-asked (j.held _ e₁) (j₁.held _ e₂).table (j₁.held _ e₂).reached.counted
+
+        module _ {said : Verdict} (told : said ≡ verdict (each at_phases.counts.trams (phase_checks_in trams signals at_phases.counts))) where
+          left₂ : verdict (first_checks (lines text)) ≡ said
+          left₂ = on (first_checks (lines text)) _ (from_phases text) left₁ (verdict-passed j₁ e₂) ∙ sym (told ∙ phases-checked (j.held _ e₁) (j₁.held _ e₂).table (j₁.held _ e₂).reached.counted)
+
+          pub phases-stop : {Held : Reading → Type 0} {r : Refusal} → said ≡ Err r → Judged (first_checks (lines text)) Held (Err r)
+          phases-stop e = judged-refused (left₂ ∙ e)
+
+          pub first-judged : said ≡ Ok tt → Judged (first_checks (lines text)) (SignalsHeld text signals) (Ok at_phases)
+          first-judged e = judged-passed (left₂ ∙ e) (j₁.held _ e₂)

@@ -1,6 +1,7 @@
+pub mod Loading
+mod Left
+mod End
 mod First
 mod Timeline
-mod End
 mod Chain
-pub mod Rooms
 mod Counting

@@ -1,24 +1,28 @@
 -- The `H` lines, the `S` lines, the end of the text and the past, one after another.
-use Rattle.base_laws.proofs.Kit.{ℕ, ◌≤◌, ◌<◌, ◌≡◌, sym, ◌∙◌, true, List, arith, leb-true, replicate, length-replicate, get_or-replicate}
+use Rattle.base_laws.proofs.Kit.{ℕ, ◌≤◌, ◌<◌, ◌≡◌, refl, sym, ◌∙◌, true, List, arith, leb-true, replicate, length-replicate, get_or-replicate}
 use Rattle.base_search.specs.declared.Refusal.{Refusal}
-use Rattle.base_search.specs.Checks.{Hold, verdict}
-use Rattle.base_search.proofs.Laws.{or-else-passes, or-else-refused, hold-of-passes}
+use Rattle.base_search.specs.Checks.{Checks, Verdict, Hold, ◌then◌, verdict}
+use Rattle.base_search.proofs.Laws.{hold-of-passes}
 use Rattle.text_reader.specs.Lines.{Line, lines}
 use Rattle.base_laws.specs.Test.{within}
 use Rattle.model.specs.Network.{max_links, link_count, on_timeline, capacity, standing, travel_time}
 use Rattle.model.specs.Rules.{valid_link, valid_past}
 use Rattle.model.specs.Table.{link_checks, past_checks}
 use Rattle.base_laws.proofs.Tests.{and_left, and_right}
+use Rattle.network_tables.specs.declared.Link.{Link}
+use Rattle.network_tables.specs.declared.Movement.{Movement}
 use Rattle.network_tables.specs.declared.Reading.{Reading}
+use Rattle.network_tables.specs.declared.NetworkTables.{NetworkTables}
 use Rattle.network_tables.specs.Blocks.{block_checks, link_block, past_block, step_block}
 use Rattle.network_tables.specs.Tables.{Judged}
-use Rattle.network_tables.proofs.Stages.{judged-refused, verdict-passed, verdict-refused}
+use Rattle.network_tables.proofs.Stages.{judged-refused, judged-passed, verdict-passed, verdict-refused}
 use Rattle.step_arrivals.specs.Timed.{valid_lengths}
 use Rattle.step_arrivals.proofs.Timed.{timed-table}
 use Rattle.step_past.specs.Curves.{PastForms}
 use Rattle.network_past.specs.Past.{FormsAsked, FormsHeld, past_end_checks, EndAsked as PastEndAsked}
 use Rattle.network_steps.specs.Steps.{StepsAsked, StepsHeld}
 use Rattle.network.specs.Loading.{end_checks, EndAsked, timeline_checks, TimelineAsked, TimelineHeld}
+use Rattle.network.proofs.Left.{on, stop}
 use Rattle.network.proofs.End.{lines-within}
 use Rattle.std.specs.Prelude.{Result, Ok, Err}
 
@@ -34,14 +38,16 @@ unfolding Hold past_checks
 past-forms network e m l = hold-of-passes (block_checks (past_block network)) e m l
 
 -- ---- the stages
-module _ {text : List ℕ} {reading : Reading} {links times₀ : List ℕ} (asked : TimelineAsked text reading links times₀) where
-  pub forms-asked : FormsAsked text reading times₀
-  forms-asked = record { reached = asked.reached; room = asked.room }
+module _ {text : List ℕ} {reading : Reading} {links : List Link} {movements : List Movement} {times₀ : List ℕ} (asked : TimelineAsked text reading links movements times₀) where
+  abbrev from_end : Checks
+  from_end = end_checks (lines text) then past_end_checks (lines text)
 
-  module _ {times : List ℕ} {formed : (Result Reading Refusal)} (j : Judged (block_checks (past_block (lines text))) (FormsHeld text times) formed) where
+  abbrev from_steps : Checks
+  from_steps = block_checks (step_block (lines text)) then from_end
+
+  module _ {times : List ℕ} {formed : Result Reading Refusal} (j : Judged (block_checks (past_block (lines text))) (FormsHeld text times) formed) where
     pub forms-stop : {Held : Reading → Type 0} {r : Refusal} → formed ≡ Err r → Judged (timeline_checks (lines text)) Held (Err r)
-    unfolding verdict
-    forms-stop {r = r} e = judged-refused (or-else-refused _ _ r (verdict-refused j e))
+    forms-stop e = stop (timeline_checks (lines text)) _ from_steps refl (verdict-refused j e)
 
     module _ {at_steps : Reading} (e₁ : formed ≡ Ok at_steps) where
       pub steps-asked : {demands : List ℕ} → demands ≡ replicate max_links 0 → StepsAsked text at_steps times demands
@@ -56,63 +62,66 @@ module _ {text : List ℕ} {reading : Reading} {links times₀ : List ℕ} (aske
             none = λ i l. rw zeros (get_or-replicate {A = ℕ} max_links i 0 0 l);
           }
 
-      module _ {times' demands' : List ℕ} {stepped : (Result Reading Refusal)} (j₁ : Judged (block_checks (step_block (lines text))) (StepsHeld text times' demands') stepped) where
+      left₁ : verdict (timeline_checks (lines text)) ≡ verdict from_steps
+      left₁ = on (timeline_checks (lines text)) _ from_steps refl (verdict-passed j e₁)
+
+      module _ {times' demands' : List ℕ} {stepped : Result Reading Refusal} (j₁ : Judged (block_checks (step_block (lines text))) (StepsHeld text times' demands') stepped) where
         pub steps-stop : {Held : Reading → Type 0} {r : Refusal} → stepped ≡ Err r → Judged (timeline_checks (lines text)) Held (Err r)
-        unfolding verdict
-        steps-stop {r = r} e = judged-refused (or-else-passes _ _ (verdict-passed j e₁) ∙ or-else-refused _ _ r (verdict-refused j₁ e))
+        steps-stop e = stop (timeline_checks (lines text)) _ from_end left₁ (verdict-refused j₁ e)
 
         module _ {at_end : Reading} (e₂ : stepped ≡ Ok at_end) where
+          held : StepsHeld text times' demands' at_end
+          held = j₁.held _ e₂
+
           pub end-asked : EndAsked text at_end
           end-asked =
-              let held = j₁.held _ e₂ in
               record {
                 reached = held.reached;
                 within = lines-within (lines text) (omega (arith, held.reached.counted.some-steps, held.reached.counted.steps)) (verdict-passed j₁ e₂);
               }
 
-          module _ {ended : (Result Reading Refusal)} (j₂ : Judged (end_checks (lines text)) (λ after. after ≡ at_end) ended) where
+          left₂ : verdict (timeline_checks (lines text)) ≡ verdict from_end
+          left₂ = on (timeline_checks (lines text)) _ from_end left₁ (verdict-passed j₁ e₂)
+
+          module _ {ended : Verdict} (told : ended ≡ verdict (end_checks (lines text))) where
             pub end-stop : {Held : Reading → Type 0} {r : Refusal} → ended ≡ Err r → Judged (timeline_checks (lines text)) Held (Err r)
-            unfolding verdict
-            end-stop {r = r} e =
-                judged-refused (or-else-passes _ _ (verdict-passed j e₁) ∙ or-else-passes _ _ (verdict-passed j₁ e₂) ∙ or-else-refused _ _ r (verdict-refused j₂ e))
+            end-stop e = stop (timeline_checks (lines text)) _ (past_end_checks (lines text)) left₂ (sym told ∙ e)
 
-            module _ {at_past : Reading} (e₃ : ended ≡ Ok at_past) where
-              held : StepsHeld text times' demands' at_past
-              held = rw (j₂.held _ e₃) (j₁.held _ e₂)
-
-              pub past-asked : PastEndAsked text at_past links times' demands'
-              past-asked =
+            module _ (e₃ : ended ≡ Ok tt) where
+              pub past-asked : (tables : NetworkTables) → tables.reading ≡ at_end → tables.links.now ≡ links → tables.times.now ≡ times' → PastEndAsked text tables demands'
+              past-asked tables r l t =
                   record {
-                    counted = held.reached.counted;
-                    past-start = held.past-start;
+                    counted = rw r held.reached.counted;
+                    past-start = rw r held.past-start;
                     forms = past-forms (lines text) (verdict-passed j e₁);
-                    link-table = asked.link-table;
+                    link-table = rw l asked.link-table;
                     limits = asked.limits;
-                    told = held.told;
-                    timed-all = held.timed-all;
+                    told = rw r held.told;
+                    timed-all = rw (r, t) held.timed-all;
                     demand-size = held.demand-room;
                     demanded = held.demanded;
                   }
 
               -- a past that is good is timed
-              timed : verdict (past_end_checks (lines text)) ≡ Ok tt → at_past.timed ≡ true
+              timed : verdict (past_end_checks (lines text)) ≡ Ok tt → at_end.timed ≡ true
               unfolding Hold valid_past valid_lengths
               timed e = held.told ∙ and_left _ _ (hold-of-passes (past_end_checks (lines text)) e)
 
-              pub timeline-judged : {stage : (Result Reading Refusal)} → Judged (past_end_checks (lines text)) (λ after. after ≡ at_past) stage
-                  → Judged (timeline_checks (lines text)) (TimelineHeld text times') stage
-              unfolding verdict
-              timeline-judged jₚ =
-                  record {
-                    told = jₚ.told ∙ sym (or-else-passes _ _ (verdict-passed j e₁) ∙ or-else-passes _ _ (verdict-passed j₁ e₂) ∙ or-else-passes _ _ (verdict-passed j₂ e₃));
-                    held = λ after e.
-                        rw (jₚ.held after e)
-                        (record {
-                          counted = held.reached.counted;
-                          trams-start = held.reached.trams-start;
-                          signals-start = held.reached.signals-start;
-                          past-start = held.past-start;
-                          steps-start = held.steps-start;
-                          time-table = timed-table (rw (timed (verdict-passed jₚ e)) at held.timed-all) (unfold on_timeline in omega arith);
-                        });
-                  }
+              module _ {said : Verdict} (past-told : said ≡ verdict (past_end_checks (lines text))) where
+                left₃ : verdict (timeline_checks (lines text)) ≡ said
+                left₃ = on (timeline_checks (lines text)) _ (past_end_checks (lines text)) left₂ (sym told ∙ e₃) ∙ sym past-told
+
+                pub past-stop : {Held : Reading → Type 0} {r : Refusal} → said ≡ Err r → Judged (timeline_checks (lines text)) Held (Err r)
+                past-stop e = judged-refused (left₃ ∙ e)
+
+                pub timeline-judged : said ≡ Ok tt → Judged (timeline_checks (lines text)) (TimelineHeld text times') (Ok at_end)
+                timeline-judged e =
+                    judged-passed (left₃ ∙ e)
+                    (record {
+                      counted = held.reached.counted;
+                      trams-start = held.reached.trams-start;
+                      signals-start = held.reached.signals-start;
+                      past-start = held.past-start;
+                      steps-start = held.steps-start;
+                      time-table = timed-table (rw (timed (sym past-told ∙ e)) at held.timed-all) (unfold on_timeline in omega arith);
+                    })

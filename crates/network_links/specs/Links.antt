@@ -1,27 +1,22 @@
--- The test of a link by the table of the `Q` lines.
-use Rattle.std.specs.Prelude.{ℕ, ◌-◌, ◌^◌, ◌≤◌, ◌<◌, ◌≡◌, Bool, cond, List, leb, ltb, eqb, length, get_or}
-use Rattle.model.specs.Network.{max_links}
+-- The test of a link by its numbers.
+use Rattle.std.specs.Prelude.{ℕ, ◌-◌, ◌^◌, ◌≤◌, ◌<◌, Bool, cond, List, leb, ltb, eqb, length}
+use Rattle.model.specs.declared.Signal.{Signal}
 use Rattle.base_laws.specs.Test.{◌and◌, within}
-use Rattle.network_tables.specs.Fields.{link_table_size, capacity_in, travel_time_in, exit_rate_in, signal_in, phase_mask_in, standing_in}
+use Rattle.network_tables.specs.declared.Link.{Link}
+use Rattle.network_tables.specs.Fields.{signal_at}
 
 -- 4, a mask: 0 without a signal; with one not 0, and no phase above the signal's number of phases
-unfoldable pub valid_mask_in : ℕ → ℕ → List ℕ → Bool
-valid_mask_in mask signal phases = cond (eqb signal 0) (eqb mask 0) (leb 1 mask and ltb mask (2 ^ get_or phases (signal - 1) 0))
+unfoldable pub valid_mask_in : ℕ → ℕ → List Signal → Bool
+valid_mask_in mask signal signals = cond (eqb signal 0) (eqb mask 0) (leb 1 mask and ltb mask (2 ^ (signal_at signals (signal - 1)).phases))
 
--- 4, link i among so many signals
-unfoldable pub valid_link_in : List ℕ → ℕ → ℕ → List ℕ → Bool
-valid_link_in links i signals phases =
-    leb (capacity_in links i) 2_000_000_000 and within 1 (travel_time_in links i) 3600 and leb (exit_rate_in links i) 10_000
-    and leb (signal_in links i) signals and valid_mask_in (phase_mask_in links i) (signal_in links i) phases
-    and leb (standing_in links i) (capacity_in links i)
+-- 4, a link among so many signals
+unfoldable pub valid_link_in : Link → ℕ → List Signal → Bool
+valid_link_in link count signals =
+    leb link.capacity 2_000_000_000 and within 1 link.travel_time 3600 and leb link.exit_rate 10_000
+    and leb link.signal count and valid_mask_in link.phase_mask link.signal signals
+    and leb link.standing link.capacity
 
--- the numbers of phases of so many signals, each at most 8
-pub record PhasesKnown (signals : ℕ) (phases : List ℕ) : Type 0 where
-  pub room : signals ≤ length phases
-  pub few : (r : ℕ) → r < signals → get_or phases r 0 ≤ 8
-
--- what the test of a link asks
-pub record LinkAsked (links : List ℕ) (i signals : ℕ) (phases : List ℕ) : Type 0 where
-  pub few : i < max_links
-  pub room : length links ≡ link_table_size
-  pub known : PhasesKnown signals phases
+-- so many signals stand in the table, each with at most 8 phases
+pub record PhasesKnown (count : ℕ) (signals : List Signal) : Type 0 where
+  pub room : count ≤ length signals
+  pub few : (r : ℕ) → r < count → (signal_at signals r).phases ≤ 8

@@ -6,43 +6,45 @@ use Rattle.base_laws.specs.Test.{◌and◌, ◌or◌, within}
 use Rattle.base_laws.specs.Sum.{sum, only}
 use Rattle.network_tables.specs.declared.Counts.{Counts}
 use Rattle.network_tables.specs.Places.{movement_line_in}
-use Rattle.network_tables.specs.Fields.{movement_table_size, link_in, rate_in, share_in}
+use Rattle.network_tables.specs.declared.Movement.{Movement}
+use Rattle.network_tables.specs.Fields.{movement_at, link_in, share_in}
 
 -- 5: (from, to) of movement j is above that of the movement before
-unfoldable pub pair_rises_in : List ℕ → ℕ → Bool
+unfoldable pub pair_rises_in : List Movement → ℕ → Bool
 pair_rises_in movements j =
     eqb j 0
     or (ltb (link_in movements 0 (j - 1)) (link_in movements 0 j)
     or eqb (link_in movements 0 (j - 1)) (link_in movements 0 j) and ltb (link_in movements 1 (j - 1)) (link_in movements 1 j))
 
 -- 5, movement j among so many links
-unfoldable pub valid_movement_in : List ℕ → ℕ → ℕ → Bool
+unfoldable pub valid_movement_in : List Movement → ℕ → ℕ → Bool
 valid_movement_in movements links j =
-    within 1 (link_in movements 0 j) links and within 1 (link_in movements 1 j) links and not (eqb (link_in movements 0 j) (link_in movements 1 j))
-    and within 1 (rate_in movements j) 10_000 and within 1 (share_in movements j) 1000 and pair_rises_in movements j
+    let movement = movement_at movements j in
+    within 1 movement.from links and within 1 movement.to links and not (eqb movement.from movement.to)
+    and within 1 movement.rate 10_000 and within 1 movement.share 1000 and pair_rises_in movements j
 
 -- the number, from 1, of the last of the first m movements that leaves a link; 0 where none does
-unfoldable pub last_movement_in : List ℕ → ℕ → ℕ → ℕ
+unfoldable pub last_movement_in : List Movement → ℕ → ℕ → ℕ
 last_movement_in movements zero link = 0
 last_movement_in movements (suc m) link = cond (eqb (link_in movements 0 m) link) (suc m) (last_movement_in movements m link)
 
 -- the sum of the shares of the first m movements that leave a link
-unfoldable pub share_sum_in : List ℕ → ℕ → ℕ → ℕ
+unfoldable pub share_sum_in : List Movement → ℕ → ℕ → ℕ
 share_sum_in movements m link = sum m (λ j. only (eqb (link_in movements 0 j) link) (share_in movements j))
 
 -- 5, after all `M` lines: a link has no movements, or their shares sum to 1000
-unfoldable pub valid_shares_in : List ℕ → ℕ → ℕ → Bool
+unfoldable pub valid_shares_in : List Movement → ℕ → ℕ → Bool
 valid_shares_in movements m link = eqb (last_movement_in movements m link) 0 or eqb (share_sum_in movements m link) 1000
 
 -- reported at the link's last movement, whose line from 1 is the place of the movement after it
-unfoldable pub share_checks_in : List ℕ → Counts → ℕ → Checks
+unfoldable pub share_checks_in : List Movement → Counts → ℕ → Checks
 share_checks_in movements counts i =
     check 5 (movement_line_in counts (last_movement_in movements counts.movements (suc i))) (last_movement_in movements counts.movements (suc i))
     (valid_shares_in movements counts.movements (suc i))
 
 -- the first m movements stand in the table
-pub record MovementsKnown (movements : List ℕ) (m : ℕ) : Type 0 where
-  pub room : length movements ≡ movement_table_size
+pub record MovementsKnown (movements : List Movement) (m : ℕ) : Type 0 where
+  pub room : length movements ≡ max_movements
   pub few : m ≤ max_movements
 
 -- what adding a share to the sum of a link asks, and gives; no link but the first 24 has a sum
@@ -55,11 +57,11 @@ pub record Added (from part : ℕ) (before after : List ℕ) : Type 0 where
   pub each-sum : (i : ℕ) → i < max_links → get_or after i 0 ≡ get_or before i 0 + only (eqb from (i + 1)) part
 
 -- what summing up the shares of m movements asks, with nothing summed up yet, and gives
-pub record SumsAsked (movements : List ℕ) (m : ℕ) (sums : List ℕ) : Type 0 where
+pub record SumsAsked (movements : List Movement) (m : ℕ) (sums : List ℕ) : Type 0 where
   pub known : MovementsKnown movements m
   pub size : length sums ≡ max_links
   pub none : (i : ℕ) → i < max_links → get_or sums i 0 ≡ 0
 
-pub record ShareSums (movements : List ℕ) (m : ℕ) (sums : List ℕ) : Type 0 where
+pub record ShareSums (movements : List Movement) (m : ℕ) (sums : List ℕ) : Type 0 where
   pub size : length sums ≡ max_links
   pub each-sum : (i : ℕ) → i < max_links → get_or sums i 0 ≡ share_sum_in movements m (i + 1)

@@ -2,121 +2,107 @@
 #![tactic(auto)]
 
 ghost use Rattle.std.specs.Prelude.{◌≡◌, ◌+◌, ◌≤◌, ◌<◌};
-ghost use Rattle.base_search.specs.Checks.{each};
+ghost use Rattle.base_search.specs.Checks.{each, verdict};
 ghost use Rattle.text_reader.specs.Lines.{lines};
 ghost use Rattle.network_tables.specs.Tables.{Judged};
 ghost use Rattle.network_tables.specs.Blocks.{block_checks, link_block, movement_block};
-ghost use Rattle.network_links.specs.Links.{valid_mask_in, valid_link_in, PhasesKnown, LinkAsked};
+ghost use Rattle.network_links.specs.Links.{valid_mask_in, valid_link_in, PhasesKnown};
 ghost use Rattle.network_links.specs.Movements.{pair_rises_in, valid_movement_in, last_movement_in, share_sum_in, valid_shares_in, share_checks_in, MovementsKnown, AddAsked, Added, SumsAsked, ShareSums};
 ghost use Rattle.network_links.specs.Stages.{LinksAsked, LinksHeld, MovementsAsked, MovementsHeld, SharesAsked};
 
 use base_search::Refusal;
-use network_tables::{LINK_FIELDS, MAX_LINKS, MOVEMENT_FIELDS, Reading, checked, read_rows};
+use model::Signal;
+use network_tables::{Counts, Link, MAX_LINKS, Movement, Reading, checked, read_rows};
 
 // Refusal 4: a link without a signal has no phase; one with a signal has a phase, and none above the signal's number of phases.
-fn valid_mask(mask: u32, signal: usize, phases: &[u32]) -> bool
-    requires { PhasesKnown signal phases.now }
-    ensures { result ≡ valid_mask_in mask signal phases.now }
+fn valid_mask(mask: u32, signal: usize, signals: &[Signal]) -> bool
+    requires { PhasesKnown signal signals.now }
+    ensures { result ≡ valid_mask_in mask signal signals.now }
 {
     if signal == 0 {
         return mask == 0;
     }
-    let last = signal - 1;
-    (1 <= mask) & (mask < 1 << phases[last])
+    let last = signals[signal - 1].phases;
+    (1 <= mask) & (mask < 1 << last)
 }
 
-// Refusal 4, link `i`.
-fn valid_link(links: &[u32], i: usize, signals: usize, phases: &[u32]) -> bool
-    requires { LinkAsked links.now i signals phases.now }
-    ensures { result ≡ valid_link_in links.now i signals phases.now }
+// Refusal 4, a link among so many signals.
+fn valid_link(link: Link, count: usize, signals: &[Signal]) -> bool
+    requires { PhasesKnown count signals.now }
+    ensures { result ≡ valid_link_in link count signals.now }
 {
-    let signal = network_tables::index(network_tables::signal_of(links, i));
-    if signals < signal {
+    let signal = link.signal as usize;
+    if count < signal {
         return false;
     }
-    let capacity = network_tables::capacity(links, i);
-    let travel = network_tables::travel_time(links, i);
-    (capacity <= 2000000000)
-        & ((1 <= travel) & (travel <= 3600))
-        & (network_tables::exit_rate(links, i) <= 10000)
-        & valid_mask(network_tables::phase_mask(links, i), signal, phases)
-        & (network_tables::standing(links, i) <= capacity)
+    (link.capacity <= 2000000000)
+        & ((1 <= link.travel_time) & (link.travel_time <= 3600))
+        & (link.exit_rate <= 10000)
+        & valid_mask(link.phase_mask, signal, signals)
+        & (link.standing <= link.capacity)
 }
 
-// The `Q` lines: each line's form (refusal 1), then its values (refusal 4). Its numbers go straight into the row of its link.
+// The `Q` lines: each line's form (refusal 1), then its values (refusal 4).
 pub fn read_links(
     text: &[u8],
     reading: Reading,
-    phases: &[u32],
-    links: &mut [u32],
+    signals: &[Signal],
+    links: &mut [Link],
 ) -> Result<Reading, Refusal>
-    requires { LinksAsked text.now reading phases.now links.old }
+    requires { LinksAsked text.now reading signals.now links.old }
     ensures { Judged (block_checks (link_block (lines text.now))) (LinksHeld text.now links.new) result }
 {
     let counts = reading.counts;
     let first = counts.link_line(0) + 1;
-    let judge = |links: &[u32], i: usize| {
-        let valid = valid_link(links, i, counts.signals, phases);
+    let judge = |links: &[Link], i: usize| {
+        let valid = valid_link(links[i], counts.signals, signals);
         checked(valid, 4, first + i, i + 1)
     };
-    let next = read_rows(
-        text,
-        reading.next,
-        b'Q',
-        LINK_FIELDS,
-        first,
-        counts.links,
-        links,
-        judge,
-    )?;
+    let next = read_rows(text, reading.next, b'Q', first, counts.links, links, judge)?;
     Ok(reading.moved_to(next))
 }
 
 // Refusal 5: the pair (from, to) of movement `j` is above that of the movement before.
-fn pair_rises(movements: &[u32], j: usize) -> bool
+fn pair_rises(movements: &[Movement], j: usize) -> bool
     requires { MovementsKnown movements.now (j + 1) }
     ensures { result ≡ pair_rises_in movements.now j }
 {
     if j == 0 {
         return true;
     }
-    let before = network_tables::link_of(movements, j - 1, 0);
-    let from = network_tables::link_of(movements, j, 0);
-    (before < from)
-        | (before == from)
-            & (network_tables::link_of(movements, j - 1, 1)
-                < network_tables::link_of(movements, j, 1))
+    let before = movements[j - 1];
+    let here = movements[j];
+    (before.from < here.from) | (before.from == here.from) & (before.to < here.to)
 }
 
 // Refusal 5, movement `j`, by its row and the one before.
-fn valid_movement(movements: &[u32], links: usize, j: usize) -> bool
+fn valid_movement(movements: &[Movement], links: usize, j: usize) -> bool
     requires { MovementsKnown movements.now (j + 1) }
     ensures { result ≡ valid_movement_in movements.now links j }
 {
-    let from = network_tables::index(network_tables::link_of(movements, j, 0));
-    let to = network_tables::index(network_tables::link_of(movements, j, 1));
-    let rate = network_tables::rate(movements, j);
-    let share = network_tables::share(movements, j);
+    let movement = movements[j];
+    let from = movement.from as usize;
+    let to = movement.to as usize;
     ((1 <= from) & (from <= links))
         & ((1 <= to) & (to <= links))
         & (from != to)
-        & ((1 <= rate) & (rate <= 10000))
-        & ((1 <= share) & (share <= 1000))
+        & ((1 <= movement.rate) & (movement.rate <= 10000))
+        & ((1 <= movement.share) & (movement.share <= 1000))
         & pair_rises(movements, j)
 }
 
-// The `M` lines: each line's form (refusal 1), then its values (refusal 5). Its numbers go straight into the row of its movement.
+// The `M` lines: each line's form (refusal 1), then its values (refusal 5).
 pub fn read_movements(
     text: &[u8],
     reading: Reading,
-    movements: &mut [u32],
+    movements: &mut [Movement],
 ) -> Result<Reading, Refusal>
     requires { MovementsAsked text.now reading movements.old }
     ensures { Judged (block_checks (movement_block (lines text.now))) (MovementsHeld text.now movements.new) result }
 {
     let counts = reading.counts;
     let first = counts.movement_line(0) + 1;
-    let judge = |movements: &[u32], j: usize| {
+    let judge = |movements: &[Movement], j: usize| {
         let valid = valid_movement(movements, counts.links, j);
         checked(valid, 5, first + j, j + 1)
     };
@@ -124,7 +110,6 @@ pub fn read_movements(
         text,
         reading.next,
         b'M',
-        MOVEMENT_FIELDS,
         first,
         counts.movements,
         movements,
@@ -134,13 +119,13 @@ pub fn read_movements(
 }
 
 // The number, from 1, of the last movement that leaves a link, numbered from 1; 0 where none does.
-fn last_movement(movements: &[u32], count: usize, link: usize) -> usize
+fn last_movement(movements: &[Movement], count: usize, link: usize) -> usize
     requires { MovementsKnown movements.now count }
     ensures { (result ≡ last_movement_in movements.now count link) × (result ≤ count) }
 {
     let mut last = 0;
     for j in 0..count {
-        if network_tables::index(network_tables::link_of(movements, j, 0)) == link {
+        if movements[j].from as usize == link {
             last = j + 1;
         }
     }
@@ -159,22 +144,22 @@ fn add_share(from: usize, share: u32, sums: &mut [u64])
         return;
     }
     let link = from - 1;
-    sums[link] = sums[link] + network_tables::wide(share);
+    sums[link] = sums[link] + u64::from(share);
 }
 
 // The sum of the shares of the movements that leave each link, in one pass.
-fn add_shares(movements: &[u32], count: usize, sums: &mut [u64])
+fn add_shares(movements: &[Movement], count: usize, sums: &mut [u64])
     requires { SumsAsked movements.now count sums.old }
     ensures { ShareSums movements.now count sums.new }
 {
     for j in 0..count {
-        let from = network_tables::index(network_tables::link_of(movements, j, 0));
-        add_share(from, network_tables::share(movements, j), sums);
+        let movement = movements[j];
+        add_share(movement.from as usize, movement.share, sums);
     }
 }
 
 // Refusal 5: a link has no movements, or their shares sum to 1000.
-fn valid_shares(movements: &[u32], count: usize, link: usize, sum: u64) -> bool
+fn valid_shares(movements: &[Movement], count: usize, link: usize, sum: u64) -> bool
     requires { (MovementsKnown movements.now count) × (sum ≡ share_sum_in movements.now count link) }
     ensures { result ≡ valid_shares_in movements.now count link }
 {
@@ -185,11 +170,10 @@ fn valid_shares(movements: &[u32], count: usize, link: usize, sum: u64) -> bool
 }
 
 // Refusal 5 after all `M` lines: the shares by rising link, reported at the link's last movement.
-pub fn check_shares(movements: &[u32], reading: Reading) -> Result<Reading, Refusal>
-    requires { SharesAsked movements.now reading.counts }
-    ensures { Judged (each reading.counts.links (share_checks_in movements.now reading.counts)) (λ after. after ≡ reading) result }
+pub fn check_shares(movements: &[Movement], counts: Counts) -> Result<(), Refusal>
+    requires { SharesAsked movements.now counts }
+    ensures { result ≡ verdict (each counts.links (share_checks_in movements.now counts)) }
 {
-    let counts = reading.counts;
     let count = counts.movements;
     let mut sums = [0u64; MAX_LINKS];
     add_shares(movements, count, &mut sums);
@@ -199,5 +183,5 @@ pub fn check_shares(movements: &[u32], reading: Reading) -> Result<Reading, Refu
             return Err(Refusal::new(5, counts.movement_line(last), last));
         }
     }
-    Ok(reading)
+    Ok(())
 }

@@ -1,8 +1,5 @@
 -- 30 after all lines.
-use Rattle.base_laws.proofs.Kit.{ℕ, ◌+◌, ◌*◌, ◌-◌, ◌≤◌, ◌<◌, ◌≡◌, refl, sym, ap, ◌∙◌, Bool, true, false, not, List, [], add-one, arith, leb-true, not-true, not-false, length, replicate, length-replicate, get_or-replicate}
-use Rattle.base_search.specs.declared.Refusal.{Refusal}
-use Rattle.base_search.specs.Checks.{refusal, verdict}
-use Rattle.base_search.proofs.Laws.{checked-passes, checked_refused}
+use Rattle.base_laws.proofs.Kit.{ℕ, ◌+◌, ◌*◌, ◌≤◌, ◌<◌, ◌≡◌, refl, sym, ap, ◌∙◌, Bool, true, false, List, [], arith, leb-true, length}
 use Rattle.text_reader.specs.Lines.{Line, lines}
 use Rattle.base_laws.specs.Sum.{sum}
 use Rattle.base_laws.specs.Test.{◌and◌, every}
@@ -13,42 +10,40 @@ use Rattle.base_laws.proofs.Tests.{and_left, and_right, every-at, every-same}
 use Rattle.model.proofs.Timeline.{entered-start}
 use Rattle.model.proofs.Times.{arrival-step-le}
 use Rattle.model.proofs.Flow.{arrived-entered}
-use Rattle.network_tables.specs.declared.Counts.{Counts}
+use Rattle.network_tables.specs.declared.NetworkTables.{NetworkTables}
 use Rattle.network_tables.specs.declared.Reading.{Reading}
 use Rattle.network_tables.specs.Fields.{row_size}
-use Rattle.network_tables.specs.Tables.{Judged, TimeTable}
-use Rattle.network_tables.proofs.Stages.{judged-refused, judged-passed}
+use Rattle.network_tables.specs.Tables.{TimeTable}
 use Rattle.network_tables.proofs.Tables.{travel-time-at}
 use Rattle.step_arrivals.specs.Arrivals.{Rising}
 use Rattle.step_arrivals.specs.Timed.{valid_lengths, TimedTo}
 use Rattle.step_arrivals.proofs.Arrivals.{cursor-at}
 use Rattle.step_arrivals.proofs.Timed.{timed-table, timed-rise}
+use Rattle.step_past.specs.declared.Arrival.{Arrival}
 use Rattle.step_past.specs.Curves.{past_entered, past_left, PastAsked, PastOverflows, PastLoaded}
-use Rattle.network_past.specs.Past.{valid_past_in, valid_links_in, LinksAsked, past_end_checks, EndAsked}
+use Rattle.network_past.specs.Past.{valid_past_in, valid_links_in, LinksAsked, EndAsked}
 use Rattle.network_past.proofs.Links.{valid-is}
-use Rattle.std.specs.Prelude.{Ok, Err}
 
 -- ---- 30
-module _ {text : List ℕ} {reading : Reading} {links times demands : List ℕ} (asked : EndAsked text reading links times demands) where
+module _ {text : List ℕ} {tables : NetworkTables} {demands : List ℕ} (asked : EndAsked text tables demands) where
   abbrev net : List Line
   net = lines text
 
-  refused : valid_past net ≡ false → {q : Refusal} → q ≡ refusal 30 0 0 → Judged (past_end_checks net) (λ after. after ≡ reading) (Err q)
-  unfolding verdict
-  refused v t = rw t (judged-refused (checked_refused _ 30 0 0 v))
+  abbrev reading : Reading
+  reading = tables.reading
+
+  abbrev times : List ℕ
+  times = tables.times.now
 
   past_is : valid_past net ≡ reading.timed and every (link_count net) (valid_past_of net)
   unfolding valid_past valid_lengths
   past_is = ap (λ b. b and every (link_count net) (valid_past_of net)) (sym asked.told)
 
   -- a length, or the number of steps, is bad
-  pub untimed : not reading.timed ≡ true → {q : Refusal} → q ≡ refusal 30 0 0 → Judged (past_end_checks net) (λ after. after ≡ reading) (Err q)
-  untimed b = refused (past_is ∙ rw (not-true reading.timed b) (unfold ◌and◌ in refl))
+  pub untimed : reading.timed ≡ false → valid_past net ≡ false
+  untimed b = past_is ∙ rw b (unfold ◌and◌ in refl)
 
-  module _ (b : not reading.timed ≡ false) where
-    is-timed : reading.timed ≡ true
-    is-timed = not-false reading.timed b
-
+  module _ (is-timed : reading.timed ≡ true) where
     all-timed : TimedTo net true (past_count net + step_count net) times
     all-timed = rw is-timed at asked.timed-all
 
@@ -87,9 +82,8 @@ module _ {text : List ℕ} {reading : Reading} {links times demands : List ℕ} 
           small = λ k l. rising.small k (omega arith);
         }
 
-    pub past-asked : {row arrivals curves places : List ℕ} → length row ≡ row_size → arrivals ≡ replicate max_links 0 → length curves ≡ row_size → length places ≡ max_links
-        → PastAsked text reading.past_at reading.counts links times row arrivals curves places
-    past-asked r zeros c p =
+    pub past-asked : {row : List ℕ} → length row ≡ row_size → {arrivals : List Arrival} → length arrivals ≡ max_links → PastAsked text tables row arrivals
+    past-asked r a =
         record {
           counted = asked.counted;
           starts = asked.past-start;
@@ -99,12 +93,10 @@ module _ {text : List ℕ} {reading : Reading} {links times demands : List ℕ} 
           cursors = λ i l. let l' : i < link_count net = omega (arith, asked.counted.links) in
               cursor-at rising (omega (arith, asked.counted.past)) (omega (arith, some)) (omega (arith, travel-time-at asked.link-table i l', (asked.limits i l').1.1)) (omega arith);
           row_room = omega (arith, asked.counted.few.links);
-          arrival-size = rw zeros (length-replicate {A = ℕ} max_links 0);
-          none = λ i l. rw zeros (get_or-replicate {A = ℕ} max_links i 0 0 l);
-          rooms = record { curve-size = c; place-size = p };
+          size = a;
         }
 
-    module _ {row₀ row arrivals curves places : List ℕ} {fit : Bool} (loaded : PastLoaded text reading.counts row₀ fit row arrivals curves places) where
+    module _ {row₀ row : List ℕ} {arrivals : List Arrival} {fit : Bool} (loaded : PastLoaded text reading.counts row₀ fit row arrivals) where
       -- a number of row 0 is too large: then so is what entered, or more left than entered
       broken : PastOverflows net → every (link_count net) (valid_past_of net) ≡ true → ⊥
       unfolding valid_past_of
@@ -117,48 +109,31 @@ module _ {text : List ℕ} {reading : Reading} {links times demands : List ℕ} 
           let small : past_entered net (past_count net) i < 4294967296 = omega (arith, entered-end i, entered-start net [] i, few, lim.0, lim.1.0, all-timed.few refl) in
           o.over small (omega (arith, left_end i, entered-end i, arrived-entered net [] (λ m h. all-timed.lasts refl m (omega (arith, together))) some 0 i (omega arith) lim.1.1 (left net [] 0 i) arrived))
 
-      pub overflow : not fit ≡ true → {q : Refusal} → q ≡ refusal 30 0 0 → Judged (past_end_checks net) (λ after. after ≡ reading) (Err q)
+      pub overflow : fit ≡ false → valid_past net ≡ false
       unfolding ◌and◌
-      overflow n = refused (past_is ∙ by reading.timed (every (link_count net) (valid_past_of net)) refl)
+      overflow n = past_is ∙ by reading.timed (every (link_count net) (valid_past_of net)) refl
         where
           by : (s t : Bool) → every (link_count net) (valid_past_of net) ≡ t → s and t ≡ false
-          by s true e = absurd (broken (loaded.overflows (not-true fit n)) e)
+          by s true e = absurd (broken (loaded.overflows n) e)
           by true false e = refl
           by false false e = refl
 
-      module _ (n : not fit ≡ false) where
-        pub links-asked : length row ≡ row_size → length demands ≡ max_links → LinksAsked reading.counts links times demands row arrivals curves
-        links-asked r d =
+      module _ (n : fit ≡ true) where
+        pub links-asked : length row ≡ row_size → LinksAsked tables demands row arrivals
+        links-asked r =
             record {
-              few-links = asked.counted.few.links;
-              few_past = asked.counted.few.past;
-              link-size = asked.link-table.size;
-              demand-size = d;
+              demand-size = asked.demand-size;
               row-size = r;
               arrival-size = loaded.arrivals-at.size;
-              curve-size = (loaded.curves-at (not-false fit n)).rooms.curve-size;
               rising = rising-to (reading.counts.past + 1) (omega (arith, asked.counted.past, some));
               early = λ i l. let l' : i < link_count net = omega (arith, asked.counted.links) in
                   omega (arith, loaded.arrivals-at.holds i l', arrival-step-le net 0 i, start, asked.counted.past);
             }
 
-        same : valid_links_in reading.counts links times demands row arrivals curves reading.counts.links ≡ every (link_count net) (valid_past_of net)
-        unfolding valid_links_in
-        same =
-            ap (λ n. every n (valid_past_in reading.counts links times demands row arrivals curves)) asked.counted.links
-            ∙ (every-same (link_count net) _ _
-            (λ i l. valid-is asked.counted demands asked.link-table time-table first (loaded.row-held (not-false fit n)) loaded.arrivals-at (loaded.curves-at (not-false fit n)) asked.demanded i l))
-
-        module _ {valid : Bool} (v : valid ≡ valid_links_in reading.counts links times demands row arrivals curves reading.counts.links) where
-          whole : valid_past net ≡ valid
-          whole = past_is ∙ rw is-timed (by (every (link_count net) (valid_past_of net)) ∙ sym (v ∙ same))
-            where
-              by : (s : Bool) → true and s ≡ s
-              by s = unfold ◌and◌ in refl
-
-          pub link-bad : not valid ≡ true → {q : Refusal} → q ≡ refusal 30 0 0 → Judged (past_end_checks net) (λ after. after ≡ reading) (Err q)
-          link-bad k = refused (whole ∙ not-true valid k)
-
-          pub past-good : not valid ≡ false → Judged (past_end_checks net) (λ after. after ≡ reading) (Ok reading)
-          unfolding verdict
-          past-good k = judged-passed (checked-passes _ 30 0 0 (whole ∙ not-false valid k)) refl
+        pub past-valid : valid_links_in tables demands row arrivals reading.counts.links ≡ valid_past net
+        unfolding valid_links_in ◌and◌
+        past-valid =
+            ap (λ n. every n (valid_past_in tables demands row arrivals)) asked.counted.links
+            ∙ every-same (link_count net) _ _
+            (λ i l. valid-is tables asked.counted demands asked.link-table time-table first (loaded.row-held n) loaded.arrivals-at (loaded.curves-at n) asked.demanded i l)
+            ∙ sym (past_is ∙ rw is-timed refl)

@@ -17,9 +17,9 @@ use Rattle.network_tables.proofs.Tables.{past-length-at}
 use Rattle.network_tables.proofs.Places.{timeline-line-is, steps-after-past}
 use Rattle.network_tables.proofs.Blocks.{passed-all, passed-stop, block-begin, block-end, block-next}
 use Rattle.network_tables.proofs.Stages.{judged-refused, judged-passed}
-use Rattle.step_arrivals.specs.Timed.{valid_lengths, TimeAsked, TimeSet, TimedTo}
-use Rattle.step_arrivals.proofs.Timed.{timed-none, time-ready, timed-next}
-use Rattle.step_past.proofs.Reading.{past-numbers, past_next}
+use Rattle.step_arrivals.specs.Timed.{valid_lengths, TimeSet, TimedTo}
+use Rattle.step_arrivals.proofs.Timed.{timed-none, timed-next}
+use Rattle.step_past.proofs.Reading.{past-numbers, past-next}
 use Rattle.network_past.specs.Past.{FormsAsked, FormsHeld}
 use Rattle.std.specs.Prelude.{Option, Some, None, Ok, Err}
 
@@ -93,10 +93,11 @@ module _ {text : List ℕ} {reading : Reading} {times₀ : List ℕ} (asked : Fo
             → FormsTo text times' after next timed' (m + 1)
         unfolding verdict past_checks
         forms-next {next} e {seconds} s {timed'} got =
-            let numbers : PastNumbers (lines text) m after = past-numbers m inv.read.starts wide row e inv.field-size in
+            let line = own.held next e (timeline_line (lines text) m) inv.read.starts in
+            let numbers : PastNumbers (lines text) m after = past-numbers m line (row.size ∙ inv.field-size) in
             let lasts : seconds ≡ timeline_length (lines text) m = s ∙ past-length-at numbers in
             record {
-              read = block-next inv.read below (checked-passes _ 1 _ 0 (own.held next e (timeline_line (lines text) m) inv.read.starts).form) (past_next m inv.read.starts wide row e);
+              read = block-next inv.read below (checked-passes _ 1 _ 0 line.form) (past-next m line);
               field-size = row.size ∙ inv.field-size;
               told = got.told ∙ rw (inv.told, lasts, add-one m) (sym (lengths-more (lines text) m));
               timed-to = timed-next inv.timed-to (omega (arith, below)) lasts got;

@@ -7,13 +7,14 @@ use Rattle.base_laws.specs.Sum.{sum}
 use Rattle.base_laws.specs.Test.{◌and◌, every}
 use Rattle.model.specs.Network.{max_links, link_count, past_count, step_count, timeline_line, step_line, standing, capacity, travel_time, demand}
 use Rattle.model.specs.Rules.{valid_past}
-use Rattle.network_tables.specs.declared.Counts.{Counts}
+use Rattle.network_tables.specs.declared.NetworkTables.{NetworkTables}
 use Rattle.network_tables.specs.declared.Reading.{Reading}
-use Rattle.network_tables.specs.Fields.{time_table_size, link_table_size, row_size, capacity_in, travel_time_in, standing_in, waiting_at_start_in, entered_in, left_in}
+use Rattle.network_tables.specs.Fields.{time_table_size, row_size, capacity_in, travel_time_in, standing_in, waiting_at_start_in, entered_in, left_in}
 use Rattle.network_tables.specs.Tables.{CountsHold, LinkTable, Reached}
 use Rattle.step_arrivals.specs.Arrivals.{seconds_in, elapsed_in, scaled_in, Rising}
 use Rattle.step_arrivals.specs.Timed.{valid_lengths, TimedTo}
-use Rattle.step_past.specs.Curves.{PastForms}
+use Rattle.step_past.specs.declared.Arrival.{Arrival}
+use Rattle.step_past.specs.Curves.{PastForms, arrival_at}
 
 -- ---- the forms
 pub record FormsAsked (text : List ℕ) (reading : Reading) (times : List ℕ) : Type 0 where
@@ -27,13 +28,15 @@ pub record FormsHeld (text times : List ℕ) (reading : Reading) : Type 0 where
   pub timed-past : TimedTo (lines text) reading.timed (past_count (lines text)) times
 
 -- ---- 30
-module _ (counts : Counts) (links times demands row arrivals curves : List ℕ) where
+module _ (tables : NetworkTables) (demands row : List ℕ) (arrivals : List Arrival) where
   -- link i, by the row where the past ends, the step in which its travel time ends, and its curve there
   unfoldable pub valid_past_in : ℕ → Bool
   valid_past_in i =
-      let a = get_or arrivals i 0 in
-      leb (left_in row i * seconds_in times a)
-      (scaled_in (get_or curves (2 * i) 0) (get_or curves (2 * i + 1) 0) (seconds_in times a) (elapsed_in times a counts.past (travel_time_in links i)))
+      let counts = tables.reading.counts in
+      let links = tables.links.now in
+      let times = tables.times.now in
+      let a = arrival_at arrivals i in
+      leb (left_in row i * seconds_in times a.step) (scaled_in a.start a.stop (seconds_in times a.step) (elapsed_in times a.step counts.past (travel_time_in links i)))
       and leb (entered_in row i) (capacity_in links i + left_in row i)
       and leb (entered_in row i + waiting_at_start_in links i + get_or demands i 0) (72_000_000 + 13_800_000 * counts.past + standing_in links i)
 
@@ -42,31 +45,27 @@ module _ (counts : Counts) (links times demands row arrivals curves : List ℕ) 
 
   -- what the test of link i asks of the tables
   pub record LinksAsked : Type 0 where
-    pub few-links : counts.links ≤ max_links
-    pub few_past : counts.past ≤ 120
-    pub link-size : length links ≡ link_table_size
     pub demand-size : length demands ≡ max_links
     pub row-size : length row ≡ row_size
     pub arrival-size : length arrivals ≡ max_links
-    pub curve-size : length curves ≡ row_size
-    pub rising : Rising times (counts.past + 1)
-    pub early : (i : ℕ) → i < counts.links → get_or arrivals i 0 ≤ counts.past
+    pub rising : Rising tables.times.now (tables.reading.counts.past + 1)
+    pub early : (i : ℕ) → i < tables.reading.counts.links → (arrival_at arrivals i).step ≤ tables.reading.counts.past
 
   pub record TestAsked (i : ℕ) : Type 0 where
-    pub tables : LinksAsked
-    pub link : i < counts.links
+    pub asked : LinksAsked
+    pub link : i < tables.reading.counts.links
 
 abbrev pub past_end_checks : List Line → Checks
 past_end_checks network = check 30 0 0 (valid_past network)
 
 -- all lines have passed
-pub record EndAsked (text : List ℕ) (reading : Reading) (links times demands : List ℕ) : Type 0 where
-  pub counted : CountsHold (lines text) reading.counts
-  pub past-start : Starts text reading.past_at (timeline_line (lines text) 0)
+pub record EndAsked (text : List ℕ) (tables : NetworkTables) (demands : List ℕ) : Type 0 where
+  pub counted : CountsHold (lines text) tables.reading.counts
+  pub past-start : Starts text tables.reading.past_at (timeline_line (lines text) 0)
   pub forms : PastForms (lines text)
-  pub link-table : LinkTable (lines text) links
+  pub link-table : LinkTable (lines text) tables.links.now
   pub limits : (i : ℕ) → i < link_count (lines text) → (capacity (lines text) i ≤ 2_000_000_000) × ((standing (lines text) i ≤ capacity (lines text) i) × (1 ≤ travel_time (lines text) i))
-  pub told : reading.timed ≡ valid_lengths (lines text) (past_count (lines text))
-  pub timed-all : TimedTo (lines text) reading.timed (past_count (lines text) + step_count (lines text)) times
+  pub told : tables.reading.timed ≡ valid_lengths (lines text) (past_count (lines text))
+  pub timed-all : TimedTo (lines text) tables.reading.timed (past_count (lines text) + step_count (lines text)) tables.times.now
   pub demand-size : length demands ≡ max_links
   pub demanded : (i : ℕ) → i < link_count (lines text) → get_or demands i 0 ≡ sum (step_count (lines text)) (λ n. demand (lines text) n i)

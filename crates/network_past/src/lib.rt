@@ -5,10 +5,13 @@ ghost use Rattle.std.specs.Prelude.{◌≡◌};
 ghost use Rattle.text_reader.specs.Lines.{lines};
 ghost use Rattle.network_tables.specs.Tables.{Judged};
 ghost use Rattle.network_tables.specs.Blocks.{block_checks, past_block};
+ghost use Rattle.base_search.specs.Checks.{verdict};
+ghost use Rattle.model.specs.Rules.{valid_past};
 ghost use Rattle.network_past.specs.Past.{FormsAsked, FormsHeld, valid_past_in, TestAsked, valid_links_in, LinksAsked, past_end_checks, EndAsked};
 
 use base_search::Refusal;
-use network_tables::{Counts, MAX_LINKS, MAX_STEPS, PAST_SIZE, ROW_SIZE, Reading, wide};
+use network_tables::{MAX_LINKS, MAX_STEPS, NetworkTables, PAST_SIZE, ROW_SIZE, Reading};
+use step_past::Arrival;
 
 // The `H` lines: each line's form (refusal 1), and the times of the boundaries of the past, if its lengths are valid and all steps are few enough.
 pub fn read_past(text: &[u8], reading: Reading, times: &mut [u32]) -> Result<Reading, Refusal>
@@ -44,89 +47,59 @@ pub fn read_past(text: &[u8], reading: Reading, times: &mut [u32]) -> Result<Rea
 // Refusal 30, link `i` where the past ends: it has left at most what has arrived, holds at most its capacity, and its past entries, waiting volume and demands
 // are few enough.
 fn valid_past(
-    counts: Counts,
-    links: &[u32],
-    times: &[u32],
+    tables: &NetworkTables,
     demands: &[u32],
     row: &[u32],
-    arrivals: &[usize],
-    curves: &[u32],
+    arrivals: &[Arrival],
     i: usize,
 ) -> bool
-    requires { TestAsked counts links.now times.now demands.now row.now arrivals.now curves.now i }
-    ensures { result ≡ valid_past_in counts links.now times.now demands.now row.now arrivals.now curves.now i }
+    requires { TestAsked tables.now demands.now row.now arrivals.now i }
+    ensures { result ≡ valid_past_in tables.now demands.now row.now arrivals.now i }
 {
-    let step = arrivals[i];
-    let seconds = step_arrivals::seconds(times, step);
-    let elapsed = step_arrivals::elapsed(
-        times,
-        step,
-        counts.past,
-        network_tables::travel_time(links, i),
-    );
-    let arrived = step_arrivals::scaled_arrived(curves[2 * i], curves[2 * i + 1], seconds, elapsed);
-    let entered = wide(network_tables::entered(row, i));
+    let past = tables.reading.counts.past;
+    let link = tables.links[i];
+    let arrival = arrivals[i];
+    let seconds = step_arrivals::seconds(tables.times, arrival.step);
+    let elapsed = step_arrivals::elapsed(tables.times, arrival.step, past, link.travel_time);
+    let arrived = step_arrivals::scaled_arrived(arrival.start, arrival.stop, seconds, elapsed);
+    let entered = u64::from(network_tables::entered(row, i));
     let left = network_tables::left(row, i);
-    let came = entered + wide(network_tables::waiting_at_start(links, i)) + wide(demands[i]);
-    let limit = 72_000_000
-        + 13_800_000 * counts.past as u64
-        + wide(network_tables::standing(links, i));
+    // `as`, not `u64::from`: a cast tells that the field fits 32 bits.
+    let came = entered + link.waiting as u64 + u64::from(demands[i]);
+    let limit = 72_000_000 + 13_800_000 * past as u64 + link.standing as u64;
     (network_tables::times(left, seconds) <= arrived)
-        & (entered <= wide(network_tables::capacity(links, i)) + wide(left))
+        & (entered <= link.capacity as u64 + u64::from(left))
         & (came <= limit)
 }
 
 // The same of every link.
-fn valid_links(
-    counts: Counts,
-    links: &[u32],
-    times: &[u32],
-    demands: &[u32],
-    row: &[u32],
-    arrivals: &[usize],
-    curves: &[u32],
-) -> bool
-    requires { LinksAsked counts links.now times.now demands.now row.now arrivals.now curves.now }
-    ensures { result ≡ valid_links_in counts links.now times.now demands.now row.now arrivals.now curves.now counts.links }
+fn valid_links(tables: &NetworkTables, demands: &[u32], row: &[u32], arrivals: &[Arrival]) -> bool
+    requires { LinksAsked tables.now demands.now row.now arrivals.now }
+    ensures { result ≡ valid_links_in tables.now demands.now row.now arrivals.now tables.now.reading.counts.links }
 {
-    (0..counts.links).all(|i| valid_past(counts, links, times, demands, row, arrivals, curves, i))
+    (0..tables.reading.counts.links).all(|i| valid_past(tables, demands, row, arrivals, i))
 }
 
-// Refusal 30, after all lines. The lengths of the past and the number of steps were judged as they were read.
-pub fn check_past(
-    text: &[u8],
-    reading: Reading,
-    links: &[u32],
-    times: &[u32],
-    demands: &[u32],
-) -> Result<Reading, Refusal>
-    requires { EndAsked text.now reading links.now times.now demands.now }
-    ensures { Judged (past_end_checks (lines text.now)) (λ after. after ≡ reading) result }
+// Refusal 30, of the whole past. The lengths of the past and the number of steps were judged as they were read.
+fn is_valid(text: &[u8], tables: &NetworkTables, demands: &[u32]) -> bool
+    requires { EndAsked text.now tables.now demands.now }
+    ensures { result ≡ valid_past (lines text.now) }
 {
-    let refused = Err(Refusal::new(30, 0, 0));
-    if !reading.timed {
-        return refused;
+    if !tables.reading.timed {
+        return false;
     }
-    let counts = reading.counts;
     let mut row = [0u32; ROW_SIZE];
-    let mut arrivals = [0usize; MAX_LINKS];
-    let mut curves = [0u32; ROW_SIZE];
-    let mut places = [0usize; MAX_LINKS];
-    if !step_past::load_past(
-        text,
-        reading.past_at,
-        counts,
-        links,
-        times,
-        &mut row,
-        &mut arrivals,
-        &mut curves,
-        &mut places,
-    ) {
-        return refused;
+    let mut arrivals = [Arrival::default(); MAX_LINKS];
+    if !step_past::load_past(text, tables, &mut row, &mut arrivals) {
+        return false;
     }
-    if !valid_links(counts, links, times, demands, &row, &arrivals, &curves) {
-        return refused;
-    }
-    Ok(reading)
+    valid_links(tables, demands, &row, &arrivals)
+}
+
+// Refusal 30, after all lines.
+pub fn check_past(text: &[u8], tables: &NetworkTables, demands: &[u32]) -> Result<(), Refusal>
+    requires { EndAsked text.now tables.now demands.now }
+    ensures { result ≡ verdict (past_end_checks (lines text.now)) }
+{
+    network_tables::checked(is_valid(text, tables, demands), 30, 0, 0)
 }

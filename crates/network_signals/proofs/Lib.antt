@@ -2,4 +2,3 @@ mod Values
 mod Counts
 mod Lines
 mod Loops
-pub mod Passed

@@ -1,5 +1,5 @@
 -- The calls and the returns of the function that reads one `G` line, each in the form of a need.
-use Rattle.base_laws.proofs.Kit.{ℕ, suc, ◌+◌, ◌*◌, ◌≤◌, ◌≡◌, sym, ap, ◌∙◌, Bool, true, false, not, List, dec_le, add-one, arith, leb-true, not-true, not-false, leb, length, get_or}
+use Rattle.base_laws.proofs.Kit.{ℕ, suc, ◌+◌, ◌*◌, ◌≤◌, ◌≡◌, sym, ap, ◌∙◌, Bool, true, false, not, List, dec_le, add-one, arith, leb-true, not-true, not-false, leb, length, get_or, set, replicate, length-replicate, get_or-replicate, List·getD-eq-default}
 use Rattle.base_search.specs.declared.Refusal.{Refusal}
 use Rattle.base_search.specs.Checks.{refusal, or_else, checked, verdict}
 use Rattle.text_reader.specs.Lines.{Line, lines, no_line, starts_as}
@@ -17,8 +17,7 @@ use Rattle.network_tables.specs.Fields.{signal_fields, signal_by}
 use Rattle.network_tables.specs.Tables.{Judged, moved_to}
 use Rattle.network_tables.proofs.Places.{signal-line-is}
 use Rattle.network_tables.proofs.Stages.{judged-refused, judged-passed}
-use Rattle.network_tables.proofs.Signals.{numbers-same}
-use Rattle.network_signals.specs.Signals.{head_fields, signal_from}
+use Rattle.network_signals.specs.Signals.{head_fields}
 use Rattle.network_signals.specs.Stages.{SignalAsked, SignalHeld}
 use Rattle.network_signals.proofs.Values.{signal-read}
 use Rattle.std.specs.Prelude.{Option, Some, None, Ok, Err}
@@ -50,15 +49,15 @@ module _ (network : List Line) (r : ℕ) where
         all-values f = rw (head, phases, form, f)
 
 -- ---- the turns of `read_signal`
-module _ {text : List ℕ} {reading : Reading} {r : ℕ} {old : List ℕ} (asked : SignalAsked text reading r old) {head : List ℕ} {flag : Bool}
-    (read : HeadRead letter_g head_fields text reading.next 0 old flag head) {line : ℕ} (l : line ≡ signal_line_in reading.counts r) where
-  refused : (number item : ℕ) {after : List ℕ} {q : Refusal} → q ≡ refusal number (line + 1) item → verdict (signal_checks (lines text) r) ≡ Err (refusal number (suc (signal_line (lines text) r)) item)
-      → Judged (signal_checks (lines text) r) (SignalHeld text r after) (Err q)
+module _ {text : List ℕ} {reading : Reading} {r : ℕ} {signals : List Signal} (asked : SignalAsked text reading r signals) {old : List ℕ} (clear : old ≡ replicate signal_fields 0)
+    {head : List ℕ} {flag : Bool} (read : HeadRead letter_g head_fields text reading.next 0 old flag head) {line : ℕ} (l : line ≡ signal_line_in reading.counts r) where
+  refused : (number item : ℕ) {after : List Signal} {q : Refusal} → q ≡ refusal number (line + 1) item → verdict (signal_checks (lines text) r) ≡ Err (refusal number (suc (signal_line (lines text) r)) item)
+      → Judged (signal_checks (lines text) r) (SignalHeld text r signals after) (Err q)
   refused number item t e =
       let told : line + 1 ≡ suc (signal_line (lines text) r) = omega (arith, signal-line-is asked.counted r) in rw (t, told) (judged-refused e)
 
   -- the first seven fields
-  pub stop-head : not flag ≡ true → {after : List ℕ} {q : Refusal} → q ≡ refusal 1 (line + 1) 0 → Judged (signal_checks (lines text) r) (SignalHeld text r after) (Err q)
+  pub stop-head : not flag ≡ true → {after : List Signal} {q : Refusal} → q ≡ refusal 1 (line + 1) 0 → Judged (signal_checks (lines text) r) (SignalHeld text r signals after) (Err q)
   stop-head n t = refused 1 0 t (not-head (lines text) r (sym (read.told (signal_line (lines text) r) asked.starts) ∙ not-true flag n))
 
   module _ (n : not flag ≡ false) {phases : ℕ} (p : phases ≡ get_or head 2 0) {valid : Bool} (v : valid ≡ within 2 phases 8) where
@@ -74,27 +73,27 @@ module _ {text : List ℕ} {reading : Reading} {r : ℕ} {old : List ℕ} (asked
     phases-same = rw (← phases-read) v
 
     -- the number of phases
-    pub stop-phases : not valid ≡ true → {after : List ℕ} {q : Refusal} → q ≡ refusal 3 (line + 1) (r + 1) → Judged (signal_checks (lines text) r) (SignalHeld text r after) (Err q)
+    pub stop-phases : not valid ≡ true → {after : List Signal} {q : Refusal} → q ≡ refusal 3 (line + 1) (r + 1) → Judged (signal_checks (lines text) r) (SignalHeld text r signals after) (Err q)
     stop-phases m t = refused 3 (r + 1) t (rw add-one (not-phases (lines text) r head-well (sym phases-same ∙ not-true valid m)))
 
     module _ (m : not valid ≡ false) where
       phases-well : valid_phases (signal (lines text) r) ≡ true
       phases-well = sym phases-same ∙ not-false valid m
 
-      pub few-valid : phases ≤ 8
+      few-valid : phases ≤ 8
       unfolding within
       few-valid = leb-true phases 8 (and_right (leb 2 phases) (leb phases 8) (sym v ∙ not-false valid m))
 
+      head-size : length head ≡ signal_fields
+      head-size = read.size ∙ ap length clear ∙ length-replicate {A = ℕ} signal_fields 0
+
       -- the whole line has at most 22 numbers
       pub whole-fits : 0 + (head_fields + 2 * phases) ≤ length head
-      whole-fits = omega (arith, few-valid, read.size, asked.clear.size)
+      whole-fits = omega (arith, few-valid, head-size)
 
       module _ {fields : List ℕ} {result : (Option ℕ)} (row : RowRead letter_g (head_fields + 2 * phases) text reading.next 0 head result fields) where
-        size : length fields ≡ signal_fields
-        size = row.size ∙ read.size ∙ asked.clear.size
-
         -- the rest of its form
-        pub stop-form : result ≡ None → {after : List ℕ} {q : Refusal} → q ≡ refusal 1 (line + 1) 0 → Judged (signal_checks (lines text) r) (SignalHeld text r after) (Err q)
+        pub stop-form : result ≡ None → {after : List Signal} {q : Refusal} → q ≡ refusal 1 (line + 1) 0 → Judged (signal_checks (lines text) r) (SignalHeld text r signals after) (Err q)
         stop-form e t =
             refused 1 0 t (not-form (lines text) r head-well phases-well (rw phases-read at (row.malformed e (signal_line (lines text) r) asked.starts)))
 
@@ -102,47 +101,51 @@ module _ {text : List ℕ} {reading : Reading} {r : ℕ} {old : List ℕ} (asked
           form : is_form (lines text) (signal_line (lines text) r) letter_g (head_fields + 2 * phases) ≡ true
           form = (row.held next e (signal_line (lines text) r) asked.starts).form
 
+          zero-past : (k : ℕ) → get_or old k 0 ≡ 0
+          zero-past k = elim (dec_le signal_fields k) [
+            | yes h ↦ List·getD-eq-default old 0 (omega (arith, ap length clear, length-replicate {A = ℕ} signal_fields 0))
+            | no h ↦ ap (λ l. get_or l k 0) clear ∙ get_or-replicate {A = ℕ} signal_fields k 0 0 (omega arith)
+          ]
+
           -- what the line lacks of eight phases is 0
           number_at : (k : ℕ) → get_or fields k 0 ≡ entry (lines text) (signal_line (lines text) r) k
           unfolding entry is_form
           number_at k = elim (dec_le (head_fields + 2 * phases) k) [
             | yes h ↦
-                row.above k (omega arith) ∙ read.above k (omega arith) ∙ asked.clear.rest k (omega arith)
+                row.above k (omega arith) ∙ read.above k (omega arith) ∙ zero-past k
                 ∙ sym (record-past letter_g (head_fields + 2 * phases) (get_or (lines text) (signal_line (lines text) r) no_line) form k h)
             | no h ↦
                 let z : k ≡ 0 + k = omega arith in
                 ap (λ x. get_or fields x 0) z ∙ (row.held next e (signal_line (lines text) r) asked.starts).numbers k (omega arith)
           ]
 
-          signal-here : signal_from fields ≡ signal (lines text) r
-          signal-here = signal-read (lines text) r fields number_at
+          few : (signal (lines text) r).phases ≤ 8
+          few = omega (arith, phases-read, few-valid)
 
-          few : (signal_from fields).phases ≤ 8
-          few = omega (arith, ap (λ (s : Signal). s.phases) signal-here, phases-read, few-valid)
-
-          module _ {s : Signal} (here : s ≡ signal_by (λ k. get_or fields (0 + k) 0)) where
-            q : s ≡ signal_from fields
-            q = here ∙ numbers-same _ _ (λ k l. let z : 0 + k ≡ k = omega arith in ap (λ x. get_or fields x 0) z)
+          module _ {s : Signal} (here : s ≡ signal_by (λ k. get_or fields k 0)) where
+            signal-here : s ≡ signal (lines text) r
+            signal-here = here ∙ signal-read (lines text) r fields number_at
 
             pub few-phases : s.phases ≤ 8
-            few-phases = rw q few
+            few-phases = rw signal-here few
 
             module _ {good : Bool} (g : good ≡ valid_signal s) where
               values : good ≡ valid_signal (signal (lines text) r)
-              values = g ∙ ap valid_signal (q ∙ signal-here)
+              values = g ∙ ap valid_signal signal-here
 
-              pub stop-values : not good ≡ true → {refuse : Refusal} → refuse ≡ refusal 3 (line + 1) (r + 1)
-                  → Judged (signal_checks (lines text) r) (SignalHeld text r fields) (Err refuse)
+              pub stop-values : not good ≡ true → {after : List Signal} {refuse : Refusal} → refuse ≡ refusal 3 (line + 1) (r + 1)
+                  → Judged (signal_checks (lines text) r) (SignalHeld text r signals after) (Err refuse)
               stop-values b t =
                   refused 3 (r + 1) t
                   (rw add-one (not-values (lines text) r head-well phases-well (rw phases-read at form) (sym values ∙ not-true good b)))
 
-              pub pass-line : not good ≡ false → {moved : Reading} → moved ≡ moved_to reading next → Judged (signal_checks (lines text) r) (SignalHeld text r fields) (Ok moved)
+              pub pass-line : not good ≡ false → {moved : Reading} → moved ≡ moved_to reading next
+                  → Judged (signal_checks (lines text) r) (SignalHeld text r signals (set signals r s)) (Ok moved)
               unfolding signal_line
               pass-line b t =
                   rw t
                   (judged-passed (all-values (lines text) r head-well phases-well (rw phases-read at form) (sym values ∙ not-false good b))
-                  (record { size = size; signals = signal-here; few = few; starts = rw on (row.held next e (signal_line (lines text) r) asked.starts).starts }))
+                  (record { table = ap (set signals r) signal-here; few = few; starts = rw on (row.held next e (signal_line (lines text) r) asked.starts).starts }))
                 where
                   on : 1 + (tram_count (lines text) + suc r) ≡ suc (1 + (tram_count (lines text) + r))
                   on = omega arith

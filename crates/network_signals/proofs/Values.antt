@@ -7,7 +7,7 @@ use Rattle.base_laws.specs.Indexed.{list}
 use Rattle.model.specs.Network.{entry, signal_line, signal}
 use Rattle.model.specs.Rules.{valid_signal}
 use Rattle.network_tables.specs.Fields.{signal_by}
-use Rattle.network_signals.specs.Signals.{signal_from, valid_time, valid_times, shortest_time}
+use Rattle.network_signals.specs.Signals.{valid_time, valid_times, shortest_time}
 
 -- the greatest time of one phase more
 pub shortest-more : (s : Signal) (k x so_far shortest : ℕ) → so_far ≡ shortest_time s k x → shortest ≡ min so_far (get_or s.greatest k 0)
@@ -53,6 +53,6 @@ shortest-all s x y (suc n) =
 
 -- a signal whose numbers are those of `G` line r
 pub signal-read : (network : List Line) (r : ℕ) (fields : List ℕ) → ((k : ℕ) → get_or fields k 0 ≡ entry network (signal_line network r) k)
-    → signal_from fields ≡ signal network r
+    → signal_by (λ k. get_or fields k 0) ≡ signal network r
 unfolding signal list
 signal-read network r fields h = ap signal_by (fun_ext h)

@@ -1,16 +1,11 @@
 -- What is read of the `G` lines.
-use Rattle.std.specs.Prelude.{ℕ, zero, suc, Bool, List, min, leb, get_or}
+use Rattle.std.specs.Prelude.{ℕ, zero, suc, Bool, min, leb, get_or}
 use Rattle.model.specs.declared.Signal.{Signal}
 use Rattle.base_laws.specs.Test.{◌and◌, within, every}
-use Rattle.network_tables.specs.Fields.{signal_by}
 
 -- how many numbers a `G` line has before those of its phases
 abbrev pub head_fields : ℕ
 head_fields = 6
-
--- a signal by the numbers of a `G` line, where what the line lacks of eight phases is 0
-abbrev pub signal_from : List ℕ → Signal
-signal_from fields = signal_by (λ k. get_or fields k 0)
 
 -- 3, the times of one phase: 1 ≤ least ≤ greatest ≤ 3600
 unfoldable pub valid_time : ℕ → ℕ → Bool

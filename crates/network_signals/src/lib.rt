@@ -6,11 +6,11 @@ ghost use Rattle.text_reader.specs.Lines.{lines};
 ghost use Rattle.base_laws.specs.Test.{within};
 ghost use Rattle.model.specs.Rules.{valid_signal};
 ghost use Rattle.model.specs.Table.{count_checks, signal_checks};
-ghost use Rattle.network_tables.specs.Tables.{Judged, SignalTable};
+ghost use Rattle.network_tables.specs.Tables.{Judged};
 ghost use Rattle.network_tables.specs.Blocks.{block_checks, signal_block};
 ghost use Rattle.network_signals.specs.Counts.{count_fields, counts_from, valid_counts_in, CountsHeld};
 ghost use Rattle.network_signals.specs.Signals.{valid_time, valid_times, shortest_time};
-ghost use Rattle.network_signals.specs.Stages.{SignalAsked, SignalHeld, SignalsAsked, SignalsHeld, LoadAsked};
+ghost use Rattle.network_signals.specs.Stages.{SignalAsked, SignalHeld, SignalsAsked, SignalsHeld};
 
 use base_search::Refusal;
 use model::Signal;
@@ -42,12 +42,12 @@ fn counts_from(fields: &[u32]) -> Counts
     ensures { result ≡ counts_from fields.now }
 {
     Counts {
-        links: network_tables::index(fields[0]),
-        signals: network_tables::index(fields[1]),
-        movements: network_tables::index(fields[2]),
-        steps: network_tables::index(fields[3]),
-        trams: network_tables::index(fields[4]),
-        past: network_tables::index(fields[5]),
+        links: fields[0] as usize,
+        signals: fields[1] as usize,
+        movements: fields[2] as usize,
+        steps: fields[3] as usize,
+        trams: fields[4] as usize,
+        past: fields[5] as usize,
     }
 }
 
@@ -56,8 +56,9 @@ pub fn read_counts(text: &[u8]) -> Result<Reading, Refusal>
     ensures { Judged (count_checks (lines text.now)) (CountsHeld text.now) result }
 {
     let mut fields = [0u32; COUNT_FIELDS];
-    let read = network_tables::read_row(text, 0, b'N', &mut fields, 0, COUNT_FIELDS);
-    let next = read.ok_or(Refusal::new(1, 1, 0))?;
+    let Some(next) = network_tables::read_row(text, 0, b'N', &mut fields, 0, COUNT_FIELDS) else {
+        return Err(Refusal::new(1, 1, 0));
+    };
     let counts = counts_from(&fields);
     if !valid_counts(counts) {
         return Err(Refusal::new(2, 1, 0));
@@ -129,56 +130,53 @@ fn valid_phases(phases: usize) -> bool
     (2 <= phases) & (phases <= 8)
 }
 
-// The `G` line of signal `r` into `fields`: refusal 1 for its first seven fields, 3 for its number of phases, 1 for the rest of its form, 3 for its other
+// The `G` line of signal `r` into its place: refusal 1 for its first seven fields, 3 for its number of phases, 1 for the rest of its form, 3 for its other
 // values.
 fn read_signal(
     text: &[u8],
     reading: Reading,
     r: usize,
-    fields: &mut [u32],
+    signals: &mut [Signal],
 ) -> Result<Reading, Refusal>
-    requires { SignalAsked text.now reading r fields.old }
-    ensures { Judged (signal_checks (lines text.now) r) (SignalHeld text.now r fields.new) result }
+    requires { SignalAsked text.now reading r signals.old }
+    ensures { Judged (signal_checks (lines text.now) r) (SignalHeld text.now r signals.old signals.new) result }
 {
     let at = reading.next;
-    let counts = reading.counts;
-    let line = counts.signal_line(r) + 1;
-    if !network_tables::read_head(text, at, b'G', fields, 0, HEAD_FIELDS) {
+    let line = reading.counts.signal_line(r) + 1;
+    let mut fields = [0u32; SIGNAL_FIELDS];
+    if !network_tables::read_head(text, at, b'G', &mut fields, 0, HEAD_FIELDS) {
         return Err(Refusal::new(1, line, 0));
     }
-    let phases = network_tables::index(fields[2]);
+    let phases = fields[2] as usize;
     if !valid_phases(phases) {
         return Err(Refusal::new(3, line, r + 1));
     }
-    let read = network_tables::read_row(text, at, b'G', fields, 0, HEAD_FIELDS + 2 * phases);
-    let next = read.ok_or(Refusal::new(1, line, 0))?;
-    if !valid_signal(network_tables::signal_from(fields, 0)) {
+    let width = HEAD_FIELDS + 2 * phases;
+    let Some(next) = network_tables::read_row(text, at, b'G', &mut fields, 0, width) else {
+        return Err(Refusal::new(1, line, 0));
+    };
+    let signal = network_tables::signal_from(&fields);
+    if !valid_signal(signal) {
         return Err(Refusal::new(3, line, r + 1));
     }
+    signals[r] = signal;
     Ok(reading.moved_to(next))
 }
 
-// All `G` lines, into a table of zeros: the first refusal, or the signals, the number of phases of each, and the shortest of all greatest times, 60 where all
-// are longer: no step has more seconds (refusal 6).
+// All `G` lines: the first refusal, or the signals, and the shortest of all greatest times, 60 where all are longer: no step has more seconds (refusal 6).
 pub fn read_signals(
     text: &[u8],
     reading: Reading,
-    phases: &mut [u32],
-    signals: &mut [u32],
+    signals: &mut [Signal],
 ) -> Result<Reading, Refusal>
-    requires { SignalsAsked text.now reading phases.old signals.old }
-    ensures { Judged (block_checks (signal_block (lines text.now))) (SignalsHeld text.now phases.new signals.new) result }
+    requires { SignalsAsked text.now reading signals.old }
+    ensures { Judged (block_checks (signal_block (lines text.now))) (SignalsHeld text.now signals.new) result }
 {
-    let counts = reading.counts;
     let mut place = reading.next;
     let mut shortest = 60;
-    for r in 0..counts.signals {
-        let start = SIGNAL_FIELDS * r;
-        let end = start + SIGNAL_FIELDS;
-        let passed = read_signal(text, reading.moved_to(place), r, &mut signals[start..end])?;
-        let signal = network_tables::signal_in(signals, r);
-        phases[r] = signal.phases;
-        shortest = shortest_time(signal, shortest);
+    for r in 0..reading.counts.signals {
+        let passed = read_signal(text, reading.moved_to(place), r, signals)?;
+        shortest = shortest_time(signals[r], shortest);
         place = passed.next;
     }
     Ok(Reading {
@@ -187,22 +185,4 @@ pub fn read_signals(
         shortest,
         ..reading
     })
-}
-
-// The signals again, into a table of zeros, for a second plan: the `G` lines have passed, so that none of them is refused here.
-pub fn load_signals(text: &[u8], reading: Reading, signals: &mut [u32])
-    requires { LoadAsked text.now reading signals.old }
-    ensures { SignalTable (lines text.now) signals.new }
-{
-    let counts = reading.counts;
-    let mut place = reading.signals_at;
-    for r in 0..counts.signals {
-        let start = SIGNAL_FIELDS * r;
-        let end = start + SIGNAL_FIELDS;
-        let stage = read_signal(text, reading.moved_to(place), r, &mut signals[start..end]);
-        let Ok(passed) = stage else {
-            return;
-        };
-        place = passed.next;
-    }
 }

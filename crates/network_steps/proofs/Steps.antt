@@ -12,7 +12,7 @@ use Rattle.model.specs.Table.{is_form, letter_s, step_checks}
 use Rattle.network_tables.specs.declared.Reading.{Reading}
 use Rattle.network_tables.specs.Places.{step_line_in}
 use Rattle.network_tables.specs.Fields.{step_size, length_in, demand_in}
-use Rattle.network_tables.specs.Rows.{LineHeld, RowRead}
+use Rattle.network_tables.specs.Rows.{LineHeld, ReadAgain, RowRead}
 use Rattle.network_tables.specs.Blocks.{block_checks, ReadTo, Records, step_block}
 use Rattle.network_tables.specs.Tables.{Judged, StepNumbers}
 use Rattle.network_tables.proofs.Tables.{step-length-at, demand-at}
@@ -21,10 +21,10 @@ use Rattle.network_tables.proofs.Blocks.{passed-all, block-begin, block-end, rec
 use Rattle.network_tables.proofs.Stages.{judged-refused, judged-passed}
 use Rattle.step_arrivals.specs.Timed.{TimeSet, TimedTo}
 use Rattle.step_arrivals.proofs.Timed.{timed-next}
-use Rattle.network_steps.specs.Steps.{valid_step_in, LoadAsked, Loaded, AddAsked, Added, StepsAsked, StepsHeld}
+use Rattle.network_steps.specs.Steps.{valid_step_in, AddAsked, Added, StepsAsked, StepsHeld}
 use Rattle.model.proofs.Limits.{limits-of-step}
 use Rattle.network_steps.proofs.Values.{step-within, valid-step-is}
-use Rattle.std.specs.Prelude.{unwrap_or, Option, Some, None, Ok, Err}
+use Rattle.std.specs.Prelude.{Option, Some, None, Ok, Err}
 
 -- ---- one line
 step-line-suc : (network : List Line) (n : ℕ) → step_line network (suc n) ≡ suc (step_line network n)
@@ -36,36 +36,17 @@ held-numbers : {text : List ℕ} {n next links : ℕ} {step : List ℕ} → Line
 held-numbers {step = step} h e size =
     record { size = size; holds = λ k l. let z : k ≡ 0 + k = omega arith in ap (λ x. get_or step x 0) z ∙ h.numbers k (omega arith) }
 
-module _ {text : List ℕ} {at links : ℕ} {old step : List ℕ} {r : (Option ℕ)} (asked : LoadAsked text at links old) (row : RowRead letter_s (1 + links) text at 0 old r step) where
-  load-next : {next : ℕ} → r ≡ Some next → Loaded text at links next step
-  load-next {next} e = record { size = row.size ∙ asked.size; held = λ line s. row.held next e line s }
+-- an `S` line that has passed is read again: its numbers are those of step n, and the next line is that of the step after
+module _ {text : List ℕ} {at links : ℕ} {old : List ℕ} {next : ℕ} {step : List ℕ} (read : ReadAgain letter_s (1 + links) text at old next step) (n : ℕ) (s : Starts text at (step_line (lines text) n))
+    (e : links ≡ link_count (lines text)) (f : is_form (lines text) (step_line (lines text) n) letter_s (1 + link_count (lines text)) ≡ true) where
+  held : LineHeld letter_s (1 + links) text (step_line (lines text) n) next 0 step
+  held = read.held (step_line (lines text) n) s (rw e f)
 
-  -- a line that has passed is not malformed
-  load-never : r ≡ None → Loaded text at links at step
-  load-never e =
-      let f = asked.form in
-      let m = row.malformed e asked.line asked.starts in
-      let z : ◌≡◌ {A = ℕ} 0 1 = cc in
-      absurd (omega arith)
+  pub again-numbers : length old ≡ step_size → StepNumbers (lines text) n step
+  again-numbers size = held-numbers held e (read.size ∙ size)
 
-  pub step-loaded : {next : ℕ} → next ≡ unwrap_or r at → Loaded text at links next step
-  step-loaded e = rw e (by r refl)
-    where
-      by : (o : Option ℕ) → r ≡ o → Loaded text at links (unwrap_or o at) step
-      by (Some next) e = load-next e
-      by None e = load-never e
-
--- an `S` line that has passed can be loaded: its numbers are those of step n, and the next line is that of the step after
-module _ (text : List ℕ) (at n links : ℕ) (s : Starts text at (step_line (lines text) n)) (e : links ≡ link_count (lines text)) where
-  pub load-ready : is_form (lines text) (step_line (lines text) n) letter_s (1 + link_count (lines text)) ≡ true → links ≤ max_links → {step : List ℕ} → length step ≡ step_size
-      → LoadAsked text at links step
-  load-ready f few size = record { few = few; size = size; line = step_line (lines text) n; starts = s; form = rw e f }
-
-  pub loaded-numbers : {next : ℕ} {step : List ℕ} → Loaded text at links next step → StepNumbers (lines text) n step
-  loaded-numbers m = held-numbers (m.held (step_line (lines text) n) s) e m.size
-
-  pub loaded-next : {next : ℕ} {step : List ℕ} → Loaded text at links next step → Starts text next (step_line (lines text) (suc n))
-  loaded-next m = rw (step-line-suc (lines text) n) (m.held (step_line (lines text) n) s).starts
+  pub again-next : Starts text next (step_line (lines text) (suc n))
+  again-next = rw (step-line-suc (lines text) n) held.starts
 
 -- ---- the turns of `add_demands`
 pub record AddedTo (step : List ℕ) (links : ℕ) (before demands : List ℕ) (n : ℕ) : Type 0 where

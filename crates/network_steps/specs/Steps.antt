@@ -1,14 +1,12 @@
 -- The numbers of one `S` line, its length and then the demand of each link, and what the functions that read such lines ask and promise.
-use Rattle.std.specs.Prelude.{ℕ, ◌+◌, ◌≤◌, ◌<◌, ◌≡◌, Bool, true, List, leb, length, get_or}
+use Rattle.std.specs.Prelude.{ℕ, ◌+◌, ◌≤◌, ◌<◌, ◌≡◌, Bool, List, leb, length, get_or}
 use Rattle.text_reader.specs.Lines.{lines}
 use Rattle.text_reader.specs.Reading.{Starts}
 use Rattle.base_laws.specs.Sum.{sum}
 use Rattle.base_laws.specs.Test.{◌and◌, within, every}
 use Rattle.model.specs.Network.{max_links, link_count, past_count, step_count, timeline_line, step_line, demand}
-use Rattle.model.specs.Table.{is_form, letter_s}
 use Rattle.network_tables.specs.declared.Reading.{Reading}
 use Rattle.network_tables.specs.Fields.{step_size, length_in, demand_in}
-use Rattle.network_tables.specs.Rows.{LineHeld}
 use Rattle.network_tables.specs.Tables.{Reached}
 use Rattle.step_arrivals.specs.Timed.{valid_lengths, TimedTo}
 
@@ -19,19 +17,6 @@ valid_demands_in step links = every links (λ i. leb (demand_in step i) 600_000)
 -- 6: the length is 1 to 60 and at most the shortest of all greatest times, and the demands are valid
 unfoldable pub valid_step_in : List ℕ → ℕ → ℕ → Bool
 valid_step_in step links shortest = within 1 (length_in step) 60 and leb (length_in step) shortest and valid_demands_in step links
-
--- what a load of an `S` line that has passed asks ..
-pub record LoadAsked (text : List ℕ) (at links : ℕ) (step : List ℕ) : Type 0 where
-  pub few : links ≤ max_links
-  pub size : length step ≡ step_size
-  pub line : ℕ
-  pub starts : Starts text at line
-  pub form : is_form (lines text) line letter_s (1 + links) ≡ true
-
--- .. and promises: the numbers of the line that starts at the place, and the place of the next
-pub record Loaded (text : List ℕ) (at links next : ℕ) (step : List ℕ) : Type 0 where
-  pub size : length step ≡ step_size
-  pub held : (line : ℕ) → Starts text at line → LineHeld letter_s (1 + links) text line next 0 step
 
 -- what adding the demands of a line to the sums of so many links asks: no sum is too large ..
 pub record AddAsked (step : List ℕ) (links : ℕ) (demands : List ℕ) : Type 0 where

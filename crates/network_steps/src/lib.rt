@@ -7,7 +7,7 @@ ghost use Rattle.model.specs.Network.{max_links};
 ghost use Rattle.network_tables.specs.Fields.{step_size};
 ghost use Rattle.network_tables.specs.Tables.{Judged};
 ghost use Rattle.network_tables.specs.Blocks.{block_checks, step_block};
-ghost use Rattle.network_steps.specs.Steps.{valid_demands_in, valid_step_in, LoadAsked, Loaded, AddAsked, Added, StepsAsked, StepsHeld};
+ghost use Rattle.network_steps.specs.Steps.{valid_demands_in, valid_step_in, AddAsked, Added, StepsAsked, StepsHeld};
 
 use base_search::Refusal;
 use network_tables::{Reading, STEP_SIZE};
@@ -27,14 +27,6 @@ fn valid_step(step: &[u32], links: usize, shortest: u32) -> bool
 {
     let seconds = network_tables::step_length(step);
     (1 <= seconds) & (seconds <= 60) & (seconds <= shortest) & valid_demands(step, links)
-}
-
-// Reads an `S` line that has passed again, and gives the place of the next line. Such a line is never malformed.
-pub fn load_step(text: &[u8], at: usize, links: usize, step: &mut [u32]) -> usize
-    requires { LoadAsked text.now at links step.old }
-    ensures { Loaded text.now at links result step.new }
-{
-    network_tables::read_row(text, at, b'S', step, 0, 1 + links).unwrap_or(at)
 }
 
 // Adds the demand of each link to its sum, which fits 32 bits.

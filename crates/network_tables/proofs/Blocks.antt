@@ -1,5 +1,5 @@
 -- The lines of a block, read one after another: one law for each way through a turn of the loop.
-use Rattle.base_laws.proofs.Kit.{ℕ, suc, ◌+◌, ◌*◌, ◌≤◌, ◌<◌, ◌≡◌, sym, ap, ◌∙◌, Bool, true, false, ◌⊎◌, inl, inr, List, eq-or-lt_of_le, mul-le-mul_left, mul-suc, sub-zero, add-one, arith, length, get_or}
+use Rattle.base_laws.proofs.Kit.{ℕ, suc, ◌+◌, ◌≤◌, ◌<◌, ◌≡◌, sym, ap, ◌∙◌, Bool, true, false, ◌⊎◌, inl, inr, List, eq-or-lt_of_le, sub-zero, add-one, arith, length, get_or, set, length-set, get_or-set_same, get_or-set_other}
 use Rattle.base_search.specs.declared.Refusal.{Refusal}
 use Rattle.base_search.specs.Checks.{refusal, Checks, each, or_else, checked, verdict, Verdict}
 use Rattle.base_search.proofs.Laws.{first-hit, first_next, first_done}
@@ -8,7 +8,8 @@ use Rattle.text_reader.specs.Reading.{Starts}
 use Rattle.model.specs.Network.{entry}
 use Rattle.model.specs.Table.{record_checks}
 use Rattle.network_tables.specs.Rows.{RowRead, LineHeld}
-use Rattle.network_tables.specs.Blocks.{Block, block_checks, PassedTo, ReadTo, Records, RowsTo, TableTo, RowsJudged, RowsHeld}
+use Rattle.network_tables.proofs.Rows.{line-fields}
+use Rattle.network_tables.specs.Blocks.{Block, block_checks, fields, PassedTo, ReadTo, Records, RowsTo, TableTo, RowsJudged, RowsHeld}
 use Rattle.std.specs.Prelude.{Option, Some, None, Ok, Err}
 use Rattle.std.specs.Borrow.{Bor}
 
@@ -73,66 +74,65 @@ module _ {text : List ℕ} {b : Block} {at : ℕ} where
             block-next h (ap verdict (records.shape i) ∙ line-valid row (b.place i) number (suc i) (valid i) inv.starts e v)
             (rw (records.follow i) (row.held next e (b.place i) inv.starts).starts)
 
--- ---- the rows of a table
-pub table-begin : {text : List ℕ} {b : Block} {width size at : ℕ} {table : List ℕ} → Starts text at (b.place 0) → length table ≡ size → TableTo text b width size at 0 table
-table-begin s room = record { read = block-begin s; room = room; rows = record { numbers = λ j k h. absurd (omega arith) } }
+-- ---- the items of a table
+module _ {T : Type 0} {Gives : List ℕ → T → Type 0} where
+  pub table-begin : {text : List ℕ} {b : Block} {width size at : ℕ} {table : List T} → Starts text at (b.place 0) → length table ≡ size → TableTo Gives text b width size at 0 table
+  table-begin s room = record { read = block-begin s; room = room; rows = record { given = λ j h. absurd (omega arith) } }
 
-row_before : (width : ℕ) {j i k : ℕ} → j < i → k < width → width * j + k < width * i
-row_before width {j} {i} h l = omega (arith, mul-le-mul_left {m = suc j} {n = i} width (omega arith), mul-suc width j)
-
--- one row more is read, and those before it are kept
-module _ {text : List ℕ} {b : Block} {width size at i : ℕ} {table : List ℕ} (inv : TableTo text b width size at i table) {letter : ℕ} {r : (Option ℕ)} {after : List ℕ}
-    (row : RowRead letter width text at (width * i) table r after) where
-  pub table-room : length after ≡ size
-  table-room = row.size ∙ inv.room
-
-  module _ {next : ℕ} (e : r ≡ Some next) where
-    pub table-rows : RowsTo (lines text) b width (i + 1) after
-    table-rows = record { numbers = λ j k h l. by k l (eq-or-lt_of_le {n = j} {m = i} (omega arith)) }
+  -- one item more is made of its line, and those before it are kept
+  module _ {text : List ℕ} {b : Block} {width size at i : ℕ} {table : List T} (inv : TableTo Gives text b width size at i table) (room : i < size)
+      {item : T} (made : Gives (fields (lines text) (b.place i) width) item) where
+    pub table-rows : RowsTo Gives (lines text) b width (i + 1) (set table i item)
+    table-rows = record { given = λ j h none. by none (eq-or-lt_of_le {n = j} {m = i} (omega arith)) }
       where
-        by : {j : ℕ} (k : ℕ) → k < width → (j ≡ i) ⊎ (j < i) → get_or after (width * j + k) 0 ≡ entry (lines text) (b.place j) k
-        by k l (inl q) = rw q ((row.held next e (b.place i) inv.read.starts).numbers k l)
-        by {j} k l (inr q) = row.below (width * j + k) (row_before width q l) ∙ inv.rows.numbers j k q l
+        by : {j : ℕ} (none : T) → (j ≡ i) ⊎ (j < i) → Gives (fields (lines text) (b.place j) width) (get_or (set table i item) j none)
+        by none (inl q) = rw (q, get_or-set_same table i item none (omega (arith, inv.room))) made
+        by {j} none (inr q) = rw (get_or-set_other table i j item none (λ e. omega arith)) (inv.rows.given j q none)
 
-    pub table-next : ReadTo text b next (i + 1) → TableTo text b width size next (i + 1) after
-    table-next read = record { read = read; room = table-room; rows = table-rows }
+    pub table-next : {next : ℕ} → ReadTo text b next (i + 1) → TableTo Gives text b width size next (i + 1) (set table i item)
+    table-next read = record { read = read; room = length-set table i item ∙ inv.room; rows = table-rows }
 
--- ---- rows that are judged as they are read
-module _ {text : List ℕ} {b : Block} {letter width first count size : ℕ} {post : Bor (List ℕ) → ℕ → Verdict → Type 0} (judged : RowsJudged (lines text) b letter width first count size post)
-    {at i : ℕ} {table : List ℕ} (inv : TableTo text b width size at i table) (h : i < count) {r : Option ℕ} {after : List ℕ} (row : RowRead letter width text at (width * i) table r after) where
-  below : i < b.count
-  below = omega (arith, judged.counted)
+  -- ---- items that are judged as they are read
+  module _ {text : List ℕ} {b : Block} {letter width first count size : ℕ} {post : Bor (List T) → ℕ → Verdict → Type 0} (judged : RowsJudged Gives (lines text) b letter width first count size post)
+      {at i : ℕ} {table : List T} (inv : TableTo Gives text b width size at i table) (h : i < count) {old : List ℕ} {r : Option ℕ} {after : List ℕ} (row : RowRead letter width text at 0 old r after) where
+    below : i < b.count
+    below = omega (arith, judged.counted)
 
-  pub judged-malformed : r ≡ None → verdict (block_checks b) ≡ Err (refusal 1 (first + i) 0)
-  judged-malformed e = passed-stop inv.read.passed below (judged.forms i (row.malformed e (b.place i) inv.read.starts))
+    pub judged-malformed : r ≡ None → verdict (block_checks b) ≡ Err (refusal 1 (first + i) 0)
+    judged-malformed e = passed-stop inv.read.passed below (judged.forms i (row.malformed e (b.place i) inv.read.starts))
 
-  module _ {next : ℕ} (e : r ≡ Some next) {shown : Bor (List ℕ)} (shows : shown.now ≡ after) {said : Verdict} (says : post shown i said) where
-    line : LineHeld letter width text (b.place i) next (width * i) after
-    line = row.held next e (b.place i) inv.read.starts
+    module _ {next : ℕ} (e : r ≡ Some next) (fill : length old ≡ width) (room : i < size) {item : T} (gives : Gives after item)
+        {shown : Bor (List T)} (shows : shown.now ≡ set table i item) {said : Verdict} (says : post shown i said) where
+      line : LineHeld letter width text (b.place i) next 0 after
+      line = row.held next e (b.place i) inv.read.starts
 
-    said-is : verdict (b.checks i) ≡ said
-    said-is = judged.values i shown said h (ap length shows ∙ table-room inv row) (rw shows (table-rows inv row e)) line.form says
+      made : Gives (fields (lines text) (b.place i) width) item
+      made = rw (line-fields line (row.size ∙ fill)) at gives
 
-    pub judged-broken : {q : Refusal} → said ≡ Err q → verdict (block_checks b) ≡ Err q
-    judged-broken s = passed-stop inv.read.passed below (said-is ∙ s)
+      said-is : verdict (b.checks i) ≡ said
+      said-is =
+          judged.values i shown said h (ap length shows ∙ length-set table i item ∙ inv.room) (rw shows (table-rows inv room made)) line.form says
 
-    pub judged-next : said ≡ Ok tt → TableTo text b width size next (i + 1) after
-    judged-next s =
-        let follows : b.place (suc i) ≡ suc (b.place i) = omega (arith, judged.places i, judged.places (suc i)) in
-        table-next inv row e (block-next inv.read below (said-is ∙ s) (rw follows line.starts))
+      pub judged-broken : {q : Refusal} → said ≡ Err q → verdict (block_checks b) ≡ Err q
+      judged-broken s = passed-stop inv.read.passed below (said-is ∙ s)
 
-pub rows-refused : {text : List ℕ} {b : Block} {width size : ℕ} {table : List ℕ} {r : Refusal} → verdict (block_checks b) ≡ Err r → RowsHeld text b width size (Err r) table
-rows-refused {r} e =
-    record {
-      refused = λ q z. let same : r ≡ q = cc in rw same at e;
-      held = λ next z. let z : ◌≡◌ {A = ℕ} 0 1 = cc in absurd (omega arith);
-    }
+      pub judged-next : said ≡ Ok tt → TableTo Gives text b width size next (i + 1) (set table i item)
+      judged-next s =
+          let follows : b.place (suc i) ≡ suc (b.place i) = omega (arith, judged.places i, judged.places (suc i)) in
+          table-next inv room made (block-next inv.read below (said-is ∙ s) (rw follows line.starts))
+
+  pub rows-refused : {text : List ℕ} {b : Block} {width size : ℕ} {table : List T} {r : Refusal} → verdict (block_checks b) ≡ Err r → RowsHeld Gives text b width size (Err r) table
+  rows-refused {r} e =
+      record {
+        refused = λ q z. let same : r ≡ q = cc in rw same at e;
+        held = λ next z. let z : ◌≡◌ {A = ℕ} 0 1 = cc in absurd (omega arith);
+      }
 
 -- records are judged by their values
-module _ {text : List Line} {b : Block} {letter width first count size number : ℕ} {valid : ℕ → Bool} {item : ℕ → ℕ} {post : Bor (List ℕ) → ℕ → Verdict → Type 0} where
+module _ {T : Type 0} {Gives : List ℕ → T → Type 0} {text : List Line} {b : Block} {letter width first count size number : ℕ} {valid : ℕ → Bool} {item : ℕ → ℕ} {post : Bor (List T) → ℕ → Verdict → Type 0} where
   pub records-judged : ((i : ℕ) → b.checks i ≡ record_checks text (b.place i) letter width number (item i) (valid i)) → b.count ≡ count → ((i : ℕ) → suc (b.place i) ≡ first + i)
-      → ((i : ℕ) (table : Bor (List ℕ)) (said : Verdict) → i < count → RowsTo text b width (i + 1) table.now → post table i said → said ≡ checked (valid i) number (first + i) (item i))
-      → RowsJudged text b letter width first count size post
+      → ((i : ℕ) (table : Bor (List T)) (said : Verdict) → i < count → RowsTo Gives text b width (i + 1) table.now → post table i said → said ≡ checked (valid i) number (first + i) (item i))
+      → RowsJudged Gives text b letter width first count size post
   unfolding verdict or_else checked
   records-judged shape counted places values =
       record {

@@ -1,5 +1,4 @@
 pub mod Tables
-pub mod Signals
 pub mod Places
 pub mod Rows
 pub mod Blocks

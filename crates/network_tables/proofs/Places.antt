@@ -14,21 +14,9 @@ record-within letter n text i e = elim (dec_le (length text) i) [
 ]
 
 module _ {network : List Line} {counts : Counts} (c : CountsHold network counts) (i : ℕ) where
-  pub tram-line-is : tram_line_in counts i ≡ tram_line network i
-  unfolding tram_line
-  tram-line-is = omega arith
-
   pub signal-line-is : signal_line_in counts i ≡ signal_line network i
   unfolding signal_line
   signal-line-is = omega arith
-
-  pub link-line-is : link_line_in counts i ≡ link_line network i
-  unfolding link_line
-  link-line-is = omega arith
-
-  pub movement-line-is : movement_line_in counts i ≡ movement_line network i
-  unfolding movement_line
-  movement-line-is = omega arith
 
   pub timeline-line-is : timeline_line_in counts i ≡ timeline_line network i
   unfolding timeline_line

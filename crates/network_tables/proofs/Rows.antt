@@ -1,13 +1,16 @@
 -- A line that is read into a row of a table.
-use Rattle.base_laws.proofs.Kit.{ℕ, ◌+◌, ◌-◌, ◌≤◌, ◌<◌, ◌≡◌, refl, sym, ap, ◌∙◌, Bool, List, ◌++◌, arith, length, take, drop, get_or, length-append, length-take, length-drop, List·getD-append, length-take-le, get_or-take, get_or-drop, get_or-append-add}
-use Rattle.text_reader.specs.Lines.{starts_as, number}
+use Rattle.base_laws.proofs.Kit.{ℕ, ◌+◌, ◌-◌, ◌≤◌, ◌<◌, ◌≡◌, refl, sym, ap, ◌∙◌, Bool, List, ◌++◌, arith, length, take, drop, get_or, ext_get_or, length-append, length-take, length-drop, List·getD-append, length-take-le, get_or-take, get_or-drop, get_or-append-add}
+use Rattle.text_reader.specs.Lines.{lines, starts_as, number}
 use Rattle.text_reader.specs.Reading.{line_at, leading_as, record_at, Got}
 use Rattle.text_reader.proofs.Laws.{got-record, got-head, record-read, record-malformed, starts-line, starts-next}
 use Rattle.model.specs.Network.{entry}
 use Rattle.model.specs.Table.{is_form}
-use Rattle.network_tables.specs.Rows.{RowRead, HeadRead}
+use Rattle.base_laws.specs.Indexed.{list}
+use Rattle.base_laws.proofs.Laws.{length-list, get-list}
+use Rattle.network_tables.specs.Rows.{LineHeld, RowRead, ReadAgain, HeadRead}
+use Rattle.network_tables.specs.Blocks.{fields}
 use Rattle.base_search.specs.declared.Refusal.{Refusal}
-use Rattle.std.specs.Prelude.{Option, Some, None, Err, ok_or}
+use Rattle.std.specs.Prelude.{Option, Some, None, Err, ok_or, unwrap_or}
 
 -- a part of a table, w numbers from s on, that comes back as p
 module _ (table p : List ℕ) (s w : ℕ) (h : s + w ≤ length table) (kept : length p ≡ length (take (s + w - s) (drop s table))) where
@@ -80,3 +83,14 @@ module _ (table p : List ℕ) (s w : ℕ) (h : s + w ≤ length table) (kept : l
 pub row-refused : (o : Option ℕ) {e q : Refusal} → Err q ≡ ok_or o e → (o ≡ None) × (q ≡ e)
 row-refused None h = (refl, cc)
 row-refused (Some next) h = let z : ◌≡◌ {A = ℕ} 0 1 = cc in absurd (omega arith)
+
+-- a line that has passed, read again: its answer where none is for a malformed line, which it is not
+pub again : {letter width : ℕ} {text : List ℕ} {at : ℕ} {before after : List ℕ} (r : Option ℕ) → RowRead letter width text at 0 before r after → ReadAgain letter width text at before (unwrap_or r at) after
+again (Some next) row = record { size = row.size; held = λ i s f. row.held next refl i s }
+again None row = record { size = row.size; held = λ i s f. let m = row.malformed refl i s in let z : ◌≡◌ {A = ℕ} 0 1 = cc in absurd (omega arith) }
+
+-- an array of so many numbers, when a line is read into it
+pub line-fields : {letter width : ℕ} {text : List ℕ} {i next : ℕ} {after : List ℕ} → LineHeld letter width text i next 0 after → length after ≡ width → after ≡ fields (lines text) i width
+line-fields {width = width} {text = text} {i = i} {after = after} held size =
+    let f : ℕ → ℕ = entry (lines text) i in
+    ext_get_or 0 after (list width f) (size ∙ sym (length-list f width)) (λ k l. let here : k ≡ 0 + k = omega arith in ap (λ n. get_or after n 0) here ∙ held.numbers k (omega (arith, size)) ∙ sym (get-list f 0 width k (omega (arith, size))))

@@ -3,54 +3,56 @@ use Rattle.base_laws.proofs.Kit.{ℕ, ◌+◌, ◌*◌, ◌<◌, ◌≡◌, sym,
 use Rattle.text_reader.specs.Lines.{Line}
 use Rattle.model.specs.Network.{link_count, signal_count, movement_count, capacity, travel_time, exit_rate, signal_of, phase_mask, standing, waiting_at_start, from_link, to_link, rate, share, step_line, timeline_length, past_entries, past_exits, step_length, demand}
 use Rattle.model.specs.Flows.{shown_mask, admitted, let_out, moved}
-use Rattle.network_tables.specs.Fields.{link_fields, capacity_in, travel_time_in, exit_rate_in, signal_in, phase_mask_in, standing_in, waiting_at_start_in, link_in, rate_in, share_in, past_entries_in, past_exits_in, length_in, demand_in}
+use Rattle.network_tables.specs.Fields.{capacity_in, travel_time_in, exit_rate_in, signal_in, phase_mask_in, standing_in, waiting_at_start_in, link_in, rate_in, share_in, past_entries_in, past_exits_in, length_in, demand_in}
+use Rattle.network_tables.specs.declared.Link.{Link}
+use Rattle.network_tables.specs.declared.Movement.{Movement}
 use Rattle.network_tables.specs.Tables.{LinkTable, MovementTable, PastNumbers, StepNumbers, PlanNumbers}
 
-module _ {network : List Line} {links : List ℕ} (t : LinkTable network links) (i : ℕ) (h : i < link_count network) where
+module _ {network : List Line} {links : List Link} (t : LinkTable network links) (i : ℕ) (h : i < link_count network) where
   pub capacity-at : capacity_in links i ≡ capacity network i
   unfolding capacity
-  capacity-at = let e : link_fields * i + 0 ≡ link_fields * i = omega arith in ap (λ x. get_or links x 0) (sym e) ∙ t.holds i 0 h (omega arith)
+  capacity-at = ap (λ link. link.capacity) (t.holds i h)
 
   pub travel-time-at : travel_time_in links i ≡ travel_time network i
   unfolding travel_time
-  travel-time-at = t.holds i 1 h (omega arith)
+  travel-time-at = ap (λ link. link.travel_time) (t.holds i h)
 
   pub exit-rate-at : exit_rate_in links i ≡ exit_rate network i
   unfolding exit_rate
-  exit-rate-at = t.holds i 2 h (omega arith)
+  exit-rate-at = ap (λ link. link.exit_rate) (t.holds i h)
 
   pub signal-of-at : signal_in links i ≡ signal_of network i
   unfolding signal_of
-  signal-of-at = t.holds i 3 h (omega arith)
+  signal-of-at = ap (λ link. link.signal) (t.holds i h)
 
   pub phase-mask-at : phase_mask_in links i ≡ phase_mask network i
   unfolding phase_mask
-  phase-mask-at = t.holds i 4 h (omega arith)
+  phase-mask-at = ap (λ link. link.phase_mask) (t.holds i h)
 
   pub standing-at : standing_in links i ≡ standing network i
   unfolding standing
-  standing-at = t.holds i 5 h (omega arith)
+  standing-at = ap (λ link. link.standing) (t.holds i h)
 
   pub waiting-at-start-at : waiting_at_start_in links i ≡ waiting_at_start network i
   unfolding waiting_at_start
-  waiting-at-start-at = t.holds i 6 h (omega arith)
+  waiting-at-start-at = ap (λ link. link.waiting) (t.holds i h)
 
-module _ {network : List Line} {movements : List ℕ} (t : MovementTable network movements) (j : ℕ) (h : j < movement_count network) where
+module _ {network : List Line} {movements : List Movement} (t : MovementTable network movements) (j : ℕ) (h : j < movement_count network) where
   pub from-link-at : link_in movements 0 j ≡ from_link network j
   unfolding from_link
-  from-link-at = t.holds j 0 h (omega arith)
+  from-link-at = ap (λ movement. movement.from) (t.holds j h)
 
   pub to-link-at : link_in movements 1 j ≡ to_link network j
   unfolding to_link
-  to-link-at = t.holds j 1 h (omega arith)
+  to-link-at = ap (λ movement. movement.to) (t.holds j h)
 
   pub rate-at : rate_in movements j ≡ rate network j
   unfolding rate
-  rate-at = t.holds j 2 h (omega arith)
+  rate-at = ap (λ movement. movement.rate) (t.holds j h)
 
   pub share-at : share_in movements j ≡ share network j
   unfolding share
-  share-at = t.holds j 3 h (omega arith)
+  share-at = ap (λ movement. movement.share) (t.holds j h)
 
 module _ {network : List Line} {m : ℕ} {past : List ℕ} (t : PastNumbers network m past) where
   pub past-length-at : length_in past ≡ timeline_length network m

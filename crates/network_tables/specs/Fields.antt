@@ -1,12 +1,15 @@
 -- The numbers of the program's tables by their names in the paper. Links, movements and signals are counted from 0; a link's signal and a movement's links are
 -- named from 1.
-use Rattle.std.specs.Prelude.{ℕ, suc, ◌+◌, ◌*◌, ◌≤◌, ◌<◌, List, [], ◌∷◌, length, get_or}
+use Rattle.std.specs.Prelude.{ℕ, suc, cond, eqb, ◌+◌, ◌*◌, ◌≤◌, ◌<◌, List, [], ◌∷◌, length, get_or}
 use Rattle.model.specs.declared.Signal.{Signal}
-use Rattle.model.specs.Network.{max_links, max_signals, max_movements, max_steps, max_trams}
+use Rattle.model.specs.Network.{max_links, max_signals, max_movements, max_steps}
 use Rattle.network_tables.specs.declared.Counts.{Counts}
+use Rattle.network_tables.specs.declared.Tram.{Tram}
+use Rattle.network_tables.specs.declared.Link.{Link}
+use Rattle.network_tables.specs.declared.Movement.{Movement}
 use Rattle.network_tables.specs.Places.{admitted_place, let_out_place, moved_place}
 
--- how many numbers a `T`, a `Q` and an `M` line have, and a `G` line of eight phases, and the sizes of the tables
+-- how many numbers a `T`, a `Q` and an `M` line have, and a `G` line of eight phases, and the sizes of the other tables
 abbrev pub tram_fields : ℕ
 tram_fields = 4
 
@@ -18,18 +21,6 @@ link_fields = 7
 
 abbrev pub movement_fields : ℕ
 movement_fields = 4
-
-abbrev pub tram_table_size : ℕ
-tram_table_size = tram_fields * max_trams
-
-abbrev pub signal_table_size : ℕ
-signal_table_size = signal_fields * max_signals
-
-abbrev pub link_table_size : ℕ
-link_table_size = link_fields * max_links
-
-abbrev pub movement_table_size : ℕ
-movement_table_size = movement_fields * max_movements
 
 abbrev pub time_table_size : ℕ
 time_table_size = max_steps + 1
@@ -46,11 +37,10 @@ line_size = max_signals + (2 * max_links + max_movements)
 abbrev pub row_size : ℕ
 row_size = 2 * max_links
 
--- tram line k, by the table of the `T` lines: its signal, phase, first step and last step
-abbrev pub tram_in : List ℕ → ℕ → ℕ → ℕ
-tram_in trams k field = get_or trams (tram_fields * k + field) 0
+-- a tram, a signal of eight phases, a link and a movement by the numbers of their lines
+abbrev pub tram_by : (ℕ → ℕ) → Tram
+tram_by number = record { signal = number 0; phase = number 1; first_step = number 2; last_step = number 3 }
 
--- a signal by its numbers, as a `G` line of eight phases has them
 abbrev pub signal_by : (ℕ → ℕ) → Signal
 signal_by number =
     record {
@@ -64,41 +54,78 @@ signal_by number =
       greatest = number 7 ∷ number 9 ∷ number 11 ∷ number 13 ∷ number 15 ∷ number 17 ∷ number 19 ∷ number 21 ∷ [];
     }
 
--- signal r, by the table of the `G` lines
-unfoldable pub table_signal : List ℕ → ℕ → Signal
-table_signal signals r = signal_by (λ k. get_or signals (signal_fields * r + k) 0)
+abbrev pub link_by : (ℕ → ℕ) → Link
+link_by number =
+    record {
+      capacity = number 0;
+      travel_time = number 1;
+      exit_rate = number 2;
+      signal = number 3;
+      phase_mask = number 4;
+      standing = number 5;
+      waiting = number 6;
+    }
+
+abbrev pub movement_by : (ℕ → ℕ) → Movement
+movement_by number = record { from = number 0; to = number 1; rate = number 2; share = number 3 }
+
+-- what stands at a place of a table, and past its end numbers of 0: of a signal without times
+abbrev pub no_signal : Signal
+no_signal =
+    record {
+      least_cycle = 0;
+      greatest_cycle = 0;
+      phases = 0;
+      shown = 0;
+      shown_for = 0;
+      cycle_clock = 0;
+      least = [];
+      greatest = [];
+    }
+
+abbrev pub tram_at : List Tram → ℕ → Tram
+tram_at trams k = get_or trams k (tram_by (λ k. 0))
+
+abbrev pub signal_at : List Signal → ℕ → Signal
+signal_at signals r = get_or signals r no_signal
+
+abbrev pub link_at : List Link → ℕ → Link
+link_at links i = get_or links i (link_by (λ k. 0))
+
+abbrev pub movement_at : List Movement → ℕ → Movement
+movement_at movements j = get_or movements j (movement_by (λ k. 0))
 
 -- link i, by the table of the `Q` lines
-abbrev pub capacity_in : List ℕ → ℕ → ℕ
-capacity_in links i = get_or links (link_fields * i) 0
+abbrev pub capacity_in : List Link → ℕ → ℕ
+capacity_in links i = (link_at links i).capacity
 
-abbrev pub travel_time_in : List ℕ → ℕ → ℕ
-travel_time_in links i = get_or links (link_fields * i + 1) 0
+abbrev pub travel_time_in : List Link → ℕ → ℕ
+travel_time_in links i = (link_at links i).travel_time
 
-abbrev pub exit_rate_in : List ℕ → ℕ → ℕ
-exit_rate_in links i = get_or links (link_fields * i + 2) 0
+abbrev pub exit_rate_in : List Link → ℕ → ℕ
+exit_rate_in links i = (link_at links i).exit_rate
 
-abbrev pub signal_in : List ℕ → ℕ → ℕ
-signal_in links i = get_or links (link_fields * i + 3) 0
+abbrev pub signal_in : List Link → ℕ → ℕ
+signal_in links i = (link_at links i).signal
 
-abbrev pub phase_mask_in : List ℕ → ℕ → ℕ
-phase_mask_in links i = get_or links (link_fields * i + 4) 0
+abbrev pub phase_mask_in : List Link → ℕ → ℕ
+phase_mask_in links i = (link_at links i).phase_mask
 
-abbrev pub standing_in : List ℕ → ℕ → ℕ
-standing_in links i = get_or links (link_fields * i + 5) 0
+abbrev pub standing_in : List Link → ℕ → ℕ
+standing_in links i = (link_at links i).standing
 
-abbrev pub waiting_at_start_in : List ℕ → ℕ → ℕ
-waiting_at_start_in links i = get_or links (link_fields * i + 6) 0
+abbrev pub waiting_at_start_in : List Link → ℕ → ℕ
+waiting_at_start_in links i = (link_at links i).waiting
 
 -- movement j, by the table of the `M` lines: the link that it leaves (side 0) or enters (side 1)
-abbrev pub link_in : List ℕ → ℕ → ℕ → ℕ
-link_in movements side j = get_or movements (movement_fields * j + side) 0
+abbrev pub link_in : List Movement → ℕ → ℕ → ℕ
+link_in movements side j = cond (eqb side 0) (movement_at movements j).from (movement_at movements j).to
 
-abbrev pub rate_in : List ℕ → ℕ → ℕ
-rate_in movements j = get_or movements (movement_fields * j + 2) 0
+abbrev pub rate_in : List Movement → ℕ → ℕ
+rate_in movements j = (movement_at movements j).rate
 
-abbrev pub share_in : List ℕ → ℕ → ℕ
-share_in movements j = get_or movements (movement_fields * j + 3) 0
+abbrev pub share_in : List Movement → ℕ → ℕ
+share_in movements j = (movement_at movements j).share
 
 -- the numbers of an `H` line: what entered link i in its step, and what left it; its length stands first, as in an `S` line
 abbrev pub past_entries_in : List ℕ → ℕ → ℕ

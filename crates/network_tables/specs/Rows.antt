@@ -19,7 +19,12 @@ pub record RowRead (letter width : ℕ) (text : List ℕ) (at start : ℕ) (befo
   pub malformed : result ≡ None → (i : ℕ) → Starts text at i → is_form (lines text) i letter width ≡ false
   pub held : (next : ℕ) → result ≡ Some next → (i : ℕ) → Starts text at i → LineHeld letter width text i next start after
 
--- the same of the beginning of a line
+-- a line that has passed is read again: its numbers, and the place of the next line
+pub record ReadAgain (letter width : ℕ) (text : List ℕ) (at : ℕ) (before : List ℕ) (next : ℕ) (after : List ℕ) : Type 0 where
+  pub size : length after ≡ length before
+  pub held : (i : ℕ) → Starts text at i → is_form (lines text) i letter width ≡ true → LineHeld letter width text i next 0 after
+
+-- as RowRead, of the beginning of a line
 pub record HeadRead (letter width : ℕ) (text : List ℕ) (at start : ℕ) (before : List ℕ) (result : Bool) (after : List ℕ) : Type 0 where
   pub size : length after ≡ length before
   pub below : (k : ℕ) → k < start → get_or after k 0 ≡ get_or before k 0

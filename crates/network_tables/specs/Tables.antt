@@ -1,15 +1,18 @@
 -- What the program's tables hold of a network text while it is judged. Not of the paper: the contracts between the crates of the program speak of these.
-use Rattle.std.specs.Prelude.{ℕ, ◌+◌, ◌*◌, ◌≤◌, ◌<◌, ◌≡◌, ◌≢◌, List, leb, length, get_or, Result, Ok, Err}
+use Rattle.std.specs.Prelude.{ℕ, ◌+◌, ◌*◌, ◌≤◌, ◌<◌, ◌≡◌, List, leb, length, get_or, Result, Ok, Err}
 use Rattle.base_search.specs.Checks.{Checks, verdict, Verdict}
 use Rattle.text_reader.specs.Lines.{Line, lines}
 use Rattle.text_reader.specs.Reading.{Starts}
 use Rattle.model.specs.declared.Signal.{Signal}
 use Rattle.base_laws.specs.Test.{every}
-use Rattle.model.specs.Network.{max_signals, entry, link_count, signal_count, movement_count, step_count, tram_count, past_count, on_timeline, tram_line, signal_line, link_line, movement_line, timeline_line, step_line, signal, timeline_time}
+use Rattle.model.specs.Network.{max_links, max_signals, max_movements, max_trams, entry, link_count, signal_count, movement_count, step_count, tram_count, past_count, on_timeline, tram_line, signal_line, link_line, movement_line, timeline_line, step_line, signal, timeline_time}
 use Rattle.network_tables.specs.declared.Counts.{Counts}
 use Rattle.network_tables.specs.declared.Reading.{Reading}
 use Rattle.network_tables.specs.Places.{Few}
-use Rattle.network_tables.specs.Fields.{tram_fields, link_fields, movement_fields, tram_table_size, signal_table_size, table_signal, link_table_size, movement_table_size, time_table_size, past_size, step_size, line_size}
+use Rattle.network_tables.specs.declared.Tram.{Tram}
+use Rattle.network_tables.specs.declared.Link.{Link}
+use Rattle.network_tables.specs.declared.Movement.{Movement}
+use Rattle.network_tables.specs.Fields.{tram_by, link_by, movement_by, tram_at, signal_at, link_at, movement_at, time_table_size, past_size, step_size, line_size}
 use Rattle.base_search.specs.declared.Refusal.{Refusal}
 
 -- the verdict on a stage: some lines pass, or one of them is refused
@@ -49,9 +52,9 @@ moved_to reading next =
     }
 
 -- the signals before the plan
-pub record SignalTable (network : List Line) (signals : List ℕ) : Type 0 where
-  pub size : length signals ≡ signal_table_size
-  pub holds : (r : ℕ) → r < signal_count network → table_signal signals r ≡ signal network r
+pub record SignalTable (network : List Line) (signals : List Signal) : Type 0 where
+  pub size : length signals ≡ max_signals
+  pub holds : (r : ℕ) → r < signal_count network → signal_at signals r ≡ signal network r
 
 -- a signal that shows a phase, for so many seconds, with its cycle clock at so many; its limits are kept
 abbrev pub showing : Signal → ℕ → ℕ → ℕ → Signal
@@ -67,17 +70,16 @@ showing s q shown_for clock =
       greatest = s.greatest;
     }
 
--- the table with signal r as it is now; the others are kept
-pub record SignalLaid (before : List ℕ) (r : ℕ) (s : Signal) (after : List ℕ) : Type 0 where
-  pub size : length after ≡ length before
-  pub laid : table_signal after r ≡ s
-  pub kept : (i : ℕ) → i ≢ r → table_signal after i ≡ table_signal before i
+-- the tables of a network have their sizes, and its counts are few
+pub record TablesSized (reading : Reading) (links : List Link) (movements : List Movement) (times : List ℕ) : Type 0 where
+  pub few : Few reading.counts
+  pub link-size : length links ≡ max_links
+  pub movement-size : length movements ≡ max_movements
+  pub time-size : length times ≡ time_table_size
 
--- the number of phases of each signal, 8 at most
-pub record PhaseTable (network : List Line) (phases : List ℕ) : Type 0 where
-  pub size : length phases ≡ max_signals
-  pub holds : (r : ℕ) → r < signal_count network → get_or phases r 0 ≡ (signal network r).phases
-  pub few : (r : ℕ) → r < signal_count network → get_or phases r 0 ≤ 8
+-- no signal has more than 8 phases
+pub record FewPhases (network : List Line) (signals : List Signal) : Type 0 where
+  pub few : (r : ℕ) → r < signal_count network → (signal_at signals r).phases ≤ 8
 
 -- the shortest of all greatest times: a step of x seconds is at most every phase's greatest time exactly if it is at most this
 pub record Shortest (network : List Line) (shortest : ℕ) : Type 0 where
@@ -92,20 +94,18 @@ pub record Reached (text : List ℕ) (line : ℕ) (reading : Reading) : Type 0 w
   pub signals-start : Starts text reading.signals_at (signal_line (lines text) 0)
   pub shortest-time : Shortest (lines text) reading.shortest
 
--- four numbers a tram line, as its `T` line has them
-pub record TramTable (network : List Line) (trams : List ℕ) : Type 0 where
-  pub size : length trams ≡ tram_table_size
-  pub holds : (k f : ℕ) → k < tram_count network → f < tram_fields → get_or trams (tram_fields * k + f) 0 ≡ entry network (tram_line network k) f
+-- the trams, links and movements, by their lines
+pub record TramTable (network : List Line) (trams : List Tram) : Type 0 where
+  pub size : length trams ≡ max_trams
+  pub holds : (k : ℕ) → k < tram_count network → tram_at trams k ≡ tram_by (entry network (tram_line network k))
 
--- seven numbers a link, as its `Q` line has them
-pub record LinkTable (network : List Line) (links : List ℕ) : Type 0 where
-  pub size : length links ≡ link_table_size
-  pub holds : (i k : ℕ) → i < link_count network → k < link_fields → get_or links (link_fields * i + k) 0 ≡ entry network (link_line network i) k
+pub record LinkTable (network : List Line) (links : List Link) : Type 0 where
+  pub size : length links ≡ max_links
+  pub holds : (i : ℕ) → i < link_count network → link_at links i ≡ link_by (entry network (link_line network i))
 
--- four numbers a movement, as its `M` line has them
-pub record MovementTable (network : List Line) (movements : List ℕ) : Type 0 where
-  pub size : length movements ≡ movement_table_size
-  pub holds : (j k : ℕ) → j < movement_count network → k < movement_fields → get_or movements (movement_fields * j + k) 0 ≡ entry network (movement_line network j) k
+pub record MovementTable (network : List Line) (movements : List Movement) : Type 0 where
+  pub size : length movements ≡ max_movements
+  pub holds : (j : ℕ) → j < movement_count network → movement_at movements j ≡ movement_by (entry network (movement_line network j))
 
 -- the time of each boundary of the timeline
 pub record TimeTable (network : List Line) (times : List ℕ) : Type 0 where

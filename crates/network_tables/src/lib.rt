@@ -1,18 +1,18 @@
 // The program's tables of a network and a plan: their sizes, and each number by its name in the paper. Links, signals, movements
 // and steps are counted from 0 here.
-#![tactic(auto, unfolding(crate::specs::Fields::table_signal))]
+#![tactic(auto)]
 
 ghost use Rattle.std.specs.Prelude.{◌≡◌, ◌+◌, ◌*◌, ◌<◌, ◌≤◌, length, get_or};
 ghost use Rattle.model.specs.Network.{max_links, max_signals, max_movements, max_steps, max_trams, max_past};
 ghost use Rattle.network_tables.specs.Places.{tram_line_in, signal_line_in, link_line_in, movement_line_in, timeline_line_in, step_line_in, plan_width, Few};
-ghost use Rattle.network_tables.specs.Fields.{tram_table_size, tram_in, signal_table_size, signal_by, table_signal, link_table_size, movement_table_size, step_size, line_size, capacity_in, travel_time_in, exit_rate_in, signal_in, phase_mask_in, standing_in, waiting_at_start_in, link_in, rate_in, share_in, length_in, demand_in, admitted_in, let_out_in, moved_in, entered_in, left_in, entered_at, left_at, RowHeld};
+ghost use Rattle.network_tables.specs.Fields.{signal_fields, step_size, line_size, tram_by, link_by, movement_by, signal_by, length_in, demand_in, admitted_in, let_out_in, moved_in, entered_in, left_in, entered_at, left_at, RowHeld};
 ghost use Rattle.base_search.specs.Checks.{checked};
 ghost use Rattle.text_reader.specs.Lines.{lines};
 ghost use Rattle.text_reader.specs.Reading.{Starts};
-ghost use Rattle.network_tables.specs.Rows.{RowRead, HeadRead};
+ghost use Rattle.network_tables.specs.Rows.{RowRead, ReadAgain, HeadRead};
 ghost use Rattle.network_tables.specs.Blocks.{Block, Judges, RowsJudged, RowsHeld};
 ghost use Rattle.network_tables.specs.Sums.{Summed};
-ghost use Rattle.network_tables.specs.Tables.{moved_to, showing, SignalLaid};
+ghost use Rattle.network_tables.specs.Tables.{moved_to, TablesSized};
 
 use base_search::Refusal;
 use model::Signal;
@@ -29,7 +29,7 @@ pub const MAX_TRAMS: usize = 16;
 
 pub const MAX_PAST: usize = 120;
 
-// The most numbers that a `T`, `G`, `Q`, `M`, `H`, `S` and `P` line have.
+// How many numbers a `T`, a `Q` and an `M` line have, and at most a `G`, an `H`, an `S` and a `P` line.
 pub const TRAM_FIELDS: usize = 4;
 
 pub const SIGNAL_FIELDS: usize = 6 + 2 * 8;
@@ -44,15 +44,7 @@ pub const STEP_SIZE: usize = 1 + MAX_LINKS;
 
 pub const LINE_SIZE: usize = MAX_SIGNALS + 2 * MAX_LINKS + MAX_MOVEMENTS;
 
-// The sizes of the tables of all tram lines, all signals, all links, all movements, the time of each boundary of the timeline, and of a row of the ledger.
-pub const TRAM_TABLE_SIZE: usize = TRAM_FIELDS * MAX_TRAMS;
-
-pub const SIGNAL_TABLE_SIZE: usize = SIGNAL_FIELDS * MAX_SIGNALS;
-
-pub const LINK_TABLE_SIZE: usize = LINK_FIELDS * MAX_LINKS;
-
-pub const MOVEMENT_TABLE_SIZE: usize = MOVEMENT_FIELDS * MAX_MOVEMENTS;
-
+// The sizes of the times of all boundaries of the timeline, and of a row of the ledger.
 pub const TIME_TABLE_SIZE: usize = MAX_STEPS + 1;
 
 pub const ROW_SIZE: usize = 2 * MAX_LINKS;
@@ -66,6 +58,78 @@ pub struct Counts {
     pub steps: usize,
     pub trams: usize,
     pub past: usize,
+}
+
+// A `T` line: the signal and the phase that a tram asks, from its first to its last step; all counted from 1.
+#[derive(Clone, Copy, Default)]
+pub struct Tram {
+    pub signal: u32,
+    pub phase: u32,
+    pub first_step: u32,
+    pub last_step: u32,
+}
+
+impl From<[u32; TRAM_FIELDS]> for Tram {
+    ghost from_gives = { λ fields tram. tram ≡ tram_by (λ k. get_or fields k 0) };
+
+    fn from(fields: [u32; TRAM_FIELDS]) -> Self {
+        Tram {
+            signal: fields[0],
+            phase: fields[1],
+            first_step: fields[2],
+            last_step: fields[3],
+        }
+    }
+}
+
+// A `Q` line: a link, with the number of its signal, from 1, or 0 for none.
+#[derive(Clone, Copy, Default)]
+pub struct Link {
+    pub capacity: u32,
+    pub travel_time: u32,
+    pub exit_rate: u32,
+    pub signal: u32,
+    pub phase_mask: u32,
+    pub standing: u32,
+    pub waiting: u32,
+}
+
+impl From<[u32; LINK_FIELDS]> for Link {
+    ghost from_gives = { λ fields link. link ≡ link_by (λ k. get_or fields k 0) };
+
+    fn from(fields: [u32; LINK_FIELDS]) -> Self {
+        Link {
+            capacity: fields[0],
+            travel_time: fields[1],
+            exit_rate: fields[2],
+            signal: fields[3],
+            phase_mask: fields[4],
+            standing: fields[5],
+            waiting: fields[6],
+        }
+    }
+}
+
+// An `M` line: a movement from one link to another, both numbered from 1.
+#[derive(Clone, Copy, Default)]
+pub struct Movement {
+    pub from: u32,
+    pub to: u32,
+    pub rate: u32,
+    pub share: u32,
+}
+
+impl From<[u32; MOVEMENT_FIELDS]> for Movement {
+    ghost from_gives = { λ fields movement. movement ≡ movement_by (λ k. get_or fields k 0) };
+
+    fn from(fields: [u32; MOVEMENT_FIELDS]) -> Self {
+        Movement {
+            from: fields[0],
+            to: fields[1],
+            rate: fields[2],
+            share: fields[3],
+        }
+    }
 }
 
 // How far a network text has been read while its lines pass: its counts, the place of the next line, the places where its `T`, its `G`, its `H` and its `S` lines
@@ -89,6 +153,16 @@ impl Reading {
         self.next = next;
         self
     }
+}
+
+// What the reading of a network gives, but for its signals, which change from step to step: all tables are lent.
+#[derive(Clone, Copy)]
+pub struct NetworkTables<'a> {
+    pub reading: Reading,
+    pub links: &'a [Link],
+    pub movements: &'a [Movement],
+    pub times: &'a [u32],
+    ghost sized: { TablesSized reading links.now movements.now times.now },
 }
 
 // The places of lines in a network text, from 0, and how many numbers a `P` line has.
@@ -143,24 +217,11 @@ impl Counts {
     }
 }
 
-// A number of 32 bits as an index, and as one of 64 bits, in which sums and products of a few fit.
-pub fn index(x: u32) -> usize
-    ensures { (result ≡ x) × (result < 4294967296) }
-{
-    x as usize
-}
-
-pub fn wide(x: u32) -> u64
-    ensures { (result ≡ x) × (result < 4294967296) }
-{
-    x as u64
-}
-
 // The whole product of two numbers of 32 bits.
 pub fn times(a: u32, b: u32) -> u64
     ensures { result ≡ a * b }
 {
-    wide(a) * wide(b)
+    u64::from(a) * u64::from(b)
 }
 
 // Reads a line of this letter and `width` numbers into the table's row that starts at `start`.
@@ -177,6 +238,14 @@ pub fn read_row(
 {
     let end = start + width;
     text_reader::line_at(text, at, letter, &mut table[start..end])
+}
+
+// Reads a line that has passed again, and gives the place of the next line. Such a line is never malformed.
+pub fn read_again(text: &[u8], at: usize, letter: u8, row: &mut [u32], width: usize) -> usize
+    requires { width ≤ length row.old }
+    ensures { ReadAgain letter width text.now at row.old result row.new }
+{
+    read_row(text, at, letter, row, 0, width).unwrap_or(at)
 }
 
 // Reads the first `width` numbers of a line of this letter, whatever follows them, into the table's row that starts at `start`.
@@ -207,29 +276,37 @@ pub fn checked(holds: bool, number: u32, line: usize, item: usize) -> Result<(),
     }
 }
 
-// Reads `count` lines of a letter, each straight into its row of a table, where it is judged before the next line is read: the place behind the last of them, or
-// the first refusal. `first` is the line, from 1, that starts at `at`.
-pub fn read_rows<F: Fn(&[u32], usize) -> Result<(), Refusal>>(
+// Reads `count` lines of a letter, each into its item of a table, where it is judged before the next line is read: the place behind the last of them, or the
+// first refusal. `first` is the line, from 1, that starts at `at`.
+pub fn read_rows<
+    const W: usize,
+    T: From<[u32; W]> + Copy,
+    F: Fn(&[T], usize) -> Result<(), Refusal>,
+>(
     text: &[u8],
     at: usize,
     letter: u8,
-    width: usize,
     first: usize,
     count: usize,
-    table: &mut [u32],
+    table: &mut [T],
     judge: F,
 ) -> Result<usize, Refusal>
-    requires room { width * count ≤ length table.old }
+    requires fields { W ≤ signal_fields }
+    requires room { count ≤ length table.old }
     requires few { first + count < 4294967296 }
     requires judges { Judges (F.pre judge) count (length table.old) }
-    ensures { (b : Block) → RowsJudged (lines text.now) b letter width first count (length table.old) (F.post judge) → Starts text.now at (b.place 0)
-        → RowsHeld text.now b width (length table.old) result table.new }
+    ensures { (b : Block) → RowsJudged T.from_gives (lines text.now) b letter W first count (length table.old) (F.post judge) → Starts text.now at (b.place 0)
+        → RowsHeld T.from_gives text.now b W (length table.old) result table.new }
 {
+    let mut fields = [0u32; W];
     let mut place = at;
     for k in 0..count {
-        let read = read_row(text, place, letter, table, width * k, width);
-        place = read.ok_or(Refusal::new(1, first + k, 0))?;
+        let Some(next) = read_row(text, place, letter, &mut fields, 0, W) else {
+            return Err(Refusal::new(1, first + k, 0));
+        };
+        table[k] = T::from(fields);
         judge(table, k)?;
+        place = next;
     }
     Ok(place)
 }
@@ -248,185 +325,27 @@ pub fn add_numbers(line: &[u32], count: usize, sums: &mut [u32]) -> bool
     true
 }
 
-// A number of a tram line, as its `T` line has it: signal, phase, first step and last step.
-pub fn tram(trams: &[u32], k: usize, field: usize) -> u32
-    requires { (k < max_trams) × (field < 4) × (length trams.now ≡ tram_table_size) }
-    ensures { result ≡ tram_in trams.now k field }
-{
-    trams[TRAM_FIELDS * k + field]
-}
-
-// A signal's numbers, as its `G` line has them; what it shows changes from step to step.
-pub fn greatest_cycle(signals: &[u32], r: usize) -> u32
-    requires { (r < max_signals) × (length signals.now ≡ signal_table_size) }
-    ensures { result ≡ (table_signal signals.now r).greatest_cycle }
-{
-    signals[SIGNAL_FIELDS * r + 1]
-}
-
-pub fn phase_count(signals: &[u32], r: usize) -> u32
-    requires { (r < max_signals) × (length signals.now ≡ signal_table_size) }
-    ensures { result ≡ (table_signal signals.now r).phases }
-{
-    signals[SIGNAL_FIELDS * r + 2]
-}
-
-pub fn shown_phase(signals: &[u32], r: usize) -> u32
-    requires { (r < max_signals) × (length signals.now ≡ signal_table_size) }
-    ensures { result ≡ (table_signal signals.now r).shown }
-{
-    signals[SIGNAL_FIELDS * r + 3]
-}
-
-pub fn shown_for(signals: &[u32], r: usize) -> u32
-    requires { (r < max_signals) × (length signals.now ≡ signal_table_size) }
-    ensures { result ≡ (table_signal signals.now r).shown_for }
-{
-    signals[SIGNAL_FIELDS * r + 4]
-}
-
-// The least and the greatest time of a phase, counted from 0.
-pub fn least_time(signals: &[u32], r: usize, place: usize) -> u32
-    requires { (r < max_signals) × (place < 8) × (length signals.now ≡ signal_table_size) }
-    ensures { result ≡ get_or (table_signal signals.now r).least place 0 }
-{
-    signals[SIGNAL_FIELDS * r + (6 + 2 * place)]
-}
-
-pub fn greatest_time(signals: &[u32], r: usize, place: usize) -> u32
-    requires { (r < max_signals) × (place < 8) × (length signals.now ≡ signal_table_size) }
-    ensures { result ≡ get_or (table_signal signals.now r).greatest place 0 }
-{
-    signals[SIGNAL_FIELDS * r + (7 + 2 * place)]
-}
-
-// The first number of a signal's row.
-const LEAST_CYCLE: usize = 0;
-
-// A signal by value, by the 22 numbers from a place on.
-pub fn signal_from(signals: &[u32], start: usize) -> Signal
-    requires { start + 22 ≤ length signals.now }
-    ensures { result ≡ signal_by (λ k. get_or signals.now (start + k) 0) }
+// A signal by the numbers of its `G` line.
+pub fn signal_from(fields: &[u32]) -> Signal
+    requires { length fields.now ≡ signal_fields }
+    ensures { result ≡ signal_by (λ k. get_or fields.now k 0) }
 {
     Signal {
-        least_cycle: signals[start + LEAST_CYCLE],
-        greatest_cycle: signals[start + 1],
-        phases: signals[start + 2],
-        shown: signals[start + 3],
-        shown_for: signals[start + 4],
-        cycle_clock: signals[start + 5],
+        least_cycle: fields[0],
+        greatest_cycle: fields[1],
+        phases: fields[2],
+        shown: fields[3],
+        shown_for: fields[4],
+        cycle_clock: fields[5],
         least: [
-            signals[start + 6],
-            signals[start + 8],
-            signals[start + 10],
-            signals[start + 12],
-            signals[start + 14],
-            signals[start + 16],
-            signals[start + 18],
-            signals[start + 20],
+            fields[6], fields[8], fields[10], fields[12], fields[14], fields[16], fields[18],
+            fields[20],
         ],
         greatest: [
-            signals[start + 7],
-            signals[start + 9],
-            signals[start + 11],
-            signals[start + 13],
-            signals[start + 15],
-            signals[start + 17],
-            signals[start + 19],
-            signals[start + 21],
+            fields[7], fields[9], fields[11], fields[13], fields[15], fields[17], fields[19],
+            fields[21],
         ],
     }
-}
-
-// A signal by value, as its row has it.
-pub fn signal_in(signals: &[u32], r: usize) -> Signal
-    requires { (r < max_signals) × (length signals.now ≡ signal_table_size) }
-    ensures { result ≡ table_signal signals.now r }
-{
-    signal_from(signals, SIGNAL_FIELDS * r)
-}
-
-// Sets the phase that a signal shows, the seconds that it has shown, and the cycle clock.
-pub fn show(signals: &mut [u32], r: usize, phase: u32, shown_for: u32, cycle_clock: u32)
-    requires { (r < max_signals) × (length signals.old ≡ signal_table_size) }
-    ensures { SignalLaid signals.old r (showing (table_signal signals.old r) phase shown_for cycle_clock) signals.new }
-{
-    signals[SIGNAL_FIELDS * r + 3] = phase;
-    signals[SIGNAL_FIELDS * r + 4] = shown_for;
-    signals[SIGNAL_FIELDS * r + 5] = cycle_clock;
-}
-
-// A link's numbers, as its `Q` line has them.
-pub fn capacity(links: &[u32], i: usize) -> u32
-    requires { (i < max_links) × (length links.now ≡ link_table_size) }
-    ensures { result ≡ capacity_in links.now i }
-{
-    links[LINK_FIELDS * i]
-}
-
-pub fn travel_time(links: &[u32], i: usize) -> u32
-    requires { (i < max_links) × (length links.now ≡ link_table_size) }
-    ensures { result ≡ travel_time_in links.now i }
-{
-    links[LINK_FIELDS * i + 1]
-}
-
-pub fn exit_rate(links: &[u32], i: usize) -> u32
-    requires { (i < max_links) × (length links.now ≡ link_table_size) }
-    ensures { result ≡ exit_rate_in links.now i }
-{
-    links[LINK_FIELDS * i + 2]
-}
-
-// The number of its signal, from 1; 0 for none.
-pub fn signal_of(links: &[u32], i: usize) -> u32
-    requires { (i < max_links) × (length links.now ≡ link_table_size) }
-    ensures { result ≡ signal_in links.now i }
-{
-    links[LINK_FIELDS * i + 3]
-}
-
-pub fn phase_mask(links: &[u32], i: usize) -> u32
-    requires { (i < max_links) × (length links.now ≡ link_table_size) }
-    ensures { result ≡ phase_mask_in links.now i }
-{
-    links[LINK_FIELDS * i + 4]
-}
-
-pub fn standing(links: &[u32], i: usize) -> u32
-    requires { (i < max_links) × (length links.now ≡ link_table_size) }
-    ensures { result ≡ standing_in links.now i }
-{
-    links[LINK_FIELDS * i + 5]
-}
-
-pub fn waiting_at_start(links: &[u32], i: usize) -> u32
-    requires { (i < max_links) × (length links.now ≡ link_table_size) }
-    ensures { result ≡ waiting_at_start_in links.now i }
-{
-    links[LINK_FIELDS * i + 6]
-}
-
-// A movement's numbers, as its `M` line has them: the link, from 1, that it leaves (side 0) or enters (side 1), its rate and its share.
-pub fn link_of(movements: &[u32], j: usize, side: usize) -> u32
-    requires { (j < max_movements) × (side < 2) × (length movements.now ≡ movement_table_size) }
-    ensures { result ≡ link_in movements.now side j }
-{
-    movements[MOVEMENT_FIELDS * j + side]
-}
-
-pub fn rate(movements: &[u32], j: usize) -> u32
-    requires { (j < max_movements) × (length movements.now ≡ movement_table_size) }
-    ensures { result ≡ rate_in movements.now j }
-{
-    movements[MOVEMENT_FIELDS * j + 2]
-}
-
-pub fn share(movements: &[u32], j: usize) -> u32
-    requires { (j < max_movements) × (length movements.now ≡ movement_table_size) }
-    ensures { result ≡ share_in movements.now j }
-{
-    movements[MOVEMENT_FIELDS * j + 3]
 }
 
 // The numbers of an `S` line: its length, and the demand of link `i`.

@@ -12,30 +12,32 @@ use Rattle.base_laws.proofs.Tests.{and_left, and_right}
 use Rattle.network_tables.specs.declared.Counts.{Counts}
 use Rattle.network_tables.specs.declared.Reading.{Reading}
 use Rattle.network_tables.specs.Places.{tram_line_in}
-use Rattle.network_tables.specs.Fields.{tram_fields, tram_in}
+use Rattle.model.specs.declared.Signal.{Signal}
+use Rattle.network_tables.specs.declared.Tram.{Tram}
+use Rattle.network_tables.specs.Fields.{tram_fields, tram_by, tram_at}
 use Rattle.network_tables.specs.Blocks.{block_checks, RowsJudged, RowsHeld, tram_block}
-use Rattle.network_tables.specs.Tables.{Judged, CountsHold, TramTable, PhaseTable, moved_to}
+use Rattle.network_tables.specs.Tables.{Judged, CountsHold, TramTable, SignalTable, moved_to}
 use Rattle.network_tables.proofs.Places.{signals-after-trams}
 use Rattle.network_tables.proofs.Blocks.{passed-all, block-end, records-judged}
 use Rattle.network_tables.proofs.Stages.{judged-refused, judged-passed}
 use Rattle.network_trams.specs.Trams.{valid_tram_in, valid_phase_in, phase_checks_in, PhasesAsked}
 use Rattle.network_trams.specs.Stages.{TramsAsked, TramsHeld}
 use Rattle.network_trams.specs.Claims.{LoadAsked}
-use Rattle.network_trams.proofs.Tested.{tram-valid}
+use Rattle.network_trams.proofs.Tested.{MadeBy, table-of, tram-valid}
 use Rattle.std.specs.Prelude.{Result, Ok, Err}
 use Rattle.std.specs.Borrow.{Bor}
 
 -- ---- `read_trams`
-module _ {text : List ℕ} {reading : Reading} {trams₀ : List ℕ} (asked : TramsAsked text reading trams₀) where
-  pub trams-judged : {first size : ℕ} → first ≡ tram_line_in reading.counts 0 + 1 → {post : Bor (List ℕ) → ℕ → Verdict → Type 0}
-      → ((trams : Bor (List ℕ)) (k : ℕ) (said : Verdict) → post trams k said → said ≡ checked (valid_tram_in trams.now reading.counts.signals reading.counts.steps k) 28 (first + k) 0)
-      → RowsJudged (lines text) (tram_block (lines text)) letter_t tram_fields first reading.counts.trams size post
+module _ {text : List ℕ} {reading : Reading} {trams₀ : List Tram} (asked : TramsAsked text reading trams₀) where
+  pub trams-judged : {first size : ℕ} → first ≡ tram_line_in reading.counts 0 + 1 → {post : Bor (List Tram) → ℕ → Verdict → Type 0}
+      → ((trams : Bor (List Tram)) (k : ℕ) (said : Verdict) → post trams k said → said ≡ checked (valid_tram_in trams.now reading.counts.signals reading.counts.steps k) 28 (first + k) 0)
+      → RowsJudged MadeBy (lines text) (tram_block (lines text)) letter_t tram_fields first reading.counts.trams size post
   unfolding tram_checks tram_line
   trams-judged e says =
       records-judged (λ k. refl) (sym asked.counted.trams) (λ k. omega arith)
       (λ k trams said h rows p. says trams k said p ∙ rw (asked.counted.signals, asked.counted.steps, tram-valid (lines text) trams.now k rows) refl)
 
-  module _ {result : Result ℕ Refusal} {trams : List ℕ} (got : RowsHeld text (tram_block (lines text)) tram_fields (length trams₀) result trams) where
+  module _ {result : Result ℕ Refusal} {trams : List Tram} (got : RowsHeld MadeBy text (tram_block (lines text)) tram_fields (length trams₀) result trams) where
     pub trams-refused : {r : Refusal} → result ≡ Err r → Judged (block_checks (tram_block (lines text))) (TramsHeld text trams) (Err r)
     trams-refused {r} e = judged-refused (got.refused r e)
 
@@ -48,15 +50,15 @@ module _ {text : List ℕ} {reading : Reading} {trams₀ : List ℕ} (asked : Tr
           counted = asked.counted;
           starts = rw signals-after-trams at (block-end table.read (omega arith));
           trams-start = asked.trams-start;
-          table = record { size = table.room ∙ asked.room; holds = λ i f l. table.rows.numbers i f (omega arith) };
+          table = table-of (lines text) trams table.rows (omega arith) (table.room ∙ asked.room);
           passed = all;
         })
 
 -- ---- `load_trams`
-module _ {text : List ℕ} {at count : ℕ} {trams₀ : List ℕ} (asked : LoadAsked text at count trams₀) where
+module _ {text : List ℕ} {at count : ℕ} {trams₀ : List Tram} (asked : LoadAsked text at count trams₀) where
   -- every line passes
-  pub load-judged : {size : ℕ} {post : Bor (List ℕ) → ℕ → Verdict → Type 0} → ((trams : Bor (List ℕ)) (k : ℕ) (said : Verdict) → post trams k said → said ≡ Ok tt)
-      → RowsJudged (lines text) (tram_block (lines text)) letter_t tram_fields 2 count size post
+  pub load-judged : {size : ℕ} {post : Bor (List Tram) → ℕ → Verdict → Type 0} → ((trams : Bor (List Tram)) (k : ℕ) (said : Verdict) → post trams k said → said ≡ Ok tt)
+      → RowsJudged MadeBy (lines text) (tram_block (lines text)) letter_t tram_fields 2 count size post
   unfolding tram_checks tram_line
   load-judged says =
       records-judged (λ k. refl) (sym asked.counted) (λ k. omega arith)
@@ -66,54 +68,49 @@ module _ {text : List ℕ} {at count : ℕ} {trams₀ : List ℕ} (asked : LoadA
   unfolding Hold tram_checks
   passes = passes-of-hold (block_checks (tram_block (lines text))) (λ k h. (asked.forms k (omega (arith, asked.counted)), asked.values k (omega (arith, asked.counted))))
 
-  pub trams-loaded : (result : Result ℕ Refusal) {trams : List ℕ} → RowsHeld text (tram_block (lines text)) tram_fields (length trams₀) result trams → TramTable (lines text) trams
-  trams-loaded (Ok next) got = let table = got.held next refl in record { size = table.room ∙ asked.room; holds = λ i f l. table.rows.numbers i f (omega (arith, asked.counted)) }
+  pub trams-loaded : (result : Result ℕ Refusal) {trams : List Tram} → RowsHeld MadeBy text (tram_block (lines text)) tram_fields (length trams₀) result trams → TramTable (lines text) trams
+  trams-loaded (Ok next) {trams} got = let table = got.held next refl in table-of (lines text) trams table.rows (omega arith) (table.room ∙ asked.room)
   trams-loaded (Err r) got = let e = got.refused r refl in let z : ◌≡◌ {A = ℕ} 0 1 = cc (passes, e) in absurd (omega arith)
 
 -- ---- the turns of `check_tram_phases`
-module _ (trams phases : List ℕ) (counts : Counts) (k : ℕ) {v : Bool} (told : v ≡ valid_phase_in trams phases k) {line : ℕ} (l : line ≡ tram_line_in counts k) {said : Verdict}
-    (says : said ≡ checked v 28 (line + 1) 0) where
-  pub phase-said : verdict (phase_checks_in trams phases counts k) ≡ said
+module _ (trams : List Tram) (signals : List Signal) (counts : Counts) (k : ℕ) {v : Bool} (told : v ≡ valid_phase_in (tram_at trams k) signals) {line : ℕ} (l : line ≡ tram_line_in counts k)
+    {said : Verdict} (says : said ≡ checked v 28 (line + 1) 0) where
+  pub phase-said : verdict (phase_checks_in trams signals counts k) ≡ said
   unfolding verdict phase_checks_in
   phase-said = let z : line + 1 ≡ suc (tram_line_in counts k) = omega arith in rw (says, z, told) refl
 
 -- ---- the paper's phases of trams
-module _ {text : List ℕ} {trams phases : List ℕ} {reading : Reading} (held : TramsHeld text trams reading) (t : PhaseTable (lines text) phases) where
-  number_is : (k f : ℕ) → k < tram_count (lines text) → f < tram_fields → tram_in trams k f ≡ number (tram (lines text) k) f
+module _ {text : List ℕ} {trams : List Tram} {signals : List Signal} {reading : Reading} (held : TramsHeld text trams reading) (t : SignalTable (lines text) signals) where
+  tram-is : (k : ℕ) → k < tram_count (lines text) → tram_at trams k ≡ tram_by (number (tram (lines text) k))
   unfolding entry
-  number_is k f h l = held.table.holds k f h l
+  tram-is k h = held.table.holds k h
 
-  -- a line's signal is one of the network's
-  signal-within : (k : ℕ) → k < tram_count (lines text) → (1 ≤ tram_in trams k 0) × (tram_in trams k 0 ≤ signal_count (lines text))
+  -- a tram's signal is one of the network's
+  signal-within : (k : ℕ) → k < tram_count (lines text) → (1 ≤ (tram_at trams k).signal) × ((tram_at trams k).signal ≤ signal_count (lines text))
   unfolding Hold tram_checks valid_tram tram_exists within
   signal-within k h =
       let v = (hold-of-passes (block_checks (tram_block (lines text))) held.passed k h).1 in
-      let e = number_is k 0 h (omega arith) in
+      let e : (tram_at trams k).signal ≡ number (tram (lines text) k) 0 = ap (λ (t : Tram). t.signal) (tram-is k h) in
       let low : 1 ≤ number (tram (lines text) k) 0 = leb-true _ _ (and_left _ _ (and_left _ _ (and_left _ _ (and_left _ _ v)))) in
       let high : number (tram (lines text) k) 0 ≤ signal_count (lines text) = leb-true _ _ (and_right _ _ (and_left _ _ (and_left _ _ (and_left _ _ v)))) in
       (omega arith, omega arith)
 
-  phase-is : (k : ℕ) → k < tram_count (lines text) → valid_phase_in trams phases k ≡ valid_tram_phase (lines text) k
+  phase-is : (k : ℕ) → k < tram_count (lines text) → valid_phase_in (tram_at trams k) signals ≡ valid_tram_phase (lines text) k
   unfolding valid_phase_in valid_tram_phase
   phase-is k h =
       let w = signal-within k h in
-      rw (t.holds (tram_in trams k 0 - 1) (omega arith), number_is k 0 h (omega arith), number_is k 1 h (omega arith)) refl
+      rw (t.holds ((tram_at trams k).signal - 1) (omega arith), tram-is k h) refl
 
   module _ {counts : Counts} (c : CountsHold (lines text) counts) where
-    pub phases-asked : PhasesAsked trams phases counts
+    pub phases-asked : PhasesAsked trams signals counts
     phases-asked =
         record {
+          room = held.table.size;
           few = c.few.trams;
-          each_line = λ k h.
-              let w = signal-within k (omega (arith, c.trams)) in
-              record {
-                known = record { room = held.table.size; few = omega (arith, c.few.trams) };
-                first = w.0;
-                last = omega (arith, w.1, t.size, c.signals, c.few.signals);
-              };
+          each_tram = λ k h. let w = signal-within k (omega (arith, c.trams)) in record { first = w.0; last = omega (arith, w.1, t.size, c.signals, c.few.signals) };
         }
 
-    pub phases-checked : verdict (each counts.trams (phase_checks_in trams phases counts)) ≡ verdict (each (tram_count (lines text)) (tram_phase_checks (lines text)))
+    pub phases-checked : verdict (each counts.trams (phase_checks_in trams signals counts)) ≡ verdict (each (tram_count (lines text)) (tram_phase_checks (lines text)))
     unfolding verdict phase_checks_in tram_phase_checks tram_line
     phases-checked =
         rw c.trams

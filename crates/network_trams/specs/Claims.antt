@@ -6,50 +6,50 @@ use Rattle.base_laws.specs.Test.{◌and◌, within}
 use Rattle.model.specs.Network.{max_signals, max_steps, max_trams, tram_count, tram_line, trams, tram_phase}
 use Rattle.model.specs.Rules.{valid_tram}
 use Rattle.model.specs.Table.{is_form, letter_t}
-use Rattle.network_tables.specs.Fields.{tram_fields, tram_table_size, tram_in}
+use Rattle.network_tables.specs.declared.Tram.{Tram}
+use Rattle.network_tables.specs.Fields.{tram_fields, tram_at}
 
 -- the `T` lines have passed, and start at a place
-pub record LoadAsked (text : List ℕ) (at count : ℕ) (trams : List ℕ) : Type 0 where
+pub record LoadAsked (text : List ℕ) (at count : ℕ) (trams : List Tram) : Type 0 where
   pub starts : Starts text at (tram_line (lines text) 0)
   pub counted : count ≡ tram_count (lines text)
   pub few : count ≤ max_trams
   pub forms : (k : ℕ) → k < count → is_form (lines text) (tram_line (lines text) k) letter_t tram_fields ≡ true
   pub values : (k : ℕ) → k < count → valid_tram (lines text) k ≡ true
-  pub room : length trams ≡ tram_table_size
+  pub room : length trams ≡ max_trams
 
--- line k is for signal r in step n
-unfoldable pub covers_in : List ℕ → ℕ → ℕ → ℕ → Bool
-covers_in trams k r n = eqb (tram_in trams k 0) (suc r) and within (tram_in trams k 2) (suc n) (tram_in trams k 3)
+-- a tram is for signal r in step n
+unfoldable pub covers_in : Tram → ℕ → ℕ → Bool
+covers_in tram r n = eqb tram.signal (suc r) and within tram.first_step (suc n) tram.last_step
 
--- the phase that so many lines from line k on ask of signal r in step n; 0 if none does
-unfoldable pub phase_from : List ℕ → ℕ → ℕ → ℕ → ℕ → ℕ
+-- the phase that so many trams from tram k on ask of signal r in step n; 0 if none does
+unfoldable pub phase_from : List Tram → ℕ → ℕ → ℕ → ℕ → ℕ
 phase_from trams r n k zero = 0
-phase_from trams r n k (suc left) = cond (covers_in trams k r n) (tram_in trams k 1) (phase_from trams r n (suc k) left)
+phase_from trams r n k (suc left) = cond (covers_in (tram_at trams k) r n) (tram_at trams k).phase (phase_from trams r n (suc k) left)
 
--- the phases asked in step n, with the claim of line k
-unfoldable pub claimed : List ℕ → ℕ → ℕ → List ℕ → List ℕ
-claimed trams k n asked = cond (leb (tram_in trams k 2) (suc n) && leb (suc n) (tram_in trams k 3)) (set asked (tram_in trams k 0 - 1) (tram_in trams k 1)) asked
+-- the phases asked in step n, with the claim of a tram
+unfoldable pub claimed : Tram → ℕ → List ℕ → List ℕ
+claimed tram n asked = cond (leb tram.first_step (suc n) && leb (suc n) tram.last_step) (set asked (tram.signal - 1) tram.phase) asked
 
-pub record ClaimAsked (trams : List ℕ) (k n : ℕ) (asked : List ℕ) : Type 0 where
-  pub size : length trams ≡ tram_table_size
-  pub few : k < max_trams
+-- a tram is for one of the signals of which phases are asked
+pub record ClaimAsked (tram : Tram) (n : ℕ) (asked : List ℕ) : Type 0 where
   pub few-steps : n < max_steps
   pub room : length asked ≡ max_signals
-  pub signal-first : 1 ≤ tram_in trams k 0
-  pub signal-last : tram_in trams k 0 ≤ max_signals
+  pub signal-first : 1 ≤ tram.signal
+  pub signal-last : tram.signal ≤ max_signals
 
--- each line is for a signal; nothing is asked yet
-pub record ClaimsAsked (trams : List ℕ) (count n : ℕ) (asked : List ℕ) : Type 0 where
-  pub size : length trams ≡ tram_table_size
+-- each tram is; nothing is asked yet
+pub record ClaimsAsked (trams : List Tram) (count n : ℕ) (asked : List ℕ) : Type 0 where
+  pub size : length trams ≡ max_trams
   pub few : count ≤ max_trams
   pub few-steps : n < max_steps
-  pub signal-first : (k : ℕ) → k < count → 1 ≤ tram_in trams k 0
-  pub signal-last : (k : ℕ) → k < count → tram_in trams k 0 ≤ max_signals
+  pub signal-first : (k : ℕ) → k < count → 1 ≤ (tram_at trams k).signal
+  pub signal-last : (k : ℕ) → k < count → (tram_at trams k).signal ≤ max_signals
   pub room : length asked ≡ max_signals
   pub none : (r : ℕ) → r < max_signals → get_or asked r 0 ≡ 0
 
--- the phase that the lines ask of each signal in step n
-pub record Claimed (trams : List ℕ) (count n : ℕ) (asked : List ℕ) : Type 0 where
+-- the phase that the trams ask of each signal in step n
+pub record Claimed (trams : List Tram) (count n : ℕ) (asked : List ℕ) : Type 0 where
   pub size : length asked ≡ max_signals
   pub holds : (r : ℕ) → r < max_signals → get_or asked r 0 ≡ phase_from trams r n 0 count
 

@@ -4,11 +4,11 @@ use Rattle.text_writer.specs.Records.{record_text}
 use Rattle.model.specs.Network.{max_signals}
 use Rattle.model.specs.Table.{letter_p}
 use Rattle.network_tables.specs.declared.Counts.{Counts}
-use Rattle.network_tables.specs.Places.{plan_width, Few}
+use Rattle.network_tables.specs.Places.{plan_width}
 use Rattle.network_tables.specs.Fields.{line_size}
-use Rattle.network_writer.specs.Put.{Put, Early, PutWhole}
-use Rattle.network_writer.specs.Plan.{column_in, plan_number, plan_row, plan_lines, PlanAsked, NumberAsked, RowAsked}
-use Rattle.network_writer.proofs.Put.{LinesTo, rows_none, rows-early, rows_next, rows_all}
+use Rattle.network_writer.specs.Put.{Put, PutWhole}
+use Rattle.network_writer.specs.Plan.{column_in, plan_number, plan_row, plan_lines, PlanAsked, RowAsked}
+use Rattle.network_writer.proofs.Put.{LinesTo, rows_none, rows_next, rows_all}
 use Rattle.network_writer.proofs.Reading.{numbers-are}
 use Rattle.network_writer.proofs.Texts.{put_first}
 
@@ -57,12 +57,6 @@ plan-fits a e = omega (arith, a.few.links, a.few.signals, a.few.movements)
 
 -- ---- one row
 module _ {numbers : List ℕ} {columns : ℕ} {counts : Counts} {n : ℕ} {row : List ℕ} (a : RowAsked numbers columns counts n row) where
-  pub number-asked : NumberAsked numbers columns n
-  number-asked = record { few-columns = a.asked.few-columns; room = a.asked.room; step = omega (arith, a.step, a.asked.few.steps) }
-
-  pub column-asked : {k : ℕ} → k < length row → Few counts × (k < plan_width counts)
-  column-asked h = (a.asked.few, omega (arith, a.size))
-
   pub row-all : {row' : List ℕ} → length row' ≡ length row → ((k : ℕ) → k < length row → get_or row' k 0 ≡ plan_number numbers columns n (column_in counts k)) → row' ≡ plan_row numbers columns counts n
   unfolding plan_row
   row-all {row'} e f =
@@ -79,15 +73,9 @@ module _ {numbers : List ℕ} {columns : ℕ} {counts : Counts} (a : PlanAsked n
   plan-none w zeros e l = record { size = length-take-le w zeros (omega (arith, plan-fits a e)) ∙ e; put = rows_none }
 
   module _ {row out : List ℕ} {end n : ℕ} (t : PlanTo numbers columns counts old row out end n) where
-    pub plan-early : n < counts.steps → (row' : List ℕ) → length row' ≡ length row → (length row' ≤ line_size) × Early 1 end
-    plan-early h row' l = (plan-fits a (l ∙ t.size), rows-early t.put (omega (arith, a.few.steps)) h)
-
     pub plan-next : n < counts.steps → {row' : List ℕ} → length row' ≡ length row → row' ≡ plan_row numbers columns counts n → {new : List ℕ} {next : ℕ}
         → Put 1 (record_text letter_p row') end out new next → PlanTo numbers columns counts old row' new next (n + 1)
     plan-next h l filled p = record { size = l ∙ t.size; put = rows_next t.put h (rw filled at p) }
-
-    pub row-asked : n < counts.steps → RowAsked numbers columns counts n row
-    row-asked h = record { asked = a; step = h; size = t.size }
 
     pub plan-all : counts.steps ≤ n → PutWhole (plan_lines numbers columns counts) old out end
     unfolding plan_lines

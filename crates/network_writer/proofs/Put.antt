@@ -67,9 +67,6 @@ module _ {row numbers : List ℕ} (e : numbers ≡ row) (few : length row ≤ li
   pub line-short : (letter at : ℕ) (out : List ℕ) → length out < at + r → Put 1 (record_text letter row) at out out (at + r)
   line-short letter at out h = record { ends = omega (arith, long-is letter); few = omega (arith, line-few, long-is letter); size = refl; is = λ l. absurd (omega arith) }
 
-  pub line-room : (letter at : ℕ) (out : List ℕ) → at + r ≤ length out → at + length (record_text letter numbers) ≤ length out
-  line-room letter at out h = omega (arith, long letter)
-
   pub line_wrote : (letter at : ℕ) {end : ℕ} {out new : List ℕ} → at + r ≤ length out → Wrote (record_text letter numbers) at out new end → Put 1 (record_text letter row) at out new end
   line_wrote letter at {end} {out} {new} h w =
       let v = rw e at w in

@@ -5,7 +5,7 @@ use Rattle.text_reader.specs.Reading.{Starts}
 use Rattle.model.specs.Network.{entry, tram_line}
 use Rattle.model.specs.Table.{letter_t}
 use Rattle.network_tables.specs.Fields.{tram_fields}
-use Rattle.network_writer.specs.Reading.{ReadAgain}
+use Rattle.network_tables.specs.Rows.{ReadAgain}
 use Rattle.network_writer.specs.Trams.{TramLines}
 
 -- k lines are read

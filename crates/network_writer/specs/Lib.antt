@@ -1,5 +1,4 @@
 pub mod Put
-pub mod Reading
 pub mod Texts
 pub mod Plan
 pub mod Trams

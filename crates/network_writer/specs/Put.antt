@@ -1,5 +1,6 @@
 -- A text put line by line at a place of a buffer, as far as there is room.
 use Rattle.std.specs.Prelude.{ℕ, ◌+◌, ◌*◌, ◌≤◌, ◌≡◌, List, length}
+use Rattle.std.specs.Borrow.{MutBor}
 use Rattle.text_reader.specs.Reading.{over}
 use Rattle.text_writer.specs.Writing.{put_at}
 use Rattle.network_tables.specs.Fields.{line_size}
@@ -23,3 +24,7 @@ Early count at = at + longest * count ≤ 1_000_000
 pub record PutWhole (text old new : List ℕ) (size : ℕ) : Type 0 where
   pub long : size ≡ length text
   pub is : size ≤ length old → new ≡ over text old
+
+-- each call of a closure puts the text so
+abbrev pub PutsWhole : (MutBor (List ℕ) → ℕ → MutBor (List ℕ) → Type 0) → List ℕ → Type 0
+PutsWhole post text = (before after : MutBor (List ℕ)) (size : ℕ) → post before size after → PutWhole text before.now after.now size

@@ -1,14 +1,13 @@
-// Lines of a text that has passed, read again, and lines written one behind another into a buffer, as far as there is room. Where
-// the text would end is returned in any case, so that a text is measured by writing it where there is no room. A plan's text is written that way by a table of its numbers.
+// Lines written one behind another into a buffer, as far as there is room. Where the text would end is returned in any case, so that a text is measured by writing
+// it where there is no room. A plan's text is written that way by a table of its numbers.
 #![tactic(auto)]
 
-ghost use Rattle.std.specs.Prelude.{◌≡◌, ◌≤◌, ◌<◌, length};
+ghost use Rattle.std.specs.Prelude.{ℕ, ◌≡◌, ◌≤◌, ◌<◌, List, length};
 ghost use Rattle.text_writer.specs.Records.{record_text};
 ghost use Rattle.model_text.specs.Answers.{room_verdict, Told};
 ghost use Rattle.network_tables.specs.Fields.{line_size};
 ghost use Rattle.network_tables.specs.Places.{plan_width, Few};
-ghost use Rattle.network_writer.specs.Put.{Put, Early, PutWhole};
-ghost use Rattle.network_writer.specs.Reading.{ReadAgain};
+ghost use Rattle.network_writer.specs.Put.{Put, Early, PutWhole, PutsWhole};
 ghost use Rattle.network_writer.specs.Plan.{column_in, plan_number, plan_row, plan_lines, PlanAsked, NumberAsked, RowAsked};
 
 use base_search::Refusal;
@@ -45,14 +44,6 @@ pub fn put_line(letter: u8, row: &[u32], out: &mut [u8], at: usize) -> usize
         return end;
     }
     text_writer::write_record(out, at, letter, numbers)
-}
-
-// Reads a line that has passed again, and gives the place of the next line. Such a line is never malformed.
-pub fn read_again(text: &[u8], at: usize, letter: u8, row: &mut [u32], width: usize) -> usize
-    requires { width ≤ length row.old }
-    ensures { ReadAgain letter width text.now at row.old result row.new }
-{
-    network_tables::read_row(text, at, letter, row, 0, width).unwrap_or(at)
 }
 
 // Where the columns of what is admitted, let out and moved start in a step's row of a plan's table, behind the masks.
@@ -119,6 +110,25 @@ fn put_plan(numbers: &[u32], columns: usize, counts: Counts, out: &mut [u8]) -> 
     end
 }
 
+// Writes a text by a function that puts it at the beginning of a buffer, as far as there is room, and tells how long it is: the text is first measured where there
+// is no room. The refusal of this number where the buffer is too short, which is left untouched then.
+pub fn write_measured<F: Fn(&mut [u8]) -> usize>(
+    number: u32,
+    out: &mut [u8],
+    put: F,
+) -> Result<usize, Refusal>
+    requires { F.IsAlwaysCallable put }
+    ensures { (text : List ℕ) → PutsWhole (F.post put) text → Told text (room_verdict number text out.old) out.old result out.new }
+{
+    let mut nowhere = [0u8; 1];
+    let length = put(&mut nowhere);
+    if out.len() < length {
+        return Err(Refusal::new(number, 0, 0));
+    }
+    put(out);
+    Ok(length)
+}
+
 // Writes a plan's text by a table of so many columns for each step: refusal 24 where the buffer is too short.
 pub fn write_plan(
     numbers: &[u32],
@@ -129,11 +139,5 @@ pub fn write_plan(
     requires { PlanAsked numbers.now columns counts }
     ensures { Told (plan_lines numbers.now columns counts) (room_verdict 24 (plan_lines numbers.now columns counts) out.old) out.old result out.new }
 {
-    let mut nowhere = [0u8; 1];
-    let length = put_plan(numbers, columns, counts, &mut nowhere);
-    if out.len() < length {
-        return Err(Refusal::new(24, 0, 0));
-    }
-    put_plan(numbers, columns, counts, out);
-    Ok(length)
+    write_measured(24, out, |out| put_plan(numbers, columns, counts, out))
 }

@@ -6,6 +6,7 @@ use Rattle.base_search.proofs.Laws.{passes-of-hold, or-else-passes, or-else-refu
 use Rattle.text_reader.specs.Lines.{Line, lines}
 use Rattle.text_reader.specs.Padding.{PaddingIgnored}
 use Rattle.text_reader.proofs.Padding.{same_lines}
+use Rattle.model.specs.declared.Signal.{Signal}
 use Rattle.model.specs.Network.{link_count, step_count}
 use Rattle.model.specs.Table.{network_checks, ledger_checks, plan_line_checks, plan_checks}
 use Rattle.model.specs.Hold.{plan_of, EmptyHolds}
@@ -15,6 +16,8 @@ use Rattle.model.proofs.Rows.{written_none}
 use Rattle.model.proofs.Written.{refused-fails, rows_none}
 use Rattle.model.proofs.Promises.{promises}
 use Rattle.model.proofs.Hold.{empty_holds}
+use Rattle.network_tables.specs.declared.Link.{Link}
+use Rattle.network_tables.specs.declared.Movement.{Movement}
 use Rattle.network_tables.specs.declared.Reading.{Reading}
 use Rattle.network_tables.specs.Tables.{Judged}
 use Rattle.network_tables.proofs.Stages.{verdict-refused}
@@ -46,7 +49,8 @@ module _ (network plan : List Line) (size : ℕ) where
     unfolding verdict plan_checks ledger_checks
     plan-lines room = or-else-passes _ _ valid ∙ or-else-passes _ _ (checked-passes _ 8 0 0 room)
 
-module _ (network_text plan_text links movements times old : List ℕ) (reading : Reading) (loaded : Loaded network_text links movements times reading) where
+module _ {network_text : List ℕ} (plan_text : List ℕ) {signals : List Signal} {links : List Link} {movements : List Movement} {times : List ℕ} {reading : Reading} (old : List ℕ)
+    (loaded : Loaded network_text signals links movements times reading) where
   abbrev net : List Line
   net = lines network_text
 

@@ -7,63 +7,31 @@ ghost use Rattle.text_reader.specs.Padding.{PaddingIgnored};
 ghost use Rattle.model.specs.Hold.{plan_of, EmptyHolds};
 ghost use Rattle.model.specs.Calls.{check_plan, ledger_after};
 ghost use Rattle.model.specs.Guarantees.{Promises};
-ghost use Rattle.network.specs.Loading.{LoadedWithSignals};
+ghost use Rattle.network.specs.Loading.{Loaded};
 ghost use Rattle.plan_check.specs.Plan.{PlanGot};
 
 use base_search::Refusal;
-use model::Totals;
+use model::{Signal, Totals};
 use network_tables::{
-    LINK_TABLE_SIZE, MOVEMENT_TABLE_SIZE, Reading, SIGNAL_TABLE_SIZE, TIME_TABLE_SIZE,
+    Link, MAX_LINKS, MAX_MOVEMENTS, MAX_SIGNALS, Movement, NetworkTables, TIME_TABLE_SIZE,
 };
 
-// Judges a plan on a network that has passed, from its signals on: the ledger's length, then the steps.
-pub fn judge_with_signals(
+// Judges a plan on a network that has passed, from its signals on, which it steps on: the ledger's length, then the steps.
+pub fn judge_loaded(
     network: &[u8],
     plan: &[u8],
-    reading: Reading,
-    links: &[u32],
-    movements: &[u32],
-    times: &[u32],
-    signals: &mut [u32],
+    tables: &NetworkTables,
+    signals: &mut [Signal],
     ledger: &mut [u32],
 ) -> Result<Totals, Refusal>
-    requires { LoadedWithSignals network.now signals.old links.now movements.now times.now reading }
+    requires { Loaded network.now signals.old tables.now.links.now tables.now.movements.now tables.now.times.now tables.now.reading }
     ensures { PlanGot network.now plan.now ledger.old result ledger.new }
 {
-    let counts = reading.counts;
+    let counts = tables.reading.counts;
     if ledger.len() < 2 * (counts.steps + 1) * counts.links {
         return Err(Refusal::new(8, 0, 0));
     }
-    plan_steps::run_steps(
-        network, plan, reading, links, movements, times, signals, ledger,
-    )
-}
-
-// The same with signals that are needed once more: those of a copy step on.
-pub fn judge_plan(
-    network: &[u8],
-    plan: &[u8],
-    reading: Reading,
-    links: &[u32],
-    movements: &[u32],
-    times: &[u32],
-    signals: &[u32; SIGNAL_TABLE_SIZE],
-    ledger: &mut [u32],
-) -> Result<Totals, Refusal>
-    requires { LoadedWithSignals network.now signals.now links.now movements.now times.now reading }
-    ensures { PlanGot network.now plan.now ledger.old result ledger.new }
-{
-    let mut signals = *signals;
-    judge_with_signals(
-        network,
-        plan,
-        reading,
-        links,
-        movements,
-        times,
-        &mut signals,
-        ledger,
-    )
+    plan_steps::run_steps(network, plan, tables, signals, ledger)
 }
 
 // Check a plan: refusals 1 to 6, 8 to 18, and 25 to 30. A refusal writes only row 0 and the rows of steps that had passed.
@@ -74,25 +42,22 @@ pub fn check_plan(network: &[u8], plan: &[u8], ledger: &mut [u32]) -> Result<Tot
     ensures empty_holds { EmptyHolds network.now plan.now ledger.old ledger.new result }
     ensures padding_ignored { PaddingIgnored network.now (λ padded_network. PaddingIgnored plan.now (λ padded_plan. PlanGot padded_network padded_plan ledger.old result ledger.new)) }
 {
-    let mut signals = [0u32; SIGNAL_TABLE_SIZE];
-    let mut links = [0u32; LINK_TABLE_SIZE];
-    let mut movements = [0u32; MOVEMENT_TABLE_SIZE];
+    let mut signals = [Signal::default(); MAX_SIGNALS];
+    let mut links = [Link::default(); MAX_LINKS];
+    let mut movements = [Movement::default(); MAX_MOVEMENTS];
     let mut times = [0u32; TIME_TABLE_SIZE];
-    let reading = network::load_with_signals(
+    let reading = network::read_network(
         network,
         &mut signals,
         &mut links,
         &mut movements,
         &mut times,
     )?;
-    judge_with_signals(
-        network,
-        plan,
+    let tables = NetworkTables {
         reading,
-        &links,
-        &movements,
-        &times,
-        &mut signals,
-        ledger,
-    )
+        links: &links,
+        movements: &movements,
+        times: &times,
+    };
+    judge_loaded(network, plan, &tables, &mut signals, ledger)
 }

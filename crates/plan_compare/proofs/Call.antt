@@ -6,7 +6,7 @@ use mir.Val.{SFits, to_z, of_z}
 use Rattle.base_search.specs.declared.Refusal.{Refusal}
 use Rattle.base_search.specs.Checks.{Hold}
 use Rattle.base_search.specs.Numbers.{is_one_of}
-use Rattle.base_search.proofs.Laws.{passes-of-hold}
+use Rattle.base_search.proofs.Laws.{passes-of-hold, passed_on}
 use Rattle.base_search.proofs.Numbers.{refused-number, all_of}
 use Rattle.text_reader.specs.Lines.{Line, lines}
 use Rattle.text_reader.specs.Padding.{PaddingIgnored}
@@ -38,7 +38,6 @@ use Rattle.plan_compare.proofs.Gap.{gap_word, gap-held}
 use Rattle.plan_compare.proofs.Promises.{Accepts, accepts, accepted, compared-told, compared-promises, refused-promises}
 use Rattle.plan_compare.proofs.Curves.{plan-formed, order_is}
 use Rattle.std.specs.Prelude.{Result, Ok, Err, MatchResult, IsErrAnd}
-use Rattle.std.proofs.lemmas.Result.{err_from_is_err_and}
 
 -- an accepted plan's doubled time is a number of 63 bits
 pub time-word : {network plan : List Line} {size : ℕ} {t : Totals} → Accepts network plan size t → t.doubled_time < 9223372036854775808
@@ -63,10 +62,7 @@ module _ (named : Refusal → ComparisonRefusal) {A : Type 0} {mapped : Result A
       → MatchResult answer (λ x. mapped ≡ Ok x) (λ r. IsErrAnd mapped (λ e. e ≡ named r)) → mapped ≡ Err q → IsErrAnd result (λ e. e ≡ q)
       → (r : Refusal) × (answer ≡ Err r) × (result ≡ Err (named r))
   passed-as (Ok x) m e p = let z : ◌≡◌ {A = ℕ} 0 1 = cc in absurd (omega arith)
-  passed-as {result = result} (Err r) m e p =
-      let q : _ = rw e at m in
-      let (y, is, same) = err_from_is_err_and result p in
-      (r, refl, is ∙ ap Err (same ∙ q))
+  passed-as {result = result} (Err r) m e p = (r, refl, passed_on result _ p ∙ ap Err (rw e at m))
 
 module _ (network_text first_text second_text first_old second_old : List ℕ) where
   abbrev net : List Line

@@ -1,5 +1,5 @@
 -- The curves of two plan texts, read again: one law for each way through a turn, and that they are the curves of the plans that the texts mean.
-use Rattle.base_laws.proofs.Kit.{ℕ, suc, ◌+◌, ◌*◌, ◌≤◌, ◌<◌, ◌≡◌, refl, sym, ap, ap₂, ◌∙◌, Bool, true, ◌&&◌, List, dec_lt, mul-le-mul_left, add-one, arith, leb, length, get_or, lt-ltb, le-ltb}
+use Rattle.base_laws.proofs.Kit.{ℕ, suc, ◌+◌, ◌*◌, ◌≤◌, ◌<◌, ◌≡◌, refl, sym, ap, ap₂, ◌∙◌, true, ◌&&◌, List, dec_lt, mul-le-mul_left, add-one, arith, leb, length, get_or, lt-ltb, le-ltb}
 use Rattle.base_search.specs.Checks.{Hold}
 use Rattle.text_reader.specs.Lines.{Line, lines}
 use Rattle.text_reader.proofs.Laws.{starts_first}
@@ -14,12 +14,11 @@ use Rattle.base_laws.proofs.Sums.{sum-ext, sum-zero}
 use Rattle.model.proofs.Hold.{plan-of-text, plan-of-empty, hold-volume}
 use Rattle.network_tables.specs.declared.Counts.{Counts}
 use Rattle.network_tables.specs.Places.{let_out_place, plan_width}
-use Rattle.network_tables.specs.Rows.{RowRead}
+use Rattle.network_tables.specs.Rows.{ReadAgain}
 use Rattle.network_tables.specs.Tables.{CountsHold}
 use Rattle.plan_compare.specs.declared.LetOut.{LetOut}
 use Rattle.plan_compare.specs.Comparison.{order_by, let_out_by, is_never_fewer, order}
 use Rattle.plan_compare.specs.Curves.{line_lets_out, lines_no_fewer, lines_order, Formed, NextAsked, NextGot, ReadTo}
-use Rattle.std.specs.Prelude.{Option, Some, None, IsSome}
 
 -- ---- a step later
 module _ {counts : Counts} {text : List ℕ} {so_far : LetOut} (asked : NextAsked counts text so_far) where
@@ -33,72 +32,58 @@ module _ {counts : Counts} {text : List ℕ} {so_far : LetOut} (asked : NextAske
           small = omega (arith, here.small);
           starts = λ h. absurd (omega arith);
         };
+        same = refl;
       }
 
-  module _ {width : ℕ} {before line : List ℕ} {result : Option ℕ} (some : 0 < length text) (is-width : width ≡ plan_width counts)
-      (row : RowRead letter_p width text so_far.at 0 before result line) where
-    -- no line is malformed
-    pub next-found : IsSome result
-    next-found = go result refl
-      where
-        go : (o : Option ℕ) → result ≡ o → IsSome o
-        go (Some at) e = refl
-        go None e =
-            let f = row.malformed e asked.boundary (asked.here.starts some) in
-            let t = rw (← is-width) at (asked.formed.form some asked.boundary asked.more) in
-            let z : ◌≡◌ {A = ℕ} 0 1 = cc in
-            absurd (omega arith)
-
-    -- a line is read
-    pub next-read : {at volume : ℕ} → result ≡ Some at → volume ≡ sum counts.links (λ i. get_or line (counts.signals + counts.links + i) 0) → volume ≤ 4294967295 * counts.links
-        → NextGot counts text so_far (record { at = at; volume = so_far.volume + volume })
+  -- a line is read
+  module _ {width : ℕ} {before line : List ℕ} {at : ℕ} (some : 0 < length text) (is-width : width ≡ plan_width counts) (again : ReadAgain letter_p width text so_far.at before at line) where
+    pub next-read : {volume : ℕ} → volume ≡ sum counts.links (λ i. get_or line (counts.signals + counts.links + i) 0) → volume ≤ 4294967295 * counts.links
+        → NextGot counts text so_far (record { at = at; volume = so_far.volume + volume; never_fewer = so_far.never_fewer })
     unfolding line_lets_out sum
-    next-read {at} {volume} e v small =
+    next-read {volume} v small =
         record {
           there = λ n more here.
-              let held = row.held at e n (here.starts some) in
+              let held = again.held n (here.starts some) (rw is-width (asked.formed.form some n more)) in
               record {
                 volume = rw (lt-ltb 0 (length text) some) (omega (arith, here.volume, v ∙ sum-ext counts.links _ _ (λ i l. place i ∙ held.numbers _ (omega arith))));
                 small = omega (arith, here.small, mul-le-mul_left 4294967295 asked.formed.few.links);
                 starts = λ h. held.starts;
               };
+          same = refl;
         }
       where
         place : (i : ℕ) → get_or line (counts.signals + counts.links + i) 0 ≡ get_or line (0 + let_out_place counts i) 0
         place i = ap (λ k. get_or line k 0) (omega arith)
 
 -- ---- both texts, step by step
-pub read_none : (counts : Counts) (first second : List ℕ) → ReadTo counts first second 0 (record { at = 0; volume = 0 }) (record { at = 0; volume = 0 }) true true
+pub read_none : (counts : Counts) (first second : List ℕ) → ReadTo counts first second 0 (record { at = 0; volume = 0; never_fewer = true }) (record { at = 0; volume = 0; never_fewer = true })
 unfolding sum every ◌and◌ lines_no_fewer
 read_none counts first second =
     record {
       first-at = record { volume = refl; small = omega arith; starts = λ h. starts_first first };
       second_at = record { volume = refl; small = omega arith; starts = λ h. starts_first second };
-      first-so-far = refl;
-      second-so-far = refl;
+      first-never-fewer = refl;
+      second-never-fewer = refl;
     }
 
-module _ {counts : Counts} {first second : List ℕ} {n : ℕ} {one other : LetOut} {a b : Bool} (r : ReadTo counts first second n one other a b) where
-  pub next-asked : Formed counts first × Formed counts second → n < counts.steps → NextAsked counts first one × NextAsked counts second other
-  next-asked formed h =
-      (record { formed = formed.0; boundary = n; here = r.first-at; more = h }, record { formed = formed.1; boundary = n; here = r.second_at; more = h })
-
+module _ {counts : Counts} {first second : List ℕ} {n : ℕ} {one other : LetOut} (r : ReadTo counts first second n one other) where
   pub read_next : n < counts.steps → {one' other' : LetOut} → NextGot counts first one one' → NextGot counts second other other'
-      → ReadTo counts first second (n + 1) one' other' (a && leb other'.volume one'.volume) (b && leb one'.volume other'.volume)
+      → ReadTo counts first second (n + 1) (record { at = one'.at; volume = one'.volume; never_fewer = one'.never_fewer && leb other'.volume one'.volume })
+      (record { at = other'.at; volume = other'.volume; never_fewer = other'.never_fewer && leb one'.volume other'.volume })
   unfolding every ◌and◌ lines_no_fewer
   read_next h g k =
       let x = g.there n h r.first-at in
       let y = k.there n h r.second_at in
       rw (add-one n) (record {
-        first-at = x;
-        second_at = y;
-        first-so-far = ap₂ ◌&&◌ r.first-so-far (ap₂ leb y.volume x.volume);
-        second-so-far = ap₂ ◌&&◌ r.second-so-far (ap₂ leb x.volume y.volume);
+        first-at = record { volume = x.volume; small = x.small; starts = x.starts };
+        second_at = record { volume = y.volume; small = y.small; starts = y.starts };
+        first-never-fewer = ap₂ ◌&&◌ (g.same ∙ r.first-never-fewer) (ap₂ leb y.volume x.volume);
+        second-never-fewer = ap₂ ◌&&◌ (k.same ∙ r.second-never-fewer) (ap₂ leb x.volume y.volume);
       })
 
-  pub read_all : n ≡ counts.steps → order_by a b ≡ lines_order counts first second
+  pub read_all : n ≡ counts.steps → order_by one.never_fewer other.never_fewer ≡ lines_order counts first second
   unfolding lines_order
-  read_all e = ap₂ order_by (rw e at r.first-so-far) (rw e at r.second-so-far)
+  read_all e = ap₂ order_by (rw e at r.first-never-fewer) (rw e at r.second-never-fewer)
 
 -- ---- what a text lets out is what the plan that it means does
 module _ (network_text plan_text : List ℕ) {counts : Counts} (counted : CountsHold (lines network_text) counts) where

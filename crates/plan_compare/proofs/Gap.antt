@@ -1,6 +1,6 @@
 -- The difference of two naturals in the integers: its sign, its negation and zero.
-use Rattle.base_laws.proofs.Kit.{ℕ, zero, suc, ◌-◌, ◌≤◌, ◌<◌, ◌≡◌, refl, ap, ◌↔◌, dec_lt, arith, le-leb, lt-ltb, le-ltb}
-use lib.IntN.{ℤ, pos, neg_ℤ, ◌-ℤ◌, sub_ℕ}
+use Rattle.base_laws.proofs.Kit.{ℕ, suc, ◌-◌, ◌≤◌, ◌<◌, ◌≡◌, ap, ◌↔◌, dec_lt, arith, le-leb, lt-ltb, le-ltb}
+use lib.IntN.{ℤ, pos, neg_ℤ, sub_ℕ}
 use lib.Signed.{◌≤ℤ◌, ◌<ℤ◌, le_z_yes, lt_z_yes, clash_ℤ}
 use mir.Syntax.{w64}
 use mir.Val.{SFits, to_z, of_z}
@@ -47,22 +47,12 @@ gap-negated a b = elim (dec_lt a b) [
 ]
 
 -- ---- as a machine forms it, in 64 bits
-difference : (a b : ℕ) → pos a -ℤ pos b ≡ sub_ℕ a b
-difference a zero = rw (le-ltb a 0 (omega arith)) (ap pos (omega arith))
-difference a (suc b) = refl
-
 module _ (a b : ℕ) (h : a < 9223372036854775808) (k : b < 9223372036854775808) where
-  pub gap-formed : to_z w64 a -ℤ to_z w64 b ≡ sub_ℕ a b
-  gap-formed = rw (lt-ltb a 9223372036854775808 h, lt-ltb b 9223372036854775808 k) (difference a b)
-
   pub gap_word : SFits w64 (sub_ℕ a b)
   gap_word = elim (dec_lt a b) [
     | yes l ↦ rw (lt-ltb a b l) (record { sfits = omega arith })
     | no l ↦ rw (le-ltb a b (omega arith)) (record { sfits = omega arith })
   ]
-
-  pub gap-fits : SFits w64 (to_z w64 a -ℤ to_z w64 b)
-  gap-fits = rw gap-formed gap_word
 
   -- the number behind its bits
   pub gap-held : (z : ℤ) → z ≡ sub_ℕ a b → to_z w64 (of_z w64 z) ≡ sub_ℕ a b

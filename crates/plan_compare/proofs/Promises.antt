@@ -1,7 +1,6 @@
 -- What a comparison promises of its answer.
 use Rattle.base_laws.proofs.Kit.{ℕ, ◌≤◌, ◌<◌, ◌≡◌, refl, ap₂, ◌∙◌, List, le_antisymm, arith}
 use lib.IntN.{ℤ, sub_ℕ}
-use Rattle.base_search.specs.declared.Refusal.{Refusal}
 use Rattle.base_search.specs.Checks.{Hold, verdict}
 use Rattle.base_search.specs.Numbers.{CanArise}
 use Rattle.base_search.proofs.Laws.{hold-of-passes}

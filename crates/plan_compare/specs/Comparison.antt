@@ -16,6 +16,13 @@ use Rattle.base_search.specs.declared.Refusal.{Refusal}
 use Rattle.model.specs.declared.Totals.{Totals}
 use Rattle.base_search.specs.Checks.{Verdict}
 
+-- the number by which answers tell an order
+abbrev pub order_number : Order → ℕ
+order_number Ahead = 1
+order_number Behind = 2
+order_number Equal = 3
+order_number Crossing = 4
+
 -- the order of two plans, by whether the first is never fewer, and whether the second is: who is not is fewer somewhere, and the other there is more
 abbrev pub order_by : Bool → Bool → Order
 order_by true false = Ahead

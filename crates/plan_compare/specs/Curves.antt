@@ -1,5 +1,5 @@
 -- The curves as the program reads them again from the two plan texts, line after line.
-use Rattle.std.specs.Prelude.{ℕ, suc, ◌+◌, ◌*◌, ◌≤◌, ◌<◌, ◌≡◌, Bool, true, List, leb, ltb, length}
+use Rattle.std.specs.Prelude.{ℕ, suc, ◌*◌, ◌≤◌, ◌<◌, ◌≡◌, Bool, true, List, leb, ltb, length}
 use Rattle.text_reader.specs.Lines.{lines}
 use Rattle.text_reader.specs.Reading.{Starts}
 use Rattle.base_laws.specs.Test.{every}
@@ -42,13 +42,14 @@ pub record NextAsked (counts : Counts) (text : List ℕ) (so_far : LetOut) : Typ
   pub here : LetOutAt counts text boundary so_far
   pub more : boundary < counts.steps
 
--- .. and promises: from any such boundary it is read up to the next
+-- .. and promises: from any such boundary it is read up to the next; whether it was never fewer than the other's is left
 pub record NextGot (counts : Counts) (text : List ℕ) (so_far next : LetOut) : Type 0 where
   pub there : (n : ℕ) → n < counts.steps → LetOutAt counts text n so_far → LetOutAt counts text (suc n) next
+  pub same : next.never_fewer ≡ so_far.never_fewer
 
 -- Both texts are read up to boundary n, and whether each was never fewer so far.
-pub record ReadTo (counts : Counts) (first second : List ℕ) (n : ℕ) (one other : LetOut) (first_never_fewer second_never_fewer : Bool) : Type 0 where
-  pub first-at : LetOutAt counts first n one
-  pub second_at : LetOutAt counts second n other
-  pub first-so-far : first_never_fewer ≡ every (suc n) (lines_no_fewer counts first second)
-  pub second-so-far : second_never_fewer ≡ every (suc n) (lines_no_fewer counts second first)
+pub record ReadTo (counts : Counts) (first second : List ℕ) (n : ℕ) (first_so_far second_so_far : LetOut) : Type 0 where
+  pub first-at : LetOutAt counts first n first_so_far
+  pub second_at : LetOutAt counts second n second_so_far
+  pub first-never-fewer : first_so_far.never_fewer ≡ every (suc n) (lines_no_fewer counts first second)
+  pub second-never-fewer : second_so_far.never_fewer ≡ every (suc n) (lines_no_fewer counts second first)

@@ -7,14 +7,15 @@ ghost use Rattle.text_reader.specs.Lines.{lines};
 ghost use Rattle.text_reader.specs.Padding.{PaddingIgnored};
 ghost use Rattle.model.specs.Hold.{plan_of};
 ghost use Rattle.model.specs.Calls.{ledger_after};
-ghost use Rattle.network.specs.Loading.{LoadedWithSignals};
-ghost use Rattle.plan_compare.specs.Comparison.{order_by, plan_number, refusal_in, compare_plans, second_ledger_after};
+ghost use Rattle.network.specs.Loading.{Loaded};
+ghost use Rattle.plan_compare.specs.Comparison.{order_number, order_by, plan_number, refusal_in, compare_plans, second_ledger_after};
 ghost use Rattle.plan_compare.specs.Promises.{ComparisonPromises, ComparisonGot};
 ghost use Rattle.plan_compare.specs.Curves.{lines_order, Formed, NextAsked, NextGot};
 
 use base_search::Refusal;
+use model::Signal;
 use network_tables::{
-    Counts, LINE_SIZE, LINK_TABLE_SIZE, MOVEMENT_TABLE_SIZE, Reading, SIGNAL_TABLE_SIZE,
+    Counts, LINE_SIZE, Link, MAX_LINKS, MAX_MOVEMENTS, MAX_SIGNALS, Movement, NetworkTables,
     TIME_TABLE_SIZE,
 };
 
@@ -25,6 +26,20 @@ pub enum Order {
     Behind,
     Equal,
     Crossing,
+}
+
+impl Order {
+    // The number by which answers tell it.
+    pub fn number(self) -> u32
+        ensures { result ≡ order_number self }
+    {
+        match self {
+            Order::Ahead => 1,
+            Order::Behind => 2,
+            Order::Equal => 3,
+            Order::Crossing => 4,
+        }
+    }
 }
 
 // How two accepted plans compare: their order, and the doubled time of the first minus that of the second.
@@ -64,27 +79,36 @@ impl ComparisonRefusal {
     }
 }
 
-// What a plan has let out up to a boundary, and where the line of the next step starts.
+// What a plan has let out up to a boundary, where the line of the next step starts, and whether it was never fewer than the other plan's.
 #[derive(Clone, Copy)]
 struct LetOut {
     at: usize,
     volume: u64,
+    never_fewer: bool,
 }
+
+// Before the first step.
+const NOTHING: LetOut = LetOut {
+    at: 0,
+    volume: 0,
+    never_fewer: true,
+};
 
 // What a plan has let out up to the next boundary. An empty text means hold, and lets nothing out; the lines of another have passed, so that each is read.
 fn next_boundary(plan: &[u8], so_far: LetOut, counts: Counts) -> LetOut
     requires { NextAsked counts plan.now so_far }
     ensures { NextGot counts plan.now so_far result }
 {
-    if plan.len() == 0 {
+    if plan.is_empty() {
         return so_far;
     }
     let mut line = [0u32; LINE_SIZE];
-    let read = network_tables::read_row(plan, so_far.at, b'P', &mut line, 0, counts.plan_width());
+    let at = network_tables::read_again(plan, so_far.at, b'P', &mut line, counts.plan_width());
     let volume = step_rows::sum_of(&line, counts.signals + counts.links, counts.links);
     LetOut {
-        at: read.unwrap(),
+        at,
         volume: so_far.volume + volume,
+        ..so_far
     }
 }
 
@@ -105,17 +129,15 @@ fn order_of_texts(first: &[u8], second: &[u8], counts: Counts) -> Order
     requires { Formed counts first.now × Formed counts second.now }
     ensures { result ≡ lines_order counts first.now second.now }
 {
-    let mut one = LetOut { at: 0, volume: 0 };
-    let mut other = LetOut { at: 0, volume: 0 };
-    let mut first_never_fewer = true;
-    let mut second_never_fewer = true;
+    let mut first_so_far = NOTHING;
+    let mut second_so_far = NOTHING;
     for _ in 0..counts.steps {
-        one = next_boundary(first, one, counts);
-        other = next_boundary(second, other, counts);
-        first_never_fewer &= other.volume <= one.volume;
-        second_never_fewer &= one.volume <= other.volume;
+        first_so_far = next_boundary(first, first_so_far, counts);
+        second_so_far = next_boundary(second, second_so_far, counts);
+        first_so_far.never_fewer &= second_so_far.volume <= first_so_far.volume;
+        second_so_far.never_fewer &= first_so_far.volume <= second_so_far.volume;
     }
-    order_by(first_never_fewer, second_never_fewer)
+    order_by(first_so_far.never_fewer, second_so_far.never_fewer)
 }
 
 // The difference of two doubled times.
@@ -126,47 +148,37 @@ fn gap_between(first: u64, second: u64) -> i64
     first as i64 - second as i64
 }
 
-// Compares two plans on a network that has passed: all refusals of the first, then those of the second.
+// Compares two plans on a network that has passed: all refusals of the first, then those of the second. Each starts from the same signals.
 fn compare_on_network(
     network: &[u8],
     first: &[u8],
     second: &[u8],
-    reading: Reading,
-    links: &[u32],
-    movements: &[u32],
-    times: &[u32],
-    signals: &mut [u32; SIGNAL_TABLE_SIZE],
+    tables: &NetworkTables,
+    signals: &mut [Signal; MAX_SIGNALS],
     first_ledger: &mut [u32],
     second_ledger: &mut [u32],
 ) -> Result<Comparison, ComparisonRefusal>
-    requires { LoadedWithSignals network.now signals.old links.now movements.now times.now reading }
+    requires { Loaded network.now signals.old tables.now.links.now tables.now.movements.now tables.now.times.now tables.now.reading }
     ensures { ComparisonGot network.now first.now second.now first_ledger.old second_ledger.old result first_ledger.new second_ledger.new }
 {
-    let one = plan_check::judge_plan(
+    let mut signals_of_first = *signals;
+    let first_totals = plan_check::judge_loaded(
         network,
         first,
-        reading,
-        links,
-        movements,
-        times,
-        signals,
+        tables,
+        &mut signals_of_first,
         first_ledger,
-    )
-    .map_err(ComparisonRefusal::First)?;
-    let other = plan_check::judge_with_signals(
+    ).map_err(ComparisonRefusal::First)?;
+    let second_totals = plan_check::judge_loaded(
         network,
         second,
-        reading,
-        links,
-        movements,
-        times,
+        tables,
         signals,
         second_ledger,
-    )
-    .map_err(ComparisonRefusal::Second)?;
+    ).map_err(ComparisonRefusal::Second)?;
     Ok(Comparison {
-        order: order_of_texts(first, second, reading.counts),
-        gap: gap_between(one.doubled_time, other.doubled_time),
+        order: order_of_texts(first, second, tables.reading.counts),
+        gap: gap_between(first_totals.doubled_time, second_totals.doubled_time),
     })
 }
 
@@ -184,11 +196,11 @@ pub fn compare_plans(
     ensures comparison_promises { ComparisonPromises (lines network.now) (plan_of network.now first.now) (plan_of network.now second.now) (length first_ledger.old) (length second_ledger.old) result }
     ensures padding_ignored { PaddingIgnored network.now (λ padded_network. PaddingIgnored first.now (λ padded_first. PaddingIgnored second.now (λ padded_second. ComparisonGot padded_network padded_first padded_second first_ledger.old second_ledger.old result first_ledger.new second_ledger.new))) }
 {
-    let mut signals = [0u32; SIGNAL_TABLE_SIZE];
-    let mut links = [0u32; LINK_TABLE_SIZE];
-    let mut movements = [0u32; MOVEMENT_TABLE_SIZE];
+    let mut signals = [Signal::default(); MAX_SIGNALS];
+    let mut links = [Link::default(); MAX_LINKS];
+    let mut movements = [Movement::default(); MAX_MOVEMENTS];
     let mut times = [0u32; TIME_TABLE_SIZE];
-    let reading = network::load_with_signals(
+    let reading = network::read_network(
         network,
         &mut signals,
         &mut links,
@@ -196,14 +208,17 @@ pub fn compare_plans(
         &mut times,
     )
     .map_err(ComparisonRefusal::Network)?;
+    let tables = NetworkTables {
+        reading,
+        links: &links,
+        movements: &movements,
+        times: &times,
+    };
     compare_on_network(
         network,
         first,
         second,
-        reading,
-        &links,
-        &movements,
-        &times,
+        &tables,
         &mut signals,
         first_ledger,
         second_ledger,

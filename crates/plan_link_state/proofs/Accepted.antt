@@ -20,9 +20,9 @@ use Rattle.model.proofs.Rows.{written_at, length-written}
 use Rattle.model.proofs.Written.{rows_all}
 use Rattle.model.proofs.Promises.{promises}
 use Rattle.step_arrivals.specs.Arrivals.{scaled_in}
-use Rattle.plan_link_state.specs.declared.Arrival.{Arrival}
-use Rattle.plan_link_state.specs.State.{PlanState, ledger_arrival}
-use Rattle.plan_link_state.proofs.Ledger.{arrival-of, state-told}
+use Rattle.plan_link_state.specs.declared.Arrived.{Arrived}
+use Rattle.plan_link_state.specs.State.{PlanState, arrived_in}
+use Rattle.plan_link_state.proofs.Ledger.{arrived-of, state-told}
 use Rattle.plan_link_state.proofs.State.{state-is}
 use Rattle.std.specs.Prelude.{Ok}
 
@@ -105,11 +105,11 @@ module _ (network plan : List Line) (old : List ℕ) (holds : Hold (plan_checks 
         ap (λ x. timeline_entered network plan x i) (sym e) ∙ sym (entered-is (m - past_count network) (omega arith))
 
     -- what the network and the ledger say is what the plan says
-    arrival-is : ledger_arrival network (ledger_after network plan old) boundary link ≡ record { scaled = scaled; seconds = s; rises = true }
+    arrived-is : arrived_in network (ledger_after network plan old) boundary link ≡ record { scaled = scaled; seconds = s; rises = true }
     unfolding scaled_arrived rises_inside end_length end_elapsed end_step arrival_entered
-    arrival-is =
+    arrived-is =
         sym
-        (arrival-of (ltb (timeline_time network (on_timeline network boundary)) (travel_time network i)) (ltb (time network boundary) (travel_time network i)) (standing network i) s (elapsed network boundary i)
+        (arrived-of (ltb (timeline_time network (on_timeline network boundary)) (travel_time network i)) (ltb (time network boundary) (travel_time network i)) (standing network i) s (elapsed network boundary i)
         (timeline_entered network [] a i) (timeline_entered network [] (suc a) i) (ledger_entered network (ledger_after network plan old) boundary link (a - past_count network))
         (ledger_entered network (ledger_after network plan old) boundary link (suc a - past_count network)) (timeline_entered network plan a i) (timeline_entered network plan (suc a) i) at-start in-past in-plan)
         ∙ whole
@@ -130,7 +130,7 @@ module _ (network plan : List Line) (old : List ℕ) (holds : Hold (plan_checks 
             let u = arrival-in-plan network boundary i some-travel (ltb-false _ _ q) in
             (entered-plan a u (omega (arith, inner)), entered-plan (suc a) (omega arith) inner)
 
-        whole : ◌≡◌ {A = Arrival}
+        whole : ◌≡◌ {A = Arrived}
             (record {
               scaled = scaled_in (timeline_entered network plan a i) (timeline_entered network plan (suc a) i) s (elapsed network boundary i);
               seconds = s;
@@ -155,14 +155,14 @@ module _ (network plan : List Line) (old : List ℕ) (holds : Hold (plan_checks 
         let long : 2 * suc (step_count network) * link_count network ≤ length (ledger_after network plan old) =
         rw (after_is, length-written network plan old (suc (step_count network)) room) room in
         let same = state-is network (ledger_after network plan old) boundary link (passes-of-hold (network_checks network) network-holds) long early first last in
-        let arrival : Arrival = record { scaled = scaled; seconds = s; rises = true } in
+        let arrived : Arrived = record { scaled = scaled; seconds = s; rises = true } in
         let low : left network plan boundary i ≤ q = (le-div_iff_mul-le some).1 gone in
         let high : q ≤ entered network plan boundary i = div-le_of_le-mul s (omega (arith, mul_comm (entered network plan boundary i) s)) in
         let all : left network plan boundary i + (q - left network plan boundary i) ≡ q = omega arith in
         record {
           queued = q - left network plan boundary i;
           in-transit = entered network plan boundary i - q;
-          told = sym same ∙ rw (entered-is boundary early, left_is, arrival-is) (sym (state-told (entered network plan boundary i) (left network plan boundary i) arrival refl refl gone refl come some refl));
+          told = sym same ∙ rw (entered-is boundary early, left_is, arrived-is) (sym (state-told (entered network plan boundary i) (left network plan boundary i) arrived refl refl gone refl come some refl));
           arrived = rw all (test q ∙ le-leb (q * s) scaled (div-mul-le_self scaled s));
           no_more = rw all (test (q + 1) ∙ lt-leb ((q + 1) * s) scaled (omega (arith, lt-div-mul-add {a = scaled} some)));
           whole = omega (arith, low, high);

@@ -7,18 +7,20 @@ use Rattle.text_reader.specs.Lines.{Line, lines}
 use Rattle.text_reader.specs.Padding.{PaddingIgnored}
 use Rattle.text_reader.proofs.Padding.{same_lines}
 use Rattle.base_laws.specs.Test.{◌and◌, within}
+use Rattle.model.specs.declared.Signal.{Signal}
 use Rattle.model.specs.Network.{link_count, step_count}
 use Rattle.model.specs.Table.{network_checks, ledger_checks}
 use Rattle.model.specs.Calls.{state_of, ledger_entered, ledger_left, end_step, end_length, scaled_arrived, rises_inside, ledger_arrived, state_checks, link_answer, link_state}
 use Rattle.model.specs.Guarantees.{StatePromises}
 use Rattle.model.proofs.Numbers.{state-promises}
 use Rattle.network_tables.specs.declared.Reading.{Reading}
+use Rattle.network_tables.specs.declared.NetworkTables.{NetworkTables}
 use Rattle.network_tables.specs.Fields.{entered_at, left_at}
 use Rattle.network_tables.specs.Tables.{Judged}
 use Rattle.network_tables.proofs.Stages.{verdict-refused}
 use Rattle.network.specs.Loading.{Loaded}
-use Rattle.plan_link_state.specs.State.{Tabled, ledger_arrival, state_from}
-use Rattle.plan_link_state.specs.declared.Arrival.{Arrival}
+use Rattle.plan_link_state.specs.State.{Tabled, arrived_in, state_from}
+use Rattle.plan_link_state.specs.declared.Arrived.{Arrived}
 use Rattle.plan_link_state.proofs.Ledger.{arrival-step-lasts}
 use Rattle.base_laws.proofs.Tests.{is_within}
 use Rattle.std.specs.Prelude.{Result, Ok, Err}
@@ -91,7 +93,7 @@ module _ (network : List Line) (ledger : List ℕ) (boundary link : ℕ) where
         by-agreement false = refl
 
         pub state-is : 1 ≤ link → link ≤ link_count network
-            → state_from (ledger_entered network ledger boundary link boundary) (ledger_left network ledger boundary link) (ledger_arrival network ledger boundary link)
+            → state_from (ledger_entered network ledger boundary link boundary) (ledger_left network ledger boundary link) (arrived_in network ledger boundary link)
             ≡ link_state network ledger boundary link
         unfolding state_from link_state ledger_arrived
         state-is first last =
@@ -99,8 +101,8 @@ module _ (network : List Line) (ledger : List ℕ) (boundary link : ℕ) where
             sym (ap (link_answer network ledger boundary link) (to20 ∙ or-else-passes _ _ (checked-passes _ 20 0 0 inside)) ∙ by-agreement agrees)
 
 -- ---- by the tables
-module _ {text : List ℕ} {reading : Reading} {links times : List ℕ} (t : Tabled text reading links times) (ledger : List ℕ) (boundary link : ℕ)
-    {size : ℕ} (sized : size ≡ 2 * (reading.counts.steps + 1) * reading.counts.links) where
+module _ {text : List ℕ} {tables : NetworkTables} (t : Tabled text tables) (ledger : List ℕ) (boundary link : ℕ)
+    {size : ℕ} (sized : size ≡ 2 * (tables.reading.counts.steps + 1) * tables.reading.counts.links) where
   abbrev network : List Line
   network = lines text
 
@@ -117,31 +119,31 @@ module _ {text : List ℕ} {reading : Reading} {links times : List ℕ} (t : Tab
     room : 2 * suc (step_count network) * link_count network ≤ length ledger
     room = omega (arith, rows_are)
 
-    pub past-told : reading.counts.steps < boundary → {r : (Result LinkState Refusal)} → r ≡ Err (refusal 19 0 0) → r ≡ link_state network ledger boundary link
+    pub past-told : tables.reading.counts.steps < boundary → {r : (Result LinkState Refusal)} → r ≡ Err (refusal 19 0 0) → r ≡ link_state network ledger boundary link
     past-told h e = e ∙ boundary-past network ledger boundary link passed room (omega (arith, t.counted.steps))
 
-    module _ (early : boundary ≤ reading.counts.steps) where
+    module _ (early : boundary ≤ tables.reading.counts.steps) where
       reached : boundary ≤ step_count network
       reached = omega (arith, t.counted.steps)
 
       pub below-told : link < 1 → {r : (Result LinkState Refusal)} → r ≡ Err (refusal 20 0 0) → r ≡ link_state network ledger boundary link
       below-told h e = e ∙ no-link network ledger boundary link passed room reached (within-below 1 link (link_count network) h)
 
-      pub above-told : 1 ≤ link → reading.counts.links < link → {r : (Result LinkState Refusal)} → r ≡ Err (refusal 20 0 0) → r ≡ link_state network ledger boundary link
+      pub above-told : 1 ≤ link → tables.reading.counts.links < link → {r : (Result LinkState Refusal)} → r ≡ Err (refusal 20 0 0) → r ≡ link_state network ledger boundary link
       above-told h l e = e ∙ no-link network ledger boundary link passed room reached (within-above 1 link (link_count network) h (omega (arith, t.counted.links)))
 
-      module _ (first : 1 ≤ link) (last : link ≤ reading.counts.links) where
+      module _ (first : 1 ≤ link) (last : link ≤ tables.reading.counts.links) where
         own : link - 1 + 1 ≡ link
         own = omega arith
 
-        pub arrival-lasts : {arrival : Arrival} → arrival ≡ ledger_arrival network ledger boundary (link - 1 + 1) → 1 ≤ arrival.seconds
+        pub arrived-lasts : {arrived : Arrived} → arrived ≡ arrived_in network ledger boundary (link - 1 + 1) → 1 ≤ arrived.seconds
         unfolding end_length end_step
-        arrival-lasts e = rw (e, own) (arrival-step-lasts t boundary (link - 1) reached)
+        arrived-lasts e = rw (e, own) (arrival-step-lasts t boundary (link - 1) reached)
 
-        pub found-told : {entered left : ℕ} {arrival : Arrival} {r : (Result LinkState Refusal)}
-            → entered ≡ entered_at ledger reading.counts.links boundary (link - 1) → left ≡ left_at ledger reading.counts.links boundary (link - 1)
-            → arrival ≡ ledger_arrival network ledger boundary (link - 1 + 1)
-            → r ≡ state_from entered left arrival → r ≡ link_state network ledger boundary link
+        pub found-told : {entered left : ℕ} {arrived : Arrived} {r : (Result LinkState Refusal)}
+            → entered ≡ entered_at ledger tables.reading.counts.links boundary (link - 1) → left ≡ left_at ledger tables.reading.counts.links boundary (link - 1)
+            → arrived ≡ arrived_in network ledger boundary (link - 1 + 1)
+            → r ≡ state_from entered left arrived → r ≡ link_state network ledger boundary link
         unfolding ledger_entered ledger_left
         found-told e f a q = q ∙ rw (e, f, a, own, t.counted.links) (state-is network ledger boundary link passed room reached first (omega (arith, t.counted.links)))
 
@@ -151,20 +153,15 @@ Promised text ledger boundary link answer =
     (answer ≡ link_state (lines text) ledger boundary link)
     × (StatePromises answer × PaddingIgnored text (λ padded. answer ≡ link_state (lines padded) ledger boundary link))
 
-promised : (text ledger : List ℕ) (boundary link : ℕ) {answer : (Result LinkState Refusal)} → answer ≡ link_state (lines text) ledger boundary link → Promised text ledger boundary link answer
+pub promised : (text ledger : List ℕ) (boundary link : ℕ) {answer : (Result LinkState Refusal)} → answer ≡ link_state (lines text) ledger boundary link → Promised text ledger boundary link answer
 promised text ledger boundary link e =
     (e, (rw e (state-promises (lines text) ledger boundary link), λ padded same. e ∙ ap (λ (network : List Line). link_state network ledger boundary link) (same_lines text padded same)))
 
-module _ {text : List ℕ} {stage : (Result Reading Refusal)} {links movements times : List ℕ} (got : Judged (network_checks (lines text)) (Loaded text links movements times) stage) where
-  pub tabled : {reading : Reading} → stage ≡ Ok reading → Tabled text reading links times
-  tabled {reading} e =
-      let l = got.held reading e in
-      record { counted = l.counted; past-start = l.past-start; link-table = l.link-table; time-table = l.time-table; holds = l.holds }
+-- a network that has passed gives the tables
+pub tabled : {text : List ℕ} {signals : List Signal} {tables : NetworkTables} → Loaded text signals tables.links.now tables.movements.now tables.times.now tables.reading → Tabled text tables
+tabled l = record { counted = l.counted; past-start = l.past-start; link-table = l.link-table; time-table = l.time-table; holds = l.holds }
 
-  pub refused-told : (ledger : List ℕ) (boundary link : ℕ) {r : Refusal} → stage ≡ Err r
-      → Promised text ledger boundary link (Err r)
-  refused-told ledger boundary link {r} e = promised text ledger boundary link (network-refused (lines text) ledger boundary link r (verdict-refused got e))
-
-  pub told-by : (ledger : List ℕ) (boundary link : ℕ) {answer : (Result LinkState Refusal)} → answer ≡ link_state (lines text) ledger boundary link
-      → Promised text ledger boundary link answer
-  told-by ledger boundary link e = promised text ledger boundary link e
+-- it is refused
+pub refused-told : (text : List ℕ) {stage : (Result Reading Refusal)} {Held : Reading → Type 0} → Judged (network_checks (lines text)) Held stage → (ledger : List ℕ) (boundary link : ℕ) {r : Refusal} → stage ≡ Err r
+    → Promised text ledger boundary link (Err r)
+refused-told text got ledger boundary link {r} e = promised text ledger boundary link (network-refused (lines text) ledger boundary link r (verdict-refused got e))

@@ -8,45 +8,45 @@ use Rattle.model.specs.Network.{link_count, step_count, past_count, on_timeline,
 use Rattle.model.specs.Flows.{timeline_entered, left, has_arrived, held}
 use Rattle.model.specs.Table.{network_checks}
 use Rattle.model.specs.Calls.{state_of, end_length, scaled_arrived, rises_inside}
-use Rattle.network_tables.specs.declared.Reading.{Reading}
+use Rattle.network_tables.specs.declared.NetworkTables.{NetworkTables}
 use Rattle.network_tables.specs.Fields.{entered_at}
 use Rattle.network_tables.specs.Tables.{CountsHold, LinkTable, TimeTable}
-use Rattle.step_past.specs.declared.Curve.{Curve}
-use Rattle.plan_link_state.specs.declared.Arrival.{Arrival}
+use Rattle.step_past.specs.declared.Arrival.{Arrival}
+use Rattle.plan_link_state.specs.declared.Arrived.{Arrived}
 use Rattle.model.specs.declared.LinkState.{LinkState}
 use Rattle.base_search.specs.declared.Refusal.{Refusal}
 
 -- the tables are those of a network text that has passed
-pub record Tabled (text : List ℕ) (reading : Reading) (links times : List ℕ) : Type 0 where
-  pub counted : CountsHold (lines text) reading.counts
-  pub past-start : Starts text reading.past_at (timeline_line (lines text) 0)
-  pub link-table : LinkTable (lines text) links
-  pub time-table : TimeTable (lines text) times
+pub record Tabled (text : List ℕ) (tables : NetworkTables) : Type 0 where
+  pub counted : CountsHold (lines text) tables.reading.counts
+  pub past-start : Starts text tables.reading.past_at (timeline_line (lines text) 0)
+  pub link-table : LinkTable (lines text) tables.links.now
+  pub time-table : TimeTable (lines text) tables.times.now
   pub holds : Hold (network_checks (lines text))
 
 -- what reading the arrivals of link i at boundary n asks: the ledger has every row
-pub record ArrivalAsked (text : List ℕ) (reading : Reading) (links times ledger : List ℕ) (n i : ℕ) : Type 0 where
-  pub tabled : Tabled text reading links times
+pub record ArrivedAsked (text : List ℕ) (tables : NetworkTables) (ledger : List ℕ) (n i : ℕ) : Type 0 where
+  pub tabled : Tabled text tables
   pub early : n ≤ step_count (lines text)
   pub link : i < link_count (lines text)
   pub room : 2 * suc (step_count (lines text)) * link_count (lines text) ≤ length ledger
 
-pub record OverAsked (text : List ℕ) (reading : Reading) (links times ledger : List ℕ) (n i step : ℕ) : Type 0 where
-  pub asked : ArrivalAsked text reading links times ledger n i
+pub record OverAsked (text : List ℕ) (tables : NetworkTables) (ledger : List ℕ) (n i step : ℕ) : Type 0 where
+  pub asked : ArrivedAsked text tables ledger n i
   pub is-step : step ≡ arrival_step (lines text) n i
 
 -- what had entered link i by the start and by the end of the step in which its travel time before boundary n ends
-pub record EnteredOver (network : List Line) (ledger : List ℕ) (n i : ℕ) (curve : Curve) : Type 0 where
-  pub by-start : timeline_time network (on_timeline network n) < travel_time network i → curve.start ≡ standing network i
+pub record EnteredOver (network : List Line) (ledger : List ℕ) (n i : ℕ) (arrival : Arrival) : Type 0 where
+  pub by-start : timeline_time network (on_timeline network n) < travel_time network i → arrival.start ≡ standing network i
   pub by-past : time network n < travel_time network i → travel_time network i ≤ timeline_time network (on_timeline network n)
-      → (curve.start ≡ timeline_entered network [] (arrival_step network n i) i) × (curve.stop ≡ timeline_entered network [] (suc (arrival_step network n i)) i)
+      → (arrival.start ≡ timeline_entered network [] (arrival_step network n i) i) × (arrival.stop ≡ timeline_entered network [] (suc (arrival_step network n i)) i)
   pub by-ledger : travel_time network i ≤ time network n
-      → (curve.start ≡ entered_at ledger (link_count network) (arrival_step network n i - past_count network) i)
-      × (curve.stop ≡ entered_at ledger (link_count network) (suc (arrival_step network n i) - past_count network) i)
+      → (arrival.start ≡ entered_at ledger (link_count network) (arrival_step network n i - past_count network) i)
+      × (arrival.stop ≡ entered_at ledger (link_count network) (suc (arrival_step network n i) - past_count network) i)
 
 -- what has arrived at a link's end, by the paper's words
-abbrev pub ledger_arrival : List Line → List ℕ → ℕ → ℕ → Arrival
-ledger_arrival network ledger boundary link =
+abbrev pub arrived_in : List Line → List ℕ → ℕ → ℕ → Arrived
+arrived_in network ledger boundary link =
     record {
       scaled = scaled_arrived network ledger boundary link;
       seconds = end_length network ledger boundary link;
@@ -54,10 +54,10 @@ ledger_arrival network ledger boundary link =
     }
 
 -- 21, or queued and in transit
-unfoldable pub state_from : ℕ → ℕ → Arrival → Result LinkState Refusal
-state_from entered left arrival =
-    cond (arrival.rises and leb (left * arrival.seconds) arrival.scaled and leb arrival.scaled (entered * arrival.seconds))
-    (Ok (state_of (arrival.scaled / arrival.seconds - left) (entered - arrival.scaled / arrival.seconds)))
+unfoldable pub state_from : ℕ → ℕ → Arrived → Result LinkState Refusal
+state_from entered left arrived =
+    cond (arrived.rises and leb (left * arrived.seconds) arrived.scaled and leb arrived.scaled (entered * arrived.seconds))
+    (Ok (state_of (arrived.scaled / arrived.seconds - left) (entered - arrived.scaled / arrived.seconds)))
     (Err (refusal 21 0 0))
 
 -- The state of link i, from 0, at a boundary, by a plan: what is queued is the most that has arrived and not left, and the rest of what the link holds is in transit.

@@ -6,17 +6,19 @@ ghost use Rattle.text_reader.specs.Lines.{lines};
 ghost use Rattle.text_reader.specs.Padding.{PaddingIgnored};
 ghost use Rattle.model.specs.Calls.{link_state};
 ghost use Rattle.model.specs.Guarantees.{StatePromises};
-ghost use Rattle.plan_link_state.specs.State.{Tabled, OverAsked, EnteredOver, ledger_arrival, ArrivalAsked, state_from};
+ghost use Rattle.plan_link_state.specs.State.{Tabled, OverAsked, EnteredOver, arrived_in, ArrivedAsked, state_from};
 
 use base_search::Refusal;
-use model::LinkState;
-use network_tables::{LINK_TABLE_SIZE, MOVEMENT_TABLE_SIZE, Reading, TIME_TABLE_SIZE};
-use step_past::Curve;
+use model::{LinkState, Signal};
+use network_tables::{
+    Link, MAX_LINKS, MAX_MOVEMENTS, MAX_SIGNALS, Movement, NetworkTables, TIME_TABLE_SIZE,
+};
+use step_past::Arrival;
 
 // What has arrived at a link's end × the length of the step in which the travel time ends; that length; and whether the entered count does not fall over a step
 // inside which it ends. That is no Option: `rises` is one of the tests of 21, beside numbers that stand whatever it says.
 #[derive(Clone, Copy)]
-struct Arrival {
+struct Arrived {
     scaled: u64,
     seconds: u32,
     rises: bool,
@@ -26,33 +28,34 @@ struct Arrival {
 // alone, from then on as the ledger has it.
 fn entered_over(
     text: &[u8],
-    reading: Reading,
-    links: &[u32],
-    times: &[u32],
+    tables: &NetworkTables,
     ledger: &[u32],
     n: usize,
     i: usize,
     step: usize,
-) -> Curve
-    requires { OverAsked text.now reading links.now times.now ledger.now n i step }
+) -> Arrival
+    requires { OverAsked text.now tables.now ledger.now n i step }
     ensures { EnteredOver (lines text.now) ledger.now n i result }
 {
-    let counts = reading.counts;
+    let counts = tables.reading.counts;
     let past = counts.past;
-    if times[past + n] - times[past] < network_tables::travel_time(links, i) {
-        let stood = network_tables::standing(links, i);
-        let curve = Curve {
-            start: stood,
-            stop: stood,
-            place: reading.past_at,
+    let times = tables.times;
+    let link = tables.links[i];
+    if times[past + n] - times[past] < link.travel_time {
+        let standing = Arrival {
+            step,
+            start: link.standing,
+            stop: link.standing,
+            place: tables.reading.past_at,
         };
         if past <= step {
-            return curve;
+            return standing;
         }
-        return step_past::read_on(text, counts.links, i, 0, step + 1, curve);
+        return step_past::read_on(text, counts.links, i, 0, step + 1, standing);
     }
     let row = step - past;
-    Curve {
+    Arrival {
+        step,
         start: network_tables::entered_at(ledger, counts.links, row, i),
         stop: network_tables::entered_at(ledger, counts.links, row + 1, i),
         place: 0,
@@ -60,40 +63,32 @@ fn entered_over(
 }
 
 // What has arrived at the end of link `i` by boundary `n`.
-fn arrival_by(
-    text: &[u8],
-    reading: Reading,
-    links: &[u32],
-    times: &[u32],
-    ledger: &[u32],
-    n: usize,
-    i: usize,
-) -> Arrival
-    requires { ArrivalAsked text.now reading links.now times.now ledger.now n i }
-    ensures { result ≡ ledger_arrival (lines text.now) ledger.now n (i + 1) }
+fn arrived_by(text: &[u8], tables: &NetworkTables, ledger: &[u32], n: usize, i: usize) -> Arrived
+    requires { ArrivedAsked text.now tables.now ledger.now n i }
+    ensures { result ≡ arrived_in (lines text.now) ledger.now n (i + 1) }
 {
-    let travel = network_tables::travel_time(links, i);
-    let counts = reading.counts;
-    let at = counts.past + n;
+    let times = tables.times;
+    let travel = tables.links[i].travel_time;
+    let at = tables.reading.counts.past + n;
     let step = step_arrivals::arrival_step(times, 0, at, travel);
-    let curve = entered_over(text, reading, links, times, ledger, n, i, step);
+    let arrival = entered_over(text, tables, ledger, n, i, step);
     let seconds = step_arrivals::seconds(times, step);
     let elapsed = step_arrivals::elapsed(times, step, at, travel);
-    Arrival {
-        scaled: step_arrivals::scaled_arrived(curve.start, curve.stop, seconds, elapsed),
+    Arrived {
+        scaled: step_arrivals::scaled_arrived(arrival.start, arrival.stop, seconds, elapsed),
         seconds,
-        rises: (elapsed == 0) | (curve.start <= curve.stop),
+        rises: (elapsed == 0) | (arrival.start <= arrival.stop),
     }
 }
 
 // Refusal 21, by what has arrived unrounded; or the vehicles queued, rounded down, and in transit.
-fn state_from(entered: u32, left: u32, arrival: Arrival) -> Result<LinkState, Refusal>
-    requires { 1 ≤ arrival.seconds }
-    ensures { result ≡ state_from entered left arrival }
+fn state_from(entered: u32, left: u32, arrived: Arrived) -> Result<LinkState, Refusal>
+    requires { 1 ≤ arrived.seconds }
+    ensures { result ≡ state_from entered left arrived }
 {
-    let scaled = arrival.scaled;
-    let seconds = arrival.seconds;
-    if !arrival.rises {
+    let scaled = arrived.scaled;
+    let seconds = arrived.seconds;
+    if !arrived.rises {
         return Err(Refusal::new(21, 0, 0));
     }
     if scaled < network_tables::times(left, seconds) {
@@ -102,27 +97,25 @@ fn state_from(entered: u32, left: u32, arrival: Arrival) -> Result<LinkState, Re
     if network_tables::times(entered, seconds) < scaled {
         return Err(Refusal::new(21, 0, 0));
     }
-    let arrived = (scaled / u64::from(seconds)) as u32;
+    let whole = (scaled / u64::from(seconds)) as u32;
     Ok(LinkState {
-        queued: arrived - left,
-        in_transit: entered - arrived,
+        queued: whole - left,
+        in_transit: entered - whole,
     })
 }
 
 // The state by the tables of a network that has passed: refusals 8, 19, 20 and 21.
 fn state_by(
     text: &[u8],
-    reading: Reading,
-    links: &[u32],
-    times: &[u32],
+    tables: &NetworkTables,
     ledger: &[u32],
     boundary: u32,
     link: u32,
 ) -> Result<LinkState, Refusal>
-    requires { Tabled text.now reading links.now times.now }
+    requires { Tabled text.now tables.now }
     ensures { result ≡ link_state (lines text.now) ledger.now boundary link }
 {
-    let counts = reading.counts;
+    let counts = tables.reading.counts;
     let count = counts.links;
     let steps = counts.steps;
     if ledger.len() < network_tables::row_start(steps + 1, count) {
@@ -142,11 +135,7 @@ fn state_by(
     let i = number - 1;
     let entered = network_tables::entered_at(ledger, count, n, i);
     let left = network_tables::left_at(ledger, count, n, i);
-    state_from(
-        entered,
-        left,
-        arrival_by(text, reading, links, times, ledger, n, i),
-    )
+    state_from(entered, left, arrived_by(text, tables, ledger, n, i))
 }
 
 // State of one link at a boundary: refusals 1 to 6, 28 and 30 of the network, 8 of the ledger, then 19, 20 and 21.
@@ -160,9 +149,22 @@ pub fn link_state(
     ensures state_promises { StatePromises result }
     ensures padding_ignored { PaddingIgnored network.now (λ padded. result ≡ link_state (lines padded) ledger.now boundary link) }
 {
-    let mut links = [0u32; LINK_TABLE_SIZE];
-    let mut movements = [0u32; MOVEMENT_TABLE_SIZE];
+    let mut signals = [Signal::default(); MAX_SIGNALS];
+    let mut links = [Link::default(); MAX_LINKS];
+    let mut movements = [Movement::default(); MAX_MOVEMENTS];
     let mut times = [0u32; TIME_TABLE_SIZE];
-    let reading = network::load_network(network, &mut links, &mut movements, &mut times)?;
-    state_by(network, reading, &links, &times, ledger, boundary, link)
+    let reading = network::read_network(
+        network,
+        &mut signals,
+        &mut links,
+        &mut movements,
+        &mut times,
+    )?;
+    let tables = NetworkTables {
+        reading,
+        links: &links,
+        movements: &movements,
+        times: &times,
+    };
+    state_by(network, &tables, ledger, boundary, link)
 }

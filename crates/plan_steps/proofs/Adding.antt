@@ -1,5 +1,5 @@
 -- The totals, one step after another.
-use Rattle.base_laws.proofs.Kit.{ℕ, suc, ◌+◌, ◌*◌, ◌-◌, ◌≤◌, ◌<◌, ◌≡◌, ap, ◌∙◌, true, List, dec_le, mul-le-mul_right, arith, get_or}
+use Rattle.base_laws.proofs.Kit.{ℕ, suc, ◌+◌, ◌-◌, ◌≤◌, ◌<◌, ◌≡◌, ◌∙◌, true, List, dec_le, mul-le-mul_right, arith}
 use Rattle.base_search.specs.Checks.{verdict, Hold}
 use Rattle.base_search.proofs.Laws.{hold-of-passes}
 use Rattle.text_reader.specs.Lines.{Line}
@@ -9,38 +9,17 @@ use Rattle.model.specs.Network.{max_steps, link_count, step_count}
 use Rattle.model.specs.Flows.{vehicles, all_admitted, all_let_out, outside, under_way, doubled_time, totals}
 use Rattle.model.specs.Rules.{rule17, rule18}
 use Rattle.model.specs.Table.{network_checks, line_checks}
-use Rattle.base_laws.proofs.Sums.{sum-ext}
 use Rattle.model.proofs.Accepted.{valid-network, lawful-step, LawfulStep}
 use Rattle.model.proofs.Limits.{step-limits}
 use Rattle.model.proofs.Flow.{balance-while}
 use Rattle.model.proofs.Bounds.{KeepsLimits, lawful-limits, admitted-total-small, let-out-total-small, vehicles-small, outside-small, doubled-small}
 use Rattle.network_tables.specs.declared.Counts.{Counts}
-use Rattle.network_tables.specs.Fields.{length_in, admitted_in, let_out_in}
 use Rattle.network_tables.specs.Tables.{CountsHold, PlanNumbers}
-use Rattle.step_rows.specs.Waiting.{waiting_in, StepOffers}
+use Rattle.step_rows.specs.Waiting.{StepOffers}
 use Rattle.step_rows.specs.Rows.{RowHolds}
 use Rattle.step_rows.proofs.Texts.{all-admitted-is, all-let-out-is, vehicles-is}
 use Rattle.plan_steps.specs.Totals.{held_in, totals_after, TotalsAsked}
 use Rattle.std.specs.Prelude.{Ok}
-
--- the sum of a table from its start
-pub outside-sum : (links : ℕ) (waiting : List ℕ) {total : ℕ} → total ≡ sum links (λ i. get_or waiting (0 + i) 0) → total ≡ sum links (waiting_in waiting)
-outside-sum links waiting e = e ∙ sum-ext links _ _ (λ i l. ap (λ k. get_or waiting k 0) (omega arith))
-
--- what a line lets out, by its place in the line
-pub all-out : (counts : Counts) (line : List ℕ) {l : ℕ} → l ≡ sum counts.links (λ i. get_or line (counts.signals + counts.links + i) 0) → l ≡ sum counts.links (let_out_in counts line)
-all-out counts line e = e ∙ sum-ext counts.links _ _ (λ i u. ap (λ k. get_or line k 0) (omega arith))
-
--- no more leave than there are
-pub enough-inside : {t : Totals} {before after : ℕ} {counts : Counts} {line step : List ℕ} → TotalsAsked t before after counts line step → {a l : ℕ}
-    → a ≡ sum counts.links (admitted_in counts line) → l ≡ sum counts.links (λ i. get_or line (counts.signals + counts.links + i) 0) → l ≤ t.inside + a
-enough-inside {counts = counts} {line} asked ea el = rw ea (omega (arith, all-out counts line el, asked.enough))
-
--- what `add_step` returns
-pub totals-made : (t : Totals) (before after : ℕ) (counts : Counts) (line step : List ℕ) (a l w : ℕ)
-    → a ≡ sum counts.links (admitted_in counts line) → l ≡ sum counts.links (let_out_in counts line) → w ≡ length_in step * (t.inside + before + (t.inside + a - l + after))
-    → ◌≡◌ {A = Totals} (record { admitted = t.admitted + a; let_out = t.let_out + l; inside = t.inside + a - l; doubled_time = t.doubled_time + w }) (totals_after t before after counts line step)
-totals-made t before after counts line step a l w ea el ew = rw (ew, el, ea)
 
 -- the rules of a line that has passed
 pub passed-lawful : (network plan : List Line) (m : ℕ) → verdict (line_checks network plan m) ≡ Ok tt → LawfulStep network plan m

@@ -10,23 +10,22 @@ use Rattle.model.proofs.Accepted.{ValidNetwork}
 use Rattle.model.proofs.Hold.{plan-of-text, plan-of-empty, hold-mask, hold-volume, hold-form, hold-count, hold-shown}
 use Rattle.network_tables.specs.declared.Counts.{Counts}
 use Rattle.network_tables.specs.Places.{plan_width}
-use Rattle.network_tables.specs.Fields.{table_signal, line_size}
+use Rattle.network_tables.specs.Fields.{signal_at, line_size}
 use Rattle.network_tables.specs.Tables.{CountsHold, PlanNumbers}
 use Rattle.step_signals.specs.Step.{SignalsAt}
-use Rattle.plan_steps.specs.PlanLine.{LineGot}
-use Rattle.plan_steps.proofs.Verdicts.{formed}
+use Rattle.plan_steps.specs.PlanLine.{LineGot, formed}
 use Rattle.std.specs.Prelude.{Option, Some, None}
 
 -- where the text is empty, each signal shows the phase of its `G` line at every boundary
-pub shown-at : (network_text plan_text : List ℕ) → ValidNetwork (lines network_text) → {n : ℕ} {signals : List ℕ} → n < step_count (lines network_text)
+pub shown-at : (network_text plan_text : List ℕ) → ValidNetwork (lines network_text) → {n : ℕ} {signals : List Signal} → n < step_count (lines network_text)
     → SignalsAt (lines network_text) (plan_of network_text plan_text) n signals → length plan_text ≡ 0 → (r : ℕ) → r < signal_count (lines network_text)
-    → (table_signal signals r).shown ≡ (signal (lines network_text) r).shown
+    → (signal_at signals r).shown ≡ (signal (lines network_text) r).shown
 shown-at network_text plan_text valid {n} more signals-at empty r l =
     ap (λ (s : Signal). s.shown) (signals-at.holds r l) ∙ rw (plan-of-empty network_text plan_text empty) (hold-shown (lines network_text) valid n r (omega arith) l)
 
-module _ (network_text plan_text : List ℕ) {counts : Counts} (valid : ValidNetwork (lines network_text)) (counted : CountsHold (lines network_text) counts) {n at : ℕ} {signals : List ℕ}
+module _ (network_text plan_text : List ℕ) {counts : Counts} (valid : ValidNetwork (lines network_text)) (counted : CountsHold (lines network_text) counts) {n at : ℕ} {signals : List Signal}
     (more : n < step_count (lines network_text)) (starts : 0 < length plan_text → Starts plan_text at n)
-    (shown : length plan_text ≡ 0 → (r : ℕ) → r < signal_count (lines network_text) → (table_signal signals r).shown ≡ (signal (lines network_text) r).shown)
+    (shown : length plan_text ≡ 0 → (r : ℕ) → r < signal_count (lines network_text) → (signal_at signals r).shown ≡ (signal (lines network_text) r).shown)
     {before line : List ℕ} {result : (Option ℕ)} (zeros : length plan_text ≡ 0 → (k : ℕ) → signal_count (lines network_text) ≤ k → get_or before k 0 ≡ 0) (size : length before ≡ line_size) (got : LineGot plan_text at signals counts before result line) where
   abbrev net : List Line
   net = lines network_text

@@ -6,9 +6,9 @@ use Rattle.base_search.proofs.Laws.{hold-of-passes}
 use Rattle.text_reader.specs.Lines.{Line, no_line, lines, is_record}
 use Rattle.text_reader.specs.Reading.{at_end}
 use Rattle.text_reader.proofs.Laws.{starts_first}
+use Rattle.model.specs.declared.Signal.{Signal}
 use Rattle.model.specs.declared.Totals.{Totals}
-use Rattle.base_laws.specs.Sum.{sum}
-use Rattle.model.specs.Network.{max_links, max_steps, link_count, step_count, past_count, on_timeline, signal}
+use Rattle.model.specs.Network.{max_links, max_signals, max_trams, link_count, step_count, past_count, on_timeline, signal}
 use Rattle.model.specs.Flows.{signal_at}
 use Rattle.model.specs.Table.{is_form, letter_p, ledger_checks, line_checks, plan_line_checks}
 use Rattle.model.specs.Hold.{plan_of}
@@ -19,33 +19,37 @@ use Rattle.model.proofs.Rows.{length-written}
 use Rattle.model.proofs.Timeline.{past-entered, start_left}
 use Rattle.model.proofs.Written.{refused-fails, due-written, rows-until}
 use Rattle.network_tables.specs.declared.Counts.{Counts}
-use Rattle.network_tables.specs.declared.Reading.{Reading}
+use Rattle.network_tables.specs.declared.NetworkTables.{NetworkTables}
+use Rattle.network_tables.specs.declared.Tram.{Tram}
 use Rattle.network_tables.specs.Tables.{SignalTable, TramTable}
 use Rattle.network_tables.proofs.Tables.{travel-time-at}
-use Rattle.network_tables.specs.Fields.{tram_table_size, step_size, line_size, row_size}
+use Rattle.network_tables.specs.Fields.{step_size, line_size}
 use Rattle.network_trams.specs.Claims.{LoadAsked}
 use Rattle.step_arrivals.proofs.Boundaries.{cursor-on}
+use Rattle.step_past.specs.declared.Arrival.{Arrival}
 use Rattle.step_past.specs.Curves.{PastAsked, PastLoaded}
-use Rattle.step_rows.specs.Waiting.{FirstAsked, FirstWaits, WaitingTable}
+use Rattle.step_rows.specs.Waiting.{FirstWaits, WaitingTable}
 use Rattle.step_rows.proofs.WaitingTexts.{waiting-first, outside-is}
 use Rattle.step_signals.specs.Step.{SignalsAt}
 use Rattle.step_signals.proofs.Rules.{ready-first}
 use Rattle.step_rows.specs.Rows.{RowHolds}
 use Rattle.step_rows.proofs.Ledger.{first-written}
 use Rattle.plan_steps.specs.declared.State.{State}
+use Rattle.plan_steps.specs.declared.Lines.{Lines}
 use Rattle.plan_steps.specs.Totals.{held_in}
-use Rattle.plan_steps.specs.State.{StepAsked, StepGot, finished}
+use Rattle.plan_steps.specs.PlanLine.{formed}
+use Rattle.plan_steps.specs.State.{first_state, StepAsked, StepGot, finished}
 use Rattle.plan_steps.specs.Steps.{RunAsked, RunGot, StepsAsked, Stopped, AllTaken, StepsGot, Running}
-use Rattle.plan_steps.proofs.Verdicts.{formed, plan-stops, plan-surplus, plan-passes}
+use Rattle.plan_steps.proofs.Verdicts.{plan-stops, plan-surplus, plan-passes}
 use Rattle.plan_steps.proofs.PlanLines.{plan-ends}
 use Rattle.plan_steps.proofs.Ledger.{written-again}
 use Rattle.plan_steps.proofs.Steps.{trams-ready}
-use Rattle.plan_steps.proofs.Adding.{outside-sum, totals-first}
+use Rattle.plan_steps.proofs.Adding.{totals-first}
 use Rattle.step_past.proofs.Valid.{past-form, entered-at-start, past_fits, left-at-start, left-fits}
 use Rattle.std.specs.Prelude.{Result, Ok, Err}
 
 -- the signals before the plan
-pub signals-first : (network plan : List Line) (signals : List ℕ) → ValidNetwork network → SignalTable network signals → SignalsAt network plan 0 signals
+pub signals-first : (network plan : List Line) (signals : List Signal) → ValidNetwork network → SignalTable network signals → SignalsAt network plan 0 signals
 unfolding signal_at
 signals-first network plan signals valid t =
     record {
@@ -89,7 +93,7 @@ no_number n k = elim (dec_lt k n) [
 ]
 
 -- ---- the first steps
-module _ {network_text plan_text : List ℕ} {reading : Reading} {steps : ℕ} {links movements times signals₀ waiting₀ old : List ℕ} (a : StepsAsked network_text plan_text reading steps links movements times signals₀ waiting₀ old) where
+module _ {network_text plan_text : List ℕ} {tables : NetworkTables} {steps : ℕ} {signals₀ : List Signal} {waiting₀ old : List ℕ} (a : StepsAsked network_text plan_text tables steps signals₀ waiting₀ old) where
   abbrev netw : List Line
   netw = lines network_text
 
@@ -103,12 +107,14 @@ module _ {network_text plan_text : List ℕ} {reading : Reading} {steps : ℕ} {
   unfolding on_timeline
   at-start = omega arith
 
-  pub trams-asked : (trams : List ℕ) → length trams ≡ tram_table_size → LoadAsked network_text reading.trams_at reading.counts.trams trams
-  trams-asked trams room = trams-ready network_text reading.trams_at a.trams-start a.tables.counted a.tables.holds room
+  abbrev counts : Counts
+  counts = tables.reading.counts
 
-  pub past-asked : (arrivals curves places : List ℕ) → arrivals ≡ replicate max_links 0 → length curves ≡ row_size → length places ≡ max_links
-      → PastAsked network_text reading.past_at reading.counts links times old arrivals curves places
-  past-asked arrivals curves places zeros c p =
+  pub trams-asked : {trams : List Tram} → length trams ≡ max_trams → LoadAsked network_text tables.reading.trams_at counts.trams trams
+  trams-asked room = trams-ready network_text tables.reading.trams_at a.trams-start a.tables.counted a.tables.holds room
+
+  pub past-asked : {arrivals : List Arrival} → length arrivals ≡ max_links → PastAsked network_text tables old arrivals
+  past-asked size =
       record {
         counted = a.tables.counted;
         starts = a.past-start;
@@ -118,12 +124,10 @@ module _ {network_text plan_text : List ℕ} {reading : Reading} {steps : ℕ} {
         cursors = λ i l. let l' : i < link_count netw = omega (arith, a.tables.counted.links) in
             rw (a.tables.counted.past, ← at-start) (cursor-on a.tables.holds a.tables.time-table 0 i (omega arith) l' (omega arith) (travel-time-at a.tables.link-table i l'));
         row_room = omega (arith, start-room, a.tables.counted.links);
-        arrival-size = rw zeros (length-replicate {A = ℕ} max_links 0);
-        none = λ i l. rw zeros (get_or-replicate {A = ℕ} max_links i 0 0 l);
-        rooms = record { curve-size = c; place-size = p };
+        size = size;
       }
 
-  module _ {ledger arrivals curves places : List ℕ} {fit : Bool} (loaded : PastLoaded network_text reading.counts old fit ledger arrivals curves places) where
+  module _ {ledger : List ℕ} {arrivals : List Arrival} {fit : Bool} (loaded : PastLoaded network_text counts old fit ledger arrivals) where
     -- every number of row 0 fits 32 bits
     fits : fit ≡ true
     fits = go fit refl
@@ -149,7 +153,7 @@ module _ {network_text plan_text : List ℕ} {reading : Reading} {steps : ℕ} {
     since-lent : (m : ℕ) → 1 ≤ m → written netw plnn ledger m ≡ written netw plnn old m
     since-lent m h = ap (λ x. written netw plnn x m) first ∙ written-again netw plnn old 1 m h
 
-    module _ {signals waiting ledger' : List ℕ} where
+    module _ {signals : List Signal} {waiting ledger' : List ℕ} where
       pub stopped-since : {r : Refusal} → Stopped network_text plan_text ledger steps r ledger' → StepsGot network_text plan_text old steps (Err r) signals waiting ledger'
       stopped-since s =
           record { outcome = record { step = s.step; within = s.within; passed = s.passed; refused = s.refused; rows = s.rows ∙ since-lent (suc s.step) (omega arith) } }
@@ -167,16 +171,15 @@ module _ {network_text plan_text : List ℕ} {reading : Reading} {steps : ℕ} {
             };
           }
 
-    module _ {waiting : List ℕ} (waits : FirstWaits links reading.counts.links waiting) where
+    module _ {waiting : List ℕ} (waits : FirstWaits tables.links.now counts.links waiting) where
       waiting-start : WaitingTable netw plnn 0 waiting
       waiting-start = waiting-first plnn a.tables.link-table (rw a.tables.counted.links at waits)
 
-      pub running-first : (held : ℕ) → held ≡ held_in reading.counts ledger → (out : ℕ) → out ≡ sum reading.counts.links (λ i. get_or waiting (0 + i) 0) → (signals : List ℕ) → SignalTable netw signals
-          → {trams : List ℕ} → TramTable netw trams → Running network_text plan_text reading.counts steps 0 trams links movements times ledger
-          (record { boundary = 0; step_at = reading.steps_at; plan_at = 0; totals = record { admitted = 0; let_out = 0; inside = held; doubled_time = 0 }; outside = out })
-          signals arrivals curves places waiting ledger (replicate step_size 0) (replicate line_size 0)
-      running-first held e out o signals table trams-held =
-          record {
+      pub running-first : {state : State} → state ≡ first_state tables waiting ledger → {signals : List Signal} → SignalTable netw signals → {trams : List Tram} → TramTable netw trams
+          → Running network_text plan_text tables trams steps 0 ledger state signals arrivals waiting ledger
+          (record { step = replicate step_size 0; plan = replicate line_size 0; phases = replicate max_signals 0; asked = replicate max_signals 0 })
+      running-first e {signals} table trams-held =
+          rw e (record {
             tables = a.tables;
             tram-table = trams-held;
             taken = refl;
@@ -186,22 +189,27 @@ module _ {network_text plan_text : List ℕ} {reading : Reading} {steps : ℕ} {
               step-starts = a.steps-start;
               plan-starts = λ h. starts_first plan_text;
               signals-at = signals-first netw plnn signals (valid-network netw a.tables.holds) table;
-              totals-at = totals-first netw plnn a.tables.holds reading.counts a.tables.counted ledger row_first held e;
-              outside-at = outside-sum reading.counts.links waiting o ∙ outside-is a.tables.counted waiting-start;
-              waiting-at = waiting-start;
+              totals-at = totals-first netw plnn a.tables.holds counts a.tables.counted ledger row_first (held_in counts ledger) refl;
+              outside-at = outside-is a.tables.counted waiting-start;
               arrivals-at = loaded.arrivals-at;
               curves-at = loaded.curves-at fits;
+              waiting-at = waiting-start;
               rows = since-self;
             };
-            lent = record { step-size = length-replicate {A = ℕ} step_size 0; line-size = length-replicate {A = ℕ} line_size 0; no-volume = λ empty k l. no_number line_size k };
+            lent = record {
+              step-size = length-replicate {A = ℕ} step_size 0;
+              plan-size = length-replicate {A = ℕ} line_size 0;
+              phases-size = length-replicate {A = ℕ} max_signals 0;
+              no-volume = λ empty k l. no_number line_size k;
+            };
             few-steps = a.few-steps;
             since = since-self;
             long = refl;
             room = omega (arith, loaded.size, a.room);
-          }
+          })
 
-module _ {network_text plan_text : List ℕ} {counts : Counts} {steps n : ℕ} {trams links movements times old : List ℕ} {state : State} {signals arrivals curves places waiting ledger step line : List ℕ}
-    (r : Running network_text plan_text counts steps n trams links movements times old state signals arrivals curves places waiting ledger step line) where
+module _ {network_text plan_text : List ℕ} {tables : NetworkTables} {trams : List Tram} {steps n : ℕ} {old : List ℕ} {state : State} {signals : List Signal} {arrivals : List Arrival} {waiting ledger : List ℕ}
+    {lent : Lines} (r : Running network_text plan_text tables trams steps n old state signals arrivals waiting ledger lent) where
   abbrev net : List Line
   net = lines network_text
 
@@ -212,7 +220,7 @@ module _ {network_text plan_text : List ℕ} {counts : Counts} {steps n : ℕ} {
   passed-before m h = r.state-at.passed m (omega (arith, r.taken))
 
   module _ (h : n < steps) where
-    pub running-asked : StepAsked network_text plan_text counts trams links movements times signals arrivals curves places waiting ledger step line state
+    running-asked : StepAsked network_text plan_text tables trams state signals arrivals waiting ledger lent
     running-asked =
         record {
           tables = r.tables;
@@ -223,8 +231,8 @@ module _ {network_text plan_text : List ℕ} {counts : Counts} {steps n : ℕ} {
           room = let m : suc (suc n) ≤ suc steps = omega arith in rw r.taken (omega (arith, r.room, r.long, mul-le-mul_right (2 * link_count net) m));
         }
 
-    module _ {result : Result State Refusal} {signals' arrivals' curves' places' waiting' ledger' step' line' : List ℕ}
-        (got : StepGot network_text plan_text ledger state result signals' arrivals' curves' places' waiting' ledger' step' line') where
+    module _ {result : Result State Refusal} {signals' : List Signal} {arrivals' : List Arrival} {waiting' ledger' : List ℕ} {lent' : Lines}
+        (got : StepGot network_text plan_text ledger state result signals' arrivals' waiting' ledger' lent') where
       -- a step is refused
       pub steps-stopped : {q : Refusal} → result ≡ Err q → Stopped network_text plan_text old steps q ledger'
       steps-stopped e =
@@ -233,7 +241,7 @@ module _ {network_text plan_text : List ℕ} {counts : Counts} {steps n : ℕ} {
 
       -- it passes
       pub running-next : {next : State} → result ≡ Ok next
-          → Running network_text plan_text counts steps (n + 1) trams links movements times old next signals' arrivals' curves' places' waiting' ledger' step' line'
+          → Running network_text plan_text tables trams steps (n + 1) old next signals' arrivals' waiting' ledger' lent'
       running-next e =
           let passed = rw e at got.outcome in
           let w : ledger' ≡ written net pln ledger (suc (suc n)) = rw r.taken at passed.row_more in
@@ -262,28 +270,12 @@ module _ {network_text plan_text : List ℕ} {counts : Counts} {steps n : ℕ} {
       })
 
 -- ---- all steps
-module _ {network_text plan_text : List ℕ} {reading : Reading} {links movements times signals₀ old : List ℕ} (a : RunAsked network_text plan_text reading links movements times signals₀ old) where
+module _ {network_text plan_text : List ℕ} {tables : NetworkTables} {signals₀ : List Signal} {old : List ℕ} (a : RunAsked network_text plan_text tables signals₀ old) where
   abbrev network : List Line
   network = lines network_text
 
   abbrev plan : List Line
   plan = plan_of network_text plan_text
-
-  pub steps-asked : (waiting : List ℕ) → length waiting ≡ max_links → StepsAsked network_text plan_text reading reading.counts.steps links movements times signals₀ waiting old
-  steps-asked waiting size =
-      record {
-        tables = a.tables;
-        trams-start = a.trams-start;
-        signal-table = a.signal-table;
-        past-start = a.past-start;
-        steps-start = a.steps-start;
-        few-steps = omega (arith, a.tables.counted.steps);
-        waiting-size = size;
-        room = rw a.tables.counted.steps a.room;
-      }
-
-  pub run-few : reading.counts.steps ≤ max_steps
-  run-few = a.tables.counted.few.steps
 
   -- row n is due, and all that are due are written where the next is not
   due : (n : ℕ) → n ≤ step_count network → ((m : ℕ) → m < n → verdict (line_checks network plan m) ≡ Ok tt) → RowDue network plan (length old) n
@@ -299,7 +291,7 @@ module _ {network_text plan_text : List ℕ} {reading : Reading} {links movement
   unfolding ledger_after
   rows_are n d h since = since ∙ ap (written network plan old) (sym (rows-until network plan (length old) n d h))
 
-  module _ {result : Result State Refusal} {signals waiting ledger : List ℕ} (got : StepsGot network_text plan_text old reading.counts.steps result signals waiting ledger) where
+  module _ {result : Result State Refusal} {signals : List Signal} {waiting ledger : List ℕ} (got : StepsGot network_text plan_text old tables.reading.counts.steps result signals waiting ledger) where
     -- a step is refused
     pub run-refused : {q : Refusal} → result ≡ Err q → RunGot network_text plan_text old (Err q) ledger
     run-refused {q} e =
@@ -313,7 +305,7 @@ module _ {network_text plan_text : List ℕ} {reading : Reading} {links movement
         }
 
     -- all have passed
-    pub run-finished : {state : State} {answer : Result Totals Refusal} → result ≡ Ok state → answer ≡ finished plan_text state.plan_at reading.counts.steps state.totals → RunGot network_text plan_text old answer ledger
+    pub run-finished : {state : State} {answer : Result Totals Refusal} → result ≡ Ok state → answer ≡ finished plan_text state.plan_at tables.reading.counts.steps state.totals → RunGot network_text plan_text old answer ledger
     run-finished {state} {answer} p f = go (eqb (length plan) (step_count network)) refl
       where
         all : AllTaken network_text plan_text old (step_count network) state signals waiting ledger
@@ -322,8 +314,8 @@ module _ {network_text plan_text : List ℕ} {reading : Reading} {links movement
         at-end : (b : Bool) → eqb (length plan) (step_count network) ≡ b → at_end plan_text state.plan_at ≡ b
         at-end b e = plan-ends network_text plan_text state.plan_at (step_count network) all.plan-starts (lines-within network plan (step_count network) all.passed) refl ∙ e
 
-        made : (b : Bool) → eqb (length plan) (step_count network) ≡ b → answer ≡ cond b (Ok state.totals) (Err (refusal 9 (reading.counts.steps + 1) 0))
-        made b e = f ∙ (unfold finished in ap (λ x. cond x (Ok state.totals) (Err (refusal 9 (reading.counts.steps + 1) 0))) (at-end b e))
+        made : (b : Bool) → eqb (length plan) (step_count network) ≡ b → answer ≡ cond b (Ok state.totals) (Err (refusal 9 (tables.reading.counts.steps + 1) 0))
+        made b e = f ∙ (unfold finished in ap (λ x. cond x (Ok state.totals) (Err (refusal 9 (tables.reading.counts.steps + 1) 0))) (at-end b e))
 
         accepted-is : Ok state.totals ≡ plan_answer network plan (Ok tt)
         accepted-is = unfold plan_answer in ap Ok all.totals-at
@@ -345,6 +337,6 @@ module _ {network_text plan_text : List ℕ} {reading : Reading} {links movement
         go : (b : Bool) → eqb (length plan) (step_count network) ≡ b → RunGot network_text plan_text old answer ledger
         go true e = got-by (made true e ∙ accepted-is ∙ ap (plan_answer network plan) (sym (plan-passes network plan all.passed e)))
         go false e =
-            let k : reading.counts.steps + 1 ≡ suc (step_count network) = omega (arith, a.tables.counted.steps) in
+            let k : tables.reading.counts.steps + 1 ≡ suc (step_count network) = omega (arith, a.tables.counted.steps) in
             got-by (made false e ∙ ap (λ x. Err (refusal 9 x 0)) k ∙ refused-is (refusal 9 (suc (step_count network)) 0)
             ∙ ap (plan_answer network plan) (sym (plan-surplus network plan all.passed e)))

@@ -1,27 +1,24 @@
 -- The verdict on a plan, by how far its lines have been judged.
-use Rattle.base_laws.proofs.Kit.{ℕ, suc, ◌+◌, ◌*◌, ◌<◌, ◌≡◌, ◌∙◌, Bool, true, false, List, eqb, length}
+use Rattle.base_laws.proofs.Kit.{ℕ, suc, ◌<◌, ◌≡◌, ◌∙◌, true, false, List, eqb, length}
 use Rattle.base_search.specs.declared.Refusal.{Refusal}
 use Rattle.base_search.specs.Checks.{refusal, verdict, table}
 use Rattle.base_search.proofs.Laws.{or-else-passes, or-else-refused, first-stop, first_passes, checked-passes, checked_refused}
 use Rattle.text_reader.specs.Lines.{Line}
-use Rattle.model.specs.Network.{link_count, signal_count, movement_count, step_count}
-use Rattle.model.specs.Table.{letter_p, is_form, step_rules, line_checks, plan_line_checks}
+use Rattle.model.specs.Network.{step_count}
+use Rattle.model.specs.Table.{step_rules, line_checks, plan_line_checks}
+use Rattle.plan_steps.specs.PlanLine.{formed}
 use Rattle.std.specs.Prelude.{Ok, Err}
 
 module _ (network plan : List Line) where
-  -- line n has the form of a `P` line
-  abbrev pub formed : ℕ → Bool
-  formed n = is_form plan n letter_p (signal_count network + (2 * link_count network + movement_count network))
-
-  pub line-malformed : (n : ℕ) → formed n ≡ false → verdict (line_checks network plan n) ≡ Err (refusal 9 (suc n) 0)
+  pub line-malformed : (n : ℕ) → formed network plan n ≡ false → verdict (line_checks network plan n) ≡ Err (refusal 9 (suc n) 0)
   unfolding verdict line_checks
-  line-malformed n h = or-else-refused _ _ _ (checked_refused (formed n) 9 (suc n) 0 h)
+  line-malformed n h = or-else-refused _ _ _ (checked_refused (formed network plan n) 9 (suc n) 0 h)
 
-  pub line-formed : (n : ℕ) → formed n ≡ true
+  pub line-formed : (n : ℕ) → formed network plan n ≡ true
       → verdict (line_checks network plan n)
       ≡ verdict (table (suc n) (step_rules network plan n))
   unfolding verdict line_checks
-  line-formed n h = or-else-passes _ _ (checked-passes (formed n) 9 (suc n) 0 h)
+  line-formed n h = or-else-passes _ _ (checked-passes (formed network plan n) 9 (suc n) 0 h)
 
   -- lines that pass up to one that is refused
   pub plan-stops : (n : ℕ) (r : Refusal) → ((m : ℕ) → m < n → verdict (line_checks network plan m) ≡ Ok tt) → n < step_count network

@@ -4,28 +4,31 @@ use Rattle.base_search.specs.declared.Refusal.{Refusal}
 use Rattle.base_search.specs.Checks.{verdict}
 use Rattle.text_reader.specs.Lines.{lines}
 use Rattle.text_reader.specs.Reading.{Starts}
+use Rattle.model.specs.declared.Signal.{Signal}
 use Rattle.model.specs.Network.{max_links, link_count, step_count, tram_line, timeline_line, step_line}
 use Rattle.model.specs.Flows.{totals}
 use Rattle.model.specs.Table.{line_checks, plan_line_checks}
 use Rattle.model.specs.Hold.{plan_of}
 use Rattle.model.specs.Calls.{plan_answer, rows_written, written, ledger_after}
-use Rattle.network_tables.specs.declared.Counts.{Counts}
-use Rattle.network_tables.specs.declared.Reading.{Reading}
+use Rattle.network_tables.specs.declared.NetworkTables.{NetworkTables}
+use Rattle.network_tables.specs.declared.Tram.{Tram}
 use Rattle.network_tables.specs.Tables.{SignalTable, TramTable}
+use Rattle.step_past.specs.declared.Arrival.{Arrival}
 use Rattle.step_rows.specs.Waiting.{WaitingTable}
 use Rattle.step_signals.specs.Step.{SignalsAt}
 use Rattle.plan_steps.specs.declared.State.{State}
+use Rattle.plan_steps.specs.declared.Lines.{Lines}
 use Rattle.plan_steps.specs.State.{Tables, StateAt, LinesLent}
 use Rattle.plan_steps.specs.PlanLine.{PlanAt}
 use Rattle.model.specs.declared.Totals.{Totals}
 
 -- what taking all steps asks ..
-pub record RunAsked (network_text plan_text : List ℕ) (reading : Reading) (links movements times signals ledger : List ℕ) : Type 0 where
-  pub tables : Tables network_text reading.counts links movements times
-  pub trams-start : Starts network_text reading.trams_at (tram_line (lines network_text) 0)
+pub record RunAsked (network_text plan_text : List ℕ) (tabled : NetworkTables) (signals : List Signal) (ledger : List ℕ) : Type 0 where
+  pub tables : Tables network_text tabled
+  pub trams-start : Starts network_text tabled.reading.trams_at (tram_line (lines network_text) 0)
   pub signal-table : SignalTable (lines network_text) signals
-  pub past-start : Starts network_text reading.past_at (timeline_line (lines network_text) 0)
-  pub steps-start : Starts network_text reading.steps_at (step_line (lines network_text) 0)
+  pub past-start : Starts network_text tabled.reading.past_at (timeline_line (lines network_text) 0)
+  pub steps-start : Starts network_text tabled.reading.steps_at (step_line (lines network_text) 0)
   pub room : 2 * suc (step_count (lines network_text)) * link_count (lines network_text) ≤ length ledger
 
 -- .. and promises: the answer, and the ledger with the rows of the steps that have passed
@@ -35,12 +38,12 @@ pub record RunGot (network_text plan_text old : List ℕ) (answer : Result Total
   pub some-row : 1 ≤ rows_written (lines network_text) (plan_of network_text plan_text) (length old)
 
 -- what taking the first steps asks: room for their rows alone
-pub record StepsAsked (network_text plan_text : List ℕ) (reading : Reading) (steps : ℕ) (links movements times signals waiting ledger : List ℕ) : Type 0 where
-  pub tables : Tables network_text reading.counts links movements times
-  pub trams-start : Starts network_text reading.trams_at (tram_line (lines network_text) 0)
+pub record StepsAsked (network_text plan_text : List ℕ) (tabled : NetworkTables) (steps : ℕ) (signals : List Signal) (waiting ledger : List ℕ) : Type 0 where
+  pub tables : Tables network_text tabled
+  pub trams-start : Starts network_text tabled.reading.trams_at (tram_line (lines network_text) 0)
   pub signal-table : SignalTable (lines network_text) signals
-  pub past-start : Starts network_text reading.past_at (timeline_line (lines network_text) 0)
-  pub steps-start : Starts network_text reading.steps_at (step_line (lines network_text) 0)
+  pub past-start : Starts network_text tabled.reading.past_at (timeline_line (lines network_text) 0)
+  pub steps-start : Starts network_text tabled.reading.steps_at (step_line (lines network_text) 0)
   pub few-steps : steps ≤ step_count (lines network_text)
   pub waiting-size : length waiting ≡ max_links
   pub room : 2 * suc steps * link_count (lines network_text) ≤ length ledger
@@ -54,7 +57,7 @@ pub record Stopped (network_text plan_text old : List ℕ) (steps : ℕ) (r : Re
   pub rows : ledger ≡ written (lines network_text) (plan_of network_text plan_text) old (suc step)
 
 -- all of them pass: the state after them
-pub record AllTaken (network_text plan_text old : List ℕ) (steps : ℕ) (state : State) (signals waiting ledger : List ℕ) : Type 0 where
+pub record AllTaken (network_text plan_text old : List ℕ) (steps : ℕ) (state : State) (signals : List Signal) (waiting ledger : List ℕ) : Type 0 where
   pub passed : (m : ℕ) → m < steps → verdict (line_checks (lines network_text) (plan_of network_text plan_text) m) ≡ Ok tt
   pub plan-starts : PlanAt plan_text state.plan_at steps
   pub signals-at : SignalsAt (lines network_text) (plan_of network_text plan_text) steps signals
@@ -63,18 +66,19 @@ pub record AllTaken (network_text plan_text old : List ℕ) (steps : ℕ) (state
   pub rows : ledger ≡ written (lines network_text) (plan_of network_text plan_text) old (suc steps)
 
 -- what taking the first steps promises, since the ledger was `old`
-pub record StepsGot (network_text plan_text old : List ℕ) (steps : ℕ) (result : Result State Refusal) (signals waiting ledger : List ℕ) : Type 0 where
+pub record StepsGot (network_text plan_text old : List ℕ) (steps : ℕ) (result : Result State Refusal) (signals : List Signal) (waiting ledger : List ℕ) : Type 0 where
   pub outcome : MatchResult result
       (λ state. AllTaken network_text plan_text old steps state signals waiting ledger)
       (λ r. Stopped network_text plan_text old steps r ledger)
 
 -- the state after `done` of them, while they are taken
-pub record Running (network_text plan_text : List ℕ) (counts : Counts) (steps done : ℕ) (trams links movements times old : List ℕ) (state : State) (signals arrivals curves places waiting ledger step line : List ℕ) : Type 0 where
-  pub tables : Tables network_text counts links movements times
+pub record Running (network_text plan_text : List ℕ) (tabled : NetworkTables) (trams : List Tram) (steps done : ℕ) (old : List ℕ) (state : State) (signals : List Signal) (arrivals : List Arrival)
+    (waiting ledger : List ℕ) (said : Lines) : Type 0 where
+  pub tables : Tables network_text tabled
   pub tram-table : TramTable (lines network_text) trams
   pub taken : state.boundary ≡ done
-  pub state-at : StateAt network_text plan_text state signals arrivals curves places waiting ledger
-  pub lent : LinesLent network_text plan_text step line
+  pub state-at : StateAt network_text plan_text state signals arrivals waiting ledger
+  pub lent : LinesLent network_text plan_text said
   pub few-steps : steps ≤ step_count (lines network_text)
   pub since : ledger ≡ written (lines network_text) (plan_of network_text plan_text) old (suc done)
   pub long : length ledger ≡ length old

@@ -2,20 +2,22 @@
 #![tactic(auto)]
 
 ghost use Rattle.std.specs.Prelude.{◌≡◌, ◌+◌, ◌*◌, ◌≤◌};
-ghost use Rattle.plan_steps.specs.State.{NextAsked, NextGot, StepAsked, StepGot, finished};
-ghost use Rattle.plan_steps.specs.Steps.{StepsAsked, StepsGot, RunAsked, RunGot};
+ghost use Rattle.model.specs.Network.{max_steps};
 ghost use Rattle.plan_steps.specs.PlanLine.{LineAsked, LineGot};
 ghost use Rattle.plan_steps.specs.Totals.{totals_after, TotalsAsked};
-ghost use Rattle.model.specs.Network.{max_steps};
+ghost use Rattle.plan_steps.specs.State.{FirstAsked, first_state, ReadAsked, ReadGot, NextAsked, NextGot, StepAsked, StepGot, finished};
+ghost use Rattle.plan_steps.specs.Steps.{StepsAsked, StepsGot, RunAsked, RunGot};
 
 use base_search::Refusal;
-use model::Totals;
+use model::{Signal, Totals};
 use network_tables::{
-    Counts, LINE_SIZE, MAX_LINKS, MAX_SIGNALS, ROW_SIZE, Reading, STEP_SIZE, TRAM_TABLE_SIZE,
+    Counts, LINE_SIZE, MAX_LINKS, MAX_SIGNALS, MAX_TRAMS, NetworkTables, ROW_SIZE, STEP_SIZE, Tram,
 };
+use step_past::Arrival;
+use step_rows::Step;
 
-// The state at a boundary: where the `S` and the `P` line of the next step start, the totals so far, and how many wait outside. The signals stand in a table that
-// is lent, since a copy of them a step costs more than the rest of the step's state.
+// The state at a boundary: where the `S` and the `P` line of the next step start, the totals so far, and how many wait outside. It has the boundary, since all that
+// is known of it is known at its boundary. The signals stand in a table that is lent, since a copy of them a step costs more than the rest of the step's state.
 #[derive(Clone, Copy)]
 pub struct State {
     pub boundary: usize,
@@ -23,6 +25,25 @@ pub struct State {
     pub plan_at: usize,
     pub totals: Totals,
     pub outside: u64,
+}
+
+// What the lines of a step say: the numbers of its `S` line, with those who wait added to each demand, those of its `P` line, the phases that are shown, and those
+// that trams ask. It is lent from step to step, so that it need not be cleared anew.
+#[derive(Drop)]
+struct Lines {
+    step: [u32; STEP_SIZE],
+    plan: [u32; LINE_SIZE],
+    phases: [u32; MAX_SIGNALS],
+    asked: [u32; MAX_SIGNALS],
+}
+
+// What all steps are taken by: both texts, the network's tables, and its trams.
+#[derive(Clone, Copy)]
+struct Run<'a> {
+    network: &'a [u8],
+    plan: &'a [u8],
+    tables: &'a NetworkTables<'a>,
+    trams: &'a [Tram],
 }
 
 // Length × (vehicles under way at the step's start + at its end).
@@ -57,13 +78,56 @@ fn add_step(
     }
 }
 
-// The state after a step that is kept: `waiting` has those who wait after it, and the state has the places of the next lines already.
-fn next_state(state: State, step: &[u32], line: &[u32], waiting: &[u32], counts: Counts) -> State
-    requires { NextAsked state counts step.now line.now waiting.now }
-    ensures { NextGot state counts step.now line.now waiting.now result }
+// The state before the first step, by row 0 and those who wait at the start.
+fn first_state(tables: &NetworkTables, waiting: &[u32], row: &[u32]) -> State
+    requires { FirstAsked tables.now waiting.now row.now }
+    ensures { result ≡ first_state tables.now waiting.now row.now }
 {
+    let counts = tables.reading.counts;
+    let totals = Totals {
+        admitted: 0,
+        let_out: 0,
+        inside: step_rows::held_in(row, counts.links),
+        doubled_time: 0,
+    };
+    State {
+        boundary: 0,
+        step_at: tables.reading.steps_at,
+        plan_at: 0,
+        totals,
+        outside: step_rows::sum_of(waiting, 0, counts.links),
+    }
+}
+
+// Goes on to the state after a step that is kept, with its signals and those who wait there; `state` has the places of the next lines already.
+fn next_state(
+    state: State,
+    lines: &Lines,
+    counts: Counts,
+    signals: &mut [Signal],
+    waiting: &mut [u32],
+) -> State
+    requires { NextAsked state lines.now counts signals.old waiting.old }
+    ensures { NextGot state lines.now counts signals.old signals.new waiting.new result }
+{
+    let step = &lines.step;
+    step_rows::next_waiting(step, &lines.plan, counts, waiting);
+    step_signals::advance(
+        signals,
+        counts.signals,
+        &lines.phases,
+        &lines.asked,
+        step[0],
+    );
     let outside = step_rows::sum_of(waiting, 0, counts.links);
-    let totals = add_step(state.totals, state.outside, outside, line, step, counts);
+    let totals = add_step(
+        state.totals,
+        state.outside,
+        outside,
+        &lines.plan,
+        step,
+        counts,
+    );
     State {
         boundary: state.boundary + 1,
         totals,
@@ -76,13 +140,14 @@ fn next_state(state: State, step: &[u32], line: &[u32], waiting: &[u32], counts:
 pub fn read_line(
     plan: &[u8],
     at: usize,
-    signals: &[u32],
+    signals: &[Signal],
     counts: Counts,
     line: &mut [u32],
 ) -> Option<usize>
     requires { LineAsked signals.now counts line.old }
     ensures { LineGot plan.now at signals.now counts line.old result line.new }
 {
+    // Not `is_empty`: a wrong program, which takes a text of one byte for an empty one, is made of this test.
     if plan.len() == 0 {
         step_signals::hold_masks(signals, counts.signals, line);
         return Some(at);
@@ -90,61 +155,74 @@ pub fn read_line(
     network_tables::read_row(plan, at, b'P', line, 0, counts.plan_width())
 }
 
-// Takes the next step: reads its `S` and `P` lines, and what trams ask in it, judges it and, where every rule is kept, writes the row after it into the ledger
-// and gives the state there. The tables of the two lines are lent from step to step, so that they need not be cleared anew.
-fn take_step(
-    network: &[u8],
-    plan: &[u8],
-    counts: Counts,
-    trams: &[u32],
-    links: &[u32],
-    movements: &[u32],
-    times: &[u32],
-    signals: &mut [u32],
-    arrivals: &mut [usize],
-    curves: &mut [u32],
-    places: &mut [usize],
-    waiting: &mut [u32],
-    ledger: &mut [u32],
-    step: &mut [u32],
-    line: &mut [u32],
-    mut state: State,
-) -> Result<State, Refusal>
-    requires { StepAsked network.now plan.now counts trams.now links.now movements.now times.now signals.old arrivals.old curves.old places.old waiting.old ledger.old step.old line.old state }
-    ensures { StepGot network.now plan.now ledger.old state result signals.new arrivals.new curves.new places.new waiting.new ledger.new step.new line.new }
-{
-    let mut phases = [0u32; MAX_SIGNALS];
-    let mut asked = [0u32; MAX_SIGNALS];
-    let mut row = [0u32; ROW_SIZE];
-    let n = state.boundary;
-    let step_end = network_steps::load_step(network, state.step_at, counts.links, step);
-    step_rows::add_waiting(waiting, counts.links, step);
-    let Some(plan_end) = read_line(plan, state.plan_at, signals, counts, line) else {
-        return Err(Refusal::new(9, n + 1, 0));
-    };
-    step_signals::shown_phases(signals, counts.signals, line, &mut phases);
-    network_trams::tram_phases(trams, counts.trams, n, &mut asked);
-    step_past::next_arrivals(
-        network,
-        counts,
-        links,
-        times,
-        counts.past + n + 1,
-        arrivals,
-        curves,
-        places,
-    );
-    let verdict = step_check::judge_step(
-        signals, line, step, links, movements, &phases, &asked, ledger, times, arrivals, curves,
-        &mut row, counts, n,
-    );
-    verdict?;
-    step_rows::write_row(ledger, 2 * (n + 1) * counts.links, &row, 2 * counts.links);
-    step_rows::next_waiting(step, line, counts, waiting);
-    step_signals::advance(signals, counts.signals, &phases, &asked, step[0]);
-    state.step_at = step_end;
-    state.plan_at = plan_end;
-    Ok(next_state(state, step, line, waiting, counts))
+impl Run<'_> {
+    // Reads the lines of the next step, and what they have signals show and trams ask: the state with the places of the lines behind, or none where the `P` line
+    // is malformed.
+    fn read_lines(
+        &self,
+        state: State,
+        signals: &[Signal],
+        waiting: &[u32],
+        lines: &mut Lines,
+    ) -> Option<State>
+        requires { ReadAsked self.now.network.now self.now.plan.now self.now.tables.now self.now.trams.now state signals.now waiting.now lines.old }
+        ensures { ReadGot self.now.network.now self.now.plan.now state result lines.new }
+    {
+        let counts = self.tables.reading.counts;
+        let step = &mut lines.step;
+        let width = 1 + counts.links;
+        let step_at = network_tables::read_again(self.network, state.step_at, b'S', step, width);
+        step_rows::add_waiting(waiting, counts.links, step);
+        let plan_at = read_line(self.plan, state.plan_at, signals, counts, &mut lines.plan)?;
+        step_signals::shown_phases(signals, counts.signals, &lines.plan, &mut lines.phases);
+        // Cleared, since only what trams ask is written.
+        lines.asked = [0; MAX_SIGNALS];
+        network_trams::tram_phases(self.trams, counts.trams, state.boundary, &mut lines.asked);
+        Some(State {
+            step_at,
+            plan_at,
+            ..state
+        })
+    }
+
+    // Takes the next step: reads its lines, judges it and, where every rule is kept, writes the row after it into the ledger and gives the state there.
+    fn take_step(
+        &self,
+        state: State,
+        signals: &mut [Signal],
+        arrivals: &mut [Arrival],
+        waiting: &mut [u32],
+        ledger: &mut [u32],
+        lines: &mut Lines,
+    ) -> Result<State, Refusal>
+        requires { StepAsked self.now.network.now self.now.plan.now self.now.tables.now self.now.trams.now state signals.old arrivals.old waiting.old ledger.old lines.old }
+        ensures { StepGot self.now.network.now self.now.plan.now ledger.old state result signals.new arrivals.new waiting.new ledger.new lines.new }
+    {
+        let counts = self.tables.reading.counts;
+        let n = state.boundary;
+        let mut row = [0u32; ROW_SIZE];
+        let Some(read) = self.read_lines(state, signals, waiting, lines) else {
+            return Err(Refusal::new(9, n + 1, 0));
+        };
+        step_past::next_arrivals(self.network, self.tables, counts.past + n + 1, arrivals);
+        let step = Step {
+            counts,
+            links: self.tables.links,
+            movements: self.tables.movements,
+            times: self.tables.times,
+            signals,
+            plan_line: &lines.plan,
+            step_line: &lines.step,
+            phases: &lines.phases,
+            asked: &lines.asked,
+            ledger,
+            arrivals,
+            boundary: n,
+        };
+        step_check::judge_step(&step, &mut row)?;
+        step_rows::write_row(ledger, 2 * (n + 1) * counts.links, &row, 2 * counts.links);
+        Ok(next_state(read, lines, counts, signals, waiting))
+    }
 }
 
 // The answer once all steps have passed.
@@ -164,70 +242,36 @@ fn finish(plan: &[u8], at: usize, steps: usize, totals: Totals) -> Result<Totals
 pub fn take_steps(
     network: &[u8],
     plan: &[u8],
-    reading: Reading,
+    tables: &NetworkTables,
     steps: usize,
-    links: &[u32],
-    movements: &[u32],
-    times: &[u32],
-    signals: &mut [u32],
+    signals: &mut [Signal],
     waiting: &mut [u32],
     ledger: &mut [u32],
 ) -> Result<State, Refusal>
-    requires { StepsAsked network.now plan.now reading steps links.now movements.now times.now signals.old waiting.old ledger.old }
+    requires { StepsAsked network.now plan.now tables.now steps signals.old waiting.old ledger.old }
     ensures { StepsGot network.now plan.now ledger.old steps result signals.new waiting.new ledger.new }
 {
-    let counts = reading.counts;
-    let mut trams = [0u32; TRAM_TABLE_SIZE];
-    network_trams::load_trams(network, reading.trams_at, counts.trams, &mut trams);
-    let mut arrivals = [0usize; MAX_LINKS];
-    let mut curves = [0u32; ROW_SIZE];
-    let mut places = [0usize; MAX_LINKS];
-    step_past::load_past(
+    let reading = tables.reading;
+    let mut trams = [Tram::default(); MAX_TRAMS];
+    network_trams::load_trams(network, reading.trams_at, reading.counts.trams, &mut trams);
+    let mut arrivals = [Arrival::default(); MAX_LINKS];
+    step_past::load_past(network, tables, ledger, &mut arrivals);
+    step_rows::first_waiting(tables.links, reading.counts.links, waiting);
+    let mut state = first_state(tables, waiting, ledger);
+    let run = Run {
         network,
-        reading.past_at,
-        counts,
-        links,
-        times,
-        ledger,
-        &mut arrivals,
-        &mut curves,
-        &mut places,
-    );
-    step_rows::first_waiting(links, counts.links, waiting);
-    let totals = Totals {
-        admitted: 0,
-        let_out: 0,
-        inside: step_rows::held_in(ledger, counts.links),
-        doubled_time: 0,
+        plan,
+        tables,
+        trams: &trams,
     };
-    let mut state = State {
-        boundary: 0,
-        step_at: reading.steps_at,
-        plan_at: 0,
-        totals,
-        outside: step_rows::sum_of(waiting, 0, counts.links),
+    let mut lines = Lines {
+        step: [0; STEP_SIZE],
+        plan: [0; LINE_SIZE],
+        phases: [0; MAX_SIGNALS],
+        asked: [0; MAX_SIGNALS],
     };
-    let mut step = [0u32; STEP_SIZE];
-    let mut line = [0u32; LINE_SIZE];
     for _ in 0..steps {
-        state = take_step(
-            network,
-            plan,
-            counts,
-            &trams,
-            links,
-            movements,
-            times,
-            signals,
-            &mut arrivals,
-            &mut curves,
-            &mut places,
-            waiting,
-            ledger,
-            &mut step,
-            &mut line,
-            state,
-        )?;
+        state = run.take_step(state, signals, &mut arrivals, waiting, ledger, &mut lines)?;
     }
     Ok(state)
 }
@@ -236,29 +280,15 @@ pub fn take_steps(
 pub fn run_steps(
     network: &[u8],
     plan: &[u8],
-    reading: Reading,
-    links: &[u32],
-    movements: &[u32],
-    times: &[u32],
-    signals: &mut [u32],
+    tables: &NetworkTables,
+    signals: &mut [Signal],
     ledger: &mut [u32],
 ) -> Result<Totals, Refusal>
-    requires { RunAsked network.now plan.now reading links.now movements.now times.now signals.old ledger.old }
+    requires { RunAsked network.now plan.now tables.now signals.old ledger.old }
     ensures { RunGot network.now plan.now ledger.old result ledger.new }
 {
     let mut waiting = [0u32; MAX_LINKS];
-    let steps = reading.counts.steps;
-    let state = take_steps(
-        network,
-        plan,
-        reading,
-        steps,
-        links,
-        movements,
-        times,
-        signals,
-        &mut waiting,
-        ledger,
-    )?;
+    let steps = tables.reading.counts.steps;
+    let state = take_steps(network, plan, tables, steps, signals, &mut waiting, ledger)?;
     finish(plan, state.plan_at, steps, state.totals)
 }

@@ -64,47 +64,47 @@ pub network-tells : (network : List Line) {r : NetworkResult} → r ≡ verdict_
 unfolding check_network
 network-tells network e = tells _ network_numbers (network-numbered network) (ap (λ (x : NetworkResult). x.number) e)
 
-counts-number : (network : List Line) (v : Verdict) → (counts_result (counts_answer network v)).number ≡ number_of v
+counts-told : (network : List Line) (v : Verdict) → (counts_result (counts_answer network v)).number ≡ number_of v
 unfolding counts_answer
-counts-number network (Ok tt) = refl
-counts-number network (Err r) = refl
+counts-told network (Ok tt) = refl
+counts-told network (Err r) = refl
 
 pub counts-tells : (network : List Line) {r : CountsResult} → r ≡ counts_result (count_network network) → NumberTells (network_checks network) network_numbers r.number
 unfolding count_network check_network
-counts-tells network e = tells _ network_numbers (network-numbered network) (ap (λ (x : CountsResult). x.number) e ∙ counts-number network _)
+counts-tells network e = tells _ network_numbers (network-numbered network) (ap (λ (x : CountsResult). x.number) e ∙ counts-told network _)
 
 module _ (network : List Line) (ledger : List ℕ) (boundary link : ℕ) where
-  link-number : (v : Verdict) → (link_result (link_answer network ledger boundary link v)).number ≡ number_of v
+  link-told : (v : Verdict) → (link_result (link_answer network ledger boundary link v)).number ≡ number_of v
   unfolding link_answer
-  link-number (Ok tt) = refl
-  link-number (Err r) = refl
+  link-told (Ok tt) = refl
+  link-told (Err r) = refl
 
   pub link-tells : {r : LinkResult} → r ≡ link_result (link_state network ledger boundary link) → NumberTells (state_checks network ledger boundary link) state_numbers r.number
   unfolding link_state
-  link-tells e = tells _ state_numbers (state-numbered network ledger boundary link) (ap (λ (x : LinkResult). x.number) e ∙ link-number _)
+  link-tells e = tells _ state_numbers (state-numbered network ledger boundary link) (ap (λ (x : LinkResult). x.number) e ∙ link-told _)
 
 -- ---- a plan, alone, by a sheet, and beside another
 module _ (network plan : List Line) where
-  plan-number : (v : Verdict) → (plan_result (plan_answer network plan v)).number ≡ number_of v
+  plan-told : (v : Verdict) → (plan_result (plan_answer network plan v)).number ≡ number_of v
   unfolding plan_answer
-  plan-number (Ok tt) = refl
-  plan-number (Err r) = refl
+  plan-told (Ok tt) = refl
+  plan-told (Err r) = refl
 
   pub plan-tells : (size : ℕ) {r : PlanResult} → r ≡ plan_result (check_plan network plan size) → NumberTells (plan_checks network plan size) plan_numbers r.number
   unfolding check_plan
-  plan-tells size e = tells _ plan_numbers (plan-numbered network plan size) (ap (λ (x : PlanResult). x.number) e ∙ plan-number _)
+  plan-tells size e = tells _ plan_numbers (plan-numbered network plan size) (ap (λ (x : PlanResult). x.number) e ∙ plan-told _)
 
   pub sheet-tells : (sheet : List Line) (size : ℕ) {r : PlanResult} → r ≡ plan_result (check_sheet network sheet plan size)
       → NumberTells (keep_checks network sheet plan size) sheet_numbers r.number
   unfolding check_sheet
-  sheet-tells sheet size e = tells _ sheet_numbers (keep-numbered network sheet plan size) (ap (λ (x : PlanResult). x.number) e ∙ plan-number _)
+  sheet-tells sheet size e = tells _ sheet_numbers (keep-numbered network sheet plan size) (ap (λ (x : PlanResult). x.number) e ∙ plan-told _)
 
 module _ (network first second : List Line) where
-  plans-number : (o : Order) (v w : Verdict) → (comparison_result (plans_answer o (plan_answer network first v) (plan_answer network second w))).number ≡ number_of (or_else v w)
+  plans-told : (o : Order) (v w : Verdict) → (comparison_result (plans_answer o (plan_answer network first v) (plan_answer network second w))).number ≡ number_of (or_else v w)
   unfolding plans_answer plan_answer or_else
-  plans-number o (Ok _) (Ok _) = refl
-  plans-number o (Ok _) (Err r) = refl
-  plans-number o (Err r) w = refl
+  plans-told o (Ok _) (Ok _) = refl
+  plans-told o (Ok _) (Err r) = refl
+  plans-told o (Err r) w = refl
 
   module _ (first_size second_size : ℕ) where
     -- a network's refusal is that of the first plan
@@ -115,39 +115,39 @@ module _ (network first second : List Line) where
     by-network : (o : Order) (u v w : Verdict) → ((r : Refusal) → u ≡ Err r → v ≡ Err r)
         → (comparison_result (network_answer u (plans_answer o (plan_answer network first v) (plan_answer network second w)))).number ≡ number_of (or_else v w)
     unfolding network_answer or_else
-    by-network o (Ok tt) v w h = plans-number o v w
+    by-network o (Ok tt) v w h = plans-told o v w
     by-network o (Err r) v w h = rw (h r refl)
 
-    compared-number : (comparison_result (compare_plans network first second first_size second_size)).number ≡ number_of (verdict (plan_checks network first first_size then plan_checks network second second_size))
+    compared-told : (comparison_result (compare_plans network first second first_size second_size)).number ≡ number_of (verdict (plan_checks network first first_size then plan_checks network second second_size))
     unfolding compare_plans check_network check_plan verdict
-    compared-number = by-network (order network first second) _ _ _ refused-first
+    compared-told = by-network (order network first second) _ _ _ refused-first
 
     pub compared-tells : {r : ComparisonResult} → r ≡ comparison_result (compare_plans network first second first_size second_size)
         → NumberTells (plan_checks network first first_size then plan_checks network second second_size) plan_numbers r.number
     compared-tells e =
         tells _ plan_numbers (unfold Numbered in (plan-numbered network first first_size, plan-numbered network second second_size))
-        (ap (λ (x : ComparisonResult). x.number) e ∙ compared-number)
+        (ap (λ (x : ComparisonResult). x.number) e ∙ compared-told)
 
 -- ---- calls that write a text
-text-number : (text : List ℕ) (v : Verdict) → (text_result (text_answer text v)).number ≡ number_of v
+text-told : (text : List ℕ) (v : Verdict) → (text_result (text_answer text v)).number ≡ number_of v
 unfolding text_answer
-text-number text (Ok tt) = refl
-text-number text (Err r) = refl
+text-told text (Ok tt) = refl
+text-told text (Err r) = refl
 
 pub sheet-plan-tells : (network sheet : List Line) (size : ℕ) {r : TextResult} → r ≡ text_result (plan_from_sheet network sheet size)
     → NumberTells (write_checks network sheet size) sheet_plan_numbers r.number
 unfolding plan_from_sheet
-sheet-plan-tells network sheet size e = tells _ sheet_plan_numbers (write-numbered network sheet size) (ap (λ (x : TextResult). x.number) e ∙ text-number _ _)
+sheet-plan-tells network sheet size e = tells _ sheet_plan_numbers (write-numbered network sheet size) (ap (λ (x : TextResult). x.number) e ∙ text-told _ _)
 
 pub listing-tells : (network : List Line) (listing : List Entry) (size : ℕ) {r : TextResult} → r ≡ text_result (plan_from_listing network listing size)
     → NumberTells (listing_checks network listing size) listing_numbers r.number
 unfolding plan_from_listing
-listing-tells network listing size e = tells _ listing_numbers (listing-numbered network listing size) (ap (λ (x : TextResult). x.number) e ∙ text-number _ _)
+listing-tells network listing size e = tells _ listing_numbers (listing-numbered network listing size) (ap (λ (x : TextResult). x.number) e ∙ text-told _ _)
 
 pub carry-tells : (network plan : List Line) (b size room : ℕ) {r : TextResult} → r ≡ text_result (carry_on network plan b size room)
     → NumberTells (carry_checks network plan b size room) carry_numbers r.number
 unfolding carry_on
-carry-tells network plan b size room e = tells _ carry_numbers (carry-numbered network plan b size room) (ap (λ (x : TextResult). x.number) e ∙ text-number _ _)
+carry-tells network plan b size room e = tells _ carry_numbers (carry-numbered network plan b size room) (ap (λ (x : TextResult). x.number) e ∙ text-told _ _)
 
 pub split-tells : (network plan : List Line) (set : ℕ) (room : Lengths) {r : SplitResult} → r ≡ split_result (split_network network plan set room)
     → NumberTells (split_checks network plan set room) split_numbers r.number

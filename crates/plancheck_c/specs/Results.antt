@@ -9,7 +9,7 @@ use Rattle.cells_call.specs.declared.CellsRun.{CellsRun}
 use Rattle.plan_compare.specs.declared.Comparison.{Comparison}
 use Rattle.plan_compare.specs.declared.ComparisonRefusal.{ComparisonRefusal}
 use Rattle.plan_compare.specs.declared.ComparisonRefusal.TheVariants.{Network, First, Second}
-use Rattle.plan_compare.specs.Comparison.{plan_number, refusal_in}
+use Rattle.plan_compare.specs.Comparison.{order_number, plan_number, refusal_in}
 use Rattle.plancheck_c.specs.declared.NetworkResult.{NetworkResult}
 use Rattle.plancheck_c.specs.declared.CountsResult.{CountsResult}
 use Rattle.plancheck_c.specs.declared.VersionResult.{VersionResult}
@@ -84,13 +84,7 @@ cells_answer_of r =
     cond (eqb r.number 0) (Ok (record { cells = r.cells; flow_in = r.flow_in; flow_out = r.flow_out; volumes = r.volumes }))
     (Err (refusal r.number r.line r.item))
 
--- the number of an order, and the order that a C caller reads off
-abbrev pub order_number : Order → ℕ
-order_number Ahead = 1
-order_number Behind = 2
-order_number Equal = 3
-order_number Crossing = 4
-
+-- the order that a C caller reads off its number
 abbrev pub order_of : ℕ → Order
 order_of number = cond (eqb number 1) Ahead (cond (eqb number 2) Behind (cond (eqb number 3) Equal Crossing))
 

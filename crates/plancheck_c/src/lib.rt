@@ -12,7 +12,7 @@ ghost use Rattle.model.specs.Guarantees.{network_numbers, state_numbers, plan_nu
 ghost use Rattle.traces.specs.Call.{step_checks, vehicles_numbers, step_vehicles, places_after};
 ghost use Rattle.traces.specs.Guarantees.{StepKeeps};
 ghost use Rattle.cells_lines.specs.Corridor.{corridor_checks};
-ghost use Rattle.cells_call.specs.Call.{cells_numbers, run_cells, final_volumes, RunKeeps};
+ghost use Rattle.cells_call.specs.Call.{cells_numbers, run_cells, volumes_in, final_volumes, RunKeeps};
 ghost use Rattle.listing_lines.specs.Entry.{entries};
 ghost use Rattle.listing_call.specs.Listing as Listing;
 ghost use Rattle.listing_call.specs.Listing.{listing_numbers, plan_from_listing};
@@ -29,11 +29,13 @@ ghost use Rattle.plan_compare.specs.Promises.{ComparisonPromises, ComparisonGot}
 ghost use Rattle.model_split.specs.Call.{split_numbers, split_checks, split_network};
 ghost use Rattle.model_split.specs.Splits.{SplitInTwo, room_of};
 ghost use Rattle.split.specs.Splitting.{texts, buffers, SplitGot};
-ghost use Rattle.plancheck_c.specs.Results.{NumberTells, verdict_result, verdict_of, counts_result, version, plan_result, plan_answer_of, link_result, text_result, text_answer_of, order_number, comparison_result, comparison_answer_of, split_result, split_answer_of, cells_result, cells_answer_of};
+ghost use Rattle.plancheck_c.specs.Results.{NumberTells, verdict_result, verdict_of, counts_result, version, plan_result, plan_answer_of, link_result, text_result, text_answer_of, comparison_result, comparison_answer_of, split_result, split_answer_of, cells_result, cells_answer_of};
 
 use base_search::Refusal;
-use model::Totals;
-use plan_compare::Order;
+use cells_call::CellsRun;
+use model::{LinkState, Totals};
+use model_split::Lengths;
+use plan_compare::{Comparison, ComparisonRefusal};
 
 // The answer of a network's check or of a step of vehicles; number 0: the network is valid, the vehicles have moved.
 #[repr(C)]
@@ -42,6 +44,25 @@ pub struct NetworkResult {
     pub number: u32,
     pub line: u32,
     pub item: u32,
+}
+
+impl From<Result<(), Refusal>> for NetworkResult {
+    ghost from_gives = { λ answer told. told ≡ verdict_result answer };
+
+    fn from(answer: Result<(), Refusal>) -> NetworkResult {
+        match answer {
+            Ok(()) => NetworkResult {
+                number: 0,
+                line: 0,
+                item: 0,
+            },
+            Err(refusal) => NetworkResult {
+                number: refusal.number,
+                line: refusal.line,
+                item: refusal.item,
+            },
+        }
+    }
 }
 
 // What a network has; number 0: it is valid, with these counts.
@@ -81,6 +102,33 @@ pub struct PlanResult {
     pub doubled_time: u64,
 }
 
+impl From<Result<Totals, Refusal>> for PlanResult {
+    ghost from_gives = { λ answer told. told ≡ plan_result answer };
+
+    fn from(answer: Result<Totals, Refusal>) -> PlanResult {
+        match answer {
+            Ok(totals) => PlanResult {
+                number: 0,
+                line: 0,
+                item: 0,
+                admitted: totals.admitted,
+                let_out: totals.let_out,
+                inside: totals.inside,
+                doubled_time: totals.doubled_time,
+            },
+            Err(r) => PlanResult {
+                number: r.number,
+                line: r.line,
+                item: r.item,
+                admitted: 0,
+                let_out: 0,
+                inside: 0,
+                doubled_time: 0,
+            },
+        }
+    }
+}
+
 // The state of a link; number 0: the link holds these volumes.
 #[repr(C)]
 #[derive(Clone, Copy)]
@@ -92,6 +140,29 @@ pub struct LinkResult {
     pub in_transit: u32,
 }
 
+impl From<Result<LinkState, Refusal>> for LinkResult {
+    ghost from_gives = { λ answer told. told ≡ link_result answer };
+
+    fn from(answer: Result<LinkState, Refusal>) -> LinkResult {
+        match answer {
+            Ok(state) => LinkResult {
+                number: 0,
+                line: 0,
+                item: 0,
+                queued: state.queued,
+                in_transit: state.in_transit,
+            },
+            Err(r) => LinkResult {
+                number: r.number,
+                line: r.line,
+                item: r.item,
+                queued: 0,
+                in_transit: 0,
+            },
+        }
+    }
+}
+
 // The answer of a call that writes a text; number 0: it is written, so many bytes.
 #[repr(C)]
 #[derive(Clone, Copy)]
@@ -100,6 +171,27 @@ pub struct TextResult {
     pub line: u32,
     pub item: u32,
     pub length: usize,
+}
+
+impl From<Result<usize, Refusal>> for TextResult {
+    ghost from_gives = { λ answer told. told ≡ text_result answer };
+
+    fn from(answer: Result<usize, Refusal>) -> TextResult {
+        match answer {
+            Ok(length) => TextResult {
+                number: 0,
+                line: 0,
+                item: 0,
+                length,
+            },
+            Err(r) => TextResult {
+                number: r.number,
+                line: r.line,
+                item: r.item,
+                length: 0,
+            },
+        }
+    }
 }
 
 // The answer of a run of cells; number 0: so many cells, these totals, and the volumes after the last step, 0 past the cells.
@@ -115,6 +207,36 @@ pub struct CellsResult {
     pub volumes: [u32; 64],
 }
 
+impl From<Result<CellsRun, Refusal>> for CellsResult {
+    ghost from_gives = { λ answer told. told ≡ cells_result answer (volumes_in answer) };
+
+    fn from(answer: Result<CellsRun, Refusal>) -> CellsResult {
+        match answer {
+            Ok(run) => {
+                let volumes = run.volumes;
+                CellsResult {
+                    number: 0,
+                    line: 0,
+                    item: 0,
+                    cells: run.cells,
+                    flow_in: run.flow_in,
+                    flow_out: run.flow_out,
+                    volumes,
+                }
+            }
+            Err(r) => CellsResult {
+                number: r.number,
+                line: r.line,
+                item: r.item,
+                cells: 0,
+                flow_in: 0,
+                flow_out: 0,
+                volumes: [0; 64],
+            },
+        }
+    }
+}
+
 // The answer of a comparison of two plans; number 0: both are accepted, the first is ahead (order 1), behind (2), equal (3) or crossing (4), and its doubled time
 // is by so much the greater. Else the plan that the refusal means, 0 for the network.
 #[repr(C)]
@@ -126,6 +248,34 @@ pub struct ComparisonResult {
     pub plan: u32,
     pub order: u32,
     pub gap: i64,
+}
+
+impl From<Result<Comparison, ComparisonRefusal>> for ComparisonResult {
+    ghost from_gives = { λ answer told. told ≡ comparison_result answer };
+
+    fn from(answer: Result<Comparison, ComparisonRefusal>) -> ComparisonResult {
+        match answer {
+            Ok(comparison) => ComparisonResult {
+                number: 0,
+                line: 0,
+                item: 0,
+                plan: 0,
+                order: comparison.order.number(),
+                gap: comparison.gap,
+            },
+            Err(refused) => {
+                let r = refused.refusal();
+                ComparisonResult {
+                    number: r.number,
+                    line: r.line,
+                    item: r.item,
+                    plan: refused.plan(),
+                    order: 0,
+                    gap: 0,
+                }
+            }
+        }
+    }
 }
 
 // The answer of a split; number 0: the four texts are written, so many bytes each.
@@ -141,30 +291,40 @@ pub struct SplitResult {
     pub plan_2: usize,
 }
 
+impl From<Result<Lengths, Refusal>> for SplitResult {
+    ghost from_gives = { λ answer told. told ≡ split_result answer };
+
+    fn from(answer: Result<Lengths, Refusal>) -> SplitResult {
+        match answer {
+            Ok(lengths) => SplitResult {
+                number: 0,
+                line: 0,
+                item: 0,
+                network_1: lengths.network_1,
+                plan_1: lengths.plan_1,
+                network_2: lengths.network_2,
+                plan_2: lengths.plan_2,
+            },
+            Err(r) => SplitResult {
+                number: r.number,
+                line: r.line,
+                item: r.item,
+                network_1: 0,
+                plan_1: 0,
+                network_2: 0,
+                plan_2: 0,
+            },
+        }
+    }
+}
+
 #[unsafe(no_mangle)]
 pub extern "C" fn plancheck_check_network(network: &[u8]) -> NetworkResult
     ensures value { result ≡ verdict_result (check_network (lines network.now)) }
     ensures number_tells { NumberTells (network_checks (lines network.now)) network_numbers result.number }
     ensures padding_ignored { PaddingIgnored network.now (λ padded. result ≡ verdict_result (check_network (lines padded))) }
 {
-    verdict_result(network::check_network(network))
-}
-
-fn verdict_result(verdict: Result<(), Refusal>) -> NetworkResult
-    ensures { result ≡ verdict_result verdict }
-{
-    match verdict {
-        Ok(()) => NetworkResult {
-            number: 0,
-            line: 0,
-            item: 0,
-        },
-        Err(refusal) => NetworkResult {
-            number: refusal.number,
-            line: refusal.line,
-            item: refusal.item,
-        },
-    }
+    network::check_network(network).into()
 }
 
 #[unsafe(no_mangle)]
@@ -173,6 +333,7 @@ pub extern "C" fn plancheck_network_counts(network: &[u8]) -> CountsResult
     ensures number_tells { NumberTells (network_checks (lines network.now)) network_numbers result.number }
     ensures padding_ignored { PaddingIgnored network.now (λ padded. result ≡ counts_result (count_network (lines padded))) }
 {
+    // Not by `From`, which may ask nothing of the counts: that they fit, `count_network` promises.
     match network::count_network(network) {
         Ok(counts) => CountsResult {
             number: 0,
@@ -223,32 +384,7 @@ pub extern "C" fn plancheck_check_plan(
     ensures number_tells { NumberTells (plan_checks (lines network.now) (plan_of network.now plan.now) (length ledger.old)) plan_numbers result.number }
     ensures padding_ignored { PaddingIgnored network.now (λ padded_network. PaddingIgnored plan.now (λ padded_plan. (result ≡ plan_result (check_plan (lines padded_network) (plan_of padded_network padded_plan) (length ledger.old))) × (ledger.new ≡ ledger_after (lines padded_network) (plan_of padded_network padded_plan) ledger.old))) }
 {
-    plan_result(plan_check::check_plan(network, plan, ledger))
-}
-
-fn plan_result(answer: Result<Totals, Refusal>) -> PlanResult
-    ensures { result ≡ plan_result answer }
-{
-    match answer {
-        Ok(totals) => PlanResult {
-            number: 0,
-            line: 0,
-            item: 0,
-            admitted: totals.admitted,
-            let_out: totals.let_out,
-            inside: totals.inside,
-            doubled_time: totals.doubled_time,
-        },
-        Err(r) => PlanResult {
-            number: r.number,
-            line: r.line,
-            item: r.item,
-            admitted: 0,
-            let_out: 0,
-            inside: 0,
-            doubled_time: 0,
-        },
-    }
+    plan_check::check_plan(network, plan, ledger).into()
 }
 
 #[unsafe(no_mangle)]
@@ -263,7 +399,7 @@ pub extern "C" fn plancheck_check_sheet(
     ensures number_tells { NumberTells (keep_checks (lines network.now) (lines sheet.now) (plan_of network.now plan.now) (length ledger.old)) sheet_numbers result.number }
     ensures padding_ignored { PaddingIgnored network.now (λ padded_network. PaddingIgnored plan.now (λ padded_plan. PaddingIgnored sheet.now (λ padded_sheet. SheetPromises (lines padded_network) (lines padded_sheet) (plan_of padded_network padded_plan) ledger.old ledger.new (plan_answer_of result)))) }
 {
-    plan_result(sheet_check::check_sheet(network, plan, sheet, ledger))
+    sheet_check::check_sheet(network, plan, sheet, ledger).into()
 }
 
 #[unsafe(no_mangle)]
@@ -277,7 +413,7 @@ pub extern "C" fn plancheck_plan_from_sheet(
     ensures number_tells { NumberTells (write_checks (lines network.now) (lines sheet.now) (length plan.old)) sheet_plan_numbers result.number }
     ensures padding_ignored { PaddingIgnored network.now (λ padded_network. PaddingIgnored sheet.now (λ padded_sheet. WritePromises (lines padded_network) (lines padded_sheet) plan.old (text_answer_of result) plan.new)) }
 {
-    text_result(sheet_writer::plan_from_sheet(network, sheet, plan))
+    sheet_writer::plan_from_sheet(network, sheet, plan).into()
 }
 
 #[unsafe(no_mangle)]
@@ -291,41 +427,7 @@ pub extern "C" fn plancheck_link_state(
     ensures number_tells { NumberTells (state_checks (lines network.now) ledger.now boundary link) state_numbers result.number }
     ensures padding_ignored { PaddingIgnored network.now (λ padded. result ≡ link_result (link_state (lines padded) ledger.now boundary link)) }
 {
-    match plan_link_state::link_state(network, ledger, boundary, link) {
-        Ok(state) => LinkResult {
-            number: 0,
-            line: 0,
-            item: 0,
-            queued: state.queued,
-            in_transit: state.in_transit,
-        },
-        Err(r) => LinkResult {
-            number: r.number,
-            line: r.line,
-            item: r.item,
-            queued: 0,
-            in_transit: 0,
-        },
-    }
-}
-
-fn text_result(answer: Result<usize, Refusal>) -> TextResult
-    ensures { result ≡ text_result answer }
-{
-    match answer {
-        Ok(length) => TextResult {
-            number: 0,
-            line: 0,
-            item: 0,
-            length,
-        },
-        Err(r) => TextResult {
-            number: r.number,
-            line: r.line,
-            item: r.item,
-            length: 0,
-        },
-    }
+    plan_link_state::link_state(network, ledger, boundary, link).into()
 }
 
 #[unsafe(no_mangle)]
@@ -339,7 +441,7 @@ pub extern "C" fn plancheck_plan_from_listing(
     ensures number_tells { NumberTells (Listing.write_checks (lines network.now) (entries listing.now) (length plan.old)) listing_numbers result.number }
     ensures padding_ignored { PaddingIgnored network.now (λ padded. PlanGot (lines padded) (entries listing.now) plan.old (text_answer_of result) plan.new) }
 {
-    text_result(listing_call::plan_from_listing(network, listing, plan))
+    listing_call::plan_from_listing(network, listing, plan).into()
 }
 
 #[unsafe(no_mangle)]
@@ -355,18 +457,7 @@ pub extern "C" fn plancheck_carry_on(
     ensures number_tells { NumberTells (carry_checks (lines network.now) (planned_on (lines network.now) boundary plan.now) boundary (length ledger.old) (length carried.old)) carry_numbers result.number }
     ensures padding_ignored { PaddingIgnored network.now (λ padded_network. PaddingIgnored plan.now (λ padded_plan. CarryGot padded_network padded_plan boundary ledger.old ledger.new carried.old carried.new (text_answer_of result))) }
 {
-    text_result(carry::carry_on(network, boundary, plan, ledger, carried))
-}
-
-fn order_number(order: Order) -> u32
-    ensures { result ≡ order_number order }
-{
-    match order {
-        Order::Ahead => 1,
-        Order::Behind => 2,
-        Order::Equal => 3,
-        Order::Crossing => 4,
-    }
+    carry::carry_on(network, boundary, plan, ledger, carried).into()
 }
 
 #[unsafe(no_mangle)]
@@ -384,27 +475,7 @@ pub extern "C" fn plancheck_compare_plans(
     ensures number_tells { NumberTells (plan_checks (lines network.now) (plan_of network.now first.now) (length first_ledger.old) then plan_checks (lines network.now) (plan_of network.now second.now) (length second_ledger.old)) plan_numbers result.number }
     ensures padding_ignored { PaddingIgnored network.now (λ padded_network. PaddingIgnored first.now (λ padded_first. PaddingIgnored second.now (λ padded_second. ComparisonGot padded_network padded_first padded_second first_ledger.old second_ledger.old (comparison_answer_of result) first_ledger.new second_ledger.new))) }
 {
-    match plan_compare::compare_plans(network, first, second, first_ledger, second_ledger) {
-        Ok(comparison) => ComparisonResult {
-            number: 0,
-            line: 0,
-            item: 0,
-            plan: 0,
-            order: order_number(comparison.order),
-            gap: comparison.gap,
-        },
-        Err(refused) => {
-            let r = refused.refusal();
-            ComparisonResult {
-                number: r.number,
-                line: r.line,
-                item: r.item,
-                plan: refused.plan(),
-                order: 0,
-                gap: 0,
-            }
-        }
-    }
+    plan_compare::compare_plans(network, first, second, first_ledger, second_ledger).into()
 }
 
 #[unsafe(no_mangle)]
@@ -422,28 +493,10 @@ pub extern "C" fn plancheck_split(
     ensures number_tells { NumberTells (split_checks (lines network.now) (plan_of network.now plan.now) first_half (room_of (buffers network_1.old plan_1.old network_2.old plan_2.old))) split_numbers result.number }
     ensures padding_ignored { PaddingIgnored network.now (λ padded_network. PaddingIgnored plan.now (λ padded_plan. SplitGot padded_network padded_plan first_half (buffers network_1.old plan_1.old network_2.old plan_2.old) (buffers network_1.new plan_1.new network_2.new plan_2.new) (split_answer_of result))) }
 {
-    match split::split(
+    split::split(
         network, plan, first_half, network_1, plan_1, network_2, plan_2,
-    ) {
-        Ok(lengths) => SplitResult {
-            number: 0,
-            line: 0,
-            item: 0,
-            network_1: lengths.network_1,
-            plan_1: lengths.plan_1,
-            network_2: lengths.network_2,
-            plan_2: lengths.plan_2,
-        },
-        Err(r) => SplitResult {
-            number: r.number,
-            line: r.line,
-            item: r.item,
-            network_1: 0,
-            plan_1: 0,
-            network_2: 0,
-            plan_2: 0,
-        },
-    }
+    )
+    .into()
 }
 
 #[unsafe(no_mangle)]
@@ -458,7 +511,7 @@ pub extern "C" fn plancheck_step_vehicles(
     ensures step_keeps { StepKeeps places.old advances.now red_lines.now spacing (verdict_of result) places.new }
     ensures number_tells { NumberTells (step_checks places.old advances.now red_lines.now spacing) vehicles_numbers result.number }
 {
-    verdict_result(traces::step_vehicles(places, advances, red_lines, spacing))
+    traces::step_vehicles(places, advances, red_lines, spacing).into()
 }
 
 #[unsafe(no_mangle)]
@@ -468,27 +521,5 @@ pub extern "C" fn plancheck_run_cells(corridor: &[u8]) -> CellsResult
     ensures number_tells { NumberTells (corridor_checks (lines corridor.now)) cells_numbers result.number }
     ensures padding_ignored { PaddingIgnored corridor.now (λ padded. result ≡ cells_result (run_cells (lines padded)) (final_volumes (lines padded))) }
 {
-    match cells_call::run_cells(corridor) {
-        Ok(run) => {
-            let volumes = run.volumes;
-            CellsResult {
-                number: 0,
-                line: 0,
-                item: 0,
-                cells: run.cells,
-                flow_in: run.flow_in,
-                flow_out: run.flow_out,
-                volumes,
-            }
-        }
-        Err(r) => CellsResult {
-            number: r.number,
-            line: r.line,
-            item: r.item,
-            cells: 0,
-            flow_in: 0,
-            flow_out: 0,
-            volumes: [0; 64],
-        },
-    }
+    cells_call::run_cells(corridor).into()
 }

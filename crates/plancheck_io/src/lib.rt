@@ -15,6 +15,7 @@ pub fn read_open<R: Read>(file: &mut R, buffer: &mut [u8]) -> Option<usize>
     ensures whole { IsWhole (R.remaining file.old) buffer.new result }
 {
     let mut done = 0;
+    // A `while`: a read may give fewer bytes than fit, so that no count says where the file ends.
     while done < buffer.len() {
         let count = file.read(&mut buffer[done..]).ok()?;
         if count == 0 {

@@ -1,7 +1,6 @@
 -- The laws of writing an answer: `A` and the `B` records behind it, or `R`.
 use Rattle.base_laws.proofs.Kit.{ℕ, suc, ◌≤◌, ◌≡◌, List, [], ◌∷◌, ◌++◌, arith, length, get_or}
 use Rattle.base_search.specs.declared.Refusal.{Refusal}
-use Rattle.text_writer.specs.Records.{record_text}
 use Rattle.text_writer.specs.Writing.{Wrote}
 use Rattle.text_writer.proofs.Laws.{wrote-more, wrote-length, record-most, records-most}
 use Rattle.model.specs.declared.Totals.{Totals}
@@ -33,10 +32,6 @@ module _ {counts : Counts} {times ledger old : List ℕ} (asked : RowsAsked old 
         → Wrote (totals_text t ++ boundary_texts counts times ledger) 0 old new answer
     accepted-wrote b =
         wrote-more (totals_text t) (boundary_texts counts times ledger) 0 old _ _ next _ (omega (arith, totals-length, texts-length counts times ledger asked.few, asked.room)) a b
-
-pub refusal-wrote : {x y z : ℕ} (r : Refusal) {old new : List ℕ} {answer : ℕ} → x ≡ r.number → y ≡ r.line → z ≡ r.item
-    → Wrote (record_text 82 (x ∷ y ∷ z ∷ [])) 0 old new answer → Wrote (refusal_text r) 0 old new answer
-refusal-wrote r e f g w = rw (e, f, g) at w
 
 -- ---- an answer that is known
 module _ (counts : Counts) (times ledger : List ℕ) {old new : List ℕ} {answer : (Result Totals Refusal)} {r : ℕ} where

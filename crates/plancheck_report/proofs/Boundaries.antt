@@ -1,5 +1,5 @@
 -- The laws of writing the `B` records: one behind the other, each from its row of the ledger.
-use Rattle.base_laws.proofs.Kit.{ℕ, zero, suc, ◌+◌, ◌-◌, ◌*◌, ◌≤◌, ◌<◌, ◌≡◌, refl, sym, ap, ◌∙◌, List, [], ◌∷◌, ◌++◌, add-one, mul-le-mul, mul-le-mul_right, arith, length, get_or, take, drop, set, length-set, take-append-drop, length-take-le, take-suc, take-length}
+use Rattle.base_laws.proofs.Kit.{ℕ, zero, suc, ◌+◌, ◌-◌, ◌*◌, ◌≤◌, ◌<◌, ◌≡◌, refl, sym, ap, ◌∙◌, List, [], ◌∷◌, ◌++◌, add-one, arith, length, get_or, take, drop, set, length-set, take-append-drop, length-take-le, take-suc}
 use Rattle.text_writer.specs.Records.{record_text, record_texts}
 use Rattle.text_writer.specs.Writing.{put_at, Wrote}
 use Rattle.text_writer.proofs.Laws.{put-take, wrote-byte, wrote-more, wrote-length, record-most}
@@ -33,12 +33,6 @@ module _ (row old : List ℕ) where
           wrote = rw s (record { is = w.is; ends = omega (arith, w.ends) });
         }
 
-    pub put_all : length row ≤ k → out ≡ put_at 2 row old
-    put_all l =
-        let e : k ≡ length row = omega (arith, p.few) in
-        let t : take k row ≡ row = rw e (take-length row) in
-        p.wrote.is ∙ ap (λ x. put_at 2 x old) t
-
 -- the record that is written: two numbers and the row
 pub fields_read : (n x time : ℕ) (row rest fields : List ℕ) → length row ≤ length rest → x ≡ time → fields ≡ put_at 2 row (n ∷ x ∷ rest)
     → take (2 + length row) fields ≡ n ∷ time ∷ row
@@ -69,12 +63,6 @@ module _ {counts : Counts} {times ledger : List ℕ} {at : ℕ} {old : List ℕ}
   rows-first = record { few = omega arith; long = refl; end = omega arith; wrote = record { is = let e : at + 0 ≡ at = omega arith in rw e (sym (take-append-drop at old)); ends = omega arith } }
 
   module _ (n : ℕ) (h : n ≤ counts.steps) where
-    pub start_small : 2 * n * counts.links ≤ 5760
-    start_small = let s : 2 * n ≤ 240 = omega (arith, asked.few.steps) in mul-le-mul s asked.few.links
-
-    pub row_within : 2 * n * counts.links + 2 * counts.links ≤ length ledger
-    row_within = let s : suc n ≤ suc counts.steps = omega arith in omega (arith, mul-le-mul_right (2 * counts.links) s, asked.rows)
-
     module _ {out : List ℕ} {next : ℕ} (w : Written counts times ledger at old out next n) where
       rows-room : next + 1052 ≤ length out
       rows-room = omega (arith, w.long, w.end, asked.room, asked.few.steps)
@@ -95,9 +83,3 @@ module _ {counts : Counts} {times ledger : List ℕ} {at : ℕ} {old : List ℕ}
             end = omega (arith, u.ends, w.end);
             wrote = rw add-one m;
           }
-
-  pub rows_all : {n : ℕ} {out : List ℕ} {next : ℕ} → counts.steps < n → Written counts times ledger at old out next n
-      → Wrote (record_texts 66 (suc counts.steps) (ledger_numbers counts.links (λ m. get_or times m 0) ledger)) at old out next
-  rows_all {n} h w =
-      let e : n ≡ suc counts.steps = omega (arith, w.few) in
-      rw e at w.wrote

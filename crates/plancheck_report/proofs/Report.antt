@@ -1,11 +1,12 @@
 -- A plan's answer and its ledger tell the whole report: a ledger of 5,808 numbers is long enough for every network, so that refusal 8 can't come.
-use Rattle.base_laws.proofs.Kit.{ℕ, suc, ◌*◌, ◌≤◌, ◌≡◌, refl, sym, ap, ap₂, ◌∙◌, List, ◌++◌, mul-le-mul, arith, le-leb, length}
+use Rattle.base_laws.proofs.Kit.{ℕ, suc, ◌*◌, ◌≤◌, ◌≡◌, refl, ap, ap₂, ◌∙◌, List, ◌++◌, mul-le-mul, arith, le-leb, length}
 use Rattle.base_search.specs.declared.Refusal.{Refusal}
 use Rattle.base_search.specs.Checks.{◌then◌, or_else, verdict, Hold, Verdict}
 use Rattle.base_search.proofs.Laws.{or-else-passes, or-else-refused, or-else-first, checked-passes, hold-of-passes}
 use Rattle.text_reader.specs.Lines.{Line, lines}
 use Rattle.text_reader.specs.Padding.{SameText, PaddingIgnored}
 use Rattle.text_reader.proofs.Padding.{same_lines}
+use Rattle.model.specs.declared.Signal.{Signal}
 use Rattle.model.specs.declared.Totals.{Totals}
 use Rattle.model.specs.Network.{link_count, step_count}
 use Rattle.model.specs.Flows.{totals}
@@ -15,19 +16,20 @@ use Rattle.model.specs.Calls.{plan_answer, check_plan, rows_written, written, le
 use Rattle.model.specs.Report.{report_text, report}
 use Rattle.model.proofs.Accepted.{valid-network}
 use Rattle.model.proofs.Limits as limits
-use Rattle.model.proofs.Rows.{length-written}
 use Rattle.model.proofs.Written.{rows_all}
 use Rattle.text_writer.specs.Writing.{Wrote}
 use Rattle.network_tables.specs.declared.Counts.{Counts}
+use Rattle.network_tables.specs.declared.Link.{Link}
+use Rattle.network_tables.specs.declared.Movement.{Movement}
 use Rattle.network_tables.specs.declared.Reading.{Reading}
 use Rattle.network_tables.specs.Tables.{CountsHold, Judged}
 use Rattle.network_tables.proofs.Stages.{verdict-refused}
-use Rattle.network.specs.Loading.{LoadedWithSignals}
+use Rattle.network.specs.Loading.{Loaded}
 use Rattle.step_arrivals.specs.Times.{ShiftAsked, Shifted, PlanTimes}
 use Rattle.step_arrivals.proofs.Times.{shift-asked, plan-times}
 use Rattle.plan_check.specs.Plan.{PlanGot}
 use Rattle.plancheck_report.specs.Boundaries.{ledger_size}
-use Rattle.plancheck_report.specs.Answer.{totals_text, refusal_text, answer_text, AnswerAsked}
+use Rattle.plancheck_report.specs.Answer.{totals_text, refusal_text, answer_text}
 use Rattle.plancheck_report.proofs.Rows.{rows-printed, texts-same}
 use Rattle.std.specs.Prelude.{Result, Ok, Err}
 
@@ -68,19 +70,15 @@ module _ (network plan : List Line) where
   unfolding verdict report_text
   refused-report r v = ap (report_text network plan) (or-else-refused _ _ r v)
 
-accepted-passes : (network plan : List Line) (v : Verdict) (t : Totals) → plan_answer network plan v ≡ Ok t → v ≡ Ok tt
-unfolding plan_answer
-accepted-passes network plan (Ok tt) t e = refl
-accepted-passes network plan (Err r) t e = cc
-
-pub times-asked : {text signals links movements times : List ℕ} {reading : Reading} → LoadedWithSignals text signals links movements times reading
-    → ShiftAsked times reading.counts.past reading.counts.steps
-times-asked held = shift-asked held.loaded.counted held.loaded.holds held.loaded.time-table
+-- the times of a network that has passed, copied
+pub times-asked : {text : List ℕ} {signals : List Signal} {links : List Link} {movements : List Movement} {times : List ℕ} {reading : Reading} → Loaded text signals links movements times reading
+    → {copied : List ℕ} → copied ≡ times → ShiftAsked copied reading.counts.past reading.counts.steps
+times-asked held same = rw same (shift-asked held.counted held.holds held.time-table)
 
 -- a plan is judged on a network that has passed, and the times are the plan's
-module _ {network_text plan_text old signals links movements times after ledger : List ℕ} {reading : Reading} {answer : (Result Totals Refusal)} (size : length old ≡ ledger_size)
-    (held : LoadedWithSignals network_text signals links movements times reading) (judged : PlanGot network_text plan_text old answer ledger)
-    (shifted : Shifted times reading.counts.past reading.counts.steps after) where
+module _ {network_text plan_text old : List ℕ} {signals : List Signal} {links : List Link} {movements : List Movement} {times : List ℕ} {reading : Reading} {answer : (Result Totals Refusal)} {ledger : List ℕ} (size : length old ≡ ledger_size)
+    (held : Loaded network_text signals links movements times reading) (judged : PlanGot network_text plan_text old answer ledger)
+    {copied after : List ℕ} (same : copied ≡ times) (shifted : Shifted copied reading.counts.past reading.counts.steps after) where
   abbrev network : List Line
   network = lines network_text
 
@@ -95,27 +93,12 @@ module _ {network_text plan_text old signals links movements times after ledger 
   unfolding ledger_after
   after-verdict = rw size at judged.written-rows
 
-  pub answer-asked : {out : List ℕ} → 131_072 ≤ length out → AnswerAsked out reading.counts after answer ledger
-  answer-asked h =
-      record {
-        room = omega arith;
-        accepted = λ t e.
-            let counted = held.loaded.counted in
-            let p = accepted-passes network plan (verdict (plan_checks network plan ledger_size)) t (sym of-verdict ∙ e) in
-            let f = ledger-fits network held.loaded.holds in
-            let l : ledger ≡ written network plan old (suc (step_count network)) = rw (rows_all network plan ledger_size (hold-of-passes (plan_checks network plan ledger_size) p)) at after-verdict in
-            let s : length ledger ≡ length old = ap length l ∙ length-written network plan old (suc (step_count network)) (omega arith) in
-            let r : 2 * suc (step_count network) * link_count network ≤ length ledger = omega arith in
-            record { few = counted.few; all-times = shifted.size; rows = rw (counted.steps, counted.links) r; room = omega arith };
-      }
-
   pub report-wrote : {out new : List ℕ} {r : ℕ} → Wrote (answer_text reading.counts after answer ledger) 0 out new r → Wrote (report network_text plan_text) 0 out new r
   unfolding report
   report-wrote w =
-      let l = held.loaded in
       let t : answer_text reading.counts after answer ledger ≡ report_text network plan (verdict (network_checks network then plan_line_checks network plan)) =
       ap₂ (answer_text reading.counts after) of-verdict after-verdict
-      ∙ verdict-told network plan l.counted (plan-times l.counted l.holds l.time-table shifted) old size (verdict (plan_checks network plan ledger_size)) refl
+      ∙ verdict-told network plan held.counted (plan-times held.counted held.holds held.time-table (rw same at shifted)) old size (verdict (plan_checks network plan ledger_size)) refl
       ∙ ap (report_text network plan) (same-verdict network plan) in
       rw t at w
 

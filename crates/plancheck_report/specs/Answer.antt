@@ -1,10 +1,10 @@
 -- The text of a plan's answer, with the rows as they stand in a ledger.
-use Rattle.std.specs.Prelude.{ℕ, ◌≤◌, ◌≡◌, List, [], ◌∷◌, ◌++◌, length, Result, Ok, Err}
+use Rattle.std.specs.Prelude.{ℕ, List, [], ◌∷◌, ◌++◌, Result, Ok, Err}
 use Rattle.text_writer.specs.Records.{record_text}
 use Rattle.base_search.specs.declared.Refusal.{Refusal}
 use Rattle.model.specs.declared.Totals.{Totals}
 use Rattle.network_tables.specs.declared.Counts.{Counts}
-use Rattle.plancheck_report.specs.Boundaries.{boundary_texts, RowsAsked}
+use Rattle.plancheck_report.specs.Boundaries.{boundary_texts}
 
 -- the `A` record
 abbrev pub totals_text : Totals → List ℕ
@@ -17,8 +17,3 @@ refusal_text r = record_text 82 (r.number ∷ r.line ∷ r.item ∷ [])
 unfoldable pub answer_text : Counts → List ℕ → Result Totals Refusal → List ℕ → List ℕ
 answer_text counts times (Ok t) ledger = totals_text t ++ boundary_texts counts times ledger
 answer_text counts times (Err r) ledger = refusal_text r
-
--- an `A` record has at most 86 bytes, an `R` record fewer
-pub record AnswerAsked (out : List ℕ) (counts : Counts) (times : List ℕ) (answer : Result Totals Refusal) (ledger : List ℕ) : Type 0 where
-  pub room : 86 ≤ length out
-  pub accepted : (t : Totals) → answer ≡ Ok t → RowsAsked out 86 counts times ledger

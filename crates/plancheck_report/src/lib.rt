@@ -7,14 +7,14 @@ ghost use Rattle.text_writer.specs.Records.{record_text};
 ghost use Rattle.text_writer.specs.Writing.{put_at, Wrote};
 ghost use Rattle.model.specs.Report.{report, not_read};
 ghost use Rattle.network_tables.specs.Fields.{row_size};
-ghost use Rattle.network.specs.Loading.{LoadedWithSignals};
+ghost use Rattle.network.specs.Loading.{Loaded};
 ghost use Rattle.plancheck_report.specs.Boundaries.{boundary_texts, RowsAsked};
-ghost use Rattle.plancheck_report.specs.Answer.{totals_text, refusal_text, answer_text, AnswerAsked};
+ghost use Rattle.plancheck_report.specs.Answer.{totals_text, refusal_text, answer_text};
 
 use base_search::Refusal;
-use model::Totals;
+use model::{Signal, Totals};
 use network_tables::{
-    Counts, LINK_TABLE_SIZE, MOVEMENT_TABLE_SIZE, ROW_SIZE, Reading, SIGNAL_TABLE_SIZE,
+    Counts, Link, MAX_LINKS, MAX_MOVEMENTS, MAX_SIGNALS, Movement, NetworkTables, ROW_SIZE,
     TIME_TABLE_SIZE,
 };
 
@@ -101,7 +101,7 @@ fn write_answer(
     answer: Result<Totals, Refusal>,
     ledger: &[u32],
 ) -> usize
-    requires { AnswerAsked out.old counts times.now answer ledger.now }
+    requires { RowsAsked out.old 86 counts times.now ledger.now }
     ensures { Wrote (answer_text counts times.now answer ledger.now) 0 out.old out.new result }
 {
     match answer {
@@ -110,35 +110,25 @@ fn write_answer(
     }
 }
 
-// Judges a plan on a network that has passed, and writes the report: the ledger is long enough for every network. The times become those of the plan.
+// Judges a plan on a network that has passed, and writes the report: the ledger is long enough for every network. The times become those of the plan, in a copy.
 fn write_judged(
     network: &[u8],
     plan: &[u8],
-    reading: Reading,
-    signals: &mut [u32],
-    links: &[u32],
-    movements: &[u32],
-    times: &mut [u32],
+    tables: &NetworkTables,
+    signals: &mut [Signal],
     out: &mut [u8],
 ) -> usize
-    requires loaded_with_signals { LoadedWithSignals network.now signals.old links.now movements.now times.old reading }
+    requires loaded { Loaded network.now signals.old tables.now.links.now tables.now.movements.now tables.now.times.now tables.now.reading }
     requires in_bounds { 131072 ≤ length out.old }
     ensures { Wrote (report network.now plan.now) 0 out.old out.new result }
 {
     let mut ledger = [0u32; LEDGER_SIZE];
-    let answer = plan_check::judge_with_signals(
-        network,
-        plan,
-        reading,
-        links,
-        movements,
-        times,
-        signals,
-        &mut ledger,
-    );
-    let counts = reading.counts;
-    step_arrivals::from_start(times, counts.past, counts.steps);
-    write_answer(out, counts, times, answer, &ledger)
+    let answer = plan_check::judge_loaded(network, plan, tables, signals, &mut ledger);
+    let counts = tables.reading.counts;
+    let mut times = [0u32; TIME_TABLE_SIZE];
+    times.copy_from_slice(tables.times);
+    step_arrivals::from_start(&mut times, counts.past, counts.steps);
+    write_answer(out, counts, &times, answer, &ledger)
 }
 
 // Writes the report of two texts that were read.
@@ -147,28 +137,28 @@ pub fn write_report(network: &[u8], plan: &[u8], out: &mut [u8]) -> usize
     ensures wrote { Wrote (report network.now plan.now) 0 out.old out.new result }
     ensures padding_ignored { PaddingIgnored network.now (λ padded_network. PaddingIgnored plan.now (λ padded_plan. Wrote (report padded_network padded_plan) 0 out.old out.new result)) }
 {
-    let mut signals = [0u32; SIGNAL_TABLE_SIZE];
-    let mut links = [0u32; LINK_TABLE_SIZE];
-    let mut movements = [0u32; MOVEMENT_TABLE_SIZE];
+    let mut signals = [Signal::default(); MAX_SIGNALS];
+    let mut links = [Link::default(); MAX_LINKS];
+    let mut movements = [Movement::default(); MAX_MOVEMENTS];
     let mut times = [0u32; TIME_TABLE_SIZE];
-    match network::load_with_signals(
+    let read = network::read_network(
         network,
         &mut signals,
         &mut links,
         &mut movements,
         &mut times,
-    ) {
+    );
+    match read {
         Err(refusal) => write_refusal(out, refusal),
-        Ok(reading) => write_judged(
-            network,
-            plan,
-            reading,
-            &mut signals,
-            &links,
-            &movements,
-            &mut times,
-            out,
-        ),
+        Ok(reading) => {
+            let tables = NetworkTables {
+                reading,
+                links: &links,
+                movements: &movements,
+                times: &times,
+            };
+            write_judged(network, plan, &tables, &mut signals, out)
+        }
     }
 }
 

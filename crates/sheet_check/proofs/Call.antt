@@ -8,18 +8,21 @@ use Rattle.text_reader.specs.Padding.{PaddingIgnored}
 use Rattle.text_reader.proofs.Padding.{same_lines}
 use Rattle.text_reader.proofs.Laws.{starts_first}
 use Rattle.model.specs.declared.Totals.{Totals}
-use Rattle.model.specs.Network.{max_signals, signal_count, step_count}
+use Rattle.model.specs.declared.Signal.{Signal}
+use Rattle.model.specs.Network.{max_trams, signal_count, step_count}
 use Rattle.model.specs.Table.{network_checks, ledger_checks, plan_line_checks, plan_checks}
 use Rattle.model.specs.Hold.{plan_of}
 use Rattle.model.specs.Calls.{plan_answer, check_plan}
 use Rattle.model.proofs.Accepted.{valid-network}
 use Rattle.model.proofs.Promises.{passes-of-accepted, refused-of-refused}
 use Rattle.network_tables.specs.declared.Reading.{Reading}
-use Rattle.network_tables.specs.Fields.{tram_table_size}
-use Rattle.network_tables.specs.Tables.{SignalTable, TramTable, Judged}
+use Rattle.network_tables.specs.declared.Tram.{Tram}
+use Rattle.network_tables.specs.declared.Link.{Link}
+use Rattle.network_tables.specs.declared.Movement.{Movement}
+use Rattle.network_tables.specs.Tables.{SignalTable, Judged}
 use Rattle.network_trams.specs.Claims.{LoadAsked as TramsLoadAsked}
 use Rattle.network_tables.proofs.Stages.{verdict-refused}
-use Rattle.network.specs.Loading.{LoadedWithSignals}
+use Rattle.network.specs.Loading.{Loaded}
 use Rattle.plan_steps.proofs.Runs.{signals-first}
 use Rattle.plan_steps.proofs.Steps.{trams-ready}
 use Rattle.plan_check.specs.Plan.{PlanGot}
@@ -35,12 +38,12 @@ use Rattle.model_sheet.proofs.Promises.{sheet-promises}
 use Rattle.sheet_check.specs.declared.Watch.{Watch}
 use Rattle.sheet_check.specs.declared.Pass.{Pass}
 use Rattle.sheet_check.specs.Watch.{no_watch, watch_in, watch_at}
-use Rattle.sheet_check.specs.Stages.{PassAsked, SheetIn, PassAt, PassWatches, StepAsked, StepGot, PassGot}
+use Rattle.sheet_check.specs.Stages.{PassAsked, SheetIn, PassAt, PassWatches, PassGot}
 use Rattle.std.specs.Prelude.{Result, Ok, Err}
 
 -- ---- the pass
 -- while steps are left
-pub record Passing (network_text plan_text table : List ℕ) (pass : Pass) (signals : List ℕ) : Type 0 where
+pub record Passing (network_text plan_text table : List ℕ) (pass : Pass) (signals : List Signal) : Type 0 where
   pub at : PassAt network_text plan_text pass signals
   pub watched : PassWatches network_text plan_text table pass
 
@@ -59,7 +62,7 @@ module _ {network_text plan_text table : List ℕ} {reading : Reading} (asked : 
   abbrev pln : List Line
   pln = plan_of network_text plan_text
 
-  pub passing-first : {signals : List ℕ} → SignalTable net signals
+  pub passing-first : {signals : List Signal} → SignalTable net signals
       → Passing network_text plan_text table (record { boundary = 0; time = 0; step_at = reading.steps_at; plan_at = 0; watches = replicate 8 no_watch }) signals
   unfolding watch_at is_tested last_line found
   passing-first {signals} t =
@@ -78,19 +81,10 @@ module _ {network_text plan_text table : List ℕ} {reading : Reading} (asked : 
       first : (sheet : List Line) (r : ℕ) → r < signal_count net → watch_in (replicate 8 no_watch) r ≡ watch_at net sheet pln 0 r
       first sheet r l = get_or-replicate {A = Watch} 8 r no_watch no_watch (omega (arith, asked.network-held.counted.signals, asked.network-held.counted.few.signals))
 
-  pub trams-asked : {trams : List ℕ} → length trams ≡ tram_table_size → TramsLoadAsked network_text reading.trams_at reading.counts.trams trams
+  pub trams-asked : {trams : List Tram} → length trams ≡ max_trams → TramsLoadAsked network_text reading.trams_at reading.counts.trams trams
   trams-asked room = trams-ready network_text reading.trams_at asked.network-held.trams-start asked.network-held.counted asked.network-held.holds room
 
-  module _ {pass : Pass} {signals : List ℕ} (inv : Passing network_text plan_text table pass signals) where
-    pub passing-asked : {trams : List ℕ} → TramTable net trams → {n : ℕ} → pass.boundary ≡ n → n < reading.counts.steps → StepAsked network_text plan_text table reading trams signals pass
-    passing-asked held e h = record { pass-asked = asked; tram-table = held; pass-at = inv.at; more = omega (arith, asked.network-held.counted.steps) }
-
-    pub passing-next : {next : Pass} {signals' : List ℕ} → StepGot network_text plan_text table pass next signals' → Passing network_text plan_text table next signals'
-    passing-next got = record { at = got.reached; watched = got.watched inv.watched }
-
-    pub signals-few : reading.counts.signals ≤ max_signals
-    signals-few = asked.network-held.counted.few.signals
-
+  module _ {pass : Pass} {signals : List Signal} (inv : Passing network_text plan_text table pass signals) where
     pub passing-all : {n : ℕ} → pass.boundary ≡ n → reading.counts.steps ≤ n → {v : Verdict} → v ≡ pass_verdict (λ i. (watch_in pass.watches i).broken) reading.counts.signals
         → PassGot network_text plan_text table v
     unfolding pass_verdict watch_at
@@ -146,14 +140,13 @@ unfolding verdict
 network-refused judged e = first-refused _ _ _ _ (or-else-refused _ _ _ (verdict-refused judged e))
 
 -- it has passed
-pub read_asked : {text signals links movements times : List ℕ} {reading : Reading} → LoadedWithSignals text signals links movements times reading → {table : List ℕ} → length table ≡ sheet_table_size
-    → SheetAsked signals reading.counts.signals table
-read_asked {text} held l =
-    let loaded = held.loaded in
-    sheet-asked held.signal-table loaded.counted.signals (valid-network (lines text) loaded.holds) loaded.counted.few.signals l
+pub read_asked : {text : List ℕ} {signals : List Signal} {links : List Link} {movements : List Movement} {times : List ℕ} {reading : Reading} → Loaded text signals links movements times reading
+    → {table : List ℕ} → length table ≡ sheet_table_size → SheetAsked signals reading.counts.signals table
+read_asked {text} loaded l =
+    sheet-asked loaded.signal-table loaded.counted.signals (valid-network (lines text) loaded.holds) loaded.counted.few.signals l
 
 -- a sheet is read for its signals
-module _ {text signals links movements times : List ℕ} {reading : Reading} (held : LoadedWithSignals text signals links movements times reading)
+module _ {text : List ℕ} {signals : List Signal} {links : List Link} {movements : List Movement} {times : List ℕ} {reading : Reading} (loaded : Loaded text signals links movements times reading)
     {sheet_text table : List ℕ} {read : Verdict} (got : SheetRead signals reading.counts.signals 0 sheet_text read table) where
   abbrev network : List Line
   network = lines text
@@ -162,11 +155,11 @@ module _ {text signals links movements times : List ℕ} {reading : Reading} (he
   sheet = lines sheet_text
 
   passes : verdict (network_checks network) ≡ Ok tt
-  passes = passes-of-hold (network_checks network) held.loaded.holds
+  passes = passes-of-hold (network_checks network) loaded.holds
 
   first-is : verdict (first_checks network sheet) ≡ read
   unfolding verdict
-  first-is = or-else-passes _ _ passes ∙ sym (sheet-told held.signal-table held.loaded.counted.signals got)
+  first-is = or-else-passes _ _ passes ∙ sym (sheet-told loaded.signal-table loaded.counted.signals got)
 
   pub sheet-refused : {plan : List Line} {old : List ℕ} {q : Refusal} → read ≡ Err q → SheetPromises network sheet plan old old (Err q)
   sheet-refused e = first-refused network sheet _ _ (first-is ∙ e)
@@ -201,7 +194,7 @@ module _ {text signals links movements times : List ℕ} {reading : Reading} (he
       unfolding Hold plan_checks plan_line_checks
       pass-asked =
           record {
-            network-held = record { counted = held.loaded.counted; trams-start = held.loaded.trams-start; steps-start = held.loaded.steps-start; holds = held.loaded.holds };
+            network-held = record { counted = loaded.counted; trams-start = loaded.trams-start; steps-start = loaded.steps-start; holds = loaded.holds };
             room = (got.held e).room;
             lawful = (hold-of-passes _ plan-passes).1.1.0;
           }
@@ -213,7 +206,7 @@ module _ {text signals links movements times : List ℕ} {reading : Reading} (he
 
       module _ {v : Verdict} (run : PassGot text plan_text table v) where
         runs-told : {told : (Result Totals Refusal)} → told ≡ plan_answer network plan v → SheetPromises network sheet plan old after told
-        runs-told w = promised network sheet plan old (kept-is ∙ or-else-passes _ _ (sym rest-is ∙ plan-passes) ∙ sym (run.told sheet (λ r l k u. sheet-number held.signal-table held.loaded.counted.signals got e r l k (omega arith)))) w ledger-is
+        runs-told w = promised network sheet plan old (kept-is ∙ or-else-passes _ _ (sym rest-is ∙ plan-passes) ∙ sym (run.told sheet (λ r l k u. sheet-number loaded.signal-table loaded.counted.signals got e r l k (omega arith)))) w ledger-is
 
         pub runs-kept : v ≡ Ok tt → SheetPromises network sheet plan old after (Ok t)
         runs-kept p = runs-told (totals-are ∙ ap (plan_answer network plan) (sym p))

@@ -4,10 +4,10 @@ use Rattle.base_search.specs.Checks.{Hold}
 use Rattle.text_reader.specs.Lines.{Line, lines}
 use Rattle.model.specs.declared.Signal.{Signal}
 use Rattle.base_laws.specs.Test.{◌and◌, ◌or◌}
-use Rattle.model.specs.Network.{max_signals, max_steps, signal_count, trams as tram_lines, tram_phase, signal, step_length, time, ordinary}
+use Rattle.model.specs.Network.{max_signals, max_steps, link_count, signal_count, step_line, trams as tram_lines, tram_phase, signal, step_length, time, ordinary}
 use Rattle.model.specs.Signals.{phase_of}
 use Rattle.model.specs.Flows.{shown_in, signal_at}
-use Rattle.model.specs.Table.{line_checks}
+use Rattle.model.specs.Table.{is_form, letter_s, line_checks}
 use Rattle.model.specs.Hold.{plan_of}
 use Rattle.model.proofs.Accepted.{ValidNetwork, valid-network, LawfulStep, lawful-step}
 use Rattle.model.proofs.Limits.{step-limits, time-small}
@@ -15,25 +15,25 @@ use Rattle.model.proofs.Shown.{kept, same-phases}
 use Rattle.model.proofs.Times.{time-suc}
 use Rattle.network_tables.specs.declared.Counts.{Counts}
 use Rattle.network_tables.specs.declared.Reading.{Reading}
-use Rattle.network_tables.specs.Fields.{table_signal, line_size, step_size, length_in}
+use Rattle.network_tables.specs.declared.Tram.{Tram}
+use Rattle.network_tables.specs.Fields.{signal_at as table_signal, line_size, step_size, length_in}
 use Rattle.network_tables.specs.Tables.{CountsHold}
 use Rattle.network_tables.proofs.Tables.{step-length-at, shown-mask-at}
 use Rattle.network_trams.specs.Claims.{ClaimsAsked, Claimed}
 use Rattle.network_trams.proofs.Claims.{claims-ready}
-use Rattle.network_steps.specs.Steps.{LoadAsked, Loaded}
-use Rattle.network_steps.proofs.Steps.{load-ready, loaded-numbers, loaded-next}
+use Rattle.network_tables.specs.Rows.{ReadAgain}
+use Rattle.network_steps.proofs.Steps.{again-numbers, again-next}
 use Rattle.step_signals.specs.Ready.{Ready}
 use Rattle.step_signals.specs.Step.{ShownPhases, ShownTable, AskedTable, AdvanceAsked, Advanced, SignalsAt}
-use Rattle.plan_steps.specs.PlanLine.{LineAsked, LineGot}
+use Rattle.plan_steps.specs.PlanLine.{LineGot, formed}
 use Rattle.plan_steps.proofs.PlanLines.{shown-at, line-bad, line-numbers, next-starts}
-use Rattle.plan_steps.proofs.Verdicts.{formed}
 use Rattle.plan_steps.proofs.Steps.{step-form, tram-form, asked_by, signals-next}
 use Rattle.sheet_lines.specs.Sheet.{duration, phases_of}
 use Rattle.model_sheet.specs.Runs.{leaves, is_tested, last_line, keeps_sheet, found}
 use Rattle.model_sheet.proofs.Checks.{two-phases}
 use Rattle.sheet_check.specs.declared.Watch.{Watch}
 use Rattle.sheet_check.specs.declared.Pass.{Pass}
-use Rattle.sheet_check.specs.Watch.{first_broken, watch_after, next_watch, duration_in, WatchAsked, Watched, watch_at, WatchesAt}
+use Rattle.sheet_check.specs.Watch.{first_broken, watch_after, next_watch, duration_in, Watched, watch_at, WatchesAt}
 use Rattle.sheet_check.specs.Stages.{SheetIn, StepAsked, StepGot}
 use Rattle.std.specs.Prelude.{Option, Some, None}
 
@@ -69,7 +69,7 @@ module _ (network sheet plan : List Line) (n r : ℕ) where
       go false q t d g b l f e = ap (λ x. record { tested = t; line = l; broken = x }) (sym (keep b f e))
 
 -- ---- between the calls of one step
-module _ {network_text plan_text table : List ℕ} {reading : Reading} {trams signals : List ℕ} {pass : Pass} (asked : StepAsked network_text plan_text table reading trams signals pass) where
+module _ {network_text plan_text table : List ℕ} {reading : Reading} {trams : List Tram} {signals : List Signal} {pass : Pass} (asked : StepAsked network_text plan_text table reading trams signals pass) where
   abbrev net : List Line
   net = lines network_text
 
@@ -91,14 +91,14 @@ module _ {network_text plan_text table : List ℕ} {reading : Reading} {trams si
   lawful : LawfulStep net pln n
   lawful = lawful-step net pln n (asked.pass-asked.lawful n asked.more)
 
-  pub signals-at : SignalsAt net pln n signals
+  signals-at : SignalsAt net pln n signals
   signals-at = asked.pass-at.signals-at
 
   -- where the text is empty, each signal shows the phase of its `G` line
   shows : length plan_text ≡ 0 → (r : ℕ) → r < signal_count net → (table_signal signals r).shown ≡ (signal net r).shown
   shows = shown-at network_text plan_text valid asked.more signals-at
 
-  pub step-few : n < max_steps
+  step-few : n < max_steps
   step-few = omega (arith, asked.more, counted.steps, counted.few.steps)
 
   pub time-few : pass.time ≤ 7200
@@ -107,27 +107,20 @@ module _ {network_text plan_text table : List ℕ} {reading : Reading} {trams si
   ready-in : (r : ℕ) → r < counts.signals → Ready (table_signal signals r)
   ready-in r l = signals-at.ready r (omega (arith, counted.signals))
 
-  pub line-asked : {line : List ℕ} → length line ≡ line_size → LineAsked signals counts line
-  line-asked size = record { few = counted.few; signals-size = signals-at.size; ready = ready-in; size = size }
-
-  pub load-asked : {step : List ℕ} → length step ≡ step_size → LoadAsked network_text pass.step_at counts.links step
-  load-asked size =
-      load-ready network_text pass.step_at n counts.links asked.pass-at.step-starts counted.links (step-form net asked.pass-asked.network-held.holds n asked.more) counted.few.links size
-
   pub tram-asked : ClaimsAsked trams counts.trams n (replicate max_signals 0)
   tram-asked = claims-ready asked.tram-table counted valid.trams step-few (length-replicate {A = ℕ} max_signals 0) (λ r l. get_or-replicate {A = ℕ} max_signals r 0 0 l)
 
-  pub signals-few : counts.signals ≤ max_signals
-  signals-few = counted.few.signals
-
   -- the line of an accepted plan has its form
-  is-formed : formed net pln n ≡ true
+  plan-line-formed : formed net pln n ≡ true
   unfolding Hold line_checks
-  is-formed = (asked.pass-asked.lawful n asked.more).0
+  plan-line-formed = (asked.pass-asked.lawful n asked.more).0
 
-  module _ {step_end : ℕ} {step : List ℕ} (loaded : Loaded network_text pass.step_at counts.links step_end step) where
+  form : is_form net (step_line net n) letter_s (1 + link_count net) ≡ true
+  form = step-form net asked.pass-asked.network-held.holds n asked.more
+
+  module _ {step_end : ℕ} {zero-step step : List ℕ} (zero-size : length zero-step ≡ step_size) (again : ReadAgain letter_s (1 + counts.links) network_text pass.step_at zero-step step_end step) where
     seconds-is : length_in step ≡ step_length net n
-    seconds-is = step-length-at (loaded-numbers network_text pass.step_at n counts.links asked.pass-at.step-starts counted.links loaded)
+    seconds-is = step-length-at (again-numbers again n asked.pass-at.step-starts counted.links form zero-size)
 
     pub seconds-few : length_in step ≤ 60
     seconds-few = omega (arith, seconds-is, (step-limits net valid n asked.more).length-limit)
@@ -154,12 +147,9 @@ module _ {network_text plan_text table : List ℕ} {reading : Reading} {trams si
       size : length line₀ ≡ line_size
       size = ap length zeros ∙ length-replicate {A = ℕ} line_size 0
 
-      pub line-size : length line ≡ line_size
-      line-size = read.size ∙ size
-
       pub step-never : result ≡ None → StepGot network_text plan_text table pass pass signals
       step-never e =
-          absurd (true≢false (sym is-formed ∙ line-bad network_text plan_text valid counted asked.more asked.pass-at.plan-starts shows (λ h k l. no_number k) size read e))
+          absurd (true≢false (sym plan-line-formed ∙ line-bad network_text plan_text valid counted asked.more asked.pass-at.plan-starts shows (λ h k l. no_number k) size read e))
 
       module _ {plan_end : ℕ} (e : result ≡ Some plan_end) {phases₀ phases : List ℕ} (showing : ShownPhases signals counts.signals line phases₀ phases)
           {claims : List ℕ} (told : Claimed trams counts.trams n claims) where
@@ -175,9 +165,6 @@ module _ {network_text plan_text table : List ℕ} {reading : Reading} {trams si
                   ∙ ap₂ phase_of (shown-mask-at (line-numbers network_text plan_text valid counted asked.more asked.pass-at.plan-starts shows (λ h k l. no_number k) size read e) r l)
                   (ap (λ (s : Signal). s.phases) (signals-at.holds r l) ∙ same-phases net pln r n);
             }
-
-        pub watch-asked : WatchAsked signals counts.signals phases claims table
-        watch-asked = record { few = counted.few.signals; size = signals-at.size; ready = ready-in; phases-size = showing.size; asked-size = told.size; room = asked.pass-asked.room }
 
         module _ {watches : List Watch} {line' : ℕ} (is-line : line' ≡ n + 1) (moved : Watched pass.watches signals counts.signals phases claims table line' pass.time watches) where
           -- the duration that was read is that of the phase which the signal shows
@@ -201,7 +188,7 @@ module _ {network_text plan_text table : List ℕ} {reading : Reading} {trams si
                     ∙ rw (at.holds r l, claimed.holds r l, signals-at.holds r l, shown.holds r l, is-line, add-one, asked.pass-at.time-is, lasts sheet held r l) (watch-next net sheet pln n r);
               }
 
-          pub step_gone : {signals' : List ℕ} → Advanced signals counts.signals phases claims (length_in step) signals' → {time' : ℕ} → time' ≡ pass.time + length_in step
+          pub step_gone : {signals' : List Signal} → Advanced signals counts.signals phases claims (length_in step) signals' → {time' : ℕ} → time' ≡ pass.time + length_in step
               → StepGot network_text plan_text table pass (record { boundary = n + 1; time = time'; step_at = step_end; plan_at = plan_end; watches = watches }) signals'
           step_gone {signals'} on t =
               record {
@@ -209,7 +196,7 @@ module _ {network_text plan_text table : List ℕ} {reading : Reading} {trams si
                 reached = rw add-one (record {
                   within = asked.more;
                   time-is = t ∙ rw (asked.pass-at.time-is, seconds-is) (sym (time-suc net n));
-                  step-starts = loaded-next network_text pass.step_at n counts.links asked.pass-at.step-starts counted.links loaded;
+                  step-starts = again-next again n asked.pass-at.step-starts counted.links form;
                   plan-starts = next-starts network_text plan_text valid counted asked.more asked.pass-at.plan-starts shows (λ h k l. no_number k) size read e;
                   signals-at = signals-next net pln n signals signals' phases claims (length_in step) counts.signals signals-at shown claimed lawful counted.signals seconds-is on;
                   watches-size = moved.size;

@@ -1,12 +1,12 @@
 -- What is watched of the signals, through a step and at the end: one law for each way.
-use Rattle.base_laws.proofs.Kit.{ℕ, ◌+◌, ◌≤◌, ◌<◌, ◌≡◌, refl, sym, ap₂, ◌∙◌, Bool, true, false, cond, not, ◌&&◌, List, le_refl, add-one, arith, eq-eqb, ne_eqb, leb, eqb, length, get_or, set, length-set, get_or-set_same, get_or-set_other}
+use Rattle.base_laws.proofs.Kit.{ℕ, ◌+◌, ◌≤◌, ◌<◌, ◌≡◌, refl, sym, ap₂, ◌∙◌, Bool, true, false, cond, not, ◌&&◌, List, le_refl, add-one, arith, eq-eqb, ne_eqb, leb, eqb, get_or, set, length-set, get_or-set_same, get_or-set_other}
 use borrow.Author.Count.{below_more}
 use Rattle.model.specs.declared.Signal.{Signal}
 use Rattle.base_laws.specs.Test.{◌and◌}
-use Rattle.network_tables.specs.Fields.{table_signal}
+use Rattle.network_tables.specs.Fields.{signal_at}
 use Rattle.model_sheet.specs.Runs.{earlier, least_line, least_item, told_run, pass_verdict}
 use Rattle.sheet_check.specs.declared.Watch.{Watch}
-use Rattle.sheet_check.specs.Watch.{no_watch, watch_in, first_broken, watch_after, next_watch, duration_in, DurationAsked, WatchAsked, Watched}
+use Rattle.sheet_check.specs.Watch.{no_watch, watch_in, first_broken, watch_after, next_watch, duration_in, Watched}
 use Rattle.std.specs.Prelude.{Ok, Err}
 
 -- ---- one signal
@@ -24,14 +24,14 @@ module _ (w : Watch) (seconds lasts : ℕ) where
   broken-not e t = sym (rw (eq-eqb w.broken 0 e, t))
 
 module _ (w : Watch) (s : Signal) (q line t lasts : ℕ) where
-  pub watch-same : {shown : ℕ} → shown ≡ s.shown → q ≡ shown → record { tested = w.tested; line = line; broken = w.broken } ≡ watch_after w s q line t lasts
+  pub watch-same : q ≡ s.shown → record { tested = w.tested; line = line; broken = w.broken } ≡ watch_after w s q line t lasts
   unfolding watch_after
-  watch-same is e = sym (rw (eq-eqb q s.shown (e ∙ is)))
+  watch-same e = sym (rw (eq-eqb q s.shown e))
 
-  pub watch-other : {shown seconds greatest broken : ℕ} → shown ≡ s.shown → (q ≡ shown → ⊥) → seconds ≡ s.shown_for → broken ≡ first_broken w seconds lasts → greatest ≡ s.greatest_cycle
-      → record { tested = leb greatest t; line = line; broken = broken } ≡ watch_after w s q line t lasts
+  pub watch-other : {broken : ℕ} → (q ≡ s.shown → ⊥) → broken ≡ first_broken w s.shown_for lasts
+      → record { tested = leb s.greatest_cycle t; line = line; broken = broken } ≡ watch_after w s q line t lasts
   unfolding watch_after
-  watch-other is d run e cycle = rw (e, run, cycle) (sym (rw (ne_eqb q s.shown (λ z. d (z ∙ sym is)))))
+  watch-other d e = rw e (sym (rw (ne_eqb q s.shown d)))
 
   pub watch-on : (asked : ℕ) → asked ≡ 0 → (r : Watch) → r ≡ watch_after w s q line t lasts → r ≡ next_watch w asked s q line t lasts
   unfolding next_watch
@@ -42,38 +42,32 @@ module _ (w : Watch) (s : Signal) (q line t lasts : ℕ) where
   watch-still asked d = sym (rw (ne_eqb asked 0 d))
 
 -- ---- all signals
-pub watched-none : (watches : List Watch) (signals phases asked table : List ℕ) (line t : ℕ) → length watches ≡ 8 → Watched watches signals 0 phases asked table line t watches
-watched-none watches signals phases asked table line t h = record { size = h; on = λ r l. absurd (omega arith); kept = λ r l. refl }
-
-pub watched-more : (watches : List Watch) (signals phases asked table : List ℕ) (line t i : ℕ) (result : List Watch) (w : Watch) → i < 8
+pub watched-more : (watches : List Watch) (signals : List Signal) (phases asked table : List ℕ) (line t i : ℕ) (result : List Watch) (w : Watch) → i < 8
     → Watched watches signals i phases asked table line t result
-    → (d : ℕ) → d ≡ duration_in table i (table_signal signals i)
-    → w ≡ next_watch (watch_in result i) (get_or asked i 0) (table_signal signals i) (get_or phases i 0) line t d
+    → (d : ℕ) → d ≡ duration_in table i (signal_at signals i)
+    → w ≡ next_watch (watch_in result i) (get_or asked i 0) (signal_at signals i) (get_or phases i 0) line t d
     → Watched watches signals (i + 1) phases asked table line t (set result i w)
 watched-more watches signals phases asked table line t i result w h a d q e =
     record {
       size = length-set result i w ∙ a.size;
       on = λ r l. below_more
-          (λ r. watch_in (set result i w) r ≡ next_watch (watch_in watches r) (get_or asked r 0) (table_signal signals r) (get_or phases r 0) line t (duration_in table r (table_signal signals r))) i
+          (λ r. watch_in (set result i w) r ≡ next_watch (watch_in watches r) (get_or asked r 0) (signal_at signals r) (get_or phases r 0) line t (duration_in table r (signal_at signals r))) i
           (λ r u. get_or-set_other result i r w no_watch (λ x. omega arith) ∙ a.on r u)
           (get_or-set_same result i w no_watch (omega (arith, a.size)) ∙ e
-          ∙ ap₂ (λ x y. next_watch x (get_or asked i 0) (table_signal signals i) (get_or phases i 0) line t y) (a.kept i (le_refl i)) q) r (omega arith);
+          ∙ ap₂ (λ x y. next_watch x (get_or asked i 0) (signal_at signals i) (get_or phases i 0) line t y) (a.kept i (le_refl i)) q) r (omega arith);
       kept = λ r l. get_or-set_other result i r w no_watch (λ x. omega arith) ∙ a.kept r (omega arith);
     }
 
-pub watched-still : (watches : List Watch) (signals phases asked table : List ℕ) (line t i : ℕ) (result : List Watch)
+pub watched-still : (watches : List Watch) (signals : List Signal) (phases asked table : List ℕ) (line t i : ℕ) (result : List Watch)
     → Watched watches signals i phases asked table line t result → (get_or asked i 0 ≡ 0 → ⊥) → Watched watches signals (i + 1) phases asked table line t result
 watched-still watches signals phases asked table line t i result a d =
     record {
       size = a.size;
       on = λ r l. below_more
-          (λ r. watch_in result r ≡ next_watch (watch_in watches r) (get_or asked r 0) (table_signal signals r) (get_or phases r 0) line t (duration_in table r (table_signal signals r))) i
+          (λ r. watch_in result r ≡ next_watch (watch_in watches r) (get_or asked r 0) (signal_at signals r) (get_or phases r 0) line t (duration_in table r (signal_at signals r))) i
           a.on (a.kept i (le_refl i) ∙ watch-still _ _ _ _ _ _ _ d) r (omega arith);
       kept = λ r l. a.kept r (omega arith);
     }
-
-pub duration-asked : {signals : List ℕ} {count : ℕ} {phases asked table : List ℕ} → WatchAsked signals count phases asked table → {i : ℕ} → i < count → DurationAsked table signals i
-duration-asked a {i} h = record { ready-in = record { size = a.size; few = omega (arith, a.few); ready = a.ready i h }; room = a.room }
 
 -- ---- the least of the lines that were found
 pub record Found (f : ℕ → ℕ) (count line item i : ℕ) : Type 0 where

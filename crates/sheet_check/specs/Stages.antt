@@ -6,7 +6,9 @@ use Rattle.text_reader.specs.Reading.{Starts}
 use Rattle.model.specs.Network.{max_signals, entry, signal_count, step_count, tram_line, step_line, time}
 use Rattle.model.specs.Table.{network_checks, line_checks}
 use Rattle.model.specs.Hold.{plan_of}
+use Rattle.model.specs.declared.Signal.{Signal}
 use Rattle.network_tables.specs.declared.Reading.{Reading}
+use Rattle.network_tables.specs.declared.Tram.{Tram}
 use Rattle.network_tables.specs.Tables.{CountsHold, TramTable}
 use Rattle.plan_steps.specs.PlanLine.{PlanAt}
 use Rattle.step_signals.specs.Step.{SignalsAt}
@@ -34,7 +36,7 @@ pub record PassAsked (network_text plan_text table : List ℕ) (reading : Readin
   pub lawful : (n : ℕ) → n < step_count (lines network_text) → Hold (line_checks (lines network_text) (plan_of network_text plan_text) n)
 
 -- how far the steps are gone through: the lines of the next start at these places, and the signals are those at the boundary
-pub record PassAt (network_text plan_text : List ℕ) (pass : Pass) (signals : List ℕ) : Type 0 where
+pub record PassAt (network_text plan_text : List ℕ) (pass : Pass) (signals : List Signal) : Type 0 where
   pub within : pass.boundary ≤ step_count (lines network_text)
   pub time-is : pass.time ≡ time (lines network_text) pass.boundary
   pub step-starts : Starts network_text pass.step_at (step_line (lines network_text) pass.boundary)
@@ -48,13 +50,13 @@ pub record PassWatches (network_text plan_text table : List ℕ) (pass : Pass) :
       → WatchesAt (lines network_text) sheet (plan_of network_text plan_text) pass.boundary pass.watches
 
 -- one step more is asked for, and gone through
-pub record StepAsked (network_text plan_text table : List ℕ) (reading : Reading) (trams signals : List ℕ) (pass : Pass) : Type 0 where
+pub record StepAsked (network_text plan_text table : List ℕ) (reading : Reading) (trams : List Tram) (signals : List Signal) (pass : Pass) : Type 0 where
   pub pass-asked : PassAsked network_text plan_text table reading
   pub tram-table : TramTable (lines network_text) trams
   pub pass-at : PassAt network_text plan_text pass signals
   pub more : pass.boundary < step_count (lines network_text)
 
-pub record StepGot (network_text plan_text table : List ℕ) (pass next : Pass) (signals : List ℕ) : Type 0 where
+pub record StepGot (network_text plan_text table : List ℕ) (pass next : Pass) (signals : List Signal) : Type 0 where
   pub boundary : next.boundary ≡ pass.boundary + 1
   pub reached : PassAt network_text plan_text next signals
   pub watched : PassWatches network_text plan_text table pass → PassWatches network_text plan_text table next

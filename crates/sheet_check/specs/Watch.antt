@@ -4,10 +4,10 @@ use Rattle.text_reader.specs.Lines.{Line}
 use Rattle.model.specs.declared.Signal.{Signal}
 use Rattle.base_laws.specs.Test.{◌and◌}
 use Rattle.model.specs.Network.{max_signals, signal_count}
-use Rattle.network_tables.specs.Fields.{signal_table_size, table_signal}
+use Rattle.network_tables.specs.Fields.{signal_at}
 use Rattle.sheet_lines.specs.Reading.{sheet_fields, sheet_table_size}
 use Rattle.model_sheet.specs.Runs.{is_tested, last_line, found}
-use Rattle.step_signals.specs.Ready.{ReadyIn, AllReady}
+use Rattle.step_signals.specs.Ready.{Ready, AllReady}
 use Rattle.sheet_check.specs.declared.Watch.{Watch}
 
 abbrev pub no_watch : Watch
@@ -34,23 +34,24 @@ next_watch w asked s q line t lasts = cond (eqb asked 0) (watch_after w s q line
 abbrev pub duration_in : List ℕ → ℕ → Signal → ℕ
 duration_in table r s = get_or table (sheet_fields * r + (s.shown - 1)) 0
 
-pub record DurationAsked (table signals : List ℕ) (r : ℕ) : Type 0 where
-  pub ready-in : ReadyIn signals r
+pub record DurationAsked (table : List ℕ) (r : ℕ) (s : Signal) : Type 0 where
+  pub ready : Ready s
+  pub few : r < max_signals
   pub room : length table ≡ sheet_table_size
 
-pub record WatchAsked (signals : List ℕ) (count : ℕ) (phases asked table : List ℕ) : Type 0 where
+pub record WatchAsked (signals : List Signal) (count : ℕ) (phases asked table : List ℕ) : Type 0 where
   pub few : count ≤ max_signals
-  pub size : length signals ≡ signal_table_size
+  pub size : length signals ≡ max_signals
   pub ready : AllReady signals count
   pub phases-size : length phases ≡ max_signals
   pub asked-size : length asked ≡ max_signals
   pub room : length table ≡ sheet_table_size
 
 -- the watches of the first n signals are one step on; the others are as they were
-pub record Watched (watches : List Watch) (signals : List ℕ) (n : ℕ) (phases asked table : List ℕ) (line t : ℕ) (result : List Watch) : Type 0 where
+pub record Watched (watches : List Watch) (signals : List Signal) (n : ℕ) (phases asked table : List ℕ) (line t : ℕ) (result : List Watch) : Type 0 where
   pub size : length result ≡ max_signals
   pub on : (r : ℕ) → r < n
-      → watch_in result r ≡ next_watch (watch_in watches r) (get_or asked r 0) (table_signal signals r) (get_or phases r 0) line t (duration_in table r (table_signal signals r))
+      → watch_in result r ≡ next_watch (watch_in watches r) (get_or asked r 0) (signal_at signals r) (get_or phases r 0) line t (duration_in table r (signal_at signals r))
   pub kept : (r : ℕ) → n ≤ r → watch_in result r ≡ watch_in watches r
 
 -- the watch of signal r at boundary n

@@ -2,24 +2,23 @@
 // over its steps watches a few numbers of each signal. No table of runs is kept.
 #![tactic(auto)]
 
-ghost use Rattle.std.specs.Prelude.{◌≡◌, ◌<◌, ◌≤◌, length};
+ghost use Rattle.std.specs.Prelude.{◌≡◌, ◌≤◌};
 ghost use Rattle.text_reader.specs.Lines.{lines};
 ghost use Rattle.text_reader.specs.Padding.{PaddingIgnored};
 ghost use Rattle.model.specs.Hold.{plan_of};
 ghost use Rattle.model.specs.Network.{max_signals};
-ghost use Rattle.network_tables.specs.Fields.{signal_table_size, table_signal};
 ghost use Rattle.network_tables.specs.Tables.{SignalTable};
-ghost use Rattle.network.specs.Loading.{LoadedWithSignals};
+ghost use Rattle.network.specs.Loading.{Loaded};
 ghost use Rattle.model_sheet.specs.Runs.{earlier, pass_verdict};
 ghost use Rattle.model_sheet.specs.Promises.{SheetPromises};
 ghost use Rattle.sheet_check.specs.Watch.{watch_in, first_broken, watch_after, duration_in, DurationAsked, WatchAsked, Watched};
 ghost use Rattle.sheet_check.specs.Stages.{PassAsked, StepAsked, StepGot, PassGot};
 
 use base_search::Refusal;
-use model::Totals;
+use model::{Signal, Totals};
 use network_tables::{
-    LINE_SIZE, LINK_TABLE_SIZE, MAX_SIGNALS, MOVEMENT_TABLE_SIZE, Reading, SIGNAL_TABLE_SIZE,
-    STEP_SIZE, TIME_TABLE_SIZE, TRAM_TABLE_SIZE,
+    LINE_SIZE, Link, MAX_LINKS, MAX_MOVEMENTS, MAX_SIGNALS, MAX_TRAMS, Movement, NetworkTables,
+    Reading, STEP_SIZE, TIME_TABLE_SIZE, Tram,
 };
 use sheet_lines::{SHEET_FIELDS, SHEET_TABLE_SIZE};
 
@@ -55,48 +54,44 @@ fn first_broken(watch: Watch, seconds: u32, duration: u32) -> u32
     0
 }
 
-// The watch of signal `i` after an ordinary step that shows a phase, at a line and starting at a time; `duration` is that of the phase which the signal shows
+// The watch of a signal after an ordinary step that shows a phase, at a line and starting at a time; `duration` is that of the phase which the signal shows
 // before.
 fn watch_after(
     watch: Watch,
-    signals: &[u32],
-    i: usize,
+    signal: &Signal,
     phase: u32,
     line: u32,
     time: u32,
     duration: u32,
 ) -> Watch
-    requires { (i < max_signals) × (length signals.now ≡ signal_table_size) }
-    ensures { result ≡ watch_after watch (table_signal signals.now i) phase line time duration }
+    ensures { result ≡ watch_after watch signal.now phase line time duration }
 {
-    if phase == network_tables::shown_phase(signals, i) {
+    if phase == signal.shown {
         return Watch {
             tested: watch.tested,
             line,
             broken: watch.broken,
         };
     }
-    let broken = first_broken(watch, network_tables::shown_for(signals, i), duration);
     Watch {
-        tested: network_tables::greatest_cycle(signals, i) <= time,
+        tested: signal.greatest_cycle <= time,
         line,
-        broken,
+        broken: first_broken(watch, signal.shown_for, duration),
     }
 }
 
 // The duration of the phase that signal `i` shows.
-fn duration_of(table: &[u32], signals: &[u32], i: usize) -> u32
-    requires { DurationAsked table.now signals.now i }
-    ensures { result ≡ duration_in table.now i (table_signal signals.now i) }
+fn duration_of(table: &[u32], i: usize, signal: &Signal) -> u32
+    requires { DurationAsked table.now i signal.now }
+    ensures { result ≡ duration_in table.now i signal.now }
 {
-    let place = step_signals::place_of(network_tables::shown_phase(signals, i));
-    table[SHEET_FIELDS * i + place]
+    table[SHEET_FIELDS * i + step_signals::place_of(signal.shown)]
 }
 
 // The watches after a step in which the signals show these phases and trams ask these; the signals are those before it. Where a tram asks a phase, nothing moves.
 fn watch_signals(
     mut watches: [Watch; 8],
-    signals: &[u32],
+    signals: &[Signal],
     count: usize,
     phases: &[u32],
     asked: &[u32],
@@ -109,8 +104,9 @@ fn watch_signals(
 {
     for i in 0..count {
         if asked[i] == 0 {
-            let duration = duration_of(table, signals, i);
-            watches[i] = watch_after(watches[i], signals, i, phases[i], line, time, duration);
+            let signal = &signals[i];
+            let duration = duration_of(table, i, signal);
+            watches[i] = watch_after(watches[i], signal, phases[i], line, time, duration);
         }
     }
     watches
@@ -124,7 +120,7 @@ fn is_earlier(x: u32, y: u32) -> bool
 }
 
 // Refusal 34: the least of the lines that were found, then the lowest signal.
-fn first_run(watches: [Watch; 8], count: usize) -> Result<(), Refusal>
+fn check_runs(watches: [Watch; 8], count: usize) -> Result<(), Refusal>
     requires { count ≤ max_signals }
     ensures { result ≡ pass_verdict (λ i. (watch_in watches i).broken) count }
 {
@@ -152,9 +148,9 @@ fn pass_step(
     network: &[u8],
     plan: &[u8],
     reading: Reading,
-    trams: &[u32],
+    trams: &[Tram],
     table: &[u32],
-    signals: &mut [u32],
+    signals: &mut [Signal],
     pass: Pass,
 ) -> Pass
     requires { StepAsked network.now plan.now table.now reading trams.now signals.old pass }
@@ -168,7 +164,8 @@ fn pass_step(
     let n = pass.boundary;
     let time = pass.time;
     let watches = pass.watches;
-    let step_at = network_steps::load_step(network, pass.step_at, counts.links, &mut step);
+    let width = 1 + counts.links;
+    let step_at = network_tables::read_again(network, pass.step_at, b'S', &mut step, width);
     let read = plan_steps::read_line(plan, pass.plan_at, signals, counts, &mut line);
     let Some(plan_at) = read else {
         return pass;
@@ -202,7 +199,7 @@ fn pass_plan(
     plan: &[u8],
     reading: Reading,
     table: &[u32],
-    signals: &mut [u32],
+    signals: &mut [Signal],
 ) -> Result<(), Refusal>
     requires pass_asked { PassAsked network.now plan.now table.now reading }
     requires signal_table { SignalTable (lines network.now) signals.old }
@@ -214,7 +211,7 @@ fn pass_plan(
         broken: 0,
     };
     let counts = reading.counts;
-    let mut trams = [0u32; TRAM_TABLE_SIZE];
+    let mut trams = [Tram::default(); MAX_TRAMS];
     network_trams::load_trams(network, reading.trams_at, counts.trams, &mut trams);
     let mut pass = Pass {
         boundary: 0,
@@ -227,7 +224,7 @@ fn pass_plan(
         pass = pass_step(network, plan, reading, &trams, table, signals, pass);
     }
     let watches = pass.watches;
-    first_run(watches, counts.signals)
+    check_runs(watches, counts.signals)
 }
 
 // Judges a plan on a network that has passed, and whether it keeps a sheet: refusals 33, 8, the plan's own, and last 34.
@@ -235,22 +232,18 @@ fn check_on_network(
     network: &[u8],
     plan: &[u8],
     sheet: &[u8],
-    reading: Reading,
-    links: &[u32],
-    movements: &[u32],
-    times: &[u32],
-    signals: &mut [u32; SIGNAL_TABLE_SIZE],
+    tables: &NetworkTables,
+    signals: &mut [Signal; MAX_SIGNALS],
     ledger: &mut [u32],
 ) -> Result<Totals, Refusal>
-    requires { LoadedWithSignals network.now signals.old links.now movements.now times.now reading }
+    requires { Loaded network.now signals.old tables.now.links.now tables.now.movements.now tables.now.times.now tables.now.reading }
     ensures { SheetPromises (lines network.now) (lines sheet.now) (plan_of network.now plan.now) ledger.old ledger.new result }
 {
+    let reading = tables.reading;
     let mut table = [0u32; SHEET_TABLE_SIZE];
-    let count = reading.counts.signals;
-    sheet_lines::read_sheet(sheet, signals, count, false, &mut table)?;
-    let totals = plan_check::judge_plan(
-        network, plan, reading, links, movements, times, signals, ledger,
-    )?;
+    sheet_lines::read_sheet(sheet, signals, reading.counts.signals, false, &mut table)?;
+    let mut stepped = *signals;
+    let totals = plan_check::judge_loaded(network, plan, tables, &mut stepped, ledger)?;
     pass_plan(network, plan, reading, &table, signals)?;
     Ok(totals)
 }
@@ -265,26 +258,22 @@ pub fn check_sheet(
     ensures sheet_promises { SheetPromises (lines network.now) (lines sheet.now) (plan_of network.now plan.now) ledger.old ledger.new result }
     ensures padding_ignored { PaddingIgnored network.now (λ padded_network. PaddingIgnored plan.now (λ padded_plan. PaddingIgnored sheet.now (λ padded_sheet. SheetPromises (lines padded_network) (lines padded_sheet) (plan_of padded_network padded_plan) ledger.old ledger.new result))) }
 {
-    let mut signals = [0u32; SIGNAL_TABLE_SIZE];
-    let mut links = [0u32; LINK_TABLE_SIZE];
-    let mut movements = [0u32; MOVEMENT_TABLE_SIZE];
+    let mut signals = [Signal::default(); MAX_SIGNALS];
+    let mut links = [Link::default(); MAX_LINKS];
+    let mut movements = [Movement::default(); MAX_MOVEMENTS];
     let mut times = [0u32; TIME_TABLE_SIZE];
-    let reading = network::load_with_signals(
+    let reading = network::read_network(
         network,
         &mut signals,
         &mut links,
         &mut movements,
         &mut times,
     )?;
-    check_on_network(
-        network,
-        plan,
-        sheet,
+    let tables = NetworkTables {
         reading,
-        &links,
-        &movements,
-        &times,
-        &mut signals,
-        ledger,
-    )
+        links: &links,
+        movements: &movements,
+        times: &times,
+    };
+    check_on_network(network, plan, sheet, &tables, &mut signals, ledger)
 }

@@ -13,14 +13,14 @@ use Rattle.model.specs.Network.{entry}
 use Rattle.model.specs.Table.{is_form}
 use Rattle.base_laws.proofs.Tests.{and_right, every-at, every-same}
 use Rattle.base_laws.proofs.Sums.{sum-ext}
-use Rattle.network_tables.specs.Fields.{table_signal}
+use Rattle.network_tables.specs.Fields.{signal_at}
 use Rattle.network_tables.specs.Rows.{LineHeld, RowRead}
 use Rattle.network_tables.specs.Blocks.{PassedTo}
 use Rattle.network_tables.proofs.Places.{record-within}
 use Rattle.network_tables.proofs.Blocks.{passed_none, passed-all, passed-stop, passed-next}
 use Rattle.step_signals.specs.Ready.{Ready}
 use Rattle.sheet_lines.specs.Sheet.{letter_f, valid_durations, valid_offset, valid_numbers, sheet_line_checks, signals_checks}
-use Rattle.sheet_lines.specs.Reading.{number_in, NumbersAsked, is_valid, LineAsked, LineRead, SheetAsked, SheetRows, SheetRead}
+use Rattle.sheet_lines.specs.Reading.{number_in, is_valid, LineAsked, LineRead, SheetAsked, SheetRows, SheetRead}
 use Rattle.std.specs.Prelude.{Option, Some, None, Ok, Err}
 use Rattle.std.specs.Bool.{then_some}
 use Rattle.std.specs.Int.{from_bool}
@@ -40,10 +40,7 @@ unfolding every sum
 summed-none = record { few = omega arith; valid = refl; is = refl; small = omega arith }
 
 module _ {s : Signal} {value : ℕ → ℕ} {k total : ℕ} (inv : Summed s value k total) where
-  module _ (h : k < s.phases) {least greatest : ℕ} (lo : least ≡ get_or s.least k 0) (hi : greatest ≡ get_or s.greatest k 0) {b : Bool} (told : b ≡ within least (value k) greatest) where
-    e : b ≡ test s value k
-    e = told ∙ rw (lo, hi) refl
-
+  module _ (h : k < s.phases) {b : Bool} (e : b ≡ test s value k) where
     value-small : Ready s → b ≡ true → value k ≤ 3600
     unfolding within
     value-small ready t =
@@ -97,33 +94,27 @@ few_offsets : (b : Bool) → from_bool b ≤ 1
 few_offsets true = omega arith
 few_offsets false = omega arith
 
-module _ {signals : List ℕ} {r : ℕ} {table : List ℕ} (asked : LineAsked signals r table) (b : Bool) {phases offsets : ℕ} (p : phases ≡ (table_signal signals r).phases) (o : offsets ≡ from_bool b) where
-  pub row_room : 9 * r + (phases + offsets) ≤ length table
-  row_room = omega (arith, asked.ready-in.few, asked.ready-in.ready.few-phases, asked.room, few_offsets b)
+module _ {signal : Signal} {r : ℕ} {table : List ℕ} (asked : LineAsked signal r table) (b : Bool) {offsets : ℕ} (o : offsets ≡ from_bool b) where
+  module _ {text : List ℕ} {at : ℕ} {x : Option ℕ} {after : List ℕ} (got : RowRead letter_f (signal.phases + offsets) text at (9 * r) table x after) where
+    row : RowRead letter_f (signal.phases + from_bool b) text at (9 * r) table x after
+    row = rw o at got
 
-  module _ {text : List ℕ} {at : ℕ} {x : Option ℕ} {after : List ℕ} (got : RowRead letter_f (phases + offsets) text at (9 * r) table x after) where
-    row : RowRead letter_f ((table_signal signals r).phases + from_bool b) text at (9 * r) table x after
-    row = rw (p, o) at got
-
-    pub line-malformed : x ≡ None → LineRead signals r (from_bool b) text at table None after
+    pub line-malformed : x ≡ None → LineRead signal r (from_bool b) text at table None after
     unfolding ◌and◌
     line-malformed e = record { size = row.size; below = row.below; refused = λ n u. rw (row.malformed e r u); held = λ next q. absurd (cc) }
 
-    pub numbers-asked : NumbersAsked after (9 * r) signals r (from_bool b)
-    numbers-asked = record { ready-in = asked.ready-in; room = omega (arith, row.size, row_room) }
-
-    pub line-judged : {next : ℕ} → x ≡ Some next → (v : Bool) → v ≡ valid_numbers (from_bool b) (table_signal signals r) (number_in after (9 * r)) → LineRead signals r (from_bool b) text at table (then_some v next) after
+    pub line-judged : {next : ℕ} → x ≡ Some next → (v : Bool) → v ≡ valid_numbers (from_bool b) signal (number_in after (9 * r)) → LineRead signal r (from_bool b) text at table (then_some v next) after
     unfolding ◌and◌
-    line-judged {next} e v told = go v (λ u. told ∙ numbers-same (table_signal signals r) (from_bool b) _ _ (row.held next e r u).numbers)
+    line-judged {next} e v told = go v (λ u. told ∙ numbers-same signal (from_bool b) _ _ (row.held next e r u).numbers)
       where
-        go : (v : Bool) → (Starts text at r → v ≡ is_valid signals (lines text) (from_bool b) r) → LineRead signals r (from_bool b) text at table (then_some v next) after
+        go : (v : Bool) → (Starts text at r → v ≡ is_valid signal (lines text) (from_bool b) r) → LineRead signal r (from_bool b) text at table (then_some v next) after
         go true f = record { size = row.size; below = row.below; refused = λ n. absurd (cc); held = λ m q u. (row.held m (e ∙ q) r u, sym (f u)) }
         go false f = record { size = row.size; below = row.below; refused = λ n u. rw ((row.held next e r u).form, ← f u); held = λ m q. absurd (cc) }
 
 -- ---- the first r lines are read, and the next starts at a place
-module _ (signals : List ℕ) (count offsets : ℕ) (text : List ℕ) where
+module _ (signals : List Signal) (count offsets : ℕ) (text : List ℕ) where
   abbrev line_checks : ℕ → Checks
-  line_checks = sheet_line_checks (table_signal signals) count (lines text) offsets
+  line_checks = sheet_line_checks (signal_at signals) count (lines text) offsets
 
   pub record ReadTo (place r : ℕ) (table : List ℕ) : Type 0 where
     pub passed : PassedTo count line_checks r
@@ -131,7 +122,7 @@ module _ (signals : List ℕ) (count offsets : ℕ) (text : List ℕ) where
     pub within : r ≤ length (lines text)
     pub rows : SheetRows signals (lines text) offsets r table
 
-module _ {signals : List ℕ} {count : ℕ} {text table₀ : List ℕ} (asked : SheetAsked signals count table₀) (b : Bool) where
+module _ {signals : List Signal} {count : ℕ} {text table₀ : List ℕ} (asked : SheetAsked signals count table₀) (b : Bool) where
   pub read_none : ReadTo signals count (from_bool b) text 0 0 table₀
   read_none =
       record {
@@ -164,10 +155,7 @@ module _ {signals : List ℕ} {count : ℕ} {text table₀ : List ℕ} (asked : 
           }
 
     module _ (h : r < count) where
-      pub line-asked : LineAsked signals r table
-      line-asked = record { ready-in = record { size = asked.size; few = omega (arith, asked.few); ready = asked.ready r h }; room = inv.rows.room }
-
-      module _ {x : Option ℕ} {after : List ℕ} (got : LineRead signals r (from_bool b) text place table x after) where
+      module _ {x : Option ℕ} {after : List ℕ} (got : LineRead (signal_at signals r) r (from_bool b) text place table x after) where
         pub read-refused : x ≡ None → {q : Refusal} → q ≡ refusal 33 (r + 1) 0 → SheetRead signals count (from_bool b) text (Err q) after
         unfolding signals_checks verdict sheet_line_checks or_else checked ◌and◌
         read-refused n z =
@@ -189,11 +177,11 @@ module _ {signals : List ℕ} {count : ℕ} {text table₀ : List ℕ} (asked : 
             record {
               passed = passed-next inv.passed h (unfold verdict or_else checked sheet_line_checks in rw (line.form, valid));
               starts = rw add-one line.starts;
-              within = rw add-one (record-within letter_f ((table_signal signals r).phases + from_bool b) (lines text) r (unfold is_form in line.form));
+              within = rw add-one (record-within letter_f ((signal_at signals r).phases + from_bool b) (lines text) r (unfold is_form in line.form));
               rows = record { room = got.size ∙ inv.rows.room; numbers = λ j k l u. by line k u (eq-or-lt_of_le {n = j} {m = r} (omega arith)) };
             }
           where
-            by : LineHeld letter_f ((table_signal signals r).phases + from_bool b) text r next (9 * r) after
-                → {j : ℕ} (k : ℕ) → k < (table_signal signals j).phases + from_bool b → (j ≡ r) ⊎ (j < r) → get_or after (9 * j + k) 0 ≡ entry (lines text) j k
+            by : LineHeld letter_f ((signal_at signals r).phases + from_bool b) text r next (9 * r) after
+                → {j : ℕ} (k : ℕ) → k < (signal_at signals j).phases + from_bool b → (j ≡ r) ⊎ (j < r) → get_or after (9 * j + k) 0 ≡ entry (lines text) j k
             by line k u (inl q) = rw q (line.numbers k (rw q at u))
             by line {j} k u (inr q) = got.below (9 * j + k) (omega (arith, (asked.ready j (omega arith)).few-phases, few_offsets b)) ∙ inv.rows.numbers j k q u

@@ -13,7 +13,7 @@ use Rattle.sheet_lines.specs.Sheet.{letter_f, phases_of, valid_numbers, sheet_li
 use Rattle.sheet_lines.specs.Reading.{sheet_fields, sheet_table_size, SheetAsked, SheetRead}
 use Rattle.std.specs.Prelude.{Ok}
 
-module _ {network : List Line} {signals : List ℕ} (signal-table : SignalTable network signals) {count : ℕ} (is-count : count ≡ signal_count network) where
+module _ {network : List Line} {signals : List Signal} (signal-table : SignalTable network signals) {count : ℕ} (is-count : count ≡ signal_count network) where
   pub sheet-asked : ValidNetwork network → count ≤ max_signals → {table : List ℕ} → length table ≡ sheet_table_size → SheetAsked signals count table
   sheet-asked valid few l =
       record {

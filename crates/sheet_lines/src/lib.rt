@@ -4,11 +4,11 @@
 ghost use Rattle.std.specs.Prelude.{◌≡◌};
 ghost use Rattle.std.specs.Int.{from_bool};
 ghost use Rattle.base_laws.specs.Test.{within};
-ghost use Rattle.network_tables.specs.Fields.{table_signal};
 ghost use Rattle.sheet_lines.specs.Sheet.{valid_numbers};
 ghost use Rattle.sheet_lines.specs.Reading.{number_in, NumbersAsked, LineAsked, LineRead, SheetAsked, SheetRead};
 
 use base_search::Refusal;
+use model::Signal;
 use network_tables::MAX_SIGNALS;
 
 // How many numbers a line has at most: eight durations and an offset.
@@ -26,17 +26,15 @@ fn is_within(duration: u32, least: u32, greatest: u32) -> bool
 
 // Refusal 33, the numbers of a line that stand in the table from `start` on. A duration goes into the sum only once it is within its limits, so that the sum
 // fits.
-fn valid_numbers(table: &[u32], start: usize, signals: &[u32], r: usize, offset: bool) -> bool
-    requires { NumbersAsked table.now start signals.now r (from_bool offset) }
-    ensures { result ≡ valid_numbers (from_bool offset) (table_signal signals.now r) (number_in table.now start) }
+fn valid_numbers(table: &[u32], start: usize, signal: &Signal, offset: bool) -> bool
+    requires { NumbersAsked table.now start signal.now (from_bool offset) }
+    ensures { result ≡ valid_numbers (from_bool offset) signal.now (number_in table.now start) }
 {
-    let phases = network_tables::phase_count(signals, r) as usize;
+    let phases = signal.phases as usize;
     let mut sum: u32 = 0;
     for k in 0..phases {
         let duration = table[start + k];
-        let least = network_tables::least_time(signals, r, k);
-        let greatest = network_tables::greatest_time(signals, r, k);
-        if !is_within(duration, least, greatest) {
+        if !is_within(duration, signal.least[k], signal.greatest[k]) {
             return false;
         }
         sum += duration;
@@ -44,28 +42,29 @@ fn valid_numbers(table: &[u32], start: usize, signals: &[u32], r: usize, offset:
     !offset || table[start + phases] < sum
 }
 
-// Reads the line of signal `r` into its row of the table, and gives the place of the next line if the line is well formed and its numbers are valid.
+// Reads the line of signal `r`, which is lent, into its row of the table, and gives the place of the next line if the line is well formed and its numbers are
+// valid.
 fn read_line(
     text: &[u8],
     at: usize,
-    signals: &[u32],
+    signal: &Signal,
     r: usize,
     offset: bool,
     table: &mut [u32],
 ) -> Option<usize>
-    requires { LineAsked signals.now r table.old }
-    ensures { LineRead signals.now r (from_bool offset) text.now at table.old result table.new }
+    requires { LineAsked signal.now r table.old }
+    ensures { LineRead signal.now r (from_bool offset) text.now at table.old result table.new }
 {
     let start = SHEET_FIELDS * r;
-    let width = network_tables::phase_count(signals, r) as usize + usize::from(offset);
+    let width = signal.phases as usize + usize::from(offset);
     let next = network_tables::read_row(text, at, b'F', table, start, width)?;
-    valid_numbers(table, start, signals, r, offset).then_some(next)
+    valid_numbers(table, start, signal, offset).then_some(next)
 }
 
 // Reads a sheet for `count` signals; its lines have an offset to write a plan, and none to check one.
 pub fn read_sheet(
     text: &[u8],
-    signals: &[u32],
+    signals: &[Signal],
     count: usize,
     offset: bool,
     table: &mut [u32],
@@ -75,7 +74,7 @@ pub fn read_sheet(
 {
     let mut place = 0;
     for r in 0..count {
-        let Some(next) = read_line(text, place, signals, r, offset, table) else {
+        let Some(next) = read_line(text, place, &signals[r], r, offset, table) else {
             return Err(Refusal::new(33, r + 1, 0));
         };
         place = next;

@@ -1,7 +1,7 @@
 -- Where the tables hold a network's and a sheet's numbers, what is judged and written by them is what the request says.
-use Rattle.base_laws.proofs.Kit.{ℕ, zero, suc, ◌+◌, ◌*◌, ◌-◌, ◌%◌, ◌^◌, ◌≤◌, ◌<◌, ◌≡◌, refl, sym, ap, ap₂, ◌∙◌, true, cond, List, add-one, dec_lt, arith, lt-ltb, le-ltb, leb, ltb, length, replicate}
+use Rattle.base_laws.proofs.Kit.{ℕ, zero, suc, ◌+◌, ◌*◌, ◌-◌, ◌%◌, ◌^◌, ◌≤◌, ◌<◌, ◌≡◌, refl, sym, ap, ap₂, ◌∙◌, true, cond, not, List, add-one, dec_lt, arith, lt-ltb, le-ltb, leb, ltb, eqb, length}
 use Rattle.base_search.specs.declared.Refusal.{Refusal}
-use Rattle.base_search.specs.Checks.{or_else, checked, verdict, Hold, Verdict}
+use Rattle.base_search.specs.Checks.{check, each, or_else, checked, verdict, Hold, Verdict}
 use Rattle.base_search.proofs.Laws.{first-same, or-else-passes, or-else-refused, hold-of-passes, passes-of-hold}
 use Rattle.text_reader.specs.Lines.{Line, lines}
 use Rattle.text_reader.specs.Padding.{PaddingIgnored}
@@ -9,7 +9,8 @@ use Rattle.text_reader.proofs.Padding.{same_lines}
 use Rattle.text_writer.proofs.Laws.{records-same}
 use Rattle.base_laws.specs.Test.{◌and◌}
 use Rattle.base_laws.specs.Sum.{sum, only}
-use Rattle.model.specs.Network.{max_signals, entry, link_count, signal_count, movement_count, step_count, tram_count, tram_line, signal, step_length, time}
+use Rattle.model.specs.declared.Signal.{Signal}
+use Rattle.model.specs.Network.{max_signals, max_trams, entry, link_count, signal_count, movement_count, step_count, tram_count, tram_line, signal, step_length, time}
 use Rattle.model.specs.Table.{is_form, letter_p, letter_t, tram_checks, network_checks}
 use Rattle.base_laws.proofs.Tests.{every-same}
 use Rattle.base_laws.proofs.Sums.{sum-ext, list_same}
@@ -18,15 +19,17 @@ use Rattle.model.proofs.Accepted.{ValidNetwork, valid-network}
 use Rattle.network_tables.specs.declared.Counts.{Counts}
 use Rattle.network_tables.specs.declared.Reading.{Reading}
 use Rattle.network_tables.specs.Places.{plan_width, Few}
-use Rattle.network_tables.specs.Fields.{tram_fields, signal_table_size, table_signal}
-use Rattle.network_tables.specs.Tables.{SignalTable, Judged}
+use Rattle.network_tables.specs.declared.Tram.{Tram}
+use Rattle.network_tables.specs.declared.Link.{Link}
+use Rattle.network_tables.specs.declared.Movement.{Movement}
+use Rattle.network_tables.specs.Fields.{tram_fields, signal_at}
+use Rattle.network_tables.specs.Tables.{TramTable, Judged}
 use Rattle.network_tables.proofs.Stages.{verdict-refused}
-use Rattle.network_signals.specs.Stages.{LoadAsked}
-use Rattle.network_signals.proofs.Passed.{signals-passed, load-zeros}
+use Rattle.network_trams.specs.Claims.{LoadAsked}
 use Rattle.network.specs.Loading.{Loaded}
 use Rattle.step_arrivals.specs.Times.{ShiftAsked, Shifted}
 use Rattle.step_arrivals.proofs.Times.{shift-asked, plan-times}
-use Rattle.network_writer.specs.Plan.{column_in, plan_number, plan_row, plan_lines, PlanAsked}
+use Rattle.network_writer.specs.Plan.{column_in, plan_number, plan_row, plan_lines}
 use Rattle.network_writer.proofs.Plan.{column-mask, column-past, number-none, number-some}
 use Rattle.sheet_lines.specs.Sheet.{phases_of, sheet_checks}
 use Rattle.sheet_lines.specs.Reading.{sheet_table_size, number_in, SheetAsked, SheetRead}
@@ -40,7 +43,7 @@ use Rattle.model_sheet.proofs.Steps.{time-zero}
 use Rattle.model_sheet.proofs.Checks.{two-phases, duration-some, offset-short}
 use Rattle.model_sheet.proofs.Promises.{write-promises}
 use Rattle.step_arrivals.specs.Arrivals.{seconds_in}
-use Rattle.sheet_writer.specs.Tables.{CycleLine, LineAsked, time_in, fits_in, can_write_in, boundary_checks_in, phase_in, cycle_text}
+use Rattle.sheet_writer.specs.Tables.{CycleLine, LineAsked, time_in, fits_in, has_no_tram_in, can_write_in, boundary_checks_in, phase_in, cycle_text}
 use Rattle.sheet_writer.specs.Stages.{CyclesAsked, MasksGot, CyclesWritten, NetworkAsked, SheetWritten}
 use Rattle.std.specs.Prelude.{Result, Ok, Err}
 
@@ -71,8 +74,8 @@ only_same : (k n : ℕ) (x y : ℕ) → (k < n → x ≡ y) → only (ltb k n) x
 only_same k n x y h = elim (dec_lt k n) [ yes l ↦ ap (only (ltb k n)) (h l) | no l ↦ rw (le-ltb k n (omega arith)) ]
 
 -- ---- by the tables
-module _ {network_text : List ℕ} {counts : Counts} {signals : List ℕ} {table times masks : List ℕ} {v : Verdict} (few : Few counts) (got : MasksGot network_text counts signals table times v masks) where
-  pub cycles-stopped : {q : Refusal} → v ≡ Err q → {old : List ℕ} → CyclesWritten network_text counts signals table times old (Err q) old
+module _ {counts : Counts} {trams : List Tram} {signals : List Signal} {table times masks : List ℕ} {v : Verdict} (few : Few counts) (got : MasksGot counts trams signals table times v masks) where
+  pub cycles-stopped : {q : Refusal} → v ≡ Err q → {old : List ℕ} → CyclesWritten counts trams signals table times old (Err q) old
   unfolding or_else text_answer bytes_after
   cycles-stopped e = record { told = rw (sym got.told ∙ e) (record { answered = refl; holds = refl }) }
 
@@ -86,105 +89,117 @@ module _ {network_text : List ℕ} {counts : Counts} {signals : List ℕ} {table
         | no h ↦ sym (number-none masks max_signals n (column_in counts k) (column-past counts k (omega arith))) ∙ rw (le-ltb k counts.signals (omega arith)) refl
       ]
 
-  pub masks-asked : PlanAsked masks max_signals counts
-  masks-asked = record { few = few; few-columns = omega arith; room = got.size }
-
   pub cycles-written : v ≡ Ok tt → {answer : (Result ℕ Refusal)} {old new : List ℕ} → Told (plan_lines masks max_signals counts) (room_verdict 24 (plan_lines masks max_signals counts) old) old answer new
-      → CyclesWritten network_text counts signals table times old answer new
+      → CyclesWritten counts trams signals table times old answer new
   unfolding or_else
   cycles-written e told = record { told = rw (sym got.told ∙ e) (rw (text-held e) at told) }
 
 -- ---- on a network that has passed
-module _ {text : List ℕ} {reading : Reading} {times : List ℕ} (asked : NetworkAsked text reading times) where
+module _ {text : List ℕ} {reading : Reading} {signals : List Signal} {times : List ℕ} (asked : NetworkAsked text reading signals times) where
   abbrev network : List Line
   network = lines text
 
   valid : ValidNetwork network
   valid = valid-network network asked.holds
 
-  pub load-asked : {signals : List ℕ} → signals ≡ replicate signal_table_size 0 → LoadAsked text reading signals
-  load-asked zeros = load-zeros (signals-passed asked.signals-start asked.counted asked.holds) zeros
-
   tram-forms : (k : ℕ) → k < tram_count network → is_form network (tram_line network k) letter_t tram_fields ≡ true
   unfolding Hold network_checks tram_checks
   tram-forms k l = (asked.holds.1.0 k l).0
 
-  module _ {signals : List ℕ} (signal-table : SignalTable network signals) where
-    count-is : reading.counts.signals ≡ signal_count network
-    count-is = asked.counted.signals
+  pub load-asked : {trams : List Tram} → length trams ≡ max_trams → LoadAsked text reading.trams_at reading.counts.trams trams
+  load-asked room =
+      let c = asked.counted in
+      record {
+        starts = asked.trams-start;
+        counted = c.trams;
+        few = c.few.trams;
+        forms = λ k l. tram-forms k (omega (arith, c.trams));
+        values = λ k l. valid.trams k (omega (arith, c.trams));
+        room = room;
+      }
 
-    signal-is : (r : ℕ) → r < signal_count network → table_signal signals r ≡ signal network r
-    signal-is = signal-table.holds
+  count-is : reading.counts.signals ≡ signal_count network
+  count-is = asked.counted.signals
 
-    pub cycle-asked : {table : List ℕ} → length table ≡ sheet_table_size → SheetAsked signals reading.counts.signals table
-    cycle-asked l = sheet-asked signal-table count-is valid asked.counted.few.signals l
+  signal-is : (r : ℕ) → r < signal_count network → signal_at signals r ≡ signal network r
+  signal-is = asked.signal-table.holds
 
-    module _ {sheet_text' table : List ℕ} {v : Verdict} (read : SheetRead signals reading.counts.signals 1 sheet_text' v table) where
-      abbrev sheet : List Line
-      sheet = lines sheet_text'
+  pub cycle-asked : {table : List ℕ} → length table ≡ sheet_table_size → SheetAsked signals reading.counts.signals table
+  cycle-asked l = sheet-asked asked.signal-table count-is valid asked.counted.few.signals l
 
-      pub sheet-stopped : {old : List ℕ} {q : Refusal} → v ≡ Err q → SheetWritten network sheet old (Err q) old
-      unfolding or_else text_answer bytes_after
-      sheet-stopped e = record { told = rw (sym (sheet-told signal-table count-is read) ∙ e) (record { answered = refl; holds = refl }) }
+  module _ {sheet_text' table : List ℕ} {v : Verdict} (read : SheetRead signals reading.counts.signals 1 sheet_text' v table) where
+    abbrev sheet : List Line
+    sheet = lines sheet_text'
 
-      module _ (e : v ≡ Ok tt) where
-        passes : verdict (sheet_checks network sheet 1) ≡ Ok tt
-        passes = sym (sheet-told signal-table count-is read) ∙ e
+    pub sheet-stopped : {old : List ℕ} {q : Refusal} → v ≡ Err q → SheetWritten network sheet old (Err q) old
+    unfolding or_else text_answer bytes_after
+    sheet-stopped e = record { told = rw (sym (sheet-told asked.signal-table count-is read) ∙ e) (record { answered = refl; holds = refl }) }
 
-        held : Hold (sheet_checks network sheet 1)
-        held = hold-of-passes _ passes
+    module _ (e : v ≡ Ok tt) where
+      passes : verdict (sheet_checks network sheet 1) ≡ Ok tt
+      passes = sym (sheet-told asked.signal-table count-is read) ∙ e
 
-        number_is : (r : ℕ) → r < signal_count network → (k : ℕ) → k < phases_of network r + 1 → number_in table (9 * r) k ≡ entry sheet r k
-        number_is = sheet-number signal-table count-is read e
+      held : Hold (sheet_checks network sheet 1)
+      held = hold-of-passes _ passes
 
-        line-is : (r : ℕ) → r < signal_count network → CycleLine (number_in table (9 * r)) (phases_of network r)
-        line-is r l =
-            let p = two-phases (signal network r) (valid.phases r l) in
-            record {
-              many = p.0;
-              few = p.1;
-              some = λ k u. rw (number_is r l k (omega arith)) (duration-some network sheet 1 held valid r l k u);
-              short = rw (number_is r l (phases_of network r) (omega arith), sum-ext (phases_of network r) _ _ (λ k u. number_is r l k (omega arith))) (offset-short network sheet valid held r l);
-            }
+      number_is : (r : ℕ) → r < signal_count network → (k : ℕ) → k < phases_of network r + 1 → number_in table (9 * r) k ≡ entry sheet r k
+      number_is = sheet-number asked.signal-table count-is read e
 
-        seconds-is : (n : ℕ) → n < step_count network → seconds_in times n ≡ step_length network n
-        seconds-is n l =
-            let t = asked.time-table in
-            rw (t.holds n (omega arith), t.holds (n + 1) (omega arith), add-one) (omega (arith, time-suc network n))
+      line-is : (r : ℕ) → r < signal_count network → CycleLine (number_in table (9 * r)) (phases_of network r)
+      line-is r l =
+          let p = two-phases (signal network r) (valid.phases r l) in
+          record {
+            many = p.0;
+            few = p.1;
+            some = λ k u. rw (number_is r l k (omega arith)) (duration-some network sheet 1 held valid r l k u);
+            short = rw (number_is r l (phases_of network r) (omega arith), sum-ext (phases_of network r) _ _ (λ k u. number_is r l k (omega arith))) (offset-short network sheet valid held r l);
+          }
 
-        pub cycles-asked : CyclesAsked text reading signals table times
+      seconds-is : (n : ℕ) → n < step_count network → seconds_in times n ≡ step_length network n
+      seconds-is n l =
+          let t = asked.time-table in
+          rw (t.holds n (omega arith), t.holds (n + 1) (omega arith), add-one) (omega (arith, time-suc network n))
+
+      module _ {trams : List Tram} (tram-table : TramTable network trams) where
+        pub cycles-asked : CyclesAsked reading.counts trams signals table times
         cycles-asked =
             let c = asked.counted in
             let t = asked.time-table in
             record {
-              trams-asked = record { starts = asked.trams-start; counted = c.trams; forms = λ k l. tram-forms k (omega (arith, c.trams)) };
+              few = c.few;
+              trams-size = tram-table.size;
+              signals-size = asked.signal-table.size;
               times-asked = record {
                 size = t.size;
                 few = c.few.steps;
                 zero = t.holds 0 (omega arith) ∙ time-zero network;
                 rises = λ n l. omega (arith, t.holds n (omega (arith, c.steps)), t.holds (n + 1) (omega (arith, c.steps)), add-one n, ap (time network) (add-one n), time-suc network n);
               };
-              signals-size = signal-table.size;
-              few = c.few;
               lines-asked = λ r h. line r (omega (arith, count-is)) h;
             }
           where
-            line : (r : ℕ) → r < signal_count network → r < reading.counts.signals → LineAsked table (9 * r) (table_signal signals r).phases
+            line : (r : ℕ) → r < signal_count network → r < reading.counts.signals → LineAsked table (9 * r) (signal_at signals r).phases
             line r l h =
                 let p = two-phases (signal network r) (valid.phases r l) in
                 rw (signal-is r l) (record { line = line-is r l; room = omega (arith, (read.held e).room, asked.counted.few.signals); early = omega (arith, asked.counted.few.signals) })
 
-        can-write-same : (r : ℕ) → r < signal_count network → can_write_in network signals table times reading.counts.steps r ≡ can_write network sheet r
+        no-tram-same : (r : ℕ) → has_no_tram_in trams reading.counts.trams r ≡ has_no_tram network r
+        unfolding has_no_tram_in has_no_tram
+        no-tram-same r = rw asked.counted.trams (every-same (tram_count network) _ _ (λ k u. ap (λ (t : Tram). not (eqb t.signal (suc r))) (tram-table.holds k u)))
+
+        can-write-same : (r : ℕ) → r < signal_count network → can_write_in reading.counts trams signals table times r ≡ can_write network sheet r
         unfolding can_write_in can_write fits_in
         can-write-same r l =
-            rw (signal-is r l, asked.counted.steps)
+            rw (no-tram-same r, signal-is r l, asked.counted.steps)
             (ap (λ b. has_no_tram network r and b)
             (every-same (step_count network) _ _ (λ n u. fits-same (phases_of network r) (number_is r l) (time_in times n) (seconds_in times n)
             ∙ ap₂ (fits_at (entry sheet r) (phases_of network r)) (asked.time-table.holds n (omega arith)) (seconds-is n u))))
 
-        boundary-same : verdict (boundary_checks_in network signals table times reading.counts.steps reading.counts.signals) ≡ verdict (boundary_checks network sheet)
+        boundary-same : verdict (boundary_checks_in reading.counts trams signals table times) ≡ verdict (boundary_checks network sheet)
         unfolding verdict boundary_checks_in boundary_checks
-        boundary-same = rw count-is (first-same _ _ (signal_count network) 0 (λ r l u. ap (λ b. checked b 35 0 (suc r)) (can-write-same r (omega arith))))
+        boundary-same =
+            first-same _ _ reading.counts.signals 0 (λ r l u. ap (λ b. checked b 35 0 (suc r)) (can-write-same r (omega (arith, count-is))))
+            ∙ ap (λ n. verdict (each n (λ r. check 35 0 (suc r) (can_write network sheet r)))) count-is
 
         width_is : plan_width reading.counts ≡ signal_count network + (2 * link_count network + movement_count network)
         width_is = rw (asked.counted.signals, asked.counted.links, asked.counted.movements)
@@ -199,7 +214,7 @@ module _ {text : List ℕ} {reading : Reading} {times : List ℕ} (asked : Netwo
             mask n r l u =
                 ap (λ q. 2 ^ (q - 1)) (rw (signal-is r u) (phase-same (phases_of network r) (number_is r u) (time_in times n)) ∙ ap (phase_at (entry sheet r) (phases_of network r)) (asked.time-table.holds n (omega arith)))
 
-        pub sheet-written : {old new : List ℕ} {answer : (Result ℕ Refusal)} → CyclesWritten text reading.counts signals table times old answer new → SheetWritten network sheet old answer new
+        pub sheet-written : {old new : List ℕ} {answer : (Result ℕ Refusal)} → CyclesWritten reading.counts trams signals table times old answer new → SheetWritten network sheet old answer new
         sheet-written w = record { told = rw passes (unfold or_else in (rw (boundary-same, text_same) at w.told)) }
 
 -- ---- the whole call
@@ -213,14 +228,15 @@ pub call-told : {network sheet : List Line} {old : List ℕ} {answer : (Result �
 unfolding plan_from_sheet buffer_after
 call-told {network} {sheet} {old} t = rw (t.answered, t.holds) (write-promises network sheet old)
 
-module _ {text : List ℕ} {r : (Result Reading Refusal)} {links movements times : List ℕ} (g : Judged (network_checks (lines text)) (Loaded text links movements times) r) where
+module _ {text : List ℕ} {r : (Result Reading Refusal)} {signals : List Signal} {links : List Link} {movements : List Movement} {times : List ℕ}
+    (g : Judged (network_checks (lines text)) (Loaded text signals links movements times) r) where
   pub times-asked : {reading : Reading} → r ≡ Ok reading → ShiftAsked times reading.counts.past reading.counts.steps
   times-asked {reading} e = let l = g.held reading e in shift-asked l.counted l.holds l.time-table
 
-  pub call-asked : {reading : Reading} → r ≡ Ok reading → {after : List ℕ} → Shifted times reading.counts.past reading.counts.steps after → NetworkAsked text reading after
+  pub call-asked : {reading : Reading} → r ≡ Ok reading → {after : List ℕ} → Shifted times reading.counts.past reading.counts.steps after → NetworkAsked text reading signals after
   call-asked {reading} e s =
       let l = g.held reading e in
-      record { counted = l.counted; trams-start = l.trams-start; signals-start = l.signals-start; time-table = plan-times l.counted l.holds l.time-table s; holds = l.holds }
+      record { counted = l.counted; trams-start = l.trams-start; signal-table = l.signal-table; time-table = plan-times l.counted l.holds l.time-table s; holds = l.holds }
 
   module _ {sheet : List Line} {old : List ℕ} where
     pub call-refused : {q : Refusal} → r ≡ Err q → WritePromises (lines text) sheet old (Err q) old

@@ -2,23 +2,20 @@
 use Rattle.base_laws.proofs.Kit.{ℕ, suc, ◌+◌, ◌*◌, ◌-◌, ◌^◌, ◌≤◌, ◌<◌, ◌≡◌, refl, sym, ap, ◌∙◌, Bool, true, false, not, true≢false, ◌⊎◌, inl, inr, ◌≢◌, List, add-one, eq-or-lt_of_le, arith, le-leb, lt-leb, eq-eqb, ne_eqb, eqb, length, get_or, set, length-set, get_or-set_same, get_or-set_other}
 use Rattle.base_search.specs.declared.Refusal.{Refusal}
 use Rattle.base_search.specs.Checks.{refusal, Checks, check, checked, verdict}
-use Rattle.text_reader.specs.Lines.{Line, lines}
-use Rattle.text_reader.specs.Reading.{Starts}
 use Rattle.base_laws.specs.Test.{◌and◌, every}
-use Rattle.model.specs.Network.{max_signals, entry, tram_count, tram_line}
-use Rattle.model.specs.Table.{letter_t}
-use Rattle.network_tables.specs.declared.Reading.{Reading}
-use Rattle.network_tables.specs.Fields.{tram_fields, table_signal}
-use Rattle.network_tables.specs.Rows.{LineHeld}
-use Rattle.network_writer.specs.Reading.{ReadAgain}
+use Rattle.model.specs.declared.Signal.{Signal}
+use Rattle.model.specs.Network.{max_signals}
+use Rattle.network_tables.specs.declared.Counts.{Counts}
+use Rattle.network_tables.specs.declared.Tram.{Tram}
+use Rattle.network_tables.specs.Fields.{tram_at, signal_at}
 use Rattle.network_tables.specs.Blocks.{PassedTo}
 use Rattle.network_tables.proofs.Blocks.{passed_none, passed-all, passed-stop, passed-next}
 use Rattle.sheet_lines.specs.Reading.{number_in}
-use Rattle.model_sheet.specs.Cycle.{phase_at, fits_at, has_no_tram}
+use Rattle.model_sheet.specs.Cycle.{phase_at, fits_at}
 use Rattle.sheet_writer.specs.declared.Run.{Run}
 use Rattle.step_arrivals.specs.Arrivals.{seconds_in}
-use Rattle.sheet_writer.specs.Tables.{RunAt, NextAsked, NextRun, time_in, mask_table_size, fits_in, ColumnAsked, Column, ColumnGot, can_write_in, boundary_checks_in, phase_in, MasksHeld}
-use Rattle.sheet_writer.specs.Stages.{TramsAsked, CyclesAsked, MasksGot}
+use Rattle.sheet_writer.specs.Tables.{RunAt, NextAsked, NextRun, time_in, mask_table_size, fits_in, ColumnAsked, Column, ColumnGot, has_no_tram_in, can_write_in, boundary_checks_in, phase_in, MasksHeld}
+use Rattle.sheet_writer.specs.Stages.{CyclesAsked, MasksGot}
 use Rattle.sheet_writer.proofs.Cycle.{run-phase, fits-run}
 use Rattle.base_laws.proofs.Tests.{every-not}
 use Rattle.std.specs.Prelude.{Ok, Err}
@@ -57,7 +54,7 @@ module _ {table : List ℕ} {start phases : ℕ} {times : List ℕ} {steps r : �
         }
 
     module _ (h : n < steps) where
-      pub place_inside : 8 * n + r < length masks
+      place_inside : 8 * n + r < length masks
       place_inside = omega (arith, asked.signal, asked.times-asked.few, inv.column.size)
 
       pub phase-few : run.phase ≤ 8
@@ -101,72 +98,52 @@ module _ {table : List ℕ} {start phases : ℕ} {times : List ℕ} {steps r : �
             shown j (inl w) = rw w (get_or-set_same masks (8 * n + r) m 0 place_inside ∙ e ∙ ap (λ y. 2 ^ (y - 1)) inv.at.phase)
             shown j (inr w) = get_or-set_other masks (8 * n + r) (8 * j + r) m 0 (λ y. omega arith) ∙ inv.column.shows j w
 
--- ---- the `T` lines of a signal: none of the first k is for it
-pub record TramsTo (text : List ℕ) (r at k : ℕ) : Type 0 where
-  pub within : k ≤ tram_count (lines text)
-  pub starts : Starts text at (tram_line (lines text) k)
-  pub none : every k (λ j. not (eqb (entry (lines text) (tram_line (lines text) j) 0) (suc r))) ≡ true
+-- ---- the trams: none of the first k is for the signal
+abbrev is_free : List Tram → ℕ → ℕ → Bool
+is_free trams r k = not (eqb (tram_at trams k).signal (suc r))
 
-line-suc : (network : List Line) (k : ℕ) → tram_line network (suc k) ≡ suc (tram_line network k)
-unfolding tram_line
-line-suc network k = omega arith
+pub record FreeTo (trams : List Tram) (r k : ℕ) : Type 0 where
+  pub none : every k (is_free trams r) ≡ true
 
-module _ {text : List ℕ} {at₀ count : ℕ} (asked : TramsAsked text at₀ count) {r : ℕ} where
-  pub trams-none : TramsTo text r at₀ 0
-  unfolding every
-  trams-none = record { within = omega arith; starts = asked.starts; none = refl }
+pub trams-none : (trams : List Tram) (r : ℕ) → FreeTo trams r 0
+unfolding every
+trams-none trams r = record { none = refl }
 
-  module _ {at k : ℕ} (inv : TramsTo text r at k) where
-    pub trams-all : count ≤ k → true ≡ has_no_tram (lines text) r
-    unfolding has_no_tram
-    trams-all h = let e : k ≡ tram_count (lines text) = omega (arith, inv.within, asked.counted) in sym (rw e at inv.none)
+module _ {trams : List Tram} {r k : ℕ} (inv : FreeTo trams r k) where
+  pub trams-all : {count : ℕ} → k ≡ count → true ≡ has_no_tram_in trams count r
+  unfolding has_no_tram_in
+  trams-all e = sym (rw e at inv.none)
 
-    module _ (h : k < count) {next : ℕ} {old fields : List ℕ} (row : ReadAgain letter_t tram_fields text at old next fields) where
-      held : LineHeld letter_t tram_fields text (tram_line (lines text) k) next 0 fields
-      held = row.held (tram_line (lines text) k) inv.starts (asked.forms k h)
+  pub trams-hit : {count : ℕ} → k < count → (tram_at trams k).signal ≡ r + 1 → false ≡ has_no_tram_in trams count r
+  unfolding has_no_tram_in
+  trams-hit {count} h z = sym (every-not count (is_free trams r) k h (ap not (eq-eqb _ _ (omega (arith, z)))))
 
-      module _ {i : ℕ} (q : i ≡ get_or fields 0 0) where
-        named : i ≡ entry (lines text) (tram_line (lines text) k) 0
-        named = q ∙ held.numbers 0 (omega arith)
-
-        pub trams-hit : i ≡ r + 1 → false ≡ has_no_tram (lines text) r
-        unfolding has_no_tram
-        trams-hit z =
-            let w : entry (lines text) (tram_line (lines text) k) 0 ≡ suc r = omega (arith, named) in
-            sym (every-not (tram_count (lines text)) (λ j. not (eqb (entry (lines text) (tram_line (lines text) j) 0) (suc r))) k (omega (arith, asked.counted)) (ap not (eq-eqb _ _ w)))
-
-        pub trams-next : (i ≡ r + 1 → ⊥) → TramsTo text r next (k + 1)
-        unfolding every ◌and◌
-        trams-next z =
-            let w : entry (lines text) (tram_line (lines text) k) 0 ≢ suc r = λ y. z (omega (arith, named)) in
-            record {
-              within = omega (arith, asked.counted);
-              starts = rw (add-one, line-suc) held.starts;
-              none = rw (add-one, inv.none) (ap not (ne_eqb _ _ w));
-            }
+  pub trams-next : ((tram_at trams k).signal ≡ r + 1 → ⊥) → FreeTo trams r (k + 1)
+  unfolding every ◌and◌
+  trams-next z = record { none = rw (add-one, inv.none) (ap not (ne_eqb _ _ (λ y. z (omega (arith, y))))) }
 
 -- ---- all signals: 35 of the first r passes, and their masks are held
-module _ (network : List Line) (signals table times : List ℕ) (steps count : ℕ) where
+module _ (counts : Counts) (trams : List Tram) (signals : List Signal) (table times : List ℕ) where
   abbrev signal_check : ℕ → Checks
-  signal_check r = check 35 0 (suc r) (can_write_in network signals table times steps r)
+  signal_check r = check 35 0 (suc r) (can_write_in counts trams signals table times r)
 
   pub record MasksTo (masks : List ℕ) (r : ℕ) : Type 0 where
-    pub passed : PassedTo count signal_check r
+    pub passed : PassedTo counts.signals signal_check r
     pub size : length masks ≡ mask_table_size
-    pub held : MasksHeld signals table times steps r masks
+    pub held : MasksHeld signals table times counts.steps r masks
 
-module _ {network_text : List ℕ} {reading : Reading} {signals table times : List ℕ} (asked : CyclesAsked network_text reading signals table times) where
+module _ {counts : Counts} {trams : List Tram} {signals : List Signal} {table times : List ℕ} (asked : CyclesAsked counts trams signals table times) where
   abbrev steps : ℕ
-  steps = reading.counts.steps
+  steps = counts.steps
 
   abbrev count : ℕ
-  count = reading.counts.signals
+  count = counts.signals
 
-  pub masks-none : {masks : List ℕ} → length masks ≡ 960 → MasksTo (lines network_text) signals table times steps count masks 0
+  pub masks-none : {masks : List ℕ} → length masks ≡ 960 → MasksTo counts trams signals table times masks 0
   masks-none l = record { passed = passed_none; size = l; held = record { size = l; shows = λ n r u h. absurd (omega arith) } }
 
-  module _ {masks : List ℕ} {r : ℕ} (inv : MasksTo (lines network_text) signals table times steps count masks r) where
-    pub masks-all : count ≤ r → MasksGot network_text reading.counts signals table times (Ok tt) masks
+  module _ {masks : List ℕ} {r : ℕ} (inv : MasksTo counts trams signals table times masks r) where
+    pub masks-all : count ≤ r → MasksGot counts trams signals table times (Ok tt) masks
     unfolding boundary_checks_in
     masks-all h =
         let e : r ≡ count = omega (arith, inv.passed.within) in
@@ -176,11 +153,8 @@ module _ {network_text : List ℕ} {reading : Reading} {signals table times : Li
       pub signal-few : r < max_signals
       signal-few = omega (arith, asked.few.signals)
 
-      pub column-wanted : {phases : ℕ} → phases ≡ (table_signal signals r).phases → ColumnAsked table (9 * r) phases times steps r masks
-      column-wanted p = record { line-asked = rw p (asked.lines-asked r h); times-asked = asked.times-asked; signal = signal-few; room = inv.size }
-
-      stopped : {after : List ℕ} → length after ≡ mask_table_size → can_write_in (lines network_text) signals table times steps r ≡ false → {q : Refusal} → q ≡ refusal 35 0 (r + 1)
-          → MasksGot network_text reading.counts signals table times (Err q) after
+      stopped : {after : List ℕ} → length after ≡ mask_table_size → can_write_in counts trams signals table times r ≡ false → {q : Refusal} → q ≡ refusal 35 0 (r + 1)
+          → MasksGot counts trams signals table times (Err q) after
       unfolding boundary_checks_in
       stopped l f z =
           record {
@@ -189,22 +163,19 @@ module _ {network_text : List ℕ} {reading : Reading} {signals table times : Li
             held = λ p. let w : ◌≡◌ {A = ℕ} 0 1 = cc in absurd (omega arith);
           }
 
-      module _ {b : Bool} (tram : b ≡ has_no_tram (lines network_text) r) where
-        pub masks-tram : b ≡ false → {q : Refusal} → q ≡ refusal 35 0 (r + 1) → MasksGot network_text reading.counts signals table times (Err q) masks
+      module _ {b : Bool} (tram : b ≡ has_no_tram_in trams counts.trams r) where
+        pub masks-tram : b ≡ false → {q : Refusal} → q ≡ refusal 35 0 (r + 1) → MasksGot counts trams signals table times (Err q) masks
         masks-tram n z = stopped inv.size (unfold can_write_in ◌and◌ in rw (sym tram ∙ n)) z
 
-        module _ (n : b ≡ true) {phases : ℕ} (p : phases ≡ (table_signal signals r).phases) {c : Bool} {after : List ℕ} (filled : ColumnGot (number_in table (9 * r)) phases times steps r masks c after) where
-          got : ColumnGot (number_in table (9 * r)) (table_signal signals r).phases times steps r masks c after
-          got = rw p at filled
-
-          judged : can_write_in (lines network_text) signals table times steps r ≡ c
+        module _ (n : b ≡ true) {c : Bool} {after : List ℕ} (got : ColumnGot (number_in table (9 * r)) (signal_at signals r).phases times steps r masks c after) where
+          judged : can_write_in counts trams signals table times r ≡ c
           unfolding can_write_in ◌and◌
           judged = rw (sym tram ∙ n) (sym got.told)
 
-          pub masks-off : c ≡ false → {q : Refusal} → q ≡ refusal 35 0 (r + 1) → MasksGot network_text reading.counts signals table times (Err q) after
+          pub masks-off : c ≡ false → {q : Refusal} → q ≡ refusal 35 0 (r + 1) → MasksGot counts trams signals table times (Err q) after
           masks-off f z = stopped got.size (judged ∙ f) z
 
-          pub masks-next : c ≡ true → MasksTo (lines network_text) signals table times steps count after (r + 1)
+          pub masks-next : c ≡ true → MasksTo counts trams signals table times after (r + 1)
           masks-next t =
               record {
                 passed = passed-next inv.passed h (unfold verdict checked in rw (judged ∙ t));

@@ -1,5 +1,5 @@
 -- The run of a cycle, from its offset on and from step to step: one law for each way through a turn.
-use Rattle.base_laws.proofs.Kit.{ℕ, suc, ◌+◌, ◌-◌, ◌%◌, ◌≤◌, ◌<◌, ◌≡◌, sym, ap, ◌∙◌, ◌⊎◌, inl, inr, ◌≢◌, add-one, mod-eq_of_lt, dec_le, ℕ_discrete, arith, le-leb, lt-leb, eq-eqb, ne_eqb, leb}
+use Rattle.base_laws.proofs.Kit.{ℕ, suc, ◌+◌, ◌-◌, ◌%◌, ◌≤◌, ◌<◌, ◌≡◌, sym, ap, ◌∙◌, ◌⊎◌, inl, inr, ◌≢◌, add-one, mod-eq_of_lt, dec_le, arith, le-leb, lt-leb, eq-eqb, ne_eqb, leb}
 use Rattle.base_laws.specs.Sum.{sum}
 use Rattle.model.specs.Signals.{phase_after}
 use Rattle.model_sheet.specs.Cycle.{place_at, phase_from, phase_at, fits_at}
@@ -76,13 +76,6 @@ module _ {value : ℕ → ℕ} {P : ℕ} (line : CycleLine value P) where
               → RunAt value P (t + seconds) (record { phase = q; remaining = value w })
           over (s, _, _, f, g, inl (last, z)) = begun s (eq ∙ rw (shown, eq-eqb (suc p) P last) (ap suc (sym z))) f g
           over (s, _, _, f, g, inr (l, z)) = begun s (eq ∙ rw (shown, ne_eqb (suc p) P (λ y. omega arith), add-one) (ap suc (sym z))) f g
-
--- the phase after one of P is one of them
-pub after-few : {P k q p : ℕ} → q ≡ phase_after P k → p ≡ q - 1 → k ≤ P → 2 ≤ P → p < P
-after-few {P} {k} {q} e f h m = elim (ℕ_discrete k P) [
-  | yes d ↦ let z : q ≡ 1 = e ∙ rw (eq-eqb k P d) in omega arith
-  | no d ↦ let z : q ≡ k + 1 = e ∙ rw (ne_eqb k P d) in omega arith
-]
 
 -- ---- a step fits a run exactly where it is not longer than the run still shows
 pub fits-run : {value : ℕ → ℕ} {P t : ℕ} {run : Run} → RunAt value P t run → (seconds : ℕ) → fits_at value P t seconds ≡ leb seconds run.remaining

@@ -1,15 +1,17 @@
 -- What the stages of the call ask and promise.
-use Rattle.std.specs.Prelude.{ℕ, ◌*◌, ◌<◌, ◌≡◌, true, List, length, Result, Ok}
+use Rattle.std.specs.Prelude.{ℕ, ◌*◌, ◌<◌, ◌≡◌, List, length, Result, Ok}
 use Rattle.base_search.specs.Checks.{or_else, verdict, Hold, Verdict}
 use Rattle.text_reader.specs.Lines.{Line, lines}
 use Rattle.text_reader.specs.Reading.{Starts}
-use Rattle.model.specs.Network.{tram_count, tram_line, signal_line}
-use Rattle.model.specs.Table.{is_form, letter_t, network_checks}
+use Rattle.model.specs.declared.Signal.{Signal}
+use Rattle.model.specs.Network.{max_signals, max_trams, tram_line}
+use Rattle.model.specs.Table.{network_checks}
 use Rattle.network_tables.specs.declared.Counts.{Counts}
 use Rattle.network_tables.specs.declared.Reading.{Reading}
+use Rattle.network_tables.specs.declared.Tram.{Tram}
 use Rattle.network_tables.specs.Places.{Few}
-use Rattle.network_tables.specs.Fields.{tram_fields, signal_table_size, table_signal}
-use Rattle.network_tables.specs.Tables.{CountsHold}
+use Rattle.network_tables.specs.Fields.{signal_at}
+use Rattle.network_tables.specs.Tables.{CountsHold, SignalTable}
 use Rattle.step_arrivals.specs.Times.{PlanTimes}
 use Rattle.sheet_lines.specs.Sheet.{sheet_checks}
 use Rattle.sheet_lines.specs.Reading.{sheet_fields}
@@ -18,36 +20,30 @@ use Rattle.model_sheet.specs.Cycle.{boundary_checks, sheet_text}
 use Rattle.sheet_writer.specs.Tables.{LineAsked, TimesAsked, boundary_checks_in, cycle_text, MasksHeld, mask_table_size}
 use Rattle.base_search.specs.declared.Refusal.{Refusal}
 
--- the `T` lines of a network that has passed
-pub record TramsAsked (text : List ℕ) (at count : ℕ) : Type 0 where
-  pub starts : Starts text at (tram_line (lines text) 0)
-  pub counted : count ≡ tram_count (lines text)
-  pub forms : (k : ℕ) → k < count → is_form (lines text) (tram_line (lines text) k) letter_t tram_fields ≡ true
-
--- the tables of a sheet that has passed
-pub record CyclesAsked (network_text : List ℕ) (reading : Reading) (signals : List ℕ) (table times : List ℕ) : Type 0 where
-  pub trams-asked : TramsAsked network_text reading.trams_at reading.counts.trams
-  pub times-asked : TimesAsked times reading.counts.steps
-  pub signals-size : length signals ≡ signal_table_size
-  pub few : Few reading.counts
-  pub lines-asked : (r : ℕ) → r < reading.counts.signals → LineAsked table (sheet_fields * r) (table_signal signals r).phases
+-- the tables of a network and of a sheet that has passed
+pub record CyclesAsked (counts : Counts) (trams : List Tram) (signals : List Signal) (table times : List ℕ) : Type 0 where
+  pub few : Few counts
+  pub trams-size : length trams ≡ max_trams
+  pub signals-size : length signals ≡ max_signals
+  pub times-asked : TimesAsked times counts.steps
+  pub lines-asked : (r : ℕ) → r < counts.signals → LineAsked table (sheet_fields * r) (signal_at signals r).phases
 
 -- 35, and where it passes the masks
-pub record MasksGot (network_text : List ℕ) (counts : Counts) (signals : List ℕ) (table times : List ℕ) (result : Verdict) (masks : List ℕ) : Type 0 where
-  pub told : result ≡ verdict (boundary_checks_in (lines network_text) signals table times counts.steps counts.signals)
+pub record MasksGot (counts : Counts) (trams : List Tram) (signals : List Signal) (table times : List ℕ) (result : Verdict) (masks : List ℕ) : Type 0 where
+  pub told : result ≡ verdict (boundary_checks_in counts trams signals table times)
   pub size : length masks ≡ mask_table_size
   pub held : result ≡ Ok tt → MasksHeld signals table times counts.steps counts.signals masks
 
 -- by the tables: 35, then 24
-pub record CyclesWritten (network_text : List ℕ) (counts : Counts) (signals : List ℕ) (table times old : List ℕ) (answer : Result ℕ Refusal) (new : List ℕ) : Type 0 where
+pub record CyclesWritten (counts : Counts) (trams : List Tram) (signals : List Signal) (table times old : List ℕ) (answer : Result ℕ Refusal) (new : List ℕ) : Type 0 where
   pub told : Told (cycle_text signals table times counts)
-      (or_else (verdict (boundary_checks_in (lines network_text) signals table times counts.steps counts.signals)) (room_verdict 24 (cycle_text signals table times counts) old)) old answer new
+      (or_else (verdict (boundary_checks_in counts trams signals table times)) (room_verdict 24 (cycle_text signals table times counts) old)) old answer new
 
--- a network that has passed, with the times of its plan's boundaries
-pub record NetworkAsked (text : List ℕ) (reading : Reading) (times : List ℕ) : Type 0 where
+-- a network that has passed, with its signals and the times of its plan's boundaries
+pub record NetworkAsked (text : List ℕ) (reading : Reading) (signals : List Signal) (times : List ℕ) : Type 0 where
   pub counted : CountsHold (lines text) reading.counts
   pub trams-start : Starts text reading.trams_at (tram_line (lines text) 0)
-  pub signals-start : Starts text reading.signals_at (signal_line (lines text) 0)
+  pub signal-table : SignalTable (lines text) signals
   pub time-table : PlanTimes (lines text) times
   pub holds : Hold (network_checks (lines text))
 

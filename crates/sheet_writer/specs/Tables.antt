@@ -1,19 +1,20 @@
 -- A sheet's cycles by the program's tables: one line's numbers from a place of the table on, the times of the boundaries, and the masks, eight a step. Not of the
 -- request.
-use Rattle.std.specs.Prelude.{ℕ, suc, ◌+◌, ◌*◌, ◌-◌, ◌^◌, ◌≤◌, ◌<◌, ◌≡◌, Bool, true, ◌≢◌, List, ltb, length, get_or}
+use Rattle.std.specs.Prelude.{ℕ, suc, ◌+◌, ◌*◌, ◌-◌, ◌^◌, ◌≤◌, ◌<◌, ◌≡◌, Bool, true, not, ◌≢◌, List, ltb, eqb, length, get_or}
 use Rattle.base_search.specs.Checks.{Checks, check, each}
-use Rattle.text_reader.specs.Lines.{Line}
 use Rattle.text_writer.specs.Records.{record_texts}
 use Rattle.base_laws.specs.Test.{◌and◌, every}
 use Rattle.base_laws.specs.Sum.{sum, only}
 use Rattle.base_laws.specs.Indexed.{list}
+use Rattle.model.specs.declared.Signal.{Signal}
 use Rattle.model.specs.Network.{max_signals, max_steps}
 use Rattle.model.specs.Table.{letter_p}
 use Rattle.network_tables.specs.declared.Counts.{Counts}
+use Rattle.network_tables.specs.declared.Tram.{Tram}
 use Rattle.network_tables.specs.Places.{plan_width}
-use Rattle.network_tables.specs.Fields.{time_table_size, table_signal}
+use Rattle.network_tables.specs.Fields.{time_table_size, tram_at, signal_at}
 use Rattle.sheet_lines.specs.Reading.{sheet_fields, number_in}
-use Rattle.model_sheet.specs.Cycle.{place_at, phase_at, fits_at, has_no_tram}
+use Rattle.model_sheet.specs.Cycle.{place_at, phase_at, fits_at}
 use Rattle.step_arrivals.specs.Arrivals.{seconds_in}
 use Rattle.sheet_writer.specs.declared.Run.{Run}
 
@@ -84,24 +85,28 @@ pub record ColumnGot (value : ℕ → ℕ) (P : ℕ) (times : List ℕ) (steps r
   pub column : result ≡ true → (m : ℕ) → m < steps → get_or masks (8 * m + r) 0 ≡ 2 ^ (phase_at value P (time_in times m) - 1)
 
 -- ---- all signals: 35 by the tables
-module _ (network : List Line) (signals : List ℕ) (table times : List ℕ) (steps : ℕ) where
-  unfoldable pub can_write_in : ℕ → Bool
-  can_write_in r = has_no_tram network r and fits_in (number_in table (sheet_fields * r)) (table_signal signals r).phases times steps
+-- none of the first so many trams asks a phase of signal r
+unfoldable pub has_no_tram_in : List Tram → ℕ → ℕ → Bool
+has_no_tram_in trams count r = every count (λ k. not (eqb (tram_at trams k).signal (suc r)))
 
-  unfoldable pub boundary_checks_in : ℕ → Checks
-  boundary_checks_in count = each count (λ r. check 35 0 (suc r) (can_write_in r))
+module _ (counts : Counts) (trams : List Tram) (signals : List Signal) (table times : List ℕ) where
+  unfoldable pub can_write_in : ℕ → Bool
+  can_write_in r = has_no_tram_in trams counts.trams r and fits_in (number_in table (sheet_fields * r)) (signal_at signals r).phases times counts.steps
+
+  unfoldable pub boundary_checks_in : Checks
+  boundary_checks_in = each counts.signals (λ r. check 35 0 (suc r) (can_write_in r))
 
 -- the phase that signal r shows in step n
-abbrev pub phase_in : List ℕ → List ℕ → List ℕ → ℕ → ℕ → ℕ
-phase_in signals table times n r = phase_at (number_in table (sheet_fields * r)) (table_signal signals r).phases (time_in times n)
+abbrev pub phase_in : List Signal → List ℕ → List ℕ → ℕ → ℕ → ℕ
+phase_in signals table times n r = phase_at (number_in table (sheet_fields * r)) (signal_at signals r).phases (time_in times n)
 
 -- the masks of the first so many signals in the first so many steps
-pub record MasksHeld (signals : List ℕ) (table times : List ℕ) (steps count : ℕ) (masks : List ℕ) : Type 0 where
+pub record MasksHeld (signals : List Signal) (table times : List ℕ) (steps count : ℕ) (masks : List ℕ) : Type 0 where
   pub size : length masks ≡ mask_table_size
   pub shows : (n r : ℕ) → n < steps → r < count → get_or masks (8 * n + r) 0 ≡ 2 ^ (phase_in signals table times n r - 1)
 
 -- ---- the text
 -- the numbers of each `P` line by the cycles: a mask for each signal, and volumes that are 0
-unfoldable pub cycle_text : List ℕ → List ℕ → List ℕ → Counts → List ℕ
+unfoldable pub cycle_text : List Signal → List ℕ → List ℕ → Counts → List ℕ
 cycle_text signals table times counts =
     record_texts letter_p counts.steps (λ n. list (plan_width counts) (λ k. only (ltb k counts.signals) (2 ^ (phase_in signals table times n k - 1))))

@@ -2,20 +2,20 @@
 // step to step, without a remainder.
 #![tactic(auto)]
 
-ghost use Rattle.std.specs.Prelude.{◌≡◌, ◌+◌, ◌*◌, ◌≤◌, length};
+ghost use Rattle.std.specs.Prelude.{◌≡◌, ◌≤◌, length};
 ghost use Rattle.text_reader.specs.Lines.{lines};
 ghost use Rattle.text_reader.specs.Padding.{PaddingIgnored};
 ghost use Rattle.model.specs.Signals.{phase_after};
 ghost use Rattle.sheet_lines.specs.Reading.{number_in};
-ghost use Rattle.model_sheet.specs.Cycle.{has_no_tram};
 ghost use Rattle.model_sheet.specs.Promises.{WritePromises};
-ghost use Rattle.sheet_writer.specs.Tables.{LineAsked, RunAt, NextAsked, NextRun, ColumnAsked, ColumnGot};
-ghost use Rattle.sheet_writer.specs.Stages.{TramsAsked, CyclesAsked, MasksGot, CyclesWritten, NetworkAsked, SheetWritten};
+ghost use Rattle.sheet_writer.specs.Tables.{LineAsked, RunAt, NextAsked, NextRun, ColumnAsked, ColumnGot, has_no_tram_in};
+ghost use Rattle.sheet_writer.specs.Stages.{CyclesAsked, MasksGot, CyclesWritten, NetworkAsked, SheetWritten};
 
 use base_search::Refusal;
+use model::Signal;
 use network_tables::{
-    LINK_TABLE_SIZE, MAX_SIGNALS, MAX_STEPS, MOVEMENT_TABLE_SIZE, Reading, SIGNAL_TABLE_SIZE,
-    TIME_TABLE_SIZE, TRAM_FIELDS,
+    Counts, Link, MAX_LINKS, MAX_MOVEMENTS, MAX_SIGNALS, MAX_STEPS, MAX_TRAMS, Movement, Reading,
+    TIME_TABLE_SIZE, Tram,
 };
 use sheet_lines::{SHEET_FIELDS, SHEET_TABLE_SIZE};
 
@@ -35,7 +35,7 @@ fn first_run(table: &[u32], start: usize, phases: usize) -> Run
     ensures { RunAt (number_in table.now start) phases 0 result }
 {
     let mut rest = table[start + phases];
-    // A for over the phases would need an end past the last, which no offset reaches.
+    // A `for` over the phases would need an end past the last, which no offset reaches.
     let mut k = 0;
     while table[start + k] <= rest {
         rest -= table[start + k];
@@ -99,17 +99,13 @@ fn fill_column(
     true
 }
 
-// Whether signal `r` has no `T` lines, by these lines, which have passed.
-fn has_no_tram(network: &[u8], at: usize, count: usize, r: usize) -> bool
-    requires trams_asked { TramsAsked network.now at count }
-    requires r_bound { r ≤ 8 }
-    ensures { result ≡ has_no_tram (lines network.now) r }
+// Whether none of so many trams asks a phase of signal `r`.
+fn has_no_tram(trams: &[Tram], count: usize, r: usize) -> bool
+    requires { (count ≤ length trams.now) × (r ≤ 8) }
+    ensures { result ≡ has_no_tram_in trams.now count r }
 {
-    let mut fields = [0u32; TRAM_FIELDS];
-    let mut place = at;
-    for _ in 0..count {
-        place = network_writer::read_again(network, place, b'T', &mut fields, TRAM_FIELDS);
-        if network_tables::index(fields[0]) == r + 1 {
+    for k in 0..count {
+        if trams[k].signal as usize == r + 1 {
             return false;
         }
     }
@@ -118,23 +114,29 @@ fn has_no_tram(network: &[u8], at: usize, count: usize, r: usize) -> bool
 
 // Refusal 35 by rising signal, a signal with tram lines or with a run that ends before the horizon but on no boundary, and the masks of all steps.
 fn fill_masks(
-    network: &[u8],
-    reading: Reading,
-    signals: &[u32],
+    counts: Counts,
+    trams: &[Tram],
+    signals: &[Signal],
     table: &[u32],
     times: &[u32],
     masks: &mut [u32],
 ) -> Result<(), Refusal>
-    requires cycles_asked { CyclesAsked network.now reading signals.now table.now times.now }
+    requires cycles_asked { CyclesAsked counts trams.now signals.now table.now times.now }
     requires masks_len { length masks.old ≡ 960 }
-    ensures { MasksGot network.now reading.counts signals.now table.now times.now result masks.new }
+    ensures { MasksGot counts trams.now signals.now table.now times.now result masks.new }
 {
-    let counts = reading.counts;
     for r in 0..counts.signals {
-        let phases = network_tables::phase_count(signals, r);
         let start = SHEET_FIELDS * r;
-        if !has_no_tram(network, reading.trams_at, counts.trams, r)
-            || !fill_column(table, start, phases, times, counts.steps, r, masks)
+        if !has_no_tram(trams, counts.trams, r)
+            || !fill_column(
+                table,
+                start,
+                signals[r].phases,
+                times,
+                counts.steps,
+                r,
+                masks,
+            )
         {
             return Err(Refusal::new(35, 0, r + 1));
         }
@@ -144,38 +146,39 @@ fn fill_masks(
 
 // The cycles of a sheet that has passed: refusals 35 and 24.
 fn write_cycles(
-    network: &[u8],
-    reading: Reading,
-    signals: &[u32],
+    counts: Counts,
+    trams: &[Tram],
+    signals: &[Signal],
     table: &[u32],
     times: &[u32],
     out: &mut [u8],
 ) -> Result<usize, Refusal>
-    requires { CyclesAsked network.now reading signals.now table.now times.now }
-    ensures { CyclesWritten network.now reading.counts signals.now table.now times.now out.old result out.new }
+    requires { CyclesAsked counts trams.now signals.now table.now times.now }
+    ensures { CyclesWritten counts trams.now signals.now table.now times.now out.old result out.new }
 {
     let mut masks = [0u32; MASK_TABLE_SIZE];
-    fill_masks(network, reading, signals, table, times, &mut masks)?;
-    network_writer::write_plan(&masks, MAX_SIGNALS, reading.counts, out)
+    fill_masks(counts, trams, signals, table, times, &mut masks)?;
+    network_writer::write_plan(&masks, MAX_SIGNALS, counts, out)
 }
 
-// The sheet on a network that has passed, whose `G` lines are read again for the limits of their phases: refusals 33, 35 and 24.
+// The sheet on a network that has passed, whose `T` lines are read again: refusals 33, 35 and 24.
 fn write_on_network(
     network: &[u8],
     reading: Reading,
-    sheet: &[u8],
+    signals: &[Signal],
     times: &[u32],
+    sheet: &[u8],
     out: &mut [u8],
 ) -> Result<usize, Refusal>
-    requires { NetworkAsked network.now reading times.now }
+    requires { NetworkAsked network.now reading signals.now times.now }
     ensures { SheetWritten (lines network.now) (lines sheet.now) out.old result out.new }
 {
-    let mut signals = [0u32; SIGNAL_TABLE_SIZE];
-    let mut table = [0u32; SHEET_TABLE_SIZE];
     let counts = reading.counts;
-    network_signals::load_signals(network, reading, &mut signals);
-    sheet_lines::read_sheet(sheet, &signals, counts.signals, true, &mut table)?;
-    write_cycles(network, reading, &signals, &table, times, out)
+    let mut table = [0u32; SHEET_TABLE_SIZE];
+    sheet_lines::read_sheet(sheet, signals, counts.signals, true, &mut table)?;
+    let mut trams = [Tram::default(); MAX_TRAMS];
+    network_trams::load_trams(network, reading.trams_at, counts.trams, &mut trams);
+    write_cycles(counts, &trams, signals, &table, times, out)
 }
 
 // The plan text of a sheet with offsets: refusals 1 to 6, 28 and 30, then 33, 35 and 24.
@@ -183,11 +186,18 @@ pub fn plan_from_sheet(network: &[u8], sheet: &[u8], out: &mut [u8]) -> Result<u
     ensures write_promises { WritePromises (lines network.now) (lines sheet.now) out.old result out.new }
     ensures padding_ignored { PaddingIgnored network.now (λ padded_network. PaddingIgnored sheet.now (λ padded_sheet. WritePromises (lines padded_network) (lines padded_sheet) out.old result out.new)) }
 {
-    let mut links = [0u32; LINK_TABLE_SIZE];
-    let mut movements = [0u32; MOVEMENT_TABLE_SIZE];
+    let mut signals = [Signal::default(); MAX_SIGNALS];
+    let mut links = [Link::default(); MAX_LINKS];
+    let mut movements = [Movement::default(); MAX_MOVEMENTS];
     let mut times = [0u32; TIME_TABLE_SIZE];
-    let reading = network::load_network(network, &mut links, &mut movements, &mut times)?;
+    let reading = network::read_network(
+        network,
+        &mut signals,
+        &mut links,
+        &mut movements,
+        &mut times,
+    )?;
     let counts = reading.counts;
     step_arrivals::from_start(&mut times, counts.past, counts.steps);
-    write_on_network(network, reading, sheet, &times, out)
+    write_on_network(network, reading, &signals, &times, sheet, out)
 }

@@ -1,5 +1,5 @@
 -- The ways out of the call, by the definitions.
-use Rattle.base_laws.proofs.Kit.{ℕ, ◌^◌, ◌/◌, ◌≤◌, ◌<◌, ◌≡◌, refl, sym, ◌∙◌, Bool, true, false, not, List, [], arith, not-true, not-false, replicate, length-replicate}
+use Rattle.base_laws.proofs.Kit.{ℕ, ◌≤◌, ◌<◌, ◌≡◌, refl, sym, ◌∙◌, Bool, true, false, List, [], arith}
 use Rattle.base_search.specs.declared.Refusal.{Refusal}
 use Rattle.base_search.specs.Checks.{refusal, or_else, checked, verdict, Hold, Verdict}
 use Rattle.base_search.proofs.Laws.{or-else-passes, or-else-refused, checked-passes, checked_refused, passes-of-hold, hold-of-passes}
@@ -13,26 +13,24 @@ use Rattle.base_laws.proofs.Tests.{and_right}
 use Rattle.model.proofs.Accepted.{valid-network}
 use Rattle.model.proofs.Limits.{link-limits}
 use Rattle.network_tables.specs.declared.Reading.{Reading}
-use Rattle.network_tables.specs.Fields.{signal_table_size, signal_in}
-use Rattle.network_tables.specs.Tables.{SignalTable, Judged}
+use Rattle.network_tables.specs.Fields.{signal_in}
+use Rattle.network_tables.specs.Tables.{Judged}
 use Rattle.network_tables.proofs.Stages.{verdict-refused}
 use Rattle.network_tables.proofs.Tables.{signal-of-at}
 use Rattle.network.specs.Loading.{Loaded}
-use Rattle.network_signals.specs.Stages.{LoadAsked}
-use Rattle.network_signals.proofs.Passed.{signals-passed, load-zeros}
 use Rattle.plan_steps.proofs.Runs.{signals-first}
-use Rattle.split_tables.specs.Tables.{half_size, HalfTable}
-use Rattle.split_tables.specs.Halves.{HalvesAsked, HalvesNumbered}
-use Rattle.split_tables.proofs.Halves.{zeros-at}
-use Rattle.model_split.specs.Halves.{first_half, second_half}
-use Rattle.model_split.specs.Call.{in_set, form_checks, part_checks, lengths, split_checks, split_answer, split_network, buffer_after}
+use Rattle.split_tables.specs.declared.Whole.{Whole}
+use Rattle.split_tables.specs.declared.Halves.{Halves}
+use Rattle.split_tables.specs.Whole.{whole_network, whole_plan}
+use Rattle.split_tables.specs.Halves.{HalvesAsked, HalvesBy, HalvesNumbered}
+use Rattle.split_tables.proofs.Ends.{movement-ends}
+use Rattle.model_split.specs.Call.{in_set, parts_signals, form_checks, part_checks, lengths, split_checks, split_answer, split_network, buffer_after}
 use Rattle.model_split.specs.Splits.{Buffers, room_of, buffers_after, SplitInTwo}
 use Rattle.model_split.proofs.Promises.{split-in-two}
 use Rattle.split_checks.specs.Tables.{PartsAsked}
-use Rattle.split_checks.specs.Network.{SplitAsked, SplitTold, PartsTold}
+use Rattle.split_checks.specs.Network.{SplitTold, PartsTold}
 use Rattle.split_checks.specs.Plan.{FormAsked, FormTold}
-use Rattle.split_checks.proofs.Network.{movement-ends}
-use Rattle.split.specs.Splitting.{texts, Passed, JudgeAsked, HalvesJudged, BothHalves, WriteAsked, fits, WrittenWhere, HalvesWritten, SplitGot}
+use Rattle.split.specs.Splitting.{texts, Passed, HalvesJudged, BothHalves, WriteAsked, fits, WrittenWhere, HalvesWritten, SplitGot}
 use Rattle.std.specs.Prelude.{Result, Ok, Err}
 use Rattle.model_split.specs.declared.Lengths.{Lengths}
 
@@ -70,138 +68,103 @@ module _ (network_text plan_text : List ℕ) (set : ℕ) (before : Buffers) wher
           record { told = rw all (unfold split_answer in (w.refused f).0); holds = rw all (unfold buffer_after in (w.refused f).1) }
 
 -- ---- a network that has passed
-module _ {text : List ℕ} {reading : Reading} {links movements : List ℕ} where
-  pub loaded-passed : {times : List ℕ} → Loaded text links movements times reading → Passed text reading links movements
-  loaded-passed l =
+pub loaded-passed : {whole : Whole} → Loaded whole.network.now whole.signals.now whole.tables.links.now whole.tables.movements.now whole.tables.times.now whole.tables.reading → Passed whole
+loaded-passed l =
+    record {
+      holds = l.holds;
+      counted = l.counted;
+      trams-start = l.trams-start;
+      signals-start = l.signals-start;
+      steps-start = l.steps-start;
+      link-table = l.link-table;
+      movement-table = l.movement-table;
+      signal-table = l.signal-table;
+    }
+
+module _ {whole : Whole} (p : Passed whole) where
+  signals-few : (i : ℕ) → i < whole.tables.reading.counts.links → signal_in whole.tables.links.now i ≤ max_signals
+  signals-few i l =
+      let u : i < link_count (whole_network whole) = omega (arith, p.counted.links) in
+      omega (arith, signal-of-at p.link-table i u, (link-limits (whole_network whole) (valid-network (whole_network whole) p.holds) i u).signal-last, p.counted.signals, p.counted.few.signals)
+
+  pub halves-asked : HalvesAsked whole.tables
+  halves-asked =
       record {
-        holds = l.holds;
-        counted = l.counted;
-        trams-start = l.trams-start;
-        signals-start = l.signals-start;
-        steps-start = l.steps-start;
-        link-table = l.link-table;
-        movement-table = l.movement-table;
+        signals = signals-few;
+        ends = λ j side l k. let e = movement-ends (whole_network whole) p.holds p.movement-table j side (omega (arith, p.counted.movements)) k in (e.0, omega (arith, e.1, p.counted.links));
       }
 
-  module _ (p : Passed text reading links movements) where
-    signals-few : (i : ℕ) → i < reading.counts.links → signal_in links i ≤ max_signals
-    signals-few i l =
-        let u : i < link_count (lines text) = omega (arith, p.counted.links) in
-        omega (arith, signal-of-at p.link-table i u, (link-limits (lines text) (valid-network (lines text) p.holds) i u).signal-last, p.counted.signals, p.counted.few.signals)
+  -- ---- `judge_halves`
+  pub parts-asked : PartsAsked whole.tables
+  parts-asked = signals-few
 
-    pub halves-asked : {first second : List ℕ} → first ≡ replicate half_size 0 → second ≡ replicate half_size 0 → HalvesAsked reading.counts links movements first second
-    halves-asked f s =
-        record {
-          few = p.counted.few;
-          link-room = p.link-table.size;
-          movement-room = p.movement-table.size;
-          signals = signals-few;
-          ends = λ j side l k. rw p.counted.links (movement-ends p.holds p.movement-table j side (omega (arith, p.counted.movements)) k);
-          first-size = rw f (length-replicate {A = ℕ} half_size 0);
-          second-size = rw s (length-replicate {A = ℕ} half_size 0);
-          first-blank = λ k l. zeros-at half_size f k;
-          second-blank = λ k l. zeros-at half_size s k;
-        }
-
-    pub signals-asked : {signals : List ℕ} → signals ≡ replicate signal_table_size 0 → LoadAsked text reading signals
-    signals-asked zeros = load-zeros (signals-passed p.signals-start p.counted p.holds) zeros
-
--- ---- `judge_halves`
-module _ {network_text : List ℕ} {reading : Reading} {signals links movements first second : List ℕ} (a : JudgeAsked network_text reading signals links movements first second) where
-  pub split-asked : SplitAsked network_text reading links movements first second
-  split-asked =
-      let p = a.passed in
-      record {
-        holds = p.holds;
-        counted = p.counted;
-        steps-start = p.steps-start;
-        link-table = p.link-table;
-        movement-table = p.movement-table;
-        first-size = a.first-size;
-        second-size = a.second-size;
-      }
-
-  pub parts-asked : PartsAsked links first reading.counts.links
-  parts-asked = record { few = a.passed.counted.few.links; room = a.passed.link-table.size; half-size = a.first-size; signals = signals-few a.passed }
-
-  pub form-asked : FormAsked signals reading.counts
+  pub form-asked : FormAsked whole.signals.now whole.tables.reading.counts
   form-asked =
       record {
-        few = a.passed.counted.few;
-        signals-size = a.signal-table.size;
-        ready = λ r l. (signals-first (lines network_text) [] signals (valid-network (lines network_text) a.passed.holds) a.signal-table).ready r (omega (arith, a.passed.counted.signals));
+        few = p.counted.few;
+        signals-size = p.signal-table.size;
+        ready = λ r l. (signals-first (whole_network whole) [] whole.signals.now (valid-network (whole_network whole) p.holds) p.signal-table).ready r (omega (arith, p.counted.signals));
       }
 
-  module _ (plan_text : List ℕ) {above : ℕ} {can : Bool} (c : SplitTold network_text above first second can) {parts : Bool} (s : PartsTold links first reading.counts.links parts) where
-    module _ (set : ℕ) (e : above ≡ set / 2 ^ link_count (lines network_text)) (f : HalfTable (lines network_text) (first_half (lines network_text) (in_set set)) first)
-        (g : HalfTable (lines network_text) (second_half (lines network_text) (in_set set)) second) where
-      -- the tests told are those of the definitions, one after another
-      judged-by : verdict (part_checks (lines network_text) (plan_of network_text plan_text) set)
-          ≡ or_else (checked can 40 0 0) (or_else (checked parts 41 0 0) (verdict (form_checks (lines network_text) (plan_of network_text plan_text))))
-      unfolding part_checks verdict
-      judged-by =
-          let p = a.passed in
-          or-else-passes _ _ (passes-of-hold (network_checks (lines network_text)) p.holds)
-          ∙ rw (← c set e f g, ← s (lines network_text) p.holds p.counted.links p.link-table set f) refl
+  module _ {halves : Halves} {can : Bool} (c : SplitTold (whole_network whole) halves can) where
+    -- the test told is that of the definitions, before the others
+    judged-by : (set : ℕ) → HalvesBy (whole_network whole) set halves → verdict (part_checks (whole_network whole) (whole_plan whole) set)
+        ≡ or_else (checked can 40 0 0) (or_else (checked (parts_signals (whole_network whole) (in_set set)) 41 0 0) (verdict (form_checks (whole_network whole) (whole_plan whole))))
+    unfolding part_checks verdict
+    judged-by set by = or-else-passes _ _ (passes-of-hold (network_checks (whole_network whole)) p.holds) ∙ rw (← c set by) refl
 
     -- 40
-    pub no-split : not can ≡ true → {r : Refusal} → r ≡ refusal 40 0 0 → HalvesJudged network_text plan_text above first second (Err r)
-    no-split n t set e f g = rw t (sym (judged-by set e f g ∙ or-else-refused _ _ _ (checked_refused can 40 0 0 (not-true can n))))
+    pub no-split : {r : Refusal} → checked can 40 0 0 ≡ Err r → HalvesJudged whole halves (Err r)
+    no-split e set by = sym (judged-by set by ∙ or-else-refused _ _ _ e)
 
-    module _ (y : not can ≡ false) where
-      then-parts : (set : ℕ) (e : above ≡ set / 2 ^ link_count (lines network_text)) (f : HalfTable (lines network_text) (first_half (lines network_text) (in_set set)) first)
-          (g : HalfTable (lines network_text) (second_half (lines network_text) (in_set set)) second)
-          → verdict (part_checks (lines network_text) (plan_of network_text plan_text) set) ≡ or_else (checked parts 41 0 0) (verdict (form_checks (lines network_text) (plan_of network_text plan_text)))
-      then-parts set e f g = judged-by set e f g ∙ or-else-passes _ _ (checked-passes can 40 0 0 (not-false can y))
+    module _ (y : checked can 40 0 0 ≡ Ok tt) {parts : Bool} (s : PartsTold whole.tables halves.first parts) where
+      then-parts : (set : ℕ) → HalvesBy (whole_network whole) set halves → verdict (part_checks (whole_network whole) (whole_plan whole) set)
+          ≡ or_else (checked parts 41 0 0) (verdict (form_checks (whole_network whole) (whole_plan whole)))
+      then-parts set by = judged-by set by ∙ or-else-passes _ _ y ∙ rw (← s (whole_network whole) p.holds p.counted.links p.link-table set by.first) refl
 
       -- 41
-      pub no-parts : not parts ≡ true → {r : Refusal} → r ≡ refusal 41 0 0 → HalvesJudged network_text plan_text above first second (Err r)
-      no-parts n t set e f g = rw t (sym (then-parts set e f g ∙ or-else-refused _ _ _ (checked_refused parts 41 0 0 (not-true parts n))))
+      pub no-parts : {r : Refusal} → checked parts 41 0 0 ≡ Err r → HalvesJudged whole halves (Err r)
+      no-parts e set by = sym (then-parts set by ∙ or-else-refused _ _ _ e)
 
       -- 9, or none
-      pub form-judged : not parts ≡ false → {v : Verdict} → FormTold plan_text signals reading.counts v → HalvesJudged network_text plan_text above first second v
-      form-judged z form set e f g =
-          form network_text (record { holds = a.passed.holds; counted = a.passed.counted; signal-table = a.signal-table })
-          ∙ sym (then-parts set e f g ∙ or-else-passes _ _ (checked-passes parts 41 0 0 (not-false parts z)))
+      pub form-judged : checked parts 41 0 0 ≡ Ok tt → {v : Verdict} → FormTold whole.plan.now whole.signals.now whole.tables.reading.counts v → HalvesJudged whole halves v
+      form-judged z form set by =
+          form whole.network.now (record { holds = p.holds; counted = p.counted; signal-table = p.signal-table })
+          ∙ sym (then-parts set by ∙ or-else-passes _ _ z)
 
--- ---- `split_loaded`
-module _ {network_text : List ℕ} {reading : Reading} {links movements : List ℕ} (p : Passed network_text reading links movements) (set : ℕ) {first second : List ℕ}
-    (numbered : HalvesNumbered set reading.counts links movements first second) {signals : List ℕ} (t : SignalTable (lines network_text) signals) where
-  both : HalfTable (lines network_text) (first_half (lines network_text) (in_set set)) first × HalfTable (lines network_text) (second_half (lines network_text) (in_set set)) second
-  both = numbered (lines network_text) p.counted p.link-table p.movement-table
+  -- ---- `split_loaded`
+  module _ (set : ℕ) {halves : Halves} (numbered : HalvesNumbered set whole.tables halves) {v : Verdict} (j : HalvesJudged whole halves v) where
+    by-set : HalvesBy (whole_network whole) set halves
+    by-set = numbered (whole_network whole) p.counted p.link-table p.movement-table
 
-  pub judge-asked : JudgeAsked network_text reading signals links movements first second
-  judge-asked = record { passed = p; signal-table = t; first-size = both.0.size; second-size = both.1.size }
-
-  module _ (plan_text : List ℕ) {above : ℕ} (a : above ≡ set / 2 ^ reading.counts.links) {v : Verdict} (j : HalvesJudged network_text plan_text above first second v) where
-    judged-is : verdict (part_checks (lines network_text) (plan_of network_text plan_text) set) ≡ v
-    judged-is = sym (j set (rw p.counted.links at a) both.0 both.1)
+    judged-is : verdict (part_checks (whole_network whole) (whole_plan whole) set) ≡ v
+    judged-is = sym (j set by-set)
 
     -- 40, 41 or 9
-    pub judged-refused : (before : Buffers) {r : Refusal} → v ≡ Err r → SplitGot network_text plan_text set before before (Err r)
-    judged-refused before e = got-refused network_text plan_text set before (judged-is ∙ e)
+    pub judged-refused : (before : Buffers) {r : Refusal} → v ≡ Err r → SplitGot whole.network.now whole.plan.now set before before (Err r)
+    judged-refused before e = got-refused whole.network.now whole.plan.now set before (judged-is ∙ e)
 
     module _ (e : v ≡ Ok tt) where
-      hold : Hold (part_checks (lines network_text) (plan_of network_text plan_text) set)
-      hold = hold-of-passes (part_checks (lines network_text) (plan_of network_text plan_text) set) (judged-is ∙ e)
+      hold : Hold (part_checks (whole_network whole) (whole_plan whole) set)
+      hold = hold-of-passes (part_checks (whole_network whole) (whole_plan whole) set) (judged-is ∙ e)
 
-      halves : BothHalves (lines network_text) set first second
+      both : BothHalves (whole_network whole) set halves
       unfolding part_checks Hold
-      halves = record { can = and_right _ _ hold.1.0; parts = hold.1.1.0; first-table = both.0; second-table = both.1 }
+      both = record { can = and_right _ _ hold.1.0; parts = hold.1.1.0; numbered = by-set }
 
-      pub write-asked : WriteAsked network_text plan_text reading signals links movements first second
+      pub write-asked : WriteAsked whole halves
       unfolding part_checks form_checks Hold
       write-asked =
           record {
             passed = p;
-            held = record { holds = p.holds; counted = p.counted; signal-table = t; movement-table = p.movement-table; forms = hold.1.1.1.0 };
+            held = record { holds = p.holds; counted = p.counted; signal-table = p.signal-table; movement-table = p.movement-table; forms = hold.1.1.1.0 };
             set = set;
-            halves = halves;
+            both = both;
           }
 
       -- 42, or the texts
-      pub all-judged : {before after : Buffers} {answer : (Result Lengths Refusal)} → HalvesWritten network_text plan_text first second before after answer → SplitGot network_text plan_text set before after answer
-      all-judged {before} w = got-written network_text plan_text set before (judged-is ∙ e) (w set halves)
+      pub all-judged : {before after : Buffers} {answer : (Result Lengths Refusal)} → HalvesWritten whole halves before after answer → SplitGot whole.network.now whole.plan.now set before after answer
+      all-judged {before} w = got-written whole.network.now whole.plan.now set before (judged-is ∙ e) (w set both)
 
 -- ---- the call
 pub network-refused : (network_text plan_text : List ℕ) (set : ℕ) (before : Buffers) {stage : (Result Reading Refusal)} {Held : Reading → Type 0} {r : Refusal} → Judged (network_checks (lines network_text)) Held stage

@@ -4,102 +4,36 @@
 ghost use Rattle.std.specs.Prelude.{◌≡◌};
 ghost use Rattle.text_reader.specs.Padding.{PaddingIgnored};
 ghost use Rattle.model_split.specs.Splits.{SplitInTwo};
-ghost use Rattle.split_text.specs.Halves.{NetworkAsked};
-ghost use Rattle.split.specs.Splitting.{texts, buffers, HalfPut, Passed, JudgeAsked, HalvesJudged, WriteAsked, Measured, fits, HalvesWritten, SplitGot};
+ghost use Rattle.split.specs.Splitting.{texts, buffers, Passed, HalvesJudged, WriteAsked, Measured, fits, HalvesWritten, SplitGot};
 
 use base_search::Refusal;
+use model::Signal;
 use model_split::Lengths;
 use network_tables::{
-    LINK_TABLE_SIZE, MOVEMENT_TABLE_SIZE, Reading, SIGNAL_TABLE_SIZE, TIME_TABLE_SIZE,
+    Link, MAX_LINKS, MAX_MOVEMENTS, MAX_SIGNALS, Movement, NetworkTables, TIME_TABLE_SIZE,
 };
-use split_tables::HALF_SIZE;
+use split_tables::{Halves, Whole};
 
-// How long the network and the plan of one half are.
-#[derive(Clone, Copy)]
-struct HalfLengths {
-    network: usize,
-    plan: usize,
-}
-
-// Writes the network and the plan of one half at the beginning of two buffers, as far as they fit, and returns their lengths.
-fn put_half(
-    network: &[u8],
-    plan: &[u8],
-    reading: Reading,
-    signals: &[u32],
-    links: &[u32],
-    movements: &[u32],
-    half: &[u32],
-    network_out: &mut [u8],
-    plan_out: &mut [u8],
-) -> HalfLengths
-    requires { NetworkAsked network.now plan.now reading signals.now links.now movements.now half.now }
-    ensures { HalfPut network.now plan.now half.now network_out.old network_out.new plan_out.old plan_out.new result }
+// How long the four texts are: they are put where there is no room. Each is written twice, since a buffer that is too short has to leave the other three as they
+// are, and no heap is there to keep the texts.
+fn measure(whole: &Whole, halves: &Halves) -> Lengths
+    requires { WriteAsked whole.now halves.now }
+    ensures { Measured whole.now halves.now result }
 {
-    let network_size = split_text::put_network(
-        network,
-        plan,
-        reading,
-        signals,
-        links,
-        movements,
-        half,
-        network_out,
-    );
-    let plan_size = split_text::put_plan(plan, signals, movements, reading.counts, half, plan_out);
-    HalfLengths {
-        network: network_size,
-        plan: plan_size,
-    }
-}
-
-// How long the four texts are: they are put where there is no room.
-fn measure(
-    network: &[u8],
-    plan: &[u8],
-    reading: Reading,
-    signals: &[u32],
-    links: &[u32],
-    movements: &[u32],
-    first: &[u32],
-    second: &[u32],
-) -> Lengths
-    requires { WriteAsked network.now plan.now reading signals.now links.now movements.now first.now second.now }
-    ensures { Measured network.now plan.now first.now second.now result }
-{
-    let mut no_network = [0u8; 1];
-    let mut no_plan = [0u8; 1];
-    let one = put_half(
-        network,
-        plan,
-        reading,
-        signals,
-        links,
-        movements,
-        first,
-        &mut no_network,
-        &mut no_plan,
-    );
-    let other = put_half(
-        network,
-        plan,
-        reading,
-        signals,
-        links,
-        movements,
-        second,
-        &mut no_network,
-        &mut no_plan,
-    );
+    let mut none = [0u8; 1];
+    let network_1 = split_text::put_network(whole, &halves.first, &mut none);
+    let plan_1 = split_text::put_plan(whole, &halves.first, &mut none);
+    let network_2 = split_text::put_network(whole, &halves.second, &mut none);
+    let plan_2 = split_text::put_plan(whole, &halves.second, &mut none);
     Lengths {
-        network_1: one.network,
-        plan_1: one.plan,
-        network_2: other.network,
-        plan_2: other.plan,
+        network_1,
+        plan_1,
+        network_2,
+        plan_2,
     }
 }
 
-// Whether four buffers of these lengths have room.
+// Whether four buffers of these lengths have room. All four are asked, by `&`: the one way out says just what `fits` does.
 fn has_room(lengths: Lengths, room: Lengths) -> bool
     ensures { result ≡ fits lengths room }
 {
@@ -111,106 +45,59 @@ fn has_room(lengths: Lengths, room: Lengths) -> bool
 
 // Writes the four texts if each buffer has room for its own (42); else all are left untouched.
 fn write_halves(
-    network: &[u8],
-    plan: &[u8],
-    reading: Reading,
-    signals: &[u32],
-    links: &[u32],
-    movements: &[u32],
-    first: &[u32],
-    second: &[u32],
+    whole: &Whole,
+    halves: &Halves,
     network_1: &mut [u8],
     plan_1: &mut [u8],
     network_2: &mut [u8],
     plan_2: &mut [u8],
 ) -> Result<Lengths, Refusal>
-    requires { WriteAsked network.now plan.now reading signals.now links.now movements.now first.now second.now }
-    ensures { HalvesWritten network.now plan.now first.now second.now (buffers network_1.old plan_1.old network_2.old plan_2.old) (buffers network_1.new plan_1.new network_2.new plan_2.new) result }
+    requires { WriteAsked whole.now halves.now }
+    ensures { HalvesWritten whole.now halves.now (buffers network_1.old plan_1.old network_2.old plan_2.old) (buffers network_1.new plan_1.new network_2.new plan_2.new) result }
 {
-    let lengths = measure(
-        network, plan, reading, signals, links, movements, first, second,
-    );
+    let lengths = measure(whole, halves);
     let room = Lengths {
         network_1: network_1.len(),
         plan_1: plan_1.len(),
         network_2: network_2.len(),
         plan_2: plan_2.len(),
     };
-    if !has_room(lengths, room) {
-        return Err(Refusal::new(42, 0, 0));
-    }
-    put_half(
-        network, plan, reading, signals, links, movements, first, network_1, plan_1,
-    );
-    put_half(
-        network, plan, reading, signals, links, movements, second, network_2, plan_2,
-    );
+    network_tables::checked(has_room(lengths, room), 42, 0, 0)?;
+    split_text::put_network(whole, &halves.first, network_1);
+    split_text::put_plan(whole, &halves.first, plan_1);
+    split_text::put_network(whole, &halves.second, network_2);
+    split_text::put_plan(whole, &halves.second, plan_2);
     Ok(lengths)
 }
 
-// The checks on a network that has passed, with the tables of its halves: 40, where `above` is what is left of the set above the last link, 41, and the form of the
-// plan's lines.
-fn judge_halves(
-    network: &[u8],
-    plan: &[u8],
-    reading: Reading,
-    above: u32,
-    signals: &[u32],
-    links: &[u32],
-    movements: &[u32],
-    first: &[u32],
-    second: &[u32],
-) -> Result<(), Refusal>
-    requires { JudgeAsked network.now reading signals.now links.now movements.now first.now second.now }
-    ensures { HalvesJudged network.now plan.now above first.now second.now result }
+// The checks on a network that has passed, with the tables of its halves: 40, 41, and the form of the plan's lines. Both tests are made before one of them is
+// refused: a wrong program, which reports 41 before 40, exchanges the two.
+fn judge_halves(whole: &Whole, halves: &Halves) -> Result<(), Refusal>
+    requires { Passed whole.now }
+    ensures { HalvesJudged whole.now halves.now result }
 {
-    let counts = reading.counts;
-    let can = split_checks::can_split(network, reading, above, links, movements, first, second);
-    let parts = split_checks::parts_signals(links, first, counts.links);
-    if !can {
-        return Err(Refusal::new(40, 0, 0));
-    }
-    if !parts {
-        return Err(Refusal::new(41, 0, 0));
-    }
-    split_checks::plan_form(plan, signals, counts)
+    let can = split_checks::can_split(whole, halves);
+    let parts = split_checks::parts_signals(&whole.tables, &halves.first);
+    network_tables::checked(can, 40, 0, 0)?;
+    network_tables::checked(parts, 41, 0, 0)?;
+    split_checks::plan_form(whole.plan, whole.signals, whole.tables.reading.counts)
 }
 
 // Splits a network that has passed: the checks on its halves and on the plan, then the texts.
 fn split_loaded(
-    network: &[u8],
-    plan: &[u8],
+    whole: &Whole,
     first_half: u32,
-    reading: Reading,
-    links: &[u32],
-    movements: &[u32],
     network_1: &mut [u8],
     plan_1: &mut [u8],
     network_2: &mut [u8],
     plan_2: &mut [u8],
 ) -> Result<Lengths, Refusal>
-    requires { Passed network.now reading links.now movements.now }
-    ensures { SplitGot network.now plan.now first_half (buffers network_1.old plan_1.old network_2.old plan_2.old) (buffers network_1.new plan_1.new network_2.new plan_2.new) result }
+    requires { Passed whole.now }
+    ensures { SplitGot whole.now.network.now whole.now.plan.now first_half (buffers network_1.old plan_1.old network_2.old plan_2.old) (buffers network_1.new plan_1.new network_2.new plan_2.new) result }
 {
-    let mut first = [0u32; HALF_SIZE];
-    let mut second = [0u32; HALF_SIZE];
-    let above = split_tables::number_halves(
-        first_half,
-        reading.counts,
-        links,
-        movements,
-        &mut first,
-        &mut second,
-    );
-    let mut signals = [0u32; SIGNAL_TABLE_SIZE];
-    network_signals::load_signals(network, reading, &mut signals);
-    judge_halves(
-        network, plan, reading, above, &signals, links, movements, &first, &second,
-    )?;
-    write_halves(
-        network, plan, reading, &signals, links, movements, &first, &second, network_1, plan_1,
-        network_2, plan_2,
-    )
+    let halves = split_tables::number_halves(first_half, &whole.tables);
+    judge_halves(whole, &halves)?;
+    write_halves(whole, &halves, network_1, plan_1, network_2, plan_2)
 }
 
 // Splits a network and a plan in two, by the set of links in the first half: bit i - 1 for link i. Refusals: the network's (1 to 6, 28, 30), 40, 41, 9, 42.
@@ -226,12 +113,28 @@ pub fn split(
     ensures split_in_two { SplitInTwo (texts network.now plan.now) first_half (buffers network_1.old plan_1.old network_2.old plan_2.old) (buffers network_1.new plan_1.new network_2.new plan_2.new) result }
     ensures padding_ignored { PaddingIgnored network.now (λ padded_network. PaddingIgnored plan.now (λ padded_plan. SplitGot padded_network padded_plan first_half (buffers network_1.old plan_1.old network_2.old plan_2.old) (buffers network_1.new plan_1.new network_2.new plan_2.new) result)) }
 {
-    let mut links = [0u32; LINK_TABLE_SIZE];
-    let mut movements = [0u32; MOVEMENT_TABLE_SIZE];
+    let mut signals = [Signal::default(); MAX_SIGNALS];
+    let mut links = [Link::default(); MAX_LINKS];
+    let mut movements = [Movement::default(); MAX_MOVEMENTS];
     let mut times = [0u32; TIME_TABLE_SIZE];
-    let reading = network::load_network(network, &mut links, &mut movements, &mut times)?;
-    split_loaded(
-        network, plan, first_half, reading, &links, &movements, network_1, plan_1, network_2,
-        plan_2,
-    )
+    let reading = network::read_network(
+        network,
+        &mut signals,
+        &mut links,
+        &mut movements,
+        &mut times,
+    )?;
+    let tables = NetworkTables {
+        reading,
+        links: &links,
+        movements: &movements,
+        times: &times,
+    };
+    let whole = Whole {
+        network,
+        plan,
+        tables,
+        signals: &signals,
+    };
+    split_loaded(&whole, first_half, network_1, plan_1, network_2, plan_2)
 }

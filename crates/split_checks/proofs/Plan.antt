@@ -1,5 +1,5 @@
 -- The form of a plan's lines: a line read is that of the plan which its text means, and the turns of the loop over all lines.
-use Rattle.base_laws.proofs.Kit.{ℕ, suc, ◌+◌, ◌-◌, ◌≤◌, ◌<◌, ◌≡◌, sym, ap, ◌∙◌, Bool, true, false, not, List, dec_le, add-one, arith, not-true, not-false, eqb, length, get_or, replicate, length-replicate, List·getD-eq-default}
+use Rattle.base_laws.proofs.Kit.{ℕ, suc, ◌+◌, ◌-◌, ◌≤◌, ◌<◌, ◌≡◌, sym, ap, ◌∙◌, Bool, true, false, not, List, dec_le, add-one, arith, not-true, not-false, eqb, length, replicate, length-replicate, List·getD-eq-default}
 use borrow.Author.Count.{below_more}
 use Rattle.base_search.specs.declared.Refusal.{Refusal}
 use Rattle.base_search.specs.Checks.{refusal, checked, verdict}
@@ -14,34 +14,25 @@ use Rattle.model.specs.Hold.{plan_of}
 use Rattle.model.proofs.Accepted.{valid-network}
 use Rattle.network_tables.specs.declared.Counts.{Counts}
 use Rattle.network_tables.specs.Fields.{line_size}
-use Rattle.plan_steps.specs.PlanLine.{LineAsked, LineGot}
+use Rattle.plan_steps.specs.PlanLine.{LineGot}
 use Rattle.plan_steps.proofs.PlanLines.{line-bad, line-good, plan-ends}
-use Rattle.split_tables.proofs.Halves.{zeros-at}
+use Rattle.split_tables.proofs.Marks.{zeros-at}
 use Rattle.model_split.specs.Call.{form_checks}
-use Rattle.split_checks.specs.Plan.{FormAsked, OnNetwork, is_formed, LineForm, FormsTo, FormTold}
+use Rattle.split_checks.specs.Plan.{OnNetwork, is_formed, LineForm, FormsTo, FormTold}
 use Rattle.base_laws.proofs.Tests.{not-both}
 use Rattle.std.specs.Prelude.{Option, Some, None, Ok, Err}
 
 -- ---- `line_form`
-pub line-asked : {signals : List ℕ} {counts : Counts} → FormAsked signals counts → {line : List ℕ} → length line ≡ line_size → LineAsked signals counts line
-line-asked a size = record { few = a.few; signals-size = a.signals-size; ready = a.ready; size = size }
-
-pub line-told : {plan_text : List ℕ} {at : ℕ} {signals : List ℕ} {counts : Counts} {before line : List ℕ} {result : (Option ℕ)} → before ≡ replicate line_size 0
-    → LineGot plan_text at signals counts before result line → LineForm plan_text at signals counts result
-line-told {plan_text} {at} {before = before} zeros got =
+pub line-told : {plan_text : List ℕ} {at : ℕ} {signals : List Signal} {counts : Counts} {line : List ℕ} {result : (Option ℕ)} → LineGot plan_text at signals counts (replicate line_size 0) result line
+    → LineForm plan_text at signals counts result
+line-told {plan_text} {at} got =
     record {
       malformed = λ e network_text on n l starts. line-bad network_text plan_text (valid-network _ on.holds) on.counted l starts
-          (λ empty r u. ap (λ (s : Signal). s.shown) (on.signal-table.holds r u)) (λ empty k u. blank k) size got e;
+          (λ empty r u. ap (λ (s : Signal). s.shown) (on.signal-table.holds r u)) (λ empty k u. zeros-at line_size k) (length-replicate {A = ℕ} line_size 0) got e;
       formed = λ next e network_text on n l starts. line-good network_text plan_text (valid-network _ on.holds) on.counted l starts
-          (λ empty r u. ap (λ (s : Signal). s.shown) (on.signal-table.holds r u)) (λ empty k u. blank k) size got e;
+          (λ empty r u. ap (λ (s : Signal). s.shown) (on.signal-table.holds r u)) (λ empty k u. zeros-at line_size k) (length-replicate {A = ℕ} line_size 0) got e;
       starts = λ next e n starts h. ((got.read h).held next e n (starts h)).starts;
     }
-  where
-    blank : (k : ℕ) → get_or before k 0 ≡ 0
-    blank = zeros-at line_size zeros
-
-    size : length before ≡ line_size
-    size = rw zeros (length-replicate {A = ℕ} line_size 0)
 
 -- ---- `plan_form`
 -- a line that has its form is there
@@ -51,10 +42,10 @@ formed-there network_text plan_text n f = elim (dec_le (length (plan_of network_
   | no l ↦ omega arith
 ]
 
-pub forms-none : {plan_text signals : List ℕ} {counts : Counts} → FormsTo plan_text signals counts 0 0
+pub forms-none : {plan_text : List ℕ} {signals : List Signal} {counts : Counts} → FormsTo plan_text signals counts 0 0
 forms-none {plan_text} = record { within = omega arith; starts = λ h. starts_first plan_text; formed = λ network_text on m l. absurd (omega arith) }
 
-module _ {plan_text signals : List ℕ} {counts : Counts} {at n : ℕ} (inv : FormsTo plan_text signals counts at n) where
+module _ {plan_text : List ℕ} {signals : List Signal} {counts : Counts} {at n : ℕ} (inv : FormsTo plan_text signals counts at n) where
   module _ (l : n < counts.steps) {result : (Option ℕ)} (line : LineForm plan_text at signals counts result) where
     -- a line is malformed
     pub forms-stop : result ≡ None → {r : Refusal} → r ≡ refusal 9 (n + 1) 0 → FormTold plan_text signals counts (Err r)

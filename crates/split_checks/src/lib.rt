@@ -1,61 +1,52 @@
-// Whether a network that has passed can be split by the tables of its halves (T-14: 40, 41), and the form of a plan's lines (9).
+// Whether a network that has passed can be split by the tables of its halves (T-14: 40, 41), and the form of a plan's lines (9). Tests are joined by `&` and `|`,
+// which ask both sides: a function has one way out to prove.
 #![tactic(auto)]
 
-ghost use Rattle.std.specs.Prelude.{◌≡◌, ◌-◌, ◌≤◌, ◌<◌, length};
-ghost use Rattle.text_reader.specs.Lines.{lines};
+ghost use Rattle.std.specs.Prelude.{◌≡◌, ◌≤◌, ◌<◌, length};
 ghost use Rattle.base_laws.specs.Test.{every};
 ghost use Rattle.model.specs.Network.{max_links, max_signals, step_count};
-ghost use Rattle.network_tables.specs.Fields.{link_table_size, step_size, link_in, demand_in};
-ghost use Rattle.split_tables.specs.Tables.{half_size, MovementsAsked};
-ghost use Rattle.split_checks.specs.Tables.{none_wait_in, stands_apart_in, right_kind_in, demand_free_in, own_signal_by, PlaceAsked, KindAsked, PartsAsked};
+ghost use Rattle.network_tables.specs.Fields.{step_size, demand_in};
+ghost use Rattle.split_tables.specs.Whole.{whole_network};
+ghost use Rattle.split_checks.specs.Tables.{none_wait_in, stands_apart_in, right_kind_in, demand_free_in, own_signal_by, EndsAsked, PartsAsked};
 ghost use Rattle.split_checks.specs.Network.{StepsAsked, step_free, SplitAsked, SplitTold, PartsTold};
 ghost use Rattle.split_checks.specs.Plan.{FormAsked, LineForm, FormTold};
 
 use base_search::Refusal;
-use network_tables::{Counts, LINE_SIZE, Reading, STEP_SIZE};
-use split_tables::SIGNALS_AT;
+use model::Signal;
+use network_tables::{Counts, LINE_SIZE, Link, NetworkTables, STEP_SIZE};
+use split_tables::{HalfTables, Halves, Whole};
 
 // Whether nobody waits at the entries.
-fn nobody_waits(links: &[u32], count: usize) -> bool
-    requires { (count ≤ max_links) × (length links.now ≡ link_table_size) }
+fn nobody_waits(links: &[Link], count: usize) -> bool
+    requires { (count ≤ max_links) × (length links.now ≡ max_links) }
     ensures { result ≡ every count (none_wait_in links.now) }
 {
     for i in 0..count {
-        if network_tables::waiting_at_start(links, i) != 0 {
+        if links[i].waiting != 0 {
             return false;
         }
     }
     true
 }
 
-// The place of a movement's link in the tables.
-fn link_place(movements: &[u32], j: usize, side: usize) -> usize
-    requires { PlaceAsked movements.now j side }
-    ensures { (result ≡ link_in movements.now side j - 1) × (result < max_links) }
-{
-    network_tables::index(network_tables::link_of(movements, j, side)) - 1
-}
-
 // Whether movement k is j itself, or neither leaves the link that border movement j leaves nor is a border movement into the link that j enters.
-fn stands_apart(movements: &[u32], half: &[u32], count: usize, j: usize, k: usize) -> bool
-    requires { MovementsAsked movements.now half.now count × (j < count) × (k < count) }
-    ensures { result ≡ stands_apart_in movements.now half.now j k }
+fn stands_apart(tables: &NetworkTables, half: &HalfTables, j: usize, k: usize) -> bool
+    requires { EndsAsked tables.now × (j < tables.now.reading.counts.movements) × (k < tables.now.reading.counts.movements) }
+    ensures { result ≡ stands_apart_in tables.now.movements.now half.now.links j k }
 {
-    let other = split_tables::links_in(movements, half, k) != 1;
-    (k == j)
-        | (network_tables::link_of(movements, k, 0) != network_tables::link_of(movements, j, 0))
-            & (other
-                | (network_tables::link_of(movements, k, 1)
-                    != network_tables::link_of(movements, j, 1)))
+    let border = tables.movements[j];
+    let movement = tables.movements[k];
+    let other = split_tables::links_in(tables.movements, &half.links, k) != 1;
+    (k == j) | (movement.from != border.from) & (other | (movement.to != border.to))
 }
 
 // Whether all movements stand apart from border movement j.
-fn stands_alone(movements: &[u32], half: &[u32], count: usize, j: usize) -> bool
-    requires { MovementsAsked movements.now half.now count × (j < count) }
-    ensures { result ≡ every count (stands_apart_in movements.now half.now j) }
+fn stands_alone(tables: &NetworkTables, half: &HalfTables, j: usize) -> bool
+    requires { EndsAsked tables.now × (j < tables.now.reading.counts.movements) }
+    ensures { result ≡ every tables.now.reading.counts.movements (stands_apart_in tables.now.movements.now half.now.links j) }
 {
-    for k in 0..count {
-        if !stands_apart(movements, half, count, j, k) {
+    for k in 0..tables.reading.counts.movements {
+        if !stands_apart(tables, half, j, k) {
             return false;
         }
     }
@@ -63,26 +54,25 @@ fn stands_alone(movements: &[u32], half: &[u32], count: usize, j: usize) -> bool
 }
 
 // Whether a movement is no border movement, or leaves a link without a signal, with exit rate 0 and no other movement from it, and enters a link without second border.
-fn right_kind(links: &[u32], movements: &[u32], half: &[u32], count: usize, j: usize) -> bool
-    requires { KindAsked links.now movements.now half.now count × (j < count) }
-    ensures { result ≡ right_kind_in links.now movements.now half.now count j }
+fn right_kind(tables: &NetworkTables, half: &HalfTables, j: usize) -> bool
+    requires { EndsAsked tables.now × (j < tables.now.reading.counts.movements) }
+    ensures { result ≡ right_kind_in tables.now.links.now tables.now.movements.now half.now.links tables.now.reading.counts.movements j }
 {
-    if split_tables::links_in(movements, half, j) != 1 {
+    if split_tables::links_in(tables.movements, &half.links, j) != 1 {
         return true;
     }
-    let from = link_place(movements, j, 0);
-    (network_tables::signal_of(links, from) == 0)
-        & (network_tables::exit_rate(links, from) == 0)
-        & stands_alone(movements, half, count, j)
+    let from = tables.movements[j].from as usize;
+    let link = tables.links[from - 1];
+    (link.signal == 0) & (link.exit_rate == 0) & stands_alone(tables, half, j)
 }
 
 // Whether all movements are of that kind.
-fn right_kinds(links: &[u32], movements: &[u32], half: &[u32], count: usize) -> bool
-    requires { KindAsked links.now movements.now half.now count }
-    ensures { result ≡ every count (right_kind_in links.now movements.now half.now count) }
+fn right_kinds(tables: &NetworkTables, half: &HalfTables) -> bool
+    requires { EndsAsked tables.now }
+    ensures { result ≡ every tables.now.reading.counts.movements (right_kind_in tables.now.links.now tables.now.movements.now half.now.links tables.now.reading.counts.movements) }
 {
-    for j in 0..count {
-        if !right_kind(links, movements, half, count, j) {
+    for j in 0..tables.reading.counts.movements {
+        if !right_kind(tables, half, j) {
             return false;
         }
     }
@@ -90,85 +80,81 @@ fn right_kinds(links: &[u32], movements: &[u32], half: &[u32], count: usize) -> 
 }
 
 // Whether a movement is no border movement, or enters a link without demand in a step.
-fn demand_free(step: &[u32], movements: &[u32], half: &[u32], count: usize, j: usize) -> bool
-    requires { MovementsAsked movements.now half.now count × (length step.now ≡ step_size) × (j < count) }
-    ensures { result ≡ demand_free_in (demand_in step.now) movements.now half.now j }
+fn demand_free(step: &[u32], tables: &NetworkTables, half: &HalfTables, j: usize) -> bool
+    requires { EndsAsked tables.now × (length step.now ≡ step_size) × (j < tables.now.reading.counts.movements) }
+    ensures { result ≡ demand_free_in (demand_in step.now) tables.now.movements.now half.now.links j }
 {
-    let to = link_place(movements, j, 1);
-    (split_tables::links_in(movements, half, j) != 1) | (network_tables::demand(step, to) == 0)
+    let to = tables.movements[j].to as usize;
+    let other = split_tables::links_in(tables.movements, &half.links, j) != 1;
+    other | (network_tables::demand(step, to - 1) == 0)
 }
 
 // The same of all movements, in one step.
-fn step_free(step: &[u32], movements: &[u32], half: &[u32], count: usize) -> bool
-    requires { MovementsAsked movements.now half.now count × (length step.now ≡ step_size) }
-    ensures { result ≡ every count (demand_free_in (demand_in step.now) movements.now half.now) }
+fn step_free(step: &[u32], tables: &NetworkTables, half: &HalfTables) -> bool
+    requires { EndsAsked tables.now × (length step.now ≡ step_size) }
+    ensures { result ≡ every tables.now.reading.counts.movements (demand_free_in (demand_in step.now) tables.now.movements.now half.now.links) }
 {
-    for j in 0..count {
-        if !demand_free(step, movements, half, count, j) {
+    for j in 0..tables.reading.counts.movements {
+        if !demand_free(step, tables, half, j) {
             return false;
         }
     }
     true
 }
 
-// The same in all steps, whose `S` lines have passed and start at a place.
-fn steps_free(network: &[u8], from: usize, counts: Counts, movements: &[u32], half: &[u32]) -> bool
-    requires { StepsAsked network.now from counts movements.now half.now }
-    ensures { result ≡ every (step_count (lines network.now)) (step_free (lines network.now) movements.now half.now) }
+// The same in all steps, whose `S` lines have passed.
+fn steps_free(whole: &Whole, half: &HalfTables) -> bool
+    requires { StepsAsked whole.now }
+    ensures { result ≡ every (step_count (whole_network whole.now)) (step_free (whole_network whole.now) whole.now.tables.movements.now half.now.links) }
 {
+    let reading = whole.tables.reading;
+    let width = 1 + reading.counts.links;
     let mut step = [0u32; STEP_SIZE];
-    let mut line = from;
-    for _ in 0..counts.steps {
-        line = network_steps::load_step(network, line, counts.links, &mut step);
-        if !step_free(&step, movements, half, counts.movements) {
+    let mut line = reading.steps_at;
+    for _ in 0..reading.counts.steps {
+        line = network_tables::read_again(whole.network, line, b'S', &mut step, width);
+        if !step_free(&step, &whole.tables, half) {
             return false;
         }
     }
     true
 }
 
-// Whether a network can be split (40): `above` is what is left of the set above the last link.
-pub fn can_split(
-    network: &[u8],
-    reading: Reading,
-    above: u32,
-    links: &[u32],
-    movements: &[u32],
-    first: &[u32],
-    second: &[u32],
-) -> bool
-    requires { SplitAsked network.now reading links.now movements.now first.now second.now }
-    ensures { SplitTold network.now above first.now second.now result }
+// Whether a network can be split (40).
+pub fn can_split(whole: &Whole, halves: &Halves) -> bool
+    requires { SplitAsked whole.now }
+    ensures { SplitTold (whole_network whole.now) halves.now result }
 {
-    let counts = reading.counts;
-    (above == 0)
+    let tables = &whole.tables;
+    let counts = tables.reading.counts;
+    let first = &halves.first;
+    (halves.above == 0)
         & (counts.past == 0)
-        & nobody_waits(links, counts.links)
-        & (split_tables::count_in(first, 0, counts.links) != 0)
-        & (split_tables::count_in(second, 0, counts.links) != 0)
-        & right_kinds(links, movements, first, counts.movements)
-        & steps_free(network, reading.steps_at, counts, movements, first)
+        & nobody_waits(tables.links, counts.links)
+        & (split_tables::count_in(&first.links, counts.links) != 0)
+        & (split_tables::count_in(&halves.second.links, counts.links) != 0)
+        & right_kinds(tables, first)
+        & steps_free(whole, first)
 }
 
 // Whether a link is absent from the first half (`number` is 0), or has no signal or one of that half.
-fn own_signal(half: &[u32], number: u32, signal: usize) -> bool
-    requires { (length half.now ≡ half_size) × (signal ≤ max_signals) }
+fn own_signal(half: &HalfTables, number: u32, signal: usize) -> bool
+    requires { signal ≤ max_signals }
     ensures { result ≡ own_signal_by half.now number signal }
 {
     if signal == 0 {
         return true;
     }
-    (number == 0) | (half[SIGNALS_AT + (signal - 1)] != 0)
+    (number == 0) | (half.signals[signal - 1] != 0)
 }
 
 // Whether no signal has links in both halves (41).
-pub fn parts_signals(links: &[u32], half: &[u32], count: usize) -> bool
-    requires { PartsAsked links.now half.now count }
-    ensures { PartsTold links.now half.now count result }
+pub fn parts_signals(tables: &NetworkTables, half: &HalfTables) -> bool
+    requires { PartsAsked tables.now }
+    ensures { PartsTold tables.now half.now result }
 {
-    for i in 0..count {
-        let signal = network_tables::index(network_tables::signal_of(links, i));
-        if !own_signal(half, half[i], signal) {
+    for i in 0..tables.reading.counts.links {
+        if !own_signal(half, half.links[i], tables.links[i].signal as usize) {
             return false;
         }
     }
@@ -176,7 +162,7 @@ pub fn parts_signals(links: &[u32], half: &[u32], count: usize) -> bool
 }
 
 // Whether the `P` line at a place has its form, and where the next starts.
-fn line_form(plan: &[u8], at: usize, signals: &[u32], counts: Counts) -> Option<usize>
+fn line_form(plan: &[u8], at: usize, signals: &[Signal], counts: Counts) -> Option<usize>
     requires { FormAsked signals.now counts }
     ensures { LineForm plan.now at signals.now counts result }
 {
@@ -185,7 +171,7 @@ fn line_form(plan: &[u8], at: usize, signals: &[u32], counts: Counts) -> Option<
 }
 
 // The form of all lines of a plan, and nothing behind them (9).
-pub fn plan_form(plan: &[u8], signals: &[u32], counts: Counts) -> Result<(), Refusal>
+pub fn plan_form(plan: &[u8], signals: &[Signal], counts: Counts) -> Result<(), Refusal>
     requires { FormAsked signals.now counts }
     ensures { FormTold plan.now signals.now counts result }
 {

@@ -1,3 +1,4 @@
-mod Marks
+pub mod Marks
 pub mod Tables
-pub mod Halves
+pub mod Ends
+pub mod Numbering

@@ -1,3 +1,4 @@
+pub mod Whole
 pub mod Tables
 pub mod Marks
 pub mod Halves

@@ -1,10 +1,10 @@
 -- Numbers put into a row, one behind another.
-use Rattle.base_laws.proofs.Kit.{ℕ, ◌+◌, ◌≤◌, ◌<◌, ◌≡◌, refl, sym, ap, ◌∙◌, ◌≢◌, Bool, not, cond, List, [], ◌∷◌, ◌++◌, append_assoc, append-nil, add-one, arith, eq-eqb, ne_eqb, eqb, length, set, drop, length-append, length-drop, length-set}
+use Rattle.base_laws.proofs.Kit.{ℕ, ◌+◌, ◌≤◌, ◌<◌, ◌≡◌, refl, sym, ap, ◌∙◌, ◌≢◌, Bool, true, false, not, cond, List, [], ◌∷◌, ◌++◌, append_assoc, append-nil, add-one, arith, ne_eqb, eqb, length, get_or, set, drop, length-append, length-drop, length-set}
 use Rattle.text_reader.specs.Reading.{over}
 use Rattle.network_writer.proofs.Filling.{over-next}
 use Rattle.model_split.specs.Numbering.{picked}
-use Rattle.model_split.proofs.Numbering.{rank-le, picked-length}
-use Rattle.split_text.specs.Filling.{Filled}
+use Rattle.split_tables.specs.Tables.{is_in}
+use Rattle.split_text.specs.Filling.{Gives, Filled}
 
 pub fill_none : (at : ℕ) (row : List ℕ) → Filled [] at row row at
 fill_none at row = record { ends = omega arith; size = refl; is = λ front base l e. e ∙ ap (λ (x : List ℕ). over x base) (sym (append-nil front)) }
@@ -25,9 +25,6 @@ wide_enough front base at l h = omega (arith, length-append front (drop (length 
 
 -- ---- `fill_one`
 module _ (number value : ℕ) (row : List ℕ) (at : ℕ) where
-  pub one_left : number ≡ 0 → Filled (cond (not (eqb number 0)) (value ∷ []) []) at row row at
-  one_left e = rw (eq-eqb number 0 e) (fill_none at row)
-
   pub one-filled : number ≢ 0 → at < length row → Filled (cond (not (eqb number 0)) (value ∷ []) []) at row (set row at value) (at + 1)
   one-filled e h =
       rw (ne_eqb number 0 e) (record {
@@ -36,15 +33,27 @@ module _ (number value : ℕ) (row : List ℕ) (at : ℕ) where
         is = λ front base l o. ap (λ (x : List ℕ). set x at value) o ∙ over-next front base value at l (wide_enough front base at l (omega (arith, ap length o)));
       })
 
--- ---- the first k
-pub filled_none : (test : ℕ → Bool) (f : ℕ → ℕ) (at : ℕ) (row : List ℕ) → Filled (picked 0 test f) at row row at
-unfolding picked
-filled_none test f at row = fill_none at row
+-- ---- `fill_kept`: the first k
+pub record FilledTo (numbers : List ℕ) (count : ℕ) (post : ℕ → ℕ → Type 0) (at : ℕ) (old row : List ℕ) (end k : ℕ) : Type 0 where
+  pub size : length row ≡ length old
+  pub within : end ≤ at + k
+  pub is : (f : ℕ → ℕ) → Gives post count f → Filled (picked k (is_in numbers) f) at old row end
 
-module _ (test : ℕ → Bool) (f : ℕ → ℕ) (k : ℕ) {at : ℕ} {old row : List ℕ} {end : ℕ} (t : Filled (picked k test f) at old row end) where
-  pub filled-end : end ≤ at + k
-  filled-end = omega (arith, t.ends, picked-length test f k, rank-le test k)
+one_or_none : (b : Bool) (x : ℕ) → length (cond b (x ∷ []) []) ≤ 1
+one_or_none true x = omega arith
+one_or_none false x = omega arith
 
-  pub filled_next : {new : List ℕ} {next : ℕ} → Filled (cond (test k) (f k ∷ []) []) end row new next → Filled (picked (k + 1) test f) at old new next
+module _ (numbers : List ℕ) (count : ℕ) (post : ℕ → ℕ → Type 0) where
+  pub filled_none : (at : ℕ) (row : List ℕ) → FilledTo numbers count post at row row at 0
   unfolding picked
-  filled_next q = rw (add-one k) (fills-more t q)
+  filled_none at row = record { size = refl; within = omega arith; is = λ f g. fill_none at row }
+
+  pub filled_next : {at : ℕ} {old row : List ℕ} {end k : ℕ} → FilledTo numbers count post at old row end k → k < count → {value : ℕ} → post k value
+      → {new : List ℕ} {next : ℕ} → Filled (cond (not (eqb (get_or numbers k 0) 0)) (value ∷ []) []) end row new next → FilledTo numbers count post at old new next (k + 1)
+  unfolding picked is_in
+  filled_next {k = k} t h {value} p q =
+      record {
+        size = q.size ∙ t.size;
+        within = omega (arith, q.ends, t.within, one_or_none (not (eqb (get_or numbers k 0) 0)) value);
+        is = λ f g. rw (add-one k) (fills-more (t.is f g) (rw (g k value h p) at q));
+      }

@@ -4,77 +4,83 @@ use Rattle.text_reader.specs.Lines.{lines}
 use Rattle.text_reader.specs.Reading.{Starts}
 use Rattle.text_writer.specs.Records.{record_text}
 use Rattle.base_laws.specs.Indexed.{list}
-use Rattle.model.specs.Network.{max_signals, entry, tram_line, signal_line, signal}
+use Rattle.model.specs.Network.{entry, tram_line, signal_line, signal}
 use Rattle.model.specs.Table.{letter_n, letter_t, letter_g, letter_q, letter_m}
 use Rattle.network_tables.specs.declared.Counts.{Counts}
-use Rattle.network_tables.specs.Rows.{LineHeld}
-use Rattle.network_tables.specs.Fields.{tram_fields, signal_fields, line_size, table_signal, capacity_in, travel_time_in, exit_rate_in, signal_in, phase_mask_in, standing_in, waiting_at_start_in, link_in, rate_in, share_in}
-use Rattle.network_writer.specs.Put.{Put, Early}
-use Rattle.network_writer.specs.Reading.{ReadAgain}
+use Rattle.network_tables.specs.declared.Link.{Link}
+use Rattle.network_tables.specs.declared.Movement.{Movement}
+use Rattle.network_tables.specs.Rows.{LineHeld, ReadAgain}
+use Rattle.network_tables.specs.Fields.{tram_fields, signal_fields, signal_at, capacity_in, travel_time_in, exit_rate_in, signal_in, phase_mask_in, standing_in, waiting_at_start_in, link_in, rate_in, share_in}
+use Rattle.network_writer.specs.Put.{Put}
 use Rattle.network_writer.specs.Texts.{line_texts}
-use Rattle.network_writer.proofs.Put.{part-size}
 use Rattle.network_writer.proofs.Reading.{numbers-are}
 use Rattle.network_writer.proofs.Trams.{TramsTo, trams-begin, tram-field, trams-on}
 use Rattle.model_split.specs.Numbering.{rank, picked}
-use Rattle.model_split.specs.Halves.{in_field}
-use Rattle.split_tables.specs.Tables.{signals_at, movements_at, half_size, is_in}
 use Rattle.model_split.proofs.Numbering.{rank-le}
+use Rattle.split_tables.specs.declared.Whole.{Whole}
+use Rattle.split_tables.specs.declared.HalfTables.{HalfTables}
+use Rattle.split_tables.specs.Whole.{whole_network}
+use Rattle.split_tables.specs.Tables.{is_in}
 use Rattle.split_tables.proofs.Tables.{one_where}
 use mir.Val.{bool_byte}
 use Rattle.split_text.specs.Rows.{signal_number_in, count_row, tram_in, tram_row, signal_row, link_row, movement_row, TramsAsked, SignalsAsked}
-use Rattle.split_text.proofs.Picked.{picks-none, picks-early, picks-next}
+use Rattle.split_text.specs.Filling.{raised}
+use Rattle.split_text.proofs.Picked.{picks-none, picks-next}
 
 -- ---- `signal_number`
-module _ (half : List ℕ) (signal : ℕ) where
+module _ (half : HalfTables) (signal : ℕ) where
   pub number-none : signal ≡ 0 → 0 ≡ signal_number_in half signal
   unfolding signal_number_in
   number-none e = rw (eq-eqb signal 0 e) refl
 
-  pub number-some : signal ≢ 0 → get_or half (signals_at + (signal - 1)) 0 ≡ signal_number_in half signal
+  pub number-some : signal ≢ 0 → get_or half.signals (signal - 1) 0 ≡ signal_number_in half signal
   unfolding signal_number_in
   number-some e = rw (ne_eqb signal 0 e) refl
 
 -- ---- `put_counts`
-pub counts-put : (counts : Counts) (trams : ℕ) (half : List ℕ) {a b c : ℕ} → a ≡ rank (λ k. is_in half (0 + k)) counts.links → b ≡ rank (λ k. is_in half (signals_at + k)) counts.signals
-    → c ≡ rank (λ k. is_in half (movements_at + k)) counts.movements → {old new : List ℕ} {end : ℕ}
+pub counts-put : (counts : Counts) (trams : ℕ) (half : HalfTables) {a b c : ℕ} → a ≡ rank (is_in half.links) counts.links → b ≡ rank (is_in half.signals) counts.signals
+    → c ≡ rank (is_in half.movements) counts.movements → {old new : List ℕ} {end : ℕ}
     → Put 1 (record_text letter_n (a ∷ b ∷ c ∷ counts.steps ∷ trams ∷ 0 ∷ [])) 0 old new end → Put 1 (record_text letter_n (count_row counts trams half)) 0 old new end
 unfolding count_row
 counts-put counts trams half e f g p = rw (e, f, g) at p
 
 -- ---- the `T` lines: k are read
-pub record TramsFound (text : List ℕ) (count : ℕ) (half tram : List ℕ) (line found k : ℕ) : Type 0 where
-  pub at-line : TramsTo text count tram line k
-  pub found-is : found ≡ rank (tram_in (lines text) half) k
+pub record TramsFound (whole : Whole) (half : HalfTables) (tram : List ℕ) (line found k : ℕ) : Type 0 where
+  pub at-line : TramsTo whole.network.now whole.tables.reading.counts.trams tram line k
+  pub found-is : found ≡ rank (tram_in (whole_network whole) half) k
 
-pub record TramsPut (text : List ℕ) (count : ℕ) (half tram : List ℕ) (line at : ℕ) (old out : List ℕ) (end k : ℕ) : Type 0 where
-  pub at-line : TramsTo text count tram line k
-  pub picks : Put k (line_texts letter_t (picked k (tram_in (lines text) half) (tram_row (lines text) half))) at old out end
+pub record TramsPut (whole : Whole) (half : HalfTables) (tram : List ℕ) (line at : ℕ) (old out : List ℕ) (end k : ℕ) : Type 0 where
+  pub at-line : TramsTo whole.network.now whole.tables.reading.counts.trams tram line k
+  pub picks : Put k (line_texts letter_t (picked k (tram_in (whole_network whole) half) (tram_row (whole_network whole) half))) at old out end
 
-module _ {text : List ℕ} {from count : ℕ} {half : List ℕ} (a : TramsAsked text from count half) where
-  pub found_none : {tram : List ℕ} → length tram ≡ tram_fields → TramsFound text count half tram from 0 0
+module _ {whole : Whole} (a : TramsAsked whole) (half : HalfTables) where
+  abbrev text : List ℕ
+  text = whole.network.now
+
+  abbrev count : ℕ
+  count = whole.tables.reading.counts.trams
+
+  pub found_none : {tram : List ℕ} → length tram ≡ tram_fields → TramsFound whole half tram whole.tables.reading.trams_at 0 0
   unfolding rank
   found_none l = record { at-line = trams-begin a.passed l; found-is = refl }
 
-  pub trams-none : {tram : List ℕ} (at : ℕ) (old : List ℕ) → length tram ≡ tram_fields → TramsPut text count half tram from at old old at 0
+  pub trams-none : {tram : List ℕ} (at : ℕ) (old : List ℕ) → length tram ≡ tram_fields → TramsPut whole half tram whole.tables.reading.trams_at at old old at 0
   trams-none at old l = record { at-line = trams-begin a.passed l; picks = picks-none _ _ _ at old }
 
   module _ {tram : List ℕ} {line k : ℕ} (t : TramsTo text count tram line k) (h : k < count) {next : ℕ} {tram' : List ℕ} (r : ReadAgain letter_t tram_fields text line tram next tram') where
     field : (f : ℕ) → f < tram_fields → get_or tram' f 0 ≡ entry (lines text) (tram_line (lines text) k) f
     field = tram-field a.passed t h r
 
-    pub signal-named : {s : ℕ} → s ≡ get_or tram' 0 0 → (s ≤ max_signals) × (length half ≡ half_size)
-    signal-named e = (omega (arith, field 0 (omega arith), a.signals k h), a.half-size)
-
-    module _ {s x : ℕ} (d : s ≡ get_or tram' 0 0) (e : x ≡ signal_number_in half s) where
+    module _ {x : ℕ} (e : x ≡ signal_number_in half (get_or tram' 0 0)) where
       number_is : x ≡ signal_number_in half (entry (lines text) (tram_line (lines text) k) 0)
-      number_is = e ∙ ap (signal_number_in half) (d ∙ field 0 (omega arith))
+      number_is = e ∙ ap (signal_number_in half) (field 0 (omega arith))
 
-      pub found-next : {found one : ℕ} → found ≡ rank (tram_in (lines text) half) k → one ≡ bool_byte (not (eqb x 0)) → TramsFound text count half tram' next (found + one) (k + 1)
+      pub found-next : {found one : ℕ} → found ≡ rank (tram_in (lines text) half) k → one ≡ bool_byte (not (eqb x 0)) → TramsFound whole half tram' next (found + one) (k + 1)
       unfolding rank tram_in
       found-next f o = record { at-line = trams-on a.passed t h r; found-is = rw (add-one k, o ∙ one_where _, f, ← number_is) refl }
 
       pub trams-next : {at mid end : ℕ} {old out new : List ℕ} → Put k (line_texts letter_t (picked k (tram_in (lines text) half) (tram_row (lines text) half))) at old out mid
-          → Put 1 (line_texts letter_t (cond (not (eqb x 0)) ((x ∷ get_or tram' 1 0 ∷ get_or tram' 2 0 ∷ get_or tram' 3 0 ∷ []) ∷ []) [])) mid out new end → TramsPut text count half tram' next at old new end (k + 1)
+          → Put 1 (line_texts letter_t (cond (not (eqb x 0)) ((x ∷ get_or tram' 1 0 ∷ get_or tram' 2 0 ∷ get_or tram' 3 0 ∷ []) ∷ []) [])) mid out new end → TramsPut whole half tram' next at old new end (k + 1)
       trams-next p q =
           record { at-line = trams-on a.passed t h r; picks = picks-next letter_t _ _ p (unfold tram_in tram_row in (rw (field 1 (omega arith), field 2 (omega arith), field 3 (omega arith), number_is) at q)) }
 
@@ -82,70 +88,66 @@ pub one-small : (t : Bool) → bool_byte t ≤ 1
 one-small true = omega arith
 one-small false = omega arith
 
-module _ {text : List ℕ} {count : ℕ} {half tram : List ℕ} {line found k : ℕ} (t : TramsFound text count half tram line found k) where
+module _ {whole : Whole} {half : HalfTables} {tram : List ℕ} {line found k : ℕ} (t : TramsFound whole half tram line found k) where
   pub found-small : found ≤ k
-  found-small = omega (arith, t.found-is, rank-le (tram_in (lines text) half) k)
+  found-small = omega (arith, t.found-is, rank-le (tram_in (whole_network whole) half) k)
 
-  pub found_all : count ≤ k → (found ≡ rank (tram_in (lines text) half) count) × (found ≤ count)
-  found_all h = let z : k ≡ count = omega (arith, t.at-line.few) in (rw z at t.found-is, omega (arith, found-small))
+  pub found_all : whole.tables.reading.counts.trams ≤ k
+      → (found ≡ rank (tram_in (whole_network whole) half) whole.tables.reading.counts.trams) × (found ≤ whole.tables.reading.counts.trams)
+  found_all h = let z : k ≡ whole.tables.reading.counts.trams = omega (arith, t.at-line.few) in (rw z at t.found-is, omega (arith, found-small))
 
 -- ---- the `G` lines
-pub record SignalsPut (text half row : List ℕ) (line at : ℕ) (old out : List ℕ) (end k : ℕ) : Type 0 where
+pub record SignalsPut (whole : Whole) (half : HalfTables) (row : List ℕ) (line at : ℕ) (old out : List ℕ) (end k : ℕ) : Type 0 where
   pub size : length row ≡ signal_fields
-  pub starts : Starts text line (signal_line (lines text) k)
-  pub picks : Put k (line_texts letter_g (picked k (λ r. is_in half (signals_at + r)) (signal_row (lines text)))) at old out end
+  pub starts : Starts whole.network.now line (signal_line (whole_network whole) k)
+  pub picks : Put k (line_texts letter_g (picked k (is_in half.signals) (signal_row (whole_network whole)))) at old out end
 
-module _ {text : List ℕ} {from : ℕ} {signals : List ℕ} {count : ℕ} {half : List ℕ} {at : ℕ} (a : SignalsAsked text from signals count half at) where
-  pub signals-none : {row : List ℕ} (old : List ℕ) → length row ≡ signal_fields → SignalsPut text half row from at old old at 0
+module _ {whole : Whole} {at : ℕ} (a : SignalsAsked whole at) (half : HalfTables) where
+  abbrev written : List ℕ
+  written = whole.network.now
+
+  pub signals-none : {row : List ℕ} (old : List ℕ) → length row ≡ signal_fields → SignalsPut whole half row whole.tables.reading.signals_at at old old at 0
   signals-none old l = record { size = l; starts = a.starts; picks = picks-none _ _ _ at old }
 
-  module _ {k : ℕ} (h : k < count) {phases wide : ℕ} (p : phases ≡ (table_signal signals k).phases) (w : wide ≡ phases) where
-    width_is : 6 + 2 * wide ≡ 6 + 2 * (signal (lines text) k).phases
+  module _ {k : ℕ} (h : k < whole.tables.reading.counts.signals) {wide : ℕ} (w : wide ≡ 6 + 2 * (signal_at whole.signals.now k).phases) where
+    width_is : wide ≡ 6 + 2 * (signal (lines written) k).phases
     width_is = omega (arith, a.phases k h)
 
-    pub width_small : 6 + 2 * wide ≤ signal_fields
+    width_small : wide ≤ signal_fields
     width_small = omega (arith, width_is, a.few-phases k h)
 
-    module _ {row : List ℕ} {line end : ℕ} {old out : List ℕ} (t : SignalsPut text half row line at old out end k) {next : ℕ} {row' : List ℕ} (r : ReadAgain letter_g (6 + 2 * wide) text line row next row') where
-      row-size : length row' ≡ signal_fields
-      row-size = r.size ∙ t.size
+    module _ {row : List ℕ} {line end : ℕ} {old out : List ℕ} (t : SignalsPut whole half row line at old out end k) {next : ℕ} {row' : List ℕ} (r : ReadAgain letter_g wide written line row next row') where
+      sized-row : length row' ≡ signal_fields
+      sized-row = r.size ∙ t.size
 
-      pub signal-part : 6 + 2 * wide ≡ length (take (6 + 2 * wide) row')
-      signal-part = part-size row' (6 + 2 * wide) (omega (arith, row-size, width_small))
+      signal-held : LineHeld letter_g wide written (signal_line (lines written) k) next 0 row'
+      signal-held = r.held (signal_line (lines written) k) t.starts (rw width_is (a.forms k h))
 
-      pub signal-early : (length (take (6 + 2 * wide) row') ≤ line_size) × Early 1 end
-      signal-early = (omega (arith, signal-part, width_small), picks-early t.picks a.early h)
-
-      signal-held : LineHeld letter_g (6 + 2 * wide) text (signal_line (lines text) k) next 0 row'
-      signal-held = r.held (signal_line (lines text) k) t.starts (rw width_is (a.forms k h))
-
-      signal-same : take (6 + 2 * wide) row' ≡ signal_row (lines text) k
+      signal-same : take wide row' ≡ signal_row (lines written) k
       unfolding signal_row
       signal-same =
-          numbers-are (6 + 2 * wide) (entry (lines text) (signal_line (lines text) k)) row' (omega (arith, row-size, width_small)) (λ j l. let z : j ≡ 0 + j = omega arith in ap (λ x. get_or row' x 0) z ∙ signal-held.numbers j l)
-          ∙ ap (λ x. list x (entry (lines text) (signal_line (lines text) k))) width_is
+          numbers-are wide (entry (lines written) (signal_line (lines written) k)) row' (omega (arith, sized-row, width_small)) (λ j l. let z : j ≡ 0 + j = omega arith in ap (λ x. get_or row' x 0) z ∙ signal-held.numbers j l)
+          ∙ ap (λ x. list x (entry (lines written) (signal_line (lines written) k))) width_is
 
-      pub signals-next : {new : List ℕ} {end' : ℕ} → Put 1 (line_texts letter_g (cond (not (eqb (get_or half (signals_at + k) 0) 0)) (take (6 + 2 * wide) row' ∷ []) [])) end out new end'
-          → SignalsPut text half row' next at old new end' (k + 1)
+      pub signals-next : {new : List ℕ} {end' : ℕ} → Put 1 (line_texts letter_g (cond (not (eqb (get_or half.signals k 0) 0)) (take wide row' ∷ []) [])) end out new end'
+          → SignalsPut whole half row' next at old new end' (k + 1)
       unfolding signal_line
       signals-next q =
           record {
-            size = row-size;
-            starts = let e : signal_line (lines text) (k + 1) ≡ suc (signal_line (lines text) k) = omega arith in rw e signal-held.starts;
+            size = sized-row;
+            starts = let e : signal_line (lines written) (k + 1) ≡ suc (signal_line (lines written) k) = omega arith in rw e signal-held.starts;
             picks = picks-next letter_g _ _ t.picks (unfold is_in in (rw signal-same at q));
           }
 
 -- ---- the `Q` line of link i, and the `M` line of movement j
-pub links-next : (links rates half : List ℕ) {at end i : ℕ} {old out : List ℕ} → Put i (line_texts letter_q (picked i (is_in half) (link_row links rates half))) at old out end
-    → {a b x c s y d e f g v : ℕ} → a ≡ capacity_in links i → b ≡ travel_time_in links i → x ≡ exit_rate_in links i → y ≡ x → c ≡ in_field (y + get_or rates i 0) → s ≡ signal_in links i → v ≡ s
-    → d ≡ signal_number_in half v → e ≡ phase_mask_in links i → f ≡ standing_in links i → g ≡ waiting_at_start_in links i
-    → {new : List ℕ} {next : ℕ} → Put 1 (line_texts letter_q (cond (not (eqb (get_or half i 0) 0)) ((a ∷ b ∷ c ∷ d ∷ e ∷ f ∷ g ∷ []) ∷ []) [])) end out new next
-    → Put (i + 1) (line_texts letter_q (picked (i + 1) (is_in half) (link_row links rates half))) at old new next
-links-next links rates half t ea eb ex ey ec es ev ed ee ef eg put =
-    picks-next letter_q _ _ t (unfold is_in link_row in (rw (ea, eb, ec, ey, ex, ed, ev, es, ee, ef, eg) at put))
+pub links-next : (links : List Link) (rates : List ℕ) (half : HalfTables) {at end i : ℕ} {old out : List ℕ} → Put i (line_texts letter_q (picked i (is_in half.links) (link_row links rates half))) at old out end
+    → {c d : ℕ} → c ≡ raised (exit_rate_in links) rates i → d ≡ signal_number_in half (signal_in links i) → {new : List ℕ} {next : ℕ}
+    → Put 1 (line_texts letter_q (cond (not (eqb (get_or half.links i 0) 0)) ((capacity_in links i ∷ travel_time_in links i ∷ c ∷ d ∷ phase_mask_in links i ∷ standing_in links i ∷ waiting_at_start_in links i ∷ []) ∷ []) [])) end out new next
+    → Put (i + 1) (line_texts letter_q (picked (i + 1) (is_in half.links) (link_row links rates half))) at old new next
+links-next links rates half t ec ed put = picks-next letter_q _ _ t (unfold is_in link_row in (rw (ec, ed) at put))
 
-pub movements-next : (movements half : List ℕ) {at end j : ℕ} {old out : List ℕ} → Put j (line_texts letter_m (picked j (λ k. is_in half (movements_at + k)) (movement_row movements half))) at old out end
-    → {x f y t c d : ℕ} → x ≡ link_in movements 0 j → f ≡ x → y ≡ link_in movements 1 j → t ≡ y → c ≡ rate_in movements j → d ≡ share_in movements j
-    → {new : List ℕ} {next : ℕ} → Put 1 (line_texts letter_m (cond (not (eqb (get_or half (movements_at + j) 0) 0)) ((get_or half (f - 1) 0 ∷ get_or half (t - 1) 0 ∷ c ∷ d ∷ []) ∷ []) [])) end out new next
-    → Put (j + 1) (line_texts letter_m (picked (j + 1) (λ k. is_in half (movements_at + k)) (movement_row movements half))) at old new next
-movements-next movements half p ex ef ey et ec ed put = picks-next letter_m _ _ p (unfold is_in movement_row in (rw (ef, et, ex, ey, ec, ed) at put))
+pub movements-next : (movements : List Movement) (half : HalfTables) {at end j : ℕ} {old out : List ℕ} → Put j (line_texts letter_m (picked j (is_in half.movements) (movement_row movements half))) at old out end
+    → {new : List ℕ} {next : ℕ}
+    → Put 1 (line_texts letter_m (cond (not (eqb (get_or half.movements j 0) 0)) ((get_or half.links (link_in movements 0 j - 1) 0 ∷ get_or half.links (link_in movements 1 j - 1) 0 ∷ rate_in movements j ∷ share_in movements j ∷ []) ∷ []) [])) end out new next
+    → Put (j + 1) (line_texts letter_m (picked (j + 1) (is_in half.movements) (movement_row movements half))) at old new next
+movements-next movements half p put = picks-next letter_m _ _ p (unfold is_in movement_row in put)

@@ -1,7 +1,7 @@
 -- Lines of what is in the half, put one behind another.
 use Rattle.base_laws.proofs.Kit.{ℕ, zero, suc, ◌+◌, ◌<◌, ◌≡◌, refl, ap, ap₂, ◌∙◌, ◌≢◌, Bool, true, false, not, cond, List, [], ◌∷◌, ◌++◌, append-nil, add-one, arith, eq-eqb, ne_eqb, eqb, get_or}
 use Rattle.text_writer.specs.Records.{record_text, record_texts}
-use Rattle.network_writer.specs.Put.{Put, Early}
+use Rattle.network_writer.specs.Put.{Put}
 use Rattle.network_writer.specs.Texts.{line_texts}
 use Rattle.network_writer.proofs.Put.{put-none, puts-more}
 use Rattle.network_writer.proofs.Texts.{texts-more, texts-of-list}
@@ -23,9 +23,6 @@ module _ (number letter : ℕ) (row : List ℕ) {at : ℕ} {old : List ℕ} wher
 pub picks-none : (letter : ℕ) (test : ℕ → Bool) (f : ℕ → List ℕ) (at : ℕ) (old : List ℕ) → Put 0 (line_texts letter (picked 0 test f)) at old old at
 unfolding picked line_texts
 picks-none letter test f at old = put-none at old
-
-pub picks-early : {count at end k : ℕ} {text old out : List ℕ} → Put k text at old out end → Early count at → k < count → Early 1 end
-picks-early t e h = omega (arith, t.ends, t.few)
 
 pub picks-next : (letter : ℕ) (test : ℕ → Bool) (f : ℕ → List ℕ) {at end next k : ℕ} {old out new : List ℕ} → Put k (line_texts letter (picked k test f)) at old out end
     → Put 1 (line_texts letter (cond (test k) (f k ∷ []) [])) end out new next → Put (k + 1) (line_texts letter (picked (k + 1) test f)) at old new next

@@ -1,5 +1,5 @@
 -- The rows that are put by the tables are those of the half.
-use Rattle.base_laws.proofs.Kit.{ℕ, suc, ◌+◌, ◌*◌, ◌-◌, ◌≤◌, ◌<◌, ◌≡◌, refl, sym, ap, ◌∙◌, ◌⊎◌, inl, inr, Bool, true, List, ◌∷◌, ◌++◌, ℕ_discrete, arith, eq-eqb, ne_eqb, eqb, get_or}
+use Rattle.base_laws.proofs.Kit.{ℕ, suc, ◌+◌, ◌-◌, ◌≤◌, ◌<◌, ◌≡◌, refl, sym, ap, ◌∙◌, ◌⊎◌, inl, inr, Bool, true, List, ◌∷◌, ◌++◌, ℕ_discrete, arith, eq-eqb, ne_eqb, eqb, get_or}
 use Rattle.base_search.specs.Checks.{Hold}
 use Rattle.text_reader.specs.Field.{largest}
 use Rattle.text_reader.specs.Lines.{Line, number}
@@ -12,9 +12,12 @@ use Rattle.model.specs.Table.{network_checks}
 use Rattle.base_laws.proofs.Tests.{and_left, and_right}
 use Rattle.base_laws.proofs.Sums.{sum-ext}
 use Rattle.model.proofs.Accepted.{ValidNetwork, valid-network}
-use Rattle.model.proofs.Limits.{counts, link-limits, movement-limits}
-use Rattle.network_tables.specs.Fields.{link_in}
-use Rattle.network_tables.specs.Tables.{LinkTable, MovementTable, StepNumbers, PlanNumbers}
+use Rattle.model.proofs.Limits.{link-limits}
+use Rattle.network_tables.specs.declared.Counts.{Counts}
+use Rattle.network_tables.specs.declared.Link.{Link}
+use Rattle.network_tables.specs.declared.Movement.{Movement}
+use Rattle.network_tables.specs.Fields.{link_in, rate_in, demand_in, admitted_in, let_out_in, moved_in}
+use Rattle.network_tables.specs.Tables.{CountsHold, LinkTable, MovementTable, StepNumbers, PlanNumbers}
 use Rattle.network_tables.proofs.Tables.{capacity-at, travel-time-at, exit-rate-at, signal-of-at, phase-mask-at, standing-at, waiting-at-start-at, from-link-at, to-link-at, rate-at, share-at, step-length-at, demand-at, shown-mask-at, admitted-at, let-out-at, moved_at}
 use Rattle.model_text.proofs.Formed.{Formed, formed-of-holds}
 use Rattle.model_split.specs.Numbering.{rank, picked}
@@ -24,14 +27,17 @@ use Rattle.model_split.proofs.Same.{Apart, in_field_lem}
 use Rattle.model_split.proofs.Border.{Splittable, splittable, first-apart, second-apart}
 use Rattle.model_split.proofs.HalfValid.{exit_small}
 use Rattle.model_split.proofs.Trams.{signal-there}
-use Rattle.split_tables.specs.Tables.{signals_at, movements_at, is_in, links_in, HalfTable}
-use Rattle.split_tables.proofs.Tables.{one-crosses, link-in, signal-in, movement-in}
+use Rattle.split_tables.specs.declared.HalfTables.{HalfTables}
+use Rattle.split_tables.specs.Tables.{is_in, links_in, HalfNumbered}
+use Rattle.split_tables.proofs.Ends.{from-there, to-there}
+use Rattle.split_tables.proofs.Tables.{one-crosses, half-has-link, half-has-signal, half-has-movement}
 use Rattle.split_text.specs.Border.{border_sum, Bordered}
+use Rattle.split_text.specs.Filling.{raised}
 use Rattle.split_text.specs.Rows.{signal_number_in, tram_in, tram_row, link_row, movement_row}
 use Rattle.split_text.proofs.Picked.{picked_same}
 use Rattle.split_text.specs.Halves.{OneHalf}
 
-module _ {network : List Line} (holds : Hold (network_checks network)) {set : ℕ} {h : Half} {half : List ℕ} (one : OneHalf network set h half) where
+module _ {network : List Line} (holds : Hold (network_checks network)) {set : ℕ} {h : Half} {half : HalfTables} (one : OneHalf network set h half) where
   abbrev first : ℕ → Bool
   first = in_set set
 
@@ -51,8 +57,8 @@ module _ {network : List Line} (holds : Hold (network_checks network)) {set : �
       go (inl e) = rw e (first-apart network first split)
       go (inr e) = rw e (second-apart network first split)
 
-  abbrev table : HalfTable network h half
-  table = one.table
+  abbrev table : HalfNumbered network h half
+  table = one.numbered
 
   -- ---- signals
   -- the number of a signal of the half
@@ -71,20 +77,14 @@ module _ {network : List Line} (holds : Hold (network_checks network)) {set : �
   unfolding tram_in signal_number_in follows is_in entry
   tram-follows k l =
       let t = signal-there network h formed valid k l in
-      rw (ne_eqb (number (tram network k) 0) 0 (λ e. omega (arith, t.0))) (signal-in table (number (tram network k) 0 - 1) (omega (arith, t)))
+      rw (ne_eqb (number (tram network k) 0) 0 (λ e. omega (arith, t.0))) (half-has-signal table (number (tram network k) 0 - 1) (omega (arith, t)))
 
   pub tram-same : (k : ℕ) → k < tram_count network → follows network h k ≡ true → tram_row network half k ≡ tram_numbers network h k
   unfolding tram_row tram_numbers follows entry
   tram-same k l f = rw (signal-is (number (tram network k) 0) (signal-there network h formed valid k l).1 (λ o. f)) refl
 
   -- ---- movements
-  module _ {movements : List ℕ} (moves : MovementTable network movements) where
-    from-there : (j : ℕ) → j < movement_count network → from_link network j - 1 < link_count network
-    from-there j l = let m = movement-limits network valid j l in omega (arith, m.from_first, m.from_last)
-
-    to-there : (j : ℕ) → j < movement_count network → to_link network j - 1 < link_count network
-    to-there j l = let m = movement-limits network valid j l in omega (arith, m.to-first, m.to_last)
-
+  module _ {movements : List Movement} (moves : MovementTable network movements) where
     pub movement-same : (j : ℕ) → j < movement_count network → inside network h j ≡ true → movement_row movements half j ≡ movement_numbers network h j
     unfolding movement_row movement_numbers link_number inside
     movement-same j l i =
@@ -95,34 +95,34 @@ module _ {network : List Line} (holds : Hold (network_checks network)) {set : �
           to-link-at moves j l,
           rate-at moves j l,
           share-at moves j l,
-          table.links (from_link network j - 1) (from-there j l),
-          table.links (to_link network j - 1) (to-there j l),
+          table.links (from_link network j - 1) (from-there network holds j l),
+          table.links (to_link network j - 1) (to-there network holds j l),
           from,
           to,
         ) refl
 
     -- a movement that has one link in the half is a border movement
-    crosses-is : (j : ℕ) → j < movement_count network → eqb (links_in movements half j) 1 ≡ crosses network first j
-    crosses-is j l = one-crosses h half movements table.links moves j l (from-there j l) (to-there j l) ∙ sym (apart.sides j)
+    crosses-is : (j : ℕ) → j < movement_count network → eqb (links_in movements half.links j) 1 ≡ crosses network first j
+    crosses-is j l = one-crosses h half.links movements table.links moves j l (from-there network holds j l) (to-there network holds j l) ∙ sym (apart.sides j)
 
     -- what the border adds at a link, by the side on which movements name it
-    border-is : {side : ℕ} {link : ℕ → ℕ} → ((j : ℕ) → j < movement_count network → link_in movements side j ≡ link j) → {count start stride : ℕ} → count ≡ movement_count network
-        → {values : List ℕ} (g : ℕ → ℕ) → ((j : ℕ) → j < movement_count network → get_or values (start + stride * j) 0 ≡ g j)
-        → {sums : List ℕ} → Bordered movements half count side values start stride sums
+    border-is : {side : ℕ} {link : ℕ → ℕ} → ((j : ℕ) → j < movement_count network → link_in movements side j ≡ link j) → {count : ℕ} → count ≡ movement_count network
+        → {f : ℕ → ℕ} (g : ℕ → ℕ) → ((j : ℕ) → j < movement_count network → f j ≡ g j)
+        → {sums : List ℕ} → Bordered movements half.links count side f sums
         → (i : ℕ) → i < link_count network → get_or sums i 0 ≡ sum (movement_count network) (λ j. only (crosses network first j and eqb (link j) (suc i)) (g j))
     unfolding border_sum
     border-is named e g same b i l =
-        b.are i (omega (arith, (counts network valid).links))
-        ∙ rw e (sum-ext (movement_count network) _ _ (λ j u. rw (crosses-is j u, named j u, same j u) refl))
+        b.are i ∙ rw e (sum-ext (movement_count network) _ _ (λ j u. rw (crosses-is j u, named j u, same j u) refl))
 
     -- ---- `Q` lines
-    module _ {links : List ℕ} (t : LinkTable network links) (plan : List Line) {count : ℕ} (counted : count ≡ movement_count network) {rates : List ℕ} (r : Bordered movements half count 0 movements 2 4 rates) where
+    module _ {links : List Link} (t : LinkTable network links) (plan : List Line) {count : ℕ} (counted : count ≡ movement_count network) {rates : List ℕ}
+        (r : Bordered movements half.links count 0 (rate_in movements) rates) where
       rates-are : (i : ℕ) → i < link_count network → get_or rates i 0 ≡ border_rate network first i
       unfolding crossing_from
-      rates-are = border-is (from-link-at moves) counted (rate network) (λ j u. let e : 2 + 4 * j ≡ 4 * j + 2 = omega arith in ap (λ x. get_or movements x 0) e ∙ rate-at moves j u) r
+      rates-are = border-is (from-link-at moves) counted (rate network) (rate-at moves) r
 
       pub link-same : (i : ℕ) → i < link_count network → h.has-link i ≡ true → link_row links rates half i ≡ link_numbers network first plan h i
-      unfolding link_row link_numbers
+      unfolding link_row link_numbers raised
       link-same i l own =
           let small : exit_rate network i + border_rate network first i ≤ largest = omega (arith, exit_small network first valid split i l) in
           rw (
@@ -139,63 +139,50 @@ module _ {network : List Line} (holds : Hold (network_checks network)) {set : �
           ) refl
 
     -- ---- the rows of a step
-    module _ (plan : List Line) (n : ℕ) {line : List ℕ} (p : PlanNumbers network plan n line) where
-      module _ {links signals count : ℕ} (l-is : links ≡ link_count network) (s-is : signals ≡ signal_count network) (m-is : count ≡ movement_count network) {start : ℕ} (start_is : start ≡ signals + 2 * links) where
-        moved-is : (place j : ℕ) → place ≡ start + j → j < movement_count network → get_or line place 0 ≡ moved network plan n j
-        moved-is place j e l = let z : place ≡ signal_count network + (2 * link_count network + j) = omega arith in ap (λ x. get_or line x 0) z ∙ moved_at p j l
+    module _ (plan : List Line) (n : ℕ) {line : List ℕ} (p : PlanNumbers network plan n line) {c : Counts} (counted : CountsHold network c) where
+      moved-is : (j : ℕ) → j < movement_count network → moved_in c line j ≡ moved network plan n j
+      moved-is j l = rw (counted.signals, counted.links) (moved_at p j l)
 
-        volumes-into : {into : List ℕ} → Bordered movements half count 1 line start 1 into → (i : ℕ) → i < link_count network → get_or into i 0 ≡ border_in network first plan n i
-        unfolding crossing_into
-        volumes-into b = border-is (to-link-at moves) m-is (moved network plan n) (λ j u. moved-is (start + 1 * j) j (omega arith) u) b
+      volumes-into : {into : List ℕ} → Bordered movements half.links c.movements 1 (moved_in c line) into → (i : ℕ) → i < link_count network → get_or into i 0 ≡ border_in network first plan n i
+      unfolding crossing_into
+      volumes-into = border-is (to-link-at moves) counted.movements (moved network plan n) moved-is
 
-        volumes-from : {from : List ℕ} → Bordered movements half count 0 line start 1 from → (i : ℕ) → i < link_count network → get_or from i 0 ≡ border_out network first plan n i
-        unfolding crossing_from
-        volumes-from b = border-is (from-link-at moves) m-is (moved network plan n) (λ j u. moved-is (start + 1 * j) j (omega arith) u) b
+      volumes-from : {from : List ℕ} → Bordered movements half.links c.movements 0 (moved_in c line) from → (i : ℕ) → i < link_count network → get_or from i 0 ≡ border_out network first plan n i
+      unfolding crossing_from
+      volumes-from = border-is (from-link-at moves) counted.movements (moved network plan n) moved-is
 
-        -- the `S` line: no sum is too large for a field
-        pub step_row : {step into : List ℕ} → StepNumbers network n step → Bordered movements half count 1 line start 1 into
-            → ((i : ℕ) → i < link_count network → demand network n i + border_in network first plan n i ≤ largest)
-            → get_or step 0 0 ∷ picked links (is_in half) (λ i. in_field (get_or step (1 + i) 0 + get_or into i 0)) ≡ step_numbers network first plan h n
-        unfolding step_numbers
-        step_row {step} {into} t b small =
-            rw (l-is, step-length-at t)
-            (ap (λ (x : List ℕ). step_length network n ∷ x)
-            (picked_same (link_count network) (is_in half) h.has-link (λ i. in_field (get_or step (1 + i) 0 + get_or into i 0)) (λ i. demand network n i + border_in network first plan n i)
-            (link-in table) (λ i l own. rw (demand-at t i l, volumes-into b i l) (in_field_lem _ (small i l)))))
+      -- the `S` line: no sum is too large for a field
+      pub step_row : {step into : List ℕ} → StepNumbers network n step → Bordered movements half.links c.movements 1 (moved_in c line) into
+          → ((i : ℕ) → i < link_count network → demand network n i + border_in network first plan n i ≤ largest)
+          → get_or step 0 0 ∷ picked c.links (is_in half.links) (raised (demand_in step) into) ≡ step_numbers network first plan h n
+      unfolding step_numbers raised
+      step_row {step} {into} t b small =
+          rw (counted.links, step-length-at t)
+          (ap (λ (x : List ℕ). step_length network n ∷ x)
+          (picked_same (link_count network) (is_in half.links) h.has-link _ (λ i. demand network n i + border_in network first plan n i)
+          (half-has-link table) (λ i l own. rw (demand-at t i l, volumes-into b i l) (in_field_lem _ (small i l)))))
 
-        -- the `P` line
-        pub plan-row : {into from : List ℕ} → Bordered movements half count 1 line start 1 into → Bordered movements half count 0 line start 1 from
-            → picked signals (λ k. is_in half (signals_at + k)) (λ k. get_or line (0 + k) 0)
-            ++ (picked links (is_in half) (λ i. in_field (get_or line (signals + i) 0 + get_or into i 0))
-            ++ (picked links (is_in half) (λ i. in_field (get_or line (signals + links + i) 0 + get_or from i 0))
-            ++ picked count (λ k. is_in half (movements_at + k)) (λ k. get_or line (start + k) 0)))
-            ≡ plan_numbers network first plan h n
-        unfolding plan_numbers
-        plan-row {into} {from} b d =
-            rw (l-is, s-is, m-is)
-            (four masks admissions exits volumes)
-          where
-            four : {a a' b b' c c' d d' : List ℕ} → a ≡ a' → b ≡ b' → c ≡ c' → d ≡ d' → a ++ (b ++ (c ++ d)) ≡ a' ++ (b' ++ (c' ++ d'))
-            four p q r s = rw (p, q, r, s) refl
+      -- the `P` line
+      pub row-written : {into from : List ℕ} → Bordered movements half.links c.movements 1 (moved_in c line) into → Bordered movements half.links c.movements 0 (moved_in c line) from
+          → picked c.signals (is_in half.signals) (λ r. get_or line r 0)
+          ++ (picked c.links (is_in half.links) (raised (admitted_in c line) into)
+          ++ (picked c.links (is_in half.links) (raised (let_out_in c line) from)
+          ++ picked c.movements (is_in half.movements) (moved_in c line)))
+          ≡ plan_numbers network first plan h n
+      unfolding plan_numbers raised
+      row-written {into} {from} b d = four masks admissions exits volumes
+        where
+          four : {a a' b b' c c' d d' : List ℕ} → a ≡ a' → b ≡ b' → c ≡ c' → d ≡ d' → a ++ (b ++ (c ++ d)) ≡ a' ++ (b' ++ (c' ++ d'))
+          four p q r s = rw (p, q, r, s) refl
 
-            masks : picked (signal_count network) (λ k. is_in half (signals_at + k)) (λ k. get_or line (0 + k) 0) ≡ picked (signal_count network) h.has-signal (shown_mask network plan n)
-            masks =
-                picked_same (signal_count network) _ _ _ _ (signal-in table)
-                (λ r l own. let z : 0 + r ≡ r = omega arith in ap (λ x. get_or line x 0) z ∙ shown-mask-at p r l)
+          masks : picked c.signals (is_in half.signals) (λ r. get_or line r 0) ≡ picked (signal_count network) h.has-signal (shown_mask network plan n)
+          masks = rw counted.signals (picked_same (signal_count network) _ _ _ _ (half-has-signal table) (λ r l own. shown-mask-at p r l))
 
-            admissions : picked (link_count network) (is_in half) (λ i. in_field (get_or line (signal_count network + i) 0 + get_or into i 0))
-                ≡ picked (link_count network) h.has-link (λ i. in_field (admitted network plan n i + border_in network first plan n i))
-            admissions =
-                picked_same (link_count network) _ _ _ _ (link-in table) (λ i l own. rw (admitted-at p i l, volumes-into b i l) refl)
+          admissions : picked c.links (is_in half.links) (raised (admitted_in c line) into) ≡ picked (link_count network) h.has-link (λ i. in_field (admitted network plan n i + border_in network first plan n i))
+          admissions = rw (counted.links, counted.signals) (picked_same (link_count network) _ _ _ _ (half-has-link table) (λ i l own. rw (admitted-at p i l, volumes-into b i l) refl))
 
-            exits : picked (link_count network) (is_in half) (λ i. in_field (get_or line (signal_count network + link_count network + i) 0 + get_or from i 0))
-                ≡ picked (link_count network) h.has-link (λ i. in_field (let_out network plan n i + border_out network first plan n i))
-            exits =
-                picked_same (link_count network) _ _ _ _ (link-in table)
-                (λ i l own. let z : signal_count network + link_count network + i ≡ signal_count network + (link_count network + i) = omega arith in
-                rw (z, let-out-at p i l, volumes-from d i l) refl)
+          exits : picked c.links (is_in half.links) (raised (let_out_in c line) from) ≡ picked (link_count network) h.has-link (λ i. in_field (let_out network plan n i + border_out network first plan n i))
+          exits = rw (counted.links, counted.signals) (picked_same (link_count network) _ _ _ _ (half-has-link table) (λ i l own. rw (let-out-at p i l, volumes-from d i l) refl))
 
-            volumes : picked (movement_count network) (λ k. is_in half (movements_at + k)) (λ k. get_or line (start + k) 0) ≡ picked (movement_count network) (inside network h) (moved network plan n)
-            volumes =
-                picked_same (movement_count network) _ _ _ _ (movement-in table)
-                (λ j l own. moved-is (start + j) j refl l)
+          volumes : picked c.movements (is_in half.movements) (moved_in c line) ≡ picked (movement_count network) (inside network h) (moved network plan n)
+          volumes = rw counted.movements (picked_same (movement_count network) _ _ _ _ (half-has-movement table) (λ j l own. moved-is j l))

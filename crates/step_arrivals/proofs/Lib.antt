@@ -1,5 +1,4 @@
 pub mod Arrivals
 pub mod Timed
 pub mod Boundaries
-pub mod Cursors
 pub mod Times

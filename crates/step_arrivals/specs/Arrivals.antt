@@ -1,9 +1,6 @@
 -- The step of the timeline in which a travel time ends, by a table that has the time of each boundary. Not of the paper: that these are the paper's, where the
 -- table holds a network's times, stands in proofs/Boundaries.antt.
-use Rattle.std.specs.Prelude.{ℕ, zero, suc, ◌+◌, ◌*◌, ◌-◌, ◌≤◌, ◌<◌, ◌≡◌, cond, List, leb, length, get_or}
-use Rattle.text_reader.specs.Lines.{Line}
-use Rattle.model.specs.Network.{max_links, link_count, arrival_step}
-use Rattle.network_tables.specs.Fields.{link_table_size, travel_time_in}
+use Rattle.std.specs.Prelude.{ℕ, zero, suc, ◌+◌, ◌*◌, ◌-◌, ◌≤◌, ◌<◌, cond, List, leb, length, get_or}
 
 -- the last of the first n steps that starts by time x
 unfoldable pub step_at_in : List ℕ → ℕ → ℕ → ℕ
@@ -37,20 +34,3 @@ pub record Cursor (times : List ℕ) (from boundary travel : ℕ) : Type 0 where
   pub behind : from ≤ arrival_step_in times boundary travel
   pub room : arrival_step_in times boundary travel + 1 < length times
   pub later : get_or times boundary 0 - travel < get_or times (arrival_step_in times boundary travel + 1) 0
-
--- the cursors of so many links can be moved on to a boundary
-pub record ArrivalsAsked (times links : List ℕ) (count boundary : ℕ) (arrivals : List ℕ) : Type 0 where
-  pub few : count ≤ max_links
-  pub link-size : length links ≡ link_table_size
-  pub size : length arrivals ≡ max_links
-  pub cursors : (i : ℕ) → i < count → Cursor times (get_or arrivals i 0) boundary (travel_time_in links i)
-
--- the cursors of the first n links stand at their arrival steps
-pub record Arrived (times links : List ℕ) (n boundary : ℕ) (arrivals : List ℕ) : Type 0 where
-  pub size : length arrivals ≡ max_links
-  pub arrived : (i : ℕ) → i < n → get_or arrivals i 0 ≡ arrival_step_in times boundary (travel_time_in links i)
-
--- the arrival step of each link at boundary n
-pub record ArrivalTable (network : List Line) (n : ℕ) (arrivals : List ℕ) : Type 0 where
-  pub size : length arrivals ≡ max_links
-  pub holds : (i : ℕ) → i < link_count network → get_or arrivals i 0 ≡ arrival_step network n i

@@ -4,7 +4,7 @@
 #![tactic(auto)]
 
 ghost use Rattle.std.specs.Prelude.{◌≡◌, ◌+◌, ◌-◌, ◌<◌, ◌≤◌, length};
-ghost use Rattle.step_arrivals.specs.Arrivals.{arrival_step_in, seconds_in, elapsed_in, scaled_in, Cursor, ArrivalsAsked, Arrived};
+ghost use Rattle.step_arrivals.specs.Arrivals.{arrival_step_in, seconds_in, elapsed_in, scaled_in, Cursor};
 ghost use Rattle.step_arrivals.specs.Timed.{TimeAsked, TimeSet};
 ghost use Rattle.step_arrivals.specs.Times.{ShiftAsked, Shifted};
 
@@ -59,23 +59,6 @@ pub fn scaled_arrived(start: u32, end: u32, seconds: u32, elapsed: u32) -> u64
 {
     network_tables::times(start, seconds)
         + network_tables::times(end.saturating_sub(start), elapsed)
-}
-
-// Moves the arrival step of each link on to a boundary.
-pub fn next_arrivals(
-    times: &[u32],
-    links: &[u32],
-    count: usize,
-    boundary: usize,
-    arrivals: &mut [usize],
-)
-    requires { ArrivalsAsked times.now links.now count boundary arrivals.old }
-    ensures { Arrived times.now links.now count boundary arrivals.new }
-{
-    for i in 0..count {
-        let travel = network_tables::travel_time(links, i);
-        arrivals[i] = arrival_step(times, arrivals[i], boundary, travel);
-    }
 }
 
 // Moves the table of times to time 0: place `n` gets the time of the plan's boundary `n`.

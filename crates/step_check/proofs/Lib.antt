@@ -1,5 +1,5 @@
 -- The laws of the judgement of a step.
-pub mod Pass
 pub mod Rules
+pub mod Pass
 pub mod Search
 pub mod Texts

@@ -1,45 +1,29 @@
--- The pass over all rules, and the search after a pass that says nothing.
-use Rattle.base_laws.proofs.Kit.{ℕ, ◌≡◌, refl, sym, ap, ◌∙◌, Bool, true, false, List, ◌++◌, arith, length, drop_at}
-use Rattle.network_tables.specs.declared.Counts.{Counts}
+-- The pass over all rules.
+use Rattle.base_laws.proofs.Kit.{ℕ, ◌+◌, ◌*◌, ◌≡◌, sym, ap, Bool, true, List, ◌++◌, length, drop, drop_at}
 use Rattle.network_tables.specs.Fields.{length_in}
-use Rattle.step_signals.specs.Step.{SignalRulesKept}
+use Rattle.step_signals.specs.Rules.{SignalRulesKept}
 use Rattle.step_limits.specs.Limits.{LimitsKept}
+use Rattle.step_rows.specs.declared.Step.{Step}
 use Rattle.step_rows.specs.Rows.{next_row}
 use Rattle.step_rows.proofs.Next.{length-next}
 use Rattle.step_sums.specs.Sums.{SumsKept}
-use Rattle.step_check.specs.Step.{made_row, JudgeAsked, Judged, PassGot}
+use Rattle.step_check.specs.Step.{made_row, PassGot}
 use Rattle.step_check.proofs.Rules.{all_pass}
-use Rattle.base_search.specs.Checks.{Verdict}
 
-module _ (counts : Counts) (signals line step links movements phases asked previous row ledger times arrivals curves : List ℕ) (boundary : ℕ) where
-  -- a rule is not kept before the row is formed
-  pub pass-stops : PassGot counts signals line step links movements phases asked previous row ledger times arrivals curves boundary false row
-  pass-stops = record { told = λ e. let z : ◌≡◌ {A = ℕ} 0 1 = cc in absurd (omega arith); size = refl; rest = refl }
+-- formed again the row would be the same
+pub made-same : (step : Step) (previous row after : List ℕ) → drop (2 * step.counts.links) after ≡ drop (2 * step.counts.links) row → made_row step previous after ≡ made_row step previous row
+made-same step previous row after e = ap (λ rest. next_row step.counts step.plan_line.now step.movements.now previous ++ rest) e
 
-  module _ {after : List ℕ} where
-    -- the row is formed, and the sums decide
-    pub pass-ends : after ≡ made_row counts line movements previous row → length after ≡ length row → SignalRulesKept signals counts.signals phases asked (length_in step)
-        → LimitsKept counts line step links movements phases → {b : Bool} → (b ≡ true → SumsKept counts line links movements previous after ledger times arrivals curves boundary) → PassGot counts signals line step links movements phases asked previous row ledger times arrivals curves boundary b after
-    pass-ends made size of_signals limits sums = record {
-      told = λ t. record { told = sym (all_pass counts signals line step links movements phases asked previous _ ledger times arrivals curves boundary of_signals limits (rw made at (sums t)) boundary); made = λ p. made };
-      size = size;
-      rest = rw made (drop_at (next_row counts line movements previous) _ _ (length-next counts line movements previous));
-    }
+pub made-rest : (step : Step) (previous row : List ℕ) → drop (2 * step.counts.links) (made_row step previous row) ≡ drop (2 * step.counts.links) row
+made-rest step previous row = drop_at (next_row step.counts step.plan_line.now step.movements.now previous) _ _ (length-next step.counts step.plan_line.now step.movements.now previous)
 
-    -- the search goes on from the row that the pass leaves
-    module _ {b : Bool} (got : PassGot counts signals line step links movements phases asked previous row ledger times arrivals curves boundary b after) where
-      made-same : made_row counts line movements previous after ≡ made_row counts line movements previous row
-      made-same = ap (λ x. next_row counts line movements previous ++ x) got.rest
-
-      pub asked-again : JudgeAsked counts signals line step links movements phases asked previous row ledger times arrivals curves boundary → JudgeAsked counts signals line step links movements phases asked previous after ledger times arrivals curves boundary
-      asked-again given = record {
-        signal-tables = given.signal-tables;
-        line-tables = given.line-tables;
-        few-steps = given.few-steps;
-        fits = λ l. let f = given.fits l in
-            record { few = f.few; named = f.named; line-size = f.line-size; previous-size = f.previous-size; row-size = got.size ∙ f.row-size; entered-fits = f.entered-fits; left-fits = f.left-fits };
-        sums = λ l. rw made-same (given.sums l);
-      }
-
-      pub judged-again : {v : Verdict} {end : List ℕ} → Judged counts signals line step links movements phases asked previous after ledger times arrivals curves boundary v end → Judged counts signals line step links movements phases asked previous row ledger times arrivals curves boundary v end
-      judged-again j = record { told = rw made-same at j.told; made = λ p. j.made p ∙ made-same }
+module _ {step : Step} {previous row after : List ℕ} where
+  -- the row is formed, and the sums decide
+  pub pass-ends : after ≡ made_row step previous row → length after ≡ length row
+      → SignalRulesKept step.signals.now step.counts.signals step.phases.now step.asked.now (length_in step.step_line.now) → LimitsKept step
+      → {b : Bool} → (b ≡ true → SumsKept step previous after) → PassGot step previous row b after
+  pass-ends made size of_signals limits sums = record {
+    told = λ t. record { told = sym (all_pass step previous _ of_signals limits (rw made at (sums t)) (step.boundary + 1)); made = λ p. made };
+    size = size;
+    rest = rw made (made-rest step previous row);
+  }

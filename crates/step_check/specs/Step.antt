@@ -1,82 +1,90 @@
 -- The judgement of one step by the program's tables: the thirteen rules in their order, each over rising items.
-use Rattle.std.specs.Prelude.{ℕ, ◌*◌, ◌-◌, ◌≤◌, ◌≡◌, Bool, true, cond, List, [], ◌∷◌, ◌++◌, ltb, length, get_or, take, drop, Ok}
-use Rattle.base_search.specs.Checks.{Rule, rules_from, verdict, table, Verdict}
-use Rattle.model.specs.Network.{max_steps}
+use Rattle.std.specs.Prelude.{ℕ, ◌+◌, ◌*◌, ◌-◌, ◌≡◌, Bool, true, List, [], ◌∷◌, ◌++◌, length, take, drop, map, Ok}
+use Rattle.base_search.specs.Checks as checks
+use Rattle.base_search.specs.Checks.{verdict, table, Verdict}
 use Rattle.network_tables.specs.declared.Counts.{Counts}
-use Rattle.network_tables.specs.Fields.{length_in}
-use Rattle.step_signals.specs.Step.{signal_rule_holds, SignalTables}
+use Rattle.network_tables.specs.Fields.{row_size, length_in}
+use Rattle.step_signals.specs.declared.SignalRule.TheVariants.{OnePhase, TramPhase, Order, LeastTime, GreatestTime, Cycle}
+use Rattle.step_signals.specs.Rules.{signal_rule_number, signal_rule_holds}
+use Rattle.step_rows.specs.declared.Step.{Step}
 use Rattle.step_rows.specs.Rows.{next_row, Fits}
-use Rattle.step_limits.specs.Limits.{limit_rule_holds, LimitsKept, LineTables}
-use Rattle.step_sums.specs.Sums.{sum_rule_holds, SumTables}
+use Rattle.step_limits.specs.declared.LimitRule.TheVariants.{Offer, ExitRate, MovementRate, OpenLink}
+use Rattle.step_limits.specs.Limits.{limit_rule_number, limit_items, limit_rule_holds, LimitsKept}
+use Rattle.step_sums.specs.declared.SumRule.{SumRule}
+use Rattle.step_sums.specs.declared.SumRule.TheVariants.{Share, Arrivals, Capacity}
+use Rattle.step_sums.specs.Sums.{sum_rule_number, sum_items, sum_rule_holds, SumRows}
+use Rattle.step_check.specs.declared.Rule.{Rule}
+use Rattle.step_check.specs.declared.Rule.TheVariants.{Signal, Limit, Sum}
 
--- the numbers of the rules, and to how many items each is put
-abbrev pub rule_number : ℕ → ℕ
-rule_number k = get_or (10 ∷ 29 ∷ 11 ∷ 12 ∷ 13 ∷ 14 ∷ 15 ∷ 25 ∷ 26 ∷ 27 ∷ 16 ∷ 17 ∷ 18 ∷ []) k 0
+-- the rules in their order, and the first for which the row after the step is formed
+abbrev pub rules : List Rule
+rules =
+    Signal OnePhase ∷ Signal TramPhase ∷ Signal Order ∷ Signal LeastTime ∷ Signal GreatestTime ∷ Signal Cycle
+    ∷ Limit Offer ∷ Limit ExitRate ∷ Limit MovementRate ∷ Limit OpenLink
+    ∷ Sum Share ∷ Sum Arrivals ∷ Sum Capacity ∷ []
 
-abbrev pub rule_items : Counts → ℕ → ℕ
-rule_items counts k =
-    let r = counts.signals in
-    let l = counts.links in
-    let m = counts.movements in
-    get_or (r ∷ r ∷ r ∷ r ∷ r ∷ r ∷ l ∷ l ∷ m ∷ m ∷ m ∷ l ∷ l ∷ []) k 0
+abbrev pub first_sum : Rule
+first_sum = Sum Share
 
--- row n of the ledger, from its start on
+-- the number of a rule, and to how many items it is put
+abbrev pub rule_number : Rule → ℕ
+rule_number (Signal rule) = signal_rule_number rule
+rule_number (Limit rule) = limit_rule_number rule
+rule_number (Sum rule) = sum_rule_number rule
+
+abbrev pub rule_items : Counts → Rule → ℕ
+rule_items counts (Signal rule) = counts.signals
+rule_items counts (Limit rule) = limit_items counts rule
+rule_items counts (Sum rule) = sum_items counts rule
+
+-- row n of the ledger, from its start on; and that before a step
 abbrev pub row_from : Counts → List ℕ → ℕ → List ℕ
 row_from counts ledger n = take (length ledger - 2 * n * counts.links) (drop (2 * n * counts.links) ledger)
 
+abbrev pub row_before : Step → List ℕ
+row_before step = row_from step.counts step.ledger.now step.boundary
+
 -- the row after a step, in the front of a row that was lent
-abbrev pub made_row : Counts → List ℕ → List ℕ → List ℕ → List ℕ → List ℕ
-made_row counts line movements previous row = next_row counts line movements previous ++ drop (2 * counts.links) row
+abbrev pub made_row : Step → List ℕ → List ℕ → List ℕ
+made_row step previous row = next_row step.counts step.plan_line.now step.movements.now previous ++ drop (2 * step.counts.links) row
 
--- a row that is formed when the search comes to rule 16, at place 10
-pub record FormedFor (k : ℕ) (counts : Counts) (line movements previous row after : List ℕ) : Type 0 where
-  pub formed : k ≡ 10 → after ≡ made_row counts line movements previous row
-  pub kept : (k ≡ 10 → ⊥) → after ≡ row
+-- a row that is formed when the search comes to rule 16
+pub record FormedFor (rule : Rule) (step : Step) (previous row after : List ℕ) : Type 0 where
+  pub formed : rule ≡ first_sum → after ≡ made_row step previous row
+  pub kept : (rule ≡ first_sum → ⊥) → after ≡ row
 
--- by the rows before and after the step
-module _ (counts : Counts) (signals line step links movements phases asked previous row ledger times arrivals curves : List ℕ) (boundary : ℕ) where
-  -- rule k of the thirteen holds of an item
-  unfoldable pub rule_holds : ℕ → ℕ → Bool
-  rule_holds k item =
-      cond (ltb k 6) (signal_rule_holds signals phases asked (length_in step) k item)
-      (cond (ltb k 10) (limit_rule_holds counts line step links movements phases (k - 6) item)
-      (sum_rule_holds counts line links movements previous row ledger times arrivals curves boundary (k - 10) item))
+-- by the rows before and after the step: a rule holds of an item
+unfoldable pub rule_holds : Step → List ℕ → List ℕ → Rule → ℕ → Bool
+rule_holds step previous row (Signal rule) item = signal_rule_holds step.signals.now step.phases.now step.asked.now (length_in step.step_line.now) rule item
+rule_holds step previous row (Limit rule) item = limit_rule_holds step rule item
+rule_holds step previous row (Sum rule) item = sum_rule_holds step previous row rule item
 
-  abbrev pub rule_in : ℕ → Rule
-  rule_in k = record { number = rule_number k; items = rule_items counts k; holds = rule_holds k }
+abbrev pub rule_in : Step → List ℕ → List ℕ → Rule → checks.Rule
+rule_in step previous row rule = record { number = rule_number rule; items = rule_items step.counts rule; holds = rule_holds step previous row rule }
 
-  -- the table of the rules
-  unfoldable pub rules_in : List Rule
-  rules_in = rules_from rule_in 13 0
+-- the table of the rules; and with the row after the step
+unfoldable pub rules_in : Step → List ℕ → List ℕ → List checks.Rule
+rules_in step previous row = map (rule_in step previous row) rules
 
-  -- what rule k reads: the sums of 16 to 18 only once the row after the step is formed
-  pub record RuleTables (k : ℕ) : Type 0 where
-    pub signal-tables : SignalTables signals counts.signals phases asked (length_in step)
-    pub line-tables : LineTables counts line step links movements phases
-    pub sum-tables : 10 ≤ k → SumTables counts line links movements previous row ledger times arrivals curves boundary
+abbrev pub step_rules_in : Step → List ℕ → List ℕ → List checks.Rule
+step_rules_in step previous row = rules_in step previous (made_row step previous row)
 
--- by the row before the step, and a row that is lent
-module _ (counts : Counts) (signals line step links movements phases asked previous row ledger times arrivals curves : List ℕ) (boundary : ℕ) where
-  -- the table with the row after the step
-  abbrev pub step_rules_in : List Rule
-  step_rules_in = rules_in counts signals line step links movements phases asked previous (made_row counts line movements previous row) ledger times arrivals curves boundary
+-- the rows that a rule reads: the sums of 16 to 18 only once the row after the step is formed
+pub record RuleRows (step : Step) (previous row : List ℕ) (rule : Rule) : Type 0 where
+  pub sum-rows : (sum : SumRule) → rule ≡ Sum sum → SumRows step previous row
 
-  -- What the judgement of the step to a boundary asks: the tables; and that the sums fit once the limits of the volumes are kept.
-  pub record JudgeAsked : Type 0 where
-    pub signal-tables : SignalTables signals counts.signals phases asked (length_in step)
-    pub line-tables : LineTables counts line step links movements phases
-    pub few-steps : boundary ≤ max_steps
-    pub fits : LimitsKept counts line step links movements phases → Fits counts line movements previous row
-    pub sums : LimitsKept counts line step links movements phases
-        → SumTables counts line links movements previous (made_row counts line movements previous row) ledger times arrivals curves boundary
+-- what the judgement of a step asks, by the row before it and a row that is lent: the sums fit once the limits of the volumes are kept
+pub record JudgeAsked (step : Step) (previous row : List ℕ) : Type 0 where
+  pub row-size : length row ≡ row_size
+  pub fits : LimitsKept step → Fits step.counts step.plan_line.now step.movements.now previous row
 
-  -- .. and promises: the first broken rule; and where all are kept, the row after the step
-  pub record Judged (result : Verdict) (after : List ℕ) : Type 0 where
-    pub told : result ≡ verdict (table boundary step_rules_in)
-    pub made : result ≡ Ok tt → after ≡ made_row counts line movements previous row
+-- .. and promises: the first broken rule; and where all are kept, the row after the step
+pub record Judged (step : Step) (previous row : List ℕ) (result : Verdict) (after : List ℕ) : Type 0 where
+  pub told : result ≡ verdict (table (step.boundary + 1) (step_rules_in step previous row))
+  pub made : result ≡ Ok tt → after ≡ made_row step previous row
 
-  -- what a pass over all rules promises: if it says that they are kept, they are; and past the row nothing is written
-  pub record PassGot (result : Bool) (after : List ℕ) : Type 0 where
-    pub told : result ≡ true → Judged (Ok tt) after
-    pub size : length after ≡ length row
-    pub rest : drop (2 * counts.links) after ≡ drop (2 * counts.links) row
+-- what a pass over all rules promises: if it says that they are kept, they are; and past the row nothing is written
+pub record PassGot (step : Step) (previous row : List ℕ) (result : Bool) (after : List ℕ) : Type 0 where
+  pub told : result ≡ true → Judged step previous row (Ok tt) after
+  pub size : length after ≡ length row
+  pub rest : drop (2 * step.counts.links) after ≡ drop (2 * step.counts.links) row

@@ -1,13 +1,14 @@
 -- What the tests of the code say of rule 27, and of a movement that keeps its limits.
-use Rattle.base_laws.proofs.Kit.{◌≡◌, sym, ap, ◌∙◌, Bool, true, false, not, ◌||◌, or-true, or-false, List, ℕ, ◌+◌, ◌*◌, ◌-◌, arith, eq-eqb, ne_eqb, le-leb, not-false, leb, get_or}
+use Rattle.base_laws.proofs.Kit.{◌≡◌, sym, ap, ◌∙◌, Bool, true, or-true, or-false, List, ℕ, ◌+◌, ◌*◌, ◌-◌, arith, eq-eqb, ne_eqb, le-leb, leb, get_or}
 use Rattle.base_laws.specs.Test.{◌or◌}
 use Rattle.model.specs.Signals.{opens}
-use Rattle.network_tables.specs.declared.Counts.{Counts}
+use Rattle.network_tables.specs.declared.Link.{Link}
 use Rattle.network_tables.specs.Fields.{signal_in, phase_mask_in, link_in, rate_in, length_in, moved_in}
+use Rattle.step_rows.specs.declared.Step.{Step}
 use Rattle.step_limits.specs.Limits.{is_open_in, moves_rate, moves_open, MovementKept}
 
 -- a link without a signal, and one with a signal
-module _ (links phases : List ℕ) (i : ℕ) where
+module _ (links : List Link) (phases : List ℕ) (i : ℕ) where
   pub open_free : signal_in links i ≡ 0 → true ≡ is_open_in links phases i
   unfolding is_open_in ◌or◌
   open_free e = rw (eq-eqb _ _ e)
@@ -16,25 +17,27 @@ module _ (links phases : List ℕ) (i : ℕ) where
   unfolding is_open_in ◌or◌
   open-shown n e = rw (ne_eqb _ _ n) e
 
--- a movement by its volume and the link that it leaves
-module _ (counts : Counts) (line links movements phases : List ℕ) (j : ℕ) {volume : ℕ} (v : volume ≡ moved_in counts line j) where
-  pub nothing-moves : volume ≡ 0 → true ≡ moves_open counts line links movements phases j
-  unfolding moves_open ◌or◌
-  nothing-moves e = sym (ap (λ x. is_open_in links phases (link_in movements 0 j - 1) || x) (eq-eqb _ _ (sym v ∙ e)) ∙ or-true (is_open_in links phases (link_in movements 0 j - 1)))
+-- a movement by its volume and the link that it leaves: one that is 0 keeps 27, and another by that link
+module _ (step : Step) (j : ℕ) {volume : ℕ} (is : volume ≡ moved_in step.counts step.plan_line.now j) where
+  abbrev from : ℕ
+  from = link_in step.movements.now 0 j - 1
 
-  pub moves-open-is : (volume ≡ 0 → ⊥) → (f : ℕ) {o : Bool} → f + 1 ≡ link_in movements 0 j → o ≡ is_open_in links phases f → o ≡ moves_open counts line links movements phases j
+  pub nothing-moves : volume ≡ 0 → true ≡ moves_open step j
+  unfolding moves_open ◌or◌
+  nothing-moves e = rw (eq-eqb _ _ (sym is ∙ e)) (sym (or-true (is_open_in step.links.now step.phases.now from)))
+
+  pub moves-open-is : (volume ≡ 0 → ⊥) → (f : ℕ) {o : Bool} → f + 1 ≡ link_in step.movements.now 0 j → o ≡ is_open_in step.links.now step.phases.now f → o ≡ moves_open step j
   unfolding moves_open ◌or◌
   moves-open-is d f e q =
-      let g : f ≡ link_in movements 0 j - 1 = omega arith in
-      q ∙ ap (is_open_in links phases) g ∙ sym (ap (λ x. is_open_in links phases (link_in movements 0 j - 1) || x) (ne_eqb _ _ (λ z. d (v ∙ z))) ∙ or-false (is_open_in links phases (link_in movements 0 j - 1)))
+      let g : f ≡ from = omega arith in
+      rw (ne_eqb _ _ (λ z. d (is ∙ z))) (q ∙ ap (is_open_in step.links.now step.phases.now) g ∙ sym (or-false (is_open_in step.links.now step.phases.now from)))
 
-  -- one that is 0 keeps 26 and 27, and another by its two tests
-  module _ (step : List ℕ) where
-    pub still-keeps : volume ≡ 0 → MovementKept counts line step links movements phases j
-    unfolding moves_rate
-    still-keeps e = (le-leb (moved_in counts line j) (rate_in movements j * length_in step) (omega (arith, v, e)), sym (nothing-moves e))
+  -- both keep 26 too, the other by its rate
+  pub still-keeps : volume ≡ 0 → MovementKept step j
+  unfolding moves_rate
+  still-keeps e = (le-leb (moved_in step.counts step.plan_line.now j) (rate_in step.movements.now j * length_in step.step_line.now) (omega (arith, is, e)), sym (nothing-moves e))
 
-    pub moving-keeps : (volume ≡ 0 → ⊥) → (rate : ℕ) {w : Bool} → rate ≡ rate_in movements j → w ≡ leb volume (rate * length_in step) → not w ≡ false → (f : ℕ) {o : Bool} → f + 1 ≡ link_in movements 0 j
-        → o ≡ is_open_in links phases f → o ≡ true → MovementKept counts line step links movements phases j
-    unfolding moves_rate
-    moving-keeps d rate {w} t u within f e q shows = (rw (← v, ← t) (sym u ∙ not-false w within), sym (moves-open-is d f e q) ∙ shows)
+  pub moving-keeps : (volume ≡ 0 → ⊥) → {w : Bool} → w ≡ leb volume (rate_in step.movements.now j * length_in step.step_line.now) → w ≡ true
+      → (f : ℕ) {o : Bool} → f + 1 ≡ link_in step.movements.now 0 j → o ≡ is_open_in step.links.now step.phases.now f → o ≡ true → MovementKept step j
+  unfolding moves_rate
+  moving-keeps d u within f e q shows = (rw (← is) (sym u ∙ within), sym (moves-open-is d f e q) ∙ shows)

@@ -1,110 +1,59 @@
 -- The links moved on from one boundary to the next, by `H` lines that are read once for all links at them.
-use Rattle.base_laws.proofs.Kit.{ℕ, zero, suc, ◌+◌, ◌*◌, ◌-◌, ◌≤◌, ◌<◌, ◌≡◌, refl, sym, ap, ◌∙◌, List, ℕ_discrete, dec_le, add-one, arith, length, get_or, set, length-set, get_or-set_same, get_or-set_other}
+use Rattle.base_laws.proofs.Kit.{ℕ, zero, suc, ◌+◌, ◌*◌, ◌-◌, ◌≤◌, ◌<◌, ◌≡◌, refl, ap, ◌∙◌, List, ℕ_discrete, dec_le, add-one, arith, length, get_or, set, length-set, get_or-set_same, get_or-set_other}
 use Rattle.text_reader.specs.Lines.{lines}
 use Rattle.text_reader.specs.Reading.{Starts}
 use Rattle.model.specs.Network.{max_links, link_count, past_count, timeline_line}
 use Rattle.model.specs.Table.{letter_h}
-use Rattle.network_tables.specs.declared.Counts.{Counts}
+use Rattle.network_tables.specs.declared.NetworkTables.{NetworkTables}
 use Rattle.network_tables.specs.Fields.{past_size, travel_time_in, past_entries_in}
-use Rattle.network_tables.specs.Rows.{RowRead}
+use Rattle.network_tables.specs.Rows.{LineHeld, ReadAgain}
 use Rattle.network_tables.specs.Tables.{PastNumbers}
 use Rattle.network_tables.proofs.Tables.{past-entries-at}
-use Rattle.step_arrivals.specs.Arrivals.{arrival_step_in, Cursor}
+use Rattle.step_arrivals.specs.Arrivals.{arrival_step_in}
 use Rattle.step_arrivals.proofs.Arrivals.{arrival-on, arrival-reached}
-use Rattle.step_past.specs.declared.Curve.{Curve}
+use Rattle.step_past.specs.declared.Arrival.{Arrival}
 use Rattle.step_past.specs.declared.PastLine.{PastLine}
-use Rattle.step_past.specs.Curves.{past_entered, CurveTo, curve_in, CurveRooms, SameLink, MovedBy, LinkAsked, LinkMoved, LinksAsked, LinksMoved, Behind, MoveAsked, PastMoveAsked, Moved, NextAsked}
-use Rattle.step_past.proofs.Reading.{past-never, past-numbers, past_next, entered-past}
-use Rattle.step_past.proofs.Keeping.{pair_set, rooms-set, curve-set, curve-other}
-use Rattle.std.specs.Prelude.{Option, Some, None}
-
--- ---- the returns of `move_link`
-module _ {fields links : List ℕ} {line : PastLine} {i : ℕ} {arrivals curves places : List ℕ} (asked : LinkAsked fields links line i arrivals curves places) where
-  stays : (get_or arrivals i 0 ≡ line.from → travel_time_in links i ≤ line.since → ⊥) → LinkMoved fields links line i arrivals curves places arrivals curves places
-  stays d =
-      record {
-        arrival-size = asked.arrival-size;
-        rooms = asked.rooms;
-        own = record { goes = λ e l. absurd (d e l); stays = λ n. (refl, refl) };
-        others = λ j n. (refl, refl);
-      }
-
-  pub link-other : (get_or arrivals i 0 ≡ line.from → ⊥) → LinkMoved fields links line i arrivals curves places arrivals curves places
-  link-other d = stays (λ e l. d e)
-
-  module _ {travel : ℕ} (t : travel ≡ travel_time_in links i) where
-    pub link-early : line.since < travel → LinkMoved fields links line i arrivals curves places arrivals curves places
-    link-early h = stays (λ e l. omega arith)
-
-    module _ (e : get_or arrivals i 0 ≡ line.from) (l : travel ≤ line.since) where
-      abbrev stop : ℕ
-      stop = get_or curves (2 * i + 1) 0 + get_or fields (1 + 2 * i) 0
-
-      pub link_fits : get_or curves (2 * i + 1) 0 + get_or fields (1 + 2 * i) 0 < 4294967296
-      link_fits = omega (arith, asked.fits e (omega arith))
-
-      pub link_on : LinkMoved fields links line i arrivals curves places
-          (set arrivals i (line.from + 1)) (pair_set curves i (get_or curves (2 * i + 1) 0) (get_or curves (2 * i + 1) 0 + get_or fields (1 + 2 * i) 0)) (set places i line.next)
-      link_on =
-          record {
-            arrival-size = length-set arrivals i (line.from + 1) ∙ asked.arrival-size;
-            rooms = rooms-set curves places i (get_or curves (2 * i + 1) 0) stop line.next asked.rooms;
-            own = record {
-              goes = λ q u. (
-                get_or-set_same arrivals i (line.from + 1) 0 (omega (arith, asked.arrival-size, asked.link)),
-                curve-set curves places i (get_or curves (2 * i + 1) 0) stop line.next asked.rooms asked.link,
-              );
-              stays = λ d. absurd (d e (omega arith));
-            };
-            others = λ j d.
-                (get_or-set_other arrivals i j (line.from + 1) 0 d, curve-other curves places i (get_or curves (2 * i + 1) 0) stop line.next asked.rooms j d);
-          }
+use Rattle.step_past.specs.Curves.{no_arrival, arrival_at, past_entered, MovedBy, LinksAsked, LinksMoved, Behind, MoveAsked, PastMoveAsked, Moved}
+use Rattle.step_past.proofs.Reading.{past-again, past-numbers, past-next, entered-past}
 
 -- ---- the turns of `move_links`
-pub record MovingTo (fields : List ℕ) (counts : Counts) (links : List ℕ) (line : PastLine) (first : ℕ) (arrivals₀ curves₀ places₀ arrivals curves places : List ℕ) (n : ℕ) : Type 0 where
-  pub within : n ≤ counts.links
+pub record MovingTo (fields : List ℕ) (tables : NetworkTables) (line : PastLine) (first : ℕ) (before arrivals : List Arrival) (n : ℕ) : Type 0 where
+  pub within : n ≤ tables.reading.counts.links
   pub onward : first ≤ n
-  pub arrival-size : length arrivals ≡ max_links
-  pub rooms : CurveRooms curves places
-  pub done : (i : ℕ) → first ≤ i → i < n
-      → MovedBy fields line i (travel_time_in links i) (get_or arrivals₀ i 0) (curve_in curves₀ places₀ i) (get_or arrivals i 0) (curve_in curves places i)
-  pub before : (i : ℕ) → i < first → SameLink i arrivals₀ curves₀ places₀ arrivals curves places
-  pub rest : (i : ℕ) → n ≤ i → SameLink i arrivals₀ curves₀ places₀ arrivals curves places
+  pub size : length arrivals ≡ max_links
+  pub done : (i : ℕ) → first ≤ i → i < n → MovedBy fields line i (travel_time_in tables.links.now i) (arrival_at before i) (arrival_at arrivals i)
+  pub kept : (i : ℕ) → i < first → arrival_at arrivals i ≡ arrival_at before i
+  pub rest : (i : ℕ) → n ≤ i → arrival_at arrivals i ≡ arrival_at before i
 
-module _ {fields : List ℕ} {counts : Counts} {links : List ℕ} {line : PastLine} {first : ℕ} {arrivals₀ curves₀ places₀ : List ℕ}
-    (asked : LinksAsked fields counts links line first arrivals₀ curves₀ places₀) where
-  pub moving-begin : MovingTo fields counts links line first arrivals₀ curves₀ places₀ arrivals₀ curves₀ places₀ first
-  moving-begin =
-      record {
-        within = omega (arith, asked.own);
-        onward = omega arith;
-        arrival-size = asked.arrival-size;
-        rooms = asked.rooms;
-        done = λ i l h. absurd (omega arith);
-        before = λ i l. (refl, refl);
-        rest = λ i l. (refl, refl);
-      }
+module _ {fields : List ℕ} {tables : NetworkTables} {line : PastLine} {first : ℕ} {before : List Arrival} (asked : LinksAsked fields tables line first before) where
+  module _ {arrivals : List Arrival} {n : ℕ} (inv : MovingTo fields tables line first before arrivals n) (h : n < tables.reading.counts.links) where
+    -- the turn of a link, whatever it waits for then
+    turn : {after : List Arrival} → length after ≡ max_links → MovedBy fields line n (travel_time_in tables.links.now n) (arrival_at arrivals n) (arrival_at after n)
+        → ((i : ℕ) → (i ≡ n → ⊥) → arrival_at after i ≡ arrival_at arrivals i) → MovingTo fields tables line first before after (n + 1)
+    turn size own others =
+        record {
+          within = omega arith;
+          onward = omega (arith, inv.onward);
+          size = size;
+          done = λ i l u. elim (ℕ_discrete i n) [
+            | yes q ↦ rw (q, ← inv.rest n (omega arith)) own
+            | no q ↦ rw (others i q) (inv.done i l (omega arith))
+          ];
+          kept = λ i l. others i (λ q. omega (arith, inv.onward)) ∙ inv.kept i l;
+          rest = λ i l. others i (λ q. omega arith) ∙ inv.rest i (omega arith);
+        }
 
-  module _ {arrivals curves places : List ℕ} {n : ℕ} (inv : MovingTo fields counts links line first arrivals₀ curves₀ places₀ arrivals curves places n) where
-    module _ (h : n < counts.links) where
-      same_stop : get_or curves (2 * n + 1) 0 ≡ get_or curves₀ (2 * n + 1) 0
-      same_stop = ap (λ (c : Curve). c.stop) (inv.rest n (omega arith)).1
+    pub moving-other : ((arrival_at arrivals n).step ≡ line.from → travel_time_in tables.links.now n ≤ line.since → ⊥) → MovingTo fields tables line first before arrivals (n + 1)
+    moving-other d = turn inv.size (record { goes = λ e l. absurd (d e l); stays = λ e. refl }) (λ i q. refl)
 
-      pub moving-next : {arrivals' curves' places' : List ℕ} → LinkMoved fields links line n arrivals curves places arrivals' curves' places'
-          → MovingTo fields counts links line first arrivals₀ curves₀ places₀ arrivals' curves' places' (n + 1)
-      moving-next got =
-          record {
-            within = omega arith;
-            onward = omega (arith, inv.onward);
-            arrival-size = got.arrival-size;
-            rooms = got.rooms;
-            done = λ i l u. elim (ℕ_discrete i n) [
-              | yes q ↦ rw (q, ← (inv.rest n (omega arith)).0, ← (inv.rest n (omega arith)).1) got.own
-              | no q ↦ rw ((got.others i q).0, (got.others i q).1) (inv.done i l (omega arith))
-            ];
-            before = λ i l. let d = got.others i (λ q. omega (arith, inv.onward)) in (d.0 ∙ (inv.before i l).0, d.1 ∙ (inv.before i l).1);
-            rest = λ i l. let d = got.others i (λ q. omega arith) in (d.0 ∙ (inv.rest i (omega arith)).0, d.1 ∙ (inv.rest i (omega arith)).1);
-          }
+    module _ (e : (arrival_at arrivals n).step ≡ line.from) (l : travel_time_in tables.links.now n ≤ line.since) where
+      pub moving-on : MovingTo fields tables line first before
+          (set arrivals n (record { step = line.from + 1; start = (arrival_at arrivals n).stop; stop = (arrival_at arrivals n).stop + get_or fields (1 + 2 * n) 0; place = line.next })) (n + 1)
+      moving-on =
+          let moved : Arrival = record { step = line.from + 1; start = (arrival_at arrivals n).stop; stop = (arrival_at arrivals n).stop + get_or fields (1 + 2 * n) 0; place = line.next } in
+          turn (length-set arrivals n moved ∙ inv.size)
+          (record { goes = λ q u. get_or-set_same arrivals n moved no_arrival (omega (arith, inv.size, tables.sized.few.links)); stays = λ d. absurd (d e l) })
+          (λ i q. get_or-set_other arrivals n i moved no_arrival q)
 
 -- ---- a line that is read while links are moved on to a boundary
 record LineAt (text times : List ℕ) (at : ℕ) (fields : List ℕ) (line : PastLine) : Type 0 where
@@ -114,27 +63,26 @@ record LineAt (text times : List ℕ) (at : ℕ) (fields : List ℕ) (line : Pas
   reached : get_or times (line.from + 1) 0 + line.since ≡ get_or times at 0
 
 module _ {text times : List ℕ} {at : ℕ} {fields : List ℕ} {line : PastLine} (r : LineAt text times at fields line) (i : ℕ) (own : i < link_count (lines text))
-    {travel from : ℕ} {before : Curve} (b : Behind text times at i travel from before) where
-  entered-next : from ≡ line.from → before.stop + past_entries_in fields i ≡ past_entered (lines text) (suc (line.from + 1)) i
+    {travel : ℕ} {before : Arrival} (b : Behind text times at i travel before) where
+  entered-next : before.step ≡ line.from → before.stop + past_entries_in fields i ≡ past_entered (lines text) (suc (line.from + 1)) i
   entered-next e =
       let q = rw e at (b.curved (omega (arith, r.past))) in
       omega (arith, q.ended, entered-past (lines text) (line.from + 1) i r.past, past-entries-at r.numbers i own)
 
   -- it is not past its arrival step where it has gone on
-  behind-next : {to : ℕ} {after : Curve} → MovedBy fields line i travel from before to after → Behind text times at i travel to after
-  behind-next m = elim (ℕ_discrete from line.from) [
+  behind-next : {after : Arrival} → MovedBy fields line i travel before after → Behind text times at i travel after
+  behind-next m = elim (ℕ_discrete before.step line.from) [
     | yes e ↦ elim (dec_le travel line.since) [
       | yes l ↦
-          let p = m.goes e l in
           let q = rw e at (b.curved (omega (arith, r.past))) in
-          record {
-            cursor = rw (p.0, ← e) (arrival-on times at travel refl from b.cursor (rw e (omega (arith, r.reached))));
-            curved = λ h. rw (p.0, p.1, add-one)
-                (record { starts = r.starts; began = λ k u. let z : k ≡ line.from + 1 = omega arith in rw z q.ended; ended = entered-next e });
-          }
-      | no l ↦ let p = m.stays (λ q u. l u) in rw (p.0, p.1) b
+          rw (m.goes e l)
+          (record {
+            cursor = rw (← e) (arrival-on times at travel refl before.step b.cursor (rw e (omega (arith, r.reached))));
+            curved = λ h. rw add-one (record { starts = r.starts; began = λ k u. let z : k ≡ line.from + 1 = omega arith in rw z q.ended; ended = entered-next e });
+          })
+      | no l ↦ rw (m.stays (λ q u. l u)) b
     ]
-    | no e ↦ let p = m.stays (λ q u. e q) in rw (p.0, p.1) b
+    | no e ↦ rw (m.stays (λ q u. e q)) b
   ]
 
 -- a boundary's number is at most its time
@@ -143,205 +91,126 @@ boundary-time times zero r = omega arith
 boundary-time times (suc n) r = omega (arith, boundary-time times n (λ k l. r k (omega arith)), rw (add-one n) at (r n (omega arith)))
 
 -- ---- the turns of `move_past`
-pub record PastTo (text : List ℕ) (counts : Counts) (links times : List ℕ) (at i : ℕ) (arrivals₀ curves₀ places₀ : List ℕ) (to : ℕ) (arrivals curves places fields : List ℕ) : Type 0 where
-  pub is-step : to ≡ arrival_step_in times at (travel_time_in links i)
-  pub arrival-size : length arrivals ≡ max_links
-  pub rooms : CurveRooms curves places
+pub record PastTo (text : List ℕ) (tables : NetworkTables) (at i : ℕ) (before arrivals : List Arrival) (fields : List ℕ) : Type 0 where
+  pub size : length arrivals ≡ max_links
   pub field-size : length fields ≡ past_size
-  pub behind : (j : ℕ) → i ≤ j → j < counts.links → Behind text times at j (travel_time_in links j) (get_or arrivals j 0) (curve_in curves places j)
-  pub before : (j : ℕ) → j < i → SameLink j arrivals₀ curves₀ places₀ arrivals curves places
+  pub behind : (j : ℕ) → i ≤ j → j < tables.reading.counts.links → Behind text tables.times.now at j (travel_time_in tables.links.now j) (arrival_at arrivals j)
+  pub kept : (j : ℕ) → j < i → arrival_at arrivals j ≡ arrival_at before j
 
-module _ {text : List ℕ} {counts : Counts} {links times : List ℕ} {at i : ℕ} {arrivals₀ curves₀ places₀ : List ℕ}
-    (asked : PastMoveAsked text counts links times at i arrivals₀ curves₀ places₀) where
-  pub past-cursor : {from travel : ℕ} → from ≡ get_or arrivals₀ i 0 → travel ≡ travel_time_in links i → Cursor times from at travel
-  past-cursor f t = rw (f, t) (asked.asked.behind i (omega arith) asked.asked.link).cursor
-
-  pub past_first : {travel to : ℕ} → travel ≡ travel_time_in links i → to ≡ arrival_step_in times at travel → {fields : List ℕ} → length fields ≡ past_size
-      → PastTo text counts links times at i arrivals₀ curves₀ places₀ to arrivals₀ curves₀ places₀ fields
-  past_first t e size =
-      record {
-        is-step = e ∙ ap (arrival_step_in times at) t;
-        arrival-size = asked.asked.arrival-size;
-        rooms = asked.asked.rooms;
-        field-size = size;
-        behind = asked.asked.behind;
-        before = λ j l. (refl, refl);
-      }
-
-  module _ {to : ℕ} {arrivals curves places fields : List ℕ} (inv : PastTo text counts links times at i arrivals₀ curves₀ places₀ to arrivals curves places fields) where
-    own_behind : Behind text times at i (travel_time_in links i) (get_or arrivals i 0) (curve_in curves places i)
+module _ {text : List ℕ} {tables : NetworkTables} {at i to : ℕ} {before : List Arrival} (asked : PastMoveAsked text tables at i to before) where
+  module _ {arrivals : List Arrival} {fields : List ℕ} (inv : PastTo text tables at i before arrivals fields) where
+    own_behind : Behind text tables.times.now at i (travel_time_in tables.links.now i) (arrival_at arrivals i)
     own_behind = inv.behind i (omega arith) asked.asked.link
 
-    pub past-arrived : to ≤ get_or arrivals i 0 → Moved text counts links times at i arrivals₀ curves₀ places₀ arrivals curves places
+    pub past-arrived : to ≤ (arrival_at arrivals i).step → Moved text tables at i before arrivals
     past-arrived h =
         record {
-          arrival-size = inv.arrival-size;
-          rooms = inv.rooms;
-          arrived = omega (arith, own_behind.cursor.behind, inv.is-step);
+          size = inv.size;
+          arrived = omega (arith, own_behind.cursor.behind, asked.is-step);
           behind = inv.behind;
-          before = inv.before;
+          kept = inv.kept;
         }
 
-    module _ {from : ℕ} (f : from ≡ get_or arrivals i 0) (h : from < to) where
-      pub step_past : from + 1 < past_count (lines text)
-      step_past = omega (arith, inv.is-step, asked.early, asked.asked.tables.counted.past)
+    module _ (h : (arrival_at arrivals i).step < to) where
+      abbrev from : ℕ
+      from = (arrival_at arrivals i).step
+
+      step_past : from + 1 < past_count (lines text)
+      step_past = omega (arith, asked.early, asked.asked.move-tables.counted.past)
 
       pub from-few : from < 120
-      from-few = omega (arith, step_past, asked.asked.tables.counted.past, asked.asked.tables.counted.few.past)
+      from-few = omega (arith, step_past, asked.asked.move-tables.counted.past, tables.sized.few.past)
 
       -- the line's step starts before the travel time ends
-      reached : get_or times (from + 1) 0 + travel_time_in links i ≤ get_or times at 0
-      reached = arrival-reached times at (travel_time_in links i) from own_behind.cursor.rising (omega (arith, inv.is-step))
+      reached : get_or tables.times.now (from + 1) 0 + travel_time_in tables.links.now i ≤ get_or tables.times.now at 0
+      reached = arrival-reached tables.times.now at (travel_time_in tables.links.now i) from own_behind.cursor.rising (omega (arith, asked.is-step))
 
-      pub times-asked : (at < length times) × (at ≤ 7200) × (from + 1 < length times) × (get_or times (from + 1) 0 ≤ get_or times at 0)
+      pub times-asked : (at < length tables.times.now) × (at ≤ 7200) × (from + 1 < length tables.times.now) × (get_or tables.times.now (from + 1) 0 ≤ get_or tables.times.now at 0)
       times-asked =
           let r = own_behind.cursor.rising in
-          (r.room, omega (arith, boundary-time times at r.rises, r.small at (omega arith)), omega (arith, own_behind.cursor.room, inv.is-step), omega (arith, reached))
+          (r.room, omega (arith, boundary-time tables.times.now at r.rises, r.small at (omega arith)), omega (arith, own_behind.cursor.room, asked.is-step), omega (arith, reached))
 
-      stood : CurveTo text i (from + 1) (curve_in curves places i)
-      stood = rw (← f) at (own_behind.curved (omega (arith, step_past)))
+      module _ {next : ℕ} {after : List ℕ} (read : ReadAgain letter_h (1 + 2 * tables.reading.counts.links) text (arrival_at arrivals i).place fields next after) where
+        line-read : LineHeld letter_h (1 + 2 * link_count (lines text)) text (timeline_line (lines text) (from + 1)) next 0 after
+        line-read = past-again read asked.asked.move-tables.counted.links asked.asked.move-tables.forms (from + 1) step_past (own_behind.curved (omega (arith, step_past))).starts
 
-      module _ {r : (Option ℕ)} {after : List ℕ} (row : RowRead letter_h (1 + 2 * counts.links) text (get_or places i 0) 0 fields r after) where
-        wide : 1 + 2 * counts.links ≡ 1 + 2 * link_count (lines text)
-        wide = omega (arith, asked.asked.tables.counted.links)
+        abbrev line : PastLine
+        line = record { from = from; next = next; since = get_or tables.times.now at 0 - get_or tables.times.now (from + 1) 0 }
 
-        pub past-malformed : r ≡ None → Moved text counts links times at i arrivals₀ curves₀ places₀ arrivals curves places
-        past-malformed q = absurd (past-never (from + 1) stood.starts wide row asked.asked.tables.forms step_past q)
+        line-at : LineAt text tables.times.now at after line
+        line-at =
+            record {
+              past = step_past;
+              numbers = past-numbers (from + 1) line-read (read.size ∙ inv.field-size);
+              starts = past-next (from + 1) line-read;
+              reached = omega (arith, reached);
+            }
 
-        module _ {next : ℕ} (n : r ≡ Some next) {line : PastLine} (l : line ≡ record { from = from; next = next; since = get_or times at 0 - get_or times (from + 1) 0 }) where
-          line-at : LineAt text times at after line
-          line-at =
-              rw l
-              (record {
-                past = step_past;
-                numbers = past-numbers (from + 1) stood.starts wide row n inv.field-size;
-                starts = past_next (from + 1) stood.starts wide row n;
-                reached = omega (arith, reached);
-              })
+        own-link : (j : ℕ) → j < tables.reading.counts.links → j < link_count (lines text)
+        own-link j u = omega (arith, asked.asked.move-tables.counted.links)
 
-          own-link : (j : ℕ) → j < counts.links → j < link_count (lines text)
-          own-link j u = omega (arith, asked.asked.tables.counted.links)
+        pub links-asked : LinksAsked after tables line i arrivals
+        links-asked =
+            record {
+              own = asked.asked.link;
+              field-size = read.size ∙ inv.field-size;
+              size = inv.size;
+              few = from-few;
+              fits = λ j u o q v.
+                  omega (
+                    arith,
+                    entered-next line-at j (own-link j o) (inv.behind j u o) q,
+                    asked.asked.move-tables.fits j (own-link j o) (suc (from + 1)) (omega (arith, step_past)),
+                  );
+            }
 
-          pub links-asked : LinksAsked after counts links line i arrivals curves places
-          links-asked =
+        module _ {arrivals' : List Arrival} (got : LinksMoved after tables line i arrivals arrivals') where
+          -- the link itself has gone on
+          pub past-onward : (arrival_at arrivals' i).step ≡ from + 1
+          past-onward = ap (λ (a : Arrival). a.step) ((got.each-link i (omega arith) asked.asked.link).goes refl (omega (arith, reached)))
+
+          pub past-line-next : PastTo text tables at i before arrivals' after
+          past-line-next =
               record {
-                few-links = asked.asked.tables.counted.few.links;
-                own = asked.asked.link;
-                field-size = row.size ∙ inv.field-size;
-                link-size = asked.asked.tables.link-size;
-                arrival-size = inv.arrival-size;
-                rooms = inv.rooms;
-                few = rw l from-few;
-                fits = λ j u o q v.
-                    omega (
-                      arith,
-                      entered-next line-at j (own-link j o) (inv.behind j u o) q,
-                      asked.asked.tables.fits j (own-link j o) (suc (line.from + 1)) (omega (arith, line-at.past)),
-                    );
+                size = got.size;
+                field-size = read.size ∙ inv.field-size;
+                behind = λ j u o. behind-next line-at j (own-link j o) (inv.behind j u o) (got.each-link j u o);
+                kept = λ j u. got.kept j u ∙ inv.kept j u;
               }
 
-          module _ {arrivals' curves' places' : List ℕ} (got : LinksMoved after counts links line i arrivals curves places arrivals' curves' places') where
-            -- the link itself has gone on
-            pub past-onward : get_or arrivals' i 0 ≡ from + 1
-            past-onward =
-                let z : line.from ≡ from = ap (λ (x : PastLine). x.from) l in
-                let s : line.since ≡ get_or times at 0 - get_or times (from + 1) 0 = ap (λ (x : PastLine). x.since) l in
-                omega (arith, ((got.each-link i (omega arith) asked.asked.link).goes (omega arith) (omega (arith, reached))).0)
-
-            pub past-line-next : PastTo text counts links times at i arrivals₀ curves₀ places₀ to arrivals' curves' places' after
-            past-line-next =
-                record {
-                  is-step = inv.is-step;
-                  arrival-size = got.arrival-size;
-                  rooms = got.rooms;
-                  field-size = row.size ∙ inv.field-size;
-                  behind = λ j u o. behind-next line-at j (own-link j o) (inv.behind j u o) (got.each-link j u o);
-                  before = λ j u. ((got.before j u).0 ∙ (inv.before j u).0, (got.before j u).1 ∙ (inv.before j u).1);
-                }
-
 -- ---- the returns of `move_on`
-module _ {text : List ℕ} {counts : Counts} {links times : List ℕ} {at i : ℕ} {arrivals curves places : List ℕ} (asked : MoveAsked text counts links times at i arrivals curves places) where
-  pub move-cursor : {from travel : ℕ} → from ≡ get_or arrivals i 0 → travel ≡ travel_time_in links i → Cursor times from at travel
-  move-cursor f t = rw (f, t) (asked.behind i (omega arith) asked.link).cursor
-
-  module _ {travel to : ℕ} (t : travel ≡ travel_time_in links i) (e : to ≡ arrival_step_in times at travel) where
-    found : to ≡ arrival_step_in times at (travel_time_in links i)
-    found = e ∙ ap (arrival_step_in times at) t
-
+module _ {text : List ℕ} {tables : NetworkTables} {at i : ℕ} {arrivals : List Arrival} (asked : MoveAsked text tables at i arrivals) where
+  module _ {to : ℕ} (e : to ≡ arrival_step_in tables.times.now at (travel_time_in tables.links.now i)) where
     -- the travel time ends in a step of the plan
-    pub move-plan : counts.past ≤ to → Moved text counts links times at i arrivals curves places (set arrivals i to) curves places
+    abbrev there : Arrival
+    there = record { step = to; start = (arrival_at arrivals i).start; stop = (arrival_at arrivals i).stop; place = (arrival_at arrivals i).place }
+
+    pub move-plan : tables.reading.counts.past ≤ to → Moved text tables at i arrivals (set arrivals i there)
     move-plan h =
         record {
-          arrival-size = length-set arrivals i to ∙ asked.arrival-size;
-          rooms = asked.rooms;
-          arrived = stands ∙ found;
+          size = length-set arrivals i there ∙ asked.size;
+          arrived = rw stands e;
           behind = λ j l o. elim (ℕ_discrete j i) [
             | yes q ↦ rw (q, stands) here
-            | no q ↦ rw (get_or-set_other arrivals i j to 0 q) (asked.behind j l o)
+            | no q ↦ rw (get_or-set_other arrivals i j there no_arrival q) (asked.behind j l o)
           ];
-          before = λ j l. (get_or-set_other arrivals i j to 0 (λ q. omega arith), refl);
+          kept = λ j l. get_or-set_other arrivals i j there no_arrival (λ q. omega arith);
         }
       where
-        stands : get_or (set arrivals i to) i 0 ≡ to
-        stands = get_or-set_same arrivals i to 0 (omega (arith, asked.arrival-size, asked.link, asked.tables.counted.few.links))
+        stands : arrival_at (set arrivals i there) i ≡ there
+        stands = get_or-set_same arrivals i there no_arrival (omega (arith, asked.size, asked.link, tables.sized.few.links))
 
-        here : Behind text times at i (travel_time_in links i) to (curve_in curves places i)
+        here : Behind text tables.times.now at i (travel_time_in tables.links.now i) there
         here =
             let c = (asked.behind i (omega arith) asked.link).cursor in
             record {
-              cursor = record { rising = c.rising; behind = omega (arith, found); room = c.room; later = c.later };
-              curved = λ l. absurd (omega (arith, asked.tables.counted.past));
+              cursor = record { rising = c.rising; behind = omega (arith, e); room = c.room; later = c.later };
+              curved = λ l. absurd (omega (arith, asked.move-tables.counted.past));
             }
 
-    module _ {from : ℕ} (f : from ≡ get_or arrivals i 0) where
-      -- it is there already
-      pub move-none : from ≡ to → Moved text counts links times at i arrivals curves places arrivals curves places
-      move-none q =
-          record {
-            arrival-size = asked.arrival-size;
-            rooms = asked.rooms;
-            arrived = sym f ∙ q ∙ found;
-            behind = asked.behind;
-            before = λ j l. (refl, refl);
-          }
-
-    pub past-move-asked : to < counts.past → PastMoveAsked text counts links times at i arrivals curves places
-    past-move-asked h = record { asked = asked; early = omega (arith, found) }
-
 -- ---- the turns of `next_arrivals`
-pub record MovedTo (text : List ℕ) (counts : Counts) (links times : List ℕ) (at : ℕ) (arrivals curves places : List ℕ) (n : ℕ) : Type 0 where
-  pub within : n ≤ counts.links
+pub record MovedTo (text : List ℕ) (tables : NetworkTables) (at : ℕ) (arrivals : List Arrival) (n : ℕ) : Type 0 where
+  pub within : n ≤ tables.reading.counts.links
   pub size : length arrivals ≡ max_links
-  pub rooms : CurveRooms curves places
-  pub steps : (i : ℕ) → i < n → get_or arrivals i 0 ≡ arrival_step_in times at (travel_time_in links i)
-  pub behind : (i : ℕ) → i < counts.links → Behind text times at i (travel_time_in links i) (get_or arrivals i 0) (curve_in curves places i)
-
-module _ {text : List ℕ} {counts : Counts} {links times : List ℕ} {at : ℕ} {arrivals₀ curves₀ places₀ : List ℕ} (asked : NextAsked text counts links times at arrivals₀ curves₀ places₀) where
-  pub moved_none : MovedTo text counts links times at arrivals₀ curves₀ places₀ 0
-  moved_none =
-      record {
-        within = omega arith;
-        size = asked.arrival-size;
-        rooms = asked.curves-at.rooms;
-        steps = λ i l. absurd (omega arith);
-        behind = λ i l. record { cursor = asked.cursors i l; curved = asked.curves-at.curved i (omega (arith, asked.tables.counted.links)) };
-      }
-
-  module _ {arrivals curves places : List ℕ} {n : ℕ} (inv : MovedTo text counts links times at arrivals curves places n) where
-    module _ (h : n < counts.links) where
-      pub moved_more : {arrivals' curves' places' : List ℕ} → Moved text counts links times at n arrivals curves places arrivals' curves' places'
-          → MovedTo text counts links times at arrivals' curves' places' (n + 1)
-      moved_more got =
-          record {
-            within = omega arith;
-            size = got.arrival-size;
-            rooms = got.rooms;
-            steps = λ i l. elim (ℕ_discrete i n) [
-              | yes q ↦ rw q got.arrived
-              | no q ↦ (got.before i (omega arith)).0 ∙ inv.steps i (omega arith)
-            ];
-            behind = λ i l. elim (dec_le n i) [
-              | yes q ↦ got.behind i q l
-              | no q ↦ rw ((got.before i (omega arith)).0, (got.before i (omega arith)).1) (inv.behind i l)
-            ];
-          }
+  pub steps : (i : ℕ) → i < n → (arrival_at arrivals i).step ≡ arrival_step_in tables.times.now at (travel_time_in tables.links.now i)
+  pub behind : (i : ℕ) → i < tables.reading.counts.links → Behind text tables.times.now at i (travel_time_in tables.links.now i) (arrival_at arrivals i)

@@ -3,138 +3,126 @@
 // next for it, and a line is read once for all links that it is next for.
 #![tactic(auto)]
 
-ghost use Rattle.step_past.specs.Curves.{ReadAsked, CurveTo, StartAsked, Started, KeepAsked, Kept, KeepAllAsked, KeptAll, PastAsked, PastLoaded, LinkAsked, LinkMoved, LinksAsked, LinksMoved, MoveAsked, PastMoveAsked, Moved, NextAsked, NextGot};
+ghost use Rattle.std.specs.Prelude.{◌≡◌};
+ghost use Rattle.step_past.specs.Curves.{ReadAsked, ReadOn, StartAsked, Started, FindAsked, Found, KeepAsked, Kept, PastAsked, PastLoaded, LinksAsked, LinksMoved, MoveAsked, PastMoveAsked, Moved, NextAsked, NextGot};
 
-use network_tables::{Counts, PAST_SIZE};
+use network_tables::{Link, NetworkTables, PAST_SIZE};
 
-// One link's curve of entries: what had entered it by the start, and by the end, of the last `H` line that is read for it, and the place of the next line.
-#[derive(Clone, Copy)]
-pub struct Curve {
+// What a link is waiting for: the step in which its travel time ends. If that is a past one, also what had entered the link by that step's start and by its end,
+// and the place of the `H` line after it.
+#[derive(Clone, Copy, Default)]
+pub struct Arrival {
+    pub step: usize,
     pub start: u32,
     pub stop: u32,
     pub place: usize,
 }
 
 // Reads `H` lines `from` to `to` - 1 for link `i`.
-pub fn read_on(text: &[u8], links: usize, i: usize, from: usize, to: usize, curve: Curve) -> Curve
-    requires { ReadAsked text.now links i from to curve }
-    ensures { CurveTo text.now i to result }
+pub fn read_on(
+    text: &[u8],
+    links: usize,
+    i: usize,
+    from: usize,
+    to: usize,
+    mut arrival: Arrival,
+) -> Arrival
+    requires { ReadAsked text.now links i from to arrival }
+    ensures { ReadOn text.now i from to result }
 {
     let mut fields = [0u32; PAST_SIZE];
-    let mut start = curve.start;
-    let mut stop = curve.stop;
-    let mut place = curve.place;
-    for _m in from..to {
-        let read = network_tables::read_row(text, place, b'H', &mut fields, 0, 1 + 2 * links);
-        let Some(next) = read else {
-            return curve;
+    for m in from..to {
+        let next = network_tables::read_again(
+            text,
+            arrival.place,
+            b'H',
+            &mut fields,
+            1 + 2 * links,
+        );
+        let entries = fields[1 + 2 * i];
+        arrival = Arrival {
+            step: m,
+            start: arrival.stop,
+            stop: arrival.stop + entries,
+            place: next,
         };
-        start = stop;
-        stop = stop + fields[1 + 2 * i];
-        place = next;
     }
-    Curve { start, stop, place }
+    arrival
 }
 
 // A row at the start of the timeline: what stands on each link has entered it, and nothing has left.
-fn start_row(links: &[u32], count: usize, row: &mut [u32])
+fn start_row(links: &[Link], count: usize, row: &mut [u32])
     requires { StartAsked links.now count row.old }
     ensures { Started links.now count count row.old row.new }
 {
     for i in 0..count {
-        row[2 * i] = network_tables::standing(links, i);
+        row[2 * i] = links[i].standing;
         row[2 * i + 1] = 0;
     }
 }
 
-// Keeps the curve of link `i` at the end of step `m`, by the row there and the step's line, if its travel time ends in that step.
-fn keep_curve(
-    fields: &[u32],
-    row: &[u32],
-    step: usize,
-    m: usize,
-    i: usize,
-    next: usize,
-    curves: &mut [u32],
-    places: &mut [usize],
-)
-    requires { KeepAsked fields.now row.now i curves.old places.old }
-    ensures { Kept fields.now row.now step m i next curves.old places.old curves.new places.new }
+// Finds the step in which each link's travel time before boundary 0 ends.
+fn find_steps(tables: &NetworkTables, arrivals: &mut [Arrival])
+    requires { FindAsked tables.now arrivals.old }
+    ensures { Found tables.now tables.now.reading.counts.links arrivals.new }
 {
-    if step != m {
-        return;
+    let counts = tables.reading.counts;
+    for i in 0..counts.links {
+        let travel = tables.links[i].travel_time;
+        let step = step_arrivals::arrival_step(tables.times, 0, counts.past, travel);
+        arrivals[i] = Arrival {
+            step,
+            ..Arrival::default()
+        };
     }
-    let stop = network_tables::entered(row, i);
-    curves[2 * i] = stop - fields[1 + 2 * i];
-    curves[2 * i + 1] = stop;
-    places[i] = next;
 }
 
-// The same of every link.
+// Keeps what had entered each link whose travel time ends in step `m`, by the row at the step's end and the step's line.
 fn keep_curves(
     fields: &[u32],
     row: &[u32],
-    arrivals: &[usize],
     links: usize,
     m: usize,
     next: usize,
-    curves: &mut [u32],
-    places: &mut [usize],
+    arrivals: &mut [Arrival],
 )
-    requires { KeepAllAsked fields.now row.now arrivals.now links curves.old places.old }
-    ensures { KeptAll fields.now row.now arrivals.now links m next curves.old places.old curves.new places.new }
+    requires { KeepAsked fields.now row.now links arrivals.old }
+    ensures { Kept fields.now row.now links m next arrivals.old arrivals.new }
 {
     for i in 0..links {
-        keep_curve(fields, row, arrivals[i], m, i, next, curves, places);
+        if arrivals[i].step == m {
+            let stop = network_tables::entered(row, i);
+            arrivals[i] = Arrival {
+                step: m,
+                start: stop - fields[1 + 2 * i],
+                stop,
+                place: next,
+            };
+        }
     }
 }
 
-// Row 0, by all `H` lines, in the front of `row`; and for boundary 0 the step in which each link's travel time ends, with its curve. False where a number of
-// row 0 does not fit 32 bits.
+// Row 0, by all `H` lines, in the front of `row`; and what each link waits for at boundary 0. False where a number of row 0 does not fit 32 bits.
 pub fn load_past(
     text: &[u8],
-    at: usize,
-    counts: Counts,
-    links: &[u32],
-    times: &[u32],
+    tables: &NetworkTables,
     row: &mut [u32],
-    arrivals: &mut [usize],
-    curves: &mut [u32],
-    places: &mut [usize],
+    arrivals: &mut [Arrival],
 ) -> bool
-    requires { PastAsked text.now at counts links.now times.now row.old arrivals.old curves.old places.old }
-    ensures { PastLoaded text.now counts row.old result row.new arrivals.new curves.new places.new }
+    requires { PastAsked text.now tables.now row.old arrivals.old }
+    ensures { PastLoaded text.now tables.now.reading.counts row.old result row.new arrivals.new }
 {
-    start_row(links, counts.links, row);
-    step_arrivals::next_arrivals(times, links, counts.links, counts.past, arrivals);
+    let counts = tables.reading.counts;
+    start_row(tables.links, counts.links, row);
+    find_steps(tables, arrivals);
     let mut fields = [0u32; PAST_SIZE];
-    let mut place = at;
+    let mut place = tables.reading.past_at;
     for m in 0..counts.past {
-        let read = network_tables::read_row(
-            text,
-            place,
-            b'H',
-            &mut fields,
-            0,
-            1 + 2 * counts.links,
-        );
-        let Some(next) = read else {
-            return false;
-        };
+        place = network_tables::read_again(text, place, b'H', &mut fields, 1 + 2 * counts.links);
         if !network_tables::add_numbers(&fields, 2 * counts.links, row) {
             return false;
         }
-        keep_curves(
-            &fields,
-            row,
-            arrivals,
-            counts.links,
-            m,
-            next,
-            curves,
-            places,
-        );
-        place = next;
+        keep_curves(&fields, row, counts.links, m, place, arrivals);
     }
     true
 }
@@ -148,135 +136,83 @@ pub struct PastLine {
     pub since: u32,
 }
 
-// Moves link `i` on by an `H` line, if the link is at the step before and its travel time ends in the line's step or later.
-fn move_link(
-    fields: &[u32],
-    links: &[u32],
-    line: PastLine,
-    i: usize,
-    arrivals: &mut [usize],
-    curves: &mut [u32],
-    places: &mut [usize],
-)
-    requires { LinkAsked fields.now links.now line i arrivals.old curves.old places.old }
-    ensures { LinkMoved fields.now links.now line i arrivals.old curves.old places.old arrivals.new curves.new places.new }
-{
-    if arrivals[i] != line.from {
-        return;
-    }
-    if line.since < network_tables::travel_time(links, i) {
-        return;
-    }
-    let entered = curves[2 * i + 1];
-    curves[2 * i] = entered;
-    curves[2 * i + 1] = entered + fields[1 + 2 * i];
-    places[i] = line.next;
-    arrivals[i] = line.from + 1;
-}
-
-// The same of each link from `first` on.
+// Moves each link from `first` on by an `H` line, if the link is at the step before and its travel time ends in the line's step or later.
 fn move_links(
     fields: &[u32],
-    counts: Counts,
-    links: &[u32],
+    tables: &NetworkTables,
     line: PastLine,
     first: usize,
-    arrivals: &mut [usize],
-    curves: &mut [u32],
-    places: &mut [usize],
+    arrivals: &mut [Arrival],
 )
-    requires { LinksAsked fields.now counts links.now line first arrivals.old curves.old places.old }
-    ensures { LinksMoved fields.now counts links.now line first arrivals.old curves.old places.old arrivals.new curves.new places.new }
+    requires { LinksAsked fields.now tables.now line first arrivals.old }
+    ensures { LinksMoved fields.now tables.now line first arrivals.old arrivals.new }
 {
-    for i in first..counts.links {
-        move_link(fields, links, line, i, arrivals, curves, places);
+    for i in first..tables.reading.counts.links {
+        let arrival = arrivals[i];
+        if (arrival.step == line.from) & (tables.links[i].travel_time <= line.since) {
+            arrivals[i] = Arrival {
+                step: line.from + 1,
+                start: arrival.stop,
+                stop: arrival.stop + fields[1 + 2 * i],
+                place: line.next,
+            };
+        }
     }
 }
 
-// Moves link `i`, whose travel time ends in the past, on to the timeline's boundary `at`. An `H` line that is read for it moves the links behind it on too.
+// Moves link `i`, whose travel time ends in past step `to`, on to the timeline's boundary `at`. An `H` line that is read for it moves the links behind it on too.
 fn move_past(
     text: &[u8],
-    counts: Counts,
-    links: &[u32],
-    times: &[u32],
+    tables: &NetworkTables,
     at: usize,
     i: usize,
-    arrivals: &mut [usize],
-    curves: &mut [u32],
-    places: &mut [usize],
+    to: usize,
+    arrivals: &mut [Arrival],
 )
-    requires { PastMoveAsked text.now counts links.now times.now at i arrivals.old curves.old places.old }
-    ensures { Moved text.now counts links.now times.now at i arrivals.old curves.old places.old arrivals.new curves.new places.new }
+    requires { PastMoveAsked text.now tables.now at i to arrivals.old }
+    ensures { Moved text.now tables.now at i arrivals.old arrivals.new }
 {
-    let to = step_arrivals::arrival_step(
-        times,
-        arrivals[i],
-        at,
-        network_tables::travel_time(links, i),
-    );
+    let times = tables.times;
     let mut fields = [0u32; PAST_SIZE];
     // No `for`: how many lines are read is known only by where they move the link.
-    while arrivals[i] < to {
-        let from = arrivals[i];
-        let read = network_tables::read_row(
+    while arrivals[i].step < to {
+        let from = arrivals[i].step;
+        let next = network_tables::read_again(
             text,
-            places[i],
+            arrivals[i].place,
             b'H',
             &mut fields,
-            0,
-            1 + 2 * counts.links,
+            1 + 2 * tables.reading.counts.links,
         );
-        let Some(next) = read else {
-            return;
-        };
         let since = times[at] - times[from + 1];
         let line = PastLine { from, next, since };
-        move_links(&fields, counts, links, line, i, arrivals, curves, places);
+        move_links(&fields, tables, line, i, arrivals);
     }
 }
 
 // Moves link `i` on to the timeline's boundary `at`: the step in which its travel time ends and, as long as that is a past one, its curve.
-fn move_on(
-    text: &[u8],
-    counts: Counts,
-    links: &[u32],
-    times: &[u32],
-    at: usize,
-    i: usize,
-    arrivals: &mut [usize],
-    curves: &mut [u32],
-    places: &mut [usize],
-)
-    requires { MoveAsked text.now counts links.now times.now at i arrivals.old curves.old places.old }
-    ensures { Moved text.now counts links.now times.now at i arrivals.old curves.old places.old arrivals.new curves.new places.new }
+fn move_on(text: &[u8], tables: &NetworkTables, at: usize, i: usize, arrivals: &mut [Arrival])
+    requires { MoveAsked text.now tables.now at i arrivals.old }
+    ensures { Moved text.now tables.now at i arrivals.old arrivals.new }
 {
-    let from = arrivals[i];
-    let to = step_arrivals::arrival_step(times, from, at, network_tables::travel_time(links, i));
-    if counts.past <= to {
-        arrivals[i] = to;
+    let from = arrivals[i].step;
+    let to = step_arrivals::arrival_step(tables.times, from, at, tables.links[i].travel_time);
+    if tables.reading.counts.past <= to {
+        arrivals[i].step = to;
         return;
     }
     if from == to {
         return;
     }
-    move_past(text, counts, links, times, at, i, arrivals, curves, places);
+    move_past(text, tables, at, i, to, arrivals);
 }
 
 // Moves every link on to the timeline's boundary `at`.
-pub fn next_arrivals(
-    text: &[u8],
-    counts: Counts,
-    links: &[u32],
-    times: &[u32],
-    at: usize,
-    arrivals: &mut [usize],
-    curves: &mut [u32],
-    places: &mut [usize],
-)
-    requires { NextAsked text.now counts links.now times.now at arrivals.old curves.old places.old }
-    ensures { NextGot text.now counts links.now times.now at arrivals.new curves.new places.new }
+pub fn next_arrivals(text: &[u8], tables: &NetworkTables, at: usize, arrivals: &mut [Arrival])
+    requires { NextAsked text.now tables.now at arrivals.old }
+    ensures { NextGot text.now tables.now at arrivals.new }
 {
-    for i in 0..counts.links {
-        move_on(text, counts, links, times, at, i, arrivals, curves, places);
+    for i in 0..tables.reading.counts.links {
+        move_on(text, tables, at, i, arrivals);
     }
 }

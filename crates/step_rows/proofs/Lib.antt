@@ -5,5 +5,5 @@ pub mod Scatter
 pub mod Next
 pub mod Ledger
 pub mod Texts
-pub mod WaitingTurns
+pub mod Fit
 pub mod WaitingTexts

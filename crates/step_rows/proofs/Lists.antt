@@ -1,5 +1,5 @@
--- Rows as lists of pairs, and a row that goes into the middle of a list.
-use Rattle.base_laws.proofs.Kit.{◌≡◌, refl, ap, sym, ◌∙◌, ◌⊎◌, inl, inr, ⊎_elim, List, [], ◌∷◌, ◌++◌, append_assoc, append-nil, ℕ, zero, suc, ◌+◌, ◌*◌, ◌-◌, ◌/◌, ◌≤◌, ◌<◌, mul-suc, eq-or-lt_of_le, le_of_suc-le-suc, add-one, dec_le, arith, length, get_or, take, drop, set, length-append, length-drop, List·getD-append, drop_of_length-le, append_snoc, take_all, drop-cons, drop-drop, set_at, get_or-append-add, get_or_at, get_or-drop, ext_get_or}
+-- Rows as lists of pairs.
+use Rattle.base_laws.proofs.Kit.{◌≡◌, refl, ap, sym, ◌∙◌, ◌⊎◌, inl, inr, ⊎_elim, List, [], ◌∷◌, ◌++◌, append_assoc, ℕ, zero, suc, ◌+◌, ◌*◌, ◌-◌, ◌/◌, ◌≤◌, ◌<◌, mul-suc, eq-or-lt_of_le, le_of_suc-le-suc, add-one, dec_le, arith, length, get_or, drop, set, length-append, length-drop, List·getD-append, append_snoc, drop-cons, set_at, get_or-append-add, get_or_at, get_or-drop, ext_get_or}
 use Rattle.step_rows.specs.Rows.{pairs}
 
 pub length_pairs : (e l : ℕ → ℕ) (n : ℕ) → length (pairs e l n) ≡ 2 * n
@@ -84,11 +84,3 @@ begun-turn e l d n q h a b =
     let k : drop (2 * n) d ≡ get_or d (2 * n) 0 ∷ get_or d (2 * n + 1) 0 ∷ drop (2 * (n + 1)) d =
     drop-cons d (2 * n) 0 (omega arith) ∙ rw (e1, drop-cons d (2 * n + 1) 0 h, e2) in
     rw (q, a, b, k) (set-two (pairs e l n) _ _ _ _ _ (2 * n) (length_pairs e l n) ∙ rw add-one (sym (append_assoc (pairs e l n) (e n ∷ l n ∷ []) _)))
-
--- a part that starts at index a and into whose front n numbers were copied, back in the whole
-pub part-copied : (d s : List ℕ) (a n : ℕ) {p : List ℕ} → a + n ≤ length d → p ≡ take n s ++ drop n (take (length d - a) (drop a d))
-    → take a d ++ (p ++ drop (length d - a) (drop a d)) ≡ take a d ++ (take n s ++ drop (a + n) d)
-part-copied d s a n {p} h e =
-    let t : take (length d - a) (drop a d) ≡ drop a d = take_all (length d - a) (drop a d) (simp length-drop (omega arith)) in
-    let z : drop (length d - a) (drop a d) ≡ [] = drop_of_length-le (drop a d) {i = length d - a} (simp length-drop (omega arith)) in
-    rw (z, append-nil, e, t, drop-drop)

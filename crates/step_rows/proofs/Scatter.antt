@@ -1,11 +1,12 @@
 -- One movement more is added to a row: what it must find, and what it leaves.
-use Rattle.base_laws.proofs.Kit.{◌≡◌, refl, ap, ◌∙◌, ◌⊎◌, inl, inr, ⊎_elim, Bool, true, false, List, ℕ, suc, ◌+◌, ◌*◌, ◌≤◌, ◌<◌, add-zero, arith, eqb-true, eqb-false, eq-eqb, ne_eqb, eqb, length, get_or, set, length-set, get_or-set_same, get_or-set_other}
+use Rattle.base_laws.proofs.Kit.{◌≡◌, refl, ap, ◌∙◌, ◌⊎◌, inl, inr, ⊎_elim, Bool, true, false, List, ℕ, suc, ◌+◌, ◌*◌, ◌-◌, ◌≤◌, ◌<◌, add-zero, arith, eqb-true, eqb-false, eq-eqb, ne_eqb, eqb, length, get_or, set, length-set, get_or-set_same, get_or-set_other}
 use Rattle.network_tables.specs.declared.Counts.{Counts}
 use Rattle.base_laws.specs.Sum.{sum, only}
 use Rattle.base_laws.proofs.Sums.{sum_more}
 use Rattle.step_rows.specs.Rows.{moved_by, Added, Room}
 use Rattle.step_rows.proofs.Sums.{sum-none, sum-next}
 use Rattle.network_tables.specs.Fields.{link_in, row_size, moved_in}
+use Rattle.network_tables.specs.declared.Movement.{Movement}
 
 same_or_not : (a b : ℕ) → (a ≡ b) ⊎ (a ≡ b → ⊥)
 same_or_not a b = by (eqb a b) refl
@@ -15,7 +16,7 @@ same_or_not a b = by (eqb a b) refl
     by false e = inr (eqb-false a b e)
 
 -- nothing has been added yet
-pub added_none : (counts : Counts) (line movements row : List ℕ) → length row ≡ row_size → Added counts line movements row 0 row
+pub added_none : (counts : Counts) (line : List ℕ) (movements : List Movement) (row : List ℕ) → length row ≡ row_size → Added counts line movements row 0 row
 added_none counts line movements row h =
     record {
       entered = λ i l. omega (arith, sum-none (λ j. only (eqb (link_in movements 1 j) (suc i)) (moved_in counts line j)));
@@ -24,7 +25,7 @@ added_none counts line movements row h =
       size = h;
     }
 
-module _ (counts : Counts) (line movements : List ℕ) (side i j : ℕ) where
+module _ (counts : Counts) (line : List ℕ) (movements : List Movement) (side i j : ℕ) where
   part : ℕ → ℕ
   part j = only (eqb (link_in movements side j) (suc i)) (moved_in counts line j)
 
@@ -44,29 +45,35 @@ module _ (counts : Counts) (line movements : List ℕ) (side i j : ℕ) where
   moved_up h e = omega (arith, moved-yes e, sum_more part (j + 1) counts.movements (omega arith))
 
 -- t and f are the links, from 0, that movement j enters and leaves
-module _ {counts : Counts} {line movements row₀ : List ℕ} {j : ℕ} {row : List ℕ} (room : Room counts line movements row₀) (less : j < counts.movements)
-    (was : Added counts line movements row₀ j row) (t f volume : ℕ) (to : t + 1 ≡ link_in movements 1 j) (from : f + 1 ≡ link_in movements 0 j)
+module _ {counts : Counts} {line : List ℕ} {movements : List Movement} {row₀ : List ℕ} {j : ℕ} {row : List ℕ} (room : Room counts line movements row₀) (less : j < counts.movements)
+    (was : Added counts line movements row₀ j row) {t f volume : ℕ} (to : t ≡ link_in movements 1 j - 1) (from : f ≡ link_in movements 0 j - 1)
     (is : volume ≡ moved_in counts line j) where
-  to-link : t < counts.links
-  to-link = omega (arith, room.named.ends j less)
+  to-within : t < counts.links
+  to-within = omega (arith, room.named.ends j less)
 
-  from-link : f < counts.links
-  from-link = omega (arith, room.named.ends j less)
+  from-within : f < counts.links
+  from-within = omega (arith, room.named.ends j less)
+
+  enters : link_in movements 1 j ≡ suc t
+  enters = omega (arith, room.named.ends j less)
+
+  leaves : link_in movements 0 j ≡ suc f
+  leaves = omega (arith, room.named.ends j less)
 
   -- there is room for it
   pub room-to : (2 * t < length row) × (get_or row (2 * t) 0 + volume < 4294967296)
   room-to = (
-    omega (arith, to-link, was.size, room.few.links),
-    omega (arith, was.entered t to-link, room.entered-fits t to-link, moved_up counts line movements 1 t j less (omega arith)),
+    omega (arith, to-within, was.size, room.few.links),
+    omega (arith, was.entered t to-within, room.entered-fits t to-within, moved_up counts line movements 1 t j less enters),
   )
 
   room-from : (2 * f + 1 < length row) × (get_or row (2 * f + 1) 0 + volume < 4294967296)
   room-from = (
-    omega (arith, from-link, was.size, room.few.links),
-    omega (arith, was.left f from-link, room.left-fits f from-link, moved_up counts line movements 0 f j less (omega arith)),
+    omega (arith, from-within, was.size, room.few.links),
+    omega (arith, was.left f from-within, room.left-fits f from-within, moved_up counts line movements 0 f j less leaves),
   )
 
-  module _ (r₁ : List ℕ) (one : r₁ ≡ set row (2 * t) (get_or row (2 * t) 0 + volume)) where
+  module _ {r₁ : List ℕ} (one : r₁ ≡ set row (2 * t) (get_or row (2 * t) 0 + volume)) where
     first : (k : ℕ) → (k ≡ 2 * t → ⊥) → get_or r₁ k 0 ≡ get_or row k 0
     first k h = ap (λ r. get_or r k 0) one ∙ get_or-set_other row (2 * t) k _ 0 h
 
@@ -77,7 +84,7 @@ module _ {counts : Counts} {line movements row₀ : List ℕ} {j : ℕ} {row : L
       omega (arith, first (2 * f + 1) (λ h. omega arith), room-from.1),
     )
 
-    module _ (r₂ : List ℕ) (two : r₂ ≡ set r₁ (2 * f + 1) (get_or r₁ (2 * f + 1) 0 + volume)) where
+    module _ {r₂ : List ℕ} (two : r₂ ≡ set r₁ (2 * f + 1) (get_or r₁ (2 * f + 1) 0 + volume)) where
       second : (k : ℕ) → (k ≡ 2 * f + 1 → ⊥) → get_or r₂ k 0 ≡ get_or r₁ k 0
       second k h = ap (λ r. get_or r k 0) two ∙ get_or-set_other r₁ (2 * f + 1) k _ 0 h
 
@@ -90,19 +97,19 @@ module _ {counts : Counts} {line movements row₀ : List ℕ} {j : ℕ} {row : L
       added-entered : (i : ℕ) → i < counts.links → get_or r₂ (2 * i) 0 ≡ get_or row₀ (2 * i) 0 + moved_by counts line movements 1 (j + 1) i
       added-entered i l =
           ⊎_elim
-          (λ (e : i ≡ t). rw e (omega (arith, second (2 * t) (λ h. omega arith), hit-to, was.entered t to-link, moved-yes counts line movements 1 t j (omega arith))))
-          (λ (e : i ≡ t → ⊥). omega (arith, second (2 * i) (λ h. omega arith), first (2 * i) (λ h. e (omega arith)), was.entered i l, moved-no counts line movements 1 i j (λ h. e (omega arith))))
+          (λ (e : i ≡ t). rw e (omega (arith, second (2 * t) (λ h. omega arith), hit-to, was.entered t to-within, moved-yes counts line movements 1 t j enters)))
+          (λ (e : i ≡ t → ⊥). omega (arith, second (2 * i) (λ h. omega arith), first (2 * i) (λ h. e (omega arith)), was.entered i l, moved-no counts line movements 1 i j (λ h. e (omega (arith, enters)))))
           (same_or_not i t)
 
       added-left : (i : ℕ) → i < counts.links → get_or r₂ (2 * i + 1) 0 ≡ get_or row₀ (2 * i + 1) 0 + moved_by counts line movements 0 (j + 1) i
       added-left i l =
           ⊎_elim
-          (λ (e : i ≡ f). rw e (omega (arith, hit-from, first (2 * f + 1) (λ h. omega arith), was.left f from-link, moved-yes counts line movements 0 f j (omega arith))))
-          (λ (e : i ≡ f → ⊥). omega (arith, second (2 * i + 1) (λ h. e (omega arith)), first (2 * i + 1) (λ h. omega arith), was.left i l, moved-no counts line movements 0 i j (λ h. e (omega arith))))
+          (λ (e : i ≡ f). rw e (omega (arith, hit-from, first (2 * f + 1) (λ h. omega arith), was.left f from-within, moved-yes counts line movements 0 f j leaves)))
+          (λ (e : i ≡ f → ⊥). omega (arith, second (2 * i + 1) (λ h. e (omega arith)), first (2 * i + 1) (λ h. omega arith), was.left i l, moved-no counts line movements 0 i j (λ h. e (omega (arith, leaves)))))
           (same_or_not i f)
 
       added-rest : (k : ℕ) → 2 * counts.links ≤ k → get_or r₂ k 0 ≡ get_or row₀ k 0
-      added-rest k l = second k (λ h. omega (arith, from-link)) ∙ first k (λ h. omega (arith, to-link)) ∙ was.rest k l
+      added-rest k l = second k (λ h. omega (arith, from-within)) ∙ first k (λ h. omega (arith, to-within)) ∙ was.rest k l
 
       pub added-turn : Added counts line movements row₀ (j + 1) r₂
       added-turn =

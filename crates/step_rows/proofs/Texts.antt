@@ -16,10 +16,11 @@ use Rattle.step_rows.proofs.Lists.{pairs-ext}
 use Rattle.step_rows.proofs.Next.{length-next}
 use Rattle.step_rows.proofs.Ledger.{row-pairs, row-holds}
 use Rattle.network_tables.specs.Fields.{let_out_in, admitted_in, moved_in, row_size}
+use Rattle.network_tables.specs.declared.Movement.{Movement}
 
 module _ {network : List Line} {counts : Counts} (counted : CountsHold network counts) where
   -- the links that a valid network's movements name
-  pub movements-named : {movements : List ℕ} → MovementTable network movements → ValidNetwork network → Named counts movements
+  pub movements-named : {movements : List Movement} → MovementTable network movements → ValidNetwork network → Named counts movements
   movements-named {movements} t valid = record { size = t.size; ends = λ j l. ends j (omega arith) }
     where
       ends : (j : ℕ) → j < movement_count network → Ends counts movements j
@@ -45,7 +46,7 @@ module _ {network : List Line} {counts : Counts} (counted : CountsHold network c
     unfolding all_let_out
     all-let-out-is = ap (λ k. sum k (let_out_in counts line)) counted.links ∙ sum-ext (link_count network) _ _ let-out-is
 
-    module _ {movements : List ℕ} (table : MovementTable network movements) where
+    module _ {movements : List Movement} (table : MovementTable network movements) where
       pub moved-into-is : (i : ℕ) → moved_by counts line movements 1 counts.movements i ≡ moved_into network plan n i
       unfolding moved_into
       moved-into-is i =

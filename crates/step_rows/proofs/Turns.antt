@@ -1,5 +1,5 @@
 -- One turn of each loop over a row.
-use Rattle.base_laws.proofs.Kit.{◌≡◌, sym, ap, ap₂, ◌∙◌, List, ◌++◌, ℕ, ◌+◌, ◌*◌, ◌-◌, ◌<◌, arith, get_or, drop, set, set-get_or}
+use Rattle.base_laws.proofs.Kit.{◌≡◌, ap₂, List, ◌++◌, ℕ, ◌+◌, ◌*◌, ◌-◌, ◌<◌, arith, drop, set}
 use Rattle.base_laws.specs.Sum.{sum}
 use Rattle.network_tables.specs.declared.Counts.{Counts}
 use Rattle.network_tables.specs.Fields.{admitted_in, let_out_in, entered_in, left_in}
@@ -7,18 +7,8 @@ use Rattle.step_rows.specs.Rows.{pairs, base_entered, base_left, Base}
 use Rattle.step_rows.proofs.Lists.{begun-turn}
 use Rattle.step_rows.proofs.Sums.{sum-next}
 
--- nothing is added
-pub nothing-added : (row : List ℕ) (at volume : ℕ) → volume ≡ 0 → row ≡ set row at (get_or row at 0 + volume)
-nothing-added row at volume e = let same : get_or row at 0 ≡ get_or row at 0 + volume = omega arith in sym (set-get_or row at 0) ∙ ap (set row at) same
-
 -- the row begins with one link more
 module _ {counts : Counts} {line previous d : List ℕ} (base : Base counts line previous d) {n : ℕ} (h : n < counts.links) where
-  pub base-entered-fits : {e a : ℕ} → e ≡ entered_in previous n → a ≡ admitted_in counts line n → e + a < 4294967296
-  base-entered-fits was more = omega (arith, base.entered-fits n h)
-
-  pub base-left-fits : {l o : ℕ} → l ≡ left_in previous n → o ≡ let_out_in counts line n → l + o < 4294967296
-  base-left-fits gone out = omega (arith, base.left-fits n h)
-
   pub base-turn : {e a l o : ℕ} {p : List ℕ} → e ≡ entered_in previous n → a ≡ admitted_in counts line n → l ≡ left_in previous n → o ≡ let_out_in counts line n
       → p ≡ pairs (base_entered counts line previous) (base_left counts line previous) n ++ drop (2 * n) d
       → set (set p (2 * n) (e + a)) (2 * n + 1) (l + o) ≡ pairs (base_entered counts line previous) (base_left counts line previous) (n + 1) ++ drop (2 * (n + 1)) d

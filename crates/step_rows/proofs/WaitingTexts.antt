@@ -11,10 +11,12 @@ use Rattle.base_laws.proofs.Sums.{sum-ext}
 use Rattle.model.proofs.Bounds.{offered-small}
 use Rattle.model.proofs.Waiting.{offered-suc, taken-suc}
 use Rattle.network_tables.specs.declared.Counts.{Counts}
-use Rattle.network_tables.specs.Fields.{admitted_in}
 use Rattle.network_tables.specs.Tables.{CountsHold, LinkTable, StepNumbers, PlanNumbers}
-use Rattle.network_tables.proofs.Tables.{waiting-at-start-at, step-length-at, demand-at, admitted-at}
+use Rattle.network_tables.proofs.Tables.{waiting-at-start-at, step-length-at, demand-at}
+use Rattle.network_tables.specs.Fields.{admitted_in}
+use Rattle.step_rows.proofs.Texts.{admitted-is}
 use Rattle.step_rows.specs.Waiting.{waiting_in, offer_in, FirstWaits, AddAsked, Offers, WaitsAsked, Waits, WaitingTable, StepOffers}
+use Rattle.network_tables.specs.declared.Link.{Link}
 
 -- the same added to both sides
 leb-plus : (a b c : ℕ) → leb a b ≡ leb (c + a) (b + c)
@@ -24,7 +26,7 @@ leb-plus a b c = elim (dec_le a b) [
 ]
 
 -- who waits at the start
-pub waiting-first : {network : List Line} (plan : List Line) {links waiting : List ℕ} → LinkTable network links → FirstWaits links (link_count network) waiting → WaitingTable network plan 0 waiting
+pub waiting-first : {network : List Line} (plan : List Line) {links : List Link} {waiting : List ℕ} → LinkTable network links → FirstWaits links (link_count network) waiting → WaitingTable network plan 0 waiting
 unfolding offered taken sum
 waiting-first plan t w = record { size = w.size; holds = λ i l. omega (arith, w.starts i l, waiting-at-start-at t i l) }
 
@@ -57,14 +59,11 @@ module _ {network plan : List Line} {n : ℕ} {counts : Counts} (counted : Count
       }
 
   module _ {line step : List ℕ} (numbers : PlanNumbers network plan n line) (offers : StepOffers network plan n step) where
-    admitted-is : (i : ℕ) → i < link_count network → admitted_in counts line i ≡ admitted network plan n i
-    admitted-is i l = rw counted.signals (admitted-at numbers i l)
-
     -- rule 15: no more is admitted than is at the entry
     pub offer-is : (i : ℕ) → i < link_count network → leb (admitted_in counts line i) (offer_in step i) ≡ rule15 network plan n i
     unfolding rule15
     offer-is i l =
-        rw (admitted-is i l, taken-suc network plan n i, ← offers.holds i l)
+        rw (admitted-is counted numbers i l, taken-suc network plan n i, ← offers.holds i l)
         (leb-plus (admitted network plan n i) (offer_in step i) (taken network plan n i))
 
     -- a step that keeps rule 15 leaves waiting who was at the entry and was not admitted
@@ -86,5 +85,5 @@ module _ {network plan : List Line} {n : ℕ} {counts : Counts} (counted : Count
       waiting-next w =
           record {
             size = w.size;
-            holds = λ i l. omega (arith, w.rest i (omega (arith, counted.links)), enough i l, admitted-is i l, offers.holds i l, taken-suc network plan n i);
+            holds = λ i l. omega (arith, w.rest i (omega (arith, counted.links)), enough i l, admitted-is counted numbers i l, offers.holds i l, taken-suc network plan n i);
           }

@@ -3,14 +3,15 @@
 use Rattle.std.specs.Prelude.{◌≡◌, List, [], ◌∷◌, ◌++◌, ℕ, zero, suc, ◌+◌, ◌*◌, ◌≤◌, ◌<◌, eqb, length, get_or}
 use Rattle.text_reader.specs.Lines.{Line}
 use Rattle.base_laws.specs.Sum.{sum, only}
-use Rattle.model.specs.Network.{link_count}
+use Rattle.model.specs.Network.{max_movements, link_count}
 use Rattle.model.specs.Flows.{entered, left}
 use Rattle.network_tables.specs.declared.Counts.{Counts}
+use Rattle.network_tables.specs.declared.Movement.{Movement}
 use Rattle.network_tables.specs.Places.{Few}
-use Rattle.network_tables.specs.Fields.{line_size, movement_table_size, row_size, link_in, admitted_in, let_out_in, moved_in, entered_in, left_in}
+use Rattle.network_tables.specs.Fields.{line_size, row_size, link_in, admitted_in, let_out_in, moved_in, entered_in, left_in}
 
--- what the first m movements take from link i (side 0), or bring into it (side 1): a movement is from, to, rate, share
-abbrev pub moved_by : Counts → List ℕ → List ℕ → ℕ → ℕ → ℕ → ℕ
+-- what the first m movements take from link i (side 0), or bring into it (side 1)
+abbrev pub moved_by : Counts → List ℕ → List Movement → ℕ → ℕ → ℕ → ℕ
 moved_by counts line movements side m i = sum m (λ j. only (eqb (link_in movements side j) (suc i)) (moved_in counts line j))
 
 -- entered and left of link i before the step, with what the line admits on it and lets out from it
@@ -21,11 +22,11 @@ abbrev pub base_left : Counts → List ℕ → List ℕ → ℕ → ℕ
 base_left counts line previous i = left_in previous i + let_out_in counts line i
 
 -- entered and left of link i after the step
-unfoldable pub next_entered : Counts → List ℕ → List ℕ → List ℕ → ℕ → ℕ
+unfoldable pub next_entered : Counts → List ℕ → List Movement → List ℕ → ℕ → ℕ
 next_entered counts line movements previous i =
     entered_in previous i + (admitted_in counts line i + moved_by counts line movements 1 counts.movements i)
 
-unfoldable pub next_left : Counts → List ℕ → List ℕ → List ℕ → ℕ → ℕ
+unfoldable pub next_left : Counts → List ℕ → List Movement → List ℕ → ℕ → ℕ
 next_left counts line movements previous i =
     left_in previous i + (let_out_in counts line i + moved_by counts line movements 0 counts.movements i)
 
@@ -34,24 +35,24 @@ unfoldable pub pairs : (ℕ → ℕ) → (ℕ → ℕ) → ℕ → List ℕ
 pairs e l zero = []
 pairs e l (suc n) = pairs e l n ++ (e n ∷ l n ∷ [])
 
-unfoldable pub next_row : Counts → List ℕ → List ℕ → List ℕ → List ℕ
+unfoldable pub next_row : Counts → List ℕ → List Movement → List ℕ → List ℕ
 next_row counts line movements previous =
     pairs (next_entered counts line movements previous) (next_left counts line movements previous) counts.links
 
 -- movement j leaves one of the links and enters one of them
-pub record Ends (counts : Counts) (movements : List ℕ) (j : ℕ) : Type 0 where
+pub record Ends (counts : Counts) (movements : List Movement) (j : ℕ) : Type 0 where
   pub from_first : 1 ≤ link_in movements 0 j
   pub from_last : link_in movements 0 j ≤ counts.links
   pub to-first : 1 ≤ link_in movements 1 j
   pub to_last : link_in movements 1 j ≤ counts.links
 
 -- each movement names two of the links
-pub record Named (counts : Counts) (movements : List ℕ) : Type 0 where
-  pub size : length movements ≡ movement_table_size
+pub record Named (counts : Counts) (movements : List Movement) : Type 0 where
+  pub size : length movements ≡ max_movements
   pub ends : (j : ℕ) → j < counts.movements → Ends counts movements j
 
 -- what the row after a step is made of, and that its numbers fit 32 bits
-pub record Fits (counts : Counts) (line movements previous row : List ℕ) : Type 0 where
+pub record Fits (counts : Counts) (line : List ℕ) (movements : List Movement) (previous row : List ℕ) : Type 0 where
   pub few : Few counts
   pub named : Named counts movements
   pub line-size : length line ≡ line_size
@@ -70,14 +71,14 @@ pub record Base (counts : Counts) (line previous row : List ℕ) : Type 0 where
   pub left-fits : (i : ℕ) → i < counts.links → base_left counts line previous i < 4294967296
 
 -- the first m movements have been added to a row
-pub record Added (counts : Counts) (line movements row₀ : List ℕ) (m : ℕ) (row : List ℕ) : Type 0 where
+pub record Added (counts : Counts) (line : List ℕ) (movements : List Movement) (row₀ : List ℕ) (m : ℕ) (row : List ℕ) : Type 0 where
   pub entered : (i : ℕ) → i < counts.links → entered_in row i ≡ entered_in row₀ i + moved_by counts line movements 1 m i
   pub left : (i : ℕ) → i < counts.links → left_in row i ≡ left_in row₀ i + moved_by counts line movements 0 m i
   pub rest : (k : ℕ) → 2 * counts.links ≤ k → get_or row k 0 ≡ get_or row₀ k 0
   pub size : length row ≡ row_size
 
 -- a row to which all movements can be added
-pub record Room (counts : Counts) (line movements row₀ : List ℕ) : Type 0 where
+pub record Room (counts : Counts) (line : List ℕ) (movements : List Movement) (row₀ : List ℕ) : Type 0 where
   pub few : Few counts
   pub named : Named counts movements
   pub line-size : length line ≡ line_size

@@ -6,7 +6,8 @@ use Rattle.model.specs.Network.{max_links, link_count, step_length}
 use Rattle.model.specs.Flows.{offered, taken}
 use Rattle.network_tables.specs.declared.Counts.{Counts}
 use Rattle.network_tables.specs.Places.{Few}
-use Rattle.network_tables.specs.Fields.{link_table_size, step_size, line_size, waiting_at_start_in, length_in, demand_in, admitted_in}
+use Rattle.network_tables.specs.declared.Link.{Link}
+use Rattle.network_tables.specs.Fields.{step_size, line_size, waiting_at_start_in, length_in, demand_in, admitted_in}
 
 -- who waits at the entry of link i, by the table; and who is there in a step, where its `S` line has the demand
 abbrev pub waiting_in : List ℕ → ℕ → ℕ
@@ -16,12 +17,12 @@ abbrev pub offer_in : List ℕ → ℕ → ℕ
 offer_in step i = demand_in step i
 
 -- what the table at the start asks, and gives for the first n links
-pub record FirstAsked (links : List ℕ) (count : ℕ) (waiting : List ℕ) : Type 0 where
+pub record FirstAsked (links : List Link) (count : ℕ) (waiting : List ℕ) : Type 0 where
   pub few : count ≤ max_links
-  pub link-size : length links ≡ link_table_size
+  pub link-size : length links ≡ max_links
   pub size : length waiting ≡ max_links
 
-pub record FirstWaits (links : List ℕ) (n : ℕ) (waiting : List ℕ) : Type 0 where
+pub record FirstWaits (links : List Link) (n : ℕ) (waiting : List ℕ) : Type 0 where
   pub size : length waiting ≡ max_links
   pub starts : (i : ℕ) → i < n → waiting_in waiting i ≡ waiting_at_start_in links i
 

@@ -1,32 +1,47 @@
-// The row of the ledger after a step, its writing through a part of the lent ledger, the sums that go into the totals, and who
-// waits at the entries. The table of those who wait has one number a link: who waited at the start and came since, and was not
-// admitted.
+// A step of a plan as it is judged, the row of the ledger after it, its writing through a part of the lent ledger, the sums that go into
+// the totals, and who waits at the entries. The table of those who wait has one number a link: who waited at the start and came since,
+// and was not admitted.
 #![tactic(auto)]
 
 ghost use Rattle.std.specs.Prelude.{◌≡◌, ◌++◌, ◌+◌, ◌*◌, ◌-◌, ◌<◌, ◌≤◌, length, get_or, set, take, drop};
-ghost use Rattle.model.specs.Network.{max_links, max_movements};
+ghost use Rattle.model.specs.Network.{max_links};
 ghost use Rattle.base_laws.specs.Sum.{sum};
-ghost use Rattle.network_tables.specs.Places.{Few};
-ghost use Rattle.network_tables.specs.Fields.{movement_table_size, link_in, entered_in, left_in};
-ghost use Rattle.step_rows.specs.Rows.{pairs, base_entered, base_left, next_row, Named, Base, Fits, Added, Room};
+ghost use Rattle.network_tables.specs.Fields.{link_in, entered_in, left_in};
+ghost use Rattle.step_rows.specs.Fit.{StepFit};
+ghost use Rattle.step_rows.specs.Rows.{pairs, base_entered, base_left, next_row, Base, Fits, Added, Room};
 ghost use Rattle.step_rows.specs.Waiting.{FirstAsked, FirstWaits, AddAsked, Offers, WaitsAsked, Waits};
 
-use network_tables::{Counts, admitted, entered, index, left, let_out, link_of, moved, wide};
+use model::Signal;
+use network_tables::{Counts, Link, Movement, admitted, entered, left, let_out, moved};
+use step_past::Arrival;
 
-// The link, from 0, that movement j leaves (side 0) or enters (side 1).
-fn link_index(movements: &[u32], j: usize, side: usize) -> usize
-    requires { (j < max_movements) × (side < 2) × (length movements.now ≡ movement_table_size) × (1 ≤ link_in movements.now side j) }
-    ensures { result + 1 ≡ link_in movements.now side j }
-{
-    index(link_of(movements, j, side)) - 1
+// What a step of a plan is judged by; all tables are lent. `plan_line` has the numbers of its `P` line, `step_line` those of its `S` line, with who waits in each
+// link's demand; `phases` are those that it shows, `asked` those that trams ask; the ledger has the rows up to `boundary`, at which the step begins.
+#[derive(Clone, Copy)]
+pub struct Step<'a> {
+    pub counts: Counts,
+    pub links: &'a [Link],
+    pub movements: &'a [Movement],
+    pub times: &'a [u32],
+    pub signals: &'a [Signal],
+    pub plan_line: &'a [u32],
+    pub step_line: &'a [u32],
+    pub phases: &'a [u32],
+    pub asked: &'a [u32],
+    pub ledger: &'a [u32],
+    pub arrivals: &'a [Arrival],
+    pub boundary: usize,
+    ghost fit: { StepFit counts links.now movements.now times.now signals.now plan_line.now step_line.now phases.now asked.now ledger.now arrivals.now boundary },
 }
 
-// The link, from 0, that movement j leaves.
-pub fn from_link(movements: &[u32], counts: Counts, j: usize) -> usize
-    requires { Few counts × Named counts movements.now × (j < counts.movements) }
-    ensures { (result + 1 ≡ link_in movements.now 0 j) × (result < counts.links) }
-{
-    link_index(movements, j, 0)
+impl Step<'_> {
+    // The link, from 0, that movement j leaves.
+    pub fn from_link(&self, j: usize) -> usize
+        requires { j < self.now.counts.movements }
+        ensures { (result + 1 ≡ link_in self.now.movements.now 0 j) × (result < self.now.counts.links) }
+    {
+        self.movements[j].from as usize - 1
+    }
 }
 
 // Adds a volume to a number of the row. Most volumes are 0, and then the row is not touched.
@@ -40,14 +55,14 @@ fn add_at(row: &mut [u32], at: usize, volume: u32)
 }
 
 // Adds each movement of the line to what has entered its to link and to what has left its from link.
-fn add_movements(row: &mut [u32], line: &[u32], movements: &[u32], counts: Counts)
+fn add_movements(row: &mut [u32], line: &[u32], movements: &[Movement], counts: Counts)
     requires { Room counts line.now movements.now row.old }
     ensures { Added counts line.now movements.now row.old counts.movements row.new }
 {
     for j in 0..counts.movements {
         let volume = moved(line, counts, j);
-        let to = 2 * link_index(movements, j, 1);
-        let from = 2 * link_index(movements, j, 0) + 1;
+        let to = 2 * (movements[j].to as usize - 1);
+        let from = 2 * (movements[j].from as usize - 1) + 1;
         add_at(row, to, volume);
         add_at(row, from, volume);
     }
@@ -66,7 +81,13 @@ fn base_row(previous: &[u32], line: &[u32], counts: Counts, row: &mut [u32])
 
 // The row after a step, in the front of a lent row: one pass over the links, one over the movements. Only for a line that has passed rules 15 and 25 to 27, whose
 // volumes are small enough for the sums to fit.
-pub fn next_row(previous: &[u32], line: &[u32], movements: &[u32], counts: Counts, row: &mut [u32])
+pub fn next_row(
+    previous: &[u32],
+    line: &[u32],
+    movements: &[Movement],
+    counts: Counts,
+    row: &mut [u32],
+)
     requires { Fits counts line.now movements.now previous.now row.old }
     ensures { row.new ≡ next_row counts line.now movements.now previous.now ++ drop (2 * counts.links) row.old }
 {
@@ -97,7 +118,7 @@ pub fn sum_of(line: &[u32], first: usize, count: usize) -> u64
 {
     let mut total: u64 = 0;
     for i in 0..count {
-        total += wide(line[first + i]);
+        total += u64::from(line[first + i]);
     }
     total
 }
@@ -109,18 +130,18 @@ pub fn held_in(row: &[u32], links: usize) -> u64
 {
     let mut total: u64 = 0;
     for i in 0..links {
-        total += wide(entered(row, i).saturating_sub(left(row, i)));
+        total += u64::from(entered(row, i).saturating_sub(left(row, i)));
     }
     total
 }
 
 // Who waits at the start, as the `Q` lines have it.
-pub fn first_waiting(links: &[u32], count: usize, waiting: &mut [u32])
+pub fn first_waiting(links: &[Link], count: usize, waiting: &mut [u32])
     requires { FirstAsked links.now count waiting.old }
     ensures { FirstWaits links.now count waiting.new }
 {
     for i in 0..count {
-        waiting[i] = network_tables::waiting_at_start(links, i);
+        waiting[i] = links[i].waiting;
     }
 }
 

@@ -2,5 +2,4 @@
 pub mod OneBit
 pub mod Phase
 pub mod Rules
-pub mod Steps
 pub mod Texts

@@ -1,19 +1,16 @@
--- The rules of a signal by their places, and that they keep it ready for the next step.
-use Rattle.base_laws.proofs.Kit.{ℕ, zero, suc, ◌+◌, ◌-◌, ◌≤◌, ◌<◌, ◌≡◌, refl, sym, ◌∙◌, Bool, true, false, not, ◌&&◌, ◌||◌, List, le_trans, arith, leb, eqb, get_or, List·getD-eq-default, leb-true, eqb-true, not-false}
+-- The rules of a signal together, and that they keep it ready for the next step.
+use Rattle.base_laws.proofs.Kit.{ℕ, ◌+◌, ◌-◌, ◌≤◌, ◌<◌, ◌≡◌, refl, sym, ◌∙◌, Bool, true, false, not, ◌&&◌, ◌||◌, List, le_trans, arith, leb, eqb, get_or, leb-true, eqb-true}
 use borrow.Author.Count.{below_more}
 use Rattle.model.specs.declared.Signal.{Signal}
 use Rattle.base_laws.specs.Test.{◌and◌, ◌or◌, within}
 use Rattle.model.specs.Signals.{greatest_time, begins_cycle, shown_for_after, clock_after, keeps_greatest_time, keeps_cycle, after}
 use Rattle.model.specs.Rules.{valid_phases, valid_signal}
 use Rattle.base_laws.proofs.Tests.{and_left, and_right, every-at}
-use Rattle.network_tables.specs.Fields.{table_signal}
+use Rattle.network_tables.specs.Fields.{signal_at}
+use Rattle.step_signals.specs.declared.SignalRule.{SignalRule}
+use Rattle.step_signals.specs.declared.SignalRule.TheVariants.{OnePhase, TramPhase, Order, LeastTime, GreatestTime, Cycle}
 use Rattle.step_signals.specs.Ready.{Ready}
-use Rattle.step_signals.specs.Step.{signal_tests, signal_test, keeps_all, goes_on, signal_rule_holds, SignalRulesKept}
-
--- past rule 14 there is none to break
-pub no-signal-test : (k : ℕ) (s : Signal) (q asked seconds : ℕ) → 6 ≤ k → true ≡ signal_test k s q asked seconds
-unfolding signal_test
-no-signal-test k s q asked seconds h = sym (List·getD-eq-default (signal_tests s q asked seconds) true h)
+use Rattle.step_signals.specs.Rules.{signal_test, keeps_all, goes_on, signal_rule_holds, SignalRulesKept}
 
 -- a signal that keeps them all keeps each
 either : (a b c : Bool) → (b ≡ true → c ≡ true) → a or b ≡ true → a or c ≡ true
@@ -21,15 +18,14 @@ unfolding ◌or◌
 either true b c f h = refl
 either false b c f h = f h
 
-pub keeps-each : (s : Signal) (q asked seconds : ℕ) → keeps_all s q asked seconds ≡ true → (k : ℕ) → signal_test k s q asked seconds ≡ true
+pub keeps-each : (s : Signal) (q asked seconds : ℕ) → keeps_all s q asked seconds ≡ true → (rule : SignalRule) → signal_test rule s q asked seconds ≡ true
 unfolding keeps_all signal_test
-keeps-each s q asked seconds h zero = and_left _ _ (and_left _ _ h)
-keeps-each s q asked seconds h (suc zero) = and_right _ _ (and_left _ _ h)
-keeps-each s q asked seconds h (suc (suc zero)) = either _ _ _ (λ e. and_left _ _ (and_left _ _ e)) (and_right _ _ h)
-keeps-each s q asked seconds h (suc (suc (suc zero))) = either _ _ _ (λ e. and_right _ _ (and_left _ _ e)) (and_right _ _ h)
-keeps-each s q asked seconds h (suc (suc (suc (suc zero)))) = either _ _ _ (λ e. and_left _ _ (and_right _ _ e)) (and_right _ _ h)
-keeps-each s q asked seconds h (suc (suc (suc (suc (suc zero))))) = either _ _ _ (λ e. and_right _ _ (and_right _ _ e)) (and_right _ _ h)
-keeps-each s q asked seconds h (suc (suc (suc (suc (suc (suc k)))))) = refl
+keeps-each s q asked seconds h OnePhase = and_left _ _ (and_left _ _ h)
+keeps-each s q asked seconds h TramPhase = and_right _ _ (and_left _ _ h)
+keeps-each s q asked seconds h Order = either _ _ _ (λ e. and_left _ _ (and_left _ _ e)) (and_right _ _ h)
+keeps-each s q asked seconds h LeastTime = either _ _ _ (λ e. and_right _ _ (and_left _ _ e)) (and_right _ _ h)
+keeps-each s q asked seconds h GreatestTime = either _ _ _ (λ e. and_left _ _ (and_right _ _ e)) (and_right _ _ h)
+keeps-each s q asked seconds h Cycle = either _ _ _ (λ e. and_right _ _ (and_right _ _ e)) (and_right _ _ h)
 
 -- one that goes on keeps them all
 never_both : (b : Bool) → b && not b ≡ false
@@ -51,11 +47,11 @@ goes-keeps s q asked seconds h =
     (rw (← eqb-true q s.shown same) (never_both (eqb q 1)))
 
 -- the first r signals keep them, and so does the next
-pub kept_more : (signals phases asked : List ℕ) (seconds r : ℕ) {b : Bool} → SignalRulesKept signals r phases asked seconds
-    → b ≡ keeps_all (table_signal signals r) (get_or phases r 0) (get_or asked r 0) seconds → not b ≡ false → SignalRulesKept signals (r + 1) phases asked seconds
+pub kept_more : (signals : List Signal) (phases asked : List ℕ) (seconds r : ℕ) {b : Bool} → SignalRulesKept signals r phases asked seconds
+    → b ≡ keeps_all (signal_at signals r) (get_or phases r 0) (get_or asked r 0) seconds → b ≡ true → SignalRulesKept signals (r + 1) phases asked seconds
 unfolding signal_rule_holds
 kept_more signals phases asked seconds r {b} kept e t =
-    below_more (λ r. (k : ℕ) → signal_rule_holds signals phases asked seconds k r ≡ true) r kept (keeps-each (table_signal signals r) (get_or phases r 0) (get_or asked r 0) seconds (sym e ∙ not-false b t))
+    below_more (λ r. (rule : SignalRule) → signal_rule_holds signals phases asked seconds rule r ≡ true) r kept (keeps-each (signal_at signals r) (get_or phases r 0) (get_or asked r 0) seconds (sym e ∙ t))
 
 -- a signal that passes the network's check is ready for the first step
 pub ready-first : (s : Signal) → valid_phases s ≡ true → valid_signal s ≡ true → Ready s

@@ -1,8 +1,7 @@
 -- Signals whose clocks can be carried through a step.
-use Rattle.std.specs.Prelude.{ℕ, ◌≤◌, ◌<◌, ◌≡◌, List, length, get_or}
+use Rattle.std.specs.Prelude.{ℕ, ◌≤◌, ◌<◌, List, get_or}
 use Rattle.model.specs.declared.Signal.{Signal}
-use Rattle.model.specs.Network.{max_signals}
-use Rattle.network_tables.specs.Fields.{signal_table_size, table_signal}
+use Rattle.network_tables.specs.Fields.{signal_at}
 
 -- what the network's check ensures of a signal before the plan, and rules 10, 13 and 14 after each step
 pub record Ready (s : Signal) : Type 0 where
@@ -13,12 +12,6 @@ pub record Ready (s : Signal) : Type 0 where
   pub greatest-times : (k : ℕ) → k < s.phases → get_or s.greatest k 0 ≤ 3600
   pub greatest-cycle : s.greatest_cycle ≤ 3600
 
--- signal r of a table is ready
-pub record ReadyIn (signals : List ℕ) (r : ℕ) : Type 0 where
-  pub size : length signals ≡ signal_table_size
-  pub few : r < max_signals
-  pub ready : Ready (table_signal signals r)
-
 -- the first n signals of a table are ready
-abbrev pub AllReady : List ℕ → ℕ → Type 0
-AllReady signals n = (r : ℕ) → r < n → Ready (table_signal signals r)
+abbrev pub AllReady : List Signal → ℕ → Type 0
+AllReady signals n = (r : ℕ) → r < n → Ready (signal_at signals r)

@@ -3,15 +3,25 @@
 // The definitions stand in specs/ of crate model.
 #![tactic(auto)]
 
-ghost use Rattle.std.specs.Prelude.{◌≡◌, true, cond, ◌-◌, ◌^◌, ◌≤◌, ◌<◌, length};
+ghost use Rattle.std.specs.Prelude.{◌≡◌, true, ◌-◌, ◌^◌, ◌≤◌, length};
 ghost use Rattle.model.specs.Network.{max_signals};
-ghost use Rattle.model.specs.Signals.{phase_of, opens, least_time, greatest_time, next_phase, begins_cycle, shown_for_after, clock_after, keeps_order, keeps_least_time, keeps_greatest_time, keeps_cycle, after};
-ghost use Rattle.network_tables.specs.Fields.{signal_table_size, table_signal};
-ghost use Rattle.network_tables.specs.Tables.{SignalLaid};
-ghost use Rattle.step_signals.specs.Ready.{Ready, ReadyIn, AllReady};
-ghost use Rattle.step_signals.specs.Step.{signal_test, keeps_all, goes_on, signal_rule_holds, SignalRulesKept, SignalTables, ShownPhases, HeldMasks, stepped, AdvanceAsked, Advanced};
+ghost use Rattle.model.specs.Signals.{phase_of, opens, next_phase, begins_cycle, shown_for_after, clock_after, keeps_order, keeps_least_time, keeps_greatest_time, keeps_cycle, after};
+ghost use Rattle.step_signals.specs.Ready.{Ready, AllReady};
+ghost use Rattle.step_signals.specs.Rules.{signal_rule_number, signal_test, keeps_all, goes_on, SignalRulesKept, SignalTables};
+ghost use Rattle.step_signals.specs.Step.{ShownPhases, HeldMasks, stepped, AdvanceAsked, Advanced};
 
 use model::Signal;
+
+// A rule of one signal: 10; 29, which a tram's step keeps; and 11 to 14, which an ordinary one keeps.
+#[derive(Clone, Copy)]
+pub enum SignalRule {
+    OnePhase,
+    TramPhase,
+    Order,
+    LeastTime,
+    GreatestTime,
+    Cycle,
+}
 
 // The phase, among 1 to `phases`, whose bit is all of the mask; 0 where there is none, which breaks rule 10 (C7). The count of ones tests that one
 // bit is set; the trailing zeros are its place.
@@ -31,7 +41,7 @@ pub fn phase_of(mask: u32, phases: u32) -> u32
 pub fn place_of(phase: u32) -> usize
     ensures { result ≡ phase - 1 }
 {
-    if phase == 0 { 0 } else { (phase - 1) as usize }
+    phase.saturating_sub(1) as usize
 }
 
 // The mask that shows one phase: its bit.
@@ -43,19 +53,13 @@ pub fn mask_of(phase: u32) -> u32
 }
 
 // Whether a link's mask has the phase's bit.
+#[tactic(auto, unfolding(model::specs::Signals::opens))]
 pub fn opens(mask: u32, phase: u32) -> bool
     requires { phase ≤ 32 }
     ensures { result ≡ opens mask phase }
 {
     let place = place_of(phase);
     (mask >> place) % 2 == 1
-}
-
-// One of two numbers, so that a caller needs no branch.
-fn choose(condition: bool, a: u32, b: u32) -> u32
-    ensures { result ≡ cond condition a b }
-{
-    if condition { a } else { b }
 }
 
 // The phase after the shown one, by cases (C8): after P comes 1, after any other k comes k + 1. Where none is shown, it is 1.
@@ -92,7 +96,11 @@ fn shown_for_after(signal: Signal, phase: u32, seconds: u32) -> u32
     requires seconds_bound { seconds ≤ 60 }
     ensures { result ≡ shown_for_after signal phase seconds }
 {
-    choose(phase == signal.shown, signal.shown_for + seconds, seconds)
+    if phase == signal.shown {
+        signal.shown_for + seconds
+    } else {
+        seconds
+    }
 }
 
 // The cycle clock after the step: it restarts at 0 when phase 1 begins again.
@@ -101,11 +109,11 @@ fn clock_after(signal: Signal, phase: u32, seconds: u32) -> u32
     requires seconds_bound { seconds ≤ 60 }
     ensures { result ≡ clock_after signal phase seconds }
 {
-    choose(
-        begins_cycle(signal, phase),
-        seconds,
-        signal.cycle_clock + seconds,
-    )
+    if begins_cycle(signal, phase) {
+        seconds
+    } else {
+        signal.cycle_clock + seconds
+    }
 }
 
 // Rule 11 (C8): the phase is that of the step before or the next.
@@ -160,114 +168,80 @@ fn after(mut signal: Signal, phase: u32, seconds: u32) -> Signal
     signal
 }
 
-// Steps a signal on: where a tram asks a phase of it, its run and its clock stand still, and it goes on from the phase before the tram.
-fn step_on(signals: &mut [u32], r: usize, phase: u32, asked: u32, seconds: u32)
-    requires ready_in { ReadyIn signals.old r }
-    requires seconds_bound { seconds ≤ 60 }
-    ensures { SignalLaid signals.old r (stepped (table_signal signals.old r) phase asked seconds) signals.new }
-{
-    if asked == 0 {
-        let next = after(network_tables::signal_in(signals, r), phase, seconds);
-        network_tables::show(signals, r, phase, next.shown_for, next.cycle_clock);
+impl SignalRule {
+    // Its number in the paper.
+    pub fn number(self) -> u32
+        ensures { result ≡ signal_rule_number self }
+    {
+        match self {
+            SignalRule::OnePhase => 10,
+            SignalRule::TramPhase => 29,
+            SignalRule::Order => 11,
+            SignalRule::LeastTime => 12,
+            SignalRule::GreatestTime => 13,
+            SignalRule::Cycle => 14,
+        }
+    }
+
+    // Whether it holds of a signal that shows a phase.
+    pub fn holds(self, signal: Signal, phase: u32, asked: u32, seconds: u32) -> bool
+        requires ready { Ready signal }
+        requires phase_bound { phase ≤ 8 }
+        requires seconds_bound { seconds ≤ 60 }
+        ensures { result ≡ signal_test self signal phase asked seconds }
+    {
+        match self {
+            SignalRule::OnePhase => 1 <= phase,
+            SignalRule::TramPhase => (asked == 0) | (phase == asked),
+            SignalRule::Order => (asked != 0) | keeps_order(signal, phase),
+            SignalRule::LeastTime => (asked != 0) | keeps_least_time(signal, phase),
+            SignalRule::GreatestTime => (asked != 0) | keeps_greatest_time(signal, phase, seconds),
+            SignalRule::Cycle => (asked != 0) | keeps_cycle(signal, phase, seconds),
+        }
     }
 }
 
-// Whether test k of the six holds of a signal that shows a phase: 10; 29 in a tram's step; 11 to 14 in an ordinary one.
-fn signal_test(k: usize, signal: Signal, phase: u32, asked: u32, seconds: u32) -> bool
-    requires ready { Ready signal }
+// Whether a signal that shows a phase keeps all six rules. Its two times are read through the reference: an array by value is laid out for an index that is not known.
+fn keeps_all(signal: &Signal, phase: u32, asked: u32, seconds: u32) -> bool
+    requires ready { Ready signal.now }
     requires phase_bound { phase ≤ 8 }
     requires seconds_bound { seconds ≤ 60 }
-    ensures { result ≡ signal_test k signal phase asked seconds }
+    ensures { result ≡ keeps_all signal.now phase asked seconds }
 {
-    match k {
-        0 => 1 <= phase,
-        1 => (asked == 0) | (phase == asked),
-        2 => (asked != 0) | keeps_order(signal, phase),
-        3 => (asked != 0) | keeps_least_time(signal, phase),
-        4 => (asked != 0) | keeps_greatest_time(signal, phase, seconds),
-        5 => (asked != 0) | keeps_cycle(signal, phase, seconds),
-        _ => true,
-    }
-}
-
-// Whether rule k of the six, 10, 29 and 11 to 14, holds of signal r of the table.
-pub fn signal_rule(
-    k: usize,
-    r: usize,
-    signals: &[u32],
-    count: usize,
-    phases: &[u32],
-    asked: &[u32],
-    seconds: u32,
-) -> bool
-    requires signal_tables { SignalTables signals.now count phases.now asked.now seconds }
-    requires r_lt_count { r < count }
-    ensures { result ≡ signal_rule_holds signals.now phases.now asked.now seconds k r }
-{
-    signal_test(
-        k,
-        network_tables::signal_in(signals, r),
-        phases[r],
-        asked[r],
-        seconds,
-    )
-}
-
-// Whether a signal that shows a phase keeps all six rules, by the least time of the phase before and the greatest of this one.
-fn keeps_all(
-    signal: Signal,
-    least: u32,
-    greatest: u32,
-    phase: u32,
-    asked: u32,
-    seconds: u32,
-) -> bool
-    requires ready { Ready signal }
-    requires seconds_bound { seconds ≤ 60 }
-    requires least_value { (least ≡ least_time signal signal.shown) × (greatest ≡ greatest_time signal phase) }
-    ensures { result ≡ keeps_all signal phase asked seconds }
-{
+    let least = signal.least[place_of(signal.shown)];
     let left_in_time = (phase == signal.shown) | (least <= signal.shown_for);
-    let runs_in_time = shown_for_after(signal, phase, seconds) <= greatest;
-    let ordered = keeps_order(signal, phase) & left_in_time;
-    let timed = runs_in_time & keeps_cycle(signal, phase, seconds);
+    let ordered = keeps_order(*signal, phase) & left_in_time;
+    let greatest = signal.greatest[place_of(phase)];
+    let runs_in_time = shown_for_after(*signal, phase, seconds) <= greatest;
+    let timed = runs_in_time & keeps_cycle(*signal, phase, seconds);
     (1 <= phase) & ((asked == 0) | (phase == asked)) & ((asked != 0) | (ordered & timed))
 }
 
-// Whether signal r of the table goes on with its phase in an ordinary step, and neither the phase nor the cycle lasts too long. Then it keeps all six, as most do in most
-// steps; its times stay in the table.
-fn goes_on(signals: &[u32], r: usize, phase: u32, asked: u32, seconds: u32) -> bool
-    requires ready_in { ReadyIn signals.now r }
+// Whether a signal goes on with its phase in an ordinary step, and neither the phase nor the cycle lasts too long. Then it keeps all six, as most do in most steps.
+fn goes_on(signal: &Signal, phase: u32, asked: u32, seconds: u32) -> bool
+    requires ready { Ready signal.now }
     requires phase_bound { phase ≤ 8 }
     requires seconds_bound { seconds ≤ 60 }
-    ensures { result ≡ goes_on (table_signal signals.now r) phase asked seconds }
+    ensures { result ≡ goes_on signal.now phase asked seconds }
 {
-    let signal = network_tables::signal_in(signals, r);
-    let greatest = network_tables::greatest_time(signals, r, place_of(phase));
     let goes = (1 <= phase) & (phase == signal.shown) & (asked == 0);
-    let in_time = signal.shown_for + seconds <= greatest;
+    let in_time = signal.shown_for + seconds <= signal.greatest[place_of(phase)];
     goes & in_time & (signal.cycle_clock + seconds <= signal.greatest_cycle)
 }
 
-// Whether signal r of the table keeps all six. Its two times are read in the table: an array by value is laid out for an index that is not known.
-fn signal_keeps(signals: &[u32], r: usize, phase: u32, asked: u32, seconds: u32) -> bool
-    requires ready_in { ReadyIn signals.now r }
+// Whether a signal keeps all six: asked first whether it goes on.
+fn signal_keeps(signal: &Signal, phase: u32, asked: u32, seconds: u32) -> bool
+    requires ready { Ready signal.now }
     requires phase_bound { phase ≤ 8 }
     requires seconds_bound { seconds ≤ 60 }
-    ensures { result ≡ keeps_all (table_signal signals.now r) phase asked seconds }
+    ensures { result ≡ keeps_all signal.now phase asked seconds }
 {
-    if goes_on(signals, r, phase, asked, seconds) {
-        return true;
-    }
-    let signal = network_tables::signal_in(signals, r);
-    let least = network_tables::least_time(signals, r, place_of(signal.shown));
-    let greatest = network_tables::greatest_time(signals, r, place_of(phase));
-    keeps_all(signal, least, greatest, phase, asked, seconds)
+    goes_on(signal, phase, asked, seconds) || keeps_all(signal, phase, asked, seconds)
 }
 
 // Whether all signals keep the six rules, in one pass over them: most steps break none, and then it doesn't matter which rule is asked first.
 pub fn keeps_signal_rules(
-    signals: &[u32],
+    signals: &[Signal],
     count: usize,
     phases: &[u32],
     asked: &[u32],
@@ -277,7 +251,7 @@ pub fn keeps_signal_rules(
     ensures { result ≡ true → SignalRulesKept signals.now count phases.now asked.now seconds }
 {
     for r in 0..count {
-        if !signal_keeps(signals, r, phases[r], asked[r], seconds) {
+        if !signal_keeps(&signals[r], phases[r], asked[r], seconds) {
             return false;
         }
     }
@@ -285,32 +259,47 @@ pub fn keeps_signal_rules(
 }
 
 // The phase that each signal's mask shows.
-pub fn shown_phases(signals: &[u32], count: usize, masks: &[u32], phases: &mut [u32])
-    requires { (count ≤ max_signals) × (length signals.now ≡ signal_table_size) × (count ≤ length masks.now) × (length phases.old ≡ max_signals) }
+pub fn shown_phases(signals: &[Signal], count: usize, masks: &[u32], phases: &mut [u32])
+    requires { (count ≤ max_signals) × (length signals.now ≡ max_signals) × (count ≤ length masks.now) × (length phases.old ≡ max_signals) }
     ensures { ShownPhases signals.now count masks.now phases.old phases.new }
 {
     for i in 0..count {
-        phases[i] = phase_of(masks[i], network_tables::phase_count(signals, i));
+        phases[i] = phase_of(masks[i], signals[i].phases);
     }
 }
 
 // The masks by which each signal keeps its phase, in front of a line's numbers.
-pub fn hold_masks(signals: &[u32], count: usize, line: &mut [u32])
-    requires count_le_max_signals { (count ≤ max_signals) × (length signals.now ≡ signal_table_size) × (count ≤ length line.old) }
+pub fn hold_masks(signals: &[Signal], count: usize, line: &mut [u32])
+    requires count_le_max_signals { (count ≤ max_signals) × (length signals.now ≡ max_signals) × (count ≤ length line.old) }
     requires all_ready { AllReady signals.now count }
     ensures { HeldMasks signals.now count line.old line.new }
 {
     for i in 0..count {
-        line[i] = mask_of(network_tables::shown_phase(signals, i));
+        line[i] = mask_of(signals[i].shown);
+    }
+}
+
+// Steps a signal on: where a tram asks a phase of it, its run and its clock stand still, and it goes on from the phase before the tram.
+// Written is what changes alone, since a copy of a signal costs more than its step.
+fn step_on(signal: &mut Signal, phase: u32, asked: u32, seconds: u32)
+    requires ready { Ready signal.old }
+    requires seconds_bound { seconds ≤ 60 }
+    ensures { signal.new ≡ stepped signal.old phase asked seconds }
+{
+    if asked == 0 {
+        let next = after(*signal, phase, seconds);
+        signal.shown = next.shown;
+        signal.shown_for = next.shown_for;
+        signal.cycle_clock = next.cycle_clock;
     }
 }
 
 // Steps the signals on, by a step that shows these phases: one of which a tram asks a phase stands still.
-pub fn advance(signals: &mut [u32], count: usize, phases: &[u32], asked: &[u32], seconds: u32)
+pub fn advance(signals: &mut [Signal], count: usize, phases: &[u32], asked: &[u32], seconds: u32)
     requires { AdvanceAsked signals.old count phases.now asked.now seconds }
     ensures { Advanced signals.old count phases.now asked.now seconds signals.new }
 {
     for i in 0..count {
-        step_on(signals, i, phases[i], asked[i], seconds);
+        step_on(&mut signals[i], phases[i], asked[i], seconds);
     }
 }

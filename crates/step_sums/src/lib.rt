@@ -1,181 +1,154 @@
 // Rules 16 to 18 of the plan check, by sums of volumes: shares, arrivals and capacities, once the row after the step is formed.
 #![tactic(auto)]
 
-ghost use Rattle.std.specs.Prelude.{◌≡◌, ◌+◌, ◌*◌, ◌<◌, ◌≤◌, length, true};
-ghost use Rattle.model.specs.Network.{max_links};
-ghost use Rattle.network_tables.specs.Places.{Few};
-ghost use Rattle.network_tables.specs.Fields.{link_table_size, line_size, row_size, let_out_in, left_in};
-ghost use Rattle.step_sums.specs.Sums.{keeps_share, entered_before, entered_after, leaves_arrived, fits_capacity, sum_items, sum_rule_holds, SharesKept, LinkSumsKept, SumsKept, ShareTables, ArrivalRows, ArrivalTables, SumTables};
+ghost use Rattle.std.specs.Prelude.{◌≡◌, ◌+◌, ◌<◌, true, length};
+ghost use Rattle.network_tables.specs.Fields.{row_size, let_out_in, left_in};
+ghost use Rattle.step_sums.specs.Sums.{keeps_share, entered_before, entered_after, leaves_arrived, fits_capacity, sum_rule_number, sum_items, sum_rule_holds, SharesKept, LinkSumsKept, SumsKept, SumRows};
 
-use network_tables::{
-    Counts, capacity, entered, entered_at, left, let_out, moved, share, travel_time, wide,
-};
+use network_tables::{Counts, entered, entered_at, left, let_out, moved};
+use step_rows::Step;
+
+// A rule of sums: 16 of a movement's share, 17 of what has arrived at a link's end, and 18 of a link's capacity.
+#[derive(Clone, Copy)]
+pub enum SumRule {
+    Share,
+    Arrivals,
+    Capacity,
+}
 
 // The sum of all movements from link i: what has left it in the step, without what was let out.
-fn moved_from(line: &[u32], previous: &[u32], row: &[u32], counts: Counts, i: usize) -> u32
-    requires i_lt_links { (i < counts.links) × Few counts × (length line.now ≡ line_size) × (2 * i + 1 < length previous.now) × (length row.now ≡ row_size) }
-    requires i_bound { left_in previous.now i + let_out_in counts line.now i ≤ left_in row.now i }
-    ensures { left_in previous.now i + (let_out_in counts line.now i + result) ≡ left_in row.now i }
+fn moved_from(step: &Step, previous: &[u32], row: &[u32], i: usize) -> u32
+    requires sum_rows { SumRows step.now previous.now row.now }
+    requires i_lt_links { i < step.now.counts.links }
+    ensures { left_in previous.now i + (let_out_in step.now.counts step.now.plan_line.now i + result) ≡ left_in row.now i }
 {
-    let let_out = let_out(line, counts, i);
+    let let_out = let_out(step.plan_line, step.counts, i);
     left(row, i) - left(previous, i) - let_out
 }
 
 // Rule 16, movement j: 1000 × the movement is at most its share × the sum of all movements from its link. Most are 0, and
 // keep every share.
-fn keeps_share(
-    line: &[u32],
-    movements: &[u32],
-    previous: &[u32],
-    row: &[u32],
-    counts: Counts,
-    j: usize,
-) -> bool
-    requires share_tables { ShareTables counts line.now movements.now previous.now row.now }
-    requires j_lt_movements { j < counts.movements }
-    ensures { result ≡ keeps_share counts line.now movements.now j }
+fn keeps_share(step: &Step, previous: &[u32], row: &[u32], j: usize) -> bool
+    requires sum_rows { SumRows step.now previous.now row.now }
+    requires j_lt_movements { j < step.now.counts.movements }
+    ensures { result ≡ keeps_share step.now j }
 {
-    let volume = moved(line, counts, j);
+    let volume = moved(step.plan_line, step.counts, j);
     if volume == 0 {
         return true;
     }
-    let from = step_rows::from_link(movements, counts, j);
-    let all = moved_from(line, previous, row, counts, from);
-    network_tables::times(1000, volume) <= network_tables::times(share(movements, j), all)
+    let all = moved_from(step, previous, row, step.from_link(j));
+    network_tables::times(1000, volume) <= network_tables::times(step.movements[j].share, all)
 }
 
-// Entered of link i at the start of a step of the timeline: a past one's as its curve has it, a later one's as the ledger has it.
-fn entered_before(
-    row: &[u32],
-    ledger: &[u32],
-    curves: &[u32],
-    counts: Counts,
-    boundary: usize,
-    step: usize,
-    i: usize,
-) -> u32
-    requires arrival_rows { ArrivalRows counts row.now ledger.now curves.now boundary }
-    requires step_bound { (step < counts.past + boundary) × (i < counts.links) }
-    ensures { result ≡ entered_before counts ledger.now curves.now step i }
+// Entered of link i at the start of the step of the timeline in which its travel time ends: a past one's as it arrived, a later one's as the ledger has it.
+fn entered_before(step: &Step, i: usize) -> u32
+    requires { i < step.now.counts.links }
+    ensures { result ≡ entered_before step.now i }
 {
-    if step < counts.past {
-        return curves[2 * i];
+    let arrival = &step.arrivals[i];
+    if arrival.step < step.counts.past {
+        return arrival.start;
     }
-    entered_at(ledger, counts.links, step - counts.past, i)
+    let boundary = arrival.step - step.counts.past;
+    entered_at(step.ledger, step.counts.links, boundary, i)
 }
 
-// Entered of link i at the end of a step that is at most the last: of the row after the last step, or of the ledger, which has the rows before that; of a past
-// step as its curve has it.
-fn entered_after(
-    row: &[u32],
-    ledger: &[u32],
-    curves: &[u32],
-    counts: Counts,
-    boundary: usize,
-    step: usize,
-    i: usize,
-) -> u32
-    requires arrival_rows { ArrivalRows counts row.now ledger.now curves.now boundary }
-    requires step_bound { (step < counts.past + boundary) × (i < counts.links) }
-    ensures { result ≡ entered_after counts row.now ledger.now curves.now boundary step i }
+// Entered of link i at the end of that step: of the row after the step that is judged, or of the ledger, which has the rows before that; of a past step as it
+// arrived.
+fn entered_after(step: &Step, row: &[u32], i: usize) -> u32
+    requires { (i < step.now.counts.links) × (length row.now ≡ row_size) }
+    ensures { result ≡ entered_after step.now row.now i }
 {
-    if step < counts.past {
-        return curves[2 * i + 1];
+    let arrival = &step.arrivals[i];
+    if arrival.step < step.counts.past {
+        return arrival.stop;
     }
-    let after = step - counts.past + 1;
-    if after == boundary {
+    let boundary = arrival.step - step.counts.past;
+    if boundary == step.boundary {
         return entered(row, i);
     }
-    entered_at(ledger, counts.links, after, i)
+    entered_at(step.ledger, step.counts.links, boundary + 1, i)
 }
 
 // Rule 17, link i: what has left it is at most what has arrived at its end, both × the length of the step in which the travel time ends, so that nothing is
 // rounded. What had entered by that step's start has arrived, and often that is enough.
-fn leaves_arrived(
-    links: &[u32],
-    row: &[u32],
-    ledger: &[u32],
-    times: &[u32],
-    arrivals: &[usize],
-    curves: &[u32],
-    counts: Counts,
-    boundary: usize,
-    i: usize,
-) -> bool
-    requires arrival_tables { ArrivalTables counts links.now row.now ledger.now times.now arrivals.now curves.now boundary }
-    requires i_lt_links { i < counts.links }
-    ensures { result ≡ leaves_arrived counts links.now row.now ledger.now times.now arrivals.now curves.now boundary i }
+fn leaves_arrived(step: &Step, row: &[u32], i: usize) -> bool
+    requires { (i < step.now.counts.links) × (length row.now ≡ row_size) }
+    ensures { result ≡ leaves_arrived step.now row.now i }
 {
-    let step = arrivals[i];
-    let start = entered_before(row, ledger, curves, counts, boundary, step, i);
+    let start = entered_before(step, i);
     let left = left(row, i);
     if left <= start {
         return true;
     }
-    let end = entered_after(row, ledger, curves, counts, boundary, step, i);
-    let seconds = step_arrivals::seconds(times, step);
+    let end = entered_after(step, row, i);
+    let last = step.arrivals[i].step;
+    let seconds = step_arrivals::seconds(step.times, last);
     let elapsed = step_arrivals::elapsed(
-        times,
-        step,
-        counts.past + boundary,
-        travel_time(links, i),
+        step.times,
+        last,
+        step.counts.past + step.boundary + 1,
+        step.links[i].travel_time,
     );
     network_tables::times(left, seconds)
         <= step_arrivals::scaled_arrived(start, end, seconds, elapsed)
 }
 
 // Rule 18, link i: entered − left before the step is at most capacity, said without the difference.
-fn fits_capacity(links: &[u32], previous: &[u32], row: &[u32], i: usize) -> bool
-    requires { (i < max_links) × (length links.now ≡ link_table_size) × (2 * i + 1 < length previous.now) × (length row.now ≡ row_size) }
-    ensures { result ≡ fits_capacity links.now previous.now row.now i }
+fn fits_capacity(step: &Step, previous: &[u32], row: &[u32], i: usize) -> bool
+    requires sum_rows { SumRows step.now previous.now row.now }
+    requires i_lt_links { i < step.now.counts.links }
+    ensures { result ≡ fits_capacity step.now previous.now row.now i }
 {
-    wide(entered(row, i)) <= wide(capacity(links, i)) + wide(left(previous, i))
+    let capacity = u64::from(step.links[i].capacity);
+    u64::from(entered(row, i)) <= capacity + u64::from(left(previous, i))
 }
 
-// Whether rule 16 + k holds of an item.
-pub fn sum_rule(
-    k: usize,
-    item: usize,
-    line: &[u32],
-    links: &[u32],
-    movements: &[u32],
-    previous: &[u32],
-    row: &[u32],
-    ledger: &[u32],
-    times: &[u32],
-    arrivals: &[usize],
-    curves: &[u32],
-    counts: Counts,
-    boundary: usize,
-) -> bool
-    requires sum_tables { SumTables counts line.now links.now movements.now previous.now row.now ledger.now times.now arrivals.now curves.now boundary }
-    requires item_bound { item < sum_items counts k }
-    ensures { result ≡ sum_rule_holds counts line.now links.now movements.now previous.now row.now ledger.now times.now arrivals.now curves.now boundary k item }
-{
-    match k {
-        0 => keeps_share(line, movements, previous, row, counts, item),
-        1 => leaves_arrived(
-            links, row, ledger, times, arrivals, curves, counts, boundary, item,
-        ),
-        2 => fits_capacity(links, previous, row, item),
-        _ => true,
+impl SumRule {
+    // Its number in the paper.
+    pub fn number(self) -> u32
+        ensures { result ≡ sum_rule_number self }
+    {
+        match self {
+            SumRule::Share => 16,
+            SumRule::Arrivals => 17,
+            SumRule::Capacity => 18,
+        }
+    }
+
+    // To how many items it is put.
+    pub fn items(self, counts: Counts) -> usize
+        ensures { result ≡ sum_items counts self }
+    {
+        match self {
+            SumRule::Share => counts.movements,
+            SumRule::Arrivals | SumRule::Capacity => counts.links,
+        }
+    }
+
+    // Whether it holds of an item.
+    #[tactic(auto, unfolding(crate::specs::Sums::sum_rule_holds))]
+    pub fn holds(self, step: &Step, previous: &[u32], row: &[u32], item: usize) -> bool
+        requires sum_rows { SumRows step.now previous.now row.now }
+        requires item_bound { item < sum_items step.now.counts self }
+        ensures { result ≡ sum_rule_holds step.now previous.now row.now self item }
+    {
+        match self {
+            SumRule::Share => keeps_share(step, previous, row, item),
+            SumRule::Arrivals => leaves_arrived(step, row, item),
+            SumRule::Capacity => fits_capacity(step, previous, row, item),
+        }
     }
 }
 
 // Whether all movements keep 16, in one pass over them.
-fn keeps_shares(
-    line: &[u32],
-    movements: &[u32],
-    previous: &[u32],
-    row: &[u32],
-    counts: Counts,
-) -> bool
-    requires { ShareTables counts line.now movements.now previous.now row.now }
-    ensures { result ≡ true → SharesKept counts line.now movements.now counts.movements }
+fn keeps_shares(step: &Step, previous: &[u32], row: &[u32]) -> bool
+    requires { SumRows step.now previous.now row.now }
+    ensures { result ≡ true → SharesKept step.now step.now.counts.movements }
 {
-    let count = counts.movements;
-    for j in 0..count {
-        if !keeps_share(line, movements, previous, row, counts, j) {
+    for j in 0..step.counts.movements {
+        if !keeps_share(step, previous, row, j) {
             return false;
         }
     }
@@ -183,29 +156,12 @@ fn keeps_shares(
 }
 
 // Whether all links keep 17 and 18, in one pass over them.
-fn keeps_link_sums(
-    links: &[u32],
-    previous: &[u32],
-    row: &[u32],
-    ledger: &[u32],
-    times: &[u32],
-    arrivals: &[usize],
-    curves: &[u32],
-    counts: Counts,
-    boundary: usize,
-) -> bool
-    requires arrival_tables { ArrivalTables counts links.now row.now ledger.now times.now arrivals.now curves.now boundary }
-    requires links_in_bounds { 2 * counts.links ≤ length previous.now }
-    ensures { result ≡ true → LinkSumsKept counts links.now previous.now row.now ledger.now times.now arrivals.now curves.now boundary counts.links }
+fn keeps_link_sums(step: &Step, previous: &[u32], row: &[u32]) -> bool
+    requires { SumRows step.now previous.now row.now }
+    ensures { result ≡ true → LinkSumsKept step.now previous.now row.now step.now.counts.links }
 {
-    let count = counts.links;
-    for i in 0..count {
-        if !fits_capacity(links, previous, row, i) {
-            return false;
-        }
-        if !leaves_arrived(
-            links, row, ledger, times, arrivals, curves, counts, boundary, i,
-        ) {
+    for i in 0..step.counts.links {
+        if !(fits_capacity(step, previous, row, i) && leaves_arrived(step, row, i)) {
             return false;
         }
     }
@@ -213,26 +169,9 @@ fn keeps_link_sums(
 }
 
 // Whether rules 16 to 18 are kept.
-pub fn keeps_sums(
-    line: &[u32],
-    links: &[u32],
-    movements: &[u32],
-    previous: &[u32],
-    row: &[u32],
-    ledger: &[u32],
-    times: &[u32],
-    arrivals: &[usize],
-    curves: &[u32],
-    counts: Counts,
-    boundary: usize,
-) -> bool
-    requires { SumTables counts line.now links.now movements.now previous.now row.now ledger.now times.now arrivals.now curves.now boundary }
-    ensures { result ≡ true → SumsKept counts line.now links.now movements.now previous.now row.now ledger.now times.now arrivals.now curves.now boundary }
+pub fn keeps_sums(step: &Step, previous: &[u32], row: &[u32]) -> bool
+    requires { SumRows step.now previous.now row.now }
+    ensures { result ≡ true → SumsKept step.now previous.now row.now }
 {
-    if !keeps_link_sums(
-        links, previous, row, ledger, times, arrivals, curves, counts, boundary,
-    ) {
-        return false;
-    }
-    keeps_shares(line, movements, previous, row, counts)
+    keeps_link_sums(step, previous, row) && keeps_shares(step, previous, row)
 }

@@ -12,7 +12,11 @@ fn digit_count(value: u64) -> usize
     ensures count { result ≡ length (numeral 19 value) }
     ensures few { result ≤ 20 }
 {
-    1 + value.max(1).ilog10() as usize
+    // Most numbers that are written are a digit long, so that a logarithm is taken of few.
+    if value < 10 {
+        return 1;
+    }
+    1 + value.ilog10() as usize
 }
 
 // A lent buffer, and the place where the next byte is written.
@@ -39,6 +43,7 @@ impl Cursor<'_> {
     {
         let end = self.at + digit_count(value);
         let mut rest = value;
+        // By place: a proof knows no element that is written through `iter_mut().rev()`.
         for place in (self.at..end).rev() {
             self.out[place] = b'0' + (rest % 10) as u8;
             rest /= 10;

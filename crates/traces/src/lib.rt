@@ -18,7 +18,8 @@ pub struct Vehicle {
     pub advance: f64,
 }
 
-// What may stop a vehicle: nothing, the leader's last place (one spacing behind it), or a red line at or ahead of it.
+// What may stop a vehicle: nothing, the leader's last place (one spacing behind it), or a red line at or ahead of it. T-13 names these three; a red line as
+// one stands in definitions alone, since `cut_to_line` tests whether the line is ahead and cuts to it at once.
 #[derive(Clone, Copy)]
 pub enum Obstacle {
     OpenRoad,
@@ -104,6 +105,7 @@ fn valid_distance(x: f64) -> bool
     valid_place(x) && !(x < 0.0)
 }
 
+// This and the next are functions, since `search` does not prove a chain of `all` in `check_values`.
 fn valid_places(values: &[f64]) -> bool
     ensures { result ≡ list_all valid_place values.now }
 {

@@ -1,12 +1,8 @@
 -- `carry::carry_steps` meets its contract: one law for each way out.
-use Rattle.std.proofs.Common.{rules}
 use Rattle.base_search.proofs.Laws.{passed_on}
-use Rattle.base_laws.proofs.Kit.{sym, ◌∙◌}
-use Rattle.carry.proofs.Carrying.{steps-asked, step-refused, more-lines, write-asked, carried-told}
+use Rattle.base_laws.proofs.Kit.{refl, sym, ◌∙◌}
+use Rattle.carry.proofs.Carrying.{step-refused, more-lines, write-asked, carried-told}
 use Rattle.carry.proofs.carry_steps.Goals as goal
-
-pub take_steps-requires : goal.take_steps-requires
-take_steps-requires c = steps-asked _ _ _ c.args.carried.now c.requires (search rules)
 
 pub returns-in_err-state : goal.returns-in_err-state
 returns-in_err-state c = rw (passed_on _ _ c.from_residual.ensures.1) (step-refused _ _ _ _ c.requires c.take_steps.ensures c.in_err-state.was)
@@ -15,7 +11,7 @@ pub returns-then-not-is_end : goal.returns-then-not-is_end
 returns-then-not-is_end c = rw c.new.ensures (more-lines _ _ _ _ c.requires c.take_steps.ensures c.in_ok-state.was (sym c.is_end.ensures ∙ c.if-not-is_end.true))
 
 pub write_carried-requires : goal.write_carried-requires
-write_carried-requires c = write-asked _ c.args.plan.now _ c.args.carried.now c.requires c.take_steps.ensures c.in_ok-state.was c.take_steps.auto.ledger
+write_carried-requires c = write-asked _ c.args.plan.now _ c.args.carried.now c.requires c.take_steps.ensures c.in_ok-state.was refl refl refl refl c.take_steps.auto.ledger
 
 pub returns : goal.returns
-returns c = carried-told _ _ _ _ c.requires c.take_steps.ensures c.in_ok-state.was (sym c.is_end.ensures ∙ c.if-not-is_end.false) c.write_carried.ensures
+returns c = carried-told _ _ _ _ c.requires c.take_steps.ensures c.in_ok-state.was refl refl refl refl (sym c.is_end.ensures ∙ c.if-not-is_end.false) c.write_carried.ensures

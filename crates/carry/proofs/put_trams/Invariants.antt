@@ -1,6 +1,9 @@
 -- `carry::put_trams` meets its contract.
-use Rattle.carry.proofs.Trams.{TramsPut}
+use Rattle.model.specs.Table.{letter_t}
+use Rattle.network_writer.specs.Put.{Put}
+use Rattle.network_writer.specs.Texts.{line_texts}
+use Rattle.carry.specs.Trams.{all_left}
 use Rattle.carry.proofs.put_trams.Given as goal
 
-abbrev pub invariant-loop : goal.invariant-loop
-invariant-loop l = TramsPut l.text l.count l.boundary l.tram l.line l.at l.initial.out l.out l.end l.counter
+abbrev pub invariant-loop-k : goal.invariant-loop-k
+invariant-loop-k l = Put l.k (line_texts letter_t (all_left l.boundary l.trams l.k)) l.at l.initial.out l.out l.end

@@ -1,10 +1,10 @@
 -- `carry::write_carried` meets its contract.
-use Rattle.carry.proofs.Whole.{short-written, whole-written}
-use Rattle.base_laws.proofs.Kit.{arith}
+use Rattle.std.proofs.Common.{rules}
+use Rattle.plan_steps.proofs.Steps.{trams-ready}
 use Rattle.carry.proofs.write_carried.Goals as goal
 
-pub returns-then-out-length : goal.returns-then-out-length
-returns-then-out-length c = short-written c.args.network.now c.put_network-length.ensures (omega arith) c.new.ensures
+pub load_trams-requires : goal.load_trams-requires
+load_trams-requires c = trams-ready _ _ c.requires.trams-start c.requires.counted c.requires.holds (search rules)
 
 pub returns : goal.returns
-returns c = whole-written c.args.network.now c.put_network-length.ensures (omega arith) c.put_network.ensures
+returns c = λ plan stands. c.write_measured.ensures _ (λ before after size put. search (put, stands, rules))

@@ -1,21 +1,20 @@
-use Rattle.std.proofs.Common.{arith, ◌≡◌, Err}
+use Rattle.base_search.proofs.Laws.{passed_on}
 use Rattle.listing_lines.specs.Entry.{entries}
-use Rattle.listing_call.proofs.Call.{plan-refused, times-asked, plan-asked, plan-written, padding-too}
+use Rattle.listing_call.proofs.Call.{plan-refused, times-asked, tables-fit, plan-written, padding-too}
 use Rattle.listing_call.proofs.plan_from_listing.Goals as goal
 
 pub from_start-requires : goal.from_start-requires
-from_start-requires c = times-asked _ _ _ _ _ c.load_network.ensures c.in_ok-reading.reading (grind arith)
+from_start-requires c = times-asked c.read_network.ensures c.in_ok-reading.was
 
-pub write_on_network-requires : goal.write_on_network-requires
-write_on_network-requires c = plan-asked _ _ _ _ _ c.load_network.ensures c.in_ok-reading.reading (grind arith) _ c.from_start.ensures
+pub invariant_of-tables : goal.invariant_of-tables
+invariant_of-tables c = record { fit = tables-fit (c.read_network.ensures.held _ c.in_ok-reading.was) c.from_start.ensures }
 
 pub returns-in_err-reading : goal.returns-in_err-reading
 returns-in_err-reading c =
-    let r : c.from_residual.result ≡ Err c.in_err-reading.field-0.0 = grind arith in
-    let got = rw (← r) at (plan-refused _ _ _ _ _ c.load_network.ensures (entries c.args.listing.now) c.args.out.now c.in_err-reading.field-0.0 (grind arith)) in
-    record { plan_got = got; padding_ignored = padding-too c.args.network.now got }
+    let got = plan-refused c.read_network.ensures (entries c.args.listing.now) c.args.out.now c.in_err-reading.was in
+    rw (passed_on _ _ c.from_residual.ensures.1) (record { plan_got = got; padding_ignored = padding-too c.args.network.now got })
 
 pub returns : goal.returns
 returns c =
-    let got = plan-written _ _ _ _ _ c.load_network.ensures _ _ c.in_ok-reading.reading (grind arith) _ _ c.write_on_network.ensures in
+    let got = plan-written c.read_network.ensures _ _ c.in_ok-reading.was c.from_start.ensures c.write_listing.ensures in
     record { plan_got = got; padding_ignored = padding-too c.args.network.now got }

@@ -1,11 +1,8 @@
 -- `network::read_timeline` meets its contract.
 use Rattle.base_search.proofs.Laws.{passed_on}
-use Rattle.std.proofs.Common.{rules}
-use Rattle.network.proofs.Timeline.{forms-asked, forms-stop, steps-asked, steps-stop, end-asked, end-stop, past-asked, timeline-judged}
+use Rattle.std.proofs.Common.{refl, rules}
+use Rattle.network.proofs.Timeline.{forms-stop, steps-asked, steps-stop, end-asked, end-stop, past-asked, past-stop, timeline-judged}
 use Rattle.network.proofs.read_timeline.Goals as goal
-
-pub read_past-requires : goal.read_past-requires
-read_past-requires c = search (forms-asked, rules)
 
 pub returns-in_err-reading : goal.returns-in_err-reading
 returns-in_err-reading c = rw (passed_on _ _ c.from_residual.ensures.1) (forms-stop c.requires c.read_past.ensures c.in_err-reading.was)
@@ -19,11 +16,19 @@ returns-in_err-reading-2 c = rw (passed_on _ _ c.from_residual-in_err-reading-2.
 pub check_end-requires : goal.check_end-requires
 check_end-requires c = end-asked c.requires c.read_past.ensures c.in_ok-reading.was c.read_steps.ensures c.in_ok-reading-2.was
 
-pub returns-in_err-reading-3 : goal.returns-in_err-reading-3
-returns-in_err-reading-3 c = rw (passed_on _ _ c.from_residual-in_err-reading-3.ensures.1) (end-stop c.requires c.read_past.ensures c.in_ok-reading.was c.read_steps.ensures c.in_ok-reading-2.was c.check_end.ensures c.in_err-reading-3.was)
+pub returns-in_err-check_end : goal.returns-in_err-check_end
+returns-in_err-check_end c =
+    rw (passed_on _ _ c.from_residual-in_err-check_end.ensures.1) (end-stop c.requires c.read_past.ensures c.in_ok-reading.was c.read_steps.ensures c.in_ok-reading-2.was c.check_end.ensures c.in_err-check_end.was)
 
 pub check_past-requires : goal.check_past-requires
-check_past-requires c = past-asked c.requires c.read_past.ensures c.in_ok-reading.was c.read_steps.ensures c.in_ok-reading-2.was c.check_end.ensures c.in_ok-reading-3.was
+check_past-requires c =
+    past-asked c.requires c.read_past.ensures c.in_ok-reading.was c.read_steps.ensures c.in_ok-reading-2.was c.check_end.ensures c.in_ok-check_end.was _ refl refl refl
+
+pub returns-in_err-check_past : goal.returns-in_err-check_past
+returns-in_err-check_past c =
+    rw (passed_on _ _ c.from_residual-in_err-check_past.ensures.1)
+    (past-stop c.requires c.read_past.ensures c.in_ok-reading.was c.read_steps.ensures c.in_ok-reading-2.was c.check_end.ensures c.in_ok-check_end.was c.check_past.ensures c.in_err-check_past.was)
 
 pub returns : goal.returns
-returns c = timeline-judged c.requires c.read_past.ensures c.in_ok-reading.was c.read_steps.ensures c.in_ok-reading-2.was c.check_end.ensures c.in_ok-reading-3.was c.check_past.ensures
+returns c =
+    timeline-judged c.requires c.read_past.ensures c.in_ok-reading.was c.read_steps.ensures c.in_ok-reading-2.was c.check_end.ensures c.in_ok-check_end.was c.check_past.ensures c.in_ok-check_past.was

@@ -1,4 +1,4 @@
-use Rattle.std.proofs.Common.{rules}
+use Rattle.std.proofs.Common.{refl, rules}
 use Rattle.network_links.proofs.Shares.{sums-begin, sums_next}
 use Rattle.network_links.proofs.add_shares.Goals as goal
 
@@ -6,6 +6,4 @@ pub loop-j-init : goal.loop-j-init
 loop-j-init c = search (sums-begin, rules)
 
 pub loop-j-preserved : goal.loop-j-preserved
-loop-j-preserved c =
-    sums_next c.requires c.loop-j.invariant (search rules) (search rules) c.link_of.ensures
-    c.index-from.ensures.0 c.share.ensures c.add_share.ensures
+loop-j-preserved c = sums_next c.requires c.loop-j.invariant (search rules) (search rules) refl refl c.add_share.ensures

@@ -1,6 +1,6 @@
-use Rattle.std.proofs.Common.{rules}
-use Rattle.network_tables.proofs.Blocks.{passed_none}
-use Rattle.network_links.proofs.Movements.{shares-broken, shares-next, shares-done}
+use Rattle.std.proofs.Common.{sym, arith, rules}
+use Rattle.network_tables.proofs.Blocks.{passed_none, passed-all}
+use Rattle.network_links.proofs.Movements.{shares-broken, shares-next}
 use Rattle.network_links.proofs.check_shares.Goals as goal
 
 pub loop-i-init : goal.loop-i-init
@@ -13,4 +13,4 @@ pub loop-i-preserved : goal.loop-i-preserved
 loop-i-preserved c = search (shares-next, rules)
 
 pub returns : goal.returns
-returns c = search (shares-done, rules)
+returns c = sym (passed-all c.loop-i.invariant (omega arith))

@@ -1,7 +1,9 @@
 -- `network_links::valid_movement` meets its contract.
-use Rattle.std.proofs.Common.{rules}
-use Rattle.network_links.proofs.Movements.{movement-tested}
+use Rattle.std.proofs.Common.{refl}
+use Rattle.base_laws.specs.Test.{◌and◌, within}
+use Rattle.network_links.specs.Movements.{valid_movement_in}
 use Rattle.network_links.proofs.valid_movement.Goals as goal
 
 pub returns : goal.returns
-returns c = search (movement-tested, rules)
+unfolding valid_movement_in within ◌and◌
+returns c = rw c.pair_rises.ensures refl

@@ -1,5 +1,4 @@
 -- `network_past::read_past` meets its contract. The invariant: m lines have passed, and are timed as long as their lengths are valid.
-use Rattle.base_laws.proofs.Kit.{◌-◌}
 use Rattle.network_past.proofs.Forms.{FormsTo}
 use Rattle.network_past.proofs.read_past.Given as goal
 

@@ -10,6 +10,7 @@ pub returns : goal.returns
 unfolding valid_links_in
 returns c =
     let a = c.args in
-    let valid = λ (i : ℕ). valid_past_in a.counts a.links.now a.times.now a.demands.now a.row.now a.arrivals.now a.curves.now i in
-    all_from_yields_List valid _ _ _ c.all.ensures.ran (YieldsList-from_range 0 a.counts.links a.counts.links refl (omega arith)) (λ i b q k. search (rules, tests))
-    ∙ all-every a.counts.links valid
+    let n = a.tables.now.reading.counts.links in
+    let valid = λ (i : ℕ). valid_past_in a.tables.now a.demands.now a.row.now a.arrivals.now i in
+    all_from_yields_List valid _ _ _ c.all.ensures.ran (YieldsList-from_range 0 n n refl (omega arith)) (λ i b q k. search (rules, tests))
+    ∙ all-every n valid

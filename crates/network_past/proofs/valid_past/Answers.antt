@@ -1,6 +1,5 @@
 -- `network_past::valid_past` meets its contract.
 use Rattle.std.proofs.Common.{rules}
-use Rattle.base_laws.proofs.Kit.{refl}
 use Rattle.base_laws.specs.Test.{◌and◌}
 use Rattle.network_past.specs.Past.{valid_past_in}
 use Rattle.network_past.proofs.Links.{step_room, elapsed-room, scaled-room}
@@ -10,10 +9,10 @@ pub seconds-seconds-requires : goal.seconds-seconds-requires
 seconds-seconds-requires c = search (step_room, rules)
 
 pub elapsed-elapsed-requires : goal.elapsed-elapsed-requires
-elapsed-elapsed-requires c = elapsed-room c.requires refl
+elapsed-elapsed-requires c = elapsed-room c.requires
 
 pub scaled_arrived-arrived-requires : goal.scaled_arrived-arrived-requires
-scaled_arrived-arrived-requires c = scaled-room c.requires refl _ c.seconds-seconds.ensures c.elapsed-elapsed.ensures
+scaled_arrived-arrived-requires c = scaled-room c.requires _ c.seconds-seconds.ensures c.elapsed-elapsed.ensures
 
 pub returns : goal.returns
 unfolding valid_past_in ◌and◌

@@ -1,4 +1,4 @@
-use Rattle.base_laws.proofs.Kit.{◌≡◌, refl, arith}
+use Rattle.base_laws.proofs.Kit.{refl}
 use Rattle.network_signals.specs.Signals.{shortest_time}
 use Rattle.network_signals.proofs.Values.{shortest-more}
 use Rattle.network_signals.proofs.shortest_time.Goals as goal
@@ -9,8 +9,3 @@ loop-k-init c = refl
 
 pub loop-k-preserved : goal.loop-k-preserved
 loop-k-preserved c = shortest-more c.args.signal c.loop-k.k c.args.so_far _ _ c.loop-k.invariant c.min-shortest.ensures
-
-pub returns : goal.returns
-returns c =
-    let e : c.loop-k.k ≡ c.args.signal.phases = omega arith in
-    rw e at c.loop-k.invariant

@@ -8,5 +8,6 @@ use Rattle.network_tables.proofs.read_rows.Given as goal
 abbrev pub invariant-loop-k : goal.invariant-loop-k
 invariant-loop-k g l =
     (length l.table ≡ length l.fn.table)
-    × ((b : Block) → RowsJudged (lines l.text) b l.letter l.width l.first l.count (length l.fn.table) (goal.F-post g l.judge) → Starts l.text l.at (b.place 0)
-    → TableTo l.text b l.width (length l.fn.table) l.place l.k l.table)
+    × (length l.fields ≡ g.row.W)
+    × ((b : Block) → RowsJudged g.T.From.from_gives (lines l.text) b l.letter g.row.W l.first l.count (length l.fn.table) (goal.F-post g l.judge) → Starts l.text l.at (b.place 0)
+    → TableTo g.T.From.from_gives l.text b g.row.W (length l.fn.table) l.place l.k l.table)

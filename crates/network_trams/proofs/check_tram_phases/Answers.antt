@@ -1,7 +1,6 @@
-use Rattle.std.proofs.Common.{refl, ◌∙◌, arith, rules}
+use Rattle.std.proofs.Common.{sym, ◌∙◌, arith, rules}
 use Rattle.base_search.proofs.Laws.{passed_on}
 use Rattle.network_tables.proofs.Blocks.{passed_none, passed-all, passed-stop, passed-next}
-use Rattle.network_tables.proofs.Stages.{judged-refused, judged-passed}
 use Rattle.network_trams.proofs.Lines.{phase-said}
 use Rattle.network_trams.proofs.check_tram_phases.Goals as goal
 
@@ -11,11 +10,11 @@ loop-k-init c = search (passed_none, rules)
 pub returns-in_err-checked : goal.returns-in_err-checked
 returns-in_err-checked c =
     rw (passed_on _ _ c.from_residual.ensures.1)
-    (judged-refused (passed-stop c.loop-k.invariant c.loop-k-test.true (phase-said _ _ _ _ c.valid_phase.ensures c.tram_line-line.ensures c.checked.ensures ∙ c.in_err-checked.was)))
+    (sym (passed-stop c.loop-k.invariant c.loop-k-test.true (phase-said _ _ _ _ c.valid_phase.ensures c.tram_line-line.ensures c.checked.ensures ∙ c.in_err-checked.was)))
 
 pub loop-k-preserved : goal.loop-k-preserved
 loop-k-preserved c =
     passed-next c.loop-k.invariant c.loop-k-test.true (phase-said _ _ _ _ c.valid_phase.ensures c.tram_line-line.ensures c.checked.ensures ∙ c.in_ok-checked.was)
 
 pub returns : goal.returns
-returns c = judged-passed (passed-all c.loop-k.invariant (omega arith)) refl
+returns c = sym (passed-all c.loop-k.invariant (omega arith))

@@ -4,4 +4,4 @@ use Rattle.network_trams.specs.Trams.{phase_checks_in}
 use Rattle.network_trams.proofs.check_tram_phases.Given as goal
 
 abbrev pub invariant-loop-k : goal.invariant-loop-k
-invariant-loop-k l = PassedTo l.reading.counts.trams (phase_checks_in l.trams l.phases l.reading.counts) l.k
+invariant-loop-k l = PassedTo l.counts.trams (phase_checks_in l.trams l.signals l.counts) l.k

@@ -1,7 +1,9 @@
 -- `network_trams::valid_phase` meets its contract.
-use Rattle.std.proofs.Common.{rules}
-use Rattle.network_trams.proofs.Tested.{phase-tested}
+use Rattle.std.proofs.Common.{refl}
+use Rattle.base_laws.specs.Test.{◌and◌, within}
+use Rattle.network_trams.specs.Trams.{valid_phase_in}
 use Rattle.network_trams.proofs.valid_phase.Goals as goal
 
 pub returns : goal.returns
-returns c = search (phase-tested, rules)
+unfolding valid_phase_in within ◌and◌
+returns c = refl

@@ -1,37 +1,21 @@
 -- `plan_check::check_plan` meets its contract.
-use Rattle.std.proofs.Common.{rules}
 use Rattle.base_search.proofs.Laws.{passed_on}
+use Rattle.network.proofs.Loading.{tables-sized}
 use Rattle.plan_check.proofs.Plans.{plan-refused, plan-promised}
-use Rattle.base_laws.proofs.Kit.{refl}
-use Rattle.network.proofs.Rooms.{zero-rooms}
 use Rattle.plan_check.proofs.check_plan.Goals as goal
 
-pub load_with_signals-requires : goal.load_with_signals-requires
-load_with_signals-requires c = zero-rooms refl (search rules)
+pub invariant_of-tables : goal.invariant_of-tables
+invariant_of-tables c = record { sized = tables-sized (c.read_network.ensures.held _ c.in_ok-reading.was) }
 
-pub judge_with_signals-requires : goal.judge_with_signals-requires
-judge_with_signals-requires c = c.load_with_signals.ensures.held _ c.in_ok-reading.was
+pub judge_loaded-requires : goal.judge_loaded-requires
+judge_loaded-requires c = c.read_network.ensures.held _ c.in_ok-reading.was
 
-pub returns-in_err-reading-clause-value : goal.returns-in_err-reading-clause-value
-returns-in_err-reading-clause-value c = rw (passed_on _ _ c.from_residual.ensures.1) (plan-promised (plan-refused _ _ _ c.load_with_signals.ensures c.in_err-reading.was)).0
+pub returns-in_err-reading : goal.returns-in_err-reading
+returns-in_err-reading c =
+    let p = plan-promised (plan-refused c.args.network.now c.args.plan.now c.args.ledger.now c.read_network.ensures c.in_err-reading.was) in
+    rw (passed_on _ _ c.from_residual.ensures.1) (record { value = p.0; ledger_after = p.1.0; promises = p.1.1.0; empty_holds = p.1.1.1.0; padding_ignored = p.1.1.1.1 })
 
-pub returns-in_err-reading-clause-ledger_after : goal.returns-in_err-reading-clause-ledger_after
-returns-in_err-reading-clause-ledger_after c = (plan-promised (plan-refused _ _ _ c.load_with_signals.ensures c.in_err-reading.was)).1.0
-
-pub returns-in_err-reading-clause-promises : goal.returns-in_err-reading-clause-promises
-returns-in_err-reading-clause-promises c = rw (passed_on _ _ c.from_residual.ensures.1) (plan-promised (plan-refused _ _ _ c.load_with_signals.ensures c.in_err-reading.was)).1.1.0
-
-pub returns-in_err-reading-clause-empty_holds : goal.returns-in_err-reading-clause-empty_holds
-returns-in_err-reading-clause-empty_holds c = rw (passed_on _ _ c.from_residual.ensures.1) (plan-promised (plan-refused _ _ _ c.load_with_signals.ensures c.in_err-reading.was)).1.1.1.0
-
-pub returns-in_err-reading-clause-padding_ignored : goal.returns-in_err-reading-clause-padding_ignored
-returns-in_err-reading-clause-padding_ignored c = rw (passed_on _ _ c.from_residual.ensures.1) (plan-promised (plan-refused _ _ _ c.load_with_signals.ensures c.in_err-reading.was)).1.1.1.1
-
-pub returns-clause-promises : goal.returns-clause-promises
-returns-clause-promises c = (plan-promised c.judge_with_signals.ensures).1.1.0
-
-pub returns-clause-empty_holds : goal.returns-clause-empty_holds
-returns-clause-empty_holds c = (plan-promised c.judge_with_signals.ensures).1.1.1.0
-
-pub returns-clause-padding_ignored : goal.returns-clause-padding_ignored
-returns-clause-padding_ignored c = (plan-promised c.judge_with_signals.ensures).1.1.1.1
+pub returns : goal.returns
+returns c =
+    let p = plan-promised c.judge_loaded.ensures in
+    record { value = p.0; ledger_after = p.1.0; promises = p.1.1.0; empty_holds = p.1.1.1.0; padding_ignored = p.1.1.1.1 }

@@ -3,4 +3,4 @@ use Rattle.plan_compare.specs.Curves.{ReadTo}
 use Rattle.plan_compare.proofs.order_of_texts.Given as goal
 
 abbrev pub invariant-loop : goal.invariant-loop
-invariant-loop l = ReadTo l.counts l.first l.second l.counter l.one l.other l.first_never_fewer l.second_never_fewer
+invariant-loop l = ReadTo l.counts l.first l.second l.counter l.first_so_far l.second_so_far

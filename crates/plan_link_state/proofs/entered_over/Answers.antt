@@ -11,25 +11,25 @@ pub overflow_sub-times : goal.overflow_sub-times
 overflow_sub-times c = since-fits c.requires.asked
 
 pub returns-then-past-step : goal.returns-then-past-step
-returns-then-past-step c = no-past c.requires c.travel_time.ensures c.if-times-past.true c.standing-stood.ensures c.if-past-step.true
+returns-then-past-step c = no-past c.requires c.if-times-past.true c.if-past-step.true
 
 pub read_on-requires : goal.read_on-requires
-read_on-requires c = read_asked c.requires c.travel_time.ensures c.if-times-past.true c.standing-stood.ensures c.if-past-step.false
+read_on-requires c = read_asked c.requires c.if-times-past.true c.if-past-step.false
 
 pub returns-then-times-past : goal.returns-then-times-past
-returns-then-times-past c = past-told c.requires c.travel_time.ensures c.if-times-past.true c.standing-stood.ensures c.if-past-step.false c.read_on.ensures
+returns-then-times-past c = past-told c.requires c.if-times-past.true c.if-past-step.false c.read_on.ensures
 
 pub overflow_sub-row : goal.overflow_sub-row
-overflow_sub-row c = in-plan c.requires c.travel_time.ensures c.if-times-past.false
+overflow_sub-row c = in-plan c.requires c.if-times-past.false
 
 pub entered_at-requires : goal.entered_at-requires
-entered_at-requires c = row-held c.requires c.travel_time.ensures c.if-times-past.false _ (omega arith)
+entered_at-requires c = row-held c.requires c.if-times-past.false _ (omega arith)
 
 pub overflow_add-row : goal.overflow_add-row
-overflow_add-row c = let h = row-few c.requires c.travel_time.ensures c.if-times-past.false in search rules
+overflow_add-row c = let h = row-few c.requires c.if-times-past.false in search rules
 
 pub entered_at-requires-2 : goal.entered_at-requires-2
-entered_at-requires-2 c = row-held c.requires c.travel_time.ensures c.if-times-past.false _ (omega arith)
+entered_at-requires-2 c = row-held c.requires c.if-times-past.false _ (omega arith)
 
 pub returns : goal.returns
-returns c = plan-told c.requires c.travel_time.ensures c.if-times-past.false c.entered_at.ensures c.entered_at-2.ensures
+returns c = plan-told c.requires c.if-times-past.false c.entered_at.ensures c.entered_at-2.ensures

@@ -1,17 +1,18 @@
+-- `plan_steps::take_steps` meets its contract: one law for each call and each way out.
 use Rattle.std.proofs.Common.{rules}
 use Rattle.base_search.proofs.Laws.{passed_on}
-use Rattle.base_laws.proofs.Kit.{refl, arith}
+use Rattle.base_laws.proofs.Kit.{arith}
 use Rattle.plan_steps.proofs.Runs.{trams-asked, past-asked, running-first, stopped-since, taken-since, steps-stopped, running-next, steps-taken}
 use Rattle.plan_steps.proofs.take_steps.Goals as goal
 
 pub load_trams-requires : goal.load_trams-requires
-load_trams-requires c = trams-asked c.requires _ (search rules)
+load_trams-requires c = trams-asked c.requires (search rules)
 
 pub load_past-requires : goal.load_past-requires
-load_past-requires c = past-asked c.requires _ _ _ refl (search rules) (search rules)
+load_past-requires c = past-asked c.requires (search rules)
 
 pub loop-init : goal.loop-init
-loop-init c = running-first c.requires c.load_past.ensures c.first_waiting.ensures _ c.held_in.ensures.0 _ c.sum_of.ensures.0 _ c.requires.signal-table c.load_trams.ensures
+loop-init c = running-first c.requires c.load_past.ensures c.first_waiting.ensures c.first_state-state.ensures c.requires.signal-table c.load_trams.ensures
 
 pub loop-preserved : goal.loop-preserved
 loop-preserved c = running-next c.loop.invariant c.loop-test.true c.take_step.ensures c.in_ok-state.was

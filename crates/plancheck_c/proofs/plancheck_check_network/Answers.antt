@@ -7,5 +7,5 @@ use Rattle.plancheck_c.proofs.plancheck_check_network.Goals as goal
 pub returns : goal.returns
 returns c =
     let got = c.check_network.ensures in
-    let told = c.verdict_result.ensures ∙ ap verdict_result got.value in
-    record { value = told; number_tells = network-tells _ told; padding_ignored = λ padded same. c.verdict_result.ensures ∙ ap verdict_result (got.padding_ignored padded same) }
+    let told = c.into.ensures ∙ ap verdict_result got.value in
+    record { value = told; number_tells = network-tells _ told; padding_ignored = λ padded same. c.into.ensures ∙ ap verdict_result (got.padding_ignored padded same) }

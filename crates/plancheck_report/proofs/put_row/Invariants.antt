@@ -1,5 +1,4 @@
 -- `plancheck_report::put_row` meets its contract. The invariant: the first k numbers of the row are there.
-use Rattle.base_laws.proofs.Kit.{◌-◌, length}
 use Rattle.plancheck_report.proofs.Boundaries.{Put}
 use Rattle.plancheck_report.proofs.put_row.Given as goal
 

@@ -2,9 +2,6 @@
 use Rattle.plancheck_report.proofs.Answer.{accepted-told, refused-told}
 use Rattle.plancheck_report.proofs.write_answer.Goals as goal
 
-pub write_accepted-requires : goal.write_accepted-requires
-write_accepted-requires c = c.requires.accepted _ c.in-Ok.is
-
 pub returns-in-Ok : goal.returns-in-Ok
 returns-in-Ok c = accepted-told c.args.counts c.args.times.now c.args.ledger.now c.in-Ok.is c.write_accepted.ensures
 

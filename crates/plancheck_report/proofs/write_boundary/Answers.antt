@@ -4,11 +4,6 @@ use Rattle.plancheck_report.proofs.Boundaries.{fields_read}
 use Rattle.text_writer.proofs.Laws.{record-fits}
 use Rattle.plancheck_report.proofs.write_boundary.Goals as goal
 
-pub slice_bounds-write_record-end : goal.slice_bounds-write_record-end
-slice_bounds-write_record-end c =
-    let f = fields_read c.args.n c.from.result c.args.time c.args.row.now _ c.put_row.new.fields (omega arith) c.from.ensures c.put_row.ensures in
-    omega (arith, ap length f)
-
 pub write_record-requires : goal.write_record-requires
 write_record-requires c =
     let f = fields_read c.args.n c.from.result c.args.time c.args.row.now _ c.put_row.new.fields (omega arith) c.from.ensures c.put_row.ensures in

@@ -1,5 +1,4 @@
 -- `plancheck_report::write_rows` meets its contract. The invariant: the records of the first n boundaries are written.
-use Rattle.base_laws.proofs.Kit.{suc, ◌-◌}
 use Rattle.plancheck_report.proofs.Boundaries.{Written}
 use Rattle.plancheck_report.proofs.write_rows.Given as goal
 

@@ -1,22 +1,20 @@
 -- `sheet_check::check_sheet` meets its contract.
-use Rattle.std.proofs.Common.{rules}
-use Rattle.base_laws.proofs.Kit.{refl}
 use Rattle.base_search.proofs.Laws.{passed_on}
-use Rattle.network.proofs.Rooms.{zero-rooms}
+use Rattle.network.proofs.Loading.{tables-sized}
 use Rattle.sheet_check.proofs.Call.{network-refused, padding-too}
 use Rattle.sheet_check.proofs.check_sheet.Goals as goal
 
-pub load_with_signals-requires : goal.load_with_signals-requires
-load_with_signals-requires c = zero-rooms refl (search rules)
+pub invariant_of-tables : goal.invariant_of-tables
+invariant_of-tables c = record { sized = tables-sized (c.read_network.ensures.held _ c.in_ok-reading.was) }
 
 pub check_on_network-requires : goal.check_on_network-requires
-check_on_network-requires c = c.load_with_signals.ensures.held _ c.in_ok-reading.was
+check_on_network-requires c = c.read_network.ensures.held _ c.in_ok-reading.was
 
 pub returns-in_err-reading-clause-sheet_promises : goal.returns-in_err-reading-clause-sheet_promises
-returns-in_err-reading-clause-sheet_promises c = rw (passed_on _ _ c.from_residual.ensures.1) (network-refused c.load_with_signals.ensures c.in_err-reading.was)
+returns-in_err-reading-clause-sheet_promises c = rw (passed_on _ _ c.from_residual.ensures.1) (network-refused c.read_network.ensures c.in_err-reading.was)
 
 pub returns-in_err-reading-clause-padding_ignored : goal.returns-in_err-reading-clause-padding_ignored
-returns-in_err-reading-clause-padding_ignored c = rw (passed_on _ _ c.from_residual.ensures.1) (padding-too _ _ _ (network-refused c.load_with_signals.ensures c.in_err-reading.was)).1
+returns-in_err-reading-clause-padding_ignored c = rw (passed_on _ _ c.from_residual.ensures.1) (padding-too _ _ _ (network-refused c.read_network.ensures c.in_err-reading.was)).1
 
 pub returns-clause-padding_ignored : goal.returns-clause-padding_ignored
 returns-clause-padding_ignored c = (padding-too _ _ _ c.check_on_network.ensures).1

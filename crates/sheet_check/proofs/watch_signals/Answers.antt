@@ -1,14 +1,7 @@
-use Rattle.std.proofs.Common.{rules}
-use Rattle.base_laws.proofs.Kit.{◌≡◌, arith}
-use Rattle.sheet_check.proofs.Watching.{watch-on, watched-none, watched-more, watched-still, duration-asked}
+use Rattle.base_laws.proofs.Kit.{arith}
+use Rattle.sheet_check.proofs.Watching.{watch-on, watched-more, watched-still}
 use Rattle.sheet_check.proofs.watch_signals.Goals as goal
 use Rattle.sheet_check.proofs.watch_signals.Goals.{then-asked-i-eq0, else-asked-i-eq0}
-
-pub loop-i-init : goal.loop-i-init
-loop-i-init c = watched-none _ _ _ _ _ _ _ (search rules)
-
-pub duration_of-duration-requires : goal.duration_of-duration-requires
-duration_of-duration-requires c = duration-asked c.requires (omega arith)
 
 pub loop-i-preserved : goal.loop-i-preserved
 loop-i-preserved c =
@@ -18,6 +11,3 @@ loop-i-preserved c =
           (watch-on _ _ _ _ _ _ _ w.if-asked-i-eq0.true _ w.watch_after.ensures))
       | else-asked-i-eq0 w ↦ rw w.watches-is (watched-still _ _ _ _ _ _ _ l.i l.watches l.invariant w.if-asked-i-eq0.false)
     ]
-
-pub returns : goal.returns
-returns c = let e : c.loop-i.i ≡ c.args.count = omega arith in rw e at c.loop-i.invariant

@@ -1,15 +1,9 @@
 -- `sheet_lines::read_line` meets its contract.
-use Rattle.sheet_lines.proofs.Lines.{row_room, line-malformed, numbers-asked, line-judged}
+use Rattle.sheet_lines.proofs.Lines.{line-malformed, line-judged}
 use Rattle.sheet_lines.proofs.read_line.Goals as goal
 
-pub read_row-requires : goal.read_row-requires
-read_row-requires c = row_room c.requires c.args.offset c.phase_count.ensures c.from.ensures
-
-pub valid_numbers-requires : goal.valid_numbers-requires
-valid_numbers-requires c = numbers-asked c.requires c.args.offset c.phase_count.ensures c.from.ensures c.read_row.ensures
-
 pub returns : goal.returns
-returns c = rw c.then_some.ensures (line-judged c.requires c.args.offset c.phase_count.ensures c.from.ensures c.read_row.ensures c.in_ok-next.was c.valid_numbers.result c.valid_numbers.ensures)
+returns c = rw c.then_some.ensures (line-judged c.requires c.args.offset c.from.ensures c.read_row.ensures c.in_ok-next.was c.valid_numbers.result c.valid_numbers.ensures)
 
 pub returns-in_err-next : goal.returns-in_err-next
-returns-in_err-next c = rw c.from_residual.ensures (line-malformed c.requires c.args.offset c.phase_count.ensures c.from.ensures c.read_row.ensures c.in_err-next.was)
+returns-in_err-next c = rw c.from_residual.ensures (line-malformed c.requires c.args.offset c.from.ensures c.read_row.ensures c.in_err-next.was)

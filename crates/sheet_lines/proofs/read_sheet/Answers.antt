@@ -1,12 +1,9 @@
 use Rattle.std.proofs.Common.{rules}
-use Rattle.sheet_lines.proofs.Lines.{read_none, line-asked, read-refused, read_next, read_all, read-surplus}
+use Rattle.sheet_lines.proofs.Lines.{read_none, read-refused, read_next, read_all, read-surplus}
 use Rattle.sheet_lines.proofs.read_sheet.Goals as goal
 
 pub loop-r-init : goal.loop-r-init
 loop-r-init c = search (read_none, rules)
-
-pub read_line-requires : goal.read_line-requires
-read_line-requires c = search (line-asked, rules)
 
 pub returns-in_default : goal.returns-in_default
 returns-in_default c = search (read-refused, rules)

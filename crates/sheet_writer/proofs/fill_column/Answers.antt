@@ -1,5 +1,5 @@
 use Rattle.std.proofs.Common.{rules}
-use Rattle.sheet_writer.proofs.Columns.{column-none, place_inside, phase-few, column-broken, column-asked, column-more, column-all}
+use Rattle.sheet_writer.proofs.Columns.{column-none, phase-few, column-broken, column-asked, column-more, column-all}
 use Rattle.sheet_writer.proofs.fill_column.Goals as goal
 
 pub loop-n-init : goal.loop-n-init
@@ -10,9 +10,6 @@ returns-then-run-seconds c = search (column-broken, rules)
 
 pub mask_of-requires : goal.mask_of-requires
 mask_of-requires c = search (phase-few, rules)
-
-pub bounds-masks-n : goal.bounds-masks-n
-bounds-masks-n c = search (place_inside, rules)
 
 pub next_run-run-requires : goal.next_run-run-requires
 next_run-run-requires c = search (column-asked, rules)

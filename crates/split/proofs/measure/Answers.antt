@@ -1,12 +1,6 @@
 -- `split::measure` meets its contract. The texts are put where there is no room.
-use Rattle.split.proofs.Writing.{first-asked, second-asked, measured}
+use Rattle.split.proofs.Writing.{measured}
 use Rattle.split.proofs.measure.Goals as goal
 
-pub put_half-one-requires : goal.put_half-one-requires
-put_half-one-requires c = first-asked c.requires
-
-pub put_half-other-requires : goal.put_half-other-requires
-put_half-other-requires c = second-asked c.requires
-
 pub returns : goal.returns
-returns c = measured _ _ c.put_half-one.ensures c.put_half-other.ensures
+returns c = measured c.args.whole.now c.args.halves.now c.put_network-network_1.ensures c.put_plan-plan_1.ensures c.put_network-network_2.ensures c.put_plan-plan_2.ensures

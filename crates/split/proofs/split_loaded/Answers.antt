@@ -1,23 +1,16 @@
 -- `split::split_loaded` meets its contract.
-use Rattle.base_laws.proofs.Kit.{refl}
 use Rattle.base_search.proofs.Laws.{passed_on}
-use Rattle.split.proofs.Splitting.{halves-asked, signals-asked, judge-asked, judged-refused, write-asked, all-judged}
+use Rattle.split.proofs.Splitting.{halves-asked, judged-refused, write-asked, all-judged}
 use Rattle.split.proofs.split_loaded.Goals as goal
 
-pub number_halves-above-requires : goal.number_halves-above-requires
-number_halves-above-requires c = halves-asked c.requires refl refl
-
-pub load_signals-requires : goal.load_signals-requires
-load_signals-requires c = signals-asked c.requires refl
-
-pub judge_halves-requires : goal.judge_halves-requires
-judge_halves-requires c = judge-asked c.requires _ c.number_halves-above.ensures.1 c.load_signals.ensures
+pub number_halves-halves-requires : goal.number_halves-halves-requires
+number_halves-halves-requires c = halves-asked c.requires
 
 pub returns-in_err-judge_halves : goal.returns-in_err-judge_halves
-returns-in_err-judge_halves c = rw (passed_on _ _ c.from_residual.ensures.1) (judged-refused c.requires _ c.number_halves-above.ensures.1 c.load_signals.ensures _ c.number_halves-above.ensures.0 c.judge_halves.ensures _ c.in_err-judge_halves.was)
+returns-in_err-judge_halves c = rw (passed_on _ _ c.from_residual.ensures.1) (judged-refused c.requires _ c.number_halves-halves.ensures c.judge_halves.ensures _ c.in_err-judge_halves.was)
 
 pub write_halves-requires : goal.write_halves-requires
-write_halves-requires c = write-asked c.requires _ c.number_halves-above.ensures.1 c.load_signals.ensures _ c.number_halves-above.ensures.0 c.judge_halves.ensures c.in_ok-judge_halves.was
+write_halves-requires c = write-asked c.requires _ c.number_halves-halves.ensures c.judge_halves.ensures c.in_ok-judge_halves.was
 
 pub returns : goal.returns
-returns c = all-judged c.requires _ c.number_halves-above.ensures.1 c.load_signals.ensures _ c.number_halves-above.ensures.0 c.judge_halves.ensures c.in_ok-judge_halves.was c.write_halves.ensures
+returns c = all-judged c.requires _ c.number_halves-halves.ensures c.judge_halves.ensures c.in_ok-judge_halves.was c.write_halves.ensures

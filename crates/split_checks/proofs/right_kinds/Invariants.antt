@@ -5,4 +5,4 @@ use Rattle.split_checks.specs.Tables.{right_kind_in}
 use Rattle.split_checks.proofs.right_kinds.Given as goal
 
 abbrev pub invariant-loop-j : goal.invariant-loop-j
-invariant-loop-j l = every l.j (right_kind_in l.links l.movements l.half l.count) ≡ true
+invariant-loop-j l = every l.j (right_kind_in l.tables.links.now l.tables.movements.now l.half.links l.tables.reading.counts.movements) ≡ true

@@ -1,5 +1,5 @@
 use Rattle.std.proofs.Common.{rules}
-use Rattle.split_checks.proofs.Tests.{none-tested, test-fails, test-holds, all_tested}
+use Rattle.split_checks.proofs.Tests.{none-tested, test-fails, test-holds}
 use Rattle.split_checks.proofs.stands_alone.Goals as goal
 
 pub loop-k-init : goal.loop-k-init
@@ -10,6 +10,3 @@ returns-then-not-stands_apart c = search (test-fails, rules)
 
 pub loop-k-preserved : goal.loop-k-preserved
 loop-k-preserved c = search (test-holds, rules)
-
-pub returns : goal.returns
-returns c = search (all_tested, rules)

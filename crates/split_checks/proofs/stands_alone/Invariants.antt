@@ -5,4 +5,4 @@ use Rattle.split_checks.specs.Tables.{stands_apart_in}
 use Rattle.split_checks.proofs.stands_alone.Given as goal
 
 abbrev pub invariant-loop-k : goal.invariant-loop-k
-invariant-loop-k l = every l.k (stands_apart_in l.movements l.half l.j) ≡ true
+invariant-loop-k l = every l.k (stands_apart_in l.tables.movements.now l.half.links l.j) ≡ true

@@ -1,5 +1,5 @@
 use Rattle.std.proofs.Common.{rules}
-use Rattle.split_checks.proofs.Tests.{none-tested, test-fails, test-holds, all_tested}
+use Rattle.split_checks.proofs.Tests.{none-tested, test-fails, test-holds}
 use Rattle.split_checks.proofs.step_free.Goals as goal
 
 pub loop-j-init : goal.loop-j-init
@@ -10,6 +10,3 @@ returns-then-not-demand_free c = search (test-fails, rules)
 
 pub loop-j-preserved : goal.loop-j-preserved
 loop-j-preserved c = search (test-holds, rules)
-
-pub returns : goal.returns
-returns c = search (all_tested, rules)

@@ -6,4 +6,4 @@ use Rattle.split_checks.specs.Tables.{demand_free_in}
 use Rattle.split_checks.proofs.step_free.Given as goal
 
 abbrev pub invariant-loop-j : goal.invariant-loop-j
-invariant-loop-j l = every l.j (demand_free_in (demand_in l.step) l.movements l.half) ≡ true
+invariant-loop-j l = every l.j (demand_free_in (demand_in l.step) l.tables.movements.now l.half.links) ≡ true

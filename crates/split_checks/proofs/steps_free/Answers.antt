@@ -1,21 +1,16 @@
 use Rattle.std.proofs.Common.{rules}
-use Rattle.split_checks.proofs.Network.{steps-none, free-asked, load-asked, steps-fail, steps_next, steps_all}
+use Rattle.base_laws.proofs.Kit.{refl, ◌∙◌}
+use Rattle.split_checks.proofs.Network.{steps-none, free-asked, steps-fail, steps_next}
 use Rattle.split_checks.proofs.steps_free.Goals as goal
 
 pub loop-init : goal.loop-init
-loop-init c = search (steps-none, rules)
-
-pub load_step-line-requires : goal.load_step-line-requires
-load_step-line-requires c = search (load-asked, rules)
+loop-init c = steps-none c.requires _ refl
 
 pub step_free-requires : goal.step_free-requires
-step_free-requires c = search (free-asked, rules)
+step_free-requires c = (free-asked c.requires c.args.half.now, c.read_again-line.ensures.size ∙ c.loop.invariant.room)
 
 pub returns-then-not-step_free : goal.returns-then-not-step_free
-returns-then-not-step_free c = search (steps-fail, rules)
+returns-then-not-step_free c = steps-fail c.requires _ c.loop.invariant c.loop-test.true c.read_again-line.ensures c.step_free.ensures (search rules)
 
 pub loop-preserved : goal.loop-preserved
-loop-preserved c = search (steps_next, rules)
-
-pub returns : goal.returns
-returns c = search (steps_all, rules)
+loop-preserved c = steps_next c.requires _ c.loop.invariant c.loop-test.true c.read_again-line.ensures c.step_free.ensures (search rules)

@@ -1,9 +1,6 @@
 -- `split_text::fill_one` meets its contract.
-use Rattle.split_text.proofs.Filling.{one_left, one-filled}
+use Rattle.split_text.proofs.Filling.{one-filled}
 use Rattle.split_text.proofs.fill_one.Goals as goal
-
-pub returns-then-number-eq0 : goal.returns-then-number-eq0
-returns-then-number-eq0 c = one_left _ _ _ _ c.if-number-eq0.true
 
 pub returns : goal.returns
 returns c = one-filled _ _ _ _ c.if-number-eq0.false c.requires.0

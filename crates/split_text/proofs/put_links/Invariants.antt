@@ -8,4 +8,4 @@ use Rattle.split_text.specs.Rows.{link_row}
 use Rattle.split_text.proofs.put_links.Given as goal
 
 abbrev pub invariant-loop-i : goal.invariant-loop-i
-invariant-loop-i l = Put l.i (line_texts letter_q (picked l.i (is_in l.half) (link_row l.links l.rates l.half))) l.at l.initial.out l.out l.end
+invariant-loop-i l = Put l.i (line_texts letter_q (picked l.i (is_in l.half.links) (link_row l.tables.links.now l.rates l.half))) l.at l.initial.out l.out l.end

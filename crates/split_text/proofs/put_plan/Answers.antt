@@ -12,4 +12,4 @@ pub loop-preserved : goal.loop-preserved
 loop-preserved c = search (plan-next, rules)
 
 pub returns : goal.returns
-returns c = plan-all c.requires (search rules) c.loop.invariant
+returns c = plan-all c.requires c.loop.invariant (search rules)

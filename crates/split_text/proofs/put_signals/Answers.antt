@@ -1,16 +1,9 @@
-use Rattle.std.proofs.Common.{rules}
-use Rattle.base_laws.proofs.Kit.{arith}
-use Rattle.split_text.proofs.Lines.{signals-none, width_small, signal-early, signals-next}
+use Rattle.base_laws.proofs.Kit.{refl}
+use Rattle.split_text.proofs.Lines.{signals-none, signals-next}
 use Rattle.split_text.proofs.put_signals.Goals as goal
 
 pub loop-k-init : goal.loop-k-init
-loop-k-init c = search (signals-none, rules)
-
-pub read_again-line-requires : goal.read_again-line-requires
-read_again-line-requires c = omega (arith, width_small c.requires (omega arith) c.phase_count.ensures c.index.ensures.0, c.loop-k.invariant.size)
-
-pub put_kept-end-requires : goal.put_kept-end-requires
-put_kept-end-requires c = signal-early c.requires (search rules) c.phase_count.ensures c.index.ensures.0 c.loop-k.invariant c.read_again-line.ensures
+loop-k-init c = signals-none c.requires _ _ refl
 
 pub loop-k-preserved : goal.loop-k-preserved
-loop-k-preserved c = search (signals-next, rules)
+loop-k-preserved c = signals-next c.requires _ c.loop-k-test.true refl c.loop-k.invariant c.read_again-line.ensures c.put_kept-end.ensures

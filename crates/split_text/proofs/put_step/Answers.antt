@@ -1,26 +1,23 @@
 -- `split_text::put_step` meets its contract.
+use Rattle.std.proofs.Common.{rules}
 use Rattle.base_laws.proofs.Kit.{refl, arith}
+use Rattle.network_tables.specs.Fields.{demand_in, moved_in}
+use Rattle.split_text.specs.Filling.{raised}
 use Rattle.split_text.proofs.Reading.{plan-asked}
-use Rattle.split_text.proofs.Rows.{step_fits, volumes-asked, sums-asked, demands-asked, step-put}
+use Rattle.split_text.proofs.Rows.{border-asked, step-put}
 use Rattle.split_text.proofs.put_step.Goals as goal
 
-pub read_plan-after-requires : goal.read_plan-after-requires
-read_plan-after-requires c = plan-asked c.requires.held refl
+pub read_plan-plan_end-requires : goal.read_plan-plan_end-requires
+read_plan-plan_end-requires c = plan-asked c.requires.asked.held refl
 
-pub add_border-requires : goal.add_border-requires
-add_border-requires c = volumes-asked c.requires.held c.requires.one.table.size (omega arith) c.read_plan-after.ensures.got.size refl
-
-pub fill_sums-width-requires : goal.fill_sums-width-requires
-fill_sums-width-requires c = (demands-asked c.requires.held c.requires.one.table.size c.read_again-next.ensures.size refl, sums-asked c.requires.held c.add_border.ensures)
-
-pub slice_bounds-row-end : goal.slice_bounds-row-end
-slice_bounds-row-end c = (step_fits c.requires.held _ _ refl c.fill_sums-width.ensures).0
-
-pub slice_bounds-put_line-end : goal.slice_bounds-put_line-end
-slice_bounds-put_line-end c = (step_fits c.requires.held _ _ refl c.fill_sums-width.ensures).1
-
-pub put_line-at-requires : goal.put_line-at-requires
-put_line-at-requires c = ((step_fits c.requires.held _ _ refl c.fill_sums-width.ensures).2, c.requires.early)
+pub add_border-into-requires-clause-asked : goal.add_border-into-requires-clause-asked
+add_border-into-requires-clause-asked c = border-asked c.requires.asked.held (omega arith)
 
 pub returns : goal.returns
-returns c = step-put c.requires.held c.args.places refl c.read_again-next.ensures refl c.read_plan-after.ensures refl c.add_border.ensures refl c.fill_sums-width.ensures c.put_line-at.ensures
+unfolding raised
+returns c =
+    step-put c.requires.asked.held c.args.places refl c.read_again-step_end.ensures c.read_plan-plan_end.ensures
+    (c.add_border-into.ensures (moved_in c.args.whole.now.tables.reading.counts c.read_plan-plan_end.new.line) (λ k number h p. search rules))
+    refl
+    (c.fill_kept-end.ensures.filled (raised (demand_in c.read_again-step_end.new.row) c.add_border-into.result) (λ k number h p. search rules))
+    c.put_line-at.ensures

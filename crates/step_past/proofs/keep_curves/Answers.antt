@@ -1,9 +1,10 @@
 use Rattle.std.proofs.Common.{rules}
-use Rattle.step_past.proofs.Keeping.{keep-begin, keep-next}
+use Rattle.step_past.proofs.Keeping.{keep-other, keep-set}
 use Rattle.step_past.proofs.keep_curves.Goals as goal
-
-pub loop-i-init : goal.loop-i-init
-loop-i-init c = search keep-begin
+use Rattle.step_past.proofs.keep_curves.Goals.{then-arrivals-i, else-arrivals-i}
 
 pub loop-i-preserved : goal.loop-i-preserved
-loop-i-preserved c = search (keep-next, rules)
+loop-i-preserved c = elim c.if-arrivals-i.branch [
+  | then-arrivals-i w ↦ rw w.arrivals-is (search (keep-set, rules))
+  | else-arrivals-i w ↦ rw w.arrivals-is (search (keep-other, rules))
+]

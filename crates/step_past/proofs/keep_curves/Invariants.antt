@@ -3,4 +3,4 @@ use Rattle.step_past.proofs.Keeping.{KeepingTo}
 use Rattle.step_past.proofs.keep_curves.Given as goal
 
 abbrev pub invariant-loop-i : goal.invariant-loop-i
-invariant-loop-i l = KeepingTo l.fields l.row l.arrivals l.links l.m l.next l.initial.curves l.initial.places l.curves l.places l.i
+invariant-loop-i l = KeepingTo l.fields l.row l.links l.m l.next l.initial.arrivals l.arrivals l.i

@@ -3,4 +3,4 @@ use Rattle.step_past.proofs.Loading.{PastTo}
 use Rattle.step_past.proofs.load_past.Given as goal
 
 abbrev pub invariant-loop-m : goal.invariant-loop-m
-invariant-loop-m l = PastTo l.text l.counts l.initial.row l.arrivals l.row l.curves l.places l.fields l.place l.m
+invariant-loop-m l = PastTo l.text l.counts l.initial.row l.row l.arrivals l.fields l.place l.m

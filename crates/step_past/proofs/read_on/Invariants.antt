@@ -3,4 +3,4 @@ use Rattle.step_past.proofs.Reading.{ReadTo}
 use Rattle.step_past.proofs.read_on.Given as goal
 
 abbrev pub invariant-loop-m : goal.invariant-loop-m
-invariant-loop-m l = ReadTo l.text l.i l.to l.fields l.start l.stop l.place l._m
+invariant-loop-m l = ReadTo l.text l.i l.fn.from l.to l.fields l.arrival l.m

@@ -1,17 +1,11 @@
 use Rattle.std.proofs.Common.{rules}
 use Rattle.base_laws.proofs.Kit.{length-set}
 use Rattle.step_rows.proofs.Lists.{begun-none}
-use Rattle.step_rows.proofs.Turns.{base-entered-fits, base-left-fits, base-turn}
+use Rattle.step_rows.proofs.Turns.{base-turn}
 use Rattle.step_rows.proofs.base_row.Goals as goal
 
 pub loop-i-init : goal.loop-i-init
 loop-i-init c = (search rules, begun-none _ _ _ 0, search rules)
-
-pub overflow_add-row : goal.overflow_add-row
-overflow_add-row c = record { fits = search base-entered-fits }
-
-pub overflow_add-row-in-loop-i : goal.overflow_add-row-in-loop-i
-overflow_add-row-in-loop-i c = record { fits = search base-left-fits }
 
 pub loop-i-preserved : goal.loop-i-preserved
 loop-i-preserved c = (search rules, search base-turn, simp length-set (search rules))

@@ -1,6 +1,6 @@
 -- `step_rows::first_waiting` meets its contract. The invariant: who waits at the first i entries is told.
-use Rattle.step_rows.proofs.WaitingTurns.{FirstTo}
+use Rattle.step_rows.specs.Waiting.{FirstWaits}
 use Rattle.step_rows.proofs.first_waiting.Given as goal
 
 abbrev pub invariant-loop-i : goal.invariant-loop-i
-invariant-loop-i l = FirstTo l.links l.count l.waiting l.i
+invariant-loop-i l = FirstWaits l.links l.i l.waiting

@@ -10,5 +10,5 @@ pub loop-i-preserved : goal.loop-i-preserved
 loop-i-preserved c = (
   search rules,
   omega (arith, sum-next c.loop-i.i (λ k. get_or c.args.line.now (c.args.first + k) 0)),
-  omega (arith, c.wide-total.ensures),
+  omega arith,
 )

@@ -5,6 +5,3 @@ use Rattle.step_signals.proofs.advance.Given as goal
 
 abbrev pub invariant-loop-i : goal.invariant-loop-i
 invariant-loop-i l = (l.i ≤ l.count) × Advanced l.initial.signals l.i l.phases l.asked l.seconds l.signals
-
-abbrev pub decreases-loop-i : goal.decreases-loop-i
-decreases-loop-i l = l.count - l.i

@@ -5,6 +5,3 @@ use Rattle.step_signals.proofs.hold_masks.Given as goal
 
 abbrev pub invariant-loop-i : goal.invariant-loop-i
 invariant-loop-i l = (l.i ≤ l.count) × HeldMasks l.signals l.i l.initial.line l.line
-
-abbrev pub decreases-loop-i : goal.decreases-loop-i
-decreases-loop-i l = l.count - l.i

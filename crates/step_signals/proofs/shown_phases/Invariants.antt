@@ -5,6 +5,3 @@ use Rattle.step_signals.proofs.shown_phases.Given as goal
 
 abbrev pub invariant-loop-i : goal.invariant-loop-i
 invariant-loop-i l = (l.i ≤ l.count) × ShownPhases l.signals l.i l.masks l.initial.phases l.phases
-
-abbrev pub decreases-loop-i : goal.decreases-loop-i
-decreases-loop-i l = l.count - l.i

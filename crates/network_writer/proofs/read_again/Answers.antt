@@ -1,6 +1,0 @@
--- `network_writer::read_again` meets its contract.
-use Rattle.network_writer.proofs.Reading.{again}
-use Rattle.network_writer.proofs.read_again.Goals as goal
-
-pub returns : goal.returns
-returns c = rw c.unwrap_or.ensures (again c.read_row.result c.read_row.ensures)
