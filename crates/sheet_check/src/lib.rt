@@ -194,6 +194,8 @@ fn pass_step(
 }
 
 // Refusal 34: goes through all steps of an accepted plan.
+// Not inlined: its own tables are not on the stack while the plan is judged.
+#[inline(never)]
 fn pass_plan(
     network: &[u8],
     plan: &[u8],

@@ -131,6 +131,8 @@ fn number_marked<const N: usize>(marks: &[u32; N], mark: u32, count: usize) -> [
 }
 
 // Numbers the movements inside a half, whose links have these numbers.
+// Not inlined: it is called twice, and its tables are the largest.
+#[inline(never)]
 fn number_movements(
     movements: &[Movement],
     numbers: &[u32; MAX_LINKS],
@@ -144,6 +146,8 @@ fn number_movements(
 }
 
 // Numbers both halves of a network by the set of links in the first. A signal with a link in the second half goes there.
+// Not inlined: its own tables leave the stack before the texts are written.
+#[inline(never)]
 pub fn number_halves(set: u32, tables: &NetworkTables) -> Halves
     requires { HalvesAsked tables.now }
     ensures { HalvesNumbered set tables.now result }
