@@ -124,16 +124,15 @@ pub fn split(
         &mut movements,
         &mut times,
     )?;
-    let tables = NetworkTables {
-        reading,
-        links: &links,
-        movements: &movements,
-        times: &times,
-    };
     let whole = Whole {
         network,
         plan,
-        tables,
+        tables: NetworkTables {
+            reading,
+            links: &links,
+            movements: &movements,
+            times: &times,
+        },
         signals: &signals,
     };
     split_loaded(&whole, first_half, network_1, plan_1, network_2, plan_2)

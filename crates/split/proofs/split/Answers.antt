@@ -4,8 +4,8 @@ use Rattle.network.proofs.Loading.{tables-sized}
 use Rattle.split.proofs.Splitting.{loaded-passed, network-refused, promised}
 use Rattle.split.proofs.split.Goals as goal
 
-pub invariant_of-tables : goal.invariant_of-tables
-invariant_of-tables c = record { sized = tables-sized (c.read_network.ensures.held _ c.in_ok-reading.was) }
+pub invariant_of-whole : goal.invariant_of-whole
+invariant_of-whole c = record { sized = tables-sized (c.read_network.ensures.held _ c.in_ok-reading.was) }
 
 pub split_loaded-requires : goal.split_loaded-requires
 split_loaded-requires c = loaded-passed (c.read_network.ensures.held _ c.in_ok-reading.was)
