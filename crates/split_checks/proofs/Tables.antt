@@ -1,25 +1,16 @@
 -- The tests of links and movements by the tables: what the functions give.
-use Rattle.base_laws.proofs.Kit.{◌≡◌, refl, sym, Bool, true, false, not, ◌&&◌, ◌||◌, List, ℕ, ◌+◌, ◌-◌, ◌<◌, eq-eqb, ne_eqb, eqb, get_or}
+use Rattle.base_laws.proofs.Kit.{◌≡◌, refl, Bool, true, false, not, ◌&&◌, ◌||◌, List, ℕ, ◌-◌, eq-eqb, ne_eqb, eqb, get_or}
 use Rattle.base_laws.specs.Test.{◌and◌, ◌or◌, every}
 use Rattle.network_tables.specs.declared.Link.{Link}
 use Rattle.network_tables.specs.declared.Movement.{Movement}
-use Rattle.network_tables.specs.Fields.{waiting_at_start_in, exit_rate_in, signal_in, link_in, demand_in}
+use Rattle.network_tables.specs.Fields.{exit_rate_in, signal_in, link_in, demand_in}
 use Rattle.split_tables.specs.declared.HalfTables.{HalfTables}
 use Rattle.split_tables.specs.Tables.{is_in, links_in}
-use Rattle.split_checks.specs.Tables.{none_wait_in, stands_apart_in, right_kind_in, demand_free_in, own_signal_by}
-use Rattle.split_checks.proofs.Tests.{test-fails, test-holds}
+use Rattle.split_checks.specs.Tables.{stands_apart_in, right_kind_in, demand_free_in, own_signal_by}
 
 not-both-of : (a b : Bool) → not (a && b) ≡ (not a || not b)
 not-both-of true b = refl
 not-both-of false b = refl
-
--- ---- `nobody_waits`
-module _ (links : List Link) (i : ℕ) where
-  pub waits-fail : {count : ℕ} → i < count → (waiting_at_start_in links i ≡ 0 → ⊥) → false ≡ every count (none_wait_in links)
-  waits-fail l h = test-fails (none_wait_in links) (sym (ne_eqb (waiting_at_start_in links i) 0 h)) l refl
-
-  pub waits-next : every i (none_wait_in links) ≡ true → waiting_at_start_in links i ≡ 0 → every (i + 1) (none_wait_in links) ≡ true
-  waits-next f h = test-holds (none_wait_in links) (sym (eq-eqb (waiting_at_start_in links i) 0 h)) f refl
 
 module _ (movements : List Movement) (numbers : List ℕ) (j : ℕ) where
   -- ---- `stands_apart`

@@ -1,5 +1,5 @@
 -- Tests of rising indices, taken one by one up to the first that fails, and equal tests.
-use Rattle.base_laws.proofs.Kit.{◌≡◌, refl, sym, ◌∙◌, Bool, true, false, not, ◌&&◌, ◌⊎◌, inl, inr, ℕ, zero, suc, ◌+◌, ◌≤◌, ◌<◌, add-one, arith, not-true, not-false, le-leb, ne_eqb, leb, eqb}
+use Rattle.base_laws.proofs.Kit.{◌≡◌, refl, sym, ◌∙◌, Bool, true, false, not, ◌&&◌, ◌⊎◌, inl, inr, ℕ, zero, suc, ◌+◌, ◌<◌, add-one, arith, not-true, not-false, le-leb, ne_eqb, leb, eqb}
 use Rattle.base_laws.specs.Test.{◌and◌, ◌or◌, every}
 use Rattle.base_laws.proofs.Tests.{and_left, and_right, or_cases, every-at, and_both, or_left, or_right, either_way, not-both, true-not, every_of}
 
@@ -11,10 +11,6 @@ same_test false false f g = refl
 
 -- ---- the turns of a loop over rising indices
 module _ (test : ℕ → Bool) where
-  pub none-tested : every 0 test ≡ true
-  unfolding every
-  none-tested = refl
-
   module _ {i : ℕ} {v : Bool} (told : v ≡ test i) where
     pub test-fails : {n : ℕ} → i < n → not v ≡ true → false ≡ every n test
     test-fails {n} l f = go (either_way (every n test))
@@ -26,9 +22,6 @@ module _ (test : ℕ → Bool) where
     pub test-holds : every i test ≡ true → not v ≡ false → every (i + 1) test ≡ true
     unfolding every ◌and◌
     test-holds h f = rw (add-one, h, ← told, not-false v f)
-
-  pub all_tested : {n i : ℕ} → i ≤ n → n ≤ i → every i test ≡ true → true ≡ every n test
-  all_tested {n} {i} u l h = let e : i ≡ n = omega arith in sym (rw e at h)
 
 -- ---- a test of some indices, index by index or test by test
 where-holds : (a b : Bool) → not a or b ≡ true → a ≡ true → b ≡ true

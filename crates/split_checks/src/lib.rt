@@ -21,12 +21,7 @@ fn nobody_waits(links: &[Link], count: usize) -> bool
     requires { (count ≤ max_links) × (length links.now ≡ max_links) }
     ensures { result ≡ every count (none_wait_in links.now) }
 {
-    for i in 0..count {
-        if links[i].waiting != 0 {
-            return false;
-        }
-    }
-    true
+    (0..count).all(|i| links[i].waiting == 0)
 }
 
 // Whether movement k is j itself, or neither leaves the link that border movement j leaves nor is a border movement into the link that j enters.
@@ -45,12 +40,7 @@ fn stands_alone(tables: &NetworkTables, half: &HalfTables, j: usize) -> bool
     requires { EndsAsked tables.now × (j < tables.now.reading.counts.movements) }
     ensures { result ≡ every tables.now.reading.counts.movements (stands_apart_in tables.now.movements.now half.now.links j) }
 {
-    for k in 0..tables.reading.counts.movements {
-        if !stands_apart(tables, half, j, k) {
-            return false;
-        }
-    }
-    true
+    (0..tables.reading.counts.movements).all(|k| stands_apart(tables, half, j, k))
 }
 
 // Whether a movement is no border movement, or leaves a link without a signal, with exit rate 0 and no other movement from it, and enters a link without second border.
@@ -71,12 +61,7 @@ fn right_kinds(tables: &NetworkTables, half: &HalfTables) -> bool
     requires { EndsAsked tables.now }
     ensures { result ≡ every tables.now.reading.counts.movements (right_kind_in tables.now.links.now tables.now.movements.now half.now.links tables.now.reading.counts.movements) }
 {
-    for j in 0..tables.reading.counts.movements {
-        if !right_kind(tables, half, j) {
-            return false;
-        }
-    }
-    true
+    (0..tables.reading.counts.movements).all(|j| right_kind(tables, half, j))
 }
 
 // Whether a movement is no border movement, or enters a link without demand in a step.
@@ -94,12 +79,7 @@ fn step_free(step: &[u32], tables: &NetworkTables, half: &HalfTables) -> bool
     requires { EndsAsked tables.now × (length step.now ≡ step_size) }
     ensures { result ≡ every tables.now.reading.counts.movements (demand_free_in (demand_in step.now) tables.now.movements.now half.now.links) }
 {
-    for j in 0..tables.reading.counts.movements {
-        if !demand_free(step, tables, half, j) {
-            return false;
-        }
-    }
-    true
+    (0..tables.reading.counts.movements).all(|j| demand_free(step, tables, half, j))
 }
 
 // The same in all steps, whose `S` lines have passed.
@@ -153,12 +133,11 @@ pub fn parts_signals(tables: &NetworkTables, half: &HalfTables) -> bool
     requires { PartsAsked tables.now }
     ensures { PartsTold tables.now half.now result }
 {
-    for i in 0..tables.reading.counts.links {
-        if !own_signal(half, half.links[i], tables.links[i].signal as usize) {
-            return false;
-        }
-    }
-    true
+    (0..tables.reading.counts.links).all(|i| own_signal(
+        half,
+        half.links[i],
+        tables.links[i].signal as usize,
+    ))
 }
 
 // Whether the `P` line at a place has its form, and where the next starts.

@@ -1,19 +1,16 @@
-use Rattle.std.proofs.Common.{rules}
-use Rattle.split_checks.proofs.Tests.{none-tested, test-fails, test-holds, all_tested}
+-- `split_checks::parts_signals` meets its contract.
+use Rattle.std.proofs.Common.{refl, ◌∙◌, arith, rules, tests}
+use Rattle.std.proofs.lemmas.Iterator.{YieldsList-from_range}
+use Rattle.std.proofs.lemmas.Iterator.Search.{all_from_yields_List}
+use Rattle.network_tables.proofs.Every.{all-every}
+use Rattle.split_checks.specs.Tables.{own_signal_in}
 use Rattle.split_checks.proofs.Signals.{parts-told}
 use Rattle.split_checks.proofs.parts_signals.Goals as goal
 
-pub loop-i-init : goal.loop-i-init
-loop-i-init c = search (none-tested, rules)
-
-pub own_signal-requires : goal.own_signal-requires
-own_signal-requires c = c.requires c.loop-i.i c.loop-i-test.true
-
-pub returns-then-not-own_signal : goal.returns-then-not-own_signal
-returns-then-not-own_signal c = parts-told c.args.tables.now c.args.half.now (search (test-fails, rules))
-
-pub loop-i-preserved : goal.loop-i-preserved
-loop-i-preserved c = search (test-holds, rules)
-
 pub returns : goal.returns
-returns c = parts-told c.args.tables.now c.args.half.now (search (all_tested, rules))
+returns c =
+    let a = c.args in
+    let n = a.tables.now.reading.counts.links in
+    let own = own_signal_in a.tables.now.links.now a.half.now in
+    parts-told a.tables.now a.half.now
+    (all_from_yields_List own _ _ _ c.all.ensures.ran (YieldsList-from_range 0 n n refl (omega arith)) (λ i b q k. search (rules, tests)) ∙ all-every n own)

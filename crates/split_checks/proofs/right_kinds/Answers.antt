@@ -1,12 +1,15 @@
-use Rattle.std.proofs.Common.{rules}
-use Rattle.split_checks.proofs.Tests.{none-tested, test-fails, test-holds}
+-- `split_checks::right_kinds` meets its contract.
+use Rattle.std.proofs.Common.{refl, ◌∙◌, arith, rules, tests}
+use Rattle.std.proofs.lemmas.Iterator.{YieldsList-from_range}
+use Rattle.std.proofs.lemmas.Iterator.Search.{all_from_yields_List}
+use Rattle.network_tables.proofs.Every.{all-every}
+use Rattle.split_checks.specs.Tables.{right_kind_in}
 use Rattle.split_checks.proofs.right_kinds.Goals as goal
 
-pub loop-j-init : goal.loop-j-init
-loop-j-init c = search (none-tested, rules)
-
-pub returns-then-not-right_kind : goal.returns-then-not-right_kind
-returns-then-not-right_kind c = search (test-fails, rules)
-
-pub loop-j-preserved : goal.loop-j-preserved
-loop-j-preserved c = search (test-holds, rules)
+pub returns : goal.returns
+returns c =
+    let a = c.args in
+    let n = a.tables.now.reading.counts.movements in
+    let right = right_kind_in a.tables.now.links.now a.tables.now.movements.now a.half.now.links a.tables.now.reading.counts.movements in
+    all_from_yields_List right _ _ _ c.all.ensures.ran (YieldsList-from_range 0 n n refl (omega arith)) (λ i b q k. search (rules, tests))
+    ∙ all-every n right
