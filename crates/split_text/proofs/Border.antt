@@ -6,9 +6,12 @@ use Rattle.base_laws.specs.Sum.{sum, only}
 use Rattle.model.specs.Network.{max_links}
 use Rattle.network_tables.specs.declared.Movement.{Movement}
 use Rattle.network_tables.specs.Fields.{link_in}
+use Rattle.network_tables.specs.Fields.{movement_at}
 use Rattle.split_tables.specs.Tables.{links_in}
 use Rattle.split_tables.proofs.Marks.{zeros-at}
-use Rattle.split_text.specs.Border.{added_at, border_sum, BorderAsked}
+use Rattle.split_text.specs.declared.Side.{Side}
+use Rattle.split_text.specs.declared.Side.TheVariants.{From, To}
+use Rattle.split_text.specs.Border.{side_number, end_on, added_at, border_sum, BorderAsked}
 use Rattle.split_text.specs.Filling.{Gives}
 
 -- ---- `add_at`
@@ -53,12 +56,20 @@ module _ (inside link number : ℕ) (sums : List ℕ) where
       go false = refl
 
 -- ---- `add_border`: the first j movements
-pub record BorderTo (movements : List Movement) (numbers : List ℕ) (count side : ℕ) (post : ℕ → ℕ → Type 0) (sums : List ℕ) (j : ℕ) : Type 0 where
+side-small : (side : Side) → side_number side < 2
+side-small From = omega arith
+side-small To = omega arith
+
+end-is : (movements : List Movement) (j : ℕ) (side : Side) → end_on side (movement_at movements j) ≡ link_in movements (side_number side) j
+end-is movements j From = refl
+end-is movements j To = refl
+
+pub record BorderTo (movements : List Movement) (numbers : List ℕ) (count : ℕ) (side : Side) (post : ℕ → ℕ → Type 0) (sums : List ℕ) (j : ℕ) : Type 0 where
   pub size : length sums ≡ max_links
   pub small : (i : ℕ) → i < max_links → get_or sums i 0 ≤ largest * j
-  pub are : (f : ℕ → ℕ) → Gives post count f → (i : ℕ) → get_or sums i 0 ≡ border_sum movements numbers side f j i
+  pub are : (f : ℕ → ℕ) → Gives post count f → (i : ℕ) → get_or sums i 0 ≡ border_sum movements numbers (side_number side) f j i
 
-module _ {movements : List Movement} {count side : ℕ} (a : BorderAsked movements count side) (numbers : List ℕ) (post : ℕ → ℕ → Type 0) where
+module _ {movements : List Movement} {count : ℕ} (a : BorderAsked movements count) (side : Side) (numbers : List ℕ) (post : ℕ → ℕ → Type 0) where
   pub border-none : BorderTo movements numbers count side post (replicate max_links 0) 0
   unfolding border_sum sum
   border-none =
@@ -68,12 +79,15 @@ module _ {movements : List Movement} {count side : ℕ} (a : BorderAsked movemen
         are = λ f g i. zeros-at max_links i;
       }
 
-  module _ {sums : List ℕ} {j : ℕ} (t : BorderTo movements numbers count side post sums j) (h : j < count) {link : ℕ} (e : link ≡ link_in movements side j) where
+  module _ {sums : List ℕ} {j : ℕ} (t : BorderTo movements numbers count side post sums j) (h : j < count) {link : ℕ} (e : link ≡ end_on side (movement_at movements j)) where
+    named : link ≡ link_in movements (side_number side) j
+    named = e ∙ end-is movements j side
+
     pub border-room : (1 ≤ link) × (link ≤ length sums) × (get_or sums (link - 1) 0 ≤ 1_000_000_000_000)
     border-room =
-        let l = a.movements-asked.links j side h a.either in
-        let u : link - 1 < max_links = omega (arith, e, l) in
-        (omega (arith, e, l), omega (arith, e, l, t.size), omega (arith, t.small (link - 1) u, a.movements-asked.few))
+        let l = a.links j (side_number side) h (side-small side) in
+        let u : link - 1 < max_links = omega (arith, named, l) in
+        (omega (arith, named, l), omega (arith, named, l, t.size), omega (arith, t.small (link - 1) u, a.few))
 
     pub border-next : {inside number : ℕ} → inside ≡ links_in movements numbers j → number < 4294967296 → post j number → {new : List ℕ} → new ≡ added_at inside link number sums
         → BorderTo movements numbers count side post new (j + 1)
@@ -83,5 +97,5 @@ module _ {movements : List Movement} {count side : ℕ} (a : BorderAsked movemen
         rw w (record {
           size = added-size inside link number sums ∙ t.size;
           small = λ i l. omega (arith, added-is inside link number sums r.0 r.1 i, part_small inside link number sums i few, t.small i l);
-          are = λ f g i. rw (add-one j) (added-is inside link number sums r.0 r.1 i ∙ ap₂ (λ x y. x + y) (t.are f g i) (rw (c, e, g j number h p) refl));
+          are = λ f g i. rw (add-one j) (added-is inside link number sums r.0 r.1 i ∙ ap₂ (λ x y. x + y) (t.are f g i) (rw (c, named, g j number h p) refl));
         })

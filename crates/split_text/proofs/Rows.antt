@@ -44,8 +44,8 @@ module _ {whole : Whole} (held : Held whole) where
   abbrev counts : Counts
   counts = whole.tables.reading.counts
 
-  pub border-asked : {side : ℕ} → side < 2 → BorderAsked whole.tables.movements.now counts.movements side
-  border-asked s = record { movements-asked = movements-there (whole_network whole) held.holds whole.tables held.counted held.movement-table; either = s }
+  pub border-asked : BorderAsked whole.tables.movements.now counts.movements
+  border-asked = movements-there (whole_network whole) held.holds whole.tables held.counted held.movement-table
 
   -- ---- the `S` line
   pub step-put : {half : HalfTables} (places : StepPlaces) {old new zeros_step step line into blank row : List ℕ} {next after end width : ℕ}

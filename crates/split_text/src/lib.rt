@@ -17,7 +17,7 @@ ghost use Rattle.split_tables.specs.Tables.{is_in};
 ghost use Rattle.plan_steps.specs.PlanLine.{LineAsked};
 ghost use Rattle.split_text.specs.Halves.{PlanLineRead, StepAsked, StepPut, StepsAsked, StepsPut, PlanAsked, PlanLineAsked, LinePut, PlanPut, NetworkAsked, NetworkPut};
 ghost use Rattle.split_text.specs.Rows.{signal_number_in, count_row, tram_in, tram_row, signal_row, link_row, movement_row, CountsAsked, TramsAsked, SignalsAsked, LinksAsked, MovementsAsked};
-ghost use Rattle.split_text.specs.Border.{added_at, BorderAsked, Bordered};
+ghost use Rattle.split_text.specs.Border.{side_number, end_on, added_at, BorderAsked, Bordered};
 ghost use Rattle.split_text.specs.Filling.{Asks, Gives, Filled, FillAsked};
 
 use network_tables::{
@@ -187,28 +187,34 @@ fn add_at(inside: u32, link: usize, number: u32, sums: &mut [u64])
     }
 }
 
-// The link that a movement leaves (side 0) or enters (side 1), from 1.
-fn end_of(movement: Movement, side: usize) -> u32
-    ensures { result ≡ cond (eqb side 0) movement.from movement.to }
+// Which of a movement's two links: the one that it leaves, or the one that it enters.
+#[derive(Clone, Copy)]
+enum Side {
+    From,
+    To,
+}
+
+// The link that a movement has on a side, from 1.
+fn end_of(movement: Movement, side: Side) -> u32
+    ensures { result ≡ end_on side movement }
 {
-    if side == 0 {
-        movement.from
-    } else {
-        movement.to
+    match side {
+        Side::From => movement.from,
+        Side::To => movement.to,
     }
 }
 
-// Adds up, for each link, the numbers of the border movements that leave it (side 0) or enter it (side 1).
+// Adds up, for each link, the numbers of the border movements that have it on a side.
 fn add_border<F: Fn(usize) -> u32>(
     tables: &NetworkTables,
     half: &HalfTables,
-    side: usize,
+    side: Side,
     number_of: F,
 ) -> [u64; MAX_LINKS]
-    requires asked { BorderAsked tables.now.movements.now tables.now.reading.counts.movements side }
+    requires asked { BorderAsked tables.now.movements.now tables.now.reading.counts.movements }
     requires asks { Asks (F.pre number_of) tables.now.reading.counts.movements }
     ensures { (f : ℕ → ℕ) → Gives (F.post number_of) tables.now.reading.counts.movements f
-        → Bordered tables.now.movements.now half.now.links tables.now.reading.counts.movements side f result }
+        → Bordered tables.now.movements.now half.now.links tables.now.reading.counts.movements (side_number side) f result }
 {
     let mut sums = [0; MAX_LINKS];
     for j in 0..tables.reading.counts.movements {
@@ -288,8 +294,7 @@ fn put_step(whole: &Whole, half: &HalfTables, places: StepPlaces, out: &mut [u8]
     let step_end = network_tables::read_again(whole.network, places.step, b'S', &mut step, width);
     let plan_end = read_plan(whole, places.plan, &mut line);
     let volume = |j| network_tables::moved(&line, counts, j);
-    let side = 1; // the link that it enters has its volume as demand
-    let into = add_border(&whole.tables, half, side, volume);
+    let into = add_border(&whole.tables, half, Side::To, volume); // demand of the link that it enters
     row[0] = step[0];
     let demand = |i| raised(network_tables::demand(&step, i), into[i]);
     let end = fill_kept(&half.links, counts.links, demand, &mut row, 1);
@@ -311,8 +316,8 @@ fn put_plan_line(whole: &Whole, half: &HalfTables, places: Places, out: &mut [u8
     let mut row = [0u32; LINE_SIZE];
     let next = read_plan(whole, places.line, &mut line);
     let volume = |j| network_tables::moved(&line, counts, j);
-    let into = add_border(&whole.tables, half, 1, volume); // admitted on the link that it enters
-    let from = add_border(&whole.tables, half, 0, volume); // let out of the link that it leaves
+    let into = add_border(&whole.tables, half, Side::To, volume); // admitted on the link that it enters
+    let from = add_border(&whole.tables, half, Side::From, volume); // let out of the link that it leaves
     let mask = |r| line[r];
     let admitted = |i| raised(network_tables::admitted(&line, counts, i), into[i]);
     let let_out = |i| raised(network_tables::let_out(&line, counts, i), from[i]);
@@ -360,7 +365,7 @@ pub fn put_network(whole: &Whole, half: &HalfTables, out: &mut [u8]) -> usize
 {
     let tables = &whole.tables;
     let rate = |j| tables.movements[j].rate;
-    let rates = add_border(tables, half, 0, rate); // exit rate of the link that it leaves
+    let rates = add_border(tables, half, Side::From, rate); // exit rate of the link that it leaves
     let trams = count_trams(whole, half);
     let end = put_counts(tables.reading.counts, trams, half, out);
     let end = put_trams(whole, half, out, end);

@@ -1,9 +1,12 @@
 use Rattle.std.proofs.Common.{rules}
-use Rattle.split_text.proofs.Border.{border-none, border-next}
+use Rattle.split_text.proofs.Border.{border-none, border-room, border-next}
 use Rattle.split_text.proofs.add_border.Goals as goal
 
 pub loop-j-init : goal.loop-j-init
-loop-j-init g c = border-none c.requires.asked _ _
+loop-j-init g c = border-none c.requires.asked _ _ _
+
+pub add_at-requires : goal.add_at-requires
+add_at-requires g c = border-room c.requires.asked _ _ _ c.loop-j.invariant c.loop-j-test.true c.end_of-link.ensures
 
 pub loop-j-preserved : goal.loop-j-preserved
-loop-j-preserved g c = border-next c.requires.asked _ _ c.loop-j.invariant c.loop-j-test.true c.end_of-link.ensures c.links_in-inside.ensures (search rules) c.number_of.ensures c.add_at.ensures
+loop-j-preserved g c = border-next c.requires.asked _ _ _ c.loop-j.invariant c.loop-j-test.true c.end_of-link.ensures c.links_in-inside.ensures (search rules) c.number_of.ensures c.add_at.ensures

@@ -1,13 +1,12 @@
 -- `split_text::put_network` meets its contract.
 use Rattle.std.proofs.Common.{rules}
-use Rattle.base_laws.proofs.Kit.{arith}
 use Rattle.network_tables.specs.Fields.{rate_in}
 use Rattle.split_text.proofs.Rows.{border-asked}
 use Rattle.split_text.proofs.Whole.{trams-asked, trams-ready, signals-ready, links-ready, movements-ready, all-put}
 use Rattle.split_text.proofs.put_network.Goals as goal
 
 pub add_border-rates-requires-clause-asked : goal.add_border-rates-requires-clause-asked
-add_border-rates-requires-clause-asked c = border-asked c.requires.asked.held (omega arith)
+add_border-rates-requires-clause-asked c = border-asked c.requires.asked.held
 
 pub count_trams-trams-requires : goal.count_trams-trams-requires
 count_trams-trams-requires c = trams-asked c.requires

@@ -1,6 +1,6 @@
 -- `split_text::put_plan_line` meets its contract.
 use Rattle.std.proofs.Common.{rules}
-use Rattle.base_laws.proofs.Kit.{refl, arith, get_or}
+use Rattle.base_laws.proofs.Kit.{refl, get_or}
 use Rattle.network_tables.specs.Fields.{admitted_in, let_out_in, moved_in}
 use Rattle.split_text.specs.Filling.{raised}
 use Rattle.split_text.proofs.Reading.{plan-asked}
@@ -11,10 +11,10 @@ pub read_plan-next-requires : goal.read_plan-next-requires
 read_plan-next-requires c = plan-asked c.requires.asked.held refl
 
 pub add_border-into-requires-clause-asked : goal.add_border-into-requires-clause-asked
-add_border-into-requires-clause-asked c = border-asked c.requires.asked.held (omega arith)
+add_border-into-requires-clause-asked c = border-asked c.requires.asked.held
 
 pub add_border-from-requires-clause-asked : goal.add_border-from-requires-clause-asked
-add_border-from-requires-clause-asked c = border-asked c.requires.asked.held (omega arith)
+add_border-from-requires-clause-asked c = border-asked c.requires.asked.held
 
 pub returns : goal.returns
 unfolding raised

@@ -1,6 +1,6 @@
 -- `split_text::put_step` meets its contract.
 use Rattle.std.proofs.Common.{rules}
-use Rattle.base_laws.proofs.Kit.{refl, arith}
+use Rattle.base_laws.proofs.Kit.{refl}
 use Rattle.network_tables.specs.Fields.{demand_in, moved_in}
 use Rattle.split_text.specs.Filling.{raised}
 use Rattle.split_text.proofs.Reading.{plan-asked}
@@ -11,7 +11,7 @@ pub read_plan-plan_end-requires : goal.read_plan-plan_end-requires
 read_plan-plan_end-requires c = plan-asked c.requires.asked.held refl
 
 pub add_border-into-requires-clause-asked : goal.add_border-into-requires-clause-asked
-add_border-into-requires-clause-asked c = border-asked c.requires.asked.held (omega arith)
+add_border-into-requires-clause-asked c = border-asked c.requires.asked.held
 
 pub returns : goal.returns
 unfolding raised
