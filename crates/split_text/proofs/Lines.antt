@@ -4,17 +4,17 @@ use Rattle.text_reader.specs.Lines.{lines}
 use Rattle.text_reader.specs.Reading.{Starts}
 use Rattle.text_writer.specs.Records.{record_text}
 use Rattle.base_laws.specs.Indexed.{list}
-use Rattle.model.specs.Network.{entry, tram_line, signal_line, signal}
+use Rattle.model.specs.Network.{entry, signal_line, signal}
 use Rattle.model.specs.Table.{letter_n, letter_t, letter_g, letter_q, letter_m}
 use Rattle.network_tables.specs.declared.Counts.{Counts}
 use Rattle.network_tables.specs.declared.Link.{Link}
 use Rattle.network_tables.specs.declared.Movement.{Movement}
+use Rattle.network_tables.specs.declared.Tram.{Tram}
 use Rattle.network_tables.specs.Rows.{LineHeld, ReadAgain}
-use Rattle.network_tables.specs.Fields.{tram_fields, signal_fields, signal_at, capacity_in, travel_time_in, exit_rate_in, signal_in, phase_mask_in, standing_in, waiting_at_start_in, link_in, rate_in, share_in}
+use Rattle.network_tables.specs.Fields.{signal_fields, tram_at, signal_at, capacity_in, travel_time_in, exit_rate_in, signal_in, phase_mask_in, standing_in, waiting_at_start_in, link_in, rate_in, share_in}
 use Rattle.network_writer.specs.Put.{Put}
 use Rattle.network_writer.specs.Texts.{line_texts}
 use Rattle.network_writer.proofs.Reading.{numbers-are}
-use Rattle.network_writer.proofs.Trams.{TramsTo, trams-begin, tram-field, trams-on}
 use Rattle.model_split.specs.Numbering.{rank, picked}
 use Rattle.model_split.proofs.Numbering.{rank-le}
 use Rattle.split_tables.specs.declared.Whole.{Whole}
@@ -23,7 +23,7 @@ use Rattle.split_tables.specs.Whole.{whole_network}
 use Rattle.split_tables.specs.Tables.{is_in}
 use Rattle.split_tables.proofs.Tables.{one_where}
 use mir.Val.{bool_byte}
-use Rattle.split_text.specs.Rows.{signal_number_in, count_row, tram_in, tram_row, signal_row, link_row, movement_row, TramsAsked, SignalsAsked}
+use Rattle.split_text.specs.Rows.{signal_number_in, count_row, tram_in, tram_row, signal_row, link_row, movement_row, SignalsAsked}
 use Rattle.split_text.specs.Filling.{raised}
 use Rattle.split_text.proofs.Picked.{picks-none, picks-next}
 
@@ -44,57 +44,27 @@ pub counts-put : (counts : Counts) (trams : ℕ) (half : HalfTables) {a b c : �
 unfolding count_row
 counts-put counts trams half e f g p = rw (e, f, g) at p
 
--- ---- the `T` lines: k are read
-pub record TramsFound (whole : Whole) (half : HalfTables) (tram : List ℕ) (line found k : ℕ) : Type 0 where
-  pub at-line : TramsTo whole.network.now whole.tables.reading.counts.trams tram line k
-  pub found-is : found ≡ rank (tram_in (whole_network whole) half) k
+-- ---- the `T` lines
+module _ (trams : List Tram) (half : HalfTables) (k : ℕ) {x : ℕ} (e : x ≡ signal_number_in half (tram_at trams k).signal) where
+  pub found-next : {found one : ℕ} → found ≡ rank (tram_in trams half) k → one ≡ bool_byte (not (eqb x 0)) → found + one ≡ rank (tram_in trams half) (k + 1)
+  unfolding rank tram_in
+  found-next f o = rw (add-one k, o ∙ one_where _, f, ← e) refl
 
-pub record TramsPut (whole : Whole) (half : HalfTables) (tram : List ℕ) (line at : ℕ) (old out : List ℕ) (end k : ℕ) : Type 0 where
-  pub at-line : TramsTo whole.network.now whole.tables.reading.counts.trams tram line k
-  pub picks : Put k (line_texts letter_t (picked k (tram_in (whole_network whole) half) (tram_row (whole_network whole) half))) at old out end
-
-module _ {whole : Whole} (a : TramsAsked whole) (half : HalfTables) where
-  abbrev text : List ℕ
-  text = whole.network.now
-
-  abbrev count : ℕ
-  count = whole.tables.reading.counts.trams
-
-  pub found_none : {tram : List ℕ} → length tram ≡ tram_fields → TramsFound whole half tram whole.tables.reading.trams_at 0 0
-  unfolding rank
-  found_none l = record { at-line = trams-begin a.passed l; found-is = refl }
-
-  pub trams-none : {tram : List ℕ} (at : ℕ) (old : List ℕ) → length tram ≡ tram_fields → TramsPut whole half tram whole.tables.reading.trams_at at old old at 0
-  trams-none at old l = record { at-line = trams-begin a.passed l; picks = picks-none _ _ _ at old }
-
-  module _ {tram : List ℕ} {line k : ℕ} (t : TramsTo text count tram line k) (h : k < count) {next : ℕ} {tram' : List ℕ} (r : ReadAgain letter_t tram_fields text line tram next tram') where
-    field : (f : ℕ) → f < tram_fields → get_or tram' f 0 ≡ entry (lines text) (tram_line (lines text) k) f
-    field = tram-field a.passed t h r
-
-    module _ {x : ℕ} (e : x ≡ signal_number_in half (get_or tram' 0 0)) where
-      number_is : x ≡ signal_number_in half (entry (lines text) (tram_line (lines text) k) 0)
-      number_is = e ∙ ap (signal_number_in half) (field 0 (omega arith))
-
-      pub found-next : {found one : ℕ} → found ≡ rank (tram_in (lines text) half) k → one ≡ bool_byte (not (eqb x 0)) → TramsFound whole half tram' next (found + one) (k + 1)
-      unfolding rank tram_in
-      found-next f o = record { at-line = trams-on a.passed t h r; found-is = rw (add-one k, o ∙ one_where _, f, ← number_is) refl }
-
-      pub trams-next : {at mid end : ℕ} {old out new : List ℕ} → Put k (line_texts letter_t (picked k (tram_in (lines text) half) (tram_row (lines text) half))) at old out mid
-          → Put 1 (line_texts letter_t (cond (not (eqb x 0)) ((x ∷ get_or tram' 1 0 ∷ get_or tram' 2 0 ∷ get_or tram' 3 0 ∷ []) ∷ []) [])) mid out new end → TramsPut whole half tram' next at old new end (k + 1)
-      trams-next p q =
-          record { at-line = trams-on a.passed t h r; picks = picks-next letter_t _ _ p (unfold tram_in tram_row in (rw (field 1 (omega arith), field 2 (omega arith), field 3 (omega arith), number_is) at q)) }
+  pub trams-next : {at mid end : ℕ} {old out new : List ℕ} → Put k (line_texts letter_t (picked k (tram_in trams half) (tram_row trams half))) at old out mid
+      → Put 1 (line_texts letter_t (cond (not (eqb x 0)) ((x ∷ (tram_at trams k).phase ∷ (tram_at trams k).first_step ∷ (tram_at trams k).last_step ∷ []) ∷ []) [])) mid out new end
+      → Put (k + 1) (line_texts letter_t (picked (k + 1) (tram_in trams half) (tram_row trams half))) at old new end
+  trams-next p q = picks-next letter_t _ _ p (unfold tram_in tram_row in (rw e at q))
 
 pub one-small : (t : Bool) → bool_byte t ≤ 1
 one-small true = omega arith
 one-small false = omega arith
 
-module _ {whole : Whole} {half : HalfTables} {tram : List ℕ} {line found k : ℕ} (t : TramsFound whole half tram line found k) where
+module _ (trams : List Tram) (half : HalfTables) {found k : ℕ} (f : found ≡ rank (tram_in trams half) k) where
   pub found-small : found ≤ k
-  found-small = omega (arith, t.found-is, rank-le (tram_in (whole_network whole) half) k)
+  found-small = omega (arith, f, rank-le (tram_in trams half) k)
 
-  pub found_all : whole.tables.reading.counts.trams ≤ k
-      → (found ≡ rank (tram_in (whole_network whole) half) whole.tables.reading.counts.trams) × (found ≤ whole.tables.reading.counts.trams)
-  found_all h = let z : k ≡ whole.tables.reading.counts.trams = omega (arith, t.at-line.few) in (rw z at t.found-is, omega (arith, found-small))
+  pub found_all : {count : ℕ} → k ≡ count → (found ≡ rank (tram_in trams half) count) × (found ≤ count)
+  found_all z = (rw z at f, omega (arith, found-small))
 
 -- ---- the `G` lines
 pub record SignalsPut (whole : Whole) (half : HalfTables) (row : List ℕ) (line at : ℕ) (old out : List ℕ) (end k : ℕ) : Type 0 where

@@ -16,8 +16,9 @@ use Rattle.model.proofs.Limits.{link-limits}
 use Rattle.network_tables.specs.declared.Counts.{Counts}
 use Rattle.network_tables.specs.declared.Link.{Link}
 use Rattle.network_tables.specs.declared.Movement.{Movement}
+use Rattle.network_tables.specs.declared.Tram.{Tram}
 use Rattle.network_tables.specs.Fields.{link_in, rate_in, demand_in, admitted_in, let_out_in, moved_in}
-use Rattle.network_tables.specs.Tables.{CountsHold, LinkTable, MovementTable, StepNumbers, PlanNumbers}
+use Rattle.network_tables.specs.Tables.{CountsHold, TramTable, LinkTable, MovementTable, StepNumbers, PlanNumbers}
 use Rattle.network_tables.proofs.Tables.{capacity-at, travel-time-at, exit-rate-at, signal-of-at, phase-mask-at, standing-at, waiting-at-start-at, from-link-at, to-link-at, rate-at, share-at, step-length-at, demand-at, shown-mask-at, admitted-at, let-out-at, moved_at}
 use Rattle.model_text.proofs.Formed.{Formed, formed-of-holds}
 use Rattle.model_split.specs.Numbering.{rank, picked}
@@ -73,15 +74,16 @@ module _ {network : List Line} (holds : Hold (network_checks network)) {set : �
   pub named-signal : (k : ℕ) → k < tram_count network → entry network (tram_line network k) 0 ≤ signal_count network
   named-signal k l = unfold entry in (signal-there network h formed valid k l).1
 
-  pub tram-follows : (k : ℕ) → k < tram_count network → tram_in network half k ≡ follows network h k
-  unfolding tram_in signal_number_in follows is_in entry
-  tram-follows k l =
-      let t = signal-there network h formed valid k l in
-      rw (ne_eqb (number (tram network k) 0) 0 (λ e. omega (arith, t.0))) (half-has-signal table (number (tram network k) 0 - 1) (omega (arith, t)))
+  module _ {trams : List Tram} (loaded : TramTable network trams) where
+    pub tram-follows : (k : ℕ) → k < tram_count network → tram_in trams half k ≡ follows network h k
+    unfolding tram_in signal_number_in follows is_in entry
+    tram-follows k l =
+        let t = signal-there network h formed valid k l in
+        rw (loaded.holds k l, ne_eqb (number (tram network k) 0) 0 (λ e. omega (arith, t.0))) (half-has-signal table (number (tram network k) 0 - 1) (omega (arith, t)))
 
-  pub tram-same : (k : ℕ) → k < tram_count network → follows network h k ≡ true → tram_row network half k ≡ tram_numbers network h k
-  unfolding tram_row tram_numbers follows entry
-  tram-same k l f = rw (signal-is (number (tram network k) 0) (signal-there network h formed valid k l).1 (λ o. f)) refl
+    pub tram-same : (k : ℕ) → k < tram_count network → follows network h k ≡ true → tram_row trams half k ≡ tram_numbers network h k
+    unfolding tram_row tram_numbers follows entry
+    tram-same k l f = rw (loaded.holds k l, signal-is (number (tram network k) 0) (signal-there network h formed valid k l).1 (λ o. f)) refl
 
   -- ---- movements
   module _ {movements : List Movement} (moves : MovementTable network movements) where

@@ -11,9 +11,10 @@ use Rattle.base_laws.proofs.Tests.{and_right}
 use Rattle.model.proofs.Accepted.{ValidNetwork, valid-network}
 use Rattle.model.proofs.Limits.{link-limits}
 use Rattle.network_tables.specs.declared.Counts.{Counts}
+use Rattle.network_tables.specs.declared.Tram.{Tram}
 use Rattle.network_tables.specs.Places.{Few}
 use Rattle.network_tables.specs.Fields.{rate_in}
-use Rattle.network_tables.specs.Tables.{CountsHold}
+use Rattle.network_tables.specs.Tables.{CountsHold, TramTable}
 use Rattle.network_tables.proofs.Tables.{signal-of-at}
 use Rattle.network_writer.specs.Put.{longest, Put, Early}
 use Rattle.network_writer.specs.Texts.{line_texts}
@@ -74,13 +75,13 @@ module _ {whole : Whole} {half : HalfTables} (a : NetworkAsked whole half) where
   formed : Formed net
   formed = formed-of-holds net held.holds
 
-  pub trams-asked : TramsAsked whole
-  unfolding is_form
-  trams-asked =
+  pub trams-asked : {trams : List Tram} → TramTable net trams → TramsAsked trams counts.trams
+  trams-asked t =
       let c = held.counted in
       record {
-        passed = record { starts = a.trams-start; few = few.trams; forms = λ k l. formed.tram-forms k (omega (arith, c.trams)) };
-        signals = λ k l. omega (arith, named-signal held.holds a.asked.one k (omega (arith, c.trams)), c.signals, few.signals);
+        size = t.size;
+        few = few.trams;
+        signals = λ k l. omega (arith, ap (λ (x : Tram). x.signal) (t.holds k (omega (arith, c.trams))), named-signal held.holds a.asked.one k (omega (arith, c.trams)), c.signals, few.signals);
       }
 
   signals-asked : {at : ℕ} → Early counts.signals at → SignalsAsked whole at
@@ -106,8 +107,8 @@ module _ {whole : Whole} {half : HalfTables} (a : NetworkAsked whole half) where
 
   -- ---- there are few lines before each block
   module _ {t₁ old o₁ : List ℕ} {e₁ : ℕ} (p₁ : Put 1 t₁ 0 old o₁ e₁) where
-    pub trams-ready : TramsAsked whole × Early counts.trams e₁
-    trams-ready = (trams-asked, omega (arith, p₁.ends, p₁.few, few.trams))
+    pub trams-ready : {trams : List Tram} → TramTable net trams → TramsAsked trams counts.trams × Early counts.trams e₁
+    trams-ready t = (trams-asked t, omega (arith, p₁.ends, p₁.few, few.trams))
 
     module _ {t₂ o₂ : List ℕ} {e₂ : ℕ} (p₂ : Put counts.trams t₂ e₁ o₁ o₂ e₂) where
       pub signals-ready : SignalsAsked whole e₂
@@ -125,10 +126,10 @@ module _ {whole : Whole} {half : HalfTables} (a : NetworkAsked whole half) where
           movements-ready = record { table-asked = movements-there (whole_network whole) held.holds whole.tables held.counted held.movement-table; early = omega (arith, before-movements, few.movements) }
 
   -- ---- all blocks, one behind another
-  module _ {rates : List ℕ} (b : Bordered whole.tables.movements.now half.links counts.movements 0 (rate_in whole.tables.movements.now) rates) {trams e₁ e₂ e₃ e₄ e₅ end : ℕ} {old o₁ o₂ o₃ o₄ o₅ new : List ℕ}
-      (found : trams ≡ rank (tram_in net half) counts.trams)
-      (p₁ : Put 1 (record_text letter_n (count_row counts trams half)) 0 old o₁ e₁)
-      (p₂ : Put counts.trams (line_texts letter_t (picked counts.trams (tram_in net half) (tram_row net half))) e₁ o₁ o₂ e₂)
+  module _ {rates : List ℕ} (b : Bordered whole.tables.movements.now half.links counts.movements 0 (rate_in whole.tables.movements.now) rates) {trams : List Tram} (loaded : TramTable net trams) {count e₁ e₂ e₃ e₄ e₅ end : ℕ} {old o₁ o₂ o₃ o₄ o₅ new : List ℕ}
+      (found : count ≡ rank (tram_in trams half) counts.trams)
+      (p₁ : Put 1 (record_text letter_n (count_row counts count half)) 0 old o₁ e₁)
+      (p₂ : Put counts.trams (line_texts letter_t (picked counts.trams (tram_in trams half) (tram_row trams half))) e₁ o₁ o₂ e₂)
       (p₃ : Put counts.signals (line_texts letter_g (picked counts.signals (is_in half.signals) (signal_row net))) e₂ o₂ o₃ e₃)
       (p₄ : Put counts.links (line_texts letter_q (picked counts.links (is_in half.links) (link_row whole.tables.links.now rates half))) e₃ o₃ o₄ e₄)
       (p₅ : Put counts.movements (line_texts letter_m (picked counts.movements (is_in half.movements) (movement_row whole.tables.movements.now half))) e₄ o₄ o₅ e₅)
@@ -137,10 +138,10 @@ module _ {whole : Whole} {half : HalfTables} (a : NetworkAsked whole half) where
       abbrev plan : List Line
       plan = whole_plan whole
 
-      trams-same : picked counts.trams (tram_in net half) (tram_row net half) ≡ picked (tram_count net) (follows net h) (tram_numbers net h)
+      trams-same : picked counts.trams (tram_in trams half) (tram_row trams half) ≡ picked (tram_count net) (follows net h) (tram_numbers net h)
       trams-same =
           rw held.counted.trams
-          (picked_same (tram_count net) _ _ _ _ (tram-follows held.holds one) (tram-same held.holds one))
+          (picked_same (tram_count net) _ _ _ _ (tram-follows held.holds one loaded) (tram-same held.holds one loaded))
 
       signals-same : picked counts.signals (is_in half.signals) (signal_row net) ≡ picked (signal_count net) h.has-signal (signal_numbers net h)
       unfolding signal_row signal_numbers
@@ -158,14 +159,14 @@ module _ {whole : Whole} {half : HalfTables} (a : NetworkAsked whole half) where
           rw held.counted.movements
           (picked_same (movement_count net) _ _ _ _ (half-has-movement one.numbered) (movement-same held.holds one held.movement-table))
 
-      counts_same : count_row counts trams half ≡ count_numbers (half_numbers net (in_set set) plan h)
+      counts_same : count_row counts count half ≡ count_numbers (half_numbers net (in_set set) plan h)
       unfolding count_numbers half_numbers
       counts_same =
           count-row-is one.numbered held.counted
-          (found ∙ rank-ext counts.trams (tram_in net half) (follows net h) (λ k l. tram-follows held.holds one k (omega (arith, held.counted.trams))) ∙ rw held.counted.trams (sym (picked-length (follows net h) (tram_numbers net h) (tram_count net))))
+          (found ∙ rank-ext counts.trams (tram_in trams half) (follows net h) (λ k l. tram-follows held.holds one loaded k (omega (arith, held.counted.trams))) ∙ rw held.counted.trams (sym (picked-length (follows net h) (tram_numbers net h) (tram_count net))))
 
-      whole-text : record_text letter_n (count_row counts trams half)
-          ++ (line_texts letter_t (picked counts.trams (tram_in net half) (tram_row net half))
+      whole-text : record_text letter_n (count_row counts count half)
+          ++ (line_texts letter_t (picked counts.trams (tram_in trams half) (tram_row trams half))
           ++ (line_texts letter_g (picked counts.signals (is_in half.signals) (signal_row net))
           ++ (line_texts letter_q (picked counts.links (is_in half.links) (link_row whole.tables.links.now rates half))
           ++ (line_texts letter_m (picked counts.movements (is_in half.movements) (movement_row whole.tables.movements.now half))

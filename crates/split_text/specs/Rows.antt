@@ -3,16 +3,16 @@ use Rattle.std.specs.Prelude.{ℕ, ◌+◌, ◌*◌, ◌-◌, ◌≤◌, ◌<◌
 use Rattle.text_reader.specs.Lines.{Line}
 use Rattle.text_reader.specs.Reading.{Starts}
 use Rattle.base_laws.specs.Indexed.{list}
-use Rattle.model.specs.Network.{max_signals, max_trams, entry, tram_line, signal_line, signal}
+use Rattle.model.specs.Network.{max_signals, max_trams, entry, signal_line, signal}
 use Rattle.model.specs.Table.{is_form, letter_g}
 use Rattle.network_tables.specs.declared.Counts.{Counts}
 use Rattle.network_tables.specs.declared.Link.{Link}
 use Rattle.network_tables.specs.declared.Movement.{Movement}
 use Rattle.network_tables.specs.declared.NetworkTables.{NetworkTables}
+use Rattle.network_tables.specs.declared.Tram.{Tram}
 use Rattle.network_tables.specs.Places.{Few}
-use Rattle.network_tables.specs.Fields.{signal_at, capacity_in, travel_time_in, exit_rate_in, signal_in, phase_mask_in, standing_in, waiting_at_start_in, link_in, rate_in, share_in}
+use Rattle.network_tables.specs.Fields.{tram_at, signal_at, capacity_in, travel_time_in, exit_rate_in, signal_in, phase_mask_in, standing_in, waiting_at_start_in, link_in, rate_in, share_in}
 use Rattle.network_writer.specs.Put.{Early}
-use Rattle.network_writer.specs.Trams.{TramLines}
 use Rattle.model_split.specs.Numbering.{rank}
 use Rattle.split_tables.specs.declared.Whole.{Whole}
 use Rattle.split_tables.specs.declared.HalfTables.{HalfTables}
@@ -32,13 +32,12 @@ count_row counts trams half =
     ∷ 0 ∷ []
 
 -- `T` line k follows its signal into the half; its numbers there
-unfoldable pub tram_in : List Line → HalfTables → ℕ → Bool
-tram_in network half k = not (eqb (signal_number_in half (entry network (tram_line network k) 0)) 0)
+unfoldable pub tram_in : List Tram → HalfTables → ℕ → Bool
+tram_in trams half k = not (eqb (signal_number_in half (tram_at trams k).signal) 0)
 
-unfoldable pub tram_row : List Line → HalfTables → ℕ → List ℕ
-tram_row network half k =
-    signal_number_in half (entry network (tram_line network k) 0) ∷ entry network (tram_line network k) 1 ∷ entry network (tram_line network k) 2
-    ∷ entry network (tram_line network k) 3 ∷ []
+unfoldable pub tram_row : List Tram → HalfTables → ℕ → List ℕ
+tram_row trams half k =
+    signal_number_in half (tram_at trams k).signal ∷ (tram_at trams k).phase ∷ (tram_at trams k).first_step ∷ (tram_at trams k).last_step ∷ []
 
 -- the `G` line of signal r, the `Q` line of link i, the `M` line of movement j
 unfoldable pub signal_row : List Line → ℕ → List ℕ
@@ -58,10 +57,11 @@ pub record CountsAsked (counts : Counts) (trams : ℕ) : Type 0 where
   pub few : Few counts
   pub few-trams : trams ≤ max_trams
 
--- `T` lines that have passed, and name signals
-pub record TramsAsked (whole : Whole) : Type 0 where
-  pub passed : TramLines whole.network.now whole.tables.reading.trams_at whole.tables.reading.counts.trams
-  pub signals : (k : ℕ) → k < whole.tables.reading.counts.trams → entry (whole_network whole) (tram_line (whole_network whole) k) 0 ≤ max_signals
+-- so many trams, which name signals
+pub record TramsAsked (trams : List Tram) (count : ℕ) : Type 0 where
+  pub size : length trams ≡ max_trams
+  pub few : count ≤ max_trams
+  pub signals : (k : ℕ) → k < count → (tram_at trams k).signal ≤ max_signals
 
 -- `G` lines that have passed, and the table of their signals
 pub record SignalsAsked (whole : Whole) (at : ℕ) : Type 0 where

@@ -21,7 +21,8 @@ ghost use Rattle.split_text.specs.Border.{side_number, end_on, added_at, BorderA
 ghost use Rattle.split_text.specs.Filling.{Asks, Gives, Filled, FillAsked};
 
 use network_tables::{
-    Counts, LINE_SIZE, MAX_LINKS, Movement, NetworkTables, SIGNAL_FIELDS, STEP_SIZE, TRAM_FIELDS,
+    Counts, LINE_SIZE, MAX_LINKS, MAX_TRAMS, Movement, NetworkTables, SIGNAL_FIELDS, STEP_SIZE,
+    Tram,
 };
 use network_writer::Places;
 use split_tables::{HalfTables, Whole};
@@ -49,17 +50,13 @@ fn signal_number(half: &HalfTables, signal: usize) -> u32
 }
 
 // How many `T` lines follow their signal into the half.
-fn count_trams(whole: &Whole, half: &HalfTables) -> usize
-    requires { TramsAsked whole.now }
-    ensures { (result ≡ rank (tram_in (whole_network whole.now) half.now) whole.now.tables.reading.counts.trams) × (result ≤ whole.now.tables.reading.counts.trams) }
+fn count_trams(trams: &[Tram], count: usize, half: &HalfTables) -> usize
+    requires { TramsAsked trams.now count }
+    ensures { (result ≡ rank (tram_in trams.now half.now) count) × (result ≤ count) }
 {
-    let reading = whole.tables.reading;
-    let mut tram = [0u32; TRAM_FIELDS];
-    let mut line = reading.trams_at;
     let mut found = 0;
-    for _ in 0..reading.counts.trams {
-        line = network_tables::read_again(whole.network, line, b'T', &mut tram, TRAM_FIELDS);
-        let number = signal_number(half, tram[0] as usize);
+    for k in 0..count {
+        let number = signal_number(half, trams[k].signal as usize);
         found += usize::from(number != 0);
     }
     found
@@ -85,18 +82,15 @@ fn put_counts(counts: Counts, trams: usize, half: &HalfTables, out: &mut [u8]) -
 }
 
 // Writes the `T` lines that follow their signal into the half.
-fn put_trams(whole: &Whole, half: &HalfTables, out: &mut [u8], at: usize) -> usize
-    requires { TramsAsked whole.now × Early whole.now.tables.reading.counts.trams at }
-    ensures { Put whole.now.tables.reading.counts.trams (line_texts letter_t (picked whole.now.tables.reading.counts.trams (tram_in (whole_network whole.now) half.now) (tram_row (whole_network whole.now) half.now))) at out.old out.new result }
+fn put_trams(trams: &[Tram], count: usize, half: &HalfTables, out: &mut [u8], at: usize) -> usize
+    requires { TramsAsked trams.now count × Early count at }
+    ensures { Put count (line_texts letter_t (picked count (tram_in trams.now half.now) (tram_row trams.now half.now))) at out.old out.new result }
 {
-    let reading = whole.tables.reading;
-    let mut tram = [0u32; TRAM_FIELDS];
-    let mut line = reading.trams_at;
     let mut next = at;
-    for _ in 0..reading.counts.trams {
-        line = network_tables::read_again(whole.network, line, b'T', &mut tram, TRAM_FIELDS);
-        let number = signal_number(half, tram[0] as usize);
-        let row = [number, tram[1], tram[2], tram[3]];
+    for k in 0..count {
+        let tram = trams[k];
+        let number = signal_number(half, tram.signal as usize);
+        let row = [number, tram.phase, tram.first_step, tram.last_step];
         next = put_kept(number, b'T', &row, out, next);
     }
     next
@@ -366,9 +360,13 @@ pub fn put_network(whole: &Whole, half: &HalfTables, out: &mut [u8]) -> usize
     let tables = &whole.tables;
     let rate = |j| tables.movements[j].rate;
     let rates = add_border(tables, half, Side::From, rate); // exit rate of the link that it leaves
-    let trams = count_trams(whole, half);
-    let end = put_counts(tables.reading.counts, trams, half, out);
-    let end = put_trams(whole, half, out, end);
+    let reading = tables.reading;
+    let count = reading.counts.trams;
+    let mut trams = [Tram::default(); MAX_TRAMS];
+    network_trams::load_trams(whole.network, reading.trams_at, count, &mut trams);
+    let found = count_trams(&trams, count, half);
+    let end = put_counts(reading.counts, found, half, out);
+    let end = put_trams(&trams, count, half, out, end);
     let end = put_signals(whole, half, out, end);
     let end = put_links(tables, &rates, half, out, end);
     let end = put_movements(tables, half, out, end);

@@ -1,6 +1,8 @@
 -- `split_text::count_trams` meets its contract.
-use Rattle.split_text.proofs.Lines.{TramsFound}
+use Rattle.base_laws.proofs.Kit.{◌≡◌}
+use Rattle.model_split.specs.Numbering.{rank}
+use Rattle.split_text.specs.Rows.{tram_in}
 use Rattle.split_text.proofs.count_trams.Given as goal
 
-abbrev pub invariant-loop : goal.invariant-loop
-invariant-loop l = TramsFound l.whole l.half l.tram l.line l.found l.counter
+abbrev pub invariant-loop-k : goal.invariant-loop-k
+invariant-loop-k l = l.found ≡ rank (tram_in l.trams l.half) l.k

@@ -1,9 +1,9 @@
-use Rattle.base_laws.proofs.Kit.{refl}
-use Rattle.split_text.proofs.Lines.{trams-none, trams-next}
+use Rattle.split_text.proofs.Picked.{picks-none}
+use Rattle.split_text.proofs.Lines.{trams-next}
 use Rattle.split_text.proofs.put_trams.Goals as goal
 
-pub loop-init : goal.loop-init
-loop-init c = trams-none c.requires.0 _ _ _ refl
+pub loop-k-init : goal.loop-k-init
+loop-k-init c = search picks-none
 
-pub loop-preserved : goal.loop-preserved
-loop-preserved c = trams-next c.requires.0 _ c.loop.invariant.at-line c.loop-test.true c.read_again-line.ensures c.signal_number-number.ensures c.loop.invariant.picks c.put_kept-next.ensures
+pub loop-k-preserved : goal.loop-k-preserved
+loop-k-preserved c = trams-next _ _ _ c.signal_number-number.ensures c.loop-k.invariant c.put_kept-next.ensures
