@@ -1,5 +1,5 @@
 -- The masks of one signal, step by step, and those of all signals: one law for each way through a turn.
-use Rattle.base_laws.proofs.Kit.{ℕ, suc, ◌+◌, ◌*◌, ◌-◌, ◌^◌, ◌≤◌, ◌<◌, ◌≡◌, refl, sym, ap, ◌∙◌, Bool, true, false, not, true≢false, ◌⊎◌, inl, inr, ◌≢◌, List, add-one, eq-or-lt_of_le, arith, le-leb, lt-leb, eq-eqb, ne_eqb, eqb, length, get_or, set, length-set, get_or-set_same, get_or-set_other}
+use Rattle.base_laws.proofs.Kit.{ℕ, zero, suc, ◌+◌, ◌*◌, ◌-◌, ◌^◌, ◌≤◌, ◌<◌, ◌≡◌, refl, sym, ap, ap₂, ◌∙◌, Bool, true, false, not, ◌&&◌, and-true, true≢false, ◌⊎◌, inl, inr, List, [], ◌∷◌, add-one, eq-or-lt_of_le, arith, le-leb, lt-leb, eqb, length, take, take-suc, get_or, set, length-set, get_or-set_same, get_or-set_other}
 use Rattle.base_search.specs.declared.Refusal.{Refusal}
 use Rattle.base_search.specs.Checks.{refusal, Checks, check, checked, verdict}
 use Rattle.base_laws.specs.Test.{◌and◌, every}
@@ -7,7 +7,7 @@ use Rattle.model.specs.declared.Signal.{Signal}
 use Rattle.model.specs.Network.{max_signals}
 use Rattle.network_tables.specs.declared.Counts.{Counts}
 use Rattle.network_tables.specs.declared.Tram.{Tram}
-use Rattle.network_tables.specs.Fields.{tram_at, signal_at}
+use Rattle.network_tables.specs.Fields.{tram_by, tram_at, signal_at}
 use Rattle.network_tables.specs.Blocks.{PassedTo}
 use Rattle.network_tables.proofs.Blocks.{passed_none, passed-all, passed-stop, passed-next}
 use Rattle.sheet_lines.specs.Reading.{number_in}
@@ -18,6 +18,8 @@ use Rattle.sheet_writer.specs.Tables.{RunAt, NextAsked, NextRun, time_in, mask_t
 use Rattle.sheet_writer.specs.Stages.{CyclesAsked, MasksGot}
 use Rattle.sheet_writer.proofs.Cycle.{run-phase, fits-run}
 use Rattle.base_laws.proofs.Tests.{every-not}
+use Rattle.std.specs.List.{list_all}
+use Rattle.std.proofs.lemmas.List.Folds.{list_all-append}
 use Rattle.std.specs.Prelude.{Ok, Err}
 
 -- ---- one signal: the first n steps fit, their masks are set, and this run shows next
@@ -98,29 +100,17 @@ module _ {table : List ℕ} {start phases : ℕ} {times : List ℕ} {steps r : �
             shown j (inl w) = rw w (get_or-set_same masks (8 * n + r) m 0 place_inside ∙ e ∙ ap (λ y. 2 ^ (y - 1)) inv.at.phase)
             shown j (inr w) = get_or-set_other masks (8 * n + r) (8 * j + r) m 0 (λ y. omega arith) ∙ inv.column.shows j w
 
--- ---- the trams: none of the first k is for the signal
-abbrev is_free : List Tram → ℕ → ℕ → Bool
-is_free trams r k = not (eqb (tram_at trams k).signal (suc r))
+-- ---- the trams: none of them is for the signal
+abbrev pub is_free : ℕ → Tram → Bool
+is_free r tram = not (eqb tram.signal (suc r))
 
-pub record FreeTo (trams : List Tram) (r k : ℕ) : Type 0 where
-  pub none : every k (is_free trams r) ≡ true
-
-pub trams-none : (trams : List Tram) (r : ℕ) → FreeTo trams r 0
-unfolding every
-trams-none trams r = record { none = refl }
-
-module _ {trams : List Tram} {r k : ℕ} (inv : FreeTo trams r k) where
-  pub trams-all : {count : ℕ} → k ≡ count → true ≡ has_no_tram_in trams count r
-  unfolding has_no_tram_in
-  trams-all e = sym (rw e at inv.none)
-
-  pub trams-hit : {count : ℕ} → k < count → (tram_at trams k).signal ≡ r + 1 → false ≡ has_no_tram_in trams count r
-  unfolding has_no_tram_in
-  trams-hit {count} h z = sym (every-not count (is_free trams r) k h (ap not (eq-eqb _ _ (omega (arith, z)))))
-
-  pub trams-next : ((tram_at trams k).signal ≡ r + 1 → ⊥) → FreeTo trams r (k + 1)
-  unfolding every ◌and◌
-  trams-next z = record { none = rw (add-one, inv.none) (ap not (ne_eqb _ _ (λ y. z (omega (arith, y))))) }
+pub trams-all : (trams : List Tram) (r count : ℕ) → count ≤ length trams → list_all (is_free r) (take count trams) ≡ has_no_tram_in trams count r
+unfolding has_no_tram_in every ◌and◌
+trams-all trams r zero h = refl
+trams-all trams r (suc k) h =
+    let free = is_free r in
+    ap (list_all free) (take-suc trams k (tram_by (λ k. 0)) (omega arith)) ∙ list_all-append free (take k trams) (tram_at trams k ∷ [])
+    ∙ ap₂ ◌&&◌ (trams-all trams r k (omega arith)) (and-true _)
 
 -- ---- all signals: 35 of the first r passes, and their masks are held
 module _ (counts : Counts) (trams : List Tram) (signals : List Signal) (table times : List ℕ) where

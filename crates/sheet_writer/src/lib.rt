@@ -104,12 +104,9 @@ fn has_no_tram(trams: &[Tram], count: usize, r: usize) -> bool
     requires { (count ≤ length trams.now) × (r ≤ 8) }
     ensures { result ≡ has_no_tram_in trams.now count r }
 {
-    for k in 0..count {
-        if trams[k].signal as usize == r + 1 {
-            return false;
-        }
-    }
-    true
+    trams[..count]
+        .iter()
+        .all(|tram| tram.signal as usize != r + 1)
 }
 
 // Refusal 35 by rising signal, a signal with tram lines or with a run that ends before the horizon but on no boundary, and the masks of all steps.

@@ -1,16 +1,12 @@
-use Rattle.std.proofs.Common.{rules}
-use Rattle.base_laws.proofs.Kit.{arith}
-use Rattle.sheet_writer.proofs.Columns.{trams-none, trams-hit, trams-next, trams-all}
+-- `sheet_writer::has_no_tram` meets its contract.
+use Rattle.std.proofs.Common.{◌∙◌, rules, tests, take}
+use Rattle.std.proofs.lemmas.Iterator.{YieldsList-from_slice}
+use Rattle.std.proofs.lemmas.Iterator.Search.{all_from_yields_List}
+use Rattle.sheet_writer.proofs.Columns.{is_free, trams-all}
 use Rattle.sheet_writer.proofs.has_no_tram.Goals as goal
 
-pub loop-k-init : goal.loop-k-init
-loop-k-init c = trams-none _ _
-
-pub returns-then-trams-k : goal.returns-then-trams-k
-returns-then-trams-k c = trams-hit c.loop-k.invariant (omega arith) c.if-trams-k.true
-
-pub loop-k-preserved : goal.loop-k-preserved
-loop-k-preserved c = search (trams-next, rules)
-
 pub returns : goal.returns
-returns c = trams-all c.loop-k.invariant (omega arith)
+returns c =
+    let a = c.args in
+    all_from_yields_List (is_free a.r) _ _ _ c.all.ensures.ran (YieldsList-from_slice (take a.count a.trams.now) (search rules)) (λ t b q k. search (rules, tests))
+    ∙ trams-all a.trams.now a.r a.count c.requires.0
