@@ -1,6 +1,6 @@
 -- The trams that are left behind a boundary, one after another.
-use Rattle.base_laws.proofs.Kit.{ℕ, zero, suc, ◌+◌, ◌-◌, ◌≤◌, ◌<◌, max, min, ◌≡◌, refl, sym, ap, ap₂, ◌∙◌, Bool, true, false, cond, List, [], ◌∷◌, ◌++◌, append-nil, dec_le, add-one, arith, lt-ltb, le-ltb, le-leb, lt-leb, length, get_or, take, drop, length-append, length-take, length-drop, take-suc, take_all, get_or-take, get_or-drop}
-use Rattle.text_reader.specs.Lines.{Line, lines, no_line, number}
+use Rattle.base_laws.proofs.Kit.{ℕ, zero, suc, ◌+◌, ◌-◌, ◌≤◌, ◌<◌, max, min, ◌≡◌, refl, sym, ap, ap₂, ◌∙◌, Bool, true, false, cond, List, [], ◌∷◌, ◌++◌, append-nil, dec_le, add-one, arith, lt-ltb, le-ltb, le-leb, lt-leb, ltb, length, get_or, take, drop, length-append, length-take, length-drop, take-suc, take_all, get_or-take, get_or-drop}
+use Rattle.text_reader.specs.Lines.{Line, no_line, number}
 use Rattle.text_writer.specs.Records.{record_text}
 use Rattle.model.specs.Network.{entry, step_count, tram_count, tram_line, trams as tram_lines}
 use Rattle.model.specs.Table.{is_form, letter_t}
@@ -15,7 +15,8 @@ use Rattle.network_writer.proofs.Put.{put-none, puts-more}
 use Rattle.network_writer.proofs.Texts.{texts-more}
 use Rattle.carry.specs.Trams.{left_of, all_left}
 use Rattle.std.specs.Prelude.{Option, Some, None, is_some, option_to_list}
-use Rattle.std.specs.Int.{from_bool}
+use Rattle.std.specs.List.{count_by}
+use Rattle.std.proofs.lemmas.List.Sums.{count_by_more_yes, count_by_more_no}
 
 -- ---- one tram
 module _ (b : ℕ) (tram : Tram) where
@@ -36,21 +37,40 @@ pub one-put : {left : List (List ℕ)} {row : List ℕ} → row ∷ [] ≡ left 
 unfolding line_texts
 one-put e p = rw (← e, append-nil) p
 
--- a tram is counted where a line is left of it
-pub counted-one : {left : List (List ℕ)} (o : Option (List ℕ)) → option_to_list o ≡ left → {x : ℕ} → x ≡ from_bool (is_some o) → (x ≡ length left) × (x ≤ 1)
-counted-one (Some row) e d = rw (← e, d) (refl, omega arith)
-counted-one None e d = rw (← e, d) (refl, omega arith)
+-- ---- the first k trams: one is counted where its last step is behind the boundary
+abbrev pub is_left : ℕ → Tram → Bool
+is_left b tram = ltb b tram.last_step
 
--- ---- the first k trams
+pub told_left : (b : ℕ) (tram : Tram) (o : Option (List ℕ)) → option_to_list o ≡ left_of b tram → is_some o ≡ is_left b tram
+unfolding left_of
+told_left b tram o e = go (is_left b tram) refl o e
+  where
+    go : (t : Bool) → is_left b tram ≡ t → (o : Option (List ℕ)) → option_to_list o ≡ left_of b tram → is_some o ≡ t
+    go true h (Some row) e = refl
+    go true h None e = let one : 0 ≡ 1 = rw h at (ap length e) in absurd (omega (arith, one))
+    go false h (Some row) e = let none : 1 ≡ 0 = rw h at (ap length e) in absurd (omega (arith, none))
+    go false h None e = refl
+
+pub counted : (b : ℕ) (trams : List Tram) (count : ℕ) → count ≤ length trams → count_by (is_left b) (take count trams) ≡ length (all_left b trams count)
+unfolding all_left
+counted b trams zero h = refl
+counted b trams (suc k) h = go (is_left b (tram_at trams k)) refl (counted b trams k (omega arith))
+  where
+    more : length (all_left b trams k ++ left_of b (tram_at trams k)) ≡ length (all_left b trams k) + length (left_of b (tram_at trams k))
+    more = length-append (all_left b trams k) (left_of b (tram_at trams k))
+
+    go : (t : Bool) → is_left b (tram_at trams k) ≡ t → count_by (is_left b) (take k trams) ≡ length (all_left b trams k)
+        → count_by (is_left b) (take (suc k) trams) ≡ length (all_left b trams k ++ left_of b (tram_at trams k))
+    go true e c =
+        let one : length (left_of b (tram_at trams k)) ≡ 1 = unfold left_of in rw e refl in
+        let m : count_by (is_left b) (take (suc k) trams) ≡ count_by (is_left b) (take k trams) + 1 = rw (sym (add-one k)) (count_by_more_yes (is_left b) trams k (tram_by (λ k. 0)) (omega arith) e) in
+        m ∙ omega (arith, c, more, one)
+    go false e c =
+        let none : length (left_of b (tram_at trams k)) ≡ 0 = unfold left_of in rw e refl in
+        let m : count_by (is_left b) (take (suc k) trams) ≡ count_by (is_left b) (take k trams) = rw (sym (add-one k)) (count_by_more_no (is_left b) trams k (tram_by (λ k. 0)) (omega arith) e) in
+        m ∙ omega (arith, c, more, none)
+
 module _ (b : ℕ) (trams : List Tram) where
-  pub count-none : 0 ≡ length (all_left b trams 0)
-  unfolding all_left
-  count-none = refl
-
-  pub count-next : {left k x : ℕ} → left ≡ length (all_left b trams k) → left ≤ k → (x ≡ length (left_of b (tram_at trams k))) × (x ≤ 1) → (left + x ≡ length (all_left b trams (k + 1))) × (left + x ≤ k + 1)
-  unfolding all_left
-  count-next {k = k} c s (e, o) = (rw add-one (omega (arith, length-append (all_left b trams k) (left_of b (tram_at trams k)))), omega arith)
-
   pub trams-none : (at : ℕ) (old : List ℕ) → Put 0 (line_texts letter_t (all_left b trams 0)) at old old at
   unfolding all_left line_texts
   trams-none at old = put-none at old

@@ -97,11 +97,10 @@ fn count_trams(trams: &[Tram], count: usize, boundary: u32) -> usize
     requires { count ≤ length trams.now }
     ensures { result ≡ length (all_left boundary trams.now count) }
 {
-    let mut left = 0;
-    for k in 0..count {
-        left += usize::from(rest_of(trams[k], boundary).is_some());
-    }
-    left
+    trams[..count]
+        .iter()
+        .filter(|tram| rest_of(**tram, boundary).is_some())
+        .count()
 }
 
 // Writes what is left of a tram behind a boundary.
@@ -121,8 +120,8 @@ fn put_trams(trams: &[Tram], count: usize, boundary: u32, out: &mut [u8], at: us
     ensures { Put count (line_texts letter_t (all_left boundary trams.now count)) at out.old out.new result }
 {
     let mut end = at;
-    for k in 0..count {
-        end = put_tram(trams[k], boundary, out, end);
+    for tram in &trams[..count] {
+        end = put_tram(*tram, boundary, out, end);
     }
     end
 }
@@ -165,9 +164,9 @@ fn put_signals(signals: &[Signal], count: usize, out: &mut [u8], at: usize) -> u
     ensures { Put count (record_texts letter_g count (λ k. signal_numbers (signal_at signals.now k))) at out.old out.new result }
 {
     let mut end = at;
-    for k in 0..count {
-        let row = signal_row(&signals[k]);
-        let width = 6 + 2 * signals[k].phases as usize;
+    for signal in &signals[..count] {
+        let row = signal_row(signal);
+        let width = 6 + 2 * signal.phases as usize;
         end = put_line(b'G', &row[..width], out, end);
     }
     end
@@ -179,8 +178,7 @@ fn put_links(links: &[Link], waiting: &[u32], count: usize, out: &mut [u8], at: 
     ensures { Put count (record_texts letter_q count (link_row links.now waiting.now)) at out.old out.new result }
 {
     let mut end = at;
-    for i in 0..count {
-        let link = links[i];
+    for (i, link) in links[..count].iter().enumerate() {
         let row = [
             link.capacity,
             link.travel_time,
@@ -201,8 +199,7 @@ fn put_movements(movements: &[Movement], count: usize, out: &mut [u8], at: usize
     ensures { Put count (record_texts letter_m count (movement_row movements.now)) at out.old out.new result }
 {
     let mut end = at;
-    for j in 0..count {
-        let movement = movements[j];
+    for movement in &movements[..count] {
         let row = [movement.from, movement.to, movement.rate, movement.share];
         end = put_line(b'M', &row, out, end);
     }

@@ -5,5 +5,5 @@ use Rattle.model_carry.specs.Part.{signal_numbers}
 use Rattle.network_writer.proofs.Put.{LinesTo}
 use Rattle.carry.proofs.put_signals.Given as goal
 
-abbrev pub invariant-loop-k : goal.invariant-loop-k
-invariant-loop-k l = LinesTo letter_g (λ r. signal_numbers (signal_at l.signals r)) l.count l.at l.initial.out l.out l.end l.k
+abbrev pub invariant-loop-signal : goal.invariant-loop-signal
+invariant-loop-signal l = LinesTo letter_g (λ r. signal_numbers (signal_at l.signals r)) l.count l.at l.initial.out l.out l.end l.signal-index

@@ -5,5 +5,5 @@ use Rattle.network_writer.specs.Texts.{line_texts}
 use Rattle.carry.specs.Trams.{all_left}
 use Rattle.carry.proofs.put_trams.Given as goal
 
-abbrev pub invariant-loop-k : goal.invariant-loop-k
-invariant-loop-k l = Put l.k (line_texts letter_t (all_left l.boundary l.trams l.k)) l.at l.initial.out l.out l.end
+abbrev pub invariant-loop-tram : goal.invariant-loop-tram
+invariant-loop-tram l = Put l.tram-index (line_texts letter_t (all_left l.boundary l.trams l.tram-index)) l.at l.initial.out l.out l.end
