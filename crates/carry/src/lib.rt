@@ -166,6 +166,7 @@ fn put_signals(signals: &[Signal], count: usize, out: &mut [u8], at: usize) -> u
     let mut end = at;
     for signal in &signals[..count] {
         let row = signal_row(signal);
+        // At most eight phases: the cast loses nothing.
         let width = 6 + 2 * signal.phases as usize;
         end = put_line(b'G', &row[..width], out, end);
     }
@@ -259,6 +260,7 @@ fn put_network(
     let reading = tables.reading;
     let counts = reading.counts;
     let boundary = standing.boundary;
+    // No cast loses anything: the boundary is at most the number of steps.
     let before = boundary as u32;
     let ledger = standing.ledger;
     let left = count_trams(trams, counts.trams, before);
@@ -384,6 +386,7 @@ pub fn carry_on(
         movements: &movements,
         times: &times,
     };
+    // Every `u32` fits a `usize`: the cast loses nothing.
     carry_from(
         network,
         boundary as usize,

@@ -30,6 +30,7 @@ fn valid_numbers(table: &[u32], start: usize, signal: &Signal, offset: bool) -> 
     requires { NumbersAsked table.now start signal.now (from_bool offset) }
     ensures { result ≡ valid_numbers (from_bool offset) signal.now (number_in table.now start) }
 {
+    // At most eight phases: the cast loses nothing.
     let phases = signal.phases as usize;
     let mut sum: u32 = 0;
     for k in 0..phases {
@@ -56,6 +57,7 @@ fn read_line(
     ensures { LineRead signal.now r (from_bool offset) text.now at table.old result table.new }
 {
     let start = SHEET_FIELDS * r;
+    // At most eight phases: the cast loses nothing.
     let width = signal.phases as usize + usize::from(offset);
     let next = network_tables::read_row(text, at, b'F', table, start, width)?;
     valid_numbers(table, start, signal, offset).then_some(next)

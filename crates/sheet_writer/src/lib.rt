@@ -41,6 +41,7 @@ fn first_run(table: &[u32], start: usize, phases: usize) -> Run
         rest -= table[start + k];
         k += 1;
     }
+    // At most eight phases: the cast loses nothing.
     Run {
         phase: (k + 1) as u32,
         remaining: table[start + k] - rest,
@@ -87,6 +88,7 @@ fn fill_column(
     requires { ColumnAsked table.now start phases times.now steps r masks.old }
     ensures { ColumnGot (number_in table.now start) phases times.now steps r masks.old result masks.new }
 {
+    // At most eight phases: the cast loses nothing.
     let mut run = first_run(table, start, phases as usize);
     for n in 0..steps {
         let seconds = step_arrivals::seconds(times, n);
@@ -104,6 +106,7 @@ fn has_no_tram(trams: &[Tram], count: usize, r: usize) -> bool
     requires { (count ≤ length trams.now) × (r ≤ 8) }
     ensures { result ≡ has_no_tram_in trams.now count r }
 {
+    // Every `u32` fits a `usize`: the cast loses nothing.
     trams[..count]
         .iter()
         .all(|tram| tram.signal as usize != r + 1)
