@@ -75,8 +75,8 @@ pub fn read_sheet(
     ensures { SheetRead signals.now count (from_bool offset) text.now result table.new }
 {
     let mut place = 0;
-    for r in 0..count {
-        let Some(next) = read_line(text, place, &signals[r], r, offset, table) else {
+    for (r, signal) in signals[..count].iter().enumerate() {
+        let Some(next) = read_line(text, place, signal, r, offset, table) else {
             return Err(Refusal::new(33, r + 1, 0));
         };
         place = next;
