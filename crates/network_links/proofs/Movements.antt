@@ -1,5 +1,5 @@
 -- The tests of movements by their table are the paper's, and the turns of the loops over the `M` lines and over the links' shares.
-use Rattle.base_laws.proofs.Kit.{ℕ, zero, suc, ◌+◌, ◌-◌, ◌≤◌, ◌<◌, ◌≡◌, refl, sym, ap, fun_ext, ◌∙◌, Bool, true, false, not, ◌&&◌, ◌||◌, List, add-one, arith, eq-eqb, ne_eqb, not-true, not-false, ltb, eqb, eqb·suc-zero, length, get_or}
+use Rattle.base_laws.proofs.Kit.{ℕ, zero, suc, ◌+◌, ◌-◌, ◌≤◌, ◌<◌, ◌≡◌, refl, sym, ap, fun_ext, ◌∙◌, Bool, true, false, ◌&&◌, ◌||◌, List, add-one, arith, eq-eqb, ne_eqb, ltb, eqb, eqb·suc-zero, length, get_or}
 use Rattle.base_search.specs.declared.Refusal.{Refusal}
 use Rattle.base_search.specs.Checks.{Verdict, refusal, each, checked, verdict}
 use Rattle.text_reader.specs.Lines.{Line, lines}
@@ -21,9 +21,9 @@ use Rattle.network_tables.proofs.Tables.{from-link-at, share-at}
 use Rattle.network_tables.proofs.Places.{past-after-movements}
 use Rattle.network_tables.proofs.Blocks.{passed-all, passed-stop, passed-next, block-end, records-judged}
 use Rattle.network_tables.proofs.Stages.{judged-refused, judged-passed, reached-next}
-use Rattle.network_links.specs.Movements.{pair_rises_in, valid_movement_in, last_movement_in, share_sum_in, valid_shares_in, share_checks_in}
+use Rattle.network_links.specs.Movements.{pair_rises_in, valid_movement_in, last_movement_in, share_sum_in, valid_shares_in, share_checks_in, LastMovement, BadShares}
 use Rattle.network_links.specs.Stages.{MovementsAsked, MovementsHeld, SharesAsked}
-use Rattle.std.specs.Prelude.{Result, Ok, Err}
+use Rattle.std.specs.Prelude.{Option, Some, None, Result, Ok, Err}
 use Rattle.std.specs.Borrow.{Bor}
 
 -- ---- the turns of `pair_rises`
@@ -39,32 +39,38 @@ module _ (movements : List Movement) (j : ℕ) where
   pair-later n = rw (ne_eqb j 0 n)
 
 -- ---- the turns of `last_movement`
-module _ (movements : List Movement) (link j : ℕ) where
-  pub last-here : link_in movements 0 j ≡ link → {last : ℕ} → last ≡ j + 1 → last ≡ last_movement_in movements (j + 1) link
+module _ (movements : List Movement) (link : ℕ) where
+  pub last-none : LastMovement movements 0 link None
   unfolding last_movement_in
-  last-here e q = q ∙ rw (add-one j, eq-eqb (link_in movements 0 j) link e)
+  last-none = refl
 
-  pub last-other : (link_in movements 0 j ≡ link → ⊥) → {last before : ℕ} → last ≡ before → before ≡ last_movement_in movements j link → last ≡ last_movement_in movements (j + 1) link
-  unfolding last_movement_in
-  last-other n q e = q ∙ e ∙ rw (add-one j, ne_eqb (link_in movements 0 j) link n)
+  module _ (j : ℕ) where
+    pub last-here : link_in movements 0 j ≡ link → LastMovement movements (j + 1) link (Some j)
+    unfolding last_movement_in
+    last-here e = (omega arith, rw (add-one j, eq-eqb (link_in movements 0 j) link e))
 
--- ---- `valid_shares`
+    same : (link_in movements 0 j ≡ link → ⊥) → last_movement_in movements (j + 1) link ≡ last_movement_in movements j link
+    unfolding last_movement_in
+    same n = rw (add-one j, ne_eqb (link_in movements 0 j) link n)
+
+    pub last-other : (link_in movements 0 j ≡ link → ⊥) → (last : Option ℕ) → LastMovement movements j link last → LastMovement movements (j + 1) link last
+    last-other n None e = same n ∙ e
+    last-other n (Some k) e = (omega (arith, e.0), same n ∙ e.1)
+
+-- ---- `bad_shares`
 module _ (movements : List Movement) (count link : ℕ) {sum : ℕ} (e : sum ≡ share_sum_in movements count link) where
-  pub shares_whole : sum ≡ 1000 → true ≡ valid_shares_in movements count link
+  pub shares_whole : sum ≡ 1000 → BadShares movements count link None
   unfolding valid_shares_in ◌or◌
   shares_whole q = rw (← e, eq-eqb sum 1000 q) (by (eqb (last_movement_in movements count link) 0))
     where
-      by : (b : Bool) → true ≡ (b || true)
+      by : (b : Bool) → (b || true) ≡ true
       by true = refl
       by false = refl
 
-  pub shares-short : (sum ≡ 1000 → ⊥) → {last : ℕ} → last ≡ last_movement_in movements count link → eqb last 0 ≡ valid_shares_in movements count link
+  pub shares-short : (sum ≡ 1000 → ⊥) → (last : Option ℕ) → LastMovement movements count link last → BadShares movements count link last
   unfolding valid_shares_in ◌or◌
-  shares-short n l = rw (← e, ne_eqb sum 1000 n, ← l) (by _)
-    where
-      by : (b : Bool) → b ≡ (b || false)
-      by true = refl
-      by false = refl
+  shares-short n None l = rw (← e, ne_eqb sum 1000 n, l) refl
+  shares-short n (Some j) l = (rw (← e, ne_eqb sum 1000 n, l.1, ne_eqb (j + 1) 0 (λ z. omega arith)) refl, l.0, l.1)
 
 -- by what a movement is made of the numbers of its line
 abbrev pub MadeBy : List ℕ → Movement → Type 0
@@ -116,19 +122,19 @@ module _ {text : List ℕ} {reading : Reading} {movements₀ : List Movement} (a
         })
 
 -- ---- the turns of `check_shares`
-module _ (movements : List Movement) (counts : Counts) {i : ℕ} (inv : PassedTo counts.links (share_checks_in movements counts) i) (h : i < counts.links) {v : Bool}
-    (told : v ≡ valid_shares_in movements counts.movements (i + 1)) where
-  judged-shares : valid_shares_in movements counts.movements (suc i) ≡ v
-  judged-shares = rw (← add-one i) (sym told)
-
-  pub shares-broken : not v ≡ true → {last line : ℕ} → last ≡ last_movement_in movements counts.movements (i + 1) → line ≡ movement_line_in counts last → {q : Refusal} → q ≡ refusal 5 line last
+module _ (movements : List Movement) (counts : Counts) {i : ℕ} (inv : PassedTo counts.links (share_checks_in movements counts) i) (h : i < counts.links) {bad : Option ℕ}
+    (told : BadShares movements counts.movements (i + 1) bad) where
+  pub shares-broken : {last : ℕ} → bad ≡ Some last → {line : ℕ} → line ≡ movement_line_in counts last → {q : Refusal} → q ≡ refusal 5 (line + 1) (last + 1)
       → Err q ≡ verdict (each counts.links (share_checks_in movements counts))
   unfolding verdict share_checks_in checked
-  shares-broken n l p t = rw (t, p, l, add-one i) (sym (passed-stop inv h (rw (judged-shares, not-true v n))))
+  shares-broken {last} b {line} p t =
+      let got = (rw b at told) in
+      let l : line + 1 ≡ movement_line_in counts (last + 1) = omega (arith, p) in
+      rw (t, l, ← got.2) (sym (passed-stop inv h (rw (← add-one i, got.0))))
 
-  pub shares-next : not v ≡ false → PassedTo counts.links (share_checks_in movements counts) (i + 1)
+  pub shares-next : bad ≡ None → PassedTo counts.links (share_checks_in movements counts) (i + 1)
   unfolding verdict share_checks_in checked
-  shares-next n = passed-next inv h (rw (judged-shares, not-false v n))
+  shares-next b = let got = (rw b at told) in passed-next inv h (rw (← add-one i, got))
 
 -- ---- the paper's sums of shares
 module _ {network : List Line} {counts : Counts} {movements : List Movement} (c : CountsHold network counts) (t : MovementTable network movements) where

@@ -1,5 +1,5 @@
 -- The tests of movements by the table of the `M` lines. Links are numbered from 1.
-use Rattle.std.specs.Prelude.{ℕ, zero, suc, ◌+◌, ◌-◌, ◌≤◌, ◌<◌, ◌≡◌, Bool, not, cond, List, ltb, eqb, length, get_or}
+use Rattle.std.specs.Prelude.{ℕ, zero, suc, ◌+◌, ◌-◌, ◌≤◌, ◌<◌, ◌≡◌, Bool, true, false, not, cond, List, Option, MatchOption, ltb, eqb, length, get_or}
 use Rattle.base_search.specs.Checks.{Checks, check}
 use Rattle.model.specs.Network.{max_links, max_movements}
 use Rattle.base_laws.specs.Test.{◌and◌, ◌or◌, within}
@@ -28,6 +28,10 @@ unfoldable pub last_movement_in : List Movement → ℕ → ℕ → ℕ
 last_movement_in movements zero link = 0
 last_movement_in movements (suc m) link = cond (eqb (link_in movements 0 m) link) (suc m) (last_movement_in movements m link)
 
+-- that movement, from 0
+abbrev pub LastMovement : List Movement → ℕ → ℕ → Option ℕ → Type 0
+LastMovement movements m link = λ last. MatchOption last (last_movement_in movements m link ≡ 0) (λ j. (j < m) × (last_movement_in movements m link ≡ j + 1))
+
 -- the sum of the shares of the first m movements that leave a link
 unfoldable pub share_sum_in : List Movement → ℕ → ℕ → ℕ
 share_sum_in movements m link = sum m (λ j. only (eqb (link_in movements 0 j) link) (share_in movements j))
@@ -35,6 +39,12 @@ share_sum_in movements m link = sum m (λ j. only (eqb (link_in movements 0 j) l
 -- 5, after all `M` lines: a link has no movements, or their shares sum to 1000
 unfoldable pub valid_shares_in : List Movement → ℕ → ℕ → Bool
 valid_shares_in movements m link = eqb (last_movement_in movements m link) 0 or eqb (share_sum_in movements m link) 1000
+
+-- where they don't, the link's last movement
+abbrev pub BadShares : List Movement → ℕ → ℕ → Option ℕ → Type 0
+BadShares movements m link = λ last.
+    MatchOption last (valid_shares_in movements m link ≡ true)
+    (λ j. (valid_shares_in movements m link ≡ false) × (j < m) × (last_movement_in movements m link ≡ j + 1))
 
 -- reported at the link's last movement, whose line from 1 is the place of the movement after it
 unfoldable pub share_checks_in : List Movement → Counts → ℕ → Checks

@@ -1,13 +1,13 @@
 // The `Q` and `M` lines of a network text and the sums of the shares: refusals 1, 4 and 5.
 #![tactic(auto)]
 
-ghost use Rattle.std.specs.Prelude.{◌≡◌, ◌+◌, ◌≤◌, ◌<◌};
+ghost use Rattle.std.specs.Prelude.{◌≡◌, ◌+◌};
 ghost use Rattle.base_search.specs.Checks.{each, verdict};
 ghost use Rattle.text_reader.specs.Lines.{lines};
 ghost use Rattle.network_tables.specs.Tables.{Judged};
 ghost use Rattle.network_tables.specs.Blocks.{block_checks, link_block, movement_block};
 ghost use Rattle.network_links.specs.Links.{valid_mask_in, valid_link_in, PhasesKnown};
-ghost use Rattle.network_links.specs.Movements.{pair_rises_in, valid_movement_in, last_movement_in, share_sum_in, valid_shares_in, share_checks_in, MovementsKnown, AddAsked, Added, SumsAsked, ShareSums};
+ghost use Rattle.network_links.specs.Movements.{pair_rises_in, valid_movement_in, share_sum_in, share_checks_in, MovementsKnown, LastMovement, BadShares, AddAsked, Added, SumsAsked, ShareSums};
 ghost use Rattle.network_links.specs.Stages.{LinksAsked, LinksHeld, MovementsAsked, MovementsHeld, SharesAsked};
 
 use base_search::Refusal;
@@ -118,15 +118,15 @@ pub fn read_movements(
     Ok(reading.moved_to(next))
 }
 
-// The number, from 1, of the last movement that leaves a link, numbered from 1; 0 where none does.
-fn last_movement(movements: &[Movement], count: usize, link: usize) -> usize
+// The last movement that leaves a link, numbered from 1.
+fn last_movement(movements: &[Movement], count: usize, link: usize) -> Option<usize>
     requires { MovementsKnown movements.now count }
-    ensures { (result ≡ last_movement_in movements.now count link) × (result ≤ count) }
+    ensures { LastMovement movements.now count link result }
 {
-    let mut last = 0;
+    let mut last = None;
     for j in 0..count {
         if movements[j].from as usize == link {
-            last = j + 1;
+            last = Some(j);
         }
     }
     last
@@ -152,21 +152,20 @@ fn add_shares(movements: &[Movement], count: usize, sums: &mut [u64])
     requires { SumsAsked movements.now count sums.old }
     ensures { ShareSums movements.now count sums.new }
 {
-    for j in 0..count {
-        let movement = movements[j];
+    for &movement in &movements[..count] {
         add_share(movement.from as usize, movement.share, sums);
     }
 }
 
-// Refusal 5: a link has no movements, or their shares sum to 1000.
-fn valid_shares(movements: &[Movement], count: usize, link: usize, sum: u64) -> bool
+// Refusal 5: the last movement of a link whose shares don't sum to 1000.
+fn bad_shares(movements: &[Movement], count: usize, link: usize, sum: u64) -> Option<usize>
     requires { (MovementsKnown movements.now count) × (sum ≡ share_sum_in movements.now count link) }
-    ensures { result ≡ valid_shares_in movements.now count link }
+    ensures { BadShares movements.now count link result }
 {
     if sum == 1000 {
-        return true;
+        return None;
     }
-    last_movement(movements, count, link) == 0
+    last_movement(movements, count, link)
 }
 
 // Refusal 5 after all `M` lines: the shares by rising link, reported at the link's last movement.
@@ -178,9 +177,8 @@ pub fn check_shares(movements: &[Movement], counts: Counts) -> Result<(), Refusa
     let mut sums = [0u64; MAX_LINKS];
     add_shares(movements, count, &mut sums);
     for i in 0..counts.links {
-        if !valid_shares(movements, count, i + 1, sums[i]) {
-            let last = last_movement(movements, count, i + 1);
-            return Err(Refusal::new(5, counts.movement_line(last), last));
+        if let Some(last) = bad_shares(movements, count, i + 1, sums[i]) {
+            return Err(Refusal::new(5, counts.movement_line(last) + 1, last + 1));
         }
     }
     Ok(())

@@ -6,8 +6,8 @@ use Rattle.network_links.proofs.check_shares.Goals as goal
 pub loop-i-init : goal.loop-i-init
 loop-i-init c = search (passed_none, rules)
 
-pub returns-then-not-valid_shares : goal.returns-then-not-valid_shares
-returns-then-not-valid_shares c = search (shares-broken, rules)
+pub returns-in-Some : goal.returns-in-Some
+returns-in-Some c = search (shares-broken, rules)
 
 pub loop-i-preserved : goal.loop-i-preserved
 loop-i-preserved c = search (shares-next, rules)

@@ -1,13 +1,10 @@
 use Rattle.std.proofs.Common.{rules}
-use Rattle.base_laws.proofs.Kit.{refl}
-use Rattle.network_links.specs.Movements.{last_movement_in}
-use Rattle.network_links.proofs.Movements.{last-here, last-other}
+use Rattle.network_links.proofs.Movements.{last-none, last-here, last-other}
 use Rattle.network_links.proofs.last_movement.Goals as goal
 use Rattle.network_links.proofs.last_movement.Goals.{then-movements-j, else-movements-j}
 
 pub loop-j-init : goal.loop-j-init
-unfolding last_movement_in
-loop-j-init c = (search rules, refl, search rules)
+loop-j-init c = search (last-none, rules)
 
 pub loop-j-preserved : goal.loop-j-preserved
 loop-j-preserved c = elim c.if-movements-j.branch [

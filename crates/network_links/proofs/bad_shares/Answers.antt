@@ -1,7 +1,7 @@
--- `network_links::valid_shares` meets its contract.
+-- `network_links::bad_shares` meets its contract.
 use Rattle.std.proofs.Common.{rules}
 use Rattle.network_links.proofs.Movements.{shares_whole, shares-short}
-use Rattle.network_links.proofs.valid_shares.Goals as goal
+use Rattle.network_links.proofs.bad_shares.Goals as goal
 
 pub returns-then-sum-eq1000 : goal.returns-then-sum-eq1000
 returns-then-sum-eq1000 c = search (shares_whole, rules)
