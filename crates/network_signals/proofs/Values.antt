@@ -1,5 +1,7 @@
--- A signal by its numbers: the tests of its values, one turn of a loop over its phases, and what the shortest time says.
-use Rattle.base_laws.proofs.Kit.{ℕ, zero, suc, ◌+◌, ◌-◌, ◌≤◌, ◌<◌, ◌≡◌, refl, sym, ap, ◌∙◌, fun_ext, Bool, true, false, ◌&&◌, ◌||◌, not, and-true, and-false, and_assoc, List, add-one, arith, lt-leb, leb-true, leb-false, le-leb, leb, eqb, get_or, min}
+-- A signal by its numbers: the tests of its values, and what the shortest time says.
+use Rattle.base_laws.proofs.Kit.{ℕ, zero, suc, ◌-◌, ◌≤◌, ◌<◌, ◌≡◌, refl, sym, ap, ◌∙◌, fun_ext, Bool, true, false, ◌&&◌, ◌||◌, not, and-true, and-false, and_assoc, List, add-one, arith, lt-leb, leb-true, leb-false, le-leb, leb, eqb, length, get_or, take, min}
+use Rattle.std.specs.List.{fold}
+use Rattle.std.proofs.lemmas.List.Sums.{fold_more}
 use Rattle.text_reader.specs.Lines.{Line}
 use Rattle.model.specs.declared.Signal.{Signal}
 use Rattle.base_laws.specs.Test.{◌and◌, ◌or◌, within, every}
@@ -9,11 +11,12 @@ use Rattle.model.specs.Rules.{valid_signal}
 use Rattle.network_tables.specs.Fields.{signal_by}
 use Rattle.network_signals.specs.Signals.{valid_time, valid_times, shortest_time}
 
--- the greatest time of one phase more
-pub shortest-more : (s : Signal) (k x so_far shortest : ℕ) → so_far ≡ shortest_time s k x → shortest ≡ min so_far (get_or s.greatest k 0)
-    → shortest ≡ shortest_time s (k + 1) x
+-- the shortest time is the least over the list of the greatest times
+pub shortest-fold : (s : Signal) (n x : ℕ) → n ≤ length s.greatest → fold min x (take n s.greatest) ≡ shortest_time s n x
 unfolding shortest_time
-shortest-more s k x so_far shortest e t = rw (add-one, ← e) t
+shortest-fold s zero x h = refl
+shortest-fold s (suc n) x h =
+    rw (← add-one n, fold_more min x s.greatest n 0 (omega arith), shortest-fold s n x (omega arith)) refl
 
 -- a signal whose shown phase is none of its phases
 pub shown-below : (s : Signal) → s.shown < 1 → valid_signal s ≡ false

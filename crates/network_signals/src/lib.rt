@@ -19,9 +19,10 @@ use network_tables::{
     SIGNAL_FIELDS,
 };
 
-// How many numbers an `N` line has, and a `G` line before those of its phases.
+// How many numbers an `N` line has.
 const COUNT_FIELDS: usize = 6;
 
+// How many numbers a `G` line has before those of its phases.
 const HEAD_FIELDS: usize = 6;
 
 // Refusal 2.
@@ -31,7 +32,7 @@ fn valid_counts(counts: Counts) -> bool
     ((1 <= counts.links) & (counts.links <= MAX_LINKS))
         & (counts.signals <= MAX_SIGNALS)
         & (counts.movements <= MAX_MOVEMENTS)
-        & ((1 <= counts.steps) & (counts.steps <= MAX_STEPS))
+        & (1..=MAX_STEPS).contains(&counts.steps)
         & (counts.trams <= MAX_TRAMS)
         & (counts.past <= MAX_PAST)
 }
@@ -79,7 +80,7 @@ pub fn read_counts(text: &[u8]) -> Result<Reading, Refusal>
 fn valid_time(least: u32, greatest: u32) -> bool
     ensures { result ≡ valid_time least greatest }
 {
-    (1 <= least) & ((least <= greatest) & (greatest <= 3600))
+    (1 <= least) & (least..=3600).contains(&greatest)
 }
 
 // Refusal 3, the times of every phase.
@@ -105,9 +106,9 @@ fn valid_signal(signal: Signal) -> bool
     let at = signal.shown as usize - 1;
     valid_times(signal)
         & (1 <= signal.least_cycle)
-        & ((signal.least_cycle <= signal.greatest_cycle) & (signal.greatest_cycle <= 3600))
+        & (signal.least_cycle..=3600).contains(&signal.greatest_cycle)
         & (signal.shown_for <= signal.greatest[at])
-        & ((signal.shown_for <= signal.cycle_clock) & (signal.cycle_clock <= signal.greatest_cycle))
+        & (signal.shown_for..=signal.greatest_cycle).contains(&signal.cycle_clock)
         & ((signal.shown != 1) | (signal.cycle_clock == signal.shown_for))
 }
 
@@ -116,18 +117,17 @@ fn shortest_time(signal: Signal, so_far: u32) -> u32
     requires { signal.phases ≤ 8 }
     ensures { result ≡ shortest_time signal signal.phases so_far }
 {
-    let mut shortest = so_far;
-    for k in 0..signal.phases as usize {
-        shortest = shortest.min(signal.greatest[k]);
-    }
-    shortest
+    let phases = signal.phases as usize;
+    signal.greatest[..phases]
+        .iter()
+        .fold(so_far, |shortest, greatest| shortest.min(*greatest))
 }
 
 // Refusal 3, the number of phases.
 fn valid_phases(phases: usize) -> bool
     ensures { result ≡ within 2 phases 8 }
 {
-    (2 <= phases) & (phases <= 8)
+    (2..=8).contains(&phases)
 }
 
 // The `G` line of signal `r` into its place: refusal 1 for its first seven fields, 3 for its number of phases, 1 for the rest of its form, 3 for its other
