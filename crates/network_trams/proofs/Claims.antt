@@ -1,5 +1,7 @@
 -- The phases that trams ask in a step, by their table: one tram after another, from the last to the first, and that they are the paper's.
 use Rattle.base_laws.proofs.Kit.{ℕ, zero, suc, ◌+◌, ◌-◌, ◌≤◌, ◌<◌, ◌≡◌, refl, ap, ◌∙◌, Bool, true, false, ◌&&◌, cond, ◌≢◌, List, ◌∷◌, ℕ_discrete, add-one, arith, leb-true, eq-eqb, ne_eqb, leb, length, get_or, set, take, drop, length-set, length-take, length-drop, drop_of_length-le, get_or-set_same, get_or-set_other, drop-cons}
+use Rattle.std.specs.Prelude.{reverse}
+use Rattle.std.proofs.lemmas.List.{length-take-le, length-reverse, get_or-reverse, get_or-take, get_or_default}
 use Rattle.text_reader.specs.Lines.{Line, no_line, number}
 use Rattle.base_laws.specs.Test.{◌and◌, within}
 use Rattle.model.specs.Network.{max_signals, max_steps, entry, signal_count, tram_count, tram_line, trams, covers, tram_phase}
@@ -57,9 +59,9 @@ pub record ClaimsFrom (table : List Tram) (count n k : ℕ) (asked : List ℕ) :
   pub holds : (r : ℕ) → r < max_signals → get_or asked r 0 ≡ phase_from table r n k (count - k)
 
 module _ {table : List Tram} {count n : ℕ} {asked₀ : List ℕ} (given : ClaimsAsked table count n asked₀) where
-  pub claims-begin : ClaimsFrom table count n count asked₀
+  pub claims-begin : ClaimsFrom table count n (count - 0) asked₀
   unfolding phase_from
-  claims-begin = let e : count - count ≡ 0 = omega arith in record { within = omega arith; room = given.room; holds = λ r l. rw e (given.none r l) }
+  claims-begin = let e : count - (count - 0) ≡ 0 = omega arith in record { within = omega arith; room = given.room; holds = λ r l. rw e (given.none r l) }
 
   module _ {k : ℕ} {asked : List ℕ} (inv : ClaimsFrom table count n k asked) where
     pub claims-next : 0 < k → {after : List ℕ} → after ≡ claimed (tram_at table (k - 1)) n asked → ClaimsFrom table count n (k - 1) after
@@ -76,6 +78,26 @@ module _ {table : List Tram} {count n : ℕ} {asked₀ : List ℕ} (given : Clai
             let e : count - (k - 1) ≡ suc (count - k) = omega (arith, inv.within) in
             let s : suc (k - 1) ≡ k = omega arith in
             rw (e, s, inv.holds r l)
+
+  -- the i-th of the trams from the last to the first
+  pub claims-turn : {i : ℕ} {asked : List ℕ} → ClaimsFrom table count n (count - i) asked → {tram : Tram} → (i < length (reverse (take count table))) × (tram ≡ get_or (reverse (take count table)) i tram)
+      → {after : List ℕ} → after ≡ claimed tram n asked → ClaimsFrom table count n (count - (i + 1)) after
+  claims-turn {i} {asked} inv {tram} turn {after} c =
+      let size : length (take count table) ≡ count = length-take-le count table (omega (arith, given.size, given.few)) in
+      let h : i < count = omega (arith, turn.0, length-reverse (take count table), size) in
+      let place : length (take count table) - 1 - i ≡ count - i - 1 = omega (arith, size) in
+      let next : count - i - 1 ≡ count - (i + 1) = omega arith in
+      let is : tram ≡ tram_at table (count - i - 1) =
+      turn.1 ∙ get_or-reverse (take count table) i tram (omega arith) ∙ ap (λ k. get_or (take count table) k tram) place
+      ∙ get_or-take count table (count - i - 1) tram (omega arith) ∙ get_or_default table (count - i - 1) tram (tram_by (λ k. 0)) (omega (arith, given.size, given.few)) in
+      rw (← next) (claims-next inv (omega arith) (rw (← is) c))
+
+  pub claims-done : {i : ℕ} {asked : List ℕ} → ClaimsFrom table count n (count - i) asked → i ≡ length (reverse (take count table)) → Claimed table count n asked
+  claims-done {i} inv e =
+      let size : length (take count table) ≡ count = length-take-le count table (omega (arith, given.size, given.few)) in
+      let none : count - i ≡ 0 = omega (arith, e, length-reverse (take count table), size) in
+      let all : count - 0 ≡ count = omega arith in
+      record { size = inv.room; holds = λ r l. inv.holds r l ∙ rw (none, all) refl }
 
 -- ---- the paper's
 module _ (network : List Line) (table : List Tram) (held : TramTable network table) (forms : (k : ℕ) → k < tram_count network → is_form network (tram_line network k) letter_t tram_fields ≡ true) where

@@ -1,5 +1,6 @@
 -- The turns and the returns of the loops over the `T` lines of a network, each in the form of a need.
-use Rattle.base_laws.proofs.Kit.{ℕ, suc, ◌+◌, ◌-◌, ◌≤◌, ◌<◌, ◌≡◌, refl, sym, ap, ◌∙◌, Bool, List, length, arith, leb-true}
+use Rattle.base_laws.proofs.Kit.{ℕ, suc, ◌+◌, ◌-◌, ◌≤◌, ◌<◌, ◌≡◌, refl, sym, ap, ◌∙◌, Bool, List, length, take, arith, leb-true}
+use Rattle.std.proofs.lemmas.List.{length-take-le, get_or-take}
 use Rattle.base_search.specs.declared.Refusal.{Refusal}
 use Rattle.base_search.specs.Checks.{Verdict, each, checked, verdict, Hold}
 use Rattle.base_search.proofs.Laws.{first-same, checked-passes, hold-of-passes, passes-of-hold}
@@ -15,10 +16,10 @@ use Rattle.network_tables.specs.Places.{tram_line_in}
 use Rattle.model.specs.declared.Signal.{Signal}
 use Rattle.network_tables.specs.declared.Tram.{Tram}
 use Rattle.network_tables.specs.Fields.{tram_fields, tram_by, tram_at}
-use Rattle.network_tables.specs.Blocks.{block_checks, RowsJudged, RowsHeld, tram_block}
+use Rattle.network_tables.specs.Blocks.{block_checks, PassedTo, RowsJudged, RowsHeld, tram_block}
 use Rattle.network_tables.specs.Tables.{Judged, CountsHold, TramTable, SignalTable, moved_to}
 use Rattle.network_tables.proofs.Places.{signals-after-trams}
-use Rattle.network_tables.proofs.Blocks.{passed-all, block-end, records-judged}
+use Rattle.network_tables.proofs.Blocks.{passed-all, passed-stop, passed-next, block-end, records-judged}
 use Rattle.network_tables.proofs.Stages.{judged-refused, judged-passed}
 use Rattle.network_trams.specs.Trams.{valid_tram_in, valid_phase_in, phase_checks_in, PhasesAsked}
 use Rattle.network_trams.specs.Stages.{TramsAsked, TramsHeld}
@@ -73,11 +74,27 @@ module _ {text : List ℕ} {at count : ℕ} {trams₀ : List Tram} (asked : Load
   trams-loaded (Err r) got = let e = got.refused r refl in let z : ◌≡◌ {A = ℕ} 0 1 = cc (passes, e) in absurd (omega arith)
 
 -- ---- the turns of `check_tram_phases`
-module _ (trams : List Tram) (signals : List Signal) (counts : Counts) (k : ℕ) {v : Bool} (told : v ≡ valid_phase_in (tram_at trams k) signals) {line : ℕ} (l : line ≡ tram_line_in counts k)
-    {said : Verdict} (says : said ≡ checked v 28 (line + 1) 0) where
-  pub phase-said : verdict (phase_checks_in trams signals counts k) ≡ said
-  unfolding verdict phase_checks_in
-  phase-said = let z : line + 1 ≡ suc (tram_line_in counts k) = omega arith in rw (says, z, told) refl
+module _ {trams : List Tram} {signals : List Signal} {counts : Counts} (asked : PhasesAsked trams signals counts) {k : ℕ} (inv : PassedTo counts.trams (phase_checks_in trams signals counts) k) where
+  read : length (take counts.trams trams) ≡ counts.trams
+  read = length-take-le counts.trams trams (omega (arith, asked.room, asked.few))
+
+  pub phases-done : length (take counts.trams trams) ≤ k → Ok tt ≡ verdict (each counts.trams (phase_checks_in trams signals counts))
+  phases-done h = sym (passed-all inv (omega (arith, read)))
+
+  module _ (h : k < length (take counts.trams trams)) {v : Bool} (told : v ≡ valid_phase_in (tram_at (take counts.trams trams) k) signals) {line : ℕ} (l : line ≡ tram_line_in counts k)
+      {said : Verdict} (says : said ≡ checked v 28 (line + 1) 0) where
+    below : k < counts.trams
+    below = omega (arith, read)
+
+    phase-said : verdict (phase_checks_in trams signals counts k) ≡ said
+    unfolding verdict phase_checks_in
+    phase-said = let z : line + 1 ≡ suc (tram_line_in counts k) = omega arith in rw (says, z, told, get_or-take counts.trams trams k (tram_by (λ f. 0)) below) refl
+
+    pub phases-stop : {q : Refusal} → said ≡ Err q → Err q ≡ verdict (each counts.trams (phase_checks_in trams signals counts))
+    phases-stop e = sym (passed-stop inv below (phase-said ∙ e))
+
+    pub phases-next : said ≡ Ok tt → PassedTo counts.trams (phase_checks_in trams signals counts) (k + 1)
+    phases-next e = passed-next inv below (phase-said ∙ e)
 
 -- ---- the paper's phases of trams
 module _ {text : List ℕ} {trams : List Tram} {signals : List Signal} {reading : Reading} (held : TramsHeld text trams reading) (t : SignalTable (lines text) signals) where

@@ -52,12 +52,19 @@ pub fn read_trams(text: &[u8], reading: Reading, trams: &mut [Tram]) -> Result<R
     ensures { Judged (block_checks (tram_block (lines text.now))) (TramsHeld text.now trams.new) result }
 {
     let counts = reading.counts;
-    let first = counts.tram_line(0) + 1;
     let judge = |trams: &[Tram], k: usize| {
         let valid = valid_tram(trams, counts.signals, counts.steps, k);
-        checked(valid, 28, first + k, 0)
+        checked(valid, 28, FIRST_LINE + k, 0)
     };
-    let next = read_rows(text, reading.next, b'T', first, counts.trams, trams, judge)?;
+    let next = read_rows(
+        text,
+        reading.next,
+        b'T',
+        FIRST_LINE,
+        counts.trams,
+        trams,
+        judge,
+    )?;
     Ok(reading.moved_to(next))
 }
 
@@ -75,9 +82,9 @@ pub fn check_tram_phases(trams: &[Tram], signals: &[Signal], counts: Counts) -> 
     requires { PhasesAsked trams.now signals.now counts }
     ensures { result ≡ verdict (each counts.trams (phase_checks_in trams.now signals.now counts)) }
 {
-    for k in 0..counts.trams {
+    for (k, &tram) in trams[..counts.trams].iter().enumerate() {
         let line = counts.tram_line(k) + 1;
-        checked(valid_phase(trams[k], signals), 28, line, 0)?;
+        checked(valid_phase(tram, signals), 28, line, 0)?;
     }
     Ok(())
 }
@@ -110,7 +117,7 @@ pub fn tram_phases(trams: &[Tram], count: usize, n: usize, asked: &mut [u32])
     requires { ClaimsAsked trams.now count n asked.old }
     ensures { Claimed trams.now count n asked.new }
 {
-    for k in (0..count).rev() {
-        claim(trams[k], n, asked);
+    for &tram in trams[..count].iter().rev() {
+        claim(tram, n, asked);
     }
 }
