@@ -3,4 +3,3 @@ pub mod Filling
 pub mod Reading
 pub mod Texts
 pub mod Plan
-pub mod Trams

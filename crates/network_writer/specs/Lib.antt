@@ -1,4 +1,3 @@
 pub mod Put
 pub mod Texts
 pub mod Plan
-pub mod Trams
