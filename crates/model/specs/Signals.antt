@@ -1,5 +1,5 @@
 -- A signal through a step: rules 10 to 14 of one signal, and what it shows afterwards.
-use Rattle.std.specs.Prelude.{ℕ, zero, suc, ◌+◌, ◌-◌, ◌/◌, ◌%◌, ◌^◌, ◌≤◌, ◌<◌, ◌≡◌, ◌≢◌, Bool, cond, not, ◌&&◌, ◌||◌, leb, eqb, get_or}
+use Rattle.std.specs.Prelude.{ℕ, zero, suc, ◌+◌, ◌-◌, ◌/◌, ◌%◌, ◌^◌, ◌≤◌, ◌<◌, ◌≡◌, ◌≢◌, Bool, cond, not, ◌&&◌, ◌||◌, leb, eqb, get_or, List, [], ◌∷◌}
 use Rattle.model.specs.declared.Signal.{Signal}
 
 -- the phase among 1 to P whose bit is all of the mask: phase k has the bit of 2 ^ (k - 1); 0 where there is none
@@ -81,3 +81,28 @@ after s q seconds =
       least = s.least;
       greatest = s.greatest;
     }
+
+-- how many numbers a `G` line of eight phases has
+abbrev pub signal_fields : ℕ
+signal_fields = 22
+
+-- a signal of eight phases by the numbers of its line, and these numbers
+abbrev pub signal_by : (ℕ → ℕ) → Signal
+signal_by number =
+    record {
+      least_cycle = number 0;
+      greatest_cycle = number 1;
+      phases = number 2;
+      shown = number 3;
+      shown_for = number 4;
+      cycle_clock = number 5;
+      least = number 6 ∷ number 8 ∷ number 10 ∷ number 12 ∷ number 14 ∷ number 16 ∷ number 18 ∷ number 20 ∷ [];
+      greatest = number 7 ∷ number 9 ∷ number 11 ∷ number 13 ∷ number 15 ∷ number 17 ∷ number 19 ∷ number 21 ∷ [];
+    }
+
+unfoldable pub signal_row : Signal → List ℕ
+signal_row s =
+    s.least_cycle ∷ s.greatest_cycle ∷ s.phases ∷ s.shown ∷ s.shown_for ∷ s.cycle_clock
+    ∷ get_or s.least 0 0 ∷ get_or s.greatest 0 0 ∷ get_or s.least 1 0 ∷ get_or s.greatest 1 0 ∷ get_or s.least 2 0 ∷ get_or s.greatest 2 0
+    ∷ get_or s.least 3 0 ∷ get_or s.greatest 3 0 ∷ get_or s.least 4 0 ∷ get_or s.greatest 4 0 ∷ get_or s.least 5 0 ∷ get_or s.greatest 5 0
+    ∷ get_or s.least 6 0 ∷ get_or s.greatest 6 0 ∷ get_or s.least 7 0 ∷ get_or s.greatest 7 0 ∷ []

@@ -13,7 +13,7 @@ use Rattle.base_laws.proofs.Tests.{and_right}
 use Rattle.network_tables.specs.declared.Reading.{Reading}
 use Rattle.network_tables.specs.Places.{signal_line_in}
 use Rattle.network_tables.specs.Rows.{RowRead, HeadRead}
-use Rattle.network_tables.specs.Fields.{signal_fields, signal_by}
+use Rattle.model.specs.Signals.{signal_fields, signal_by}
 use Rattle.network_tables.specs.Tables.{Judged, moved_to}
 use Rattle.network_tables.proofs.Places.{signal-line-is}
 use Rattle.network_tables.proofs.Stages.{judged-refused, judged-passed}

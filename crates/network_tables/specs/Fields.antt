@@ -9,12 +9,12 @@ use Rattle.network_tables.specs.declared.Link.{Link}
 use Rattle.network_tables.specs.declared.Movement.{Movement}
 use Rattle.network_tables.specs.Places.{admitted_place, let_out_place, moved_place}
 
--- how many numbers a `T`, a `Q` and an `M` line have, and a `G` line of eight phases, and the sizes of the other tables
+-- how many numbers an `N`, a `T`, a `Q` and an `M` line have, and the sizes of the other tables
+abbrev pub count_fields : ℕ
+count_fields = 6
+
 abbrev pub tram_fields : ℕ
 tram_fields = 4
-
-abbrev pub signal_fields : ℕ
-signal_fields = 22
 
 abbrev pub link_fields : ℕ
 link_fields = 7
@@ -37,22 +37,12 @@ line_size = max_signals + (2 * max_links + max_movements)
 abbrev pub row_size : ℕ
 row_size = 2 * max_links
 
--- a tram, a signal of eight phases, a link and a movement by the numbers of their lines
+-- the counts, a tram, a link and a movement by the numbers of their lines
+abbrev pub counts_by : (ℕ → ℕ) → Counts
+counts_by number = record { links = number 0; signals = number 1; movements = number 2; steps = number 3; trams = number 4; past = number 5 }
+
 abbrev pub tram_by : (ℕ → ℕ) → Tram
 tram_by number = record { signal = number 0; phase = number 1; first_step = number 2; last_step = number 3 }
-
-abbrev pub signal_by : (ℕ → ℕ) → Signal
-signal_by number =
-    record {
-      least_cycle = number 0;
-      greatest_cycle = number 1;
-      phases = number 2;
-      shown = number 3;
-      shown_for = number 4;
-      cycle_clock = number 5;
-      least = number 6 ∷ number 8 ∷ number 10 ∷ number 12 ∷ number 14 ∷ number 16 ∷ number 18 ∷ number 20 ∷ [];
-      greatest = number 7 ∷ number 9 ∷ number 11 ∷ number 13 ∷ number 15 ∷ number 17 ∷ number 19 ∷ number 21 ∷ [];
-    }
 
 abbrev pub link_by : (ℕ → ℕ) → Link
 link_by number =
@@ -68,6 +58,17 @@ link_by number =
 
 abbrev pub movement_by : (ℕ → ℕ) → Movement
 movement_by number = record { from = number 0; to = number 1; rate = number 2; share = number 3 }
+
+-- the numbers of their lines
+abbrev pub tram_row : Tram → List ℕ
+tram_row tram = tram.signal ∷ tram.phase ∷ tram.first_step ∷ tram.last_step ∷ []
+
+abbrev pub link_row : Link → List ℕ
+link_row link =
+    link.capacity ∷ link.travel_time ∷ link.exit_rate ∷ link.signal ∷ link.phase_mask ∷ link.standing ∷ link.waiting ∷ []
+
+abbrev pub movement_row : Movement → List ℕ
+movement_row movement = movement.from ∷ movement.to ∷ movement.rate ∷ movement.share ∷ []
 
 -- what stands at a place of a table, and past its end numbers of 0: of a signal without times
 abbrev pub no_signal : Signal

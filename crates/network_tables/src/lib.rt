@@ -3,10 +3,10 @@
 #![tactic(auto)]
 
 ghost use Rattle.std.specs.Prelude.{◌≡◌, ◌+◌, ◌*◌, ◌<◌, ◌≤◌, length, get_or};
+ghost use Rattle.model.specs.Signals.{signal_fields};
 ghost use Rattle.model.specs.Network.{max_links, max_signals, max_movements, max_steps, max_trams, max_past};
 ghost use Rattle.network_tables.specs.Places.{tram_line_in, signal_line_in, link_line_in, movement_line_in, timeline_line_in, step_line_in, plan_width, Few};
-ghost use Rattle.network_tables.specs.Fields.{signal_fields, step_size, line_size, tram_by, link_by, movement_by, signal_by, length_in, demand_in, admitted_in, let_out_in, moved_in, entered_in, left_in, entered_at, left_at, RowHeld};
-ghost use Rattle.base_search.specs.Checks.{checked};
+ghost use Rattle.network_tables.specs.Fields.{step_size, line_size, counts_by, tram_by, tram_row, link_by, link_row, movement_by, movement_row, length_in, demand_in, admitted_in, let_out_in, moved_in, entered_in, left_in, entered_at, left_at, RowHeld};
 ghost use Rattle.text_reader.specs.Lines.{lines};
 ghost use Rattle.text_reader.specs.Reading.{Starts};
 ghost use Rattle.network_tables.specs.Rows.{RowRead, ReadAgain, HeadRead};
@@ -14,8 +14,7 @@ ghost use Rattle.network_tables.specs.Blocks.{Block, Judges, RowsJudged, RowsHel
 ghost use Rattle.network_tables.specs.Sums.{Summed};
 ghost use Rattle.network_tables.specs.Tables.{moved_to, TablesSized};
 
-use base_search::Refusal;
-use model::Signal;
+use base_search::{Reason, Refusal};
 
 pub const MAX_LINKS: usize = 24;
 
@@ -29,10 +28,10 @@ pub const MAX_TRAMS: usize = 16;
 
 pub const MAX_PAST: usize = 120;
 
-// How many numbers a `T`, a `Q` and an `M` line have, and at most a `G`, an `H`, an `S` and a `P` line.
-pub const TRAM_FIELDS: usize = 4;
+// How many numbers an `N`, a `T`, a `Q` and an `M` line have, and at most an `H`, an `S` and a `P` line.
+pub const COUNT_FIELDS: usize = 6;
 
-pub const SIGNAL_FIELDS: usize = 6 + 2 * 8;
+pub const TRAM_FIELDS: usize = 4;
 
 pub const LINK_FIELDS: usize = 7;
 
@@ -60,6 +59,21 @@ pub struct Counts {
     pub past: usize,
 }
 
+impl From<[u32; COUNT_FIELDS]> for Counts {
+    ghost from_gives = { λ fields counts. counts ≡ counts_by (λ k. get_or fields k 0) };
+
+    fn from(fields: [u32; COUNT_FIELDS]) -> Self {
+        Counts {
+            links: fields[0] as usize,
+            signals: fields[1] as usize,
+            movements: fields[2] as usize,
+            steps: fields[3] as usize,
+            trams: fields[4] as usize,
+            past: fields[5] as usize,
+        }
+    }
+}
+
 // A `T` line: the signal and the phase that a tram asks, from its first to its last step; all counted from 1.
 #[derive(Clone, Copy, Default)]
 pub struct Tram {
@@ -79,6 +93,14 @@ impl From<[u32; TRAM_FIELDS]> for Tram {
             first_step: fields[2],
             last_step: fields[3],
         }
+    }
+}
+
+impl From<Tram> for [u32; TRAM_FIELDS] {
+    ghost from_gives = { λ tram fields. fields ≡ tram_row tram };
+
+    fn from(tram: Tram) -> Self {
+        [tram.signal, tram.phase, tram.first_step, tram.last_step]
     }
 }
 
@@ -110,6 +132,22 @@ impl From<[u32; LINK_FIELDS]> for Link {
     }
 }
 
+impl From<Link> for [u32; LINK_FIELDS] {
+    ghost from_gives = { λ link fields. fields ≡ link_row link };
+
+    fn from(link: Link) -> Self {
+        [
+            link.capacity,
+            link.travel_time,
+            link.exit_rate,
+            link.signal,
+            link.phase_mask,
+            link.standing,
+            link.waiting,
+        ]
+    }
+}
+
 // An `M` line: a movement from one link to another, both numbered from 1.
 #[derive(Clone, Copy, Default)]
 pub struct Movement {
@@ -129,6 +167,14 @@ impl From<[u32; MOVEMENT_FIELDS]> for Movement {
             rate: fields[2],
             share: fields[3],
         }
+    }
+}
+
+impl From<Movement> for [u32; MOVEMENT_FIELDS] {
+    ghost from_gives = { λ movement fields. fields ≡ movement_row movement };
+
+    fn from(movement: Movement) -> Self {
+        [movement.from, movement.to, movement.rate, movement.share]
     }
 }
 
@@ -155,9 +201,10 @@ impl Reading {
     }
 }
 
-// What the reading of a network gives, but for its signals, which change from step to step: all tables are lent.
+// A network's text and what its reading gives, but for its signals, which change from step to step: all tables are lent.
 #[derive(Clone, Copy)]
 pub struct NetworkTables<'a> {
+    pub text: &'a [u8],
     pub reading: Reading,
     pub links: &'a [Link],
     pub movements: &'a [Movement],
@@ -165,7 +212,7 @@ pub struct NetworkTables<'a> {
     ghost sized: { TablesSized reading links.now movements.now times.now },
 }
 
-// The places of lines in a network text, from 0, and how many numbers a `P` line has.
+// The places of lines in a network text, from 0, and how many numbers an `H`, an `S` and a `P` line have.
 impl Counts {
     pub fn tram_line(self, k: usize) -> usize
         requires { k ≤ max_trams }
@@ -207,6 +254,20 @@ impl Counts {
         ensures { result ≡ step_line_in self n }
     {
         self.timeline_line(self.past + n)
+    }
+
+    pub fn past_width(self) -> usize
+        requires { Few self }
+        ensures { result ≡ 1 + 2 * self.links }
+    {
+        1 + 2 * self.links
+    }
+
+    pub fn step_width(self) -> usize
+        requires { Few self }
+        ensures { result ≡ 1 + self.links }
+    {
+        1 + self.links
     }
 
     pub fn plan_width(self) -> usize
@@ -264,18 +325,6 @@ pub fn read_head(
     text_reader::head_at(text, at, letter, &mut table[start..end])
 }
 
-// Passes where a check holds; else the refusal of this number, line and item.
-pub fn checked(holds: bool, number: u32, line: usize, item: usize) -> Result<(), Refusal>
-    requires { (line < 4294967296) × (item < 4294967296) }
-    ensures { result ≡ checked holds number line item }
-{
-    if holds {
-        Ok(())
-    } else {
-        Err(Refusal::new(number, line, item))
-    }
-}
-
 // Reads `count` lines of a letter, each into its item of a table, where it is judged before the next line is read: the place behind the last of them, or the
 // first refusal. `first` is the line, from 1, that starts at `at`.
 pub fn read_rows<
@@ -302,7 +351,7 @@ pub fn read_rows<
     let mut place = at;
     for k in 0..count {
         let Some(next) = read_row(text, place, letter, &mut fields, 0, W) else {
-            return Err(Refusal::new(1, first + k, 0));
+            return Err(Reason::NetworkForm.refusal(first + k, 0));
         };
         table[k] = T::from(fields);
         judge(table, k)?;
@@ -323,29 +372,6 @@ pub fn add_numbers(line: &[u32], count: usize, sums: &mut [u32]) -> bool
         sums[k] = sum;
     }
     true
-}
-
-// A signal by the numbers of its `G` line.
-pub fn signal_from(fields: &[u32]) -> Signal
-    requires { length fields.now ≡ signal_fields }
-    ensures { result ≡ signal_by (λ k. get_or fields.now k 0) }
-{
-    Signal {
-        least_cycle: fields[0],
-        greatest_cycle: fields[1],
-        phases: fields[2],
-        shown: fields[3],
-        shown_for: fields[4],
-        cycle_clock: fields[5],
-        least: [
-            fields[6], fields[8], fields[10], fields[12], fields[14], fields[16], fields[18],
-            fields[20],
-        ],
-        greatest: [
-            fields[7], fields[9], fields[11], fields[13], fields[15], fields[17], fields[19],
-            fields[21],
-        ],
-    }
 }
 
 // The numbers of an `S` line: its length, and the demand of link `i`.

@@ -11,7 +11,8 @@ use Rattle.network_tables.specs.declared.Link.{Link}
 use Rattle.network_tables.specs.declared.Movement.{Movement}
 use Rattle.network_tables.specs.declared.Tram.{Tram}
 use Rattle.network_tables.specs.Rows.{LineHeld, ReadAgain}
-use Rattle.network_tables.specs.Fields.{signal_fields, tram_at, signal_at, capacity_in, travel_time_in, exit_rate_in, signal_in, phase_mask_in, standing_in, waiting_at_start_in, link_in, rate_in, share_in}
+use Rattle.model.specs.Signals.{signal_fields}
+use Rattle.network_tables.specs.Fields.{tram_at, signal_at, capacity_in, travel_time_in, exit_rate_in, signal_in, phase_mask_in, standing_in, waiting_at_start_in, link_in, rate_in, share_in}
 use Rattle.network_writer.specs.Put.{Put}
 use Rattle.network_writer.specs.Texts.{line_texts}
 use Rattle.network_writer.proofs.Reading.{numbers-are}

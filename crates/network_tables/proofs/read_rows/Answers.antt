@@ -14,7 +14,7 @@ loop-k-init g c = (refl, length-replicate g.row.W 0, λ b judged s. table-begin 
 pub returns-in_default : goal.returns-in_default
 returns-in_default g c = λ b judged s.
     let none : c.read_row.result ≡ None = search (rules) in
-    rw c.new.ensures
+    rw c.refusal.ensures
     (rows-refused {table = c.loop-k.table} (judged-malformed judged (c.loop-k.invariant.2 b judged s) c.loop-k-test.true c.read_row.ensures none))
 
 pub returns-in_err-judge : goal.returns-in_err-judge

@@ -1,6 +1,6 @@
 use Rattle.std.proofs.Common.{rules}
 use Rattle.base_search.specs.Checks.{checked}
-use Rattle.network_tables.proofs.checked.Goals as goal
+use Rattle.base_search.proofs.checked.Goals as goal
 
 pub returns-then-holds : goal.returns-then-holds
 unfolding checked
