@@ -1,6 +1,7 @@
 -- What the reading of a whole network asks and holds.
-use Rattle.std.specs.Prelude.{ℕ, suc, ◌≤◌, ◌<◌, ◌≡◌, List, eqb, length}
-use Rattle.base_search.specs.Checks.{Checks, check, each, ◌then◌, Hold}
+use Rattle.std.specs.Prelude.{ℕ, suc, ◌≤◌, ◌<◌, ◌≡◌, List, Result, Ok, Err, eqb, length}
+use Rattle.base_search.specs.declared.Refusal.{Refusal}
+use Rattle.base_search.specs.Checks.{Checks, check, each, ◌then◌, Hold, verdict}
 use Rattle.text_reader.specs.Lines.{Line, lines}
 use Rattle.text_reader.specs.Reading.{Starts}
 use Rattle.model.specs.declared.Signal.{Signal}
@@ -10,6 +11,7 @@ use Rattle.network_tables.specs.declared.Reading.{Reading}
 use Rattle.network_tables.specs.Blocks.{block_checks, tram_block, signal_block, past_block, step_block}
 use Rattle.network_tables.specs.declared.Link.{Link}
 use Rattle.network_tables.specs.declared.Movement.{Movement}
+use Rattle.network_tables.specs.declared.NetworkTables.{NetworkTables}
 use Rattle.network_tables.specs.Fields.{time_table_size}
 use Rattle.network_tables.specs.Tables.{Reached, CountsHold, SignalTable, FewPhases, LinkTable, MovementTable, TimeTable}
 use Rattle.network_past.specs.Past.{past_end_checks}
@@ -46,14 +48,23 @@ pub record TimelineAsked (text : List ℕ) (reading : Reading) (links : List Lin
   pub limits : (i : ℕ) → i < link_count (lines text) → (capacity (lines text) i ≤ 2_000_000_000) × ((standing (lines text) i ≤ capacity (lines text) i) × (1 ≤ travel_time (lines text) i))
   pub room : length times ≡ time_table_size
 
--- the whole text has passed
-pub record TimelineHeld (text times : List ℕ) (reading : Reading) : Type 0 where
-  pub counted : CountsHold (lines text) reading.counts
-  pub trams-start : Starts text reading.trams_at (tram_line (lines text) 0)
-  pub signals-start : Starts text reading.signals_at (signal_line (lines text) 0)
-  pub past-start : Starts text reading.past_at (timeline_line (lines text) 0)
-  pub steps-start : Starts text reading.steps_at (step_line (lines text) 0)
-  pub time-table : TimeTable (lines text) times
+-- What reading into tables promises: what they hold where the checks pass, and else the first that is broken.
+pub record TablesJudged (checks : Checks) (Held : NetworkTables → Type 0) (result : Result NetworkTables Refusal) : Type 0 where
+  pub passed : (tables : NetworkTables) → result ≡ Ok tables → verdict checks ≡ Ok tt
+  pub held : (tables : NetworkTables) → result ≡ Ok tables → Held tables
+  pub refused : (r : Refusal) → result ≡ Err r → verdict checks ≡ Err r
+
+-- the whole text has passed, and stands in the tables with its links and its movements
+pub record TimelineHeld (text : List ℕ) (links : List Link) (movements : List Movement) (tables : NetworkTables) : Type 0 where
+  pub same-text : tables.text.now ≡ text
+  pub same-links : tables.links.now ≡ links
+  pub same-movements : tables.movements.now ≡ movements
+  pub counted : CountsHold (lines text) tables.reading.counts
+  pub trams-start : Starts text tables.reading.trams_at (tram_line (lines text) 0)
+  pub signals-start : Starts text tables.reading.signals_at (signal_line (lines text) 0)
+  pub past-start : Starts text tables.reading.past_at (timeline_line (lines text) 0)
+  pub steps-start : Starts text tables.reading.steps_at (step_line (lines text) 0)
+  pub time-table : TimeTable (lines text) tables.times.now
 
 -- the room of the tables of the largest network
 pub record Rooms (signals : List Signal) (links : List Link) (movements : List Movement) (times : List ℕ) : Type 0 where
@@ -75,3 +86,12 @@ pub record Loaded (text : List ℕ) (signals : List Signal) (links : List Link) 
   pub movement-table : MovementTable (lines text) movements
   pub time-table : TimeTable (lines text) times
   pub holds : Hold (network_checks (lines text))
+
+-- tables of a network that has passed, with the signals before the plan
+abbrev pub TablesLoaded : NetworkTables → List Signal → Type 0
+TablesLoaded tables signals = Loaded tables.text.now signals tables.links.now tables.movements.now tables.times.now tables.reading
+
+-- the tables are those of this text
+pub record LoadedFrom (text : List ℕ) (signals : List Signal) (tables : NetworkTables) : Type 0 where
+  pub same-text : tables.text.now ≡ text
+  pub loaded : TablesLoaded tables signals

@@ -11,10 +11,10 @@ ghost use Rattle.model.specs.Calls.{check_network};
 ghost use Rattle.model.specs.Guarantees.{NetworkPromises};
 ghost use Rattle.network_tables.specs.Tables.{Judged};
 ghost use Rattle.network_signals.specs.Stages.{SignalsHeld};
-ghost use Rattle.network.specs.Loading.{first_checks, FirstAsked, end_checks, EndAsked, timeline_checks, TimelineAsked, TimelineHeld, Rooms, Loaded};
+ghost use Rattle.network.specs.Loading.{first_checks, FirstAsked, end_checks, EndAsked, TablesJudged, timeline_checks, TimelineAsked, TimelineHeld, Rooms, LoadedFrom};
 ghost use Rattle.network.specs.Counting.{count_network, CountPromises};
 
-use base_search::Refusal;
+use base_search::{Reason, Refusal};
 use model::Signal;
 use network_tables::{
     Counts, Link, MAX_LINKS, MAX_MOVEMENTS, MAX_SIGNALS, MAX_TRAMS, Movement, NetworkTables,
@@ -26,11 +26,14 @@ fn check_end(text: &[u8], reading: Reading) -> Result<(), Refusal>
     requires { EndAsked text.now reading }
     ensures { result ≡ verdict (end_checks (lines text.now)) }
 {
-    if text_reader::is_end(text, reading.next) {
-        return Ok(());
-    }
     let counts = reading.counts;
-    Err(Refusal::new(1, counts.step_line(counts.steps) + 1, 0))
+    let line = counts.step_line(counts.steps) + 1;
+    base_search::checked(
+        text_reader::is_end(text, reading.next),
+        Reason::NetworkForm,
+        line,
+        0,
+    )
 }
 
 // The `T` and the `G` lines, then the trams' phases, which are reported at their `T` lines. After that no table of the trams is needed.
@@ -50,40 +53,41 @@ fn read_trams_and_signals(
 }
 
 // The `H` and the `S` lines, the end of the text and, last of all, what the past must keep (30).
-fn read_timeline(
-    text: &[u8],
+fn read_timeline<'a>(
+    text: &'a [u8],
     reading: Reading,
-    links: &[Link],
-    movements: &[Movement],
-    times: &mut [u32],
-) -> Result<Reading, Refusal>
+    links: &'a [Link],
+    movements: &'a [Movement],
+    times: &'a mut [u32],
+) -> Result<NetworkTables<'a>, Refusal>
     requires { TimelineAsked text.now reading links.now movements.now times.old }
-    ensures { Judged (timeline_checks (lines text.now)) (TimelineHeld text.now times.new) result }
+    ensures { TablesJudged (timeline_checks (lines text.now)) (TimelineHeld text.now links.now movements.now) result }
 {
     let mut demands = [0u32; MAX_LINKS];
     let reading = network_past::read_past(text, reading, times)?;
     let reading = network_steps::read_steps(text, reading, times, &mut demands)?;
     check_end(text, reading)?;
     let tables = NetworkTables {
+        text,
         reading,
         links,
         movements,
         times,
     };
-    network_past::check_past(text, &tables, &demands)?;
-    Ok(reading)
+    network_past::check_past(&tables, &demands)?;
+    Ok(tables)
 }
 
 // Reads a network into tables of its signals, its links, its movements and the time of each boundary of the timeline, and judges it: refusals 1 to 6, 28 and 30.
-pub fn read_network(
-    text: &[u8],
+pub fn read_network<'a>(
+    text: &'a [u8],
     signals: &mut [Signal],
-    links: &mut [Link],
-    movements: &mut [Movement],
-    times: &mut [u32],
-) -> Result<Reading, Refusal>
+    links: &'a mut [Link],
+    movements: &'a mut [Movement],
+    times: &'a mut [u32],
+) -> Result<NetworkTables<'a>, Refusal>
     requires { Rooms signals.old links.old movements.old times.old }
-    ensures { Judged (network_checks (lines text.now)) (Loaded text.now signals.new links.new movements.new times.new) result }
+    ensures { TablesJudged (network_checks (lines text.now)) (LoadedFrom text.now signals.new) result }
 {
     let reading = network_signals::read_counts(text)?;
     let reading = read_trams_and_signals(text, reading, signals)?;
@@ -103,8 +107,8 @@ pub fn count_network(text: &[u8]) -> Result<Counts, Refusal>
     let mut links = [Link::default(); MAX_LINKS];
     let mut movements = [Movement::default(); MAX_MOVEMENTS];
     let mut times = [0u32; TIME_TABLE_SIZE];
-    let reading = read_network(text, &mut signals, &mut links, &mut movements, &mut times)?;
-    Ok(reading.counts)
+    let tables = read_network(text, &mut signals, &mut links, &mut movements, &mut times)?;
+    Ok(tables.reading.counts)
 }
 
 // Check a network: refusals 1 to 6, 28 and 30.

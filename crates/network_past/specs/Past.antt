@@ -59,13 +59,13 @@ abbrev pub past_end_checks : List Line → Checks
 past_end_checks network = check 30 0 0 (valid_past network)
 
 -- all lines have passed
-pub record EndAsked (text : List ℕ) (tables : NetworkTables) (demands : List ℕ) : Type 0 where
-  pub counted : CountsHold (lines text) tables.reading.counts
-  pub past-start : Starts text tables.reading.past_at (timeline_line (lines text) 0)
-  pub forms : PastForms (lines text)
-  pub link-table : LinkTable (lines text) tables.links.now
-  pub limits : (i : ℕ) → i < link_count (lines text) → (capacity (lines text) i ≤ 2_000_000_000) × ((standing (lines text) i ≤ capacity (lines text) i) × (1 ≤ travel_time (lines text) i))
-  pub told : tables.reading.timed ≡ valid_lengths (lines text) (past_count (lines text))
-  pub timed-all : TimedTo (lines text) tables.reading.timed (past_count (lines text) + step_count (lines text)) tables.times.now
+pub record EndAsked (tables : NetworkTables) (demands : List ℕ) : Type 0 where
+  pub counted : CountsHold (lines tables.text.now) tables.reading.counts
+  pub past-start : Starts tables.text.now tables.reading.past_at (timeline_line (lines tables.text.now) 0)
+  pub forms : PastForms (lines tables.text.now)
+  pub link-table : LinkTable (lines tables.text.now) tables.links.now
+  pub limits : (i : ℕ) → i < link_count (lines tables.text.now) → (capacity (lines tables.text.now) i ≤ 2_000_000_000) × ((standing (lines tables.text.now) i ≤ capacity (lines tables.text.now) i) × (1 ≤ travel_time (lines tables.text.now) i))
+  pub told : tables.reading.timed ≡ valid_lengths (lines tables.text.now) (past_count (lines tables.text.now))
+  pub timed-all : TimedTo (lines tables.text.now) tables.reading.timed (past_count (lines tables.text.now) + step_count (lines tables.text.now)) tables.times.now
   pub demand-size : length demands ≡ max_links
-  pub demanded : (i : ℕ) → i < link_count (lines text) → get_or demands i 0 ≡ sum (step_count (lines text)) (λ n. demand (lines text) n i)
+  pub demanded : (i : ℕ) → i < link_count (lines tables.text.now) → get_or demands i 0 ≡ sum (step_count (lines tables.text.now)) (λ n. demand (lines tables.text.now) n i)

@@ -9,7 +9,7 @@ ghost use Rattle.base_search.specs.Checks.{verdict};
 ghost use Rattle.model.specs.Rules.{valid_past};
 ghost use Rattle.network_past.specs.Past.{FormsAsked, FormsHeld, valid_past_in, TestAsked, valid_links_in, LinksAsked, past_end_checks, EndAsked};
 
-use base_search::Refusal;
+use base_search::{Reason, Refusal};
 use network_tables::{MAX_LINKS, MAX_STEPS, NetworkTables, PAST_SIZE, ROW_SIZE, Reading};
 use step_past::Arrival;
 
@@ -19,21 +19,15 @@ pub fn read_past(text: &[u8], reading: Reading, times: &mut [u32]) -> Result<Rea
     ensures { Judged (block_checks (past_block (lines text.now))) (FormsHeld text.now times.new) result }
 {
     let counts = reading.counts;
+    let width = counts.past_width();
     let mut fields = [0u32; PAST_SIZE];
     let mut place = reading.next;
     let mut timed = counts.past + counts.steps <= MAX_STEPS;
     times[0] = 0;
     for m in 0..counts.past {
         let line = counts.timeline_line(m) + 1;
-        let read = network_tables::read_row(
-            text,
-            place,
-            b'H',
-            &mut fields,
-            0,
-            1 + 2 * counts.links,
-        );
-        place = read.ok_or(Refusal::new(1, line, 0))?;
+        let read = network_tables::read_row(text, place, b'H', &mut fields, 0, width);
+        place = read.ok_or(Reason::NetworkForm.refusal(line, 0))?;
         timed = step_arrivals::next_time(times, m, fields[0], timed);
     }
     Ok(Reading {
@@ -81,25 +75,23 @@ fn valid_links(tables: &NetworkTables, demands: &[u32], row: &[u32], arrivals: &
 }
 
 // Refusal 30, of the whole past. The lengths of the past and the number of steps were judged as they were read.
-fn is_valid(text: &[u8], tables: &NetworkTables, demands: &[u32]) -> bool
-    requires { EndAsked text.now tables.now demands.now }
-    ensures { result ≡ valid_past (lines text.now) }
+fn is_valid(tables: &NetworkTables, demands: &[u32]) -> bool
+    requires { EndAsked tables.now demands.now }
+    ensures { result ≡ valid_past (lines tables.now.text.now) }
 {
     if !tables.reading.timed {
         return false;
     }
     let mut row = [0u32; ROW_SIZE];
     let mut arrivals = [Arrival::default(); MAX_LINKS];
-    if !step_past::load_past(text, tables, &mut row, &mut arrivals) {
-        return false;
-    }
-    valid_links(tables, demands, &row, &arrivals)
+    step_past::load_past(tables, &mut row, &mut arrivals).is_some()
+        && valid_links(tables, demands, &row, &arrivals)
 }
 
 // Refusal 30, after all lines.
-pub fn check_past(text: &[u8], tables: &NetworkTables, demands: &[u32]) -> Result<(), Refusal>
-    requires { EndAsked text.now tables.now demands.now }
-    ensures { result ≡ verdict (past_end_checks (lines text.now)) }
+pub fn check_past(tables: &NetworkTables, demands: &[u32]) -> Result<(), Refusal>
+    requires { EndAsked tables.now demands.now }
+    ensures { result ≡ verdict (past_end_checks (lines tables.now.text.now)) }
 {
-    network_tables::checked(is_valid(text, tables, demands), 30, 0, 0)
+    base_search::checked(is_valid(tables, demands), Reason::Past, 0, 0)
 }

@@ -11,24 +11,22 @@ use Rattle.network_tables.specs.Tables.{Reached}
 use Rattle.step_arrivals.specs.Timed.{valid_lengths, TimedTo}
 
 -- 6: each demand is at most 600,000
-unfoldable pub valid_demands_in : List ℕ → ℕ → Bool
-valid_demands_in step links = every links (λ i. leb (demand_in step i) 600_000)
+unfoldable pub valid_demands_in : List ℕ → Bool
+valid_demands_in demands = every (length demands) (λ i. leb (get_or demands i 0) 600_000)
 
 -- 6: the length is 1 to 60 and at most the shortest of all greatest times, and the demands are valid
 unfoldable pub valid_step_in : List ℕ → ℕ → ℕ → Bool
-valid_step_in step links shortest = within 1 (length_in step) 60 and leb (length_in step) shortest and valid_demands_in step links
+valid_step_in step links shortest = within 1 (length_in step) 60 and leb (length_in step) shortest and every links (λ i. leb (demand_in step i) 600_000)
 
--- what adding the demands of a line to the sums of so many links asks: no sum is too large ..
-pub record AddAsked (step : List ℕ) (links : ℕ) (demands : List ℕ) : Type 0 where
-  pub few : links ≤ max_links
-  pub step-size : length step ≡ step_size
-  pub size : length demands ≡ max_links
-  pub fits : (i : ℕ) → i < links → get_or demands i 0 + demand_in step i < 4294967296
+-- what adding demands to their sums asks: no sum is too large ..
+pub record AddAsked (demands sums : List ℕ) : Type 0 where
+  pub few : length demands ≤ length sums
+  pub fits : (i : ℕ) → i < length demands → get_or sums i 0 + get_or demands i 0 < 4294967296
 
 -- .. and gives
-pub record Added (step : List ℕ) (links : ℕ) (before after : List ℕ) : Type 0 where
+pub record Added (demands before after : List ℕ) : Type 0 where
   pub size : length after ≡ length before
-  pub added : (i : ℕ) → i < links → get_or after i 0 ≡ get_or before i 0 + demand_in step i
+  pub added : (i : ℕ) → i < length demands → get_or after i 0 ≡ get_or before i 0 + get_or demands i 0
 
 -- what the reading of all `S` lines asks ..
 pub record StepsAsked (text : List ℕ) (reading : Reading) (times demands : List ℕ) : Type 0 where

@@ -1,7 +1,7 @@
 // The `S` lines of a network text: their form and values (refusals 1 and 6), the time of each boundary, and the demand of each link in all steps.
 #![tactic(auto)]
 
-ghost use Rattle.std.specs.Prelude.{◌≡◌, ◌≤◌, length};
+ghost use Rattle.std.specs.Prelude.{◌≡◌, ◌+◌, ◌≤◌, length};
 ghost use Rattle.text_reader.specs.Lines.{lines};
 ghost use Rattle.model.specs.Network.{max_links};
 ghost use Rattle.network_tables.specs.Fields.{step_size};
@@ -9,15 +9,14 @@ ghost use Rattle.network_tables.specs.Tables.{Judged};
 ghost use Rattle.network_tables.specs.Blocks.{block_checks, step_block};
 ghost use Rattle.network_steps.specs.Steps.{valid_demands_in, valid_step_in, AddAsked, Added, StepsAsked, StepsHeld};
 
-use base_search::Refusal;
+use base_search::{Reason, Refusal};
 use network_tables::{Reading, STEP_SIZE};
 
 // Refusal 6: whether each demand is at most 600,000.
-fn valid_demands(step: &[u32], links: usize) -> bool
-    requires { (links ≤ max_links) × (length step.now ≡ step_size) }
-    ensures { result ≡ valid_demands_in step.now links }
+fn valid_demands(demands: &[u32]) -> bool
+    ensures { result ≡ valid_demands_in demands.now }
 {
-    (0..links).all(|i| network_tables::demand(step, i) <= 600_000)
+    demands.iter().all(|demand| *demand <= 600_000)
 }
 
 // Refusal 6: whether the length is 1 to 60 and at most the shortest of all greatest times, and the demands are valid.
@@ -26,16 +25,16 @@ fn valid_step(step: &[u32], links: usize, shortest: u32) -> bool
     ensures { result ≡ valid_step_in step.now links shortest }
 {
     let seconds = network_tables::step_length(step);
-    (1 <= seconds) & (seconds <= 60) & (seconds <= shortest) & valid_demands(step, links)
+    (1..=60).contains(&seconds) & (seconds <= shortest) & valid_demands(&step[1..=links])
 }
 
-// Adds the demand of each link to its sum, which fits 32 bits.
-fn add_demands(step: &[u32], links: usize, demands: &mut [u32])
-    requires { AddAsked step.now links demands.old }
-    ensures { Added step.now links demands.old demands.new }
+// Adds the demand of each link in a step to its sum, which fits 32 bits.
+fn add_demands(demands: &[u32], sums: &mut [u32])
+    requires { AddAsked demands.now sums.old }
+    ensures { Added demands.now sums.old sums.new }
 {
-    for i in 0..links {
-        demands[i] = demands[i] + network_tables::demand(step, i);
+    for (i, demand) in demands.iter().enumerate() {
+        sums[i] += *demand;
     }
 }
 
@@ -51,18 +50,19 @@ pub fn read_steps(
 {
     let counts = reading.counts;
     let links = counts.links;
+    let width = counts.step_width();
     let mut step = [0u32; STEP_SIZE];
     let mut place = reading.next;
     for n in 0..counts.steps {
         let line = counts.step_line(n) + 1;
-        let read = network_tables::read_row(text, place, b'S', &mut step, 0, 1 + links);
-        place = read.ok_or(Refusal::new(1, line, 0))?;
+        let read = network_tables::read_row(text, place, b'S', &mut step, 0, width);
+        place = read.ok_or(Reason::NetworkForm.refusal(line, 0))?;
         if !valid_step(&step, links, reading.shortest) {
-            return Err(Refusal::new(6, line, n + 1));
+            return Err(Reason::Step.refusal(line, n + 1));
         }
         let seconds = network_tables::step_length(&step);
         step_arrivals::next_time(times, counts.past + n, seconds, reading.timed);
-        add_demands(&step, links, demands);
+        add_demands(&step[1..width], demands);
     }
     Ok(Reading {
         next: place,

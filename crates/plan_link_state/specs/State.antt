@@ -17,23 +17,23 @@ use Rattle.model.specs.declared.LinkState.{LinkState}
 use Rattle.base_search.specs.declared.Refusal.{Refusal}
 
 -- the tables are those of a network text that has passed
-pub record Tabled (text : List ℕ) (tables : NetworkTables) : Type 0 where
-  pub counted : CountsHold (lines text) tables.reading.counts
-  pub past-start : Starts text tables.reading.past_at (timeline_line (lines text) 0)
-  pub link-table : LinkTable (lines text) tables.links.now
-  pub time-table : TimeTable (lines text) tables.times.now
-  pub holds : Hold (network_checks (lines text))
+pub record Tabled (tables : NetworkTables) : Type 0 where
+  pub counted : CountsHold (lines tables.text.now) tables.reading.counts
+  pub past-start : Starts tables.text.now tables.reading.past_at (timeline_line (lines tables.text.now) 0)
+  pub link-table : LinkTable (lines tables.text.now) tables.links.now
+  pub time-table : TimeTable (lines tables.text.now) tables.times.now
+  pub holds : Hold (network_checks (lines tables.text.now))
 
 -- what reading the arrivals of link i at boundary n asks: the ledger has every row
-pub record ArrivedAsked (text : List ℕ) (tables : NetworkTables) (ledger : List ℕ) (n i : ℕ) : Type 0 where
-  pub tabled : Tabled text tables
-  pub early : n ≤ step_count (lines text)
-  pub link : i < link_count (lines text)
-  pub room : 2 * suc (step_count (lines text)) * link_count (lines text) ≤ length ledger
+pub record ArrivedAsked (tables : NetworkTables) (ledger : List ℕ) (n i : ℕ) : Type 0 where
+  pub tabled : Tabled tables
+  pub early : n ≤ step_count (lines tables.text.now)
+  pub link : i < link_count (lines tables.text.now)
+  pub room : 2 * suc (step_count (lines tables.text.now)) * link_count (lines tables.text.now) ≤ length ledger
 
-pub record OverAsked (text : List ℕ) (tables : NetworkTables) (ledger : List ℕ) (n i step : ℕ) : Type 0 where
-  pub asked : ArrivedAsked text tables ledger n i
-  pub is-step : step ≡ arrival_step (lines text) n i
+pub record OverAsked (tables : NetworkTables) (ledger : List ℕ) (n i step : ℕ) : Type 0 where
+  pub asked : ArrivedAsked tables ledger n i
+  pub is-step : step ≡ arrival_step (lines tables.text.now) n i
 
 -- what had entered link i by the start and by the end of the step in which its travel time before boundary n ends
 pub record EnteredOver (network : List Line) (ledger : List ℕ) (n i : ℕ) (arrival : Arrival) : Type 0 where

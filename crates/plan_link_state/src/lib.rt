@@ -8,7 +8,7 @@ ghost use Rattle.model.specs.Calls.{link_state};
 ghost use Rattle.model.specs.Guarantees.{StatePromises};
 ghost use Rattle.plan_link_state.specs.State.{Tabled, OverAsked, EnteredOver, arrived_in, ArrivedAsked, state_from};
 
-use base_search::Refusal;
+use base_search::{Reason, Refusal, checked};
 use model::{LinkState, Signal};
 use network_tables::{
     Link, MAX_LINKS, MAX_MOVEMENTS, MAX_SIGNALS, Movement, NetworkTables, TIME_TABLE_SIZE,
@@ -26,32 +26,24 @@ struct Arrived {
 
 // What had entered link `i` by the start and by the end of the timeline's step in which its travel time before boundary `n` ends: before time 0 by the network
 // alone, from then on as the ledger has it.
-fn entered_over(
-    text: &[u8],
-    tables: &NetworkTables,
-    ledger: &[u32],
-    n: usize,
-    i: usize,
-    step: usize,
-) -> Arrival
-    requires { OverAsked text.now tables.now ledger.now n i step }
-    ensures { EnteredOver (lines text.now) ledger.now n i result }
+fn entered_over(tables: &NetworkTables, ledger: &[u32], n: usize, i: usize, step: usize) -> Arrival
+    requires { OverAsked tables.now ledger.now n i step }
+    ensures { EnteredOver (lines tables.now.text.now) ledger.now n i result }
 {
     let counts = tables.reading.counts;
     let past = counts.past;
     let times = tables.times;
     let link = tables.links[i];
     if times[past + n] - times[past] < link.travel_time {
-        let standing = Arrival {
+        if step < past {
+            return step_past::read_arrival(tables, i, step);
+        }
+        return Arrival {
             step,
             start: link.standing,
             stop: link.standing,
-            place: tables.reading.past_at,
+            place: 0,
         };
-        if past <= step {
-            return standing;
-        }
-        return step_past::read_on(text, counts.links, i, 0, step + 1, standing);
     }
     let row = step - past;
     Arrival {
@@ -63,15 +55,15 @@ fn entered_over(
 }
 
 // What has arrived at the end of link `i` by boundary `n`.
-fn arrived_by(text: &[u8], tables: &NetworkTables, ledger: &[u32], n: usize, i: usize) -> Arrived
-    requires { ArrivedAsked text.now tables.now ledger.now n i }
-    ensures { result ≡ arrived_in (lines text.now) ledger.now n (i + 1) }
+fn arrived_by(tables: &NetworkTables, ledger: &[u32], n: usize, i: usize) -> Arrived
+    requires { ArrivedAsked tables.now ledger.now n i }
+    ensures { result ≡ arrived_in (lines tables.now.text.now) ledger.now n (i + 1) }
 {
     let times = tables.times;
     let travel = tables.links[i].travel_time;
     let at = tables.reading.counts.past + n;
     let step = step_arrivals::arrival_step(times, 0, at, travel);
-    let arrival = entered_over(text, tables, ledger, n, i, step);
+    let arrival = entered_over(tables, ledger, n, i, step);
     let seconds = step_arrivals::seconds(times, step);
     let elapsed = step_arrivals::elapsed(times, step, at, travel);
     Arrived {
@@ -88,15 +80,10 @@ fn state_from(entered: u32, left: u32, arrived: Arrived) -> Result<LinkState, Re
 {
     let scaled = arrived.scaled;
     let seconds = arrived.seconds;
-    if !arrived.rises {
-        return Err(Refusal::new(21, 0, 0));
-    }
-    if scaled < network_tables::times(left, seconds) {
-        return Err(Refusal::new(21, 0, 0));
-    }
-    if network_tables::times(entered, seconds) < scaled {
-        return Err(Refusal::new(21, 0, 0));
-    }
+    let agrees = arrived.rises
+        & (network_tables::times(left, seconds) <= scaled)
+        & (scaled <= network_tables::times(entered, seconds));
+    checked(agrees, Reason::StateLedger, 0, 0)?;
     let whole = (scaled / u64::from(seconds)) as u32;
     Ok(LinkState {
         queued: whole - left,
@@ -106,36 +93,26 @@ fn state_from(entered: u32, left: u32, arrived: Arrived) -> Result<LinkState, Re
 
 // The state by the tables of a network that has passed: refusals 8, 19, 20 and 21.
 fn state_by(
-    text: &[u8],
     tables: &NetworkTables,
     ledger: &[u32],
     boundary: u32,
     link: u32,
 ) -> Result<LinkState, Refusal>
-    requires { Tabled text.now tables.now }
-    ensures { result ≡ link_state (lines text.now) ledger.now boundary link }
+    requires { Tabled tables.now }
+    ensures { result ≡ link_state (lines tables.now.text.now) ledger.now boundary link }
 {
     let counts = tables.reading.counts;
     let count = counts.links;
-    let steps = counts.steps;
-    if ledger.len() < network_tables::row_start(steps + 1, count) {
-        return Err(Refusal::new(8, 0, 0));
-    }
+    let size = network_tables::row_start(counts.steps + 1, count);
+    checked(size <= ledger.len(), Reason::Ledger, 0, 0)?;
     let n = boundary as usize;
-    if steps < n {
-        return Err(Refusal::new(19, 0, 0));
-    }
+    checked(n <= counts.steps, Reason::StateBoundary, 0, 0)?;
     let number = link as usize;
-    if number < 1 {
-        return Err(Refusal::new(20, 0, 0));
-    }
-    if count < number {
-        return Err(Refusal::new(20, 0, 0));
-    }
+    checked((1..=count).contains(&number), Reason::StateLink, 0, 0)?;
     let i = number - 1;
     let entered = network_tables::entered_at(ledger, count, n, i);
     let left = network_tables::left_at(ledger, count, n, i);
-    state_from(entered, left, arrived_by(text, tables, ledger, n, i))
+    state_from(entered, left, arrived_by(tables, ledger, n, i))
 }
 
 // State of one link at a boundary: refusals 1 to 6, 28 and 30 of the network, 8 of the ledger, then 19, 20 and 21.
@@ -153,18 +130,12 @@ pub fn link_state(
     let mut links = [Link::default(); MAX_LINKS];
     let mut movements = [Movement::default(); MAX_MOVEMENTS];
     let mut times = [0u32; TIME_TABLE_SIZE];
-    let reading = network::read_network(
+    let tables = network::read_network(
         network,
         &mut signals,
         &mut links,
         &mut movements,
         &mut times,
     )?;
-    let tables = NetworkTables {
-        reading,
-        links: &links,
-        movements: &movements,
-        times: &times,
-    };
-    state_by(network, &tables, ledger, boundary, link)
+    state_by(&tables, ledger, boundary, link)
 }

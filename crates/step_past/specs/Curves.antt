@@ -1,11 +1,10 @@
 -- What entered the links in the past, by the `H` lines of a network text whose forms have passed: no plan has a say in it.
-use Rattle.std.specs.Prelude.{ℕ, suc, ◌+◌, ◌*◌, ◌-◌, ◌≤◌, ◌<◌, ◌≡◌, Bool, true, false, List, [], length, get_or}
+use Rattle.std.specs.Prelude.{ℕ, suc, ◌+◌, ◌*◌, ◌-◌, ◌≤◌, ◌<◌, ◌≡◌, true, List, [], Option, Some, None, length, get_or}
 use Rattle.text_reader.specs.Lines.{Line, lines}
 use Rattle.text_reader.specs.Reading.{Starts}
 use Rattle.model.specs.Network.{max_links, link_count, past_count, timeline_line, arrival_step}
 use Rattle.model.specs.Flows.{timeline_entered, timeline_left}
 use Rattle.model.specs.Table.{is_form, letter_h}
-use Rattle.network_tables.specs.declared.Counts.{Counts}
 use Rattle.network_tables.specs.declared.Link.{Link}
 use Rattle.network_tables.specs.declared.NetworkTables.{NetworkTables}
 use Rattle.network_tables.specs.Fields.{past_size, travel_time_in, standing_in, past_entries_in, entered_in, left_in}
@@ -38,34 +37,23 @@ pub record CurveTo (text : List ℕ) (i k : ℕ) (arrival : Arrival) : Type 0 wh
   pub began : (m : ℕ) → suc m ≡ k → arrival.start ≡ past_entered (lines text) m i
   pub ended : arrival.stop ≡ past_entered (lines text) k i
 
--- what reading on from one line to another asks ..
-pub record ReadAsked (text : List ℕ) (links i from to : ℕ) (arrival : Arrival) : Type 0 where
-  pub counted : links ≡ link_count (lines text)
-  pub few : links ≤ max_links
-  pub link : i < links
-  pub onward : from ≤ to
-  pub within : to ≤ past_count (lines text)
-  pub forms : PastForms (lines text)
-  pub fits : (m : ℕ) → m ≤ to → past_entered (lines text) m i < 4294967296
-  pub curve-from : CurveTo text i from arrival
-
--- .. and gives, with the step of the last line, if one is read
-pub record ReadOn (text : List ℕ) (i from to : ℕ) (arrival : Arrival) : Type 0 where
-  pub curve-to : CurveTo text i to arrival
-  pub step-to : from < to → arrival.step + 1 ≡ to
+-- what reading the curve of link i at the end of a past step asks
+pub record ReadAsked (tables : NetworkTables) (i step : ℕ) : Type 0 where
+  pub counted : CountsHold (lines tables.text.now) tables.reading.counts
+  pub starts : Starts tables.text.now tables.reading.past_at (timeline_line (lines tables.text.now) 0)
+  pub forms : PastForms (lines tables.text.now)
+  pub stands : standing_in tables.links.now i ≡ past_entered (lines tables.text.now) 0 i
+  pub link : i < link_count (lines tables.text.now)
+  pub past : step < past_count (lines tables.text.now)
+  pub fits : (m : ℕ) → m ≤ suc step → past_entered (lines tables.text.now) m i < 4294967296
 
 -- ---- row 0
-pub record StartAsked (links : List Link) (count : ℕ) (row : List ℕ) : Type 0 where
-  pub few : count ≤ max_links
-  pub link-size : length links ≡ max_links
-  pub room : 2 * count ≤ length row
-
--- the first n of so many links are at their standing start in a row
-pub record Started (links : List Link) (count n : ℕ) (before row : List ℕ) : Type 0 where
+-- the links are at their standing start in a row
+pub record Started (links : List Link) (before row : List ℕ) : Type 0 where
   pub size : length row ≡ length before
-  pub stands : (i : ℕ) → i < n → entered_in row i ≡ standing_in links i
-  pub none_left : (i : ℕ) → i < n → left_in row i ≡ 0
-  pub kept : (k : ℕ) → 2 * count ≤ k → get_or row k 0 ≡ get_or before k 0
+  pub stands : (i : ℕ) → i < length links → entered_in row i ≡ standing_in links i
+  pub none_left : (i : ℕ) → i < length links → left_in row i ≡ 0
+  pub kept : (k : ℕ) → 2 * length links ≤ k → get_or row k 0 ≡ get_or before k 0
 
 -- ---- the steps in which the links' travel times end, and the curves of those that are past ones
 -- the first n links are at their arrival steps of a boundary
@@ -91,29 +79,30 @@ pub record FindAsked (tables : NetworkTables) (arrivals : List Arrival) : Type 0
 abbrev pub Found : NetworkTables → ℕ → List Arrival → Type 0
 Found tables n arrivals = Arrived tables.times.now tables.links.now n tables.reading.counts.past arrivals
 
-pub record KeepAsked (fields row : List ℕ) (links : ℕ) (arrivals : List Arrival) : Type 0 where
+pub record KeepAsked (line : PastLine) (row : List ℕ) (links : ℕ) (arrivals : List Arrival) : Type 0 where
   pub size : length arrivals ≡ max_links
-  pub field-size : length fields ≡ past_size
+  pub field-size : length line.fields.now ≡ past_size
   pub few : links ≤ max_links
   pub row_room : 2 * links ≤ length row
-  pub part : (i : ℕ) → i < links → past_entries_in fields i ≤ entered_in row i
+  pub part : (i : ℕ) → i < links → past_entries_in line.fields.now i ≤ entered_in row i
 
--- the curve of link i is that of the row after step m, if the link's travel time ends in that step; else it is kept
-pub record KeptAt (fields row : List ℕ) (m i next : ℕ) (before after : Arrival) : Type 0 where
-  pub here : before.step ≡ m → after ≡ record { step = m; start = entered_in row i - past_entries_in fields i; stop = entered_in row i; place = next }
-  pub same : (before.step ≡ m → ⊥) → after ≡ before
+-- the curve of link i is that of the row after the line's step, if the link's travel time ends in that step; else it is kept
+pub record KeptAt (line : PastLine) (row : List ℕ) (i : ℕ) (before after : Arrival) : Type 0 where
+  pub here : before.step ≡ line.step
+      → after ≡ record { step = line.step; start = entered_in row i - past_entries_in line.fields.now i; stop = entered_in row i; place = line.next }
+  pub same : (before.step ≡ line.step → ⊥) → after ≡ before
 
-pub record Kept (fields row : List ℕ) (links m next : ℕ) (before after : List Arrival) : Type 0 where
+pub record Kept (line : PastLine) (row : List ℕ) (links : ℕ) (before after : List Arrival) : Type 0 where
   pub size : length after ≡ max_links
-  pub each-link : (i : ℕ) → i < links → KeptAt fields row m i next (arrival_at before i) (arrival_at after i)
+  pub each-link : (i : ℕ) → i < links → KeptAt line row i (arrival_at before i) (arrival_at after i)
 
 -- what loading the past asks ..
-pub record PastAsked (text : List ℕ) (tables : NetworkTables) (row : List ℕ) (arrivals : List Arrival) : Type 0 where
-  pub counted : CountsHold (lines text) tables.reading.counts
-  pub starts : Starts text tables.reading.past_at (timeline_line (lines text) 0)
-  pub forms : PastForms (lines text)
-  pub link-table : LinkTable (lines text) tables.links.now
-  pub time-table : TimeTable (lines text) tables.times.now
+pub record PastAsked (tables : NetworkTables) (row : List ℕ) (arrivals : List Arrival) : Type 0 where
+  pub counted : CountsHold (lines tables.text.now) tables.reading.counts
+  pub starts : Starts tables.text.now tables.reading.past_at (timeline_line (lines tables.text.now) 0)
+  pub forms : PastForms (lines tables.text.now)
+  pub link-table : LinkTable (lines tables.text.now) tables.links.now
+  pub time-table : TimeTable (lines tables.text.now) tables.times.now
   pub cursors : (i : ℕ) → i < tables.reading.counts.links → Cursor tables.times.now 0 tables.reading.counts.past (travel_time_in tables.links.now i)
   pub row_room : 2 * tables.reading.counts.links ≤ length row
   pub size : length arrivals ≡ max_links
@@ -130,38 +119,39 @@ pub record PastOverflows (network : List Line) : Type 0 where
   pub over : past_entered network (past_count network) link < 4294967296 → past_left network (past_count network) link < 4294967296 → ⊥
 
 -- .. and gives
-pub record PastLoaded (text : List ℕ) (counts : Counts) (before : List ℕ) (result : Bool) (row : List ℕ) (arrivals : List Arrival) : Type 0 where
+pub record PastLoaded (tables : NetworkTables) (before : List ℕ) (result : Option (Unit {0})) (row : List ℕ) (arrivals : List Arrival) : Type 0 where
   pub size : length row ≡ length before
-  pub kept : (k : ℕ) → 2 * counts.links ≤ k → get_or row k 0 ≡ get_or before k 0
-  pub arrivals-at : ArrivalTable (lines text) 0 arrivals
-  pub row-held : result ≡ true → PastRow (lines text) (past_count (lines text)) row
-  pub curves-at : result ≡ true → CurvesAt text arrivals
-  pub overflows : result ≡ false → PastOverflows (lines text)
+  pub kept : (k : ℕ) → 2 * tables.reading.counts.links ≤ k → get_or row k 0 ≡ get_or before k 0
+  pub arrivals-at : ArrivalTable (lines tables.text.now) 0 arrivals
+  pub row-held : result ≡ Some tt → PastRow (lines tables.text.now) (past_count (lines tables.text.now)) row
+  pub curves-at : result ≡ Some tt → CurvesAt tables.text.now arrivals
+  pub overflows : result ≡ None → PastOverflows (lines tables.text.now)
 
 -- ---- from one boundary to the next
 -- what the links are moved on by, from boundary to boundary: lines that have passed, whose volumes fit 32 bits
-pub record MoveTables (text : List ℕ) (tables : NetworkTables) : Type 0 where
-  pub counted : CountsHold (lines text) tables.reading.counts
-  pub forms : PastForms (lines text)
-  pub fits : (i : ℕ) → i < link_count (lines text) → (m : ℕ) → m ≤ past_count (lines text) → past_entered (lines text) m i < 4294967296
+pub record MoveTables (tables : NetworkTables) : Type 0 where
+  pub counted : CountsHold (lines tables.text.now) tables.reading.counts
+  pub forms : PastForms (lines tables.text.now)
+  pub fits : (i : ℕ) → i < link_count (lines tables.text.now) → (m : ℕ) → m ≤ past_count (lines tables.text.now) → past_entered (lines tables.text.now) m i < 4294967296
 
--- an `H` line moves link i on, if the link is at the step before it and its travel time ends in the line's step or later; else the link stays
-pub record MovedBy (fields : List ℕ) (line : PastLine) (i travel : ℕ) (before after : Arrival) : Type 0 where
-  pub goes : before.step ≡ line.from → travel ≤ line.since
-      → after ≡ record { step = line.from + 1; start = before.stop; stop = before.stop + past_entries_in fields i; place = line.next }
-  pub stays : (before.step ≡ line.from → travel ≤ line.since → ⊥) → after ≡ before
+-- An `H` line moves link i on to a boundary that is so many seconds past the start of the line's step, if the link is at the step before it and its travel time
+-- ends in the line's step or later; else the link stays.
+pub record MovedBy (line : PastLine) (since i travel : ℕ) (before after : Arrival) : Type 0 where
+  pub goes : before.step + 1 ≡ line.step → travel ≤ since
+      → after ≡ record { step = line.step; start = before.stop; stop = before.stop + past_entries_in line.fields.now i; place = line.next }
+  pub stays : (before.step + 1 ≡ line.step → travel ≤ since → ⊥) → after ≡ before
 
-pub record LinksAsked (fields : List ℕ) (tables : NetworkTables) (line : PastLine) (first : ℕ) (arrivals : List Arrival) : Type 0 where
+pub record LinksAsked (line : PastLine) (tables : NetworkTables) (since first : ℕ) (arrivals : List Arrival) : Type 0 where
   pub own : first < tables.reading.counts.links
-  pub field-size : length fields ≡ past_size
+  pub field-size : length line.fields.now ≡ past_size
   pub size : length arrivals ≡ max_links
-  pub few : line.from < 120
-  pub fits : (i : ℕ) → first ≤ i → i < tables.reading.counts.links → (arrival_at arrivals i).step ≡ line.from → travel_time_in tables.links.now i ≤ line.since
-      → (arrival_at arrivals i).stop + past_entries_in fields i < 4294967296
+  pub later : 1 ≤ line.step
+  pub fits : (i : ℕ) → first ≤ i → i < tables.reading.counts.links → (arrival_at arrivals i).step + 1 ≡ line.step → travel_time_in tables.links.now i ≤ since
+      → (arrival_at arrivals i).stop + past_entries_in line.fields.now i < 4294967296
 
-pub record LinksMoved (fields : List ℕ) (tables : NetworkTables) (line : PastLine) (first : ℕ) (before after : List Arrival) : Type 0 where
+pub record LinksMoved (line : PastLine) (tables : NetworkTables) (since first : ℕ) (before after : List Arrival) : Type 0 where
   pub size : length after ≡ max_links
-  pub each-link : (i : ℕ) → first ≤ i → i < tables.reading.counts.links → MovedBy fields line i (travel_time_in tables.links.now i) (arrival_at before i) (arrival_at after i)
+  pub each-link : (i : ℕ) → first ≤ i → i < tables.reading.counts.links → MovedBy line since i (travel_time_in tables.links.now i) (arrival_at before i) (arrival_at after i)
   pub kept : (i : ℕ) → i < first → arrival_at after i ≡ arrival_at before i
 
 -- link i is at a step that is not past its arrival step at a boundary, with the curve of that step if it is a past one
@@ -170,29 +160,29 @@ pub record Behind (text times : List ℕ) (at i travel : ℕ) (arrival : Arrival
   pub curved : arrival.step < past_count (lines text) → CurveTo text i (arrival.step + 1) arrival
 
 -- links i and those behind it are to be moved on
-pub record MoveAsked (text : List ℕ) (tables : NetworkTables) (at i : ℕ) (arrivals : List Arrival) : Type 0 where
-  pub move-tables : MoveTables text tables
+pub record MoveAsked (tables : NetworkTables) (at i : ℕ) (arrivals : List Arrival) : Type 0 where
+  pub move-tables : MoveTables tables
   pub link : i < tables.reading.counts.links
   pub size : length arrivals ≡ max_links
-  pub behind : (j : ℕ) → i ≤ j → j < tables.reading.counts.links → Behind text tables.times.now at j (travel_time_in tables.links.now j) (arrival_at arrivals j)
+  pub behind : (j : ℕ) → i ≤ j → j < tables.reading.counts.links → Behind tables.text.now tables.times.now at j (travel_time_in tables.links.now j) (arrival_at arrivals j)
 
-pub record PastMoveAsked (text : List ℕ) (tables : NetworkTables) (at i to : ℕ) (arrivals : List Arrival) : Type 0 where
-  pub asked : MoveAsked text tables at i arrivals
+pub record PastMoveAsked (tables : NetworkTables) (at i to : ℕ) (arrivals : List Arrival) : Type 0 where
+  pub asked : MoveAsked tables at i arrivals
   pub is-step : to ≡ arrival_step_in tables.times.now at (travel_time_in tables.links.now i)
   pub early : to < tables.reading.counts.past
 
 -- link i is moved on, those behind it are not past their steps, and those before it are as they were
-pub record Moved (text : List ℕ) (tables : NetworkTables) (at i : ℕ) (before after : List Arrival) : Type 0 where
+pub record Moved (tables : NetworkTables) (at i : ℕ) (before after : List Arrival) : Type 0 where
   pub size : length after ≡ max_links
   pub arrived : (arrival_at after i).step ≡ arrival_step_in tables.times.now at (travel_time_in tables.links.now i)
-  pub behind : (j : ℕ) → i ≤ j → j < tables.reading.counts.links → Behind text tables.times.now at j (travel_time_in tables.links.now j) (arrival_at after j)
+  pub behind : (j : ℕ) → i ≤ j → j < tables.reading.counts.links → Behind tables.text.now tables.times.now at j (travel_time_in tables.links.now j) (arrival_at after j)
   pub kept : (j : ℕ) → j < i → arrival_at after j ≡ arrival_at before j
 
-pub record NextAsked (text : List ℕ) (tables : NetworkTables) (at : ℕ) (arrivals : List Arrival) : Type 0 where
-  pub move-tables : MoveTables text tables
+pub record NextAsked (tables : NetworkTables) (at : ℕ) (arrivals : List Arrival) : Type 0 where
+  pub move-tables : MoveTables tables
   pub cursors : (i : ℕ) → i < tables.reading.counts.links → Cursor tables.times.now (arrival_at arrivals i).step at (travel_time_in tables.links.now i)
-  pub curves-at : CurvesAt text arrivals
+  pub curves-at : CurvesAt tables.text.now arrivals
 
-pub record NextGot (text : List ℕ) (tables : NetworkTables) (at : ℕ) (arrivals : List Arrival) : Type 0 where
+pub record NextGot (tables : NetworkTables) (at : ℕ) (arrivals : List Arrival) : Type 0 where
   pub steps-at : Arrived tables.times.now tables.links.now tables.reading.counts.links at arrivals
-  pub curves-at : CurvesAt text arrivals
+  pub curves-at : CurvesAt tables.text.now arrivals

@@ -3,8 +3,10 @@
 // next for it, and a line is read once for all links that it is next for.
 #![tactic(auto)]
 
-ghost use Rattle.std.specs.Prelude.{◌≡◌};
-ghost use Rattle.step_past.specs.Curves.{ReadAsked, ReadOn, StartAsked, Started, FindAsked, Found, KeepAsked, Kept, PastAsked, PastLoaded, LinksAsked, LinksMoved, MoveAsked, PastMoveAsked, Moved, NextAsked, NextGot};
+ghost use Rattle.std.specs.Prelude.{◌≡◌, ◌+◌, ◌*◌, ◌<◌, ◌≤◌, length};
+ghost use Rattle.model.specs.Network.{max_links};
+ghost use Rattle.network_tables.specs.Fields.{past_size, past_entries_in};
+ghost use Rattle.step_past.specs.Curves.{ReadAsked, CurveTo, Started, FindAsked, Found, KeepAsked, Kept, PastAsked, PastLoaded, LinksAsked, LinksMoved, MoveAsked, PastMoveAsked, Moved, NextAsked, NextGot};
 
 use network_tables::{Link, NetworkTables, PAST_SIZE};
 
@@ -18,32 +20,44 @@ pub struct Arrival {
     pub place: usize,
 }
 
-// Reads `H` lines `from` to `to` - 1 for link `i`.
-pub fn read_on(
-    text: &[u8],
-    links: usize,
-    i: usize,
-    from: usize,
-    to: usize,
-    mut arrival: Arrival,
-) -> Arrival
-    requires { ReadAsked text.now links i from to arrival }
-    ensures { ReadOn text.now i from to result }
+// An `H` line that is read again: its step, its numbers, and the place of the line after it.
+#[derive(Clone, Copy)]
+struct PastLine<'a> {
+    step: usize,
+    fields: &'a [u32],
+    next: usize,
+}
+
+impl PastLine<'_> {
+    // What enters link `i` in the step.
+    fn entries(&self, i: usize) -> u32
+        requires { (i < max_links) × (length self.now.fields.now ≡ past_size) }
+        ensures { result ≡ past_entries_in self.now.fields.now i }
+    {
+        self.fields[1 + 2 * i]
+    }
+}
+
+// What had entered link `i` by the start and by the end of past step `step`, by the `H` lines up to it.
+pub fn read_arrival(tables: &NetworkTables, i: usize, step: usize) -> Arrival
+    requires { ReadAsked tables.now i step }
+    ensures { CurveTo tables.now.text.now i (step + 1) result }
 {
+    let standing = tables.links[i].standing;
+    let width = tables.reading.counts.past_width();
     let mut fields = [0u32; PAST_SIZE];
-    for m in from..to {
-        let next = network_tables::read_again(
-            text,
-            arrival.place,
-            b'H',
-            &mut fields,
-            1 + 2 * links,
-        );
-        let entries = fields[1 + 2 * i];
+    let mut arrival = Arrival {
+        step,
+        start: standing,
+        stop: standing,
+        place: tables.reading.past_at,
+    };
+    for _ in 0..step + 1 {
+        let next = network_tables::read_again(tables.text, arrival.place, b'H', &mut fields, width);
         arrival = Arrival {
-            step: m,
+            step,
             start: arrival.stop,
-            stop: arrival.stop + entries,
+            stop: arrival.stop + fields[1 + 2 * i],
             place: next,
         };
     }
@@ -51,12 +65,12 @@ pub fn read_on(
 }
 
 // A row at the start of the timeline: what stands on each link has entered it, and nothing has left.
-fn start_row(links: &[Link], count: usize, row: &mut [u32])
-    requires { StartAsked links.now count row.old }
-    ensures { Started links.now count count row.old row.new }
+fn start_row(links: &[Link], row: &mut [u32])
+    requires { 2 * length links.now ≤ length row.old }
+    ensures { Started links.now row.old row.new }
 {
-    for i in 0..count {
-        row[2 * i] = links[i].standing;
+    for (i, link) in links.iter().enumerate() {
+        row[2 * i] = link.standing;
         row[2 * i + 1] = 0;
     }
 }
@@ -77,83 +91,70 @@ fn find_steps(tables: &NetworkTables, arrivals: &mut [Arrival])
     }
 }
 
-// Keeps what had entered each link whose travel time ends in step `m`, by the row at the step's end and the step's line.
-fn keep_curves(
-    fields: &[u32],
-    row: &[u32],
-    links: usize,
-    m: usize,
-    next: usize,
-    arrivals: &mut [Arrival],
-)
-    requires { KeepAsked fields.now row.now links arrivals.old }
-    ensures { Kept fields.now row.now links m next arrivals.old arrivals.new }
+// Keeps what had entered each link whose travel time ends in the line's step, by the row at the step's end.
+fn keep_curves(line: &PastLine, row: &[u32], links: usize, arrivals: &mut [Arrival])
+    requires { KeepAsked line.now row.now links arrivals.old }
+    ensures { Kept line.now row.now links arrivals.old arrivals.new }
 {
     for i in 0..links {
-        if arrivals[i].step == m {
+        if arrivals[i].step == line.step {
             let stop = network_tables::entered(row, i);
             arrivals[i] = Arrival {
-                step: m,
-                start: stop - fields[1 + 2 * i],
+                step: line.step,
+                start: stop - line.entries(i),
                 stop,
-                place: next,
+                place: line.next,
             };
         }
     }
 }
 
-// Row 0, by all `H` lines, in the front of `row`; and what each link waits for at boundary 0. False where a number of row 0 does not fit 32 bits.
-pub fn load_past(
-    text: &[u8],
-    tables: &NetworkTables,
-    row: &mut [u32],
-    arrivals: &mut [Arrival],
-) -> bool
-    requires { PastAsked text.now tables.now row.old arrivals.old }
-    ensures { PastLoaded text.now tables.now.reading.counts row.old result row.new arrivals.new }
+// Row 0, by all `H` lines, in the front of `row`; and what each link waits for at boundary 0. `None` where a number of row 0 does not fit 32 bits.
+pub fn load_past(tables: &NetworkTables, row: &mut [u32], arrivals: &mut [Arrival]) -> Option<()>
+    requires { PastAsked tables.now row.old arrivals.old }
+    ensures { PastLoaded tables.now row.old result row.new arrivals.new }
 {
     let counts = tables.reading.counts;
-    start_row(tables.links, counts.links, row);
+    let width = counts.past_width();
+    start_row(&tables.links[..counts.links], row);
     find_steps(tables, arrivals);
     let mut fields = [0u32; PAST_SIZE];
     let mut place = tables.reading.past_at;
-    for m in 0..counts.past {
-        place = network_tables::read_again(text, place, b'H', &mut fields, 1 + 2 * counts.links);
+    for step in 0..counts.past {
+        place = network_tables::read_again(tables.text, place, b'H', &mut fields, width);
         if !network_tables::add_numbers(&fields, 2 * counts.links, row) {
-            return false;
+            return None;
         }
-        keep_curves(&fields, row, counts.links, m, place, arrivals);
+        let line = PastLine {
+            step,
+            fields: &fields,
+            next: place,
+        };
+        keep_curves(&line, row, counts.links, arrivals);
     }
-    true
+    Some(())
 }
 
-// An `H` line that is read while links are moved on to a boundary: the step before its own, where the next line starts, and the seconds from the start of the
-// line's step to the boundary.
-#[derive(Clone, Copy)]
-pub struct PastLine {
-    pub from: usize,
-    pub next: usize,
-    pub since: u32,
-}
-
-// Moves each link from `first` on by an `H` line, if the link is at the step before and its travel time ends in the line's step or later.
+// Moves each link from `first` on by an `H` line to a boundary that is `since` seconds past the start of the line's step, if the link is at the step before and
+// its travel time ends in the line's step or later.
 fn move_links(
-    fields: &[u32],
+    line: &PastLine,
     tables: &NetworkTables,
-    line: PastLine,
+    since: u32,
     first: usize,
     arrivals: &mut [Arrival],
 )
-    requires { LinksAsked fields.now tables.now line first arrivals.old }
-    ensures { LinksMoved fields.now tables.now line first arrivals.old arrivals.new }
+    requires { LinksAsked line.now tables.now since first arrivals.old }
+    ensures { LinksMoved line.now tables.now since first arrivals.old arrivals.new }
 {
+    let from = line.step - 1;
     for i in first..tables.reading.counts.links {
         let arrival = arrivals[i];
-        if (arrival.step == line.from) & (tables.links[i].travel_time <= line.since) {
+        if (arrival.step == from) & (tables.links[i].travel_time <= since) {
             arrivals[i] = Arrival {
-                step: line.from + 1,
+                step: line.step,
                 start: arrival.stop,
-                stop: arrival.stop + fields[1 + 2 * i],
+                stop: arrival.stop + line.entries(i),
                 place: line.next,
             };
         }
@@ -161,39 +162,32 @@ fn move_links(
 }
 
 // Moves link `i`, whose travel time ends in past step `to`, on to the timeline's boundary `at`. An `H` line that is read for it moves the links behind it on too.
-fn move_past(
-    text: &[u8],
-    tables: &NetworkTables,
-    at: usize,
-    i: usize,
-    to: usize,
-    arrivals: &mut [Arrival],
-)
-    requires { PastMoveAsked text.now tables.now at i to arrivals.old }
-    ensures { Moved text.now tables.now at i arrivals.old arrivals.new }
+fn move_past(tables: &NetworkTables, at: usize, i: usize, to: usize, arrivals: &mut [Arrival])
+    requires { PastMoveAsked tables.now at i to arrivals.old }
+    ensures { Moved tables.now at i arrivals.old arrivals.new }
 {
     let times = tables.times;
+    let width = tables.reading.counts.past_width();
     let mut fields = [0u32; PAST_SIZE];
     // No `for`: how many lines are read is known only by where they move the link.
     while arrivals[i].step < to {
-        let from = arrivals[i].step;
-        let next = network_tables::read_again(
-            text,
-            arrivals[i].place,
-            b'H',
-            &mut fields,
-            1 + 2 * tables.reading.counts.links,
-        );
-        let since = times[at] - times[from + 1];
-        let line = PastLine { from, next, since };
-        move_links(&fields, tables, line, i, arrivals);
+        let step = arrivals[i].step + 1;
+        let place = arrivals[i].place;
+        let next = network_tables::read_again(tables.text, place, b'H', &mut fields, width);
+        let line = PastLine {
+            step,
+            fields: &fields,
+            next,
+        };
+        let since = times[at] - times[step];
+        move_links(&line, tables, since, i, arrivals);
     }
 }
 
 // Moves link `i` on to the timeline's boundary `at`: the step in which its travel time ends and, as long as that is a past one, its curve.
-fn move_on(text: &[u8], tables: &NetworkTables, at: usize, i: usize, arrivals: &mut [Arrival])
-    requires { MoveAsked text.now tables.now at i arrivals.old }
-    ensures { Moved text.now tables.now at i arrivals.old arrivals.new }
+fn move_on(tables: &NetworkTables, at: usize, i: usize, arrivals: &mut [Arrival])
+    requires { MoveAsked tables.now at i arrivals.old }
+    ensures { Moved tables.now at i arrivals.old arrivals.new }
 {
     let from = arrivals[i].step;
     let to = step_arrivals::arrival_step(tables.times, from, at, tables.links[i].travel_time);
@@ -204,15 +198,15 @@ fn move_on(text: &[u8], tables: &NetworkTables, at: usize, i: usize, arrivals: &
     if from == to {
         return;
     }
-    move_past(text, tables, at, i, to, arrivals);
+    move_past(tables, at, i, to, arrivals);
 }
 
 // Moves every link on to the timeline's boundary `at`.
-pub fn next_arrivals(text: &[u8], tables: &NetworkTables, at: usize, arrivals: &mut [Arrival])
-    requires { NextAsked text.now tables.now at arrivals.old }
-    ensures { NextGot text.now tables.now at arrivals.new }
+pub fn next_arrivals(tables: &NetworkTables, at: usize, arrivals: &mut [Arrival])
+    requires { NextAsked tables.now at arrivals.old }
+    ensures { NextGot tables.now at arrivals.new }
 {
     for i in 0..tables.reading.counts.links {
-        move_on(text, tables, at, i, arrivals);
+        move_on(tables, at, i, arrivals);
     }
 }
