@@ -9,14 +9,13 @@ use Rattle.network_tables.specs.Fields.{signal_at}
 unfoldable pub valid_mask_in : ℕ → ℕ → List Signal → Bool
 valid_mask_in mask signal signals = cond (eqb signal 0) (eqb mask 0) (leb 1 mask and ltb mask (2 ^ (signal_at signals (signal - 1)).phases))
 
--- 4, a link among so many signals
-unfoldable pub valid_link_in : Link → ℕ → List Signal → Bool
-valid_link_in link count signals =
+-- 4, a link among the network's signals
+unfoldable pub valid_link_in : Link → List Signal → Bool
+valid_link_in link signals =
     leb link.capacity 2_000_000_000 and within 1 link.travel_time 3600 and leb link.exit_rate 10_000
-    and leb link.signal count and valid_mask_in link.phase_mask link.signal signals
+    and leb link.signal (length signals) and valid_mask_in link.phase_mask link.signal signals
     and leb link.standing link.capacity
 
--- so many signals stand in the table, each with at most 8 phases
-pub record PhasesKnown (count : ℕ) (signals : List Signal) : Type 0 where
-  pub room : count ≤ length signals
-  pub few : (r : ℕ) → r < count → (signal_at signals r).phases ≤ 8
+-- each signal has at most 8 phases
+pub record FewPhases (signals : List Signal) : Type 0 where
+  pub few : (r : ℕ) → r < length signals → (signal_at signals r).phases ≤ 8

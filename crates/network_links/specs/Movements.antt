@@ -28,9 +28,11 @@ unfoldable pub last_movement_in : List Movement → ℕ → ℕ → ℕ
 last_movement_in movements zero link = 0
 last_movement_in movements (suc m) link = cond (eqb (link_in movements 0 m) link) (suc m) (last_movement_in movements m link)
 
--- that movement, from 0
-abbrev pub LastMovement : List Movement → ℕ → ℕ → Option ℕ → Type 0
-LastMovement movements m link = λ last. MatchOption last (last_movement_in movements m link ≡ 0) (λ j. (j < m) × (last_movement_in movements m link ≡ j + 1))
+-- the last movement that leaves a link, from 0
+abbrev pub LastMovement : List Movement → ℕ → Option ℕ → Type 0
+LastMovement movements link = λ last.
+    MatchOption last (last_movement_in movements (length movements) link ≡ 0)
+    (λ j. (j < length movements) × (last_movement_in movements (length movements) link ≡ j + 1))
 
 -- the sum of the shares of the first m movements that leave a link
 unfoldable pub share_sum_in : List Movement → ℕ → ℕ → ℕ
@@ -41,21 +43,16 @@ unfoldable pub valid_shares_in : List Movement → ℕ → ℕ → Bool
 valid_shares_in movements m link = eqb (last_movement_in movements m link) 0 or eqb (share_sum_in movements m link) 1000
 
 -- where they don't, the link's last movement
-abbrev pub BadShares : List Movement → ℕ → ℕ → Option ℕ → Type 0
-BadShares movements m link = λ last.
-    MatchOption last (valid_shares_in movements m link ≡ true)
-    (λ j. (valid_shares_in movements m link ≡ false) × (j < m) × (last_movement_in movements m link ≡ j + 1))
+abbrev pub BadShares : List Movement → ℕ → Option ℕ → Type 0
+BadShares movements link = λ last.
+    MatchOption last (valid_shares_in movements (length movements) link ≡ true)
+    (λ j. (valid_shares_in movements (length movements) link ≡ false) × (j < length movements) × (last_movement_in movements (length movements) link ≡ j + 1))
 
 -- reported at the link's last movement, whose line from 1 is the place of the movement after it
 unfoldable pub share_checks_in : List Movement → Counts → ℕ → Checks
 share_checks_in movements counts i =
     check 5 (movement_line_in counts (last_movement_in movements counts.movements (suc i))) (last_movement_in movements counts.movements (suc i))
     (valid_shares_in movements counts.movements (suc i))
-
--- the first m movements stand in the table
-pub record MovementsKnown (movements : List Movement) (m : ℕ) : Type 0 where
-  pub room : length movements ≡ max_movements
-  pub few : m ≤ max_movements
 
 -- what adding a share to the sum of a link asks, and gives; no link but the first 24 has a sum
 pub record AddAsked (part : ℕ) (sums : List ℕ) : Type 0 where
@@ -66,9 +63,9 @@ pub record Added (from part : ℕ) (before after : List ℕ) : Type 0 where
   pub size : length after ≡ max_links
   pub each-sum : (i : ℕ) → i < max_links → get_or after i 0 ≡ get_or before i 0 + only (eqb from (i + 1)) part
 
--- what summing up the shares of m movements asks, with nothing summed up yet, and gives
-pub record SumsAsked (movements : List Movement) (m : ℕ) (sums : List ℕ) : Type 0 where
-  pub known : MovementsKnown movements m
+-- what summing up the shares of all movements asks, with nothing summed up yet, and the sums of the first m
+pub record SumsAsked (movements : List Movement) (sums : List ℕ) : Type 0 where
+  pub few : length movements ≤ max_movements
   pub size : length sums ≡ max_links
   pub none : (i : ℕ) → i < max_links → get_or sums i 0 ≡ 0
 

@@ -28,7 +28,7 @@ pub record MovementsHeld (text : List ℕ) (movements : List Movement) (reading 
   pub reached : Reached text (timeline_line (lines text) 0) reading
   pub table : MovementTable (lines text) movements
 
--- the shares are judged by the table alone
+-- the shares are judged by the movements alone
 pub record SharesAsked (movements : List Movement) (counts : Counts) : Type 0 where
-  pub room : length movements ≡ max_movements
+  pub size : length movements ≡ counts.movements
   pub few : Few counts

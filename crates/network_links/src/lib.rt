@@ -1,22 +1,22 @@
 // The `Q` and `M` lines of a network text and the sums of the shares: refusals 1, 4 and 5.
 #![tactic(auto)]
 
-ghost use Rattle.std.specs.Prelude.{◌≡◌, ◌+◌};
+ghost use Rattle.std.specs.Prelude.{◌≡◌, ◌<◌, ◌≤◌, length};
 ghost use Rattle.base_search.specs.Checks.{each, verdict};
 ghost use Rattle.text_reader.specs.Lines.{lines};
 ghost use Rattle.network_tables.specs.Tables.{Judged};
 ghost use Rattle.network_tables.specs.Blocks.{block_checks, link_block, movement_block};
-ghost use Rattle.network_links.specs.Links.{valid_mask_in, valid_link_in, PhasesKnown};
-ghost use Rattle.network_links.specs.Movements.{pair_rises_in, valid_movement_in, share_sum_in, share_checks_in, MovementsKnown, LastMovement, BadShares, AddAsked, Added, SumsAsked, ShareSums};
+ghost use Rattle.network_links.specs.Links.{valid_mask_in, valid_link_in, FewPhases};
+ghost use Rattle.network_links.specs.Movements.{pair_rises_in, valid_movement_in, share_sum_in, share_checks_in, LastMovement, BadShares, AddAsked, Added, SumsAsked, ShareSums};
 ghost use Rattle.network_links.specs.Stages.{LinksAsked, LinksHeld, MovementsAsked, MovementsHeld, SharesAsked};
 
-use base_search::Refusal;
+use base_search::{Reason, Refusal, checked};
 use model::Signal;
-use network_tables::{Counts, Link, MAX_LINKS, Movement, Reading, checked, read_rows};
+use network_tables::{Counts, Link, MAX_LINKS, Movement, Reading, read_rows};
 
 // Refusal 4: a link without a signal has no phase; one with a signal has a phase, and none above the signal's number of phases.
 fn valid_mask(mask: u32, signal: usize, signals: &[Signal]) -> bool
-    requires { PhasesKnown signal signals.now }
+    requires { (FewPhases signals.now) × (signal ≤ length signals.now) }
     ensures { result ≡ valid_mask_in mask signal signals.now }
 {
     if signal == 0 {
@@ -26,17 +26,17 @@ fn valid_mask(mask: u32, signal: usize, signals: &[Signal]) -> bool
     (1 <= mask) & (mask < 1 << last)
 }
 
-// Refusal 4, a link among so many signals.
-fn valid_link(link: Link, count: usize, signals: &[Signal]) -> bool
-    requires { PhasesKnown count signals.now }
-    ensures { result ≡ valid_link_in link count signals.now }
+// Refusal 4, a link among the network's signals.
+fn valid_link(link: Link, signals: &[Signal]) -> bool
+    requires { FewPhases signals.now }
+    ensures { result ≡ valid_link_in link signals.now }
 {
     let signal = link.signal as usize;
-    if count < signal {
+    if signals.len() < signal {
         return false;
     }
     (link.capacity <= 2000000000)
-        & ((1 <= link.travel_time) & (link.travel_time <= 3600))
+        & (1..=3600).contains(&link.travel_time)
         & (link.exit_rate <= 10000)
         & valid_mask(link.phase_mask, signal, signals)
         & (link.standing <= link.capacity)
@@ -54,9 +54,10 @@ pub fn read_links(
 {
     let counts = reading.counts;
     let first = counts.link_line(0) + 1;
+    let signals = &signals[..counts.signals];
     let judge = |links: &[Link], i: usize| {
-        let valid = valid_link(links[i], counts.signals, signals);
-        checked(valid, 4, first + i, i + 1)
+        let valid = valid_link(links[i], signals);
+        checked(valid, Reason::Link, first + i, i + 1)
     };
     let next = read_rows(text, reading.next, b'Q', first, counts.links, links, judge)?;
     Ok(reading.moved_to(next))
@@ -64,7 +65,7 @@ pub fn read_links(
 
 // Refusal 5: the pair (from, to) of movement `j` is above that of the movement before.
 fn pair_rises(movements: &[Movement], j: usize) -> bool
-    requires { MovementsKnown movements.now (j + 1) }
+    requires { j < length movements.now }
     ensures { result ≡ pair_rises_in movements.now j }
 {
     if j == 0 {
@@ -77,17 +78,17 @@ fn pair_rises(movements: &[Movement], j: usize) -> bool
 
 // Refusal 5, movement `j`, by its row and the one before.
 fn valid_movement(movements: &[Movement], links: usize, j: usize) -> bool
-    requires { MovementsKnown movements.now (j + 1) }
+    requires { j < length movements.now }
     ensures { result ≡ valid_movement_in movements.now links j }
 {
     let movement = movements[j];
     let from = movement.from as usize;
     let to = movement.to as usize;
-    ((1 <= from) & (from <= links))
-        & ((1 <= to) & (to <= links))
+    (1..=links).contains(&from)
+        & (1..=links).contains(&to)
         & (from != to)
-        & ((1 <= movement.rate) & (movement.rate <= 10000))
-        & ((1 <= movement.share) & (movement.share <= 1000))
+        & (1..=10000).contains(&movement.rate)
+        & (1..=1000).contains(&movement.share)
         & pair_rises(movements, j)
 }
 
@@ -104,7 +105,7 @@ pub fn read_movements(
     let first = counts.movement_line(0) + 1;
     let judge = |movements: &[Movement], j: usize| {
         let valid = valid_movement(movements, counts.links, j);
-        checked(valid, 5, first + j, j + 1)
+        checked(valid, Reason::Movement, first + j, j + 1)
     };
     let next = read_rows(
         text,
@@ -119,17 +120,12 @@ pub fn read_movements(
 }
 
 // The last movement that leaves a link, numbered from 1.
-fn last_movement(movements: &[Movement], count: usize, link: usize) -> Option<usize>
-    requires { MovementsKnown movements.now count }
-    ensures { LastMovement movements.now count link result }
+fn last_movement(movements: &[Movement], link: usize) -> Option<usize>
+    ensures { LastMovement movements.now link result }
 {
-    let mut last = None;
-    for j in 0..count {
-        if movements[j].from as usize == link {
-            last = Some(j);
-        }
-    }
-    last
+    movements
+        .iter()
+        .rposition(|movement| movement.from as usize == link)
 }
 
 // Adds the share of a movement to the sum of the link that it leaves, numbered from 1.
@@ -137,35 +133,30 @@ fn add_share(from: usize, share: u32, sums: &mut [u64])
     requires { AddAsked share sums.old }
     ensures { Added from share sums.old sums.new }
 {
-    if from == 0 {
-        return;
+    if (1..=MAX_LINKS).contains(&from) {
+        sums[from - 1] += u64::from(share);
     }
-    if MAX_LINKS < from {
-        return;
-    }
-    let link = from - 1;
-    sums[link] = sums[link] + u64::from(share);
 }
 
 // The sum of the shares of the movements that leave each link, in one pass.
-fn add_shares(movements: &[Movement], count: usize, sums: &mut [u64])
-    requires { SumsAsked movements.now count sums.old }
-    ensures { ShareSums movements.now count sums.new }
+fn add_shares(movements: &[Movement], sums: &mut [u64])
+    requires { SumsAsked movements.now sums.old }
+    ensures { ShareSums movements.now (length movements.now) sums.new }
 {
-    for &movement in &movements[..count] {
+    for &movement in movements {
         add_share(movement.from as usize, movement.share, sums);
     }
 }
 
 // Refusal 5: the last movement of a link whose shares don't sum to 1000.
-fn bad_shares(movements: &[Movement], count: usize, link: usize, sum: u64) -> Option<usize>
-    requires { (MovementsKnown movements.now count) × (sum ≡ share_sum_in movements.now count link) }
-    ensures { BadShares movements.now count link result }
+fn bad_shares(movements: &[Movement], link: usize, sum: u64) -> Option<usize>
+    requires { sum ≡ share_sum_in movements.now (length movements.now) link }
+    ensures { BadShares movements.now link result }
 {
     if sum == 1000 {
         return None;
     }
-    last_movement(movements, count, link)
+    last_movement(movements, link)
 }
 
 // Refusal 5 after all `M` lines: the shares by rising link, reported at the link's last movement.
@@ -173,12 +164,11 @@ pub fn check_shares(movements: &[Movement], counts: Counts) -> Result<(), Refusa
     requires { SharesAsked movements.now counts }
     ensures { result ≡ verdict (each counts.links (share_checks_in movements.now counts)) }
 {
-    let count = counts.movements;
     let mut sums = [0u64; MAX_LINKS];
-    add_shares(movements, count, &mut sums);
-    for i in 0..counts.links {
-        if let Some(last) = bad_shares(movements, count, i + 1, sums[i]) {
-            return Err(Refusal::new(5, counts.movement_line(last) + 1, last + 1));
+    add_shares(movements, &mut sums);
+    for (i, &sum) in sums[..counts.links].iter().enumerate() {
+        if let Some(last) = bad_shares(movements, i + 1, sum) {
+            return Err(Reason::Movement.refusal(counts.movement_line(last) + 1, last + 1));
         }
     }
     Ok(())

@@ -1,5 +1,5 @@
 -- What is read of the `N` line.
-use Rattle.std.specs.Prelude.{ℕ, Bool, List, leb, get_or}
+use Rattle.std.specs.Prelude.{ℕ, Bool, List, leb}
 use Rattle.text_reader.specs.Lines.{lines}
 use Rattle.text_reader.specs.Reading.{Starts}
 use Rattle.base_laws.specs.Test.{◌and◌, within}
@@ -7,15 +7,6 @@ use Rattle.model.specs.Network.{max_links, max_signals, max_movements, max_steps
 use Rattle.network_tables.specs.declared.Counts.{Counts}
 use Rattle.network_tables.specs.declared.Reading.{Reading}
 use Rattle.network_tables.specs.Tables.{CountsHold}
-
--- how many numbers the line has
-abbrev pub count_fields : ℕ
-count_fields = 6
-
--- the counts by these numbers
-abbrev pub counts_from : List ℕ → Counts
-counts_from fields =
-    record { links = get_or fields 0 0; signals = get_or fields 1 0; movements = get_or fields 2 0; steps = get_or fields 3 0; trams = get_or fields 4 0; past = get_or fields 5 0 }
 
 -- 2: L 1 to 24, R 0 to 8, M 0 to 64, K 1 to 120, 0 to 16 `T` lines, 0 to 120 `H` lines
 unfoldable pub valid_counts_in : Counts → Bool

@@ -8,19 +8,16 @@ ghost use Rattle.model.specs.Rules.{valid_signal};
 ghost use Rattle.model.specs.Table.{count_checks, signal_checks};
 ghost use Rattle.network_tables.specs.Tables.{Judged};
 ghost use Rattle.network_tables.specs.Blocks.{block_checks, signal_block};
-ghost use Rattle.network_signals.specs.Counts.{count_fields, counts_from, valid_counts_in, CountsHeld};
+ghost use Rattle.network_signals.specs.Counts.{valid_counts_in, CountsHeld};
 ghost use Rattle.network_signals.specs.Signals.{valid_time, valid_times, shortest_time};
 ghost use Rattle.network_signals.specs.Stages.{SignalAsked, SignalHeld, SignalsAsked, SignalsHeld};
 
-use base_search::Refusal;
-use model::Signal;
+use base_search::{Reason, Refusal};
+use model::{SIGNAL_FIELDS, Signal};
 use network_tables::{
-    Counts, MAX_LINKS, MAX_MOVEMENTS, MAX_PAST, MAX_SIGNALS, MAX_STEPS, MAX_TRAMS, Reading,
-    SIGNAL_FIELDS,
+    COUNT_FIELDS, Counts, MAX_LINKS, MAX_MOVEMENTS, MAX_PAST, MAX_SIGNALS, MAX_STEPS, MAX_TRAMS,
+    Reading,
 };
-
-// How many numbers an `N` line has.
-const COUNT_FIELDS: usize = 6;
 
 // How many numbers a `G` line has before those of its phases.
 const HEAD_FIELDS: usize = 6;
@@ -29,27 +26,12 @@ const HEAD_FIELDS: usize = 6;
 fn valid_counts(counts: Counts) -> bool
     ensures { result ≡ valid_counts_in counts }
 {
-    ((1 <= counts.links) & (counts.links <= MAX_LINKS))
+    (1..=MAX_LINKS).contains(&counts.links)
         & (counts.signals <= MAX_SIGNALS)
         & (counts.movements <= MAX_MOVEMENTS)
         & (1..=MAX_STEPS).contains(&counts.steps)
         & (counts.trams <= MAX_TRAMS)
         & (counts.past <= MAX_PAST)
-}
-
-// The counts of an `N` line's numbers.
-fn counts_from(fields: &[u32]) -> Counts
-    requires { length fields.now ≡ count_fields }
-    ensures { result ≡ counts_from fields.now }
-{
-    Counts {
-        links: fields[0] as usize,
-        signals: fields[1] as usize,
-        movements: fields[2] as usize,
-        steps: fields[3] as usize,
-        trams: fields[4] as usize,
-        past: fields[5] as usize,
-    }
 }
 
 // The `N` line: refusals 1 and 2.
@@ -58,11 +40,11 @@ pub fn read_counts(text: &[u8]) -> Result<Reading, Refusal>
 {
     let mut fields = [0u32; COUNT_FIELDS];
     let Some(next) = network_tables::read_row(text, 0, b'N', &mut fields, 0, COUNT_FIELDS) else {
-        return Err(Refusal::new(1, 1, 0));
+        return Err(Reason::NetworkForm.refusal(1, 0));
     };
-    let counts = counts_from(&fields);
+    let counts = Counts::from(fields);
     if !valid_counts(counts) {
-        return Err(Refusal::new(2, 1, 0));
+        return Err(Reason::Counts.refusal(1, 0));
     }
     Ok(Reading {
         counts,
@@ -124,7 +106,7 @@ fn shortest_time(signal: Signal, so_far: u32) -> u32
 }
 
 // Refusal 3, the number of phases.
-fn valid_phases(phases: usize) -> bool
+fn valid_phases(phases: u32) -> bool
     ensures { result ≡ within 2 phases 8 }
 {
     (2..=8).contains(&phases)
@@ -145,19 +127,19 @@ fn read_signal(
     let line = reading.counts.signal_line(r) + 1;
     let mut fields = [0u32; SIGNAL_FIELDS];
     if !network_tables::read_head(text, at, b'G', &mut fields, 0, HEAD_FIELDS) {
-        return Err(Refusal::new(1, line, 0));
+        return Err(Reason::NetworkForm.refusal(line, 0));
     }
-    let phases = fields[2] as usize;
-    if !valid_phases(phases) {
-        return Err(Refusal::new(3, line, r + 1));
+    let head = Signal::from(fields);
+    if !valid_phases(head.phases) {
+        return Err(Reason::Signal.refusal(line, r + 1));
     }
-    let width = HEAD_FIELDS + 2 * phases;
+    let width = head.width();
     let Some(next) = network_tables::read_row(text, at, b'G', &mut fields, 0, width) else {
-        return Err(Refusal::new(1, line, 0));
+        return Err(Reason::NetworkForm.refusal(line, 0));
     };
-    let signal = network_tables::signal_from(&fields);
+    let signal = Signal::from(fields);
     if !valid_signal(signal) {
-        return Err(Refusal::new(3, line, r + 1));
+        return Err(Reason::Signal.refusal(line, r + 1));
     }
     signals[r] = signal;
     Ok(reading.moved_to(next))

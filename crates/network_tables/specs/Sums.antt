@@ -1,15 +1,15 @@
--- The numbers of a line added to sums of 32 bits.
-use Rattle.std.specs.Prelude.{ℕ, ◌+◌, ◌≤◌, ◌<◌, ◌≡◌, Bool, true, false, List, length, get_or}
+-- Numbers added to sums of 32 bits.
+use Rattle.std.specs.Prelude.{ℕ, ◌+◌, ◌≤◌, ◌<◌, ◌≡◌, List, length, get_or, Option, Some, None}
 
--- one of `count` sums is too large for 32 bits
-pub record Overflow (line : List ℕ) (count : ℕ) (before : List ℕ) : Type 0 where
+-- one of the sums is too large for 32 bits
+pub record Overflow (numbers before : List ℕ) : Type 0 where
   pub at : ℕ
-  pub below : at < count
-  pub over : 4294967296 ≤ get_or before at 0 + get_or line (1 + at) 0
+  pub below : at < length numbers
+  pub over : 4294967296 ≤ get_or before at 0 + get_or numbers at 0
 
--- the `count` numbers behind the first of a line are added to the sums, or one of these is too large
-pub record Summed (line : List ℕ) (count : ℕ) (before : List ℕ) (result : Bool) (after : List ℕ) : Type 0 where
+-- the numbers are added to the sums, or one of these is too large
+pub record Summed (numbers before : List ℕ) (result : Option (Unit {0})) (after : List ℕ) : Type 0 where
   pub size : length after ≡ length before
-  pub added : result ≡ true → (k : ℕ) → k < count → get_or after k 0 ≡ get_or before k 0 + get_or line (1 + k) 0
-  pub kept : (k : ℕ) → count ≤ k → get_or after k 0 ≡ get_or before k 0
-  pub overflows : result ≡ false → Overflow line count before
+  pub added : result ≡ Some tt → (k : ℕ) → k < length numbers → get_or after k 0 ≡ get_or before k 0 + get_or numbers k 0
+  pub kept : (k : ℕ) → length numbers ≤ k → get_or after k 0 ≡ get_or before k 0
+  pub overflows : result ≡ None → Overflow numbers before

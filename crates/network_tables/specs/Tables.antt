@@ -5,7 +5,7 @@ use Rattle.text_reader.specs.Lines.{Line, lines}
 use Rattle.text_reader.specs.Reading.{Starts}
 use Rattle.model.specs.declared.Signal.{Signal}
 use Rattle.base_laws.specs.Test.{every}
-use Rattle.model.specs.Network.{max_links, max_signals, max_movements, max_trams, entry, link_count, signal_count, movement_count, step_count, tram_count, past_count, on_timeline, tram_line, signal_line, link_line, movement_line, timeline_line, step_line, signal, timeline_time}
+use Rattle.model.specs.Network.{max_links, max_signals, max_movements, entry, link_count, signal_count, movement_count, step_count, tram_count, past_count, on_timeline, tram_line, signal_line, link_line, movement_line, timeline_line, step_line, signal, timeline_time}
 use Rattle.network_tables.specs.declared.Counts.{Counts}
 use Rattle.network_tables.specs.declared.Reading.{Reading}
 use Rattle.network_tables.specs.Places.{Few}
@@ -94,9 +94,9 @@ pub record Reached (text : List ℕ) (line : ℕ) (reading : Reading) : Type 0 w
   pub signals-start : Starts text reading.signals_at (signal_line (lines text) 0)
   pub shortest-time : Shortest (lines text) reading.shortest
 
--- the trams, links and movements, by their lines
+-- the trams, one for each line, and the links and movements, by their lines
 pub record TramTable (network : List Line) (trams : List Tram) : Type 0 where
-  pub size : length trams ≡ max_trams
+  pub size : length trams ≡ tram_count network
   pub holds : (k : ℕ) → k < tram_count network → tram_at trams k ≡ tram_by (entry network (tram_line network k))
 
 pub record LinkTable (network : List Line) (links : List Link) : Type 0 where

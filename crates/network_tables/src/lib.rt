@@ -360,18 +360,15 @@ pub fn read_rows<
     Ok(place)
 }
 
-// Adds the numbers of a line, but for its first, to sums, up to the first sum that does not fit 32 bits. Returns whether all fit.
-pub fn add_numbers(line: &[u32], count: usize, sums: &mut [u32]) -> bool
-    requires { (count < length line.now) × (count ≤ length sums.old) }
-    ensures { Summed line.now count sums.old result sums.new }
+// Adds numbers to sums, up to the first sum that does not fit 32 bits, where there is none.
+pub fn add_numbers(numbers: &[u32], sums: &mut [u32]) -> Option<()>
+    requires { length numbers.now ≤ length sums.old }
+    ensures { Summed numbers.now sums.old result sums.new }
 {
-    for k in 0..count {
-        let Some(sum) = sums[k].checked_add(line[1 + k]) else {
-            return false;
-        };
-        sums[k] = sum;
+    for (k, &number) in numbers.iter().enumerate() {
+        sums[k] = sums[k].checked_add(number)?;
     }
-    true
+    Some(())
 }
 
 // The numbers of an `S` line: its length, and the demand of link `i`.

@@ -6,17 +6,17 @@ use Rattle.base_laws.specs.Test.{◌and◌, within}
 use Rattle.model.specs.Network.{max_signals, max_steps, max_trams, tram_count, tram_line, trams, tram_phase}
 use Rattle.model.specs.Rules.{valid_tram}
 use Rattle.model.specs.Table.{is_form, letter_t}
+use Rattle.network_tables.specs.declared.NetworkTables.{NetworkTables}
 use Rattle.network_tables.specs.declared.Tram.{Tram}
 use Rattle.network_tables.specs.Fields.{tram_fields, tram_at}
 
--- the `T` lines have passed, and start at a place
-pub record LoadAsked (text : List ℕ) (at count : ℕ) (trams : List Tram) : Type 0 where
-  pub starts : Starts text at (tram_line (lines text) 0)
-  pub counted : count ≡ tram_count (lines text)
-  pub few : count ≤ max_trams
-  pub forms : (k : ℕ) → k < count → is_form (lines text) (tram_line (lines text) k) letter_t tram_fields ≡ true
-  pub values : (k : ℕ) → k < count → valid_tram (lines text) k ≡ true
-  pub room : length trams ≡ max_trams
+-- the `T` lines of the tables' text have passed
+pub record LoadAsked (tables : NetworkTables) (room : List Tram) : Type 0 where
+  pub starts : Starts tables.text.now tables.reading.trams_at (tram_line (lines tables.text.now) 0)
+  pub counted : tables.reading.counts.trams ≡ tram_count (lines tables.text.now)
+  pub forms : (k : ℕ) → k < tram_count (lines tables.text.now) → is_form (lines tables.text.now) (tram_line (lines tables.text.now) k) letter_t tram_fields ≡ true
+  pub values : (k : ℕ) → k < tram_count (lines tables.text.now) → valid_tram (lines tables.text.now) k ≡ true
+  pub size : length room ≡ max_trams
 
 -- a tram is for signal r in step n
 unfoldable pub covers_in : Tram → ℕ → ℕ → Bool
@@ -39,19 +39,18 @@ pub record ClaimAsked (tram : Tram) (n : ℕ) (asked : List ℕ) : Type 0 where
   pub signal-last : tram.signal ≤ max_signals
 
 -- each tram is; nothing is asked yet
-pub record ClaimsAsked (trams : List Tram) (count n : ℕ) (asked : List ℕ) : Type 0 where
-  pub size : length trams ≡ max_trams
-  pub few : count ≤ max_trams
+pub record ClaimsAsked (trams : List Tram) (n : ℕ) (asked : List ℕ) : Type 0 where
+  pub few : length trams ≤ max_trams
   pub few-steps : n < max_steps
-  pub signal-first : (k : ℕ) → k < count → 1 ≤ (tram_at trams k).signal
-  pub signal-last : (k : ℕ) → k < count → (tram_at trams k).signal ≤ max_signals
+  pub signal-first : (k : ℕ) → k < length trams → 1 ≤ (tram_at trams k).signal
+  pub signal-last : (k : ℕ) → k < length trams → (tram_at trams k).signal ≤ max_signals
   pub room : length asked ≡ max_signals
   pub none : (r : ℕ) → r < max_signals → get_or asked r 0 ≡ 0
 
 -- the phase that the trams ask of each signal in step n
-pub record Claimed (trams : List Tram) (count n : ℕ) (asked : List ℕ) : Type 0 where
+pub record Claimed (trams : List Tram) (n : ℕ) (asked : List ℕ) : Type 0 where
   pub size : length asked ≡ max_signals
-  pub holds : (r : ℕ) → r < max_signals → get_or asked r 0 ≡ phase_from trams r n 0 count
+  pub holds : (r : ℕ) → r < max_signals → get_or asked r 0 ≡ phase_from trams r n 0 (length trams)
 
 -- the paper's
 pub record TramPhases (network : List Line) (n : ℕ) (asked : List ℕ) : Type 0 where

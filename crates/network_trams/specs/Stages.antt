@@ -1,5 +1,5 @@
 -- What the reading of the `T` lines asks, and what is held where they pass.
-use Rattle.std.specs.Prelude.{ℕ, ◌≡◌, List, length, Ok}
+use Rattle.std.specs.Prelude.{ℕ, ◌≡◌, List, length, take, Ok}
 use Rattle.base_search.specs.Checks.{verdict}
 use Rattle.text_reader.specs.Lines.{lines}
 use Rattle.text_reader.specs.Reading.{Starts}
@@ -19,5 +19,5 @@ pub record TramsHeld (text : List ℕ) (trams : List Tram) (reading : Reading) :
   pub counted : CountsHold (lines text) reading.counts
   pub starts : Starts text reading.next (signal_line (lines text) 0)
   pub trams-start : Starts text reading.trams_at (tram_line (lines text) 0)
-  pub table : TramTable (lines text) trams
+  pub table : TramTable (lines text) (take reading.counts.trams trams)
   pub passed : verdict (block_checks (tram_block (lines text))) ≡ Ok tt

@@ -31,11 +31,6 @@ valid_phase_in tram signals = within 1 tram.phase (signal_at signals (tram.signa
 unfoldable pub phase_checks_in : List Tram → List Signal → Counts → ℕ → Checks
 phase_checks_in trams signals counts k = check 28 (suc (tram_line_in counts k)) 0 (valid_phase_in (tram_at trams k) signals)
 
--- tram k stands in the table
-pub record TramsKnown (trams : List Tram) (k : ℕ) : Type 0 where
-  pub room : length trams ≡ max_trams
-  pub few : k < max_trams
-
 -- a tram's signal is one of those in a table
 pub record PhaseAsked (tram : Tram) (signals : List Signal) : Type 0 where
   pub first : 1 ≤ tram.signal
@@ -43,6 +38,6 @@ pub record PhaseAsked (tram : Tram) (signals : List Signal) : Type 0 where
 
 -- what the check of all phases asks
 pub record PhasesAsked (trams : List Tram) (signals : List Signal) (counts : Counts) : Type 0 where
-  pub room : length trams ≡ max_trams
+  pub size : length trams ≡ counts.trams
   pub few : counts.trams ≤ max_trams
   pub each_tram : (k : ℕ) → k < counts.trams → PhaseAsked (tram_at trams k) signals

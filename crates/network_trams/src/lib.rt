@@ -1,18 +1,18 @@
 // The `T` lines of a network text: refusals 1 and 28, their table, and the phases that trams ask in a step by it.
 #![tactic(auto)]
 
-ghost use Rattle.std.specs.Prelude.{◌≡◌};
+ghost use Rattle.std.specs.Prelude.{◌≡◌, ◌<◌, length};
 ghost use Rattle.text_reader.specs.Lines.{lines};
 ghost use Rattle.base_search.specs.Checks.{each, verdict};
 ghost use Rattle.network_tables.specs.Tables.{Judged, TramTable};
 ghost use Rattle.network_tables.specs.Blocks.{block_checks, tram_block};
-ghost use Rattle.network_trams.specs.Trams.{apart_in, apart_from, valid_tram_in, valid_phase_in, phase_checks_in, TramsKnown, PhaseAsked, PhasesAsked};
+ghost use Rattle.network_trams.specs.Trams.{apart_in, apart_from, valid_tram_in, valid_phase_in, phase_checks_in, PhaseAsked, PhasesAsked};
 ghost use Rattle.network_trams.specs.Stages.{TramsAsked, TramsHeld};
 ghost use Rattle.network_trams.specs.Claims.{LoadAsked, claimed, ClaimAsked, Claimed, ClaimsAsked};
 
-use base_search::Refusal;
+use base_search::{Reason, Refusal, checked};
 use model::Signal;
-use network_tables::{Counts, Reading, Tram, checked, read_rows};
+use network_tables::{Counts, NetworkTables, Reading, Tram, read_rows};
 
 // The line of the first `T` line, behind the `N` line.
 const FIRST_LINE: usize = 2;
@@ -26,27 +26,28 @@ fn is_apart(a: Tram, b: Tram) -> bool
 
 // Whether tram `k` has no step in common with an earlier tram of its signal.
 fn is_apart_from_earlier(trams: &[Tram], k: usize) -> bool
-    requires { TramsKnown trams.now k }
+    requires { k < length trams.now }
     ensures { result ≡ apart_from trams.now k k }
 {
-    (0..k).all(|j| is_apart(trams[j], trams[k]))
+    let tram = trams[k];
+    trams[..k].iter().all(|&earlier| is_apart(earlier, tram))
 }
 
 // Refusal 28, tram `k`, but for its phase.
 fn valid_tram(trams: &[Tram], signals: usize, steps: usize, k: usize) -> bool
-    requires { TramsKnown trams.now k }
+    requires { k < length trams.now }
     ensures { result ≡ valid_tram_in trams.now signals steps k }
 {
     let signal = trams[k].signal as usize;
     let first = trams[k].first_step as usize;
     let last = trams[k].last_step as usize;
-    ((1 <= signal) & (signal <= signals))
+    (1..=signals).contains(&signal)
         & (1 <= first)
-        & ((first <= last) & (last <= steps))
+        & (first..=steps).contains(&last)
         & is_apart_from_earlier(trams, k)
 }
 
-// The `T` lines: each line's form (refusal 1), then its values (refusal 28).
+// The `T` lines: each line's form (refusal 1), then its values (refusal 28). The room gets a tram for each of them.
 pub fn read_trams(text: &[u8], reading: Reading, trams: &mut [Tram]) -> Result<Reading, Refusal>
     requires { TramsAsked text.now reading trams.old }
     ensures { Judged (block_checks (tram_block (lines text.now))) (TramsHeld text.now trams.new) result }
@@ -54,7 +55,7 @@ pub fn read_trams(text: &[u8], reading: Reading, trams: &mut [Tram]) -> Result<R
     let counts = reading.counts;
     let judge = |trams: &[Tram], k: usize| {
         let valid = valid_tram(trams, counts.signals, counts.steps, k);
-        checked(valid, 28, FIRST_LINE + k, 0)
+        checked(valid, Reason::Tram, FIRST_LINE + k, 0)
     };
     let next = read_rows(
         text,
@@ -74,7 +75,7 @@ fn valid_phase(tram: Tram, signals: &[Signal]) -> bool
     ensures { result ≡ valid_phase_in tram signals.now }
 {
     let last = signals[tram.signal as usize - 1].phases;
-    (1 <= tram.phase) & (tram.phase <= last)
+    (1..=last).contains(&tram.phase)
 }
 
 // Refusal 28 after the last `G` line: each tram's phase is one of its signal, reported at its `T` line.
@@ -82,21 +83,31 @@ pub fn check_tram_phases(trams: &[Tram], signals: &[Signal], counts: Counts) -> 
     requires { PhasesAsked trams.now signals.now counts }
     ensures { result ≡ verdict (each counts.trams (phase_checks_in trams.now signals.now counts)) }
 {
-    for (k, &tram) in trams[..counts.trams].iter().enumerate() {
+    for (k, &tram) in trams.iter().enumerate() {
         let line = counts.tram_line(k) + 1;
-        checked(valid_phase(tram, signals), 28, line, 0)?;
+        checked(valid_phase(tram, signals), Reason::Tram, line, 0)?;
     }
     Ok(())
 }
 
-// The `T` lines from `at` on, which have passed, read again into their table.
-pub fn load_trams(text: &[u8], at: usize, count: usize, trams: &mut [Tram])
-    requires { LoadAsked text.now at count trams.old }
-    ensures { TramTable (lines text.now) trams.new }
+// The `T` lines, which have passed, read again: the part of the room that has a tram for each.
+pub fn load_trams<'a>(tables: &NetworkTables, room: &'a mut [Tram]) -> &'a [Tram]
+    requires { LoadAsked tables.now room.old }
+    ensures { TramTable (lines tables.now.text.now) result.now }
 {
+    let count = tables.reading.counts.trams;
     // None of them is refused again.
     let pass = |_: &[Tram], _: usize| Ok(());
-    let _ = read_rows(text, at, b'T', FIRST_LINE, count, trams, pass);
+    let _ = read_rows(
+        tables.text,
+        tables.reading.trams_at,
+        b'T',
+        FIRST_LINE,
+        count,
+        room,
+        pass,
+    );
+    &room[..count]
 }
 
 // A tram's claim in step `n`: its phase is asked of its signal, where the step is one of its steps.
@@ -106,18 +117,18 @@ fn claim(tram: Tram, n: usize, asked: &mut [u32])
 {
     let first = tram.first_step as usize;
     let last = tram.last_step as usize;
-    if (first <= n + 1) & (n + 1 <= last) {
+    if (first..=last).contains(&(n + 1)) {
         asked[tram.signal as usize - 1] = tram.phase;
     }
 }
 
 // The phase that a tram asks of each signal in step `n`, 0 in an ordinary step, by the table of the `T` lines: from the last to the first, which is the one that
 // counts where several claim a signal.
-pub fn tram_phases(trams: &[Tram], count: usize, n: usize, asked: &mut [u32])
-    requires { ClaimsAsked trams.now count n asked.old }
-    ensures { Claimed trams.now count n asked.new }
+pub fn tram_phases(trams: &[Tram], n: usize, asked: &mut [u32])
+    requires { ClaimsAsked trams.now n asked.old }
+    ensures { Claimed trams.now n asked.new }
 {
-    for &tram in trams[..count].iter().rev() {
+    for &tram in trams.iter().rev() {
         claim(tram, n, asked);
     }
 }

@@ -13,7 +13,7 @@ pub fn next_time(times: &mut [u32], m: usize, seconds: u32, timed: bool) -> bool
     requires { TimeAsked times.old m timed }
     ensures { TimeSet times.old m seconds timed result times.new }
 {
-    let valid = timed & ((1 <= seconds) & (seconds <= 60));
+    let valid = timed & (1..=60).contains(&seconds);
     if valid {
         times[m + 1] = times[m] + seconds;
     }
