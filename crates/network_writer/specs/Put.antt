@@ -1,24 +1,26 @@
--- A text put line by line at a place of a buffer, as far as there is room.
+-- A text put line by line at the place of an output, as far as there is room.
 use Rattle.std.specs.Prelude.{ℕ, ◌+◌, ◌*◌, ◌≤◌, ◌≡◌, List, length}
 use Rattle.std.specs.Borrow.{MutBor}
 use Rattle.text_reader.specs.Reading.{over}
 use Rattle.text_writer.specs.Writing.{put_at}
 use Rattle.network_tables.specs.Fields.{line_size}
+use Rattle.network_writer.specs.declared.Output.{Output}
 
 -- how long a line is at most: a `P` line has the most numbers
 abbrev pub longest : ℕ
 longest = 2 + 21 * line_size
 
--- A text of so many lines was put at a place: it is written there if it ends within the buffer, and where it ends is returned in any case.
-pub record Put (count : ℕ) (text : List ℕ) (at : ℕ) (old new : List ℕ) (end : ℕ) : Type 0 where
-  pub ends : end ≡ at + length text
+-- A text of so many lines was put at the place: it is written there if it ends within the buffer, and the place is behind it in any case.
+pub record Put (count : ℕ) (text : List ℕ) (old new : Output) : Type 0 where
+  pub buffer : new.out.ghost_name ≡ old.out.ghost_name
+  pub ends : new.at ≡ old.at + length text
   pub few : length text ≤ longest * count
-  pub size : length new ≡ length old
-  pub is : end ≤ length old → new ≡ put_at at text old
+  pub size : length new.out.now ≡ length old.out.now
+  pub is : new.at ≤ length old.out.now → new.out.now ≡ put_at old.at text old.out.now
 
--- so many lines from a place on are few enough to be counted
-abbrev pub Early : ℕ → ℕ → Type 0
-Early count at = at + longest * count ≤ 1_000_000
+-- so many lines from the place on are few enough to be counted
+abbrev pub Early : ℕ → Output → Type 0
+Early count output = output.at + longest * count ≤ 1_000_000
 
 -- the text was put at the beginning of a buffer: it is written there if it fits, and its length is returned in any case
 pub record PutWhole (text old new : List ℕ) (size : ℕ) : Type 0 where

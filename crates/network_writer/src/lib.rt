@@ -1,57 +1,81 @@
-// Lines written one behind another into a buffer, as far as there is room. Where the text would end is returned in any case, so that a text is measured by writing
-// it where there is no room. A plan's text is written that way by a table of its numbers.
+// Lines written one behind another into a buffer, as far as there is room. How long the text is shows in any case, so that a text is measured by putting it where
+// there is no room. A plan's text is put that way by a table of its numbers.
 #![tactic(auto)]
 
 ghost use Rattle.std.specs.Prelude.{ℕ, ◌≡◌, ◌≤◌, ◌<◌, List, length};
+ghost use Rattle.base_search.specs.Reasons.{reason_number};
 ghost use Rattle.text_writer.specs.Records.{record_text};
 ghost use Rattle.model_text.specs.Answers.{room_verdict, Told};
 ghost use Rattle.network_tables.specs.Fields.{line_size};
 ghost use Rattle.network_tables.specs.Places.{plan_width, Few};
 ghost use Rattle.network_writer.specs.Put.{Put, Early, PutWhole, PutsWhole};
-ghost use Rattle.network_writer.specs.Plan.{column_in, plan_number, plan_row, plan_lines, PlanAsked, NumberAsked, RowAsked};
+ghost use Rattle.network_writer.specs.Texts.{line_texts, rows_to, Asks, Gives, GivesAsMany};
+ghost use Rattle.network_writer.specs.Plan.{column_in, plan_row, plan_lines, PlanAsked};
 
-use base_search::Refusal;
+use base_search::{Reason, Refusal};
 use network_tables::{Counts, LINE_SIZE, MAX_LINKS, MAX_SIGNALS};
 
-// Where the next line is read, and where the next is put.
-#[derive(Clone, Copy)]
-pub struct Places {
-    pub line: usize,
+// A lent buffer, and the place where the next line is put, which may lie behind the buffer's end.
+#[derive(Drop)]
+pub struct Output<'a> {
+    pub out: &'a mut [u8],
     pub at: usize,
 }
 
-// A line's numbers as 64-bit numbers, as the writer takes them.
-fn widen(row: &[u32], numbers: &mut [u64])
-    requires { length row.now ≡ length numbers.old }
-    ensures { numbers.new ≡ row.now }
-{
-    for (k, field) in row.iter().enumerate() {
-        numbers[k] = u64::from(*field);
+impl Output<'_> {
+    // Writes a line of these numbers if it ends within the buffer, and moves the place behind it in any case.
+    pub fn put_line(&mut self, letter: u8, row: &[u32])
+        requires { (length row.now ≤ line_size) × Early 1 self.old }
+        ensures { Put 1 (record_text letter row.now) self.old self.new }
+    {
+        let mut table = [0u64; LINE_SIZE];
+        let numbers = &mut table[..row.len()];
+        text_writer::widen(row, numbers);
+        let end = self.at + text_writer::record_length(numbers);
+        if end <= self.out.len() {
+            text_writer::write_record(self.out, self.at, letter, numbers);
+        }
+        self.at = end;
+    }
+
+    // Puts the lines of a table's items in their order, as a function changes each: those that it gives none for are left out.
+    pub fn put_rows<const W: usize, T: Into<[u32; W]> + Copy, F: Fn(usize, T) -> Option<T>>(
+        &mut self,
+        letter: u8,
+        items: &[T],
+        change: F,
+    )
+        requires width { W ≤ line_size }
+        requires early { Early (length items.now) self.old }
+        requires asks { Asks (F.pre change) items.now }
+        ensures { (f : ℕ → List (List ℕ)) → Gives T.converts (F.post change) items.now f → Put (length items.now) (line_texts letter (rows_to (length items.now) f)) self.old self.new }
+    {
+        for (k, item) in items.iter().enumerate() {
+            if let Some(changed) = change(k, *item) {
+                self.put_line(letter, &changed.into());
+            }
+        }
     }
 }
 
-// Writes a line of these numbers at a place if it ends within the buffer, and returns where it ends.
-pub fn put_line(letter: u8, row: &[u32], out: &mut [u8], at: usize) -> usize
-    requires { (length row.now ≤ line_size) × Early 1 at }
-    ensures { Put 1 (record_text letter row.now) at out.old out.new result }
+// How many items of a table are not left out.
+pub fn count_rows<T: Copy, F: Fn(usize, T) -> Option<T>>(items: &[T], change: F) -> usize
+    requires { Asks (F.pre change) items.now }
+    ensures { (f : ℕ → List (List ℕ)) → GivesAsMany (F.post change) items.now f → result ≡ length (rows_to (length items.now) f) }
 {
-    let mut table = [0u64; LINE_SIZE];
-    let width = row.len();
-    let numbers = &mut table[..width];
-    widen(row, numbers);
-    let end = at + text_writer::record_length(numbers);
-    if out.len() < end {
-        return end;
+    let mut count = 0;
+    for (k, item) in items.iter().enumerate() {
+        count += usize::from(change(k, *item).is_some());
     }
-    text_writer::write_record(out, at, letter, numbers)
+    count
 }
 
 // Where the columns of what is admitted, let out and moved start in a step's row of a plan's table, behind the masks.
-const ADMITTED_AT: usize = MAX_SIGNALS;
+pub const ADMITTED_AT: usize = MAX_SIGNALS;
 
-const LET_OUT_AT: usize = MAX_SIGNALS + MAX_LINKS;
+pub const LET_OUT_AT: usize = MAX_SIGNALS + MAX_LINKS;
 
-const MOVED_AT: usize = MAX_SIGNALS + 2 * MAX_LINKS;
+pub const MOVED_AT: usize = MAX_SIGNALS + 2 * MAX_LINKS;
 
 // The column of number k of a `P` line.
 fn column_at(counts: Counts, k: usize) -> usize
@@ -72,72 +96,58 @@ fn column_at(counts: Counts, k: usize) -> usize
     MOVED_AT + (j - counts.links)
 }
 
-// The number of step n in a column: 0 in one that the table does not have.
-fn number_at(numbers: &[u32], columns: usize, n: usize, column: usize) -> u32
-    requires { NumberAsked numbers.now columns n }
-    ensures { result ≡ plan_number numbers.now columns n column }
+// Fills a `P` line's numbers by a step's row: 0 where the row does not have the column.
+fn fill_line(row: &[u32], counts: Counts, line: &mut [u32])
+    requires { Few counts × (length line.old ≡ plan_width counts) }
+    ensures { line.new ≡ plan_row row.now counts }
 {
-    if columns <= column {
-        0
-    } else {
-        numbers[columns * n + column]
-    }
-}
-
-// Fills a row with the numbers of the `P` line of step n.
-fn fill_row(numbers: &[u32], columns: usize, counts: Counts, n: usize, row: &mut [u32])
-    requires { RowAsked numbers.now columns counts n row.old }
-    ensures { row.new ≡ plan_row numbers.now columns counts n }
-{
-    for (k, field) in row.iter_mut().enumerate() {
-        *field = number_at(numbers, columns, n, column_at(counts, k));
+    for (k, number) in line.iter_mut().enumerate() {
+        *number = row.get(column_at(counts, k)).copied().unwrap_or(0);
     }
 }
 
 // Writes a plan's text at the beginning of a buffer: its lines as far as they fit, and tells how long it is.
-fn put_plan(numbers: &[u32], columns: usize, counts: Counts, out: &mut [u8]) -> usize
-    requires { PlanAsked numbers.now columns counts }
-    ensures { PutWhole (plan_lines numbers.now columns counts) out.old out.new result }
+fn put_plan<const C: usize>(rows: &[[u32; C]], counts: Counts, out: &mut [u8]) -> usize
+    requires { PlanAsked rows.now counts }
+    ensures { PutWhole (plan_lines rows.now counts) out.old out.new result }
 {
+    let mut output = Output { out, at: 0 };
     let mut table = [0u32; LINE_SIZE];
-    let width = counts.plan_width();
-    let row = &mut table[..width];
-    let mut end = 0;
-    for n in 0..counts.steps {
-        fill_row(numbers, columns, counts, n, row);
-        end = put_line(b'P', row, out, end);
+    let line = &mut table[..counts.plan_width()];
+    for row in &rows[..counts.steps] {
+        fill_line(row, counts, line);
+        output.put_line(b'P', line);
     }
-    end
+    output.at
 }
 
 // Writes a text by a function that puts it at the beginning of a buffer, as far as there is room, and tells how long it is: the text is first measured where there
-// is no room. The refusal of this number where the buffer is too short, which is left untouched then.
+// is no room. The refusal for this reason where the buffer is too short, which is left untouched then.
 pub fn write_measured<F: Fn(&mut [u8]) -> usize>(
-    number: u32,
+    reason: Reason,
     out: &mut [u8],
     put: F,
 ) -> Result<usize, Refusal>
     requires { F.IsAlwaysCallable put }
-    ensures { (text : List ℕ) → PutsWhole (F.post put) text → Told text (room_verdict number text out.old) out.old result out.new }
+    ensures { (text : List ℕ) → PutsWhole (F.post put) text → Told text (room_verdict (reason_number reason) text out.old) out.old result out.new }
 {
     let mut nowhere = [0u8; 1];
     let length = put(&mut nowhere);
     if out.len() < length {
-        return Err(Refusal::new(number, 0, 0));
+        return Err(reason.refusal(0, 0));
     }
     put(out);
     Ok(length)
 }
 
-// Writes a plan's text by a table of so many columns for each step: refusal 24 where the buffer is too short.
-pub fn write_plan(
-    numbers: &[u32],
-    columns: usize,
+// Writes a plan's text by a table with a row for each step: refusal 24 where the buffer is too short.
+pub fn write_plan<const C: usize>(
+    rows: &[[u32; C]],
     counts: Counts,
     out: &mut [u8],
 ) -> Result<usize, Refusal>
-    requires { PlanAsked numbers.now columns counts }
-    ensures { Told (plan_lines numbers.now columns counts) (room_verdict 24 (plan_lines numbers.now columns counts) out.old) out.old result out.new }
+    requires { PlanAsked rows.now counts }
+    ensures { Told (plan_lines rows.now counts) (room_verdict 24 (plan_lines rows.now counts) out.old) out.old result out.new }
 {
-    write_measured(24, out, |out| put_plan(numbers, columns, counts, out))
+    write_measured(Reason::PlanRoom, out, |out| put_plan(rows, counts, out))
 }

@@ -19,6 +19,16 @@ fn digit_count(value: u64) -> usize
     1 + value.ilog10() as usize
 }
 
+// Numbers of 32 bits as those of 64 bits that a record is written of.
+pub fn widen(numbers: &[u32], wide: &mut [u64])
+    requires { length numbers.now ≡ length wide.old }
+    ensures { wide.new ≡ numbers.now }
+{
+    for (k, number) in numbers.iter().enumerate() {
+        wide[k] = u64::from(*number);
+    }
+}
+
 // A lent buffer, and the place where the next byte is written.
 #[derive(Drop)]
 struct Cursor<'a> {

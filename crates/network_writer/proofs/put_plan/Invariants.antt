@@ -2,5 +2,5 @@
 use Rattle.network_writer.proofs.Plan.{PlanTo}
 use Rattle.network_writer.proofs.put_plan.Given as goal
 
-abbrev pub invariant-loop-n : goal.invariant-loop-n
-invariant-loop-n l = PlanTo l.numbers l.columns l.counts l.initial.out l.row l.out l.end l.n
+abbrev pub invariant-loop-row : goal.invariant-loop-row
+invariant-loop-row g l = PlanTo l.fn.rows l.counts l.initial.output l.line l.output l.row-index
