@@ -7,7 +7,7 @@ ghost use Rattle.text_reader.specs.Padding.{PaddingIgnored};
 ghost use Rattle.cells_call.specs.Call.{run_cells, final_volumes, RunKeeps};
 
 use base_search::Refusal;
-use cells_steps::Cell;
+use cells_steps::{Cell, MAX_CELLS, MAX_DEMANDS};
 
 // What a run gives: how many cells there are, the total flow in and out, and the final volumes, 0 past the cells.
 #[derive(Clone, Copy)]
@@ -15,7 +15,7 @@ pub struct CellsRun {
     pub cells: u32,
     pub flow_in: u64,
     pub flow_out: u64,
-    pub volumes: [u32; 64],
+    pub volumes: [u32; MAX_CELLS],
 }
 
 // Runs the steps of a corridor text, one for each demand.
@@ -25,9 +25,9 @@ pub fn run_cells(text: &[u8]) -> Result<CellsRun, Refusal>
     ensures run_keeps { RunKeeps (lines text.now) result }
     ensures padding_ignored { PaddingIgnored text.now (λ padded. result ≡ run_cells (lines padded)) }
 {
-    let mut cells = [Cell::default(); 64];
-    let mut volumes = [0u32; 64];
-    let mut demands = [0u32; 120];
+    let mut cells = [Cell::default(); MAX_CELLS];
+    let mut volumes = [0u32; MAX_CELLS];
+    let mut demands = [0u32; MAX_DEMANDS];
     let corridor = cells_lines::load_corridor(text, &mut cells, &mut volumes, &mut demands)?;
     let passed = cells_steps::run_steps(
         &cells[..corridor.cells],

@@ -8,8 +8,13 @@ ghost use Rattle.text_reader.specs.Reading.{line_at};
 ghost use Rattle.cells_lines.specs.Corridor.{letter_c, valid_cell, cell_line_checks, volume_form, cell_count, cell_checks, demand_checks, corridor_checks};
 ghost use Rattle.cells_lines.specs.Reading.{CellRead, VolumeRead, CellsRead, DemandsAsked, DemandsRead, CorridorRead};
 
-use base_search::Refusal;
-use cells_steps::Cell;
+use base_search::{Reason, Refusal, checked};
+use cells_steps::{Cell, MAX_CELLS, MAX_DEMANDS};
+
+// The greatest volume, and the greatest wave ratio in thousandths.
+const MAX_VOLUME: u32 = 2_000_000_000;
+
+const MAX_WAVE_RATIO: u32 = 1000;
 
 // What of a corridor was read into the tables: how many cells and how many demands; and the exit limit.
 #[derive(Clone, Copy)]
@@ -27,24 +32,23 @@ fn is_cell(text: &[u8], at: usize) -> bool
 }
 
 // Refusal 36: whether flow limit, holding limit, wave ratio and start are within their limits.
+#[tactic(auto, unfolding(crate::specs::Corridor::valid_cell))]
 fn valid_cell(cell: Cell, start: u32) -> bool
     ensures { result ≡ valid_cell cell start }
 {
-    // By `&`, which the proof takes as one fact; by `&&` it has a goal for each way.
-    (cell.flow_limit <= 2_000_000_000)
-        & (cell.holding_limit <= 2_000_000_000)
-        & (1 <= cell.wave_ratio)
-        & (cell.wave_ratio <= 1000)
-        & (start <= 2_000_000_000)
+    cell.flow_limit <= MAX_VOLUME
+        && cell.holding_limit <= MAX_VOLUME
+        && (1..=MAX_WAVE_RATIO).contains(&cell.wave_ratio)
+        && start <= MAX_VOLUME
 }
 
 // Refusals 36 and 37 of `C` line n, which is at this place: its cell, the cell's start, and the place of the next line.
 fn cell_at(text: &[u8], at: usize, n: usize) -> Result<(Cell, u32, usize), Refusal>
-    requires { n < 64 }
+    requires { n < MAX_CELLS }
     ensures ok { IfOk result (λ (cell, start, next). CellRead n text.now at cell start next) }
     ensures err { IfErr result (λ refusal. verdict (cell_line_checks n (line_at text.now at)) ≡ Err refusal) }
 {
-    let malformed = Refusal::new(36, n + 1, 0);
+    let malformed = Reason::CorridorLine.refusal(n + 1, 0);
     let mut row = [0u32; 4];
     let next = text_reader::line_at(text, at, b'C', &mut row).ok_or(malformed)?;
     let [flow_limit, holding_limit, wave_ratio, start] = row;
@@ -53,12 +57,8 @@ fn cell_at(text: &[u8], at: usize, n: usize) -> Result<(Cell, u32, usize), Refus
         holding_limit,
         wave_ratio,
     };
-    if !valid_cell(cell, start) {
-        return Err(malformed);
-    }
-    if holding_limit < start {
-        return Err(Refusal::new(37, n + 1, 0));
-    }
+    checked(valid_cell(cell, start), Reason::CorridorLine, n + 1, 0)?;
+    checked(start <= holding_limit, Reason::CellStart, n + 1, 0)?;
     Ok((cell, start, next))
 }
 
@@ -68,8 +68,8 @@ fn read_cells(
     cells: &mut [Cell],
     volumes: &mut [u32],
 ) -> Result<(usize, usize), Refusal>
-    requires cells_len { length cells.old ≡ 64 }
-    requires volumes_len { length volumes.old ≡ 64 }
+    requires cells_len { length cells.old ≡ MAX_CELLS }
+    requires volumes_len { length volumes.old ≡ MAX_CELLS }
     ensures ok { IfOk result (λ (count, next). CellsRead text.now count next cells.old volumes.old cells.new volumes.new) }
     ensures err { IfErr result (λ refusal. verdict (each (cell_count (lines text.now)) (cell_checks (lines text.now))) ≡ Err refusal) }
 {
@@ -81,10 +81,9 @@ fn read_cells(
         }
         (*cell, volumes[n], place) = cell_at(text, place, n)?;
     }
-    if is_cell(text, place) {
-        return Err(Refusal::new(36, 65, 0));
-    }
-    Ok((64, place))
+    let all_read = !is_cell(text, place);
+    checked(all_read, Reason::CorridorLine, MAX_CELLS + 1, 0)?;
+    Ok((MAX_CELLS, place))
 }
 
 // Refusal 36 of a line of this letter and one volume, which is this line of the text: the volume, and the place of the next line.
@@ -93,13 +92,11 @@ fn volume_at(text: &[u8], at: usize, letter: u8, line: usize) -> Result<(u32, us
     ensures ok { IfOk result (λ (volume, next). VolumeRead letter text.now at volume next) }
     ensures err { IfErr result (λ r. (volume_form letter (line_at text.now at) ≡ false) × (r ≡ refusal 36 line 0)) }
 {
-    let malformed = Refusal::new(36, line, 0);
+    let malformed = Reason::CorridorLine.refusal(line, 0);
     let mut row = [0u32; 1];
     let next = text_reader::line_at(text, at, letter, &mut row).ok_or(malformed)?;
     let [volume] = row;
-    if 2_000_000_000 < volume {
-        return Err(malformed);
-    }
+    checked(volume <= MAX_VOLUME, Reason::CorridorLine, line, 0)?;
     Ok((volume, next))
 }
 
@@ -116,10 +113,9 @@ fn read_demands(text: &[u8], at: usize, cells: usize, demands: &mut [u32]) -> Re
         }
         (*demand, place) = volume_at(text, place, b'D', cells + 2 + k)?;
     }
-    if !text_reader::is_end(text, place) {
-        return Err(Refusal::new(36, cells + 122, 0));
-    }
-    Ok(120)
+    let all_read = text_reader::is_end(text, place);
+    checked(all_read, Reason::CorridorLine, cells + 2 + MAX_DEMANDS, 0)?;
+    Ok(MAX_DEMANDS)
 }
 
 // Refusals 36 and 37 of a whole text. The cells, their starts and the demands go to the beginning of the tables.
@@ -129,16 +125,14 @@ pub fn load_corridor(
     volumes: &mut [u32],
     demands: &mut [u32],
 ) -> Result<Corridor, Refusal>
-    requires cells_len { length cells.old ≡ 64 }
-    requires volumes_len { length volumes.old ≡ 64 }
-    requires demands_len { length demands.old ≡ 120 }
+    requires cells_len { length cells.old ≡ MAX_CELLS }
+    requires volumes_len { length volumes.old ≡ MAX_CELLS }
+    requires demands_len { length demands.old ≡ MAX_DEMANDS }
     ensures ok { IfOk result (λ corridor. CorridorRead text.now corridor volumes.old cells.new volumes.new demands.new) }
     ensures err { IfErr result (λ refusal. verdict (corridor_checks (lines text.now)) ≡ Err refusal) }
 {
     let (count, place) = read_cells(text, cells, volumes)?;
-    if count == 0 {
-        return Err(Refusal::new(36, 1, 0));
-    }
+    checked(0 < count, Reason::CorridorLine, 1, 0)?;
     let (exit, next) = volume_at(text, place, b'X', count + 1)?;
     let steps = read_demands(text, next, count, demands)?;
     Ok(Corridor {

@@ -5,6 +5,11 @@ ghost use Rattle.std.specs.Prelude.{◌≡◌, ◌≤◌, length};
 ghost use Rattle.cells_steps.specs.Steps.{chain_of, inflow, Ready};
 ghost use Rattle.cells_steps.specs.Results.{Stepped, Ran};
 
+// The most cells of a corridor, and its most demands.
+pub const MAX_CELLS: usize = 64;
+
+pub const MAX_DEMANDS: usize = 120;
+
 // The limits of a cell. Its wave ratio is in thousandths.
 #[derive(Clone, Copy, Default)]
 pub struct Cell {
@@ -63,7 +68,7 @@ fn step_cells(cells: &[Cell], exit: u32, demand: u32, volumes: &mut [u32]) -> Pa
 // A list of steps, one for each demand.
 pub fn run_steps(cells: &[Cell], exit: u32, demands: &[u32], volumes: &mut [u32]) -> Passed<u64>
     requires ready { Ready (chain_of cells.now exit) volumes.old }
-    requires demands_len_bound { length demands.now ≤ 120 }
+    requires demands_len_bound { length demands.now ≤ MAX_DEMANDS }
     ensures { Ran (chain_of cells.now exit) demands.now volumes.old result volumes.new }
 {
     let mut total = Passed {

@@ -1,11 +1,25 @@
 -- Refusal 38: what a valid value is.
-use Rattle.base_laws.proofs.Kit.{◌≡◌, refl, true, false, ◌&&◌}
-use lib.Ieee.{Float, nan, inf, fin, neg, le, of_int}
+use Rattle.base_laws.proofs.Kit.{◌≡◌, refl, Bool, true, false, ◌&&◌, ◌||◌, cond}
+use Rattle.std.specs.Prelude.{Some, None}
+use Rattle.std.proofs.Common.{Less, Equal, Greater}
+use Rattle.std.specs.Ordering.{is_le, is_some_and, partial_le, float_partial_cmp}
+use lib.Ieee.{Float, nan, inf, fin, neg, lt, eq, le, of_int}
 use lib.Ieee.Scale.{finite}
 use Rattle.base_laws.proofs.Bools.{no_truth, and_left, and_right}
 use Rattle.base_floats.proofs.Order.{under}
 use Rattle.base_floats.proofs.Sums.{Within, size-within}
 use Rattle.traces.specs.Call.{million, valid_place, valid_distance}
+
+-- a range compares its ends by `partial_cmp`, which says what the three tests do
+compared : (less same greater : Bool) → is_some_and is_le (cond less (Some Less) (cond same (Some Equal) (cond greater (Some Greater) None))) ≡ (less || same)
+compared true same greater = refl
+compared false true greater = refl
+compared false false true = refl
+compared false false false = refl
+
+pub partial_le-is : (x y : Float) → partial_le float_partial_cmp x y ≡ le x y
+unfolding le
+partial_le-is x y = compared (lt x y) (eq x y) (lt y x)
 
 -- a NaN and an infinity fail one of the two comparisons
 pub valid-place-is : (x : Float) → (le (neg million) x && le x million) ≡ valid_place x

@@ -9,7 +9,15 @@ ghost use Rattle.traces.specs.Step.{nearer, cut_to, line_for, moved, place_after
 ghost use Rattle.traces.specs.Call.{valid_place, valid_distance, valid_counts, valid_values, step_vehicles, places_after};
 ghost use Rattle.traces.specs.Guarantees.{StepKeeps};
 
-use base_search::Refusal;
+use base_search::{Reason, Refusal, checked};
+
+// The most vehicles of a step, and its most red lines.
+const MAX_VEHICLES: usize = 64;
+
+const MAX_RED_LINES: usize = 64;
+
+// A million metres.
+const MILLION: f64 = 1_000_000.0;
 
 // A vehicle: its place before the step, and how far it would advance.
 #[derive(Clone, Copy)]
@@ -94,7 +102,7 @@ fn move_all(places: &mut [f64], advances: &[f64], red_lines: &[f64], spacing: f6
 fn valid_place(x: f64) -> bool
     ensures { result ≡ valid_place x }
 {
-    -1_000_000.0 <= x && x <= 1_000_000.0
+    (-MILLION..=MILLION).contains(&x)
 }
 
 // Whether an advance or a spacing is that, and not negative.
@@ -123,11 +131,9 @@ fn valid_distances(values: &[f64]) -> bool
 fn check_counts(places: &[f64], advances: &[f64], red_lines: &[f64]) -> Result<(), Refusal>
     ensures { result ≡ checked (valid_counts places.now advances.now red_lines.now) 39 0 0 }
 {
-    if places.len() <= 64 && red_lines.len() <= 64 && advances.len() == places.len() {
-        Ok(())
-    } else {
-        Err(Refusal::new(39, 0, 0))
-    }
+    let matched = advances.len() == places.len();
+    let few = places.len() <= MAX_VEHICLES && red_lines.len() <= MAX_RED_LINES;
+    checked(few && matched, Reason::VehicleCounts, 0, 0)
 }
 
 // Refusal 38, unless every place, advance and line and the spacing is valid.
@@ -140,15 +146,9 @@ fn check_values(
 ) -> Result<(), Refusal>
     ensures { result ≡ checked (valid_values places.now advances.now red_lines.now spacing) 38 0 0 }
 {
-    if valid_places(places)
-        && valid_distances(advances)
-        && valid_places(red_lines)
-        && valid_distance(spacing)
-    {
-        Ok(())
-    } else {
-        Err(Refusal::new(38, 0, 0))
-    }
+    let valid_vehicles = valid_places(places) && valid_distances(advances);
+    let valid_street = valid_places(red_lines) && valid_distance(spacing);
+    checked(valid_vehicles && valid_street, Reason::VehicleValue, 0, 0)
 }
 
 // One step. The places are changed where nothing is refused, and kept where something is.

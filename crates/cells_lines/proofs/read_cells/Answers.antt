@@ -1,5 +1,7 @@
 use Rattle.std.proofs.Common.{rules, arith, refl}
 use Rattle.std.proofs.Math.Seq.{set-get_or}
+use Rattle.base_search.specs.Checks.{checked}
+use Rattle.base_search.proofs.Laws.{passed_on}
 use Rattle.cells_lines.proofs.Cells.{cells-none, cells-all, cells-refused, cells-too-many, cells-more}
 use Rattle.cells_lines.proofs.read_cells.Goals as goal
 
@@ -15,8 +17,10 @@ returns-in_err-cell-clause-err c = let e = cells-refused c.loop-n.invariant (gri
 pub loop-n-preserved : goal.loop-n-preserved
 loop-n-preserved c = cells-more c.loop-n.invariant (grind arith) c.in_ok-cell.ensures.ok (omega arith) (omega arith)
 
-pub returns-then-is_cell-clause-err : goal.returns-then-is_cell-clause-err
-returns-then-is_cell-clause-err c = rw c.new.ensures (cells-too-many c.loop-n.invariant (grind arith) (omega arith))
+pub returns-in_err-checked-clause-err : goal.returns-in_err-checked-clause-err
+unfolding checked
+returns-in_err-checked-clause-err c = rw (passed_on _ _ c.from_residual-in_err-checked.ensures.1) (let e = cells-too-many c.loop-n.invariant (grind arith) (omega arith) in grind arith)
 
 pub returns-clause-ok : goal.returns-clause-ok
+unfolding checked
 returns-clause-ok c = cells-all c.loop-n.invariant (omega arith) (omega arith) (grind arith)

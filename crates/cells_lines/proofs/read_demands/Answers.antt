@@ -1,5 +1,7 @@
 use Rattle.std.proofs.Common.{rules, arith, refl}
 use Rattle.std.proofs.Math.Seq.{set-get_or}
+use Rattle.base_search.specs.Checks.{checked}
+use Rattle.base_search.proofs.Laws.{passed_on}
 use Rattle.cells_lines.proofs.Demands.{demands-none, demands-all, demands-refused, demands-too-many, demands-more}
 use Rattle.cells_lines.proofs.read_demands.Goals as goal
 
@@ -15,8 +17,10 @@ returns-in_err-demand-clause-err c = let e = demands-refused c.requires c.loop-k
 pub loop-k-preserved : goal.loop-k-preserved
 loop-k-preserved c = demands-more c.requires c.loop-k.invariant c.in_ok-demand.ensures.ok (omega arith)
 
-pub returns-then-not-is_end-clause-err : goal.returns-then-not-is_end-clause-err
-returns-then-not-is_end-clause-err c = rw c.new.ensures (demands-too-many c.requires c.loop-k.invariant (omega arith) (grind arith))
+pub returns-in_err-checked-clause-err : goal.returns-in_err-checked-clause-err
+unfolding checked
+returns-in_err-checked-clause-err c = rw (passed_on _ _ c.from_residual-in_err-checked.ensures.1) (let e = demands-too-many c.requires c.loop-k.invariant (omega arith) (grind arith) in grind arith)
 
 pub returns-clause-ok : goal.returns-clause-ok
+unfolding checked
 returns-clause-ok c = demands-all c.requires c.loop-k.invariant (omega arith) (omega arith) (omega arith) (grind arith)
