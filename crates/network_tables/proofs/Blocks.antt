@@ -5,7 +5,6 @@ use Rattle.base_search.specs.Checks.{refusal, Checks, each, or_else, checked, ve
 use Rattle.base_search.proofs.Laws.{first-hit, first_next, first_done}
 use Rattle.text_reader.specs.Lines.{Line, lines}
 use Rattle.text_reader.specs.Reading.{Starts}
-use Rattle.model.specs.Network.{entry}
 use Rattle.model.specs.Table.{record_checks}
 use Rattle.network_tables.specs.Rows.{RowRead, LineHeld}
 use Rattle.network_tables.proofs.Rows.{line-fields}

@@ -3,7 +3,7 @@ use Rattle.base_laws.proofs.Kit.{ℕ, ◌<◌, ◌≡◌, Bool, true, false, Lis
 use Rattle.text_reader.specs.Lines.{Line, no_line, is_record}
 use Rattle.model.specs.Network.{link_count, signal_count, movement_count, tram_count, past_count, on_timeline, tram_line, signal_line, link_line, movement_line, timeline_line, step_line}
 use Rattle.network_tables.specs.declared.Counts.{Counts}
-use Rattle.network_tables.specs.Places.{tram_line_in, signal_line_in, link_line_in, movement_line_in, timeline_line_in, step_line_in}
+use Rattle.network_tables.specs.Places.{signal_line_in, timeline_line_in, step_line_in}
 use Rattle.network_tables.specs.Tables.{CountsHold}
 
 pub record-within : (letter n : ℕ) (text : List Line) (i : ℕ) → is_record letter n (get_or text i no_line) ≡ true → i < length text

@@ -1,5 +1,5 @@
 -- What stands at a place of the program's tables, by its name in the paper.
-use Rattle.base_laws.proofs.Kit.{ℕ, ◌+◌, ◌*◌, ◌<◌, ◌≡◌, sym, ap, ◌∙◌, List, arith, get_or}
+use Rattle.base_laws.proofs.Kit.{ℕ, ◌+◌, ◌*◌, ◌<◌, ◌≡◌, ap, List, arith, get_or}
 use Rattle.text_reader.specs.Lines.{Line}
 use Rattle.model.specs.Network.{link_count, signal_count, movement_count, capacity, travel_time, exit_rate, signal_of, phase_mask, standing, waiting_at_start, from_link, to_link, rate, share, step_line, timeline_length, past_entries, past_exits, step_length, demand}
 use Rattle.model.specs.Flows.{shown_mask, admitted, let_out, moved}

@@ -1,7 +1,7 @@
 -- The phases that trams ask in a step, by their table: one tram after another, from the last to the first, and that they are the paper's.
 use Rattle.base_laws.proofs.Kit.{ℕ, zero, suc, ◌+◌, ◌-◌, ◌≤◌, ◌<◌, ◌≡◌, refl, ap, ◌∙◌, Bool, true, false, ◌&&◌, cond, ◌≢◌, List, ◌∷◌, ℕ_discrete, add-one, arith, leb-true, eq-eqb, ne_eqb, leb, length, get_or, set, take, drop, length-set, length-take, length-drop, drop_of_length-le, get_or-set_same, get_or-set_other, drop-cons}
 use Rattle.std.specs.Prelude.{reverse}
-use Rattle.std.proofs.lemmas.List.{length-take-le, length-reverse, get_or-reverse, get_or-take, get_or_default}
+use Rattle.std.proofs.lemmas.List.{length-reverse, get_or-reverse, get_or_default}
 use Rattle.text_reader.specs.Lines.{Line, no_line, number}
 use Rattle.base_laws.specs.Test.{◌and◌, within}
 use Rattle.model.specs.Network.{max_signals, max_steps, entry, signal_count, tram_count, tram_line, trams, covers, tram_phase}
@@ -53,18 +53,20 @@ module _ (tram : Tram) (n : ℕ) (asked : List ℕ) where
 
 -- ---- the turns of `tram_phases`
 -- the trams from tram k on have made their claims
-pub record ClaimsFrom (table : List Tram) (count n k : ℕ) (asked : List ℕ) : Type 0 where
-  pub within : k ≤ count
+pub record ClaimsFrom (table : List Tram) (n k : ℕ) (asked : List ℕ) : Type 0 where
+  pub within : k ≤ length table
   pub room : length asked ≡ max_signals
-  pub holds : (r : ℕ) → r < max_signals → get_or asked r 0 ≡ phase_from table r n k (count - k)
+  pub holds : (r : ℕ) → r < max_signals → get_or asked r 0 ≡ phase_from table r n k (length table - k)
 
-module _ {table : List Tram} {count n : ℕ} {asked₀ : List ℕ} (given : ClaimsAsked table count n asked₀) where
-  pub claims-begin : ClaimsFrom table count n (count - 0) asked₀
+module _ {table : List Tram} {n : ℕ} {asked₀ : List ℕ} (given : ClaimsAsked table n asked₀) where
+  pub claims-begin : ClaimsFrom table n (length table - 0) asked₀
   unfolding phase_from
-  claims-begin = let e : count - (count - 0) ≡ 0 = omega arith in record { within = omega arith; room = given.room; holds = λ r l. rw e (given.none r l) }
+  claims-begin =
+      let e : length table - (length table - 0) ≡ 0 = omega arith in
+      record { within = omega arith; room = given.room; holds = λ r l. rw e (given.none r l) }
 
-  module _ {k : ℕ} {asked : List ℕ} (inv : ClaimsFrom table count n k asked) where
-    pub claims-next : 0 < k → {after : List ℕ} → after ≡ claimed (tram_at table (k - 1)) n asked → ClaimsFrom table count n (k - 1) after
+  module _ {k : ℕ} {asked : List ℕ} (inv : ClaimsFrom table n k asked) where
+    pub claims-next : 0 < k → {after : List ℕ} → after ≡ claimed (tram_at table (k - 1)) n asked → ClaimsFrom table n (k - 1) after
     unfolding phase_from
     claims-next h c =
         record {
@@ -73,30 +75,27 @@ module _ {table : List Tram} {count n : ℕ} {asked₀ : List ℕ} (given : Clai
           holds = λ r l. ap (λ a. get_or a r 0) c ∙ claim-on (tram_at table (k - 1)) n asked r (given.signal-first (k - 1) (omega (arith, inv.within))) (omega (arith, inv.room)) ∙ one_more r l;
         }
       where
-        one_more : (r : ℕ) → r < max_signals → cond (covers_in (tram_at table (k - 1)) r n) (tram_at table (k - 1)).phase (get_or asked r 0) ≡ phase_from table r n (k - 1) (count - (k - 1))
+        one_more : (r : ℕ) → r < max_signals → cond (covers_in (tram_at table (k - 1)) r n) (tram_at table (k - 1)).phase (get_or asked r 0) ≡ phase_from table r n (k - 1) (length table - (k - 1))
         one_more r l =
-            let e : count - (k - 1) ≡ suc (count - k) = omega (arith, inv.within) in
+            let e : length table - (k - 1) ≡ suc (length table - k) = omega (arith, inv.within) in
             let s : suc (k - 1) ≡ k = omega arith in
             rw (e, s, inv.holds r l)
 
   -- the i-th of the trams from the last to the first
-  pub claims-turn : {i : ℕ} {asked : List ℕ} → ClaimsFrom table count n (count - i) asked → {tram : Tram} → (i < length (reverse (take count table))) × (tram ≡ get_or (reverse (take count table)) i tram)
-      → {after : List ℕ} → after ≡ claimed tram n asked → ClaimsFrom table count n (count - (i + 1)) after
+  pub claims-turn : {i : ℕ} {asked : List ℕ} → ClaimsFrom table n (length table - i) asked → {tram : Tram} → (i < length (reverse table)) × (tram ≡ get_or (reverse table) i tram)
+      → {after : List ℕ} → after ≡ claimed tram n asked → ClaimsFrom table n (length table - (i + 1)) after
   claims-turn {i} {asked} inv {tram} turn {after} c =
-      let size : length (take count table) ≡ count = length-take-le count table (omega (arith, given.size, given.few)) in
-      let h : i < count = omega (arith, turn.0, length-reverse (take count table), size) in
-      let place : length (take count table) - 1 - i ≡ count - i - 1 = omega (arith, size) in
-      let next : count - i - 1 ≡ count - (i + 1) = omega arith in
-      let is : tram ≡ tram_at table (count - i - 1) =
-      turn.1 ∙ get_or-reverse (take count table) i tram (omega arith) ∙ ap (λ k. get_or (take count table) k tram) place
-      ∙ get_or-take count table (count - i - 1) tram (omega arith) ∙ get_or_default table (count - i - 1) tram (tram_by (λ k. 0)) (omega (arith, given.size, given.few)) in
+      let h : i < length table = omega (arith, turn.0, length-reverse table) in
+      let place : length table - 1 - i ≡ length table - i - 1 = omega arith in
+      let next : length table - i - 1 ≡ length table - (i + 1) = omega arith in
+      let is : tram ≡ tram_at table (length table - i - 1) =
+      turn.1 ∙ get_or-reverse table i tram h ∙ ap (λ k. get_or table k tram) place ∙ get_or_default table (length table - i - 1) tram (tram_by (λ k. 0)) (omega arith) in
       rw (← next) (claims-next inv (omega arith) (rw (← is) c))
 
-  pub claims-done : {i : ℕ} {asked : List ℕ} → ClaimsFrom table count n (count - i) asked → i ≡ length (reverse (take count table)) → Claimed table count n asked
+  pub claims-done : {i : ℕ} {asked : List ℕ} → ClaimsFrom table n (length table - i) asked → i ≡ length (reverse table) → Claimed table n asked
   claims-done {i} inv e =
-      let size : length (take count table) ≡ count = length-take-le count table (omega (arith, given.size, given.few)) in
-      let none : count - i ≡ 0 = omega (arith, e, length-reverse (take count table), size) in
-      let all : count - 0 ≡ count = omega arith in
+      let none : length table - i ≡ 0 = omega (arith, e, length-reverse table) in
+      let all : length table - 0 ≡ length table = omega arith in
       record { size = inv.room; holds = λ r l. inv.holds r l ∙ rw (none, all) refl }
 
 -- ---- the paper's
@@ -125,26 +124,25 @@ module _ (network : List Line) (table : List Tram) (held : TramTable network tab
       let h : k < tram_count network = omega arith in
       rw (from-line k h, covers-is k r n h, tram-is k h, phase-from r n (suc k) left (omega arith))
 
-  pub tram-phases-are : {count n : ℕ} {asked : List ℕ} → count ≡ tram_count network → Claimed table count n asked → TramPhases network n asked
-  tram-phases-are {count} {n} e c = record { size = c.size; holds = λ r l. c.holds r l ∙ phase-from r n 0 count (omega arith) }
+  pub tram-phases-are : {n : ℕ} {asked : List ℕ} → Claimed table n asked → TramPhases network n asked
+  tram-phases-are {n} c = record { size = c.size; holds = λ r l. c.holds r l ∙ phase-from r n 0 (length table) (omega (arith, held.size)) }
 
 -- a valid line's signal is one of the network's
 module _ {network : List Line} {table : List Tram} {counts : Counts} (held : TramTable network table) (c : CountsHold network counts)
     (valid : (k : ℕ) → k < tram_count network → valid_tram network k ≡ true) where
-  signal-within : (k : ℕ) → k < counts.trams → (1 ≤ (tram_at table k).signal) × ((tram_at table k).signal ≤ max_signals)
+  signal-within : (k : ℕ) → k < length table → (1 ≤ (tram_at table k).signal) × ((tram_at table k).signal ≤ max_signals)
   unfolding valid_tram tram_exists within entry
   signal-within k l =
-      let h : k < tram_count network = omega (arith, c.trams) in
+      let h : k < tram_count network = omega (arith, held.size) in
       let e : (tram_at table k).signal ≡ number (tram network k) 0 = ap (λ (t : Tram). t.signal) (held.holds k h) in
       let low : 1 ≤ number (tram network k) 0 = leb-true _ _ (and_left _ _ (and_left _ _ (and_left _ _ (and_left _ _ (valid k h))))) in
       let high : number (tram network k) 0 ≤ signal_count network = leb-true _ _ (and_right _ _ (and_left _ _ (and_left _ _ (and_left _ _ (valid k h))))) in
       (omega arith, omega (arith, c.signals, c.few.signals))
 
-  pub claims-ready : {n : ℕ} → n < max_steps → {asked : List ℕ} → length asked ≡ max_signals → ((r : ℕ) → r < max_signals → get_or asked r 0 ≡ 0) → ClaimsAsked table counts.trams n asked
+  pub claims-ready : {n : ℕ} → n < max_steps → {asked : List ℕ} → length asked ≡ max_signals → ((r : ℕ) → r < max_signals → get_or asked r 0 ≡ 0) → ClaimsAsked table n asked
   claims-ready steps room none =
       record {
-        size = held.size;
-        few = c.few.trams;
+        few = omega (arith, held.size, c.trams, c.few.trams);
         few-steps = steps;
         signal-first = λ k l. (signal-within k l).0;
         signal-last = λ k l. (signal-within k l).1;

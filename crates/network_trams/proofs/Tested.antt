@@ -1,8 +1,9 @@
 -- The tests of trams by their table are the paper's.
-use Rattle.base_laws.proofs.Kit.{ℕ, ◌+◌, ◌<◌, ◌≡◌, refl, List, arith, length, get_or, ◌≤◌}
+use Rattle.base_laws.proofs.Kit.{ℕ, ◌+◌, ◌<◌, ◌≡◌, refl, ◌∙◌, List, arith, length, get_or, take, ◌≤◌}
+use Rattle.std.proofs.lemmas.List.{length-take-le, get_or-take}
 use Rattle.text_reader.specs.Lines.{Line, number}
 use Rattle.base_laws.specs.Indexed.{list}
-use Rattle.model.specs.Network.{max_trams, entry, tram_count, signal_count, step_count}
+use Rattle.model.specs.Network.{entry, tram_count, signal_count, step_count}
 use Rattle.model.specs.Rules.{apart, tram_exists, tram, valid_tram}
 use Rattle.base_laws.proofs.Tests.{every-same}
 use Rattle.network_tables.specs.declared.Tram.{Tram}
@@ -24,9 +25,14 @@ module _ (network : List Line) (trams : List Tram) where
     unfolding entry list
     tram-is k h = q.given k h _
 
-    pub table-of : tram_count network ≤ n → length trams ≡ max_trams → TramTable network trams
+    -- the part of a room that has the trams
+    pub table-of : n ≡ tram_count network → {count : ℕ} → count ≡ tram_count network → count ≤ length trams → TramTable network (take count trams)
     unfolding entry
-    table-of h size = record { size = size; holds = λ k l. tram-is k (omega arith) }
+    table-of h {count} e room =
+        record {
+          size = length-take-le count trams room ∙ e;
+          holds = λ k l. get_or-take count trams k (tram_by (λ f. 0)) (omega arith) ∙ tram-is k (omega arith);
+        }
 
   module _ (k : ℕ) (q : TramsTo network (k + 1) trams) where
     apart-is : (j : ℕ) → j < k → apart_in (tram_at trams j) (tram_at trams k) ≡ apart (tram network j) (tram network k)

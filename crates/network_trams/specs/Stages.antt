@@ -3,7 +3,7 @@ use Rattle.std.specs.Prelude.{ℕ, ◌≡◌, List, length, take, Ok}
 use Rattle.base_search.specs.Checks.{verdict}
 use Rattle.text_reader.specs.Lines.{lines}
 use Rattle.text_reader.specs.Reading.{Starts}
-use Rattle.model.specs.Network.{max_trams, tram_line, signal_line}
+use Rattle.model.specs.Network.{max_trams, tram_count, tram_line, signal_line}
 use Rattle.network_tables.specs.declared.Reading.{Reading}
 use Rattle.network_tables.specs.declared.Tram.{Tram}
 use Rattle.network_tables.specs.Blocks.{block_checks, tram_block}
@@ -19,5 +19,5 @@ pub record TramsHeld (text : List ℕ) (trams : List Tram) (reading : Reading) :
   pub counted : CountsHold (lines text) reading.counts
   pub starts : Starts text reading.next (signal_line (lines text) 0)
   pub trams-start : Starts text reading.trams_at (tram_line (lines text) 0)
-  pub table : TramTable (lines text) (take reading.counts.trams trams)
+  pub table : TramTable (lines text) (take (tram_count (lines text)) trams)
   pub passed : verdict (block_checks (tram_block (lines text))) ≡ Ok tt

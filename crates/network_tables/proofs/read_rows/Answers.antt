@@ -1,5 +1,5 @@
 -- `network_tables::read_rows` meets its contract.
-use Rattle.std.proofs.Common.{◌≡◌, refl, ◌∙◌, arith, length, Some, None, rules}
+use Rattle.std.proofs.Common.{◌≡◌, refl, ◌∙◌, arith, None, rules}
 use Rattle.base_laws.proofs.Kit.{length-set, length-replicate}
 use Rattle.base_search.proofs.Laws.{passed_on}
 use Rattle.network_tables.proofs.Blocks.{table-begin, judged-malformed, judged-broken, judged-next, rows-refused}
