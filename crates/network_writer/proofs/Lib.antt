@@ -3,3 +3,4 @@ pub mod Filling
 pub mod Reading
 pub mod Texts
 pub mod Plan
+pub mod Rows

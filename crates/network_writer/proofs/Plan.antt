@@ -1,11 +1,12 @@
 -- A plan's lines, put one behind another by the table of its numbers.
-use Rattle.base_laws.proofs.Kit.{ℕ, ◌+◌, ◌*◌, ◌-◌, ◌≤◌, ◌<◌, ◌≡◌, sym, ◌∙◌, List, dec_le, arith, lt-ltb, le-ltb, length, get_or, take, length-take-le, take-length}
+use Rattle.base_laws.proofs.Kit.{ℕ, ◌+◌, ◌-◌, ◌≤◌, ◌<◌, ◌≡◌, sym, ◌∙◌, List, [], dec_le, arith, lt-ltb, le-ltb, length, get_or, take, length-take-le, take-length}
 use Rattle.text_writer.specs.Records.{record_text}
 use Rattle.model.specs.Network.{max_signals}
 use Rattle.model.specs.Table.{letter_p}
 use Rattle.network_tables.specs.declared.Counts.{Counts}
 use Rattle.network_tables.specs.Places.{plan_width}
 use Rattle.network_tables.specs.Fields.{line_size}
+use Rattle.network_writer.specs.declared.Output.{Output}
 use Rattle.network_writer.specs.Put.{Put, PutWhole}
 use Rattle.network_writer.specs.Plan.{column_in, plan_row, plan_lines, PlanAsked}
 use Rattle.network_writer.proofs.Put.{LinesTo, rows_none, rows_next, rows_all}
@@ -43,12 +44,28 @@ column-past counts k x = elim (dec_le counts.links (k - counts.signals)) [
 ]
 
 -- ---- one line
-pub line-all : {row : List ℕ} {counts : Counts} {line : List ℕ} → length line ≡ plan_width counts → ((k : ℕ) → k < length line → get_or line k 0 ≡ get_or row (column_in counts k) 0)
+pub line-all : (row : List ℕ) (counts : Counts) (line : List ℕ) → length line ≡ plan_width counts → ((k : ℕ) → k < length line → get_or line k 0 ≡ get_or row (column_in counts k) 0)
     → line ≡ plan_row row counts
 unfolding plan_row
-line-all {counts = counts} {line = line} e f = sym (take-length line) ∙ rw e (numbers-are (plan_width counts) _ line (omega arith) (λ k h. f k (omega arith)))
+line-all row counts line e f = sym (take-length line) ∙ rw e (numbers-are (plan_width counts) _ line (omega arith) (λ k h. f k (omega arith)))
 
 -- ---- all lines: the first n are put
 pub record PlanTo (rows : List (List ℕ)) (counts : Counts) (old : Output) (line : List ℕ) (now : Output) (n : ℕ) : Type 0 where
   pub size : length line ≡ plan_width counts
   pub put : LinesTo letter_p (λ k. plan_row (get_or rows k []) counts) counts.steps old now n
+
+plan-fits : {rows : List (List ℕ)} {counts : Counts} → PlanAsked rows counts → {w : ℕ} → w ≡ plan_width counts → w ≤ line_size
+plan-fits a e = omega (arith, a.few.links, a.few.signals, a.few.movements)
+
+module _ {rows : List (List ℕ)} {counts : Counts} (a : PlanAsked rows counts) {old : Output} where
+  pub plan-none : (w : ℕ) (zeros : List ℕ) → w ≡ plan_width counts → length zeros ≡ line_size → PlanTo rows counts old (take w zeros) old 0
+  plan-none w zeros e l = record { size = length-take-le w zeros (omega (arith, plan-fits a e)) ∙ e; put = rows_none }
+
+  module _ {line : List ℕ} {now : Output} {n : ℕ} (t : PlanTo rows counts old line now n) where
+    pub plan-next : n < counts.steps → {line' : List ℕ} → line' ≡ plan_row (get_or rows n []) counts → length line' ≡ length line → {new : Output}
+        → Put 1 (record_text letter_p line') now new → PlanTo rows counts old line' new (n + 1)
+    plan-next h filled l p = record { size = l ∙ t.size; put = rows_next t.put h (rw filled at p) }
+
+    pub plan-all : counts.steps ≤ n → old.at ≡ 0 → PutWhole (plan_lines rows counts) old.out.now now.out.now now.at
+    unfolding plan_lines
+    plan-all h z = let p = rows_all t.put h in record { long = omega (arith, p.ends); is = λ l. rw z at (p.is l) ∙ put_first _ old.out.now }

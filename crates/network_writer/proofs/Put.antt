@@ -1,5 +1,5 @@
 -- Lines that are put one behind another.
-use Rattle.base_laws.proofs.Kit.{ℕ, suc, ◌+◌, ◌≤◌, ◌<◌, ◌≡◌, refl, sym, ap₂, ◌∙◌, List, [], ◌++◌, add-one, arith, length, take, length-append, take-append-drop, length-take-le}
+use Rattle.base_laws.proofs.Kit.{ℕ, suc, ◌+◌, ◌≤◌, ◌<◌, ◌≡◌, refl, sym, ap, ap₂, ◌∙◌, List, [], ◌++◌, add-one, arith, length, take, length-append, take-append-drop, length-take-le}
 use Rattle.text_writer.specs.Records.{record_text, record_texts}
 use Rattle.text_writer.specs.Writing.{put_at, Wrote}
 use Rattle.text_writer.proofs.Laws.{put-more, wrote-length, record-most}
@@ -71,3 +71,19 @@ module _ {row numbers : List ℕ} (e : numbers ≡ row) (few : length row ≤ li
 
   pub line-few : r ≤ longest
   line-few = omega (arith, record-most 0 row, long-is 0)
+
+  module _ (letter : ℕ) {old new : Output} (ends : new.at ≡ old.at + r) (buffer : new.out.ghost_name ≡ old.out.ghost_name) where
+    pub line-short : length old.out.now < old.at + r → new.out.now ≡ old.out.now → Put 1 (record_text letter row) old new
+    line-short h same =
+        record { buffer = buffer; ends = omega (arith, long-is letter); few = omega (arith, line-few, long-is letter); size = ap length same; is = λ l. absurd (omega arith) }
+
+    pub line-wrote : old.at + r ≤ length old.out.now → {end : ℕ} → Wrote (record_text letter numbers) old.at old.out.now new.out.now end → Put 1 (record_text letter row) old new
+    line-wrote h {end} w =
+        let v = rw e at w in
+        record {
+          buffer = buffer;
+          ends = omega (arith, long-is letter);
+          few = omega (arith, line-few, long-is letter);
+          size = wrote-length _ old.at old.out.now new.out.now end (omega (arith, long-is letter)) v;
+          is = λ l. v.is;
+        }

@@ -149,5 +149,9 @@ pub fn write_plan<const C: usize>(
     requires { PlanAsked rows.now counts }
     ensures { Told (plan_lines rows.now counts) (room_verdict 24 (plan_lines rows.now counts) out.old) out.old result out.new }
 {
-    write_measured(Reason::PlanRoom, out, |out| put_plan(rows, counts, out))
+    let put = |out: &mut [u8]|
+        requires { PlanAsked rows.now counts }
+        ensures { PutWhole (plan_lines rows.entry.now counts) out.old out.new result }
+    { put_plan(rows, counts, out) };
+    write_measured(Reason::PlanRoom, out, put)
 }
