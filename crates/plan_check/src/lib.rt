@@ -7,31 +7,32 @@ ghost use Rattle.text_reader.specs.Padding.{PaddingIgnored};
 ghost use Rattle.model.specs.Hold.{plan_of, EmptyHolds};
 ghost use Rattle.model.specs.Calls.{check_plan, ledger_after};
 ghost use Rattle.model.specs.Guarantees.{Promises};
-ghost use Rattle.network.specs.Loading.{Loaded};
+ghost use Rattle.network.specs.Loading.{TablesLoaded};
 ghost use Rattle.plan_check.specs.Plan.{PlanGot};
 
-use base_search::Refusal;
+use base_search::{Reason, Refusal};
 use model::{Signal, Totals};
 use network_tables::{
     Link, MAX_LINKS, MAX_MOVEMENTS, MAX_SIGNALS, Movement, NetworkTables, TIME_TABLE_SIZE,
+    row_start,
 };
 
 // Judges a plan on a network that has passed, from its signals on, which it steps on: the ledger's length, then the steps.
+// No struct of the four: two are read and two are written, and each caller has the four as they are.
 pub fn judge_loaded(
-    network: &[u8],
     plan: &[u8],
     tables: &NetworkTables,
     signals: &mut [Signal],
     ledger: &mut [u32],
 ) -> Result<Totals, Refusal>
-    requires { Loaded network.now signals.old tables.now.links.now tables.now.movements.now tables.now.times.now tables.now.reading }
-    ensures { PlanGot network.now plan.now ledger.old result ledger.new }
+    requires { TablesLoaded tables.now signals.old }
+    ensures { PlanGot tables.now.text.now plan.now ledger.old result ledger.new }
 {
     let counts = tables.reading.counts;
-    if ledger.len() < 2 * (counts.steps + 1) * counts.links {
-        return Err(Refusal::new(8, 0, 0));
+    if ledger.len() < row_start(counts.steps + 1, counts.links) {
+        return Err(Reason::Ledger.refusal(0, 0));
     }
-    plan_steps::run_steps(network, plan, tables, signals, ledger)
+    plan_steps::run_steps(plan, tables, signals, ledger)
 }
 
 // Check a plan: refusals 1 to 6, 8 to 18, and 25 to 30. A refusal writes only row 0 and the rows of steps that had passed.
@@ -46,18 +47,12 @@ pub fn check_plan(network: &[u8], plan: &[u8], ledger: &mut [u32]) -> Result<Tot
     let mut links = [Link::default(); MAX_LINKS];
     let mut movements = [Movement::default(); MAX_MOVEMENTS];
     let mut times = [0u32; TIME_TABLE_SIZE];
-    let reading = network::read_network(
+    let tables = network::read_network(
         network,
         &mut signals,
         &mut links,
         &mut movements,
         &mut times,
     )?;
-    let tables = NetworkTables {
-        reading,
-        links: &links,
-        movements: &movements,
-        times: &times,
-    };
-    judge_loaded(network, plan, &tables, &mut signals, ledger)
+    judge_loaded(plan, &tables, &mut signals, ledger)
 }

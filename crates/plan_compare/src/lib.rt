@@ -7,7 +7,7 @@ ghost use Rattle.text_reader.specs.Lines.{lines};
 ghost use Rattle.text_reader.specs.Padding.{PaddingIgnored};
 ghost use Rattle.model.specs.Hold.{plan_of};
 ghost use Rattle.model.specs.Calls.{ledger_after};
-ghost use Rattle.network.specs.Loading.{Loaded};
+ghost use Rattle.network.specs.Loading.{TablesLoaded};
 ghost use Rattle.plan_compare.specs.Comparison.{order_number, order_by, plan_number, refusal_in, compare_plans, second_ledger_after};
 ghost use Rattle.plan_compare.specs.Promises.{ComparisonPromises, ComparisonGot};
 ghost use Rattle.plan_compare.specs.Curves.{lines_order, Formed, NextAsked, NextGot};
@@ -150,32 +150,26 @@ fn gap_between(first: u64, second: u64) -> i64
 
 // Compares two plans on a network that has passed: all refusals of the first, then those of the second. Each starts from the same signals.
 fn compare_on_network(
-    network: &[u8],
+    tables: &NetworkTables,
     first: &[u8],
     second: &[u8],
-    tables: &NetworkTables,
     signals: &mut [Signal; MAX_SIGNALS],
     first_ledger: &mut [u32],
     second_ledger: &mut [u32],
 ) -> Result<Comparison, ComparisonRefusal>
-    requires { Loaded network.now signals.old tables.now.links.now tables.now.movements.now tables.now.times.now tables.now.reading }
-    ensures { ComparisonGot network.now first.now second.now first_ledger.old second_ledger.old result first_ledger.new second_ledger.new }
+    requires { TablesLoaded tables.now signals.old }
+    ensures { ComparisonGot tables.now.text.now first.now second.now first_ledger.old second_ledger.old result first_ledger.new second_ledger.new }
 {
     let mut signals_of_first = *signals;
     let first_totals = plan_check::judge_loaded(
-        network,
         first,
         tables,
         &mut signals_of_first,
         first_ledger,
     ).map_err(ComparisonRefusal::First)?;
-    let second_totals = plan_check::judge_loaded(
-        network,
-        second,
-        tables,
-        signals,
-        second_ledger,
-    ).map_err(ComparisonRefusal::Second)?;
+    let second_totals = plan_check::judge_loaded(second, tables, signals, second_ledger).map_err(
+        ComparisonRefusal::Second,
+    )?;
     Ok(Comparison {
         order: order_of_texts(first, second, tables.reading.counts),
         gap: gap_between(first_totals.doubled_time, second_totals.doubled_time),
@@ -200,7 +194,7 @@ pub fn compare_plans(
     let mut links = [Link::default(); MAX_LINKS];
     let mut movements = [Movement::default(); MAX_MOVEMENTS];
     let mut times = [0u32; TIME_TABLE_SIZE];
-    let reading = network::read_network(
+    let tables = network::read_network(
         network,
         &mut signals,
         &mut links,
@@ -208,17 +202,10 @@ pub fn compare_plans(
         &mut times,
     )
     .map_err(ComparisonRefusal::Network)?;
-    let tables = NetworkTables {
-        reading,
-        links: &links,
-        movements: &movements,
-        times: &times,
-    };
     compare_on_network(
-        network,
+        &tables,
         first,
         second,
-        &tables,
         &mut signals,
         first_ledger,
         second_ledger,

@@ -1,4 +1,5 @@
 pub mod Totals
 pub mod PlanLine
+pub mod Reading
 pub mod State
 pub mod Steps

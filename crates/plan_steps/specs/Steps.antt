@@ -11,25 +11,26 @@ use Rattle.model.specs.Table.{line_checks, plan_line_checks}
 use Rattle.model.specs.Hold.{plan_of}
 use Rattle.model.specs.Calls.{plan_answer, rows_written, written, ledger_after}
 use Rattle.network_tables.specs.declared.NetworkTables.{NetworkTables}
-use Rattle.network_tables.specs.declared.Tram.{Tram}
 use Rattle.network_tables.specs.Tables.{SignalTable, TramTable}
 use Rattle.step_past.specs.declared.Arrival.{Arrival}
 use Rattle.step_rows.specs.Waiting.{WaitingTable}
 use Rattle.step_signals.specs.Step.{SignalsAt}
 use Rattle.plan_steps.specs.declared.State.{State}
 use Rattle.plan_steps.specs.declared.Lines.{Lines}
-use Rattle.plan_steps.specs.State.{Tables, StateAt, LinesLent}
+use Rattle.plan_steps.specs.declared.Run.{Run}
+use Rattle.plan_steps.specs.Reading.{Tables, LinesLent}
+use Rattle.plan_steps.specs.State.{StateAt}
 use Rattle.plan_steps.specs.PlanLine.{PlanAt}
 use Rattle.model.specs.declared.Totals.{Totals}
 
 -- what taking all steps asks ..
-pub record RunAsked (network_text plan_text : List ℕ) (tabled : NetworkTables) (signals : List Signal) (ledger : List ℕ) : Type 0 where
-  pub tables : Tables network_text tabled
-  pub trams-start : Starts network_text tabled.reading.trams_at (tram_line (lines network_text) 0)
-  pub signal-table : SignalTable (lines network_text) signals
-  pub past-start : Starts network_text tabled.reading.past_at (timeline_line (lines network_text) 0)
-  pub steps-start : Starts network_text tabled.reading.steps_at (step_line (lines network_text) 0)
-  pub room : 2 * suc (step_count (lines network_text)) * link_count (lines network_text) ≤ length ledger
+pub record RunAsked (plan_text : List ℕ) (tabled : NetworkTables) (signals : List Signal) (ledger : List ℕ) : Type 0 where
+  pub tables : Tables tabled
+  pub trams-start : Starts tabled.text.now tabled.reading.trams_at (tram_line (lines tabled.text.now) 0)
+  pub signal-table : SignalTable (lines tabled.text.now) signals
+  pub past-start : Starts tabled.text.now tabled.reading.past_at (timeline_line (lines tabled.text.now) 0)
+  pub steps-start : Starts tabled.text.now tabled.reading.steps_at (step_line (lines tabled.text.now) 0)
+  pub room : 2 * suc (step_count (lines tabled.text.now)) * link_count (lines tabled.text.now) ≤ length ledger
 
 -- .. and promises: the answer, and the ledger with the rows of the steps that have passed
 pub record RunGot (network_text plan_text old : List ℕ) (answer : Result Totals Refusal) (ledger : List ℕ) : Type 0 where
@@ -38,15 +39,15 @@ pub record RunGot (network_text plan_text old : List ℕ) (answer : Result Total
   pub some-row : 1 ≤ rows_written (lines network_text) (plan_of network_text plan_text) (length old)
 
 -- what taking the first steps asks: room for their rows alone
-pub record StepsAsked (network_text plan_text : List ℕ) (tabled : NetworkTables) (steps : ℕ) (signals : List Signal) (waiting ledger : List ℕ) : Type 0 where
-  pub tables : Tables network_text tabled
-  pub trams-start : Starts network_text tabled.reading.trams_at (tram_line (lines network_text) 0)
-  pub signal-table : SignalTable (lines network_text) signals
-  pub past-start : Starts network_text tabled.reading.past_at (timeline_line (lines network_text) 0)
-  pub steps-start : Starts network_text tabled.reading.steps_at (step_line (lines network_text) 0)
-  pub few-steps : steps ≤ step_count (lines network_text)
+pub record StepsAsked (plan_text : List ℕ) (tabled : NetworkTables) (steps : ℕ) (signals : List Signal) (waiting ledger : List ℕ) : Type 0 where
+  pub tables : Tables tabled
+  pub trams-start : Starts tabled.text.now tabled.reading.trams_at (tram_line (lines tabled.text.now) 0)
+  pub signal-table : SignalTable (lines tabled.text.now) signals
+  pub past-start : Starts tabled.text.now tabled.reading.past_at (timeline_line (lines tabled.text.now) 0)
+  pub steps-start : Starts tabled.text.now tabled.reading.steps_at (step_line (lines tabled.text.now) 0)
+  pub few-steps : steps ≤ step_count (lines tabled.text.now)
   pub waiting-size : length waiting ≡ max_links
-  pub room : 2 * suc steps * link_count (lines network_text) ≤ length ledger
+  pub room : 2 * suc steps * link_count (lines tabled.text.now) ≤ length ledger
 
 -- a step is refused, after steps that pass: the ledger has the rows up to it
 pub record Stopped (network_text plan_text old : List ℕ) (steps : ℕ) (r : Refusal) (ledger : List ℕ) : Type 0 where
@@ -59,7 +60,7 @@ pub record Stopped (network_text plan_text old : List ℕ) (steps : ℕ) (r : Re
 -- all of them pass: the state after them
 pub record AllTaken (network_text plan_text old : List ℕ) (steps : ℕ) (state : State) (signals : List Signal) (waiting ledger : List ℕ) : Type 0 where
   pub passed : (m : ℕ) → m < steps → verdict (line_checks (lines network_text) (plan_of network_text plan_text) m) ≡ Ok tt
-  pub plan-starts : PlanAt plan_text state.plan_at steps
+  pub plan-starts : PlanAt plan_text state.place.plan_at steps
   pub signals-at : SignalsAt (lines network_text) (plan_of network_text plan_text) steps signals
   pub totals-at : state.totals ≡ totals (lines network_text) (plan_of network_text plan_text) steps
   pub waiting-at : WaitingTable (lines network_text) (plan_of network_text plan_text) steps waiting
@@ -72,14 +73,13 @@ pub record StepsGot (network_text plan_text old : List ℕ) (steps : ℕ) (resul
       (λ r. Stopped network_text plan_text old steps r ledger)
 
 -- the state after `done` of them, while they are taken
-pub record Running (network_text plan_text : List ℕ) (tabled : NetworkTables) (trams : List Tram) (steps done : ℕ) (old : List ℕ) (state : State) (signals : List Signal) (arrivals : List Arrival)
-    (waiting ledger : List ℕ) (said : Lines) : Type 0 where
-  pub tables : Tables network_text tabled
-  pub tram-table : TramTable (lines network_text) trams
-  pub taken : state.boundary ≡ done
-  pub state-at : StateAt network_text plan_text state signals arrivals waiting ledger
-  pub lent : LinesLent network_text plan_text said
-  pub few-steps : steps ≤ step_count (lines network_text)
-  pub since : ledger ≡ written (lines network_text) (plan_of network_text plan_text) old (suc done)
+pub record Running (run : Run) (steps done : ℕ) (old : List ℕ) (state : State) (signals : List Signal) (arrivals : List Arrival) (waiting ledger : List ℕ) (said : Lines) : Type 0 where
+  pub tables : Tables run.tables.now
+  pub tram-table : TramTable (lines run.tables.now.text.now) run.trams.now
+  pub taken : state.place.boundary ≡ done
+  pub state-at : StateAt run.tables.now.text.now run.plan.now state signals arrivals waiting ledger
+  pub lent : LinesLent run.tables.now.text.now run.plan.now said
+  pub few-steps : steps ≤ step_count (lines run.tables.now.text.now)
+  pub since : ledger ≡ written (lines run.tables.now.text.now) (plan_of run.tables.now.text.now run.plan.now) old (suc done)
   pub long : length ledger ≡ length old
-  pub room : 2 * suc steps * link_count (lines network_text) ≤ length old
+  pub room : 2 * suc steps * link_count (lines run.tables.now.text.now) ≤ length old

@@ -5,45 +5,66 @@ ghost use Rattle.std.specs.Prelude.{◌≡◌, ◌+◌, ◌*◌, ◌≤◌};
 ghost use Rattle.model.specs.Network.{max_steps};
 ghost use Rattle.plan_steps.specs.PlanLine.{LineAsked, LineGot};
 ghost use Rattle.plan_steps.specs.Totals.{totals_after, TotalsAsked};
-ghost use Rattle.plan_steps.specs.State.{FirstAsked, first_state, ReadAsked, ReadGot, NextAsked, NextGot, StepAsked, StepGot, finished};
+ghost use Rattle.plan_steps.specs.Reading.{Cleared, ReadAsked, ReadGot};
+ghost use Rattle.plan_steps.specs.State.{FirstAsked, first_state, NextAsked, NextGot, StepAsked, StepGot, finished};
 ghost use Rattle.plan_steps.specs.Steps.{StepsAsked, StepsGot, RunAsked, RunGot};
 
-use base_search::Refusal;
+use base_search::{Reason, Refusal};
 use model::{Signal, Totals};
 use network_tables::{
     Counts, LINE_SIZE, MAX_LINKS, MAX_SIGNALS, MAX_TRAMS, NetworkTables, ROW_SIZE, STEP_SIZE, Tram,
+    row_start,
 };
 use step_past::Arrival;
 use step_rows::Step;
 
-// The state at a boundary: where the `S` and the `P` line of the next step start, the totals so far, and how many wait outside. It has the boundary, since all that
-// is known of it is known at its boundary. The signals stand in a table that is lent, since a copy of them a step costs more than the rest of the step's state.
+// How far both texts are read: up to a boundary, where the `S` and the `P` line of the next step start.
 #[derive(Clone, Copy)]
-pub struct State {
+pub struct Place {
     pub boundary: usize,
     pub step_at: usize,
     pub plan_at: usize,
+}
+
+// The state at a boundary: the place of the next step's lines, the totals so far, and how many wait outside.
+// The signals stand in a table that is lent, since a copy of them a step costs more than the rest of the step's state.
+#[derive(Clone, Copy)]
+pub struct State {
+    pub place: Place,
     pub totals: Totals,
     pub outside: u64,
 }
 
-// What the lines of a step say: the numbers of its `S` line, with those who wait added to each demand, those of its `P` line, the phases that are shown, and those
-// that trams ask. It is lent from step to step, so that it need not be cleared anew.
+// What the lines of a step say: the numbers of its `S` line and of its `P` line, the phases that are shown, and those that trams ask. While a plan is judged, those
+// who wait are added to each demand. It is lent from step to step, so that it need not be cleared anew.
 #[derive(Drop)]
-struct Lines {
-    step: [u32; STEP_SIZE],
-    plan: [u32; LINE_SIZE],
-    phases: [u32; MAX_SIGNALS],
-    asked: [u32; MAX_SIGNALS],
+pub struct Lines {
+    pub step: [u32; STEP_SIZE],
+    pub plan: [u32; LINE_SIZE],
+    pub phases: [u32; MAX_SIGNALS],
+    pub asked: [u32; MAX_SIGNALS],
 }
 
-// What all steps are taken by: both texts, the network's tables, and its trams.
+impl Lines {
+    // Before the first step.
+    pub fn cleared() -> Self
+        ensures { Cleared result }
+    {
+        Lines {
+            step: [0; STEP_SIZE],
+            plan: [0; LINE_SIZE],
+            phases: [0; MAX_SIGNALS],
+            asked: [0; MAX_SIGNALS],
+        }
+    }
+}
+
+// What all steps are taken by: the plan's text, the network's tables, and its trams.
 #[derive(Clone, Copy)]
-struct Run<'a> {
-    network: &'a [u8],
-    plan: &'a [u8],
-    tables: &'a NetworkTables<'a>,
-    trams: &'a [Tram],
+pub struct Run<'a> {
+    pub plan: &'a [u8],
+    pub tables: &'a NetworkTables<'a>,
+    pub trams: &'a [Tram],
 }
 
 // Length × (vehicles under way at the step's start + at its end).
@@ -91,15 +112,17 @@ fn first_state(tables: &NetworkTables, waiting: &[u32], row: &[u32]) -> State
         doubled_time: 0,
     };
     State {
-        boundary: 0,
-        step_at: tables.reading.steps_at,
-        plan_at: 0,
+        place: Place {
+            boundary: 0,
+            step_at: tables.reading.steps_at,
+            plan_at: 0,
+        },
         totals,
         outside: step_rows::sum_of(waiting, 0, counts.links),
     }
 }
 
-// Goes on to the state after a step that is kept, with its signals and those who wait there; `state` has the places of the next lines already.
+// Goes on to the state after a step that is kept, with its signals and those who wait there; `state` has the place of the next lines already.
 fn next_state(
     state: State,
     lines: &Lines,
@@ -129,7 +152,6 @@ fn next_state(
         counts,
     );
     State {
-        boundary: state.boundary + 1,
         totals,
         outside,
         ..state
@@ -156,32 +178,28 @@ pub fn read_line(
 }
 
 impl Run<'_> {
-    // Reads the lines of the next step, and what they have signals show and trams ask: the state with the places of the lines behind, or none where the `P` line
-    // is malformed.
-    fn read_lines(
-        &self,
-        state: State,
-        signals: &[Signal],
-        waiting: &[u32],
-        lines: &mut Lines,
-    ) -> Option<State>
-        requires { ReadAsked self.now.network.now self.now.plan.now self.now.tables.now self.now.trams.now state signals.now waiting.now lines.old }
-        ensures { ReadGot self.now.network.now self.now.plan.now state result lines.new }
+    // Reads the lines of the next step, and what they have signals show and trams ask: the place behind them, or none where the `P` line is malformed.
+    pub fn read_lines(&self, place: Place, signals: &[Signal], lines: &mut Lines) -> Option<Place>
+        requires { ReadAsked self.now place signals.now lines.old }
+        ensures { ReadGot self.now.tables.now.text.now self.now.plan.now place result lines.new }
     {
         let counts = self.tables.reading.counts;
-        let step = &mut lines.step;
-        let width = 1 + counts.links;
-        let step_at = network_tables::read_again(self.network, state.step_at, b'S', step, width);
-        step_rows::add_waiting(waiting, counts.links, step);
-        let plan_at = read_line(self.plan, state.plan_at, signals, counts, &mut lines.plan)?;
+        let step_at = network_tables::read_again(
+            self.tables.text,
+            place.step_at,
+            b'S',
+            &mut lines.step,
+            counts.step_width(),
+        );
+        let plan_at = read_line(self.plan, place.plan_at, signals, counts, &mut lines.plan)?;
         step_signals::shown_phases(signals, counts.signals, &lines.plan, &mut lines.phases);
         // Cleared, since only what trams ask is written.
         lines.asked = [0; MAX_SIGNALS];
-        network_trams::tram_phases(self.trams, counts.trams, state.boundary, &mut lines.asked);
-        Some(State {
+        network_trams::tram_phases(self.trams, place.boundary, &mut lines.asked);
+        Some(Place {
+            boundary: place.boundary + 1,
             step_at,
             plan_at,
-            ..state
         })
     }
 
@@ -195,16 +213,17 @@ impl Run<'_> {
         ledger: &mut [u32],
         lines: &mut Lines,
     ) -> Result<State, Refusal>
-        requires { StepAsked self.now.network.now self.now.plan.now self.now.tables.now self.now.trams.now state signals.old arrivals.old waiting.old ledger.old lines.old }
-        ensures { StepGot self.now.network.now self.now.plan.now ledger.old state result signals.new arrivals.new waiting.new ledger.new lines.new }
+        requires { StepAsked self.now state signals.old arrivals.old waiting.old ledger.old lines.old }
+        ensures { StepGot self.now.tables.now.text.now self.now.plan.now ledger.old state result signals.new arrivals.new waiting.new ledger.new lines.new }
     {
         let counts = self.tables.reading.counts;
-        let n = state.boundary;
+        let n = state.place.boundary;
         let mut row = [0u32; ROW_SIZE];
-        let Some(read) = self.read_lines(state, signals, waiting, lines) else {
-            return Err(Refusal::new(9, n + 1, 0));
+        let Some(place) = self.read_lines(state.place, signals, lines) else {
+            return Err(Reason::PlanForm.refusal(n + 1, 0));
         };
-        step_past::next_arrivals(self.network, self.tables, counts.past + n + 1, arrivals);
+        step_rows::add_waiting(waiting, counts.links, &mut lines.step);
+        step_past::next_arrivals(self.tables, counts.past + n + 1, arrivals);
         let step = Step {
             counts,
             links: self.tables.links,
@@ -220,8 +239,13 @@ impl Run<'_> {
             boundary: n,
         };
         step_check::judge_step(&step, &mut row)?;
-        step_rows::write_row(ledger, 2 * (n + 1) * counts.links, &row, 2 * counts.links);
-        Ok(next_state(read, lines, counts, signals, waiting))
+        step_rows::write_row(
+            ledger,
+            row_start(n + 1, counts.links),
+            &row,
+            2 * counts.links,
+        );
+        Ok(next_state(State { place, ..state }, lines, counts, signals, waiting))
     }
 }
 
@@ -233,14 +257,13 @@ fn finish(plan: &[u8], at: usize, steps: usize, totals: Totals) -> Result<Totals
     if text_reader::is_end(plan, at) {
         Ok(totals)
     } else {
-        Err(Refusal::new(9, steps + 1, 0))
+        Err(Reason::PlanForm.refusal(steps + 1, 0))
     }
 }
 
 // Takes the first steps, so many, one after another, up to the first that is refused: row 0 is written, and the past gives what arrives before time 0. The state
 // is that after them; `signals` and `waiting` have what the signals show and who waits there.
 pub fn take_steps(
-    network: &[u8],
     plan: &[u8],
     tables: &NetworkTables,
     steps: usize,
@@ -248,28 +271,22 @@ pub fn take_steps(
     waiting: &mut [u32],
     ledger: &mut [u32],
 ) -> Result<State, Refusal>
-    requires { StepsAsked network.now plan.now tables.now steps signals.old waiting.old ledger.old }
-    ensures { StepsGot network.now plan.now ledger.old steps result signals.new waiting.new ledger.new }
+    requires { StepsAsked plan.now tables.now steps signals.old waiting.old ledger.old }
+    ensures { StepsGot tables.now.text.now plan.now ledger.old steps result signals.new waiting.new ledger.new }
 {
-    let reading = tables.reading;
-    let mut trams = [Tram::default(); MAX_TRAMS];
-    network_trams::load_trams(network, reading.trams_at, reading.counts.trams, &mut trams);
+    let mut room = [Tram::default(); MAX_TRAMS];
+    let trams = network_trams::load_trams(tables, &mut room);
     let mut arrivals = [Arrival::default(); MAX_LINKS];
-    step_past::load_past(network, tables, ledger, &mut arrivals);
-    step_rows::first_waiting(tables.links, reading.counts.links, waiting);
+    // Each number of row 0 of a network that has passed fits (30).
+    let _ = step_past::load_past(tables, ledger, &mut arrivals);
+    step_rows::first_waiting(tables.links, tables.reading.counts.links, waiting);
     let mut state = first_state(tables, waiting, ledger);
     let run = Run {
-        network,
         plan,
         tables,
-        trams: &trams,
+        trams,
     };
-    let mut lines = Lines {
-        step: [0; STEP_SIZE],
-        plan: [0; LINE_SIZE],
-        phases: [0; MAX_SIGNALS],
-        asked: [0; MAX_SIGNALS],
-    };
+    let mut lines = Lines::cleared();
     for _ in 0..steps {
         state = run.take_step(state, signals, &mut arrivals, waiting, ledger, &mut lines)?;
     }
@@ -278,17 +295,16 @@ pub fn take_steps(
 
 // Takes all steps, from the signals before the plan on. A plan with more lines than steps is refused after the last.
 pub fn run_steps(
-    network: &[u8],
     plan: &[u8],
     tables: &NetworkTables,
     signals: &mut [Signal],
     ledger: &mut [u32],
 ) -> Result<Totals, Refusal>
-    requires { RunAsked network.now plan.now tables.now signals.old ledger.old }
-    ensures { RunGot network.now plan.now ledger.old result ledger.new }
+    requires { RunAsked plan.now tables.now signals.old ledger.old }
+    ensures { RunGot tables.now.text.now plan.now ledger.old result ledger.new }
 {
     let mut waiting = [0u32; MAX_LINKS];
     let steps = tables.reading.counts.steps;
-    let state = take_steps(network, plan, tables, steps, signals, &mut waiting, ledger)?;
-    finish(plan, state.plan_at, steps, state.totals)
+    let state = take_steps(plan, tables, steps, signals, &mut waiting, ledger)?;
+    finish(plan, state.place.plan_at, steps, state.totals)
 }

@@ -1,66 +1,64 @@
 -- What the stages of the call ask and promise.
-use Rattle.std.specs.Prelude.{ℕ, ◌+◌, ◌*◌, ◌≤◌, ◌<◌, ◌≡◌, List, length, get_or}
+use Rattle.std.specs.Prelude.{ℕ, ◌+◌, ◌≤◌, ◌<◌, ◌≡◌, List, length}
 use Rattle.base_search.specs.Checks.{verdict, Hold, Verdict}
 use Rattle.text_reader.specs.Lines.{Line, lines}
-use Rattle.text_reader.specs.Reading.{Starts}
-use Rattle.model.specs.Network.{max_signals, entry, signal_count, step_count, tram_line, step_line, time}
-use Rattle.model.specs.Table.{network_checks, line_checks}
+use Rattle.model.specs.Network.{max_signals, entry, signal_count, step_count, time}
+use Rattle.model.specs.Table.{line_checks}
 use Rattle.model.specs.Hold.{plan_of}
 use Rattle.model.specs.declared.Signal.{Signal}
-use Rattle.network_tables.specs.declared.Reading.{Reading}
-use Rattle.network_tables.specs.declared.Tram.{Tram}
-use Rattle.network_tables.specs.Tables.{CountsHold, TramTable}
-use Rattle.plan_steps.specs.PlanLine.{PlanAt}
+use Rattle.network_tables.specs.declared.NetworkTables.{NetworkTables}
+use Rattle.network_tables.specs.Tables.{TramTable}
+use Rattle.network.specs.Loading.{TablesLoaded}
+use Rattle.plan_steps.specs.declared.Run.{Run}
+use Rattle.plan_steps.specs.Reading.{Tables, PlaceAt}
 use Rattle.step_signals.specs.Step.{SignalsAt}
 use Rattle.sheet_lines.specs.Sheet.{phases_of}
-use Rattle.sheet_lines.specs.Reading.{sheet_fields, sheet_table_size}
+use Rattle.sheet_lines.specs.Reading.{line_in, number_in}
 use Rattle.model_sheet.specs.Runs.{run_checks}
 use Rattle.sheet_check.specs.declared.Pass.{Pass}
 use Rattle.sheet_check.specs.Watch.{WatchesAt}
 
--- a network that has passed, and where its lines start
-pub record NetworkHeld (text : List ℕ) (reading : Reading) : Type 0 where
-  pub counted : CountsHold (lines text) reading.counts
-  pub trams-start : Starts text reading.trams_at (tram_line (lines text) 0)
-  pub steps-start : Starts text reading.steps_at (step_line (lines text) 0)
-  pub holds : Hold (network_checks (lines text))
-
 -- the table has the durations of a sheet
-abbrev pub SheetIn : List Line → List ℕ → List Line → Type 0
-SheetIn network table sheet = (r : ℕ) → r < signal_count network → (k : ℕ) → k < phases_of network r → get_or table (sheet_fields * r + k) 0 ≡ entry sheet r k
+abbrev pub SheetIn : List Line → List (List ℕ) → List Line → Type 0
+SheetIn network table sheet = (r : ℕ) → r < signal_count network → (k : ℕ) → k < phases_of network r → number_in (line_in table r) k ≡ entry sheet r k
+
+-- every line of a plan has passed
+abbrev pub Lawful : List ℕ → List ℕ → Type 0
+Lawful network_text plan_text = (n : ℕ) → n < step_count (lines network_text) → Hold (line_checks (lines network_text) (plan_of network_text plan_text) n)
 
 -- an accepted plan is gone through again, with a sheet's durations in the table
-pub record PassAsked (network_text plan_text table : List ℕ) (reading : Reading) : Type 0 where
-  pub network-held : NetworkHeld network_text reading
-  pub room : length table ≡ sheet_table_size
-  pub lawful : (n : ℕ) → n < step_count (lines network_text) → Hold (line_checks (lines network_text) (plan_of network_text plan_text) n)
+pub record PassAsked (plan_text : List ℕ) (tables : NetworkTables) (table : List (List ℕ)) (signals : List Signal) : Type 0 where
+  pub loaded : TablesLoaded tables signals
+  pub size : length table ≡ max_signals
+  pub lawful : Lawful tables.text.now plan_text
 
--- how far the steps are gone through: the lines of the next start at these places, and the signals are those at the boundary
+-- how far the steps are gone through: the lines of the next step start at this place, and the signals are those at the boundary
 pub record PassAt (network_text plan_text : List ℕ) (pass : Pass) (signals : List Signal) : Type 0 where
-  pub within : pass.boundary ≤ step_count (lines network_text)
-  pub time-is : pass.time ≡ time (lines network_text) pass.boundary
-  pub step-starts : Starts network_text pass.step_at (step_line (lines network_text) pass.boundary)
-  pub plan-starts : PlanAt plan_text pass.plan_at pass.boundary
-  pub signals-at : SignalsAt (lines network_text) (plan_of network_text plan_text) pass.boundary signals
+  pub within : pass.place.boundary ≤ step_count (lines network_text)
+  pub time-is : pass.time ≡ time (lines network_text) pass.place.boundary
+  pub at : PlaceAt network_text plan_text pass.place
+  pub signals-at : SignalsAt (lines network_text) (plan_of network_text plan_text) pass.place.boundary signals
   pub watches-size : length pass.watches ≡ max_signals
 
 -- and so are the watches, for every sheet that the table has
-pub record PassWatches (network_text plan_text table : List ℕ) (pass : Pass) : Type 0 where
+pub record PassWatches (network_text plan_text : List ℕ) (table : List (List ℕ)) (pass : Pass) : Type 0 where
   pub watches : (sheet : List Line) → SheetIn (lines network_text) table sheet
-      → WatchesAt (lines network_text) sheet (plan_of network_text plan_text) pass.boundary pass.watches
+      → WatchesAt (lines network_text) sheet (plan_of network_text plan_text) pass.place.boundary pass.watches
 
 -- one step more is asked for, and gone through
-pub record StepAsked (network_text plan_text table : List ℕ) (reading : Reading) (trams : List Tram) (signals : List Signal) (pass : Pass) : Type 0 where
-  pub pass-asked : PassAsked network_text plan_text table reading
-  pub tram-table : TramTable (lines network_text) trams
-  pub pass-at : PassAt network_text plan_text pass signals
-  pub more : pass.boundary < step_count (lines network_text)
+pub record StepAsked (run : Run) (table : List (List ℕ)) (signals : List Signal) (pass : Pass) : Type 0 where
+  pub tables : Tables run.tables.now
+  pub tram-table : TramTable (lines run.tables.now.text.now) run.trams.now
+  pub size : length table ≡ max_signals
+  pub lawful : Lawful run.tables.now.text.now run.plan.now
+  pub pass-at : PassAt run.tables.now.text.now run.plan.now pass signals
+  pub more : pass.place.boundary < step_count (lines run.tables.now.text.now)
 
-pub record StepGot (network_text plan_text table : List ℕ) (pass next : Pass) (signals : List Signal) : Type 0 where
-  pub boundary : next.boundary ≡ pass.boundary + 1
+pub record StepGot (network_text plan_text : List ℕ) (table : List (List ℕ)) (pass next : Pass) (signals : List Signal) : Type 0 where
+  pub boundary : next.place.boundary ≡ pass.place.boundary + 1
   pub reached : PassAt network_text plan_text next signals
   pub watched : PassWatches network_text plan_text table pass → PassWatches network_text plan_text table next
 
 -- all steps are: 34 of every sheet that the table has
-pub record PassGot (network_text plan_text table : List ℕ) (result : Verdict) : Type 0 where
+pub record PassGot (network_text plan_text : List ℕ) (table : List (List ℕ)) (result : Verdict) : Type 0 where
   pub told : (sheet : List Line) → SheetIn (lines network_text) table sheet → result ≡ verdict (run_checks (lines network_text) sheet (plan_of network_text plan_text))

@@ -1,14 +1,16 @@
 -- What is watched of each signal while the steps of an accepted plan are gone through: the numbers of 34 in one pass, by the program's tables.
-use Rattle.std.specs.Prelude.{ℕ, ◌+◌, ◌*◌, ◌-◌, ◌≤◌, ◌<◌, ◌≡◌, false, cond, not, List, leb, eqb, length, get_or}
+use Rattle.std.specs.Prelude.{ℕ, ◌+◌, ◌-◌, ◌≤◌, ◌<◌, ◌≡◌, false, cond, not, List, leb, eqb, length, get_or}
 use Rattle.text_reader.specs.Lines.{Line}
 use Rattle.model.specs.declared.Signal.{Signal}
 use Rattle.base_laws.specs.Test.{◌and◌}
-use Rattle.model.specs.Network.{max_signals, signal_count}
+use Rattle.model.specs.Network.{max_signals, max_steps, signal_count}
 use Rattle.network_tables.specs.Fields.{signal_at}
-use Rattle.sheet_lines.specs.Reading.{sheet_fields, sheet_table_size}
+use Rattle.sheet_lines.specs.Reading.{sheet_fields, line_in, number_in}
 use Rattle.model_sheet.specs.Runs.{is_tested, last_line, found}
 use Rattle.step_signals.specs.Ready.{Ready, AllReady}
+use Rattle.plan_steps.specs.declared.Lines.{Lines}
 use Rattle.sheet_check.specs.declared.Watch.{Watch}
+use Rattle.sheet_check.specs.declared.Pass.{Pass}
 
 abbrev pub no_watch : Watch
 no_watch = record { tested = false; line = 0; broken = 0 }
@@ -30,29 +32,32 @@ watch_after w s q line t lasts =
 unfoldable pub next_watch : Watch → ℕ → Signal → ℕ → ℕ → ℕ → ℕ → Watch
 next_watch w asked s q line t lasts = cond (eqb asked 0) (watch_after w s q line t lasts) w
 
--- the duration of the phase that signal r shows, by the sheet's table
-abbrev pub duration_in : List ℕ → ℕ → Signal → ℕ
-duration_in table r s = get_or table (sheet_fields * r + (s.shown - 1)) 0
+-- the duration of the phase that a signal shows, by its line of the sheet
+abbrev pub duration_in : List ℕ → Signal → ℕ
+duration_in line s = number_in line (s.shown - 1)
 
-pub record DurationAsked (table : List ℕ) (r : ℕ) (s : Signal) : Type 0 where
+pub record DurationAsked (line : List ℕ) (s : Signal) : Type 0 where
   pub ready : Ready s
-  pub few : r < max_signals
-  pub room : length table ≡ sheet_table_size
+  pub room : length line ≡ sheet_fields
 
-pub record WatchAsked (signals : List Signal) (count : ℕ) (phases asked table : List ℕ) : Type 0 where
-  pub few : count ≤ max_signals
-  pub size : length signals ≡ max_signals
-  pub ready : AllReady signals count
-  pub phases-size : length phases ≡ max_signals
-  pub asked-size : length asked ≡ max_signals
-  pub room : length table ≡ sheet_table_size
+-- the lines of a step that starts at a pass's boundary, and a line of the sheet for each signal
+pub record WatchAsked (pass : Pass) (signals : List Signal) (said : Lines) (table : List (List ℕ)) : Type 0 where
+  pub few-steps : pass.place.boundary < max_steps
+  pub few : length signals ≤ max_signals
+  pub ready : AllReady signals (length signals)
+  pub size : length table ≡ max_signals
 
 -- the watches of the first n signals are one step on; the others are as they were
-pub record Watched (watches : List Watch) (signals : List Signal) (n : ℕ) (phases asked table : List ℕ) (line t : ℕ) (result : List Watch) : Type 0 where
-  pub size : length result ≡ max_signals
+pub record WatchedTo (before : List Watch) (signals : List Signal) (n : ℕ) (said : Lines) (table : List (List ℕ)) (line t : ℕ) (watches : List Watch) : Type 0 where
+  pub size : length watches ≡ length before
   pub on : (r : ℕ) → r < n
-      → watch_in result r ≡ next_watch (watch_in watches r) (get_or asked r 0) (signal_at signals r) (get_or phases r 0) line t (duration_in table r (signal_at signals r))
-  pub kept : (r : ℕ) → n ≤ r → watch_in result r ≡ watch_in watches r
+      → watch_in watches r ≡ next_watch (watch_in before r) (get_or said.asked r 0) (signal_at signals r) (get_or said.phases r 0) line t (duration_in (line_in table r) (signal_at signals r))
+  pub kept : (r : ℕ) → n ≤ r → watch_in watches r ≡ watch_in before r
+
+-- those of all signals are; nothing else is changed
+pub record Watched (pass : Pass) (signals : List Signal) (said : Lines) (table : List (List ℕ)) (after : Pass) : Type 0 where
+  pub watches : WatchedTo pass.watches signals (length signals) said table (pass.place.boundary + 1) pass.time after.watches
+  pub same : after ≡ record pass { watches = after.watches }
 
 -- the watch of signal r at boundary n
 unfoldable pub watch_at : List Line → List Line → List Line → ℕ → ℕ → Watch

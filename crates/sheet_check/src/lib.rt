@@ -2,25 +2,24 @@
 // over its steps watches a few numbers of each signal. No table of runs is kept.
 #![tactic(auto)]
 
-ghost use Rattle.std.specs.Prelude.{◌≡◌, ◌≤◌};
+ghost use Rattle.std.specs.Prelude.{◌≡◌, ◌<◌, length};
 ghost use Rattle.text_reader.specs.Lines.{lines};
 ghost use Rattle.text_reader.specs.Padding.{PaddingIgnored};
 ghost use Rattle.model.specs.Hold.{plan_of};
-ghost use Rattle.model.specs.Network.{max_signals};
-ghost use Rattle.network_tables.specs.Tables.{SignalTable};
-ghost use Rattle.network.specs.Loading.{Loaded};
+ghost use Rattle.network.specs.Loading.{TablesLoaded};
 ghost use Rattle.model_sheet.specs.Runs.{earlier, pass_verdict};
 ghost use Rattle.model_sheet.specs.Promises.{SheetPromises};
 ghost use Rattle.sheet_check.specs.Watch.{watch_in, first_broken, watch_after, duration_in, DurationAsked, WatchAsked, Watched};
 ghost use Rattle.sheet_check.specs.Stages.{PassAsked, StepAsked, StepGot, PassGot};
 
-use base_search::Refusal;
+use base_search::{Reason, Refusal};
 use model::{Signal, Totals};
 use network_tables::{
-    LINE_SIZE, Link, MAX_LINKS, MAX_MOVEMENTS, MAX_SIGNALS, MAX_TRAMS, Movement, NetworkTables,
-    Reading, STEP_SIZE, TIME_TABLE_SIZE, Tram,
+    Link, MAX_LINKS, MAX_MOVEMENTS, MAX_SIGNALS, MAX_TRAMS, Movement, NetworkTables,
+    TIME_TABLE_SIZE, Tram,
 };
-use sheet_lines::{SHEET_FIELDS, SHEET_TABLE_SIZE};
+use plan_steps::{Lines, Place, Run};
+use sheet_lines::{SHEET_FIELDS, SheetLine};
 
 // What is watched of a signal: whether the run that it shows is to be tested, the line of its last ordinary step, and the line of its first broken run, 0 for
 // none. An Option would let in a line 0, which the definitions of 34 and a refusal have for none, and each contract would have to rule it out.
@@ -31,14 +30,12 @@ pub struct Watch {
     pub broken: u32,
 }
 
-// How far the steps are gone through: the boundary and its time, where the `S` and the `P` line of the next step start, and what is watched of the signals.
+// How far the steps are gone through: the place of the next step's lines, its time, and what is watched of the signals.
 #[derive(Clone, Copy)]
 pub struct Pass {
-    pub boundary: usize,
+    pub place: Place,
     pub time: u32,
-    pub step_at: usize,
-    pub plan_at: usize,
-    pub watches: [Watch; 8],
+    pub watches: [Watch; MAX_SIGNALS],
 }
 
 // The line of the first broken run once a run of so many seconds is left, whose duration is another or not.
@@ -80,36 +77,29 @@ fn watch_after(
     }
 }
 
-// The duration of the phase that signal `i` shows.
-fn duration_of(table: &[u32], i: usize, signal: &Signal) -> u32
-    requires { DurationAsked table.now i signal.now }
-    ensures { result ≡ duration_in table.now i signal.now }
+// The duration of the phase that a signal shows, by its line of the sheet.
+fn duration_of(line: &[u32], signal: &Signal) -> u32
+    requires { DurationAsked line.now signal.now }
+    ensures { result ≡ duration_in line.now signal.now }
 {
-    table[SHEET_FIELDS * i + step_signals::place_of(signal.shown)]
+    line[step_signals::place_of(signal.shown)]
 }
 
-// The watches after a step in which the signals show these phases and trams ask these; the signals are those before it. Where a tram asks a phase, nothing moves.
-fn watch_signals(
-    mut watches: [Watch; 8],
-    signals: &[Signal],
-    count: usize,
-    phases: &[u32],
-    asked: &[u32],
-    table: &[u32],
-    line: u32,
-    time: u32,
-) -> [Watch; 8]
-    requires { WatchAsked signals.now count phases.now asked.now table.now }
-    ensures { Watched watches signals.now count phases.now asked.now table.now line time result }
+// The watches after a step whose lines say which phases the signals show and trams ask; the signals are those before it. Where a tram asks a phase, nothing moves.
+fn watch_signals(pass: &mut Pass, signals: &[Signal], said: &Lines, table: &[SheetLine])
+    requires { WatchAsked pass.old signals.now said.now table.now }
+    ensures { Watched pass.old signals.now said.now table.now pass.new }
 {
-    for i in 0..count {
-        if asked[i] == 0 {
-            let signal = &signals[i];
-            let duration = duration_of(table, i, signal);
-            watches[i] = watch_after(watches[i], signal, phases[i], line, time, duration);
+    // A step's line is its boundary counted from 1: the cast loses nothing.
+    let line = (pass.place.boundary + 1) as u32;
+    let time = pass.time;
+    for (i, signal) in signals.iter().enumerate() {
+        if said.asked[i] == 0 {
+            let duration = duration_of(&table[i], signal);
+            let watch = pass.watches[i];
+            pass.watches[i] = watch_after(watch, signal, said.phases[i], line, time, duration);
         }
     }
-    watches
 }
 
 // Whether a line that was found comes before another; 0 is none.
@@ -120,76 +110,41 @@ fn is_earlier(x: u32, y: u32) -> bool
 }
 
 // Refusal 34: the least of the lines that were found, then the lowest signal.
-fn check_runs(watches: [Watch; 8], count: usize) -> Result<(), Refusal>
-    requires { count ≤ max_signals }
-    ensures { result ≡ pass_verdict (λ i. (watch_in watches i).broken) count }
+fn check_runs(watches: &[Watch]) -> Result<(), Refusal>
+    requires { length watches.now < 4294967296 }
+    ensures { result ≡ pass_verdict (λ i. (watch_in watches.now i).broken) (length watches.now) }
 {
     let mut line: u32 = 0;
-    let mut item: u32 = 0;
-    for i in 0..count {
-        let broken = watches[i].broken;
-        if is_earlier(broken, line) {
-            line = broken;
-            item = (i + 1) as u32;
+    let mut item = 0;
+    for (i, watch) in watches.iter().enumerate() {
+        if is_earlier(watch.broken, line) {
+            line = watch.broken;
+            item = i + 1;
         }
     }
     if line == 0 {
         return Ok(());
     }
-    Err(Refusal {
-        number: 34,
-        line,
-        item,
-    })
+    Err(Reason::SheetRun.refusal(line as usize, item))
 }
 
 // Goes through the next step of an accepted plan, whose lines are read again: none of them is malformed.
-fn pass_step(
-    network: &[u8],
-    plan: &[u8],
-    reading: Reading,
-    trams: &[Tram],
-    table: &[u32],
-    signals: &mut [Signal],
-    pass: Pass,
-) -> Pass
-    requires { StepAsked network.now plan.now table.now reading trams.now signals.old pass }
-    ensures { StepGot network.now plan.now table.now pass result signals.new }
+fn pass_step(run: &Run, table: &[SheetLine], signals: &mut [Signal], mut pass: Pass) -> Pass
+    requires { StepAsked run.now table.now signals.old pass }
+    ensures { StepGot run.now.tables.now.text.now run.now.plan.now table.now pass result signals.new }
 {
-    let mut step = [0u32; STEP_SIZE];
-    let mut line = [0u32; LINE_SIZE];
-    let mut phases = [0u32; MAX_SIGNALS];
-    let mut asked = [0u32; MAX_SIGNALS];
-    let counts = reading.counts;
-    let n = pass.boundary;
-    let time = pass.time;
-    let watches = pass.watches;
-    let width = 1 + counts.links;
-    let step_at = network_tables::read_again(network, pass.step_at, b'S', &mut step, width);
-    let read = plan_steps::read_line(plan, pass.plan_at, signals, counts, &mut line);
-    let Some(plan_at) = read else {
+    let count = run.tables.reading.counts.signals;
+    let mut said = Lines::cleared();
+    let Some(place) = run.read_lines(pass.place, signals, &mut said) else {
         return pass;
     };
-    step_signals::shown_phases(signals, counts.signals, &line, &mut phases);
-    network_trams::tram_phases(trams, counts.trams, n, &mut asked);
-    let told = (n + 1) as u32;
-    let watches = watch_signals(
-        watches,
-        signals,
-        counts.signals,
-        &phases,
-        &asked,
-        table,
-        told,
-        time,
-    );
-    step_signals::advance(signals, counts.signals, &phases, &asked, step[0]);
+    watch_signals(&mut pass, &signals[..count], &said, table);
+    let seconds = said.step[0];
+    step_signals::advance(signals, count, &said.phases, &said.asked, seconds);
     Pass {
-        boundary: n + 1,
-        time: time + step[0],
-        step_at,
-        plan_at,
-        watches,
+        place,
+        time: pass.time + seconds,
+        ..pass
     }
 }
 
@@ -197,56 +152,60 @@ fn pass_step(
 // Not inlined: its own tables are not on the stack while the plan is judged.
 #[inline(never)]
 fn pass_plan(
-    network: &[u8],
     plan: &[u8],
-    reading: Reading,
-    table: &[u32],
+    tables: &NetworkTables,
+    table: &[SheetLine],
     signals: &mut [Signal],
 ) -> Result<(), Refusal>
-    requires pass_asked { PassAsked network.now plan.now table.now reading }
-    requires signal_table { SignalTable (lines network.now) signals.old }
-    ensures { PassGot network.now plan.now table.now result }
+    requires { PassAsked plan.now tables.now table.now signals.old }
+    ensures { PassGot tables.now.text.now plan.now table.now result }
 {
+    let reading = tables.reading;
+    let mut room = [Tram::default(); MAX_TRAMS];
+    let trams = network_trams::load_trams(tables, &mut room);
+    let run = Run {
+        plan,
+        tables,
+        trams,
+    };
     let watch = Watch {
         tested: false,
         line: 0,
         broken: 0,
     };
-    let counts = reading.counts;
-    let mut trams = [Tram::default(); MAX_TRAMS];
-    network_trams::load_trams(network, reading.trams_at, counts.trams, &mut trams);
     let mut pass = Pass {
-        boundary: 0,
+        place: Place {
+            boundary: 0,
+            step_at: reading.steps_at,
+            plan_at: 0,
+        },
         time: 0,
-        step_at: reading.steps_at,
-        plan_at: 0,
-        watches: [watch; 8],
+        watches: [watch; MAX_SIGNALS],
     };
-    for _ in 0..counts.steps {
-        pass = pass_step(network, plan, reading, &trams, table, signals, pass);
+    for _ in 0..reading.counts.steps {
+        pass = pass_step(&run, table, signals, pass);
     }
     let watches = pass.watches;
-    check_runs(watches, counts.signals)
+    check_runs(&watches[..reading.counts.signals])
 }
 
 // Judges a plan on a network that has passed, and whether it keeps a sheet: refusals 33, 8, the plan's own, and last 34.
 fn check_on_network(
-    network: &[u8],
+    tables: &NetworkTables,
     plan: &[u8],
     sheet: &[u8],
-    tables: &NetworkTables,
     signals: &mut [Signal; MAX_SIGNALS],
     ledger: &mut [u32],
 ) -> Result<Totals, Refusal>
-    requires { Loaded network.now signals.old tables.now.links.now tables.now.movements.now tables.now.times.now tables.now.reading }
-    ensures { SheetPromises (lines network.now) (lines sheet.now) (plan_of network.now plan.now) ledger.old ledger.new result }
+    requires { TablesLoaded tables.now signals.old }
+    ensures { SheetPromises (lines tables.now.text.now) (lines sheet.now) (plan_of tables.now.text.now plan.now) ledger.old ledger.new result }
 {
-    let reading = tables.reading;
-    let mut table = [0u32; SHEET_TABLE_SIZE];
-    sheet_lines::read_sheet(sheet, signals, reading.counts.signals, false, &mut table)?;
+    let count = tables.reading.counts.signals;
+    let mut table = [[0u32; SHEET_FIELDS]; MAX_SIGNALS];
+    sheet_lines::read_sheet(sheet, &signals[..count], false, &mut table)?;
     let mut stepped = *signals;
-    let totals = plan_check::judge_loaded(network, plan, tables, &mut stepped, ledger)?;
-    pass_plan(network, plan, reading, &table, signals)?;
+    let totals = plan_check::judge_loaded(plan, tables, &mut stepped, ledger)?;
+    pass_plan(plan, tables, &table, signals)?;
     Ok(totals)
 }
 
@@ -264,18 +223,12 @@ pub fn check_sheet(
     let mut links = [Link::default(); MAX_LINKS];
     let mut movements = [Movement::default(); MAX_MOVEMENTS];
     let mut times = [0u32; TIME_TABLE_SIZE];
-    let reading = network::read_network(
+    let tables = network::read_network(
         network,
         &mut signals,
         &mut links,
         &mut movements,
         &mut times,
     )?;
-    let tables = NetworkTables {
-        reading,
-        links: &links,
-        movements: &movements,
-        times: &times,
-    };
-    check_on_network(network, plan, sheet, &tables, &mut signals, ledger)
+    check_on_network(&tables, plan, sheet, &mut signals, ledger)
 }

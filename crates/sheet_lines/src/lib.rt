@@ -7,15 +7,14 @@ ghost use Rattle.base_laws.specs.Test.{within};
 ghost use Rattle.sheet_lines.specs.Sheet.{valid_numbers};
 ghost use Rattle.sheet_lines.specs.Reading.{number_in, NumbersAsked, LineAsked, LineRead, SheetAsked, SheetRead};
 
-use base_search::Refusal;
+use base_search::{Reason, Refusal};
 use model::Signal;
-use network_tables::MAX_SIGNALS;
 
 // How many numbers a line has at most: eight durations and an offset.
 pub const SHEET_FIELDS: usize = 9;
 
-// The size of the table of all lines.
-pub const SHEET_TABLE_SIZE: usize = SHEET_FIELDS * MAX_SIGNALS;
+// The numbers of a line: a duration for each phase, and the offset behind them.
+pub type SheetLine = [u32; SHEET_FIELDS];
 
 // Whether a duration is within the limits of its phase.
 fn is_within(duration: u32, least: u32, greatest: u32) -> bool
@@ -24,65 +23,59 @@ fn is_within(duration: u32, least: u32, greatest: u32) -> bool
     (least..=greatest).contains(&duration)
 }
 
-// Refusal 33, the numbers of a line that stand in the table from `start` on. A duration goes into the sum only once it is within its limits, so that the sum
-// fits.
-fn valid_numbers(table: &[u32], start: usize, signal: &Signal, offset: bool) -> bool
-    requires { NumbersAsked table.now start signal.now (from_bool offset) }
-    ensures { result ≡ valid_numbers (from_bool offset) signal.now (number_in table.now start) }
+// Refusal 33, the numbers of a line. A duration goes into the sum only once it is within its limits, so that the sum fits.
+fn valid_numbers(line: &[u32], signal: &Signal, offset: bool) -> bool
+    requires { NumbersAsked line.now signal.now (from_bool offset) }
+    ensures { result ≡ valid_numbers (from_bool offset) signal.now (number_in line.now) }
 {
     // At most eight phases: the cast loses nothing.
     let phases = signal.phases as usize;
     let mut sum: u32 = 0;
-    for k in 0..phases {
-        let duration = table[start + k];
+    for (k, &duration) in line[..phases].iter().enumerate() {
         if !is_within(duration, signal.least[k], signal.greatest[k]) {
             return false;
         }
         sum += duration;
     }
-    !offset || table[start + phases] < sum
+    !offset || line[phases] < sum
 }
 
-// Reads the line of signal `r`, which is lent, into its row of the table, and gives the place of the next line if the line is well formed and its numbers are
-// valid.
+// Reads the line of a signal, which is lent, and gives the place of the next line if the line is well formed and its numbers are valid.
 fn read_line(
     text: &[u8],
     at: usize,
     signal: &Signal,
-    r: usize,
     offset: bool,
-    table: &mut [u32],
+    line: &mut [u32],
 ) -> Option<usize>
-    requires { LineAsked signal.now r table.old }
-    ensures { LineRead signal.now r (from_bool offset) text.now at table.old result table.new }
+    requires { LineAsked signal.now line.old }
+    ensures { LineRead signal.now (from_bool offset) text.now at result line.new }
 {
-    let start = SHEET_FIELDS * r;
     // At most eight phases: the cast loses nothing.
     let width = signal.phases as usize + usize::from(offset);
-    let next = network_tables::read_row(text, at, b'F', table, start, width)?;
-    valid_numbers(table, start, signal, offset).then_some(next)
+    let next = network_tables::read_row(text, at, b'F', line, 0, width)?;
+    valid_numbers(line, signal, offset).then_some(next)
 }
 
-// Reads a sheet for `count` signals; its lines have an offset to write a plan, and none to check one.
+// Reads the lines of a sheet, one for each signal; they have an offset to write a plan, and none to check one.
 pub fn read_sheet(
     text: &[u8],
     signals: &[Signal],
-    count: usize,
     offset: bool,
-    table: &mut [u32],
+    table: &mut [SheetLine],
 ) -> Result<(), Refusal>
-    requires { SheetAsked signals.now count table.old }
-    ensures { SheetRead signals.now count (from_bool offset) text.now result table.new }
+    requires { SheetAsked signals.now table.old }
+    ensures { SheetRead signals.now (from_bool offset) text.now result table.new }
 {
     let mut place = 0;
-    for (r, signal) in signals[..count].iter().enumerate() {
-        let Some(next) = read_line(text, place, signal, r, offset, table) else {
-            return Err(Refusal::new(33, r + 1, 0));
+    for (r, signal) in signals.iter().enumerate() {
+        let Some(next) = read_line(text, place, signal, offset, &mut table[r]) else {
+            return Err(Reason::SheetLine.refusal(r + 1, 0));
         };
         place = next;
     }
     if !text_reader::is_end(text, place) {
-        return Err(Refusal::new(33, count + 1, 0));
+        return Err(Reason::SheetLine.refusal(signals.len() + 1, 0));
     }
     Ok(())
 }

@@ -1,3 +1,3 @@
-pub mod Cycle
+pub mod Runs
 pub mod Columns
 pub mod Call

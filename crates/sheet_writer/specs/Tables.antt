@@ -1,19 +1,18 @@
--- A sheet's cycles by the program's tables: one line's numbers from a place of the table on, the times of the boundaries, and the masks, eight a step. Not of the
--- request.
-use Rattle.std.specs.Prelude.{ℕ, suc, ◌+◌, ◌*◌, ◌-◌, ◌^◌, ◌≤◌, ◌<◌, ◌≡◌, Bool, true, not, ◌≢◌, List, ltb, eqb, length, get_or}
+-- A sheet's cycles by the program's tables: one line's numbers, the times of the boundaries, and the masks, a row of eight a step. Not of the request.
+use Rattle.std.specs.Prelude.{ℕ, suc, ◌+◌, ◌-◌, ◌^◌, ◌≤◌, ◌<◌, ◌≡◌, Bool, not, ◌≢◌, List, [], ltb, eqb, length, get_or, Option, Some, None, true, false}
 use Rattle.base_search.specs.Checks.{Checks, check, each}
 use Rattle.text_writer.specs.Records.{record_texts}
 use Rattle.base_laws.specs.Test.{◌and◌, every}
 use Rattle.base_laws.specs.Sum.{sum, only}
 use Rattle.base_laws.specs.Indexed.{list}
 use Rattle.model.specs.declared.Signal.{Signal}
-use Rattle.model.specs.Network.{max_signals, max_steps}
+use Rattle.model.specs.Network.{max_signals}
 use Rattle.model.specs.Table.{letter_p}
 use Rattle.network_tables.specs.declared.Counts.{Counts}
 use Rattle.network_tables.specs.declared.Tram.{Tram}
 use Rattle.network_tables.specs.Places.{plan_width}
-use Rattle.network_tables.specs.Fields.{time_table_size, tram_at, signal_at}
-use Rattle.sheet_lines.specs.Reading.{sheet_fields, number_in}
+use Rattle.network_tables.specs.Fields.{tram_at, signal_at}
+use Rattle.sheet_lines.specs.Reading.{line_in, number_in}
 use Rattle.model_sheet.specs.Cycle.{place_at, phase_at, fits_at}
 use Rattle.step_arrivals.specs.Arrivals.{seconds_in}
 use Rattle.sheet_writer.specs.declared.Run.{Run}
@@ -26,11 +25,10 @@ pub record CycleLine (value : ℕ → ℕ) (P : ℕ) : Type 0 where
   pub some : (k : ℕ) → k < P → 1 ≤ value k
   pub short : value P < sum P value
 
--- .. that stands in a table from a place on
-pub record LineAsked (table : List ℕ) (start phases : ℕ) : Type 0 where
-  pub line : CycleLine (number_in table start) phases
-  pub room : start + (phases + 1) ≤ length table
-  pub early : start ≤ 63
+-- .. by its numbers
+pub record CycleFits (line : List ℕ) (phases : ℕ) : Type 0 where
+  pub line-held : CycleLine (number_in line) phases
+  pub room : phases + 1 ≤ length line
 
 -- the run of the cycle that shows at time t, and the seconds for which it still shows
 pub record RunAt (value : ℕ → ℕ) (P t : ℕ) (run : Run) : Type 0 where
@@ -38,8 +36,7 @@ pub record RunAt (value : ℕ → ℕ) (P t : ℕ) (run : Run) : Type 0 where
   pub remaining : place_at value P t + run.remaining ≡ sum (phase_at value P t) value
 
 -- a step that fits the run
-pub record NextAsked (table : List ℕ) (start phases : ℕ) (run : Run) (seconds : ℕ) : Type 0 where
-  pub line-asked : LineAsked table start phases
+pub record NextAsked (phases : ℕ) (run : Run) (seconds : ℕ) : Type 0 where
   pub first : 1 ≤ run.phase
   pub last : run.phase ≤ phases
   pub fits : seconds ≤ run.remaining
@@ -48,65 +45,61 @@ pub record NextAsked (table : List ℕ) (start phases : ℕ) (run : Run) (second
 pub record NextRun (value : ℕ → ℕ) (P : ℕ) (run : Run) (seconds : ℕ) (next : Run) : Type 0 where
   pub moved : (t : ℕ) → RunAt value P t run → RunAt value P (t + seconds) next
 
--- ---- the times of the boundaries
+-- ---- the times of the boundaries, from the first on
 abbrev pub time_in : List ℕ → ℕ → ℕ
-time_in times n = get_or times n 0
+time_in times n = get_or times n 0 - get_or times 0 0
 
 pub record TimesAsked (times : List ℕ) (steps : ℕ) : Type 0 where
-  pub size : length times ≡ time_table_size
-  pub few : steps ≤ max_steps
-  pub zero : get_or times 0 0 ≡ 0
+  pub room : steps < length times
+  pub since : (n : ℕ) → n ≤ steps → get_or times 0 0 ≤ get_or times n 0
   pub rises : (n : ℕ) → n < steps → get_or times n 0 ≤ get_or times (n + 1) 0
 
 -- ---- the masks
-abbrev pub mask_table_size : ℕ
-mask_table_size = 960
+abbrev pub mask_in : List (List ℕ) → ℕ → ℕ → ℕ
+mask_in masks n r = get_or (get_or masks n []) r 0
 
 -- every step fits a run of the line
 unfoldable pub fits_in : (ℕ → ℕ) → ℕ → List ℕ → ℕ → Bool
 fits_in value P times steps = every steps (λ n. fits_at value P (time_in times n) (seconds_in times n))
 
-pub record ColumnAsked (table : List ℕ) (start phases : ℕ) (times : List ℕ) (steps r : ℕ) (masks : List ℕ) : Type 0 where
-  pub line-asked : LineAsked table start phases
-  pub times-asked : TimesAsked times steps
+pub record ColumnAsked (times : List ℕ) (r : ℕ) (masks : List (List ℕ)) : Type 0 where
+  pub times-asked : TimesAsked times (length masks)
   pub signal : r < max_signals
-  pub room : length masks ≡ mask_table_size
 
 -- the masks of signal r in the first n steps stand in their column; the others are as they were
-pub record Column (value : ℕ → ℕ) (P : ℕ) (times : List ℕ) (r n : ℕ) (before masks : List ℕ) : Type 0 where
-  pub size : length masks ≡ mask_table_size
-  pub shows : (m : ℕ) → m < n → get_or masks (8 * m + r) 0 ≡ 2 ^ (phase_at value P (time_in times m) - 1)
-  pub others : (m s : ℕ) → s < max_signals → s ≢ r → get_or masks (8 * m + s) 0 ≡ get_or before (8 * m + s) 0
+pub record Column (value : ℕ → ℕ) (P : ℕ) (times : List ℕ) (r n : ℕ) (before masks : List (List ℕ)) : Type 0 where
+  pub size : length masks ≡ length before
+  pub shows : (m : ℕ) → m < n → mask_in masks m r ≡ 2 ^ (phase_at value P (time_in times m) - 1)
+  pub others : (m s : ℕ) → s ≢ r → mask_in masks m s ≡ mask_in before m s
 
-pub record ColumnGot (value : ℕ → ℕ) (P : ℕ) (times : List ℕ) (steps r : ℕ) (before : List ℕ) (result : Bool) (masks : List ℕ) : Type 0 where
-  pub told : result ≡ fits_in value P times steps
-  pub size : length masks ≡ mask_table_size
-  pub others : (m s : ℕ) → s < max_signals → s ≢ r → get_or masks (8 * m + s) 0 ≡ get_or before (8 * m + s) 0
-  pub column : result ≡ true → (m : ℕ) → m < steps → get_or masks (8 * m + r) 0 ≡ 2 ^ (phase_at value P (time_in times m) - 1)
+pub record ColumnGot (value : ℕ → ℕ) (P : ℕ) (times : List ℕ) (r : ℕ) (before : List (List ℕ)) (result : Option (Unit {0})) (masks : List (List ℕ)) : Type 0 where
+  pub size : length masks ≡ length before
+  pub ends : result ≡ None → fits_in value P times (length before) ≡ false
+  pub fits : result ≡ Some tt → fits_in value P times (length before) ≡ true
+  pub column : result ≡ Some tt → Column value P times r (length before) before masks
 
 -- ---- all signals: 35 by the tables
--- none of the first so many trams asks a phase of signal r
-unfoldable pub has_no_tram_in : List Tram → ℕ → ℕ → Bool
-has_no_tram_in trams count r = every count (λ k. not (eqb (tram_at trams k).signal (suc r)))
+-- none of the trams asks a phase of signal r
+unfoldable pub has_no_tram_in : List Tram → ℕ → Bool
+has_no_tram_in trams r = every (length trams) (λ k. not (eqb (tram_at trams k).signal (suc r)))
 
-module _ (counts : Counts) (trams : List Tram) (signals : List Signal) (table times : List ℕ) where
+module _ (trams : List Tram) (signals : List Signal) (table : List (List ℕ)) (times : List ℕ) (steps : ℕ) where
   unfoldable pub can_write_in : ℕ → Bool
-  can_write_in r = has_no_tram_in trams counts.trams r and fits_in (number_in table (sheet_fields * r)) (signal_at signals r).phases times counts.steps
+  can_write_in r = has_no_tram_in trams r and fits_in (number_in (line_in table r)) (signal_at signals r).phases times steps
 
   unfoldable pub boundary_checks_in : Checks
-  boundary_checks_in = each counts.signals (λ r. check 35 0 (suc r) (can_write_in r))
+  boundary_checks_in = each (length signals) (λ r. check 35 0 (suc r) (can_write_in r))
 
 -- the phase that signal r shows in step n
-abbrev pub phase_in : List Signal → List ℕ → List ℕ → ℕ → ℕ → ℕ
-phase_in signals table times n r = phase_at (number_in table (sheet_fields * r)) (signal_at signals r).phases (time_in times n)
+abbrev pub phase_in : List Signal → List (List ℕ) → List ℕ → ℕ → ℕ → ℕ
+phase_in signals table times n r = phase_at (number_in (line_in table r)) (signal_at signals r).phases (time_in times n)
 
--- the masks of the first so many signals in the first so many steps
-pub record MasksHeld (signals : List Signal) (table times : List ℕ) (steps count : ℕ) (masks : List ℕ) : Type 0 where
-  pub size : length masks ≡ mask_table_size
-  pub shows : (n r : ℕ) → n < steps → r < count → get_or masks (8 * n + r) 0 ≡ 2 ^ (phase_in signals table times n r - 1)
+-- the masks of the first so many signals in all steps
+pub record MasksHeld (signals : List Signal) (table : List (List ℕ)) (times : List ℕ) (count : ℕ) (masks : List (List ℕ)) : Type 0 where
+  pub shows : (n r : ℕ) → n < length masks → r < count → mask_in masks n r ≡ 2 ^ (phase_in signals table times n r - 1)
 
 -- ---- the text
 -- the numbers of each `P` line by the cycles: a mask for each signal, and volumes that are 0
-unfoldable pub cycle_text : List Signal → List ℕ → List ℕ → Counts → List ℕ
+unfoldable pub cycle_text : List Signal → List (List ℕ) → List ℕ → Counts → List ℕ
 cycle_text signals table times counts =
     record_texts letter_p counts.steps (λ n. list (plan_width counts) (λ k. only (ltb k counts.signals) (2 ^ (phase_in signals table times n k - 1))))
