@@ -3,15 +3,19 @@ use Rattle.base_laws.proofs.Kit.{ℕ, ◌+◌, ◌*◌, ◌-◌, ◌≤◌, ◌<
 use Rattle.model.specs.Network.{max_links}
 use Rattle.network_tables.specs.declared.Link.{Link}
 use Rattle.network_tables.specs.declared.NetworkTables.{NetworkTables}
-use Rattle.network_tables.specs.Fields.{entered_in}
+use Rattle.network_tables.specs.Fields.{standing_in, past_entries_in, entered_in, left_in}
 use Rattle.step_past.specs.declared.Arrival.{Arrival}
-use Rattle.step_past.specs.Curves.{no_arrival, arrival_at, StartAsked, Started, Found, KeepAsked, KeptAt}
+use Rattle.step_past.specs.declared.PastLine.{PastLine}
+use Rattle.step_past.specs.Curves.{no_arrival, arrival_at, Found, KeepAsked, KeptAt}
 
 -- ---- the turns of `start_row`
-pub record StartingTo (links : List Link) (count : ℕ) (before row : List ℕ) (n : ℕ) : Type 0 where
-  pub asked : StartAsked links count before
-  pub within : n ≤ count
-  pub started : Started links count n before row
+-- the first n links are at their standing start in a row
+pub record StartingTo (links : List Link) (before row : List ℕ) (n : ℕ) : Type 0 where
+  pub within : n ≤ length links
+  pub size : length row ≡ length before
+  pub stands : (i : ℕ) → i < n → entered_in row i ≡ standing_in links i
+  pub none_left : (i : ℕ) → i < n → left_in row i ≡ 0
+  pub kept : (k : ℕ) → 2 * length links ≤ k → get_or row k 0 ≡ get_or before k 0
 
 -- ---- the turns of `find_steps`
 pub record FindingTo (tables : NetworkTables) (arrivals : List Arrival) (n : ℕ) : Type 0 where
@@ -19,17 +23,17 @@ pub record FindingTo (tables : NetworkTables) (arrivals : List Arrival) (n : ℕ
   pub found : Found tables n arrivals
 
 -- ---- the turns of `keep_curves`
-pub record KeepingTo (fields row : List ℕ) (links m next : ℕ) (before arrivals : List Arrival) (n : ℕ) : Type 0 where
+pub record KeepingTo (line : PastLine) (row : List ℕ) (links : ℕ) (before arrivals : List Arrival) (n : ℕ) : Type 0 where
   pub within : n ≤ links
   pub size : length arrivals ≡ max_links
-  pub done : (i : ℕ) → i < n → KeptAt fields row m i next (arrival_at before i) (arrival_at arrivals i)
+  pub done : (i : ℕ) → i < n → KeptAt line row i (arrival_at before i) (arrival_at arrivals i)
   pub rest : (i : ℕ) → n ≤ i → arrival_at arrivals i ≡ arrival_at before i
 
-module _ {fields row : List ℕ} {links : ℕ} (m next : ℕ) {before : List Arrival} (asked : KeepAsked fields row links before) where
-  module _ {arrivals : List Arrival} {n : ℕ} (inv : KeepingTo fields row links m next before arrivals n) (h : n < links) where
+module _ {line : PastLine} {row : List ℕ} {links : ℕ} {before : List Arrival} (asked : KeepAsked line row links before) where
+  module _ {arrivals : List Arrival} {n : ℕ} (inv : KeepingTo line row links before arrivals n) (h : n < links) where
     -- the turn of a link, whatever it waits for then
-    turn : {after : List Arrival} → length after ≡ max_links → KeptAt fields row m n next (arrival_at arrivals n) (arrival_at after n)
-        → ((i : ℕ) → (i ≡ n → ⊥) → arrival_at after i ≡ arrival_at arrivals i) → KeepingTo fields row links m next before after (n + 1)
+    turn : {after : List Arrival} → length after ≡ max_links → KeptAt line row n (arrival_at arrivals n) (arrival_at after n)
+        → ((i : ℕ) → (i ≡ n → ⊥) → arrival_at after i ≡ arrival_at arrivals i) → KeepingTo line row links before after (n + 1)
     turn size own others =
         record {
           within = omega arith;
@@ -41,13 +45,13 @@ module _ {fields row : List ℕ} {links : ℕ} (m next : ℕ) {before : List Arr
           rest = λ i l. others i (λ q. omega arith) ∙ inv.rest i (omega arith);
         }
 
-    pub keep-other : ((arrival_at arrivals n).step ≡ m → ⊥) → KeepingTo fields row links m next before arrivals (n + 1)
+    pub keep-other : ((arrival_at arrivals n).step ≡ line.step → ⊥) → KeepingTo line row links before arrivals (n + 1)
     keep-other d = turn inv.size (record { here = λ e. absurd (d e); same = λ e. refl }) (λ i q. refl)
 
-    pub keep-set : (arrival_at arrivals n).step ≡ m → {stop : ℕ} → stop ≡ entered_in row n
-        → KeepingTo fields row links m next before (set arrivals n (record { step = m; start = stop - get_or fields (1 + 2 * n) 0; stop = stop; place = next })) (n + 1)
-    keep-set e {stop} p =
-        let kept : Arrival = record { step = m; start = stop - get_or fields (1 + 2 * n) 0; stop = stop; place = next } in
+    pub keep-set : (arrival_at arrivals n).step ≡ line.step → {stop entries : ℕ} → stop ≡ entered_in row n → entries ≡ past_entries_in line.fields.now n
+        → KeepingTo line row links before (set arrivals n (record { step = line.step; start = stop - entries; stop = stop; place = line.next })) (n + 1)
+    keep-set e {stop} {entries} p q =
+        let kept : Arrival = record { step = line.step; start = stop - entries; stop = stop; place = line.next } in
         turn (length-set arrivals n kept ∙ inv.size)
-        (record { here = λ o. rw (← p) (get_or-set_same arrivals n kept no_arrival (omega (arith, inv.size, asked.few))); same = λ o. absurd (o e) })
+        (record { here = λ o. rw (← p, ← q) (get_or-set_same arrivals n kept no_arrival (omega (arith, inv.size, asked.few))); same = λ o. absurd (o e) })
         (λ i q. get_or-set_other arrivals n i kept no_arrival q)

@@ -17,19 +17,19 @@ use Rattle.step_past.specs.Curves.{no_arrival, arrival_at, past_entered, MovedBy
 use Rattle.step_past.proofs.Reading.{past-again, past-numbers, past-next, entered-past}
 
 -- ---- the turns of `move_links`
-pub record MovingTo (fields : List ℕ) (tables : NetworkTables) (line : PastLine) (first : ℕ) (before arrivals : List Arrival) (n : ℕ) : Type 0 where
+pub record MovingTo (line : PastLine) (tables : NetworkTables) (since first : ℕ) (before arrivals : List Arrival) (n : ℕ) : Type 0 where
   pub within : n ≤ tables.reading.counts.links
   pub onward : first ≤ n
   pub size : length arrivals ≡ max_links
-  pub done : (i : ℕ) → first ≤ i → i < n → MovedBy fields line i (travel_time_in tables.links.now i) (arrival_at before i) (arrival_at arrivals i)
+  pub done : (i : ℕ) → first ≤ i → i < n → MovedBy line since i (travel_time_in tables.links.now i) (arrival_at before i) (arrival_at arrivals i)
   pub kept : (i : ℕ) → i < first → arrival_at arrivals i ≡ arrival_at before i
   pub rest : (i : ℕ) → n ≤ i → arrival_at arrivals i ≡ arrival_at before i
 
-module _ {fields : List ℕ} {tables : NetworkTables} {line : PastLine} {first : ℕ} {before : List Arrival} (asked : LinksAsked fields tables line first before) where
-  module _ {arrivals : List Arrival} {n : ℕ} (inv : MovingTo fields tables line first before arrivals n) (h : n < tables.reading.counts.links) where
+module _ {line : PastLine} {tables : NetworkTables} {since first : ℕ} {before : List Arrival} (asked : LinksAsked line tables since first before) where
+  module _ {arrivals : List Arrival} {n : ℕ} (inv : MovingTo line tables since first before arrivals n) (h : n < tables.reading.counts.links) where
     -- the turn of a link, whatever it waits for then
-    turn : {after : List Arrival} → length after ≡ max_links → MovedBy fields line n (travel_time_in tables.links.now n) (arrival_at arrivals n) (arrival_at after n)
-        → ((i : ℕ) → (i ≡ n → ⊥) → arrival_at after i ≡ arrival_at arrivals i) → MovingTo fields tables line first before after (n + 1)
+    turn : {after : List Arrival} → length after ≡ max_links → MovedBy line since n (travel_time_in tables.links.now n) (arrival_at arrivals n) (arrival_at after n)
+        → ((i : ℕ) → (i ≡ n → ⊥) → arrival_at after i ≡ arrival_at arrivals i) → MovingTo line tables since first before after (n + 1)
     turn size own others =
         record {
           within = omega arith;
@@ -43,42 +43,43 @@ module _ {fields : List ℕ} {tables : NetworkTables} {line : PastLine} {first :
           rest = λ i l. others i (λ q. omega arith) ∙ inv.rest i (omega arith);
         }
 
-    pub moving-other : ((arrival_at arrivals n).step ≡ line.from → travel_time_in tables.links.now n ≤ line.since → ⊥) → MovingTo fields tables line first before arrivals (n + 1)
-    moving-other d = turn inv.size (record { goes = λ e l. absurd (d e l); stays = λ e. refl }) (λ i q. refl)
+    pub moving-other : ((arrival_at arrivals n).step ≡ line.step - 1 → travel_time_in tables.links.now n ≤ since → ⊥) → MovingTo line tables since first before arrivals (n + 1)
+    moving-other d = turn inv.size (record { goes = λ e l. absurd (d (omega arith) l); stays = λ e. refl }) (λ i q. refl)
 
-    module _ (e : (arrival_at arrivals n).step ≡ line.from) (l : travel_time_in tables.links.now n ≤ line.since) where
-      pub moving-on : MovingTo fields tables line first before
-          (set arrivals n (record { step = line.from + 1; start = (arrival_at arrivals n).stop; stop = (arrival_at arrivals n).stop + get_or fields (1 + 2 * n) 0; place = line.next })) (n + 1)
-      moving-on =
-          let moved : Arrival = record { step = line.from + 1; start = (arrival_at arrivals n).stop; stop = (arrival_at arrivals n).stop + get_or fields (1 + 2 * n) 0; place = line.next } in
+    module _ (e : (arrival_at arrivals n).step ≡ line.step - 1) (l : travel_time_in tables.links.now n ≤ since) where
+      pub moving-on : {entries : ℕ} → entries ≡ past_entries_in line.fields.now n → MovingTo line tables since first before
+          (set arrivals n (record { step = line.step; start = (arrival_at arrivals n).stop; stop = (arrival_at arrivals n).stop + entries; place = line.next })) (n + 1)
+      moving-on {entries} p =
+          let moved : Arrival = record { step = line.step; start = (arrival_at arrivals n).stop; stop = (arrival_at arrivals n).stop + entries; place = line.next } in
           turn (length-set arrivals n moved ∙ inv.size)
-          (record { goes = λ q u. get_or-set_same arrivals n moved no_arrival (omega (arith, inv.size, tables.sized.few.links)); stays = λ d. absurd (d e l) })
+          (record { goes = λ q u. rw (← p) (get_or-set_same arrivals n moved no_arrival (omega (arith, inv.size, tables.sized.few.links))); stays = λ d. absurd (d (omega (arith, asked.later)) l) })
           (λ i q. get_or-set_other arrivals n i moved no_arrival q)
 
--- ---- a line that is read while links are moved on to a boundary
-record LineAt (text times : List ℕ) (at : ℕ) (fields : List ℕ) (line : PastLine) : Type 0 where
-  past : line.from + 1 < past_count (lines text)
-  numbers : PastNumbers (lines text) (line.from + 1) fields
-  starts : Starts text line.next (timeline_line (lines text) (suc (line.from + 1)))
-  reached : get_or times (line.from + 1) 0 + line.since ≡ get_or times at 0
+-- ---- a line that is read while links are moved on to a boundary, so many seconds past the start of its step
+record LineAt (text times : List ℕ) (at : ℕ) (line : PastLine) (since : ℕ) : Type 0 where
+  later : 1 ≤ line.step
+  past : line.step < past_count (lines text)
+  numbers : PastNumbers (lines text) line.step line.fields.now
+  starts : Starts text line.next (timeline_line (lines text) (suc line.step))
+  reached : get_or times line.step 0 + since ≡ get_or times at 0
 
-module _ {text times : List ℕ} {at : ℕ} {fields : List ℕ} {line : PastLine} (r : LineAt text times at fields line) (i : ℕ) (own : i < link_count (lines text))
+module _ {text times : List ℕ} {at : ℕ} {line : PastLine} {since : ℕ} (r : LineAt text times at line since) (i : ℕ) (own : i < link_count (lines text))
     {travel : ℕ} {before : Arrival} (b : Behind text times at i travel before) where
-  entered-next : before.step ≡ line.from → before.stop + past_entries_in fields i ≡ past_entered (lines text) (suc (line.from + 1)) i
+  entered-next : before.step + 1 ≡ line.step → before.stop + past_entries_in line.fields.now i ≡ past_entered (lines text) (suc line.step) i
   entered-next e =
       let q = rw e at (b.curved (omega (arith, r.past))) in
-      omega (arith, q.ended, entered-past (lines text) (line.from + 1) i r.past, past-entries-at r.numbers i own)
+      omega (arith, q.ended, entered-past (lines text) line.step i r.past, past-entries-at r.numbers i own)
 
   -- it is not past its arrival step where it has gone on
-  behind-next : {after : Arrival} → MovedBy fields line i travel before after → Behind text times at i travel after
-  behind-next m = elim (ℕ_discrete before.step line.from) [
-    | yes e ↦ elim (dec_le travel line.since) [
+  behind-next : {after : Arrival} → MovedBy line since i travel before after → Behind text times at i travel after
+  behind-next m = elim (ℕ_discrete (before.step + 1) line.step) [
+    | yes e ↦ elim (dec_le travel since) [
       | yes l ↦
           let q = rw e at (b.curved (omega (arith, r.past))) in
           rw (m.goes e l)
           (record {
-            cursor = rw (← e) (arrival-on times at travel refl before.step b.cursor (rw e (omega (arith, r.reached))));
-            curved = λ h. rw add-one (record { starts = r.starts; began = λ k u. let z : k ≡ line.from + 1 = omega arith in rw z q.ended; ended = entered-next e });
+            cursor = rw (← e) (arrival-on times at travel refl before.step b.cursor (omega (arith, rw (← e) at r.reached)));
+            curved = λ h. rw add-one (record { starts = r.starts; began = λ k u. let z : k ≡ line.step = omega arith in rw z q.ended; ended = entered-next e });
           })
       | no l ↦ rw (m.stays (λ q u. l u)) b
     ]
@@ -91,18 +92,18 @@ boundary-time times zero r = omega arith
 boundary-time times (suc n) r = omega (arith, boundary-time times n (λ k l. r k (omega arith)), rw (add-one n) at (r n (omega arith)))
 
 -- ---- the turns of `move_past`
-pub record PastTo (text : List ℕ) (tables : NetworkTables) (at i : ℕ) (before arrivals : List Arrival) (fields : List ℕ) : Type 0 where
+pub record PastTo (tables : NetworkTables) (at i : ℕ) (before arrivals : List Arrival) (fields : List ℕ) : Type 0 where
   pub size : length arrivals ≡ max_links
   pub field-size : length fields ≡ past_size
-  pub behind : (j : ℕ) → i ≤ j → j < tables.reading.counts.links → Behind text tables.times.now at j (travel_time_in tables.links.now j) (arrival_at arrivals j)
+  pub behind : (j : ℕ) → i ≤ j → j < tables.reading.counts.links → Behind tables.text.now tables.times.now at j (travel_time_in tables.links.now j) (arrival_at arrivals j)
   pub kept : (j : ℕ) → j < i → arrival_at arrivals j ≡ arrival_at before j
 
-module _ {text : List ℕ} {tables : NetworkTables} {at i to : ℕ} {before : List Arrival} (asked : PastMoveAsked text tables at i to before) where
-  module _ {arrivals : List Arrival} {fields : List ℕ} (inv : PastTo text tables at i before arrivals fields) where
-    own_behind : Behind text tables.times.now at i (travel_time_in tables.links.now i) (arrival_at arrivals i)
+module _ {tables : NetworkTables} {at i to : ℕ} {before : List Arrival} (asked : PastMoveAsked tables at i to before) where
+  module _ {arrivals : List Arrival} {fields : List ℕ} (inv : PastTo tables at i before arrivals fields) where
+    own_behind : Behind tables.text.now tables.times.now at i (travel_time_in tables.links.now i) (arrival_at arrivals i)
     own_behind = inv.behind i (omega arith) asked.asked.link
 
-    pub past-arrived : to ≤ (arrival_at arrivals i).step → Moved text tables at i before arrivals
+    pub past-arrived : to ≤ (arrival_at arrivals i).step → Moved tables at i before arrivals
     past-arrived h =
         record {
           size = inv.size;
@@ -115,7 +116,7 @@ module _ {text : List ℕ} {tables : NetworkTables} {at i to : ℕ} {before : Li
       abbrev from : ℕ
       from = (arrival_at arrivals i).step
 
-      step_past : from + 1 < past_count (lines text)
+      step_past : from + 1 < past_count (lines tables.text.now)
       step_past = omega (arith, asked.early, asked.asked.move-tables.counted.past)
 
       pub from-few : from < 120
@@ -130,62 +131,63 @@ module _ {text : List ℕ} {tables : NetworkTables} {at i to : ℕ} {before : Li
           let r = own_behind.cursor.rising in
           (r.room, omega (arith, boundary-time tables.times.now at r.rises, r.small at (omega arith)), omega (arith, own_behind.cursor.room, asked.is-step), omega (arith, reached))
 
-      module _ {next : ℕ} {after : List ℕ} (read : ReadAgain letter_h (1 + 2 * tables.reading.counts.links) text (arrival_at arrivals i).place fields next after) where
-        line-read : LineHeld letter_h (1 + 2 * link_count (lines text)) text (timeline_line (lines text) (from + 1)) next 0 after
-        line-read = past-again read asked.asked.move-tables.counted.links asked.asked.move-tables.forms (from + 1) step_past (own_behind.curved (omega (arith, step_past))).starts
+      module _ {width : ℕ} (w : width ≡ 1 + 2 * tables.reading.counts.links) {next : ℕ} {after : List ℕ} (read : ReadAgain letter_h width tables.text.now (arrival_at arrivals i).place fields next after) where
+        line-read : LineHeld letter_h (1 + 2 * link_count (lines tables.text.now)) tables.text.now (timeline_line (lines tables.text.now) (from + 1)) next 0 after
+        line-read = past-again read (omega (arith, w, asked.asked.move-tables.counted.links)) asked.asked.move-tables.forms (from + 1) step_past (own_behind.curved (omega (arith, step_past))).starts
 
-        abbrev line : PastLine
-        line = record { from = from; next = next; since = get_or tables.times.now at 0 - get_or tables.times.now (from + 1) 0 }
-
-        line-at : LineAt text tables.times.now at after line
-        line-at =
-            record {
-              past = step_past;
-              numbers = past-numbers (from + 1) line-read (read.size ∙ inv.field-size);
-              starts = past-next (from + 1) line-read;
-              reached = omega (arith, reached);
-            }
-
-        own-link : (j : ℕ) → j < tables.reading.counts.links → j < link_count (lines text)
+        own-link : (j : ℕ) → j < tables.reading.counts.links → j < link_count (lines tables.text.now)
         own-link j u = omega (arith, asked.asked.move-tables.counted.links)
 
-        pub links-asked : LinksAsked after tables line i arrivals
-        links-asked =
-            record {
-              own = asked.asked.link;
-              field-size = read.size ∙ inv.field-size;
-              size = inv.size;
-              few = from-few;
-              fits = λ j u o q v.
-                  omega (
-                    arith,
-                    entered-next line-at j (own-link j o) (inv.behind j u o) q,
-                    asked.asked.move-tables.fits j (own-link j o) (suc (from + 1)) (omega (arith, step_past)),
-                  );
-            }
-
-        module _ {arrivals' : List Arrival} (got : LinksMoved after tables line i arrivals arrivals') where
-          -- the link itself has gone on
-          pub past-onward : (arrival_at arrivals' i).step ≡ from + 1
-          past-onward = ap (λ (a : Arrival). a.step) ((got.each-link i (omega arith) asked.asked.link).goes refl (omega (arith, reached)))
-
-          pub past-line-next : PastTo text tables at i before arrivals' after
-          past-line-next =
+        -- the line, as it is handed on
+        module _ {line : PastLine} (s : line.step ≡ from + 1) (f : line.fields.now ≡ after) (n : line.next ≡ next)
+            {since : ℕ} (e : since ≡ get_or tables.times.now at 0 - get_or tables.times.now (from + 1) 0) where
+          line-at : LineAt tables.text.now tables.times.now at line since
+          line-at =
               record {
-                size = got.size;
-                field-size = read.size ∙ inv.field-size;
-                behind = λ j u o. behind-next line-at j (own-link j o) (inv.behind j u o) (got.each-link j u o);
-                kept = λ j u. got.kept j u ∙ inv.kept j u;
+                later = omega (arith, s);
+                past = omega (arith, s, step_past);
+                numbers = rw (s, f) (past-numbers (from + 1) line-read (read.size ∙ inv.field-size));
+                starts = rw (s, n) (past-next (from + 1) line-read);
+                reached = rw s (omega (arith, reached, e));
               }
 
+          pub links-asked : LinksAsked line tables since i arrivals
+          links-asked =
+              record {
+                own = asked.asked.link;
+                field-size = rw f (read.size ∙ inv.field-size);
+                size = inv.size;
+                later = omega (arith, s);
+                fits = λ j u o q v.
+                    omega (
+                      arith,
+                      entered-next line-at j (own-link j o) (inv.behind j u o) q,
+                      asked.asked.move-tables.fits j (own-link j o) (suc line.step) (omega (arith, s, step_past)),
+                    );
+              }
+
+          module _ {arrivals' : List Arrival} (got : LinksMoved line tables since i arrivals arrivals') where
+            -- the link itself has gone on
+            pub past-onward : (arrival_at arrivals' i).step ≡ from + 1
+            past-onward = ap (λ (a : Arrival). a.step) ((got.each-link i (omega arith) asked.asked.link).goes (omega (arith, s)) (omega (arith, reached, e))) ∙ s
+
+            pub past-line-next : PastTo tables at i before arrivals' after
+            past-line-next =
+                record {
+                  size = got.size;
+                  field-size = read.size ∙ inv.field-size;
+                  behind = λ j u o. behind-next line-at j (own-link j o) (inv.behind j u o) (got.each-link j u o);
+                  kept = λ j u. got.kept j u ∙ inv.kept j u;
+                }
+
 -- ---- the returns of `move_on`
-module _ {text : List ℕ} {tables : NetworkTables} {at i : ℕ} {arrivals : List Arrival} (asked : MoveAsked text tables at i arrivals) where
+module _ {tables : NetworkTables} {at i : ℕ} {arrivals : List Arrival} (asked : MoveAsked tables at i arrivals) where
   module _ {to : ℕ} (e : to ≡ arrival_step_in tables.times.now at (travel_time_in tables.links.now i)) where
     -- the travel time ends in a step of the plan
     abbrev there : Arrival
     there = record { step = to; start = (arrival_at arrivals i).start; stop = (arrival_at arrivals i).stop; place = (arrival_at arrivals i).place }
 
-    pub move-plan : tables.reading.counts.past ≤ to → Moved text tables at i arrivals (set arrivals i there)
+    pub move-plan : tables.reading.counts.past ≤ to → Moved tables at i arrivals (set arrivals i there)
     move-plan h =
         record {
           size = length-set arrivals i there ∙ asked.size;
@@ -200,7 +202,7 @@ module _ {text : List ℕ} {tables : NetworkTables} {at i : ℕ} {arrivals : Lis
         stands : arrival_at (set arrivals i there) i ≡ there
         stands = get_or-set_same arrivals i there no_arrival (omega (arith, asked.size, asked.link, tables.sized.few.links))
 
-        here : Behind text tables.times.now at i (travel_time_in tables.links.now i) there
+        here : Behind tables.text.now tables.times.now at i (travel_time_in tables.links.now i) there
         here =
             let c = (asked.behind i (omega arith) asked.link).cursor in
             record {
@@ -209,8 +211,8 @@ module _ {text : List ℕ} {tables : NetworkTables} {at i : ℕ} {arrivals : Lis
             }
 
 -- ---- the turns of `next_arrivals`
-pub record MovedTo (text : List ℕ) (tables : NetworkTables) (at : ℕ) (arrivals : List Arrival) (n : ℕ) : Type 0 where
+pub record MovedTo (tables : NetworkTables) (at : ℕ) (arrivals : List Arrival) (n : ℕ) : Type 0 where
   pub within : n ≤ tables.reading.counts.links
   pub size : length arrivals ≡ max_links
   pub steps : (i : ℕ) → i < n → (arrival_at arrivals i).step ≡ arrival_step_in tables.times.now at (travel_time_in tables.links.now i)
-  pub behind : (i : ℕ) → i < tables.reading.counts.links → Behind text tables.times.now at i (travel_time_in tables.links.now i) (arrival_at arrivals i)
+  pub behind : (i : ℕ) → i < tables.reading.counts.links → Behind tables.text.now tables.times.now at i (travel_time_in tables.links.now i) (arrival_at arrivals i)

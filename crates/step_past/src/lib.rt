@@ -47,15 +47,15 @@ pub fn read_arrival(tables: &NetworkTables, i: usize, step: usize) -> Arrival
     let width = tables.reading.counts.past_width();
     let mut fields = [0u32; PAST_SIZE];
     let mut arrival = Arrival {
-        step,
         start: standing,
         stop: standing,
         place: tables.reading.past_at,
+        ..Arrival::default()
     };
-    for _ in 0..step + 1 {
+    for m in 0..step + 1 {
         let next = network_tables::read_again(tables.text, arrival.place, b'H', &mut fields, width);
         arrival = Arrival {
-            step,
+            step: m,
             start: arrival.stop,
             stop: arrival.stop + fields[1 + 2 * i],
             place: next,
@@ -122,9 +122,7 @@ pub fn load_past(tables: &NetworkTables, row: &mut [u32], arrivals: &mut [Arriva
     let mut place = tables.reading.past_at;
     for step in 0..counts.past {
         place = network_tables::read_again(tables.text, place, b'H', &mut fields, width);
-        if !network_tables::add_numbers(&fields, 2 * counts.links, row) {
-            return None;
-        }
+        network_tables::add_numbers(&fields[1..width], row)?;
         let line = PastLine {
             step,
             fields: &fields,

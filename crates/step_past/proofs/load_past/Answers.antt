@@ -1,13 +1,21 @@
 use Rattle.std.proofs.Common.{rules}
-use Rattle.step_past.proofs.Loading.{past-begin, past-over, past-line-next}
+use Rattle.base_laws.proofs.Kit.{refl}
+use Rattle.step_past.proofs.Loading.{past-begin, past-over, keep-asked, past-line-next}
 use Rattle.step_past.proofs.load_past.Goals as goal
 
-pub loop-m-init : goal.loop-m-init
-loop-m-init c = search (past-begin, rules)
+pub loop-step-init : goal.loop-step-init
+loop-step-init c = search (past-begin, rules)
 
-pub returns-then-not-add_numbers : goal.returns-then-not-add_numbers
-returns-then-not-add_numbers c = search (past-over, rules)
+pub returns-in_err-add_numbers : goal.returns-in_err-add_numbers
+returns-in_err-add_numbers c =
+    rw c.from_residual.ensures
+    (past-over c.requires c.start_row.ensures c.loop-step.invariant (search rules) c.past_width-width.ensures c.read_again-place.ensures c.add_numbers.ensures c.in_err-add_numbers.was)
 
-pub loop-m-preserved : goal.loop-m-preserved
-loop-m-preserved c =
-    past-line-next c.requires c.start_row.ensures c.loop-m.invariant (search rules) c.read_again-place.ensures c.add_numbers.ensures c.if-not-add_numbers.false-raw c.keep_curves.ensures
+pub keep_curves-requires : goal.keep_curves-requires
+keep_curves-requires c =
+    keep-asked c.requires c.start_row.ensures c.loop-step.invariant (search rules) c.past_width-width.ensures c.read_again-place.ensures c.add_numbers.ensures c.in_ok-add_numbers.was refl refl refl
+
+pub loop-step-preserved : goal.loop-step-preserved
+loop-step-preserved c =
+    past-line-next c.requires c.start_row.ensures c.loop-step.invariant (search rules) c.past_width-width.ensures c.read_again-place.ensures c.add_numbers.ensures c.in_ok-add_numbers.was refl refl refl
+    c.keep_curves.ensures

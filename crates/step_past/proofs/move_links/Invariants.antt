@@ -3,4 +3,4 @@ use Rattle.step_past.proofs.Moving.{MovingTo}
 use Rattle.step_past.proofs.move_links.Given as goal
 
 abbrev pub invariant-loop-i : goal.invariant-loop-i
-invariant-loop-i l = MovingTo l.fields l.tables l.line l.first l.initial.arrivals l.arrivals l.i
+invariant-loop-i l = MovingTo l.line l.tables l.since l.first l.initial.arrivals l.arrivals l.i

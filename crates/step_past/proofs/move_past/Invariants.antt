@@ -5,7 +5,7 @@ use Rattle.step_past.proofs.Moving.{PastTo}
 use Rattle.step_past.proofs.move_past.Given as goal
 
 abbrev pub invariant-loop-arrivals : goal.invariant-loop-arrivals
-invariant-loop-arrivals l = PastTo l.text l.tables l.at l.i l.initial.arrivals l.arrivals l.fields
+invariant-loop-arrivals l = PastTo l.tables l.at l.i l.initial.arrivals l.arrivals l.fields
 
 abbrev pub decreases-loop-arrivals : goal.decreases-loop-arrivals
 decreases-loop-arrivals l = l.to - (arrival_at l.arrivals l.i).step

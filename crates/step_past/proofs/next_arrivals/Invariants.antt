@@ -3,4 +3,4 @@ use Rattle.step_past.proofs.Moving.{MovedTo}
 use Rattle.step_past.proofs.next_arrivals.Given as goal
 
 abbrev pub invariant-loop-i : goal.invariant-loop-i
-invariant-loop-i l = MovedTo l.text l.tables l.at l.arrivals l.i
+invariant-loop-i l = MovedTo l.tables l.at l.arrivals l.i

@@ -3,4 +3,4 @@ use Rattle.step_past.proofs.Keeping.{StartingTo}
 use Rattle.step_past.proofs.start_row.Given as goal
 
 abbrev pub invariant-loop-i : goal.invariant-loop-i
-invariant-loop-i l = StartingTo l.links l.count l.initial.row l.row l.i
+invariant-loop-i l = StartingTo l.links l.initial.row l.row l.i

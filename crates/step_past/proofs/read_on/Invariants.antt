@@ -1,6 +1,0 @@
--- `step_past::read_on` meets its contract. The invariant: the curve of the lines read so far.
-use Rattle.step_past.proofs.Reading.{ReadTo}
-use Rattle.step_past.proofs.read_on.Given as goal
-
-abbrev pub invariant-loop-m : goal.invariant-loop-m
-invariant-loop-m l = ReadTo l.text l.i l.fn.from l.to l.fields l.arrival l.m
