@@ -8,10 +8,17 @@ use Rattle.model.proofs.Accepted.{ValidNetwork, valid-network}
 use Rattle.model.proofs.Limits.{movement-limits}
 use Rattle.network_tables.specs.declared.Movement.{Movement}
 use Rattle.network_tables.specs.declared.NetworkTables.{NetworkTables}
-use Rattle.network_tables.specs.Fields.{link_in}
+use Rattle.network_tables.specs.Fields.{movement_at, link_in}
 use Rattle.network_tables.specs.Tables.{CountsHold, MovementTable}
 use Rattle.network_tables.proofs.Tables.{from-link-at, to-link-at}
-use Rattle.split_tables.specs.Tables.{MovementsAsked}
+use Rattle.split_tables.specs.Tables.{LinksNamed, MovementsAsked}
+
+-- a movement of such a table names two links
+pub ends-named : {movements : List Movement} {count j : ℕ} → MovementsAsked movements count → j < count → LinksNamed (movement_at movements j)
+ends-named {j = j} a l =
+    let from = a.links j 0 l (omega arith) in
+    let to = a.links j 1 l (omega arith) in
+    record { from-first = from.0; from-last = from.1; to-first = to.0; to-last = to.1 }
 
 module _ (network : List Line) (holds : Hold (network_checks network)) where
   valid : ValidNetwork network

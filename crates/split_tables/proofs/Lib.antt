@@ -1,4 +1,4 @@
-pub mod Marks
+pub mod Items
 pub mod Tables
 pub mod Ends
 pub mod Numbering

@@ -1,20 +1,33 @@
 -- Both halves numbered by the set of links in the first.
-use Rattle.std.specs.Prelude.{ℕ, ◌/◌, ◌^◌, ◌≤◌, ◌<◌, ◌≡◌, List}
+use Rattle.std.specs.Prelude.{ℕ, suc, ◌/◌, ◌^◌, ◌≤◌, ◌<◌, ◌≡◌, Bool, not, List, eqb, length}
 use Rattle.text_reader.specs.Lines.{Line}
-use Rattle.model.specs.Network.{max_signals, link_count}
+use Rattle.base_laws.specs.Test.{◌or◌, every}
+use Rattle.model.specs.Network.{link_count}
+use Rattle.network_tables.specs.declared.Link.{Link}
 use Rattle.network_tables.specs.declared.NetworkTables.{NetworkTables}
 use Rattle.network_tables.specs.Fields.{signal_in, link_in}
 use Rattle.network_tables.specs.Tables.{CountsHold, LinkTable, MovementTable}
-use Rattle.model_split.specs.Halves.{first_half, second_half}
+use Rattle.model_split.specs.Halves.{Half, first_half, second_half}
 use Rattle.model_split.specs.Call.{in_set}
+use Rattle.split_tables.specs.declared.HalfTables.{HalfTables}
 use Rattle.split_tables.specs.declared.Halves.{Halves}
+use Rattle.split_tables.specs.Items.{Gives}
 use Rattle.split_tables.specs.Tables.{HalfNumbered}
 
--- the tables of a network's `Q` and `M` lines
+-- one of the links that are not in a set has signal r
+unfoldable pub outside_has : ℕ → List Link → ℕ → Bool
+outside_has set links r = not (every (length links) (λ i. in_set set i or not (eqb (signal_in links i) (suc r))))
+
+-- the movements of a network's tables name its links
 pub record HalvesAsked (tables : NetworkTables) : Type 0 where
-  pub signals : (i : ℕ) → i < tables.reading.counts.links → signal_in tables.links.now i ≤ max_signals
   pub ends : (j side : ℕ) → j < tables.reading.counts.movements → side < 2
       → (1 ≤ link_in tables.movements.now side j) × (link_in tables.movements.now side j ≤ tables.reading.counts.links)
+
+-- the half of every network that has these tables, of whose links and signals the closures tell which it has
+abbrev pub HalfTold : NetworkTables → (ℕ → Bool → Type 0) → (ℕ → Bool → Type 0) → HalfTables → Type 0
+HalfTold tables links_post signals_post half =
+    (network : List Line) → CountsHold network tables.reading.counts → MovementTable network tables.movements.now → (h : Half)
+    → Gives links_post tables.reading.counts.links h.has-link → Gives signals_post tables.reading.counts.signals h.has-signal → HalfNumbered network h half
 
 -- the halves of a network by the set of links in the first
 pub record HalvesBy (network : List Line) (set : ℕ) (halves : Halves) : Type 0 where

@@ -1,4 +1,4 @@
 pub mod Whole
 pub mod Tables
-pub mod Marks
+pub mod Items
 pub mod Halves

@@ -1,6 +1,7 @@
 -- The tables of one half of a network (T-14): the new number of each link, signal and movement, from 1, and 0 for what is not in the half.
-use Rattle.std.specs.Prelude.{ℕ, suc, ◌+◌, ◌-◌, ◌≤◌, ◌<◌, ◌≡◌, Bool, not, List, eqb, length, get_or}
+use Rattle.std.specs.Prelude.{ℕ, suc, ◌-◌, ◌≤◌, ◌<◌, ◌≡◌, Bool, not, cond, List, eqb, length, get_or}
 use Rattle.text_reader.specs.Lines.{Line}
+use Rattle.base_laws.specs.Test.{◌and◌}
 use Rattle.base_laws.specs.Sum.{only}
 use Rattle.model.specs.Network.{max_links, max_movements, link_count, signal_count, movement_count}
 use Rattle.network_tables.specs.declared.Movement.{Movement}
@@ -13,9 +14,13 @@ use Rattle.split_tables.specs.declared.HalfTables.{HalfTables}
 unfoldable pub is_in : List ℕ → ℕ → Bool
 is_in numbers place = not (eqb (get_or numbers place 0) 0)
 
--- how many of movement j's links are in the half, by the numbers of the links
-unfoldable pub links_in : List Movement → List ℕ → ℕ → ℕ
-links_in movements numbers j = only (is_in numbers (link_in movements 0 j - 1)) 1 + only (is_in numbers (link_in movements 1 j - 1)) 1
+-- by the numbers of the links, a movement is inside the half, with both its links, or a border movement, with just one
+unfoldable pub is_inside : Movement → List ℕ → Bool
+is_inside movement numbers = is_in numbers (movement.from - 1) and is_in numbers (movement.to - 1)
+
+unfoldable pub is_border : Movement → List ℕ → Bool
+is_border movement numbers =
+    cond (is_in numbers (movement.from - 1)) (not (is_in numbers (movement.to - 1))) (is_in numbers (movement.to - 1))
 
 -- a half by its tables
 pub record HalfNumbered (network : List Line) (h : Half) (half : HalfTables) : Type 0 where
@@ -23,11 +28,12 @@ pub record HalfNumbered (network : List Line) (h : Half) (half : HalfTables) : T
   pub signals : (r : ℕ) → r < signal_count network → get_or half.signals r 0 ≡ only (h.has-signal r) (suc (rank h.has-signal r))
   pub movements : (j : ℕ) → j < movement_count network → get_or half.movements j 0 ≡ only (inside network h j) (suc (rank (inside network h) j))
 
--- a movement whose links are places of the table
-pub record MovementAsked (movements : List Movement) (j : ℕ) : Type 0 where
-  pub few : j < max_movements
-  pub size : length movements ≡ max_movements
-  pub links : (side : ℕ) → side < 2 → (1 ≤ link_in movements side j) × (link_in movements side j ≤ max_links)
+-- a movement names two links
+pub record LinksNamed (movement : Movement) : Type 0 where
+  pub from-first : 1 ≤ movement.from
+  pub from-last : movement.from ≤ max_links
+  pub to-first : 1 ≤ movement.to
+  pub to-last : movement.to ≤ max_links
 
 pub record MovementsAsked (movements : List Movement) (count : ℕ) : Type 0 where
   pub few : count ≤ max_movements

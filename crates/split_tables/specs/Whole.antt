@@ -5,7 +5,7 @@ use Rattle.model.specs.Hold.{plan_of}
 use Rattle.split_tables.specs.declared.Whole.{Whole}
 
 abbrev pub whole_network : Whole → List Line
-whole_network whole = lines whole.network.now
+whole_network whole = lines whole.tables.text.now
 
 abbrev pub whole_plan : Whole → List Line
-whole_plan whole = plan_of whole.network.now whole.plan.now
+whole_plan whole = plan_of whole.tables.text.now whole.plan.now
