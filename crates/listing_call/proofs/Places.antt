@@ -1,5 +1,5 @@
--- The places of the tables: each variable has its own bit, and each number is of one volume or of the phases of one signal.
-use Rattle.base_laws.proofs.Kit.{ℕ, suc, ◌+◌, ◌-◌, ◌*◌, ◌≤◌, ◌<◌, ◌≡◌, true, List, dec_le, mul-le-mul_left, arith}
+-- The columns of a step: each variable has its own bit, and each number is of one volume or of the phases of one signal.
+use Rattle.base_laws.proofs.Kit.{ℕ, suc, ◌-◌, ◌<◌, ◌≡◌, refl, ◌⊎◌, inl, inr, Bool, true, false, List, arith}
 use Rattle.std.proofs.lemmas.Bool.Decides.{nat_tests}
 use Rattle.base_laws.specs.Test.{◌and◌}
 use Rattle.base_laws.proofs.Tests.{within-parts}
@@ -10,7 +10,7 @@ use Rattle.network_tables.specs.Fields.{line_size}
 use Rattle.listing_lines.specs.declared.Variable.{Variable}
 use Rattle.listing_lines.specs.declared.Variable.TheVariants.{Shown, Admitted, LetOut, Moved}
 use Rattle.listing_call.specs.Listing.{same, step_of}
-use Rattle.listing_call.specs.Tables.{bit_column, column, bit_place, place, Placed, has_in, has_volume, TablesFit, number_table_size, bits, step_bits}
+use Rattle.listing_call.specs.Tables.{bit_column, column, Placed, has_in, has_volume, TablesFit, step_bits}
 
 -- ---- the same variable
 pub same-is : (v w : Variable) → same v w ≡ true → v ≡ w
@@ -21,69 +21,48 @@ pub same_self : (v : Variable) → same v v ≡ true
 unfolding same ◌and◌
 same_self v = grind (arith, nat_tests)
 
--- ---- steps of so many places
-steps-same : (c a b x y : ℕ) → x < c → y < c → c * a + x ≡ c * b + y → a ≡ b
-steps-same c a b x y h k e = elim (dec_le a b) [
-  | yes l ↦ elim (dec_le b a) [ yes m ↦ omega arith | no m ↦ let t : suc a ≤ b = omega arith in absurd (omega (arith, mul-le-mul_left c t)) ]
-  | no l ↦ let t : suc b ≤ a = omega arith in absurd (omega (arith, mul-le-mul_left c t))
-]
+pub same-or-not : (v w : Variable) → (v ≡ w) ⊎ (v ≡ w → ⊥)
+same-or-not v w = go (same v w) refl
+  where
+    go : (t : Bool) → same v w ≡ t → (v ≡ w) ⊎ (v ≡ w → ⊥)
+    go true e = inl (same-is v w e)
+    go false e = inr (λ q. let d : same v w ≡ true = rw q (same_self w) in cc)
 
-bit-column : (v : Variable) → Placed v → (1 ≤ step_of v) × (bit_column v < step_bits)
+-- ---- columns
+pub step-inside : (v : Variable) → Placed v → step_of v - 1 < max_steps
 unfolding step_of
-bit-column v p = grind arith
+step-inside v p = grind arith
 
-number-column : (v : Variable) → Placed v → (1 ≤ step_of v) × (column v < line_size)
-unfolding step_of
-number-column v p = grind arith
+pub bit-inside : (v : Variable) → Placed v → bit_column v < step_bits
+bit-inside v p = grind arith
+
+pub column-inside : (v : Variable) → Placed v → column v < line_size
+column-inside v p = grind arith
 
 -- two variables with one bit are the same
-bit-columns : (v w : Variable) → Placed v → Placed w → step_of v ≡ step_of w → bit_column v ≡ bit_column w → v ≡ w
+pub bit-same : (v w : Variable) → Placed v → Placed w → step_of v - 1 ≡ step_of w - 1 → bit_column v ≡ bit_column w → v ≡ w
 unfolding step_of
-bit-columns v w p q t e = grind arith
-
-pub bit-same : (v w : Variable) → Placed v → Placed w → bit_place v ≡ bit_place w → v ≡ w
-bit-same v w p q e =
-    let a = bit-column v p in
-    let b = bit-column w q in
-    let t : step_of v - 1 ≡ step_of w - 1 = steps-same step_bits (step_of v - 1) (step_of w - 1) (bit_column v) (bit_column w) a.1 b.1 e in
-    bit-columns v w p q (omega arith) (omega arith)
+bit-same v w p q t e = grind arith
 
 -- a volume has its number for itself
-volume-columns : (v w : Variable) → Placed v → Placed w → has_volume v ≡ true → step_of v ≡ step_of w → column v ≡ column w → v ≡ w
+pub volume-same : (v w : Variable) → Placed v → Placed w → has_volume v ≡ true → step_of v - 1 ≡ step_of w - 1 → column v ≡ column w → v ≡ w
 unfolding step_of has_volume
-volume-columns v w p q h t e = grind arith
-
-pub volume-same : (v w : Variable) → Placed v → Placed w → has_volume v ≡ true → place v ≡ place w → v ≡ w
-volume-same v w p q h e =
-    let a = number-column v p in
-    let b = number-column w q in
-    let t : step_of v - 1 ≡ step_of w - 1 = steps-same line_size (step_of v - 1) (step_of w - 1) (column v) (column w) a.1 b.1 e in
-    volume-columns v w p q h (omega arith) (omega arith)
+volume-same v w p q h t e = grind arith
 
 -- the number of a mask is that of the phases of its signal
-mask-column : (w : Variable) (n r : ℕ) → Placed w → r < max_signals → step_of w ≡ suc n → column w ≡ r → (k : ℕ) × (k < 8) × (w ≡ Shown (suc r) (suc k) (suc n))
+pub mask-only : (w : Variable) (n r : ℕ) → Placed w → r < max_signals → n ≡ step_of w - 1 → r ≡ column w → (k : ℕ) × (k < 8) × (w ≡ Shown (suc r) (suc k) (suc n))
 unfolding step_of
-mask-column (Shown r' k' n') n r p m t e = (k' - 1, omega arith, grind arith)
-mask-column (Admitted i' n') n r p m t e = absurd (omega arith)
-mask-column (LetOut i' n') n r p m t e = absurd (omega arith)
-mask-column (Moved j' n') n r p m t e = absurd (omega arith)
+mask-only (Shown r' k' n') n r p m t e = (k' - 1, omega arith, grind arith)
+mask-only (Admitted i' n') n r p m t e = absurd (omega arith)
+mask-only (LetOut i' n') n r p m t e = absurd (omega arith)
+mask-only (Moved j' n') n r p m t e = absurd (omega arith)
 
-pub mask-only : (w : Variable) (n r : ℕ) → Placed w → n < max_steps → r < max_signals → line_size * n + r ≡ place w → (k : ℕ) × (k < 8) × (w ≡ Shown (suc r) (suc k) (suc n))
-mask-only w n r p l m e =
-    let a = number-column w p in
-    let t : n ≡ step_of w - 1 = steps-same line_size n (step_of w - 1) r (column w) (omega arith) a.1 e in
-    mask-column w n r p m (omega arith) (omega arith)
+pub shown-at : (w : Variable) (n r k : ℕ) → w ≡ Shown (suc r) (suc k) (suc n) → (step_of w - 1 ≡ n) × (column w ≡ r)
+unfolding step_of
+shown-at w n r k e = grind arith
 
 -- ---- what the network has is placed
 module _ (counts : Counts) (signals : List Signal) (times : List ℕ) (fit : TablesFit counts signals times) where
   pub has-placed : (v : Variable) → has_in counts signals v ≡ true → Placed v
   unfolding ◌and◌
   has-placed v h = grind (arith, within-parts)
-
-pub bit-inside : (v : Variable) → Placed v → bit_place v < bits
-unfolding step_of
-bit-inside v p = grind arith
-
-pub place_inside : (v : Variable) → Placed v → place v < number_table_size
-unfolding step_of
-place_inside v p = grind arith

@@ -1,6 +1,6 @@
--- The program's tables of a listing's numbers: the numbers of each step's line, and a bit for each variable that was set. Not of the request: the contracts between the
--- functions speak of these.
-use Rattle.std.specs.Prelude.{ℕ, suc, ◌+◌, ◌*◌, ◌-◌, ◌/◌, ◌%◌, ◌^◌, ◌≤◌, ◌<◌, ◌≡◌, Bool, true, false, cond, List, eqb, length, get_or, set, bit_or, Option, Some, None, Result, Ok, Err, ok_or, option_map}
+-- The program's tables of a listing's numbers, a row for each step: the numbers of its line, and a bit for each variable that was set. Not of the request: the contracts
+-- between the functions speak of these.
+use Rattle.std.specs.Prelude.{ℕ, suc, ◌+◌, ◌*◌, ◌-◌, ◌/◌, ◌%◌, ◌^◌, ◌≤◌, ◌<◌, ◌≡◌, Bool, true, false, cond, List, [], eqb, length, get_or, set, bit_or, Option, Some, None, Result, Ok, Err, ok_or, option_map}
 use Rattle.base_search.specs.declared.Refusal.{Refusal}
 use Rattle.base_search.specs.Checks.{Verdict, refusal, each, verdict}
 use Rattle.base_laws.specs.Test.{◌and◌, within}
@@ -10,7 +10,7 @@ use Rattle.model.specs.Network.{max_signals, max_steps, max_links, max_movements
 use Rattle.step_arrivals.specs.Arrivals.{seconds_in}
 use Rattle.network_tables.specs.declared.Counts.{Counts}
 use Rattle.network_tables.specs.Places.{Few}
-use Rattle.network_tables.specs.Fields.{line_size, signal_at}
+use Rattle.network_tables.specs.Fields.{line_size, time_table_size, signal_at}
 use Rattle.listing_lines.specs.declared.Variable.{Variable}
 use Rattle.listing_lines.specs.declared.Variable.TheVariants.{Shown, Admitted, LetOut, Moved}
 use Rattle.listing_lines.specs.declared.Setting.{Setting}
@@ -23,15 +23,17 @@ use Rattle.listing_call.specs.Listing.{step_of, one, volume, is_volume, valid_va
 abbrev pub step_bits : ℕ
 step_bits = 8 * max_signals + (2 * max_links + max_movements)
 
--- the bits of all steps, how many bytes hold them, and the numbers of all steps
+-- how many bytes hold them, and the bits of all steps
+abbrev pub step_bytes : ℕ
+step_bytes = step_bits / 8
+
 abbrev pub bits : ℕ
 bits = max_steps * step_bits
 
-abbrev pub seen_size : ℕ
-seen_size = bits / 8
-
-abbrev pub number_table_size : ℕ
-number_table_size = max_steps * line_size
+-- a table has a row of so many numbers for each step
+pub record RowsSized (width : ℕ) (rows : List (List ℕ)) : Type 0 where
+  pub steps : length rows ≡ max_steps
+  pub row : (n : ℕ) → n < max_steps → length (get_or rows n []) ≡ width
 
 -- ---- places
 -- the bit of a variable among the 176 of its step: 64 for phases, 24 for admitted, 24 for let out, 64 for moved
@@ -48,12 +50,6 @@ column (Admitted i n) = 7 + i
 column (LetOut i n) = 31 + i
 column (Moved j n) = 55 + j
 
-abbrev pub bit_place : Variable → ℕ
-bit_place v = step_bits * (step_of v - 1) + bit_column v
-
-abbrev pub place : Variable → ℕ
-place v = line_size * (step_of v - 1) + column v
-
 -- a variable that has a place
 abbrev pub Placed : Variable → Type 0
 Placed (Shown r k n) = (1 ≤ n) × (n ≤ max_steps) × (1 ≤ r) × (r ≤ max_signals) × (1 ≤ k) × (k ≤ 8)
@@ -66,6 +62,10 @@ Placed (Moved j n) = (1 ≤ n) × (n ≤ max_steps) × (1 ≤ j) × (j ≤ max_m
 abbrev pub index_in : ℕ → ℕ → Option ℕ
 index_in number count = cond (within 1 number count) (Some (number - 1)) None
 
+-- step n of the plan stands behind the past
+abbrev pub step_length_in : Counts → List ℕ → ℕ → ℕ
+step_length_in counts times n = seconds_in times (counts.past + n)
+
 abbrev pub has_in : Counts → List Signal → Variable → Bool
 has_in counts signals (Shown r k n) = within 1 r counts.signals and within 1 k (signal_at signals (r - 1)).phases and within 1 n counts.steps
 has_in counts signals (Admitted i n) = within 1 i counts.links and within 1 n counts.steps
@@ -74,11 +74,11 @@ has_in counts signals (Moved j n) = within 1 j counts.movements and within 1 n c
 
 -- a place by its columns, where the network has the step
 abbrev pub place_in : ℕ → ℕ → ℕ → ℕ → Option Place
-place_in steps n bit number = option_map (λ step. record { step = step; bit = step_bits * step + bit; number = line_size * step + number }) (index_in n steps)
+place_in steps n bit number = option_map (λ step. record { step = step; bit = bit; number = number }) (index_in n steps)
 
 -- the place of a variable, where the network has it
 abbrev pub spot : Variable → Place
-spot v = record { step = step_of v - 1; bit = bit_place v; number = place v }
+spot v = record { step = step_of v - 1; bit = bit_column v; number = column v }
 
 abbrev pub place_of : Counts → List Signal → Variable → Option Place
 place_of counts signals v = cond (has_in counts signals v) (Some (spot v)) None
@@ -86,8 +86,8 @@ place_of counts signals v = cond (has_in counts signals v) (Some (spot v)) None
 -- it lies inside the tables
 pub record Inside (counts : Counts) (place : Place) : Type 0 where
   pub in-steps : place.step < counts.steps
-  pub in_bits : place.bit < bits
-  pub in-numbers : place.number < number_table_size
+  pub in_bits : place.bit < step_bits
+  pub in-numbers : place.number < line_size
 
 -- ---- bits, eight to a byte
 abbrev pub bit_at : List ℕ → ℕ → ℕ
@@ -95,6 +95,13 @@ bit_at bytes k = get_or bytes (k / 8) 0 / 2 ^ (k % 8) % 2
 
 abbrev pub with_bit : List ℕ → ℕ → List ℕ
 with_bit bytes k = set bytes (k / 8) (bit_or (get_or bytes (k / 8) 0) (2 ^ (k % 8)))
+
+-- ---- what the tables hold of a variable: its bit, and its number
+abbrev pub mark_of : List (List ℕ) → Variable → ℕ
+mark_of seen v = bit_at (get_or seen (step_of v - 1) []) (bit_column v)
+
+abbrev pub number_of : List (List ℕ) → Variable → ℕ
+number_of numbers v = get_or (get_or numbers (step_of v - 1) []) (column v) 0
 
 -- ---- numbers
 -- the bit of a phase in a mask
@@ -112,10 +119,10 @@ number_in (LetOut i n) millionths seconds = volume_in millionths seconds
 number_in (Moved j n) millionths seconds = volume_in millionths seconds
 
 -- what a line adds to which place, by the bits of the variables that were set before; or its refusal
-unfoldable pub outcome : Counts → List Signal → List ℕ → List ℕ → ℕ → Setting → Result (Place × ℕ) Refusal
+unfoldable pub outcome : Counts → List Signal → List ℕ → List (List ℕ) → ℕ → Setting → Result (Place × ℕ) Refusal
 outcome counts signals times seen line s =
-    cond (has_in counts signals s.variable and valid_value s.variable s.millionths and eqb (bit_at seen (bit_place s.variable)) 0)
-    (ok_or (option_map (λ x. (spot s.variable, x)) (number_in s.variable s.millionths (seconds_in times (step_of s.variable - 1)))) (refusal 23 line 0))
+    cond (has_in counts signals s.variable and valid_value s.variable s.millionths and eqb (mark_of seen s.variable) 0)
+    (ok_or (option_map (λ x. (spot s.variable, x)) (number_in s.variable s.millionths (step_length_in counts times (step_of s.variable - 1)))) (refusal 23 line 0))
     (Err (refusal 22 line 0))
 
 -- ---- the tables after the first i lines
@@ -131,29 +138,30 @@ has_volume (Moved j n) = true
 unfoldable pub mask_before : List Entry → ℕ → ℕ → ℕ → ℕ
 mask_before listing i n r = sum 8 (λ k. only (eqb (value_before listing i (Shown (suc r) (suc k) (suc n))) one) (2 ^ k))
 
-pub record Stored (seconds : ℕ → ℕ) (listing : List Entry) (i : ℕ) (numbers seen : List ℕ) : Type 0 where
-  pub number-room : length numbers ≡ number_table_size
-  pub seen-room : length seen ≡ seen_size
-  pub marks : (v : Variable) → Placed v → bit_at seen (bit_place v) ≡ bit (set_before listing i v)
-  pub masks : (n r : ℕ) → n < max_steps → r < max_signals → get_or numbers (line_size * n + r) 0 ≡ mask_before listing i n r
-  pub volumes : (v : Variable) → Placed v → has_volume v ≡ true → get_or numbers (place v) 0 ≡ volume (value_before listing i v) (seconds (step_of v - 1))
-  pub counted : sum bits (bit_at seen) ≡ i
+pub record Stored (seconds : ℕ → ℕ) (listing : List Entry) (i : ℕ) (numbers seen : List (List ℕ)) : Type 0 where
+  pub number-room : RowsSized line_size numbers
+  pub seen-room : RowsSized step_bytes seen
+  pub marks : (v : Variable) → Placed v → mark_of seen v ≡ bit (set_before listing i v)
+  pub masks : (n r : ℕ) → n < max_steps → r < max_signals → get_or (get_or numbers n []) r 0 ≡ mask_before listing i n r
+  pub volumes : (v : Variable) → Placed v → has_volume v ≡ true → number_of numbers v ≡ volume (value_before listing i v) (seconds (step_of v - 1))
+  pub counted : sum max_steps (λ n. sum step_bits (bit_at (get_or seen n []))) ≡ i
 
 -- ---- what the functions ask and promise
 pub record TablesFit (counts : Counts) (signals : List Signal) (times : List ℕ) : Type 0 where
   pub few : Few counts
-  pub signal-room : length signals ≡ 8
+  pub together : counts.past + counts.steps ≤ max_steps
+  pub signal-room : length signals ≡ max_signals
   pub few-phases : (r : ℕ) → r < counts.signals → (signal_at signals r).phases ≤ 8
-  pub time-room : length times ≡ 121
-  pub short : (n : ℕ) → n < counts.steps → get_or times (n + 1) 0 ≤ get_or times n 0 + 60
+  pub time-room : length times ≡ time_table_size
+  pub short : (n : ℕ) → n < counts.steps → step_length_in counts times n ≤ 60
 
 -- tables in which nothing is set yet
-pub record Empty (numbers seen : List ℕ) : Type 0 where
-  pub number-room : length numbers ≡ number_table_size
-  pub seen-room : length seen ≡ seen_size
-  pub no-numbers : (k : ℕ) → get_or numbers k 0 ≡ 0
-  pub no-marks : (k : ℕ) → get_or seen k 0 ≡ 0
+pub record Empty (numbers seen : List (List ℕ)) : Type 0 where
+  pub number-room : RowsSized line_size numbers
+  pub seen-room : RowsSized step_bytes seen
+  pub no-numbers : (n k : ℕ) → get_or (get_or numbers n []) k 0 ≡ 0
+  pub no-marks : (n k : ℕ) → get_or (get_or seen n []) k 0 ≡ 0
 
-pub record ListingGot (has : Variable → Bool) (seconds : ℕ → ℕ) (listing : List Entry) (result : Verdict) (numbers seen : List ℕ) : Type 0 where
+pub record ListingGot (has : Variable → Bool) (seconds : ℕ → ℕ) (listing : List Entry) (result : Verdict) (numbers seen : List (List ℕ)) : Type 0 where
   pub told : result ≡ verdict (each (length listing) (entry_checks_by has seconds listing))
   pub kept : result ≡ Ok tt → Stored seconds listing (length listing) numbers seen

@@ -4,31 +4,37 @@
 ghost use Rattle.std.specs.Prelude.{◌≡◌, ◌+◌, ◌/◌, ◌^◌, ◌≤◌, ◌<◌, length, eqb, not, IfSome, IfOk};
 ghost use Rattle.text_reader.specs.Lines.{lines};
 ghost use Rattle.text_reader.specs.Padding.{PaddingIgnored};
+ghost use Rattle.model.specs.Network.{max_steps};
 ghost use Rattle.network_tables.specs.Fields.{line_size};
-ghost use Rattle.step_arrivals.specs.Arrivals.{seconds_in};
 ghost use Rattle.listing_lines.specs.Entry.{entries};
 ghost use Rattle.listing_call.specs.Listing.{valid_value};
 ghost use Rattle.listing_call.specs.ReadsBack.{PlanGot};
-ghost use Rattle.listing_call.specs.Tables.{has_in, index_in, place_in, place_of, Inside, bit_at, with_bit, phase_bit, volume_in, number_in, outcome, TablesFit, seen_size, step_bits, Empty, ListingGot};
+ghost use Rattle.listing_call.specs.Tables.{has_in, step_length_in, index_in, place_in, place_of, Inside, bit_at, with_bit, phase_bit, volume_in, number_in, outcome, TablesFit, step_bits, Empty, ListingGot};
 ghost use Rattle.listing_call.specs.Writing.{WriteGot};
 
-use base_search::Refusal;
+use base_search::{Reason, Refusal};
 use listing_lines::{Setting, Variable};
 use model::Signal;
 use network_tables::{
     Counts, LINE_SIZE, Link, MAX_LINKS, MAX_MOVEMENTS, MAX_SIGNALS, MAX_STEPS, Movement,
     TIME_TABLE_SIZE,
 };
+use network_writer::{ADMITTED_AT, LET_OUT_AT, MOVED_AT};
 
-// How many variables a step has at most: a signal's phases, 8 at most, and what is admitted, let out and moved.
-const STEP_BITS: usize = 8 * MAX_SIGNALS + 2 * MAX_LINKS + MAX_MOVEMENTS;
+// How many phases a signal has at most.
+const MAX_PHASES: usize = 8;
 
-// The sizes of the tables of all steps: the numbers of their lines, and a bit for each variable, eight to a byte.
-const NUMBER_TABLE_SIZE: usize = MAX_STEPS * LINE_SIZE;
+// Where the bits of what is admitted, let out and moved start in a step's row, behind those of the phases.
+const ADMITTED_BITS: usize = MAX_PHASES * MAX_SIGNALS;
 
-const SEEN_SIZE: usize = MAX_STEPS * STEP_BITS / 8;
+const LET_OUT_BITS: usize = ADMITTED_BITS + MAX_LINKS;
 
-// Where a variable stands in the tables: its step, counted from 0, its bit and its number.
+const MOVED_BITS: usize = LET_OUT_BITS + MAX_LINKS;
+
+// How many bytes the bits of a step have. They are packed by hand, since memory is fixed: a `bool` for each would take 21,120 bytes of stack in place of 2,640.
+const STEP_BYTES: usize = (MOVED_BITS + MAX_MOVEMENTS) / 8;
+
+// Where a variable stands: its step, counted from 0, and its bit and its number in the step's rows.
 #[derive(Clone, Copy)]
 struct Place {
     step: usize,
@@ -36,7 +42,7 @@ struct Place {
     number: usize,
 }
 
-// What a listing is judged by: the counts and the signals of a network, and the times of the plan's boundaries. All are lent: no table is copied.
+// What a listing is judged by: the counts and the signals of a network, and the times of the timeline's boundaries. All are lent: no table is copied.
 #[derive(Clone, Copy)]
 struct Tables<'a> {
     counts: Counts,
@@ -65,11 +71,7 @@ impl Tables<'_> {
         ensures inside { IfSome result (λ place. Inside self.now.counts place) }
     {
         let step = index_in(step, self.counts.steps)?;
-        Some(Place {
-            step,
-            bit: STEP_BITS * step + bit,
-            number: LINE_SIZE * step + number,
-        })
+        Some(Place { step, bit, number })
     }
 
     // The place of a variable, where the network has what it names.
@@ -86,57 +88,76 @@ impl Tables<'_> {
             } => {
                 let signal = index_in(signal, self.counts.signals)?;
                 let phase = index_in(phase, self.signals[signal].phases as usize)?;
-                self.place_in(step, 8 * signal + phase, signal)
+                self.place_in(step, MAX_PHASES * signal + phase, signal)
             }
             Variable::Admitted { link, step } => {
                 let link = index_in(link, self.counts.links)?;
-                self.place_in(step, 64 + link, 8 + link)
+                self.place_in(step, ADMITTED_BITS + link, ADMITTED_AT + link)
             }
             Variable::LetOut { link, step } => {
                 let link = index_in(link, self.counts.links)?;
-                self.place_in(step, 88 + link, 32 + link)
+                self.place_in(step, LET_OUT_BITS + link, LET_OUT_AT + link)
             }
             Variable::Moved { movement, step } => {
                 let movement = index_in(movement, self.counts.movements)?;
-                self.place_in(step, 112 + movement, 56 + movement)
+                self.place_in(step, MOVED_BITS + movement, MOVED_AT + movement)
             }
         }
+    }
+
+    // The length of a step.
+    fn seconds(&self, step: usize) -> u32
+        requires { step < self.now.counts.steps }
+        ensures value { result ≡ step_length_in self.now.counts self.now.times.now step }
+        ensures short { result ≤ 60 }
+    {
+        step_arrivals::seconds(self.times, self.counts.past + step)
     }
 
     // What the line of this number adds to which place, by the bits of the variables that were set before; or its refusal.
     #[tactic(auto, using(crate::proofs::Tests::tests), unfolding(crate::specs::Tables::outcome, crate::specs::Listing::step_of))]
-    fn judge(&self, setting: Setting, seen: &[u8], line: usize) -> Result<(Place, u32), Refusal>
+    fn judge(
+        &self,
+        setting: Setting,
+        seen: &[[u8; STEP_BYTES]],
+        line: usize,
+    ) -> Result<(Place, u32), Refusal>
         requires small { setting.millionths < 10 ^ 16 }
-        requires seen_room { length seen.now ≡ seen_size }
+        requires seen_room { length seen.now ≡ max_steps }
         requires few_lines { line < 4294967296 }
         ensures value { result ≡ outcome self.now.counts self.now.signals.now self.now.times.now seen.now line setting }
         ensures inside { IfOk result (λ added. Inside self.now.counts added.0) }
     {
-        let malformed = Refusal::new(22, line, 0);
+        let malformed = Reason::ListingLine.refusal(line, 0);
         let place = self.place_of(setting.variable).ok_or(malformed)?;
-        if !is_valid_value(setting) || is_set(seen, place.bit) {
+        if !is_valid_value(setting) || is_set(&seen[place.step], place.bit) {
             return Err(malformed);
         }
-        let seconds = step_arrivals::seconds(self.times, place.step);
-        let number = number_of(setting, seconds).ok_or(Refusal::new(23, line, 0))?;
+        let unfit = Reason::ListingVolume.refusal(line, 0);
+        let number = number_of(setting, self.seconds(place.step)).ok_or(unfit)?;
         Ok((place, number))
     }
 
     // Reads a listing into empty tables, refusals 22 and 23: each line adds to one number and sets the bit of its variable.
-    fn read_listing(&self, text: &[u8], numbers: &mut [u32], seen: &mut [u8]) -> Result<(), Refusal>
+    fn read_listing(
+        &self,
+        text: &[u8],
+        numbers: &mut [[u32; LINE_SIZE]],
+        seen: &mut [[u8; STEP_BYTES]],
+    ) -> Result<(), Refusal>
         requires { Empty numbers.old seen.old }
-        ensures { ListingGot (has_in self.now.counts self.now.signals.now) (seconds_in self.now.times.now) (entries text.now) result numbers.new seen.new }
+        ensures { ListingGot (has_in self.now.counts self.now.signals.now) (step_length_in self.now.counts self.now.times.now) (entries text.now) result numbers.new seen.new }
     {
         let mut at = 0;
         let mut line = 0;
         // How many lines there are shows only as they are read, so that no `for` counts them.
         while at < text.len() {
             line += 1;
-            let malformed = Refusal::new(22, line, 0);
+            let malformed = Reason::ListingLine.refusal(line, 0);
             let (setting, next) = listing_lines::entry_at(text, at).ok_or(malformed)?;
             let (place, number) = self.judge(setting, seen, line)?;
-            numbers[place.number] += number;
-            set_bit(seen, place.bit);
+            numbers[place.step][place.number] += number;
+            set_bit(&mut seen[place.step], place.bit);
             at = next;
         }
         Ok(())
@@ -146,10 +167,10 @@ impl Tables<'_> {
     fn write_listing(&self, listing: &[u8], out: &mut [u8]) -> Result<usize, Refusal>
         ensures { WriteGot self.now.counts self.now.signals.now self.now.times.now (entries listing.now) out.old result out.new }
     {
-        let mut numbers = [0u32; NUMBER_TABLE_SIZE];
-        let mut seen = [0u8; SEEN_SIZE];
+        let mut numbers = [[0u32; LINE_SIZE]; MAX_STEPS];
+        let mut seen = [[0u8; STEP_BYTES]; MAX_STEPS];
         self.read_listing(listing, &mut numbers, &mut seen)?;
-        network_writer::write_plan(&numbers, LINE_SIZE, self.counts, out)
+        network_writer::write_plan(&numbers, self.counts, out)
     }
 }
 
@@ -227,19 +248,17 @@ pub fn plan_from_listing(network: &[u8], listing: &[u8], out: &mut [u8]) -> Resu
     let mut links = [Link::default(); MAX_LINKS];
     let mut movements = [Movement::default(); MAX_MOVEMENTS];
     let mut times = [0u32; TIME_TABLE_SIZE];
-    let reading = network::read_network(
+    let loaded = network::read_network(
         network,
         &mut signals,
         &mut links,
         &mut movements,
         &mut times,
     )?;
-    let counts = reading.counts;
-    step_arrivals::from_start(&mut times, counts.past, counts.steps);
     let tables = Tables {
-        counts,
+        counts: loaded.reading.counts,
         signals: &signals,
-        times: &times,
+        times: loaded.times,
     };
     tables.write_listing(listing, out)
 }
