@@ -1,5 +1,5 @@
 -- The lines of a sheet, read and judged one after another: one law for each way through a turn of a loop.
-use Rattle.base_laws.proofs.Kit.{ℕ, zero, suc, ◌+◌, ◌*◌, ◌≤◌, ◌<◌, ◌≡◌, refl, sym, ap, ap₂, ◌∙◌, Bool, true, false, not, ◌⊎◌, inl, inr, List, add-one, eq-or-lt_of_le, arith, leb-true, leb, ltb, eqb, length, get_or}
+use Rattle.base_laws.proofs.Kit.{ℕ, zero, suc, ◌+◌, ◌*◌, ◌≤◌, ◌<◌, ◌≡◌, refl, sym, ap, ap₂, ◌∙◌, Bool, true, false, not, ◌⊎◌, inl, inr, List, [], ℕ_discrete, add-one, eq-or-lt_of_le, arith, leb-true, leb, ltb, eqb, length, take, length-take, get_or, get_or-take, set, length-set, get_or-set_same, get_or-set_other}
 use Rattle.base_search.specs.declared.Refusal.{Refusal}
 use Rattle.base_search.specs.Checks.{refusal, Checks, or_else, checked, verdict}
 use Rattle.base_search.proofs.Laws.{or-else-passes, or-else-refused}
@@ -20,7 +20,7 @@ use Rattle.network_tables.proofs.Places.{record-within}
 use Rattle.network_tables.proofs.Blocks.{passed_none, passed-all, passed-stop, passed-next}
 use Rattle.step_signals.specs.Ready.{Ready}
 use Rattle.sheet_lines.specs.Sheet.{letter_f, valid_durations, valid_offset, valid_numbers, sheet_line_checks, signals_checks}
-use Rattle.sheet_lines.specs.Reading.{number_in, is_valid, LineAsked, LineRead, SheetAsked, SheetRows, SheetRead}
+use Rattle.sheet_lines.specs.Reading.{sheet_fields, line_in, number_in, NumbersAsked, is_valid, LineAsked, LineRead, SheetAsked, SheetRows, SheetRead}
 use Rattle.std.specs.Prelude.{Option, Some, None, Ok, Err}
 use Rattle.std.specs.Bool.{then_some}
 use Rattle.std.specs.Int.{from_bool}
@@ -77,6 +77,14 @@ module _ {s : Signal} {value : ℕ → ℕ} {k total : ℕ} (inv : Summed s valu
     unfolding valid_numbers valid_offset ◌and◌
     summed-offset z q = let e : k ≡ s.phases = omega (arith, inv.few) in rw (z, all_valid, inv.is, e, q)
 
+-- the durations stand in the front of a line
+module _ (line : List ℕ) (phases k : ℕ) (h : k < length (take phases line)) where
+  pub phase-within : k < phases
+  phase-within = omega (arith, h, length-take phases line)
+
+  pub duration-there : get_or (take phases line) k 0 ≡ number_in line k
+  duration-there = get_or-take phases line k 0 phase-within
+
 -- ---- a line's numbers may be read from the table
 pub numbers-same : (s : Signal) (offsets : ℕ) (f g : ℕ → ℕ) → ((k : ℕ) → k < s.phases + offsets → f k ≡ g k) → valid_numbers offsets s f ≡ valid_numbers offsets s g
 unfolding valid_numbers valid_durations
@@ -89,64 +97,70 @@ numbers-same s offsets f g h =
     go zero h = unfold valid_offset in refl
     go (suc o) h = unfold valid_offset in ap₂ ltb (h s.phases (omega arith)) (sum-ext s.phases f g (λ k l. h k (omega arith)))
 
--- ---- one line is read into its row, and judged
+-- ---- one line is read, and judged
 few_offsets : (b : Bool) → from_bool b ≤ 1
 few_offsets true = omega arith
 few_offsets false = omega arith
 
-module _ {signal : Signal} {r : ℕ} {table : List ℕ} (asked : LineAsked signal r table) (b : Bool) {offsets : ℕ} (o : offsets ≡ from_bool b) where
-  module _ {text : List ℕ} {at : ℕ} {x : Option ℕ} {after : List ℕ} (got : RowRead letter_f (signal.phases + offsets) text at (9 * r) table x after) where
-    row : RowRead letter_f (signal.phases + from_bool b) text at (9 * r) table x after
+module _ {signal : Signal} {before : List ℕ} (asked : LineAsked signal before) (b : Bool) {offsets : ℕ} (o : offsets ≡ from_bool b) where
+  module _ {text : List ℕ} {at : ℕ} {x : Option ℕ} {line : List ℕ} (got : RowRead letter_f (signal.phases + offsets) text at 0 before x line) where
+    row : RowRead letter_f (signal.phases + from_bool b) text at 0 before x line
     row = rw o at got
 
-    pub line-malformed : x ≡ None → LineRead signal r (from_bool b) text at table None after
-    unfolding ◌and◌
-    line-malformed e = record { size = row.size; below = row.below; refused = λ n u. rw (row.malformed e r u); held = λ next q. absurd (cc) }
+    size : length line ≡ sheet_fields
+    size = row.size ∙ asked.room
 
-    pub line-judged : {next : ℕ} → x ≡ Some next → (v : Bool) → v ≡ valid_numbers (from_bool b) signal (number_in after (9 * r)) → LineRead signal r (from_bool b) text at table (then_some v next) after
+    pub numbers-asked : NumbersAsked line signal (from_bool b)
+    numbers-asked = record { ready = asked.ready; room = omega (arith, size, asked.ready.few-phases, few_offsets b) }
+
+    pub line-malformed : x ≡ None → LineRead signal (from_bool b) text at None line
     unfolding ◌and◌
-    line-judged {next} e v told = go v (λ u. told ∙ numbers-same signal (from_bool b) _ _ (row.held next e r u).numbers)
+    line-malformed e = record { size = size; refused = λ n r u. rw (row.malformed e r u); held = λ next q. absurd (cc) }
+
+    pub line-judged : {next : ℕ} → x ≡ Some next → (v : Bool) → v ≡ valid_numbers (from_bool b) signal (number_in line) → LineRead signal (from_bool b) text at (then_some v next) line
+    unfolding ◌and◌
+    line-judged {next} e v told = go v (λ r u. told ∙ numbers-same signal (from_bool b) _ _ (λ k l. let z : 0 + k ≡ k = omega arith in rw z at ((row.held next e r u).numbers k l)))
       where
-        go : (v : Bool) → (Starts text at r → v ≡ is_valid signal (lines text) (from_bool b) r) → LineRead signal r (from_bool b) text at table (then_some v next) after
-        go true f = record { size = row.size; below = row.below; refused = λ n. absurd (cc); held = λ m q u. (row.held m (e ∙ q) r u, sym (f u)) }
-        go false f = record { size = row.size; below = row.below; refused = λ n u. rw ((row.held next e r u).form, ← f u); held = λ m q. absurd (cc) }
+        go : (v : Bool) → ((r : ℕ) → Starts text at r → v ≡ is_valid signal (lines text) (from_bool b) r) → LineRead signal (from_bool b) text at (then_some v next) line
+        go true f = record { size = size; refused = λ n. absurd (cc); held = λ m q r u. (row.held m (e ∙ q) r u, sym (f r u)) }
+        go false f = record { size = size; refused = λ n r u. rw ((row.held next e r u).form, ← f r u); held = λ m q. absurd (cc) }
 
 -- ---- the first r lines are read, and the next starts at a place
-module _ (signals : List Signal) (count offsets : ℕ) (text : List ℕ) where
+module _ (signals : List Signal) (offsets : ℕ) (text : List ℕ) where
   abbrev line_checks : ℕ → Checks
-  line_checks = sheet_line_checks (signal_at signals) count (lines text) offsets
+  line_checks = sheet_line_checks (signal_at signals) (length signals) (lines text) offsets
 
-  pub record ReadTo (place r : ℕ) (table : List ℕ) : Type 0 where
-    pub passed : PassedTo count line_checks r
+  pub record ReadTo (place r : ℕ) (table : List (List ℕ)) : Type 0 where
+    pub passed : PassedTo (length signals) line_checks r
     pub starts : Starts text place r
     pub within : r ≤ length (lines text)
     pub rows : SheetRows signals (lines text) offsets r table
 
-module _ {signals : List Signal} {count : ℕ} {text table₀ : List ℕ} (asked : SheetAsked signals count table₀) (b : Bool) where
-  pub read_none : ReadTo signals count (from_bool b) text 0 0 table₀
-  read_none =
+module _ {signals : List Signal} {text : List ℕ} {table₀ : List (List ℕ)} (asked : SheetAsked signals table₀) (b : Bool) where
+  pub read_none : ((j : ℕ) → j < length table₀ → length (line_in table₀ j) ≡ sheet_fields) → ReadTo signals (from_bool b) text 0 0 table₀
+  read_none wide =
       record {
         passed = passed_none;
         starts = starts_first text;
         within = omega arith;
-        rows = record { room = asked.room; numbers = λ r k h. absurd (omega arith) };
+        rows = record { size = asked.room; widths = λ j l. wide j (omega (arith, asked.room)); numbers = λ r k h. absurd (omega arith) };
       }
 
-  module _ {place r : ℕ} {table : List ℕ} (inv : ReadTo signals count (from_bool b) text place r table) where
+  module _ {place r : ℕ} {table : List (List ℕ)} (inv : ReadTo signals (from_bool b) text place r table) where
     -- the whole, once all lines have passed: nothing may follow
-    module _ (h : count ≤ r) {t : Bool} (e : t ≡ at_end text place) where
-      ended : t ≡ eqb (length (lines text)) count
-      ended = let q : r ≡ count = omega (arith, inv.passed.within) in e ∙ starts-end text place r inv.starts inv.within ∙ ap (eqb (length (lines text))) q
+    module _ (h : length signals ≤ r) {t : Bool} (e : t ≡ at_end text place) where
+      ended : t ≡ eqb (length (lines text)) (length signals)
+      ended = let q : r ≡ length signals = omega (arith, inv.passed.within) in e ∙ starts-end text place r inv.starts inv.within ∙ ap (eqb (length (lines text))) q
 
-      pub read_all : t ≡ true → SheetRead signals count (from_bool b) text (Ok tt) table
+      pub read_all : t ≡ true → SheetRead signals (from_bool b) text (Ok tt) table
       unfolding signals_checks verdict checked
       read_all y =
           record {
             told = sym (or-else-passes _ _ (passed-all inv.passed h) ∙ rw (sym ended ∙ y));
-            held = λ p. let q : r ≡ count = omega (arith, inv.passed.within) in rw q at inv.rows;
+            held = λ p. let q : r ≡ length signals = omega (arith, inv.passed.within) in rw q at inv.rows;
           }
 
-      pub read-surplus : t ≡ false → {q : Refusal} → q ≡ refusal 33 (count + 1) 0 → SheetRead signals count (from_bool b) text (Err q) table
+      pub read-surplus : t ≡ false → {q : Refusal} → q ≡ refusal 33 (length signals + 1) 0 → SheetRead signals (from_bool b) text (Err q) table
       unfolding signals_checks verdict checked
       read-surplus f z =
           record {
@@ -154,9 +168,12 @@ module _ {signals : List Signal} {count : ℕ} {text table₀ : List ℕ} (asked
             held = λ p. let w : ◌≡◌ {A = ℕ} 0 1 = cc in absurd (omega arith);
           }
 
-    module _ (h : r < count) where
-      module _ {x : Option ℕ} {after : List ℕ} (got : LineRead (signal_at signals r) r (from_bool b) text place table x after) where
-        pub read-refused : x ≡ None → {q : Refusal} → q ≡ refusal 33 (r + 1) 0 → SheetRead signals count (from_bool b) text (Err q) after
+    module _ (h : r < length signals) where
+      pub line-asked : LineAsked (signal_at signals r) (line_in table r)
+      line-asked = record { ready = asked.ready r h; room = inv.rows.widths r (omega (arith, asked.few)) }
+
+      module _ {x : Option ℕ} {line : List ℕ} (got : LineRead (signal_at signals r) (from_bool b) text place x line) where
+        pub read-refused : x ≡ None → {q : Refusal} → q ≡ refusal 33 (r + 1) 0 → {after : List (List ℕ)} → SheetRead signals (from_bool b) text (Err q) after
         unfolding signals_checks verdict sheet_line_checks or_else checked ◌and◌
         read-refused n z =
             record {
@@ -168,20 +185,32 @@ module _ {signals : List Signal} {count : ℕ} {text table₀ : List ℕ} (asked
             go true v e = rw e
             go false v e = refl
 
-            stops : verdict (line_checks signals count (from_bool b) text r) ≡ Err (refusal 33 (suc r) 0)
-            stops = go _ _ (got.refused n inv.starts)
+            stops : verdict (line_checks signals (from_bool b) text r) ≡ Err (refusal 33 (suc r) 0)
+            stops = go _ _ (got.refused n r inv.starts)
 
-        pub read_next : {next : ℕ} → x ≡ Some next → ReadTo signals count (from_bool b) text next (r + 1) after
+        pub read_next : {next : ℕ} → x ≡ Some next → ReadTo signals (from_bool b) text next (r + 1) (set table r line)
         read_next {next} e =
-            let (line, valid) = got.held next e inv.starts in
+            let (held, valid) = got.held next e r inv.starts in
             record {
-              passed = passed-next inv.passed h (unfold verdict or_else checked sheet_line_checks in rw (line.form, valid));
-              starts = rw add-one line.starts;
-              within = rw add-one (record-within letter_f ((signal_at signals r).phases + from_bool b) (lines text) r (unfold is_form in line.form));
-              rows = record { room = got.size ∙ inv.rows.room; numbers = λ j k l u. by line k u (eq-or-lt_of_le {n = j} {m = r} (omega arith)) };
+              passed = passed-next inv.passed h (unfold verdict or_else checked sheet_line_checks in rw (held.form, valid));
+              starts = rw add-one held.starts;
+              within = rw add-one (record-within letter_f ((signal_at signals r).phases + from_bool b) (lines text) r (unfold is_form in held.form));
+              rows = record {
+                size = length-set table r line ∙ inv.rows.size;
+                widths = λ j l. elim (ℕ_discrete j r) [
+                  | yes q ↦ rw (q, get_or-set_same table r line [] inside) got.size
+                  | no q ↦ rw (get_or-set_other table r j line [] q) (inv.rows.widths j l)
+                ];
+                numbers = λ j k l u. by held k u (eq-or-lt_of_le {n = j} {m = r} (omega arith));
+              };
             }
           where
-            by : LineHeld letter_f ((signal_at signals r).phases + from_bool b) text r next (9 * r) after
-                → {j : ℕ} (k : ℕ) → k < (signal_at signals j).phases + from_bool b → (j ≡ r) ⊎ (j < r) → get_or after (9 * j + k) 0 ≡ entry (lines text) j k
-            by line k u (inl q) = rw q (line.numbers k (rw q at u))
-            by line {j} k u (inr q) = got.below (9 * j + k) (omega (arith, (asked.ready j (omega arith)).few-phases, few_offsets b)) ∙ inv.rows.numbers j k q u
+            inside : r < length table
+            inside = omega (arith, inv.rows.size, asked.few)
+
+            by : LineHeld letter_f ((signal_at signals r).phases + from_bool b) text r next 0 line
+                → {j : ℕ} (k : ℕ) → k < (signal_at signals j).phases + from_bool b → (j ≡ r) ⊎ (j < r) → number_in (line_in (set table r line) j) k ≡ entry (lines text) j k
+            by held k u (inl q) =
+                let z : 0 + k ≡ k = omega arith in
+                rw q (ap (λ l. number_in l k) (get_or-set_same table r line [] inside) ∙ (rw z at (held.numbers k (rw q at u))))
+            by held {j} k u (inr q) = ap (λ l. number_in l k) (get_or-set_other table r j line [] (λ w. omega arith)) ∙ inv.rows.numbers j k q u

@@ -56,6 +56,7 @@ pub record SheetAsked (signals : List Signal) (table : List (List ℕ)) : Type 0
 -- the table has the numbers of the first n lines
 pub record SheetRows (signals : List Signal) (sheet : List Line) (offsets n : ℕ) (table : List (List ℕ)) : Type 0 where
   pub size : length table ≡ max_signals
+  pub widths : (r : ℕ) → r < max_signals → length (line_in table r) ≡ sheet_fields
   pub numbers : (r k : ℕ) → r < n → k < (signal_at signals r).phases + offsets → number_in (line_in table r) k ≡ entry sheet r k
 
 pub record SheetRead (signals : List Signal) (offsets : ℕ) (text : List ℕ) (result : Verdict) (table : List (List ℕ)) : Type 0 where

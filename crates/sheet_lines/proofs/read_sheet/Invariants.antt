@@ -4,4 +4,4 @@ use Rattle.sheet_lines.proofs.Lines.{ReadTo}
 use Rattle.sheet_lines.proofs.read_sheet.Given as goal
 
 abbrev pub invariant-loop-r : goal.invariant-loop-r
-invariant-loop-r l = ReadTo l.signals l.count (from_bool l.offset) l.text l.place l.r l.table
+invariant-loop-r l = ReadTo l.signals (from_bool l.offset) l.text l.place l.r l.table

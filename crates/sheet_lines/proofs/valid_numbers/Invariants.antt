@@ -4,4 +4,4 @@ use Rattle.sheet_lines.proofs.Lines.{Summed}
 use Rattle.sheet_lines.proofs.valid_numbers.Given as goal
 
 abbrev pub invariant-loop-k : goal.invariant-loop-k
-invariant-loop-k l = Summed l.signal (number_in l.table l.start) l.k l.sum
+invariant-loop-k l = Summed l.signal (number_in l.line) l.k l.sum
