@@ -23,11 +23,21 @@ use Rattle.step_past.specs.declared.Arrival.{Arrival}
 use Rattle.step_past.specs.Curves.{past_entered, past_left, PastAsked, PastOverflows, PastLoaded}
 use Rattle.network_past.specs.Past.{valid_past_in, valid_links_in, LinksAsked, EndAsked}
 use Rattle.network_past.proofs.Links.{valid-is}
+use Rattle.std.specs.Prelude.{Option, Some, None, is_some}
+
+-- ---- whether row 0 fits
+none-of : (fit : Option (Unit {0})) → is_some fit ≡ false → fit ≡ None
+none-of None e = refl
+none-of (Some tt) e = let z : ◌≡◌ {A = ℕ} 0 1 = cc in absurd (omega arith)
+
+some-of : (fit : Option (Unit {0})) → is_some fit ≡ true → fit ≡ Some tt
+some-of None e = let z : ◌≡◌ {A = ℕ} 0 1 = cc in absurd (omega arith)
+some-of (Some tt) e = refl
 
 -- ---- 30
-module _ {text : List ℕ} {tables : NetworkTables} {demands : List ℕ} (asked : EndAsked text tables demands) where
+module _ {tables : NetworkTables} {demands : List ℕ} (asked : EndAsked tables demands) where
   abbrev net : List Line
-  net = lines text
+  net = lines tables.text.now
 
   abbrev reading : Reading
   reading = tables.reading
@@ -82,7 +92,7 @@ module _ {text : List ℕ} {tables : NetworkTables} {demands : List ℕ} (asked 
           small = λ k l. rising.small k (omega arith);
         }
 
-    pub past-asked : {row : List ℕ} → length row ≡ row_size → {arrivals : List Arrival} → length arrivals ≡ max_links → PastAsked text tables row arrivals
+    pub past-asked : {row : List ℕ} → length row ≡ row_size → {arrivals : List Arrival} → length arrivals ≡ max_links → PastAsked tables row arrivals
     past-asked r a =
         record {
           counted = asked.counted;
@@ -96,7 +106,7 @@ module _ {text : List ℕ} {tables : NetworkTables} {demands : List ℕ} (asked 
           size = a;
         }
 
-    module _ {row₀ row : List ℕ} {arrivals : List Arrival} {fit : Bool} (loaded : PastLoaded text reading.counts row₀ fit row arrivals) where
+    module _ {row₀ row : List ℕ} {arrivals : List Arrival} {fit : Option (Unit {0})} (loaded : PastLoaded tables row₀ fit row arrivals) where
       -- a number of row 0 is too large: then so is what entered, or more left than entered
       broken : PastOverflows net → every (link_count net) (valid_past_of net) ≡ true → ⊥
       unfolding valid_past_of
@@ -109,16 +119,16 @@ module _ {text : List ℕ} {tables : NetworkTables} {demands : List ℕ} (asked 
           let small : past_entered net (past_count net) i < 4294967296 = omega (arith, entered-end i, entered-start net [] i, few, lim.0, lim.1.0, all-timed.few refl) in
           o.over small (omega (arith, left_end i, entered-end i, arrived-entered net [] (λ m h. all-timed.lasts refl m (omega (arith, together))) some 0 i (omega arith) lim.1.1 (left net [] 0 i) arrived))
 
-      pub overflow : fit ≡ false → valid_past net ≡ false
+      pub overflow : is_some fit ≡ false → valid_past net ≡ false
       unfolding ◌and◌
       overflow n = past_is ∙ by reading.timed (every (link_count net) (valid_past_of net)) refl
         where
           by : (s t : Bool) → every (link_count net) (valid_past_of net) ≡ t → s and t ≡ false
-          by s true e = absurd (broken (loaded.overflows n) e)
+          by s true e = absurd (broken (loaded.overflows (none-of fit n)) e)
           by true false e = refl
           by false false e = refl
 
-      module _ (n : fit ≡ true) where
+      module _ (n : is_some fit ≡ true) where
         pub links-asked : length row ≡ row_size → LinksAsked tables demands row arrivals
         links-asked r =
             record {
@@ -135,5 +145,5 @@ module _ {text : List ℕ} {tables : NetworkTables} {demands : List ℕ} (asked 
         past-valid =
             ap (λ n. every n (valid_past_in tables demands row arrivals)) asked.counted.links
             ∙ every-same (link_count net) _ _
-            (λ i l. valid-is tables asked.counted demands asked.link-table time-table first (loaded.row-held n) loaded.arrivals-at (loaded.curves-at n) asked.demanded i l)
+            (λ i l. valid-is tables asked.counted demands asked.link-table time-table first (loaded.row-held (some-of fit n)) loaded.arrivals-at (loaded.curves-at (some-of fit n)) asked.demanded i l)
             ∙ sym (past_is ∙ rw is-timed refl)

@@ -75,9 +75,9 @@ module _ {text : List ℕ} {reading : Reading} {times₀ : List ℕ} (asked : Fo
       below : m < past_count (lines text)
       below = omega (arith, asked.reached.counted.past)
 
-      module _ {r : (Option ℕ)} {after : List ℕ} (row : RowRead letter_h (1 + 2 * reading.counts.links) text at 0 fields r after) where
-        wide : 1 + 2 * reading.counts.links ≡ 1 + 2 * link_count (lines text)
-        wide = omega (arith, asked.reached.counted.links)
+      module _ {width : ℕ} (w : width ≡ 1 + 2 * reading.counts.links) {r : (Option ℕ)} {after : List ℕ} (row : RowRead letter_h width text at 0 fields r after) where
+        wide : width ≡ 1 + 2 * link_count (lines text)
+        wide = omega (arith, w, asked.reached.counted.links)
 
         own : RowRead letter_h (1 + 2 * link_count (lines text)) text at 0 fields r after
         own = rw wide at row

@@ -1,5 +1,5 @@
 -- The `S` lines as they are read: one line, and the turns of the loop over all of them.
-use Rattle.base_laws.proofs.Kit.{ℕ, suc, ◌+◌, ◌*◌, ◌≤◌, ◌<◌, ◌≡◌, refl, sym, ap, ◌∙◌, Bool, true, false, not, List, ℕ_discrete, add-one, arith, not-true, not-false, length, get_or, set, length-set, get_or-set_same, get_or-set_other}
+use Rattle.base_laws.proofs.Kit.{ℕ, suc, ◌+◌, ◌*◌, ◌-◌, ◌≤◌, ◌<◌, ◌≡◌, refl, sym, ap, ◌∙◌, Bool, true, false, not, List, add-one, arith, not-true, not-false, length, take, drop, get_or}
 use Rattle.base_search.specs.declared.Refusal.{Refusal}
 use Rattle.base_search.specs.Checks.{refusal}
 use Rattle.text_reader.specs.Lines.{Line, lines}
@@ -23,7 +23,7 @@ use Rattle.step_arrivals.specs.Timed.{TimeSet, TimedTo}
 use Rattle.step_arrivals.proofs.Timed.{timed-next}
 use Rattle.network_steps.specs.Steps.{valid_step_in, AddAsked, Added, StepsAsked, StepsHeld}
 use Rattle.model.proofs.Limits.{limits-of-step}
-use Rattle.network_steps.proofs.Values.{step-within, valid-step-is}
+use Rattle.network_steps.proofs.Values.{step-within, cut-long, cut-at, valid-step-is}
 use Rattle.std.specs.Prelude.{Option, Some, None, Ok, Err}
 
 -- ---- one line
@@ -49,33 +49,11 @@ module _ {text : List ℕ} {at links : ℕ} {old : List ℕ} {next : ℕ} {step 
   again-next = rw (step-line-suc (lines text) n) held.starts
 
 -- ---- the turns of `add_demands`
-pub record AddedTo (step : List ℕ) (links : ℕ) (before demands : List ℕ) (n : ℕ) : Type 0 where
-  pub within : n ≤ links
-  pub added : Added step n before demands
-  pub rest : (i : ℕ) → n ≤ i → get_or demands i 0 ≡ get_or before i 0
-
-module _ {step : List ℕ} {links : ℕ} {before : List ℕ} (asked : AddAsked step links before) where
-  pub add_begin : AddedTo step links before before 0
-  add_begin = record { within = omega arith; added = record { size = refl; added = λ i l. absurd (omega arith) }; rest = λ i l. refl }
-
-  module _ {demands : List ℕ} {n : ℕ} (inv : AddedTo step links before demands n) where
-    module _ (h : n < links) {asks : ℕ} (e : asks ≡ demand_in step n) where
-      room : n < length demands
-      room = omega (arith, inv.added.size, asked.size, asked.few)
-
-      pub add-next : AddedTo step links before (set demands n (get_or demands n 0 + asks)) (n + 1)
-      add-next =
-          record {
-            within = omega arith;
-            added = record {
-              size = length-set demands n _ ∙ inv.added.size;
-              added = λ i l. elim (ℕ_discrete i n) [
-                | yes q ↦ rw (q, get_or-set_same demands n (get_or demands n 0 + asks) 0 room, e, inv.rest n (omega arith)) refl
-                | no q ↦ get_or-set_other demands n i (get_or demands n 0 + asks) 0 q ∙ inv.added.added i (omega arith)
-              ];
-            };
-            rest = λ i l. get_or-set_other demands n i (get_or demands n 0 + asks) 0 (λ q. omega arith) ∙ inv.rest i (omega arith);
-          }
+pub record AddedTo (demands before sums : List ℕ) (n : ℕ) : Type 0 where
+  pub within : n ≤ length demands
+  pub size : length sums ≡ length before
+  pub added : (i : ℕ) → i < n → get_or sums i 0 ≡ get_or before i 0 + get_or demands i 0
+  pub rest : (i : ℕ) → n ≤ i → get_or sums i 0 ≡ get_or before i 0
 
 -- ---- the loop over all lines
 step-records : (network : List Line) → Records network (step_block network) letter_s (1 + link_count network) 6 (valid_step network)
@@ -127,12 +105,12 @@ module _ {text : List ℕ} {reading : Reading} {times₀ demands₀ : List ℕ} 
           demanded = λ i l. inv.demanded i l ∙ ap (λ k. sum k (λ n. demand (lines text) n i)) all;
         })
 
-    module _ (h : n < reading.counts.steps) {r : (Option ℕ)} {after : List ℕ} (row : RowRead letter_s (1 + reading.counts.links) text at 0 step r after) where
+    module _ (h : n < reading.counts.steps) {r : (Option ℕ)} {after : List ℕ} {width : ℕ} (w : width ≡ 1 + reading.counts.links) (row : RowRead letter_s width text at 0 step r after) where
       below : n < step_count (lines text)
       below = omega (arith, asked.reached.counted.steps)
 
       own : RowRead letter_s (1 + link_count (lines text)) text at 0 step r after
-      own = rw asked.reached.counted.links at row
+      own = let wide : width ≡ 1 + link_count (lines text) = omega (arith, w, asked.reached.counted.links) in rw wide at row
 
       told_line : {line : ℕ} → line ≡ step_line_in reading.counts n → line + 1 ≡ suc (step_line (lines text) n)
       told_line l = omega (arith, step-line-is asked.reached.counted n)
@@ -157,15 +135,28 @@ module _ {text : List ℕ} {reading : Reading} {times₀ demands₀ : List ℕ} 
         passed : not v ≡ false → valid_step (lines text) n ≡ true
         passed b = sym judged ∙ not-false v b
 
+        -- the demands, cut from their line
+        abbrev cut : List ℕ
+        cut = take (width - 1) (drop 1 after)
+
+        cut_is : cut ≡ take reading.counts.links (drop 1 after)
+        cut_is = ap (λ n. take n (drop 1 after)) (omega (arith, w))
+
+        demands-long : length cut ≡ reading.counts.links
+        demands-long = rw cut_is (cut-long after reading.counts.links (row.size ∙ inv.step_room) asked.reached.counted.few.links)
+
+        demands-at : (i : ℕ) → i < reading.counts.links → get_or cut i 0 ≡ demand_in after i
+        demands-at i l = rw cut_is (cut-at after reading.counts.links (row.size ∙ inv.step_room) asked.reached.counted.few.links i l)
+
         -- no sum of demands is too large
-        pub add-asked : not v ≡ false → AddAsked after reading.counts.links demands
+        pub add-asked : not v ≡ false → AddAsked cut demands
         add-asked b =
             record {
-              few = asked.reached.counted.few.links;
-              step-size = row.size ∙ inv.step_room;
-              size = inv.demand-room;
-              fits = λ i h. let l : i < link_count (lines text) = omega (arith, asked.reached.counted.links) in
-                  omega (arith, inv.demanded i l, inv.small i l, demand-at numbers i l, (limits-of-step (lines text) n (passed b)).demand-limit i l, asked.reached.counted.few.steps, below);
+              few = omega (arith, demands-long, inv.demand-room, asked.reached.counted.few.links);
+              fits = λ i h.
+                  let own-link : i < reading.counts.links = omega (arith, demands-long) in
+                  let l : i < link_count (lines text) = omega (arith, asked.reached.counted.links) in
+                  omega (arith, demands-at i own-link, inv.demanded i l, inv.small i l, demand-at numbers i l, (limits-of-step (lines text) n (passed b)).demand-limit i l, asked.reached.counted.few.steps, below);
             }
 
         module _ (b : not v ≡ false) {seconds : ℕ} (s : seconds ≡ length_in after) where
@@ -188,7 +179,7 @@ module _ {text : List ℕ} {reading : Reading} {times₀ demands₀ : List ℕ} 
               rw (same-timed got.told, p) at (timed-next inv.timed-to (omega (arith, below)) lasts (rw (q, asked.reached.counted.past) at got))
 
           pub steps_next : {m : ℕ} → m ≡ reading.counts.past + n → {timed : Bool} {times' : List ℕ} → TimeSet times m seconds reading.timed timed times'
-              → {demands' : List ℕ} → Added after reading.counts.links demands demands' → StepsTo text reading.timed times' demands' after next (n + 1)
+              → {demands' : List ℕ} → Added cut demands demands' → StepsTo text reading.timed times' demands' after next (n + 1)
           unfolding sum
           steps_next q got sums =
               record {
@@ -196,6 +187,8 @@ module _ {text : List ℕ} {reading : Reading} {times₀ demands₀ : List ℕ} 
                 step_room = row.size ∙ inv.step_room;
                 timed-to = timed-more q got;
                 demand-room = sums.size ∙ inv.demand-room;
-                demanded = λ i l. rw (add-one n) (omega (arith, sums.added i (omega (arith, asked.reached.counted.links)), inv.demanded i l, demand-at numbers i l));
+                demanded = λ i l.
+                    let own-link : i < reading.counts.links = omega (arith, asked.reached.counted.links) in
+                    rw (add-one n) (omega (arith, sums.added i (omega (arith, demands-long)), demands-at i own-link, inv.demanded i l, demand-at numbers i l));
                 small = λ i l. rw (add-one n) (omega (arith, inv.small i l, (limits-of-step (lines text) n (passed b)).demand-limit i l));
               }

@@ -6,7 +6,7 @@ use Rattle.base_laws.specs.Sum.{sum}
 use Rattle.base_laws.specs.Test.{◌and◌, within, every}
 use Rattle.model.specs.Network.{max_links, link_count, past_count, step_count, timeline_line, step_line, demand}
 use Rattle.network_tables.specs.declared.Reading.{Reading}
-use Rattle.network_tables.specs.Fields.{step_size, length_in, demand_in}
+use Rattle.network_tables.specs.Fields.{length_in, demand_in}
 use Rattle.network_tables.specs.Tables.{Reached}
 use Rattle.step_arrivals.specs.Timed.{valid_lengths, TimedTo}
 

@@ -1,5 +1,5 @@
 -- `network_past::is_valid` meets its contract.
-use Rattle.std.proofs.Common.{rules}
+use Rattle.std.proofs.Common.{sym, ◌∙◌, rules}
 use Rattle.network_past.proofs.End.{untimed, past-asked, overflow, links-asked, past-valid}
 use Rattle.network_past.proofs.is_valid.Goals as goal
 
@@ -9,11 +9,11 @@ returns-then-not-tables c = search (untimed, rules)
 pub load_past-requires : goal.load_past-requires
 load_past-requires c = search (past-asked, rules)
 
-pub returns-then-not-load_past : goal.returns-then-not-load_past
-returns-then-not-load_past c = search (overflow, rules)
-
 pub valid_links-requires : goal.valid_links-requires
-valid_links-requires c = search (links-asked, rules)
+valid_links-requires c = links-asked c.requires (search rules) c.load_past.ensures (sym c.is_some.ensures ∙ c.if-is_some.true) (search rules)
 
-pub returns : goal.returns
-returns c = search (past-valid, rules)
+pub returns-then-is_some : goal.returns-then-is_some
+returns-then-is_some c = c.valid_links.ensures ∙ past-valid c.requires (search rules) c.load_past.ensures (sym c.is_some.ensures ∙ c.if-is_some.true)
+
+pub returns-else-is_some : goal.returns-else-is_some
+returns-else-is_some c = c.if-is_some.false ∙ sym (overflow c.requires (search rules) c.load_past.ensures (sym c.is_some.ensures ∙ c.if-is_some.false))

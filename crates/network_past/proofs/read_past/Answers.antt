@@ -17,7 +17,7 @@ returns-in_err-place c =
 pub loop-m-preserved : goal.loop-m-preserved
 loop-m-preserved c =
     let read : c.read_row-read.result ≡ Some c.in_ok-place.place = grind arith in
-    forms-next c.requires c.loop-m.invariant (search rules) c.read_row-read.ensures read refl c.next_time-timed.ensures
+    forms-next c.requires c.loop-m.invariant (search rules) c.past_width-width.ensures c.read_row-read.ensures read refl c.next_time-timed.ensures
 
 pub returns : goal.returns
 returns c = search (forms-done, rules)

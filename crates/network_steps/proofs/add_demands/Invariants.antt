@@ -3,4 +3,4 @@ use Rattle.network_steps.proofs.Steps.{AddedTo}
 use Rattle.network_steps.proofs.add_demands.Given as goal
 
 abbrev pub invariant-loop-i : goal.invariant-loop-i
-invariant-loop-i l = AddedTo l.step l.links l.initial.demands l.demands l.i
+invariant-loop-i l = AddedTo l.demands l.initial.sums l.sums l.i
