@@ -1,3 +1,4 @@
 mod Links
 pub mod Movements
 pub mod Shares
+mod Last

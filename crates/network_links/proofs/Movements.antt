@@ -1,5 +1,6 @@
 -- The tests of movements by their table are the paper's, and the turns of the loops over the `M` lines and over the links' shares.
-use Rattle.base_laws.proofs.Kit.{ℕ, zero, suc, ◌+◌, ◌-◌, ◌≤◌, ◌<◌, ◌≡◌, refl, sym, ap, fun_ext, ◌∙◌, Bool, true, false, ◌&&◌, ◌||◌, List, add-one, arith, eq-eqb, ne_eqb, ltb, eqb, eqb·suc-zero, length, get_or}
+use Rattle.base_laws.proofs.Kit.{ℕ, zero, suc, ◌+◌, ◌-◌, ◌≤◌, ◌<◌, ◌≡◌, refl, sym, ap, fun_ext, ◌∙◌, Bool, true, false, ◌&&◌, ◌||◌, List, add-one, arith, eq-eqb, ne_eqb, ltb, eqb, eqb·suc-zero, length, get_or, take}
+use Rattle.std.proofs.lemmas.List.{length-take-le, get_or-take}
 use Rattle.base_search.specs.declared.Refusal.{Refusal}
 use Rattle.base_search.specs.Checks.{Verdict, refusal, each, checked, verdict}
 use Rattle.text_reader.specs.Lines.{Line, lines}
@@ -14,7 +15,7 @@ use Rattle.network_tables.specs.declared.Counts.{Counts}
 use Rattle.network_tables.specs.declared.Reading.{Reading}
 use Rattle.network_tables.specs.Places.{movement_line_in}
 use Rattle.network_tables.specs.declared.Movement.{Movement}
-use Rattle.network_tables.specs.Fields.{movement_fields, movement_by, movement_at, link_in}
+use Rattle.network_tables.specs.Fields.{movement_fields, movement_by, movement_at, link_in, share_in}
 use Rattle.network_tables.specs.Blocks.{block_checks, PassedTo, RowsTo, RowsJudged, RowsHeld, movement_block}
 use Rattle.network_tables.specs.Tables.{Judged, CountsHold, MovementTable, moved_to}
 use Rattle.network_tables.proofs.Tables.{from-link-at, share-at}
@@ -38,36 +39,17 @@ module _ (movements : List Movement) (j : ℕ) where
   unfolding pair_rises_in ◌or◌ ◌and◌
   pair-later n = rw (ne_eqb j 0 n)
 
--- ---- the turns of `last_movement`
-module _ (movements : List Movement) (link : ℕ) where
-  pub last-none : LastMovement movements 0 link None
-  unfolding last_movement_in
-  last-none = refl
-
-  module _ (j : ℕ) where
-    pub last-here : link_in movements 0 j ≡ link → LastMovement movements (j + 1) link (Some j)
-    unfolding last_movement_in
-    last-here e = (omega arith, rw (add-one j, eq-eqb (link_in movements 0 j) link e))
-
-    same : (link_in movements 0 j ≡ link → ⊥) → last_movement_in movements (j + 1) link ≡ last_movement_in movements j link
-    unfolding last_movement_in
-    same n = rw (add-one j, ne_eqb (link_in movements 0 j) link n)
-
-    pub last-other : (link_in movements 0 j ≡ link → ⊥) → (last : Option ℕ) → LastMovement movements j link last → LastMovement movements (j + 1) link last
-    last-other n None e = same n ∙ e
-    last-other n (Some k) e = (omega (arith, e.0), same n ∙ e.1)
-
 -- ---- `bad_shares`
-module _ (movements : List Movement) (count link : ℕ) {sum : ℕ} (e : sum ≡ share_sum_in movements count link) where
-  pub shares_whole : sum ≡ 1000 → BadShares movements count link None
+module _ (movements : List Movement) (link : ℕ) {sum : ℕ} (e : sum ≡ share_sum_in movements (length movements) link) where
+  pub shares_whole : sum ≡ 1000 → BadShares movements link None
   unfolding valid_shares_in ◌or◌
-  shares_whole q = rw (← e, eq-eqb sum 1000 q) (by (eqb (last_movement_in movements count link) 0))
+  shares_whole q = rw (← e, eq-eqb sum 1000 q) (by (eqb (last_movement_in movements (length movements) link) 0))
     where
       by : (b : Bool) → (b || true) ≡ true
       by true = refl
       by false = refl
 
-  pub shares-short : (sum ≡ 1000 → ⊥) → (last : Option ℕ) → LastMovement movements count link last → BadShares movements count link last
+  pub shares-short : (sum ≡ 1000 → ⊥) → (last : Option ℕ) → LastMovement movements link last → BadShares movements link last
   unfolding valid_shares_in ◌or◌
   shares-short n None l = rw (← e, ne_eqb sum 1000 n, l) refl
   shares-short n (Some j) l = (rw (← e, ne_eqb sum 1000 n, l.1, ne_eqb (j + 1) 0 (λ z. omega arith)) refl, l.0, l.1)
@@ -122,37 +104,52 @@ module _ {text : List ℕ} {reading : Reading} {movements₀ : List Movement} (a
         })
 
 -- ---- the turns of `check_shares`
-module _ (movements : List Movement) (counts : Counts) {i : ℕ} (inv : PassedTo counts.links (share_checks_in movements counts) i) (h : i < counts.links) {bad : Option ℕ}
-    (told : BadShares movements counts.movements (i + 1) bad) where
+module _ {movements : List Movement} {counts : Counts} (asked : SharesAsked movements counts) {i : ℕ} (inv : PassedTo counts.links (share_checks_in movements counts) i) (h : i < counts.links)
+    {bad : Option ℕ} (told : BadShares movements (i + 1) bad) where
   pub shares-broken : {last : ℕ} → bad ≡ Some last → {line : ℕ} → line ≡ movement_line_in counts last → {q : Refusal} → q ≡ refusal 5 (line + 1) (last + 1)
       → Err q ≡ verdict (each counts.links (share_checks_in movements counts))
   unfolding verdict share_checks_in checked
   shares-broken {last} b {line} p t =
-      let got = (rw b at told) in
+      let got = rw asked.size at (rw b at told) in
       let l : line + 1 ≡ movement_line_in counts (last + 1) = omega (arith, p) in
       rw (t, l, ← got.2) (sym (passed-stop inv h (rw (← add-one i, got.0))))
 
   pub shares-next : bad ≡ None → PassedTo counts.links (share_checks_in movements counts) (i + 1)
   unfolding verdict share_checks_in checked
-  shares-next b = let got = (rw b at told) in passed-next inv h (rw (← add-one i, got))
+  shares-next b = let got = rw asked.size at (rw b at told) in passed-next inv h (rw (← add-one i, got))
 
--- ---- the paper's sums of shares
+-- ---- the paper's sums of shares, by the part of the table that has the movements
 module _ {network : List Line} {counts : Counts} {movements : List Movement} (c : CountsHold network counts) (t : MovementTable network movements) where
-  last-is : (m i : ℕ) → m ≤ movement_count network → last_movement_in movements m (suc i) ≡ last_movement network m i
+  abbrev held : List Movement
+  held = take counts.movements movements
+
+  movement-is-held : (j : ℕ) → j < movement_count network → movement_at held j ≡ movement_at movements j
+  movement-is-held j h = get_or-take counts.movements movements j (movement_by (λ f. 0)) (omega (arith, c.movements))
+
+  from-held : (j : ℕ) → j < movement_count network → link_in held 0 j ≡ from_link network j
+  from-held j h = ap (λ (m : Movement). m.from) (movement-is-held j h) ∙ from-link-at t j h
+
+  share-held : (j : ℕ) → j < movement_count network → share_in held j ≡ share network j
+  share-held j h = ap (λ (m : Movement). m.share) (movement-is-held j h) ∙ share-at t j h
+
+  last-of : (m i : ℕ) → m ≤ movement_count network → last_movement_in held m (suc i) ≡ last_movement network m i
   unfolding last_movement_in last_movement
-  last-is zero i h = refl
-  last-is (suc m) i h = rw (from-link-at t m (omega arith), last-is m i (omega arith))
+  last-of zero i h = refl
+  last-of (suc m) i h = rw (from-held m (omega arith), last-of m i (omega arith))
 
-  shares-are : (i : ℕ) → share_sum_in movements (movement_count network) (suc i) ≡ sum (movement_count network) (λ j. only (eqb (from_link network j) (suc i)) (share network j))
+  last-is : (i : ℕ) → last_movement_in held counts.movements (suc i) ≡ last_movement network (movement_count network) i
+  last-is i = ap (λ m. last_movement_in held m (suc i)) c.movements ∙ last-of (movement_count network) i (omega arith)
+
+  shares-are : (i : ℕ) → share_sum_in held counts.movements (suc i) ≡ sum (movement_count network) (λ j. only (eqb (from_link network j) (suc i)) (share network j))
   unfolding share_sum_in
-  shares-are i = sum-ext (movement_count network) _ _ (λ j h. rw (from-link-at t j h, share-at t j h))
+  shares-are i = ap (λ m. share_sum_in held m (suc i)) c.movements ∙ sum-ext (movement_count network) _ _ (λ j h. rw (from-held j h, share-held j h))
 
-  pub shares-asked : SharesAsked movements counts
-  shares-asked = record { room = t.size; few = c.few }
+  pub shares-asked : SharesAsked held counts
+  shares-asked = record { size = length-take-le counts.movements movements (omega (arith, t.size, c.few.movements)); few = c.few }
 
-  pub shares-checked : verdict (each counts.links (share_checks_in movements counts)) ≡ verdict (each (link_count network) (share_checks network))
+  pub shares-checked : verdict (each counts.links (share_checks_in held counts)) ≡ verdict (each (link_count network) (share_checks network))
   unfolding share_checks_in valid_shares_in share_checks valid_shares movement_line
   shares-checked =
       rw c.links
       (ap (λ f. verdict (each (link_count network) f))
-      (fun_ext (λ i. rw (c.trams, c.signals, c.movements, last-is (movement_count network) i (omega arith), shares-are i))))
+      (fun_ext (λ i. rw (last-is i, shares-are i, c.trams, c.signals))))

@@ -81,9 +81,9 @@ fn valid_movement(movements: &[Movement], links: usize, j: usize) -> bool
     requires { j < length movements.now }
     ensures { result ≡ valid_movement_in movements.now links j }
 {
+    let from = movements[j].from as usize;
+    let to = movements[j].to as usize;
     let movement = movements[j];
-    let from = movement.from as usize;
-    let to = movement.to as usize;
     (1..=links).contains(&from)
         & (1..=links).contains(&to)
         & (from != to)

@@ -3,4 +3,4 @@ use Rattle.network_links.proofs.Shares.{SumsTo}
 use Rattle.network_links.proofs.add_shares.Given as goal
 
 abbrev pub invariant-loop-movement : goal.invariant-loop-movement
-invariant-loop-movement l = SumsTo l.movements l.count l.sums l.movement-index
+invariant-loop-movement l = SumsTo l.movements l.sums l.movement-index
