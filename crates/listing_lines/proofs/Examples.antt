@@ -19,7 +19,7 @@ sets variable millionths = Some (setting variable millionths)
 a-listing : entries (bytes ("p_1_2_4 1\ni_1_1 0.5\no_2_3 007.300\nm_1_2 0.000001\nm_10_120 9999999999.999999\np_8_8_120 1.000000\no_2_4 0.2"))
     ≡ sets (Shown 1 2 4) 1_000_000 ∷ sets (Admitted 1 1) 500_000 ∷ sets (LetOut 2 3) 7_300_000 ∷ sets (Moved 1 2) 1
     ∷ sets (Moved 10 120) 9_999_999_999_999_999 ∷ sets (Shown 8 8 120) 1_000_000 ∷ None ∷ []
-unfolding digit digits shift decimal split_once digits_of entries_of entries
+unfolding digit digits shift decimal split_once entries_of entries
 a-listing = refl
 
 no_lines : entries [] ≡ []
@@ -32,5 +32,5 @@ bad-lines : map (λ (s : String). entry_of (bytes s))
     ∷ "x_1_1 1" ∷ "ii_1_1 1" ∷ "_1_1 1" ∷ "I_1_1 1" ∷ "i_1_1 1." ∷ "i_1_1 .5" ∷ "i_1_1 1.0000000" ∷ "i_1_1 12345678901" ∷ "i_1_1 1.5.5" ∷ "i_1_1 -1" ∷ "i_1_1 1e3" ∷ "i_1_1\t1" ∷ "i_1_1 1\r"
     ∷ "i_12345678901_1 1" ∷ "i_-1_1 1" ∷ "i_1_ 1" ∷ "i_1_1 +1" ∷ [])
     ≡ replicate 30 None
-unfolding digit digits shift decimal split_once digits_of entries_of entries
+unfolding digit digits shift decimal split_once entries_of entries
 bad-lines = refl

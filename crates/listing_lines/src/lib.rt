@@ -36,7 +36,7 @@ fn digits_of(bytes: &[u8], most: usize) -> Option<u64>
     ensures few { OnSome result (length bytes.now ≤ most) }
     ensures small { IfSome result (λ v. v < 10 ^ length bytes.now) }
 {
-    if bytes.is_empty() || most < bytes.len() {
+    if !(1..=most).contains(&bytes.len()) {
         return None;
     }
     let mut value = 0;
@@ -120,17 +120,11 @@ fn phase_in(bytes: &[u8]) -> Option<Variable>
 fn variable_in(letter: u8, bytes: &[u8]) -> Option<Variable>
     ensures { result ≡ variable_in letter bytes.now }
 {
-    if letter == b'p' {
-        return phase_in(bytes);
-    }
-    let (item, step) = pair_of(bytes)?;
     match letter {
-        b'i' => Some(Variable::Admitted { link: item, step }),
-        b'o' => Some(Variable::LetOut { link: item, step }),
-        b'm' => Some(Variable::Moved {
-            movement: item,
-            step,
-        }),
+        b'p' => phase_in(bytes),
+        b'i' => pair_of(bytes).map(|(link, step)| Variable::Admitted { link, step }),
+        b'o' => pair_of(bytes).map(|(link, step)| Variable::LetOut { link, step }),
+        b'm' => pair_of(bytes).map(|(movement, step)| Variable::Moved { movement, step }),
         _ => None,
     }
 }
