@@ -10,4 +10,4 @@ returns-then-valid c = search rules
 
 pub returns-else-valid : goal.returns-else-valid
 unfolding ◌and◌ within
-returns-else-valid c = let l = c.if-valid.false in record { told = refl; size = refl; time-set = λ e. let z : ◌≡◌ {A = ℕ} 0 1 = cc in absurd (omega arith) }
+returns-else-valid c = let l = c.if-valid.false in record { told = search rules; size = refl; time-set = λ e. let z : ◌≡◌ {A = ℕ} 0 1 = cc in absurd (omega arith) }
