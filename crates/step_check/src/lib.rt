@@ -12,7 +12,7 @@ use network_tables::Counts;
 use step_limits::LimitRule;
 use step_rows::Step;
 use step_signals::SignalRule;
-use step_sums::SumRule;
+use step_sums::{StepRows, SumRule};
 
 // A rule that a step keeps, by its family.
 #[derive(Clone, Copy)]
@@ -62,7 +62,7 @@ impl Rule {
         }
     }
 
-    // Whether it holds of an item.
+    // Whether it holds of an item. The rows stand beside the step, since the rules before the sums are asked without a row after it.
     fn holds(self, step: &Step, previous: &[u32], row: &[u32], item: usize) -> bool
         requires rule_rows { RuleRows step.now previous.now row.now self }
         requires item_bound { item < rule_items step.now.counts self }
@@ -76,12 +76,13 @@ impl Rule {
                 step.step_line[0],
             ),
             Rule::Limit(rule) => rule.holds(step, item),
-            Rule::Sum(rule) => rule.holds(step, previous, row, item),
+            Rule::Sum(rule) => rule.holds(&StepRows { step, previous, row }, item),
         }
     }
 }
 
-// Forms the row after the step when the search comes to rule 16: all limits are known to hold then.
+// Forms the row after the step when the search comes to rule 16: all limits are known to hold then, which is why it is tested in the search and the row is not
+// formed before it.
 fn form_row_for(rule: Rule, step: &Step, previous: &[u32], row: &mut [u32])
     requires { rule ≡ first_sum → Fits step.now.counts step.now.plan_line.now step.now.movements.now previous.now row.old }
     ensures { FormedFor rule step.now previous.now row.old row.new }
@@ -124,7 +125,7 @@ fn keeps_rules(step: &Step, previous: &[u32], row: &mut [u32]) -> bool
         return false;
     }
     step_rows::next_row(previous, step.plan_line, step.movements, step.counts, row);
-    step_sums::keeps_sums(step, previous, row)
+    StepRows { step, previous, row }.keeps_sums()
 }
 
 // Judges a step, and forms the row after it in a row that is lent.

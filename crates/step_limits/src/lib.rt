@@ -115,15 +115,10 @@ impl LimitRule {
 fn keeps_link_limits(step: &Step) -> bool
     ensures { result ≡ true → LinkLimitsKept step.now step.now.counts.links }
 {
-    for i in 0..step.counts.links {
-        if !(admits_offer(step, i) && lets_out_rate(step, i)) {
-            return false;
-        }
-    }
-    true
+    (0..step.counts.links).all(|i| admits_offer(step, i) && lets_out_rate(step, i))
 }
 
-// Whether a movement keeps 26 and 27, as one that is 0 does.
+// Whether a movement keeps 26 and 27, as one that is 0 does. Both by their own tests would cost the largest plan 1.4 % more, past the bar of 1.45 x the twin.
 fn moves_within(step: &Step, j: usize) -> bool
     requires { j < step.now.counts.movements }
     ensures { result ≡ true → MovementKept step.now j }
@@ -138,12 +133,7 @@ fn moves_within(step: &Step, j: usize) -> bool
 fn keeps_movement_limits(step: &Step) -> bool
     ensures { result ≡ true → MovementLimitsKept step.now step.now.counts.movements }
 {
-    for j in 0..step.counts.movements {
-        if !moves_within(step, j) {
-            return false;
-        }
-    }
-    true
+    (0..step.counts.movements).all(|j| moves_within(step, j))
 }
 
 // Whether all limits are kept.

@@ -16,24 +16,22 @@ waiting_in waiting i = get_or waiting i 0
 abbrev pub offer_in : List ℕ → ℕ → ℕ
 offer_in step i = demand_in step i
 
--- what the table at the start asks, and gives for the first n links
-pub record FirstAsked (links : List Link) (count : ℕ) (waiting : List ℕ) : Type 0 where
-  pub few : count ≤ max_links
-  pub link-size : length links ≡ max_links
+-- what the table at the start asks of the network's links, and gives for the first n of them
+pub record FirstAsked (links : List Link) (waiting : List ℕ) : Type 0 where
+  pub few : length links ≤ max_links
   pub size : length waiting ≡ max_links
 
 pub record FirstWaits (links : List Link) (n : ℕ) (waiting : List ℕ) : Type 0 where
   pub size : length waiting ≡ max_links
   pub starts : (i : ℕ) → i < n → waiting_in waiting i ≡ waiting_at_start_in links i
 
--- what adding those who wait to a step's demand asks ..
-pub record AddAsked (links : ℕ) (waiting step : List ℕ) : Type 0 where
-  pub few : links ≤ max_links
-  pub size : length waiting ≡ max_links
+-- what adding those who wait, one number a link, to a step's demand asks ..
+pub record AddAsked (waiting step : List ℕ) : Type 0 where
+  pub few : length waiting ≤ max_links
   pub step-size : length step ≡ step_size
-  pub fits : (i : ℕ) → i < links → demand_in step i + waiting_in waiting i < 4294967296
+  pub fits : (i : ℕ) → i < length waiting → demand_in step i + waiting_in waiting i < 4294967296
 
--- .. and gives
+-- .. and gives for the first so many links
 pub record Offers (links : ℕ) (waiting step result : List ℕ) : Type 0 where
   pub size : length result ≡ step_size
   pub lasts : length_in result ≡ length_in step

@@ -3,7 +3,7 @@
 // and was not admitted.
 #![tactic(auto)]
 
-ghost use Rattle.std.specs.Prelude.{◌≡◌, ◌++◌, ◌+◌, ◌*◌, ◌-◌, ◌<◌, ◌≤◌, length, get_or, set, take, drop};
+ghost use Rattle.std.specs.Prelude.{◌≡◌, ◌++◌, ◌+◌, ◌*◌, ◌-◌, ◌/◌, ◌<◌, ◌≤◌, length, get_or, set, take, drop};
 ghost use Rattle.model.specs.Network.{max_links};
 ghost use Rattle.base_laws.specs.Sum.{sum};
 ghost use Rattle.network_tables.specs.Fields.{link_in, entered_in, left_in};
@@ -95,67 +95,54 @@ pub fn next_row(
     add_movements(row, line, movements, counts);
 }
 
-// Copies the first `count` numbers of a row to the front of a part of the ledger.
-fn copy_row(part: &mut [u32], row: &[u32], count: usize)
-    requires { (count ≤ length row.now) × (count ≤ length part.old) }
-    ensures { part.new ≡ take count row.now ++ drop count part.old }
+// Writes a row into the ledger from index `at` on; all else is kept.
+pub fn write_row(ledger: &mut [u32], at: usize, row: &[u32])
+    requires { at + length row.now ≤ length ledger.old }
+    ensures { ledger.new ≡ take at ledger.old ++ (row.now ++ drop (at + length row.now) ledger.old) }
 {
-    part[..count].copy_from_slice(&row[..count]);
+    ledger[at..at + row.len()].copy_from_slice(row);
 }
 
-// Writes a row into the ledger from index `at` on, through the part of the lent ledger that starts there; all else is kept.
-pub fn write_row(ledger: &mut [u32], at: usize, row: &[u32], count: usize)
-    requires { (count ≤ length row.now) × (at + count ≤ length ledger.old) }
-    ensures { ledger.new ≡ take at ledger.old ++ (take count row.now ++ drop (at + count) ledger.old) }
+// The sum of one number a link: what a step admits or lets out on all links, or who waits at all entries.
+pub fn sum_of(numbers: &[u32]) -> u64
+    requires { length numbers.now ≤ max_links }
+    ensures { (result ≡ sum (length numbers.now) (λ i. get_or numbers.now i 0)) × (result ≤ 4294967295 * length numbers.now) }
 {
-    copy_row(&mut ledger[at..], row, count);
+    numbers.iter().map(|number| u64::from(*number)).sum()
 }
 
-// The sum of `count` numbers of a line from index `first` on: what a step admits, or lets out, on all links.
-pub fn sum_of(line: &[u32], first: usize, count: usize) -> u64
-    requires { (count ≤ max_links) × (first + count ≤ length line.now) }
-    ensures { (result ≡ sum count (λ i. get_or line.now (first + i) 0)) × (result ≤ 4294967295 * count) }
+// The vehicles in the network at a boundary: what all links hold, by its row, which has two numbers a link.
+pub fn held_in(row: &[u32]) -> u64
+    requires { length row.now ≤ 2 * max_links }
+    ensures { (result ≡ sum (length row.now / 2) (λ i. entered_in row.now i - left_in row.now i)) × (result ≤ 4294967295 * (length row.now / 2)) }
 {
-    let mut total: u64 = 0;
-    for i in 0..count {
-        total += u64::from(line[first + i]);
-    }
-    total
-}
-
-// The vehicles in the network at a boundary: what all links hold, by its row.
-pub fn held_in(row: &[u32], links: usize) -> u64
-    requires { (links ≤ max_links) × (2 * links ≤ length row.now) }
-    ensures { (result ≡ sum links (λ i. entered_in row.now i - left_in row.now i)) × (result ≤ 4294967295 * links) }
-{
-    let mut total: u64 = 0;
-    for i in 0..links {
-        total += u64::from(entered(row, i).saturating_sub(left(row, i)));
-    }
-    total
+    (0..row.len() / 2)
+        .map(|i| u64::from(entered(row, i).saturating_sub(left(row, i))))
+        .sum()
 }
 
 // Who waits at the start, as the `Q` lines have it.
-pub fn first_waiting(links: &[Link], count: usize, waiting: &mut [u32])
-    requires { FirstAsked links.now count waiting.old }
-    ensures { FirstWaits links.now count waiting.new }
+pub fn first_waiting(links: &[Link], waiting: &mut [u32])
+    requires { FirstAsked links.now waiting.old }
+    ensures { FirstWaits links.now (length links.now) waiting.new }
 {
-    for i in 0..count {
-        waiting[i] = links[i].waiting;
+    for (i, link) in links.iter().enumerate() {
+        waiting[i] = link.waiting;
     }
 }
 
 // Who is at the entries in a step: the numbers of its `S` line, with those who wait added to each link's demand.
-pub fn add_waiting(waiting: &[u32], links: usize, step: &mut [u32])
-    requires { AddAsked links waiting.now step.old }
-    ensures { Offers links waiting.now step.old step.new }
+pub fn add_waiting(waiting: &[u32], step: &mut [u32])
+    requires { AddAsked waiting.now step.old }
+    ensures { Offers (length waiting.now) waiting.now step.old step.new }
 {
-    for i in 0..links {
-        step[1 + i] = step[1 + i] + waiting[i];
+    for (i, vehicles) in waiting.iter().enumerate() {
+        step[1 + i] += *vehicles;
     }
 }
 
-// Who waits after a step that is kept: who was at the entry in the step and was not admitted.
+// Who waits after a step that is kept: who was at the entry in the step and was not admitted. The counts stand beside the tables, which go together by one index
+// and have each its own start in the line.
 pub fn next_waiting(step: &[u32], line: &[u32], counts: Counts, waiting: &mut [u32])
     requires { WaitsAsked counts step.now line.now waiting.old }
     ensures { Waits counts step.now line.now counts.links waiting.new }

@@ -250,12 +250,7 @@ pub fn keeps_signal_rules(
     requires { SignalTables signals.now count phases.now asked.now seconds }
     ensures { result ≡ true → SignalRulesKept signals.now count phases.now asked.now seconds }
 {
-    for r in 0..count {
-        if !signal_keeps(&signals[r], phases[r], asked[r], seconds) {
-            return false;
-        }
-    }
-    true
+    (0..count).all(|r| signal_keeps(&signals[r], phases[r], asked[r], seconds))
 }
 
 // The phase that each signal's mask shows.
@@ -269,13 +264,13 @@ pub fn shown_phases(signals: &[Signal], count: usize, masks: &[u32], phases: &mu
 }
 
 // The masks by which each signal keeps its phase, in front of a line's numbers.
-pub fn hold_masks(signals: &[Signal], count: usize, line: &mut [u32])
-    requires count_le_max_signals { (count ≤ max_signals) × (length signals.now ≡ max_signals) × (count ≤ length line.old) }
-    requires all_ready { AllReady signals.now count }
-    ensures { HeldMasks signals.now count line.old line.new }
+pub fn hold_masks(signals: &[Signal], line: &mut [u32])
+    requires few_signals { (length signals.now ≤ max_signals) × (length signals.now ≤ length line.old) }
+    requires all_ready { AllReady signals.now (length signals.now) }
+    ensures { HeldMasks signals.now (length signals.now) line.old line.new }
 {
-    for i in 0..count {
-        line[i] = mask_of(signals[i].shown);
+    for (i, signal) in signals.iter().enumerate() {
+        line[i] = mask_of(signal.shown);
     }
 }
 
