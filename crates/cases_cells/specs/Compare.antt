@@ -3,8 +3,8 @@ use Rattle.std.specs.Prelude.{ℕ, Bool, ◌&&◌, List, nat_eq, Result}
 use Rattle.std.specs.Cmp.Lexicographic.{pointwise}
 use Rattle.base_search.specs.declared.Refusal.{Refusal}
 use Rattle.cells_call.specs.declared.CellsRun.{CellsRun}
-use Rattle.cases_cells.specs.declared.told.Numbers.{Numbers}
-use Rattle.cases_cells.specs.Told.{numbers_of, same_numbers}
+use Rattle.cases_cells.specs.declared.told.Told.{Told}
+use Rattle.cases_cells.specs.Told.{told_of, same_told}
 
-abbrev pub as_stored : Result CellsRun Refusal → List ℕ → Numbers → List ℕ → Bool
-as_stored answer left stored volumes = same_numbers (numbers_of answer) stored && pointwise nat_eq left volumes
+abbrev pub as_stored : Result CellsRun Refusal → List ℕ → Told → List ℕ → Bool
+as_stored answer left stored volumes = same_told (told_of answer) stored && pointwise nat_eq left volumes

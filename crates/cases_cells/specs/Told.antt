@@ -1,18 +1,30 @@
 -- The answer of a run in the stored form.
-use Rattle.std.specs.Prelude.{Bool, ◌&&◌, ◌==◌, Result, Ok, Err}
+use Rattle.std.specs.Prelude.{ℕ, Bool, ◌&&◌, ◌==◌, List, ◌++◌, Result, Ok, Err, Some, None}
+use Rattle.std.specs.Int.{w32, w64, to_le_bytes}
+use Rattle.std.specs.Result.{result_eq}
 use Rattle.base_search.specs.declared.Refusal.{Refusal}
 use Rattle.cells_call.specs.declared.CellsRun.{CellsRun}
-use Rattle.cases_cells.specs.declared.told.Numbers.{Numbers}
+use Rattle.cases_files.specs.Refusals.{refusal_eq, stored_bytes}
+use Rattle.cases_cells.specs.declared.told.Flows.{Flows}
+use Rattle.cases_cells.specs.declared.told.Told.{Told}
 
-abbrev pub numbers_of : Result CellsRun Refusal → Numbers
-numbers_of (Ok run) = record { number = 0; line = 0; item = 0; cells = run.cells; flow_in = run.flow_in; flow_out = run.flow_out }
-numbers_of (Err r) = record { number = r.number; line = r.line; item = r.item; cells = 0; flow_in = 0; flow_out = 0 }
+abbrev pub told_of : Result CellsRun Refusal → Told
+told_of (Ok run) = record { 0 = Ok (record { cells = run.cells; flow_in = run.flow_in; flow_out = run.flow_out }) }
+told_of (Err r) = record { 0 = Err r }
 
-abbrev pub same_numbers : Numbers → Numbers → Bool
-same_numbers one other =
-    one.number == other.number
-    && one.line == other.line
-    && one.item == other.item
-    && one.cells == other.cells
-    && one.flow_in == other.flow_in
-    && one.flow_out == other.flow_out
+-- the refusal's three numbers and the flows, 0 where there is none
+abbrev pub flows_bytes : ℕ → ℕ → ℕ → List ℕ
+flows_bytes cells flow_in flow_out = to_le_bytes w32 cells ++ to_le_bytes w64 flow_in ++ to_le_bytes w64 flow_out
+
+abbrev pub bytes_by : Result Flows Refusal → List ℕ
+bytes_by (Ok flows) = stored_bytes None ++ flows_bytes flows.cells flows.flow_in flows.flow_out
+bytes_by (Err r) = stored_bytes (Some r) ++ flows_bytes 0 0 0
+
+abbrev pub told_bytes : Told → List ℕ
+told_bytes told = bytes_by told.0
+
+abbrev pub flows_eq : Flows → Flows → Bool
+flows_eq one other = one.cells == other.cells && one.flow_in == other.flow_in && one.flow_out == other.flow_out
+
+abbrev pub same_told : Told → Told → Bool
+same_told one other = result_eq flows_eq refusal_eq one.0 other.0

@@ -5,27 +5,28 @@ ghost use Rattle.cells_call.specs.Call.{run_cells, final_volumes};
 ghost use Rattle.cases_cells.specs.Compare.{as_stored};
 
 use crate::told;
-use crate::told::Numbers;
+use crate::told::Told;
 use cases_files::agreement::agrees;
 use cases_files::reading::{Malformed, read_each, read_text, read_u32};
 use cases_files::tally;
+use cells_steps::MAX_CELLS;
 use std::io::Read;
 
-// The refusal numbers that cases are counted by, 0 where nothing is refused; the cases that differ are counted behind them.
-const NUMBERS: [u32; 3] = [0, 36, 37];
+// The refusal numbers that cases are counted by.
+const NUMBERS: [u32; 2] = [36, 37];
 
 // Runs a corridor by the library: whether the answer and every volume are those that were stored. Where they are not, the answers are printed.
 fn judge(
     rt: &impl Print,
     number: u32,
     corridor: &[u8],
-    stored: Numbers,
-    volumes: &[u32; 64],
+    stored: Told,
+    volumes: &[u32; MAX_CELLS],
 ) -> bool
     ensures { result ≡ as_stored (run_cells (lines corridor.now)) (final_volumes (lines corridor.now)) stored volumes.now }
 {
     let answer = cells_call::run_cells(corridor);
-    let given = Numbers::from(answer);
+    let given = Told::from(answer);
     let left = told::volumes_of(answer);
     agrees(rt, number, &given, &stored, left == *volumes)
 }
@@ -33,10 +34,10 @@ fn judge(
 // Reads one case and judges it: the place at which it is counted.
 pub fn run_case(rt: &impl Print, file: &mut impl Read, number: u32) -> Result<usize, Malformed> {
     let mut text = [0; 8192];
-    let mut volumes = [0; 64];
+    let mut volumes = [0; MAX_CELLS];
     let corridor = read_text(file, &mut text)?;
-    let stored = told::read_numbers(file)?;
+    let stored = told::read_told(file)?;
     read_each(file, &mut volumes, read_u32)?;
     let same = judge(rt, number, corridor, stored, &volumes);
-    Ok(tally::place_of(&NUMBERS, stored.number, same))
+    Ok(tally::place_of(&NUMBERS, stored.0.err(), same))
 }

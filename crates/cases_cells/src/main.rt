@@ -6,8 +6,8 @@
 mod compare;
 mod told;
 
+use cases_files::files;
 use cases_files::files::Form;
-use cases_files::{files, tally};
 
 const FORM: Form = Form {
     mark: *b"CELLCASE",
@@ -16,11 +16,8 @@ const FORM: Form = Form {
 };
 
 fn main(rt: HostRuntime) {
-    let mut counts = [0; 4];
-    for path in ["cases.bin", "wrong_answer.bin"] {
-        files::run_file(&rt, path, FORM, &mut counts, |file, number| {
-            compare::run_case(&rt, file, number)
-        });
-    }
-    tally::print_counts(&rt, &["accepted", "36", "37", "different"], &counts);
+    let names = ["accepted", "36", "37", "different"];
+    files::run(&rt, FORM, &names, &mut [0; 4], |file, number| {
+        compare::run_case(&rt, file, number)
+    });
 }

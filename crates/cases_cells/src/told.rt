@@ -1,78 +1,79 @@
 // The answer of a run in the stored form, which is described in reference/src/cases/corridor_file.rs.
-ghost use Rattle.std.specs.Prelude.{◌≡◌};
+ghost use Rattle.std.specs.Prelude.{◌≡◌, IfOk};
+ghost use Rattle.std.specs.Io.KnownBytes.{Consumes};
 ghost use Rattle.cells_call.specs.Call.{volumes_in};
-ghost use Rattle.cases_cells.specs.Told.{numbers_of};
+ghost use Rattle.cases_cells.specs.Told.{told_of, told_bytes};
 
 use base_search::Refusal;
 use cases_files::reading::{Malformed, read_u32, read_u64};
+use cases_files::refusals::{Columns, read_refusal};
 use cells_call::CellsRun;
+use cells_steps::MAX_CELLS;
 use std::fmt;
 use std::fmt::Display;
 use std::io::Read;
 
-// Number, line and item of a refusal, or number of cells, flow in and flow out; 0 where there is none.
-#[derive(Clone, Copy, PartialEq)]
-pub struct Numbers {
-    pub number: u32,
-    pub line: u32,
-    pub item: u32,
+// What of a run is stored and printed in numbers: how many cells there are, flow in and flow out.
+#[derive(Clone, Copy, PartialEq, Default)]
+pub struct Flows {
     pub cells: u32,
     pub flow_in: u64,
     pub flow_out: u64,
 }
 
-// Each number behind a tab.
-impl Display for Numbers {
+// The answer but for the volumes.
+#[derive(Clone, Copy, PartialEq)]
+pub struct Told(pub Result<Flows, Refusal>);
+
+// Each number behind a tab, those of a refusal first; 0 where there is none.
+impl Display for Told {
     fn fmt<W: fmt::Write>(&self, f: &mut fmt::Formatter<W>) -> fmt::Result {
-        write!(f, "\t{}\t{}\t{}", self.number, self.line, self.item)?;
-        write!(f, "\t{}\t{}\t{}", self.cells, self.flow_in, self.flow_out)
+        let flows = self.0.unwrap_or_default();
+        write!(f, "{}", Columns(self.0.err()))?;
+        write!(
+            f,
+            "\t{}\t{}\t{}",
+            flows.cells, flows.flow_in, flows.flow_out
+        )
     }
 }
 
-// The numbers of what the library answers.
-impl From<Result<CellsRun, Refusal>> for Numbers {
-    ghost from_gives = { λ answer numbers. numbers ≡ numbers_of answer };
+// What the library answers.
+impl From<Result<CellsRun, Refusal>> for Told {
+    ghost from_gives = { λ answer told. told ≡ told_of answer };
 
-    fn from(answer: Result<CellsRun, Refusal>) -> Numbers {
-        match answer {
-            Ok(run) => Numbers {
-                number: 0,
-                line: 0,
-                item: 0,
-                cells: run.cells,
-                flow_in: run.flow_in,
-                flow_out: run.flow_out,
-            },
-            Err(refusal) => Numbers {
-                number: refusal.number,
-                line: refusal.line,
-                item: refusal.item,
-                cells: 0,
-                flow_in: 0,
-                flow_out: 0,
-            },
-        }
+    fn from(answer: Result<CellsRun, Refusal>) -> Told {
+        Told(answer.map(|run| Flows {
+            cells: run.cells,
+            flow_in: run.flow_in,
+            flow_out: run.flow_out,
+        }))
     }
 }
 
 // The volumes of what the library answers; of a refusal, all 0.
-pub fn volumes_of(answer: Result<CellsRun, Refusal>) -> [u32; 64]
+pub fn volumes_of(answer: Result<CellsRun, Refusal>) -> [u32; MAX_CELLS]
     ensures { result ≡ volumes_in answer }
 {
     match answer {
         Ok(run) => run.volumes,
-        Err(_) => [0; 64],
+        Err(_) => [0; MAX_CELLS],
     }
 }
 
-// The numbers that were stored.
-pub fn read_numbers(file: &mut impl Read) -> Result<Numbers, Malformed> {
-    Ok(Numbers {
-        number: read_u32(file)?,
-        line: read_u32(file)?,
-        item: read_u32(file)?,
+// The answer that was stored. A refusal has no flows.
+pub fn read_told<R: Read>(file: &mut R) -> Result<Told, Malformed>
+    ensures { IfOk result (λ told. Consumes (R.remaining file.old) (R.remaining file.new) (told_bytes told)) }
+{
+    let refusal = read_refusal(file)?;
+    let flows = Flows {
         cells: read_u32(file)?,
         flow_in: read_u64(file)?,
         flow_out: read_u64(file)?,
-    })
+    };
+    match refusal {
+        None => Ok(Told(Ok(flows))),
+        Some(refusal) if flows == Flows::default() => Ok(Told(Err(refusal))),
+        Some(_) => Err(Malformed),
+    }
 }

@@ -1,6 +1,6 @@
 // Runs the cases of a file.
 use crate::reading::{Malformed, read_array, read_u32};
-use crate::tally::add_one;
+use crate::tally::{add_one, print_counts};
 use std::fs::File;
 use std::io::Read;
 use std::rt::Files;
@@ -11,6 +11,26 @@ pub struct Form {
     pub mark: [u8; 8],
     pub version: u32,
     pub passed_over: u32,
+}
+
+// The files of every program: the stored cases, and some with a wrong answer on purpose.
+pub const PATHS: [&str; 2] = ["cases.bin", "wrong_answer.bin"];
+
+// Runs the files of a program, and prints how many cases there are at each place, under these names. The counts are lent: an array of references whose
+// length is a parameter gets no proof.
+pub fn run<R: Files + Print, F: Fn(&mut R::File, u32) -> Result<usize, Malformed>>(
+    rt: &R,
+    form: Form,
+    names: &[&str],
+    counts: &mut [u64],
+    run_case: F,
+)
+    requires { F.IsAlwaysCallable run_case }
+{
+    for path in PATHS {
+        run_file(rt, path, form, counts, &run_case);
+    }
+    print_counts(rt, names, counts);
 }
 
 // Runs each case of a file, by its number from 0, and counts it at the place that it gives. Prints the file's name and how many cases it has; that it is

@@ -2,6 +2,7 @@
 ghost use Rattle.std.specs.Prelude.{◌++◌, length, IfOk};
 ghost use Rattle.std.specs.Int.{w32, w64, to_le_bytes};
 ghost use Rattle.std.specs.Io.KnownBytes.{Consumes};
+ghost use Rattle.cases_files.specs.Reading.{GivesEach};
 
 use std::io;
 use std::io::Read;
@@ -46,6 +47,7 @@ pub fn read_each<R: Read, T: Drop, F: Fn(&mut R) -> Result<T, Malformed>>(
     read_item: F,
 ) -> Result<(), Malformed>
     requires { F.IsAlwaysCallable read_item }
+    ensures { IfOk result (λ _. GivesEach (F.post read_item) file.old items.new file.new) }
 {
     for item in items {
         *item = read_item(file)?;

@@ -1,5 +1,9 @@
 // Counts the cases by their answers.
-ghost use Rattle.std.specs.Prelude.{◌≡◌, ◌+◌, ◌%◌, ◌^◌, ◌<◌, length, slice_index, slice_set};
+ghost use Rattle.std.specs.Prelude.{◌≡◌, ◌+◌, ◌%◌, ◌^◌, ◌<◌, ◌≤◌, length, slice_index, slice_set, ◌==◌};
+ghost use Rattle.std.specs.List.{position_or_len};
+ghost use Rattle.cases_files.specs.Tally.{place_of};
+
+use base_search::Refusal;
 
 // Counts one more at a place. There are fewer than 2^32 cases, so that no count wraps.
 pub fn add_one(counts: &mut [u64], place: usize)
@@ -11,13 +15,29 @@ pub fn add_one(counts: &mut [u64], place: usize)
     }
 }
 
-// The place of a case: that of its refusal number among those that cases are counted by, if it agreed; else the one behind them.
-pub fn place_of(numbers: &[u32], number: u32, same: bool) -> usize {
-    let place = numbers.iter().position(|known| same && *known == number);
-    place.unwrap_or(numbers.len())
+// The index of a number among these; as many as they are, where it is none of them.
+fn index_of(numbers: &[u32], number: u32) -> usize
+    ensures within { result ≤ length numbers.now }
+    ensures value { result ≡ position_or_len (λ known. known == number) numbers.now }
+{
+    let index = numbers.iter().position(|known| *known == number);
+    index.unwrap_or(numbers.len())
 }
 
-// Prints the counts, a line each. Nothing is done about an output that takes no more.
+// The place of a case that agreed: the first where nothing is refused, else that of its refusal's number, behind it. The place of one that differed, or
+// was refused with another number, is behind them all.
+pub fn place_of(numbers: &[u32], refusal: Option<Refusal>, same: bool) -> usize
+    ensures { result ≡ place_of numbers.now refusal same }
+{
+    let different = numbers.len() + 1;
+    match refusal {
+        _ if !same => different,
+        None => 0,
+        Some(refusal) => 1 + index_of(numbers, refusal.number),
+    }
+}
+
+// Prints the counts, a line each. Nothing is done about an output that takes no more, and no contract can say what it takes.
 pub fn print_counts(rt: &impl Print, names: &[&str], counts: &[u64]) {
     for (name, count) in names.iter().zip(counts) {
         let _ = println!(rt; "{name}\t{count}");

@@ -14,24 +14,35 @@ use std::io::Read;
 // Room for some vehicles and lines too many.
 const ROOM: usize = 80;
 
-// The refusal numbers that cases are counted by, 0 where nothing is refused; the cases that differ are counted behind them.
-const NUMBERS: [u32; 3] = [0, 38, 39];
+// The refusal numbers that cases are counted by.
+const NUMBERS: [u32; 2] = [38, 39];
+
+// What a case gives: the step that is asked, and the answer and the places that are stored.
+#[derive(Drop)]
+struct Case<'a> {
+    places: &'a mut [f64],
+    advances: &'a [f64],
+    red_lines: &'a [f64],
+    spacing: f64,
+    stored: Option<Refusal>,
+    told: &'a [f64],
+}
 
 // Takes a step by the library: whether the answer and every place are those that were stored. Where they are not, the answers are printed.
-fn judge(
-    rt: &impl Print,
-    number: u32,
-    places: &mut [f64],
-    advances: &[f64],
-    red_lines: &[f64],
-    spacing: f64,
-    stored: Refusal,
-    told: &[f64],
-) -> bool
-    ensures { result ≡ as_stored (step_vehicles places.old advances.now red_lines.now spacing) (places_after places.old advances.now red_lines.now spacing) stored told.now }
+fn judge(rt: &impl Print, number: u32, case: Case<'_>) -> bool
+    ensures { let places = case.entry.places.now in let advances = case.entry.advances.now in let lines = case.entry.red_lines.now in let spacing = case.entry.spacing in
+        result ≡ as_stored (step_vehicles places advances lines spacing) (places_after places advances lines spacing) case.entry.stored case.entry.told.now }
 {
+    let Case {
+        places,
+        advances,
+        red_lines,
+        spacing,
+        stored,
+        told,
+    } = case;
     let answer = traces::step_vehicles(places, advances, red_lines, spacing);
-    let given = Columns(refusals::refusal_of(answer));
+    let given = Columns(answer.err());
     let stored = Columns(stored);
     agrees(rt, number, &given, &stored, values::are_same(places, told))
 }
@@ -51,8 +62,14 @@ pub fn run_case(rt: &impl Print, file: &mut impl Read, number: u32) -> Result<us
     let red_lines = values::read_values(file, &mut red_lines, lines_count)?;
     let stored = refusals::read_refusal(file)?;
     let told = values::read_values(file, &mut told, vehicles)?;
-    let same = judge(
-        rt, number, places, advances, red_lines, spacing, stored, told,
-    );
-    Ok(tally::place_of(&NUMBERS, stored.number, same))
+    let case = Case {
+        places,
+        advances,
+        red_lines,
+        spacing,
+        stored,
+        told,
+    };
+    let same = judge(rt, number, case);
+    Ok(tally::place_of(&NUMBERS, stored, same))
 }

@@ -1,10 +1,10 @@
 // Values of the stored form, which are 64-bit floats by their bits. A NaN is one value, whatever its bits are: the toolchain fixes neither the value of a
 // NaN's bits nor the bits of a NaN, so that both are set here.
-ghost use Rattle.std.specs.Prelude.{◌≡◌};
+ghost use Rattle.std.specs.Prelude.{◌≡◌, length, IfOk};
 ghost use Rattle.std.specs.Float.{binary64};
 ghost use Rattle.std.specs.List.{list_all, zip};
-ghost use Rattle.std.specs.Float.Ieee.{to_bits};
-ghost use Rattle.cases_traces.specs.Values.{same_value, same_values};
+ghost use Rattle.std.specs.Float.Ieee.{of_bits, to_bits};
+ghost use Rattle.cases_traces.specs.Values.{same_value, same_values, ValueRead};
 
 use cases_files::reading::{Malformed, read_each, read_u64};
 use std::io::Read;
@@ -18,7 +18,9 @@ const SIGN: u64 = 1 << 63;
 const NAN: u64 = 0x7ff8_0000_0000_0000;
 
 // The value of bits.
-fn value_of(bits: u64) -> f64 {
+fn value_of(bits: u64) -> f64
+    ensures { result ≡ of_bits binary64 bits }
+{
     if INFINITY < bits % SIGN {
         f64::NAN
     } else {
@@ -58,7 +60,9 @@ fn all_same(values: &[f64], told: &[f64]) -> bool
 }
 
 // Reads a value.
-pub fn read_value(file: &mut impl Read) -> Result<f64, Malformed> {
+pub fn read_value<R: Read>(file: &mut R) -> Result<f64, Malformed>
+    ensures { IfOk result (λ value. ValueRead (R.remaining file.old) (R.remaining file.new) value) }
+{
     Ok(value_of(read_u64(file)?))
 }
 
@@ -67,7 +71,9 @@ pub fn read_values<'a>(
     file: &mut impl Read,
     room: &'a mut [f64],
     count: u32,
-) -> Result<&'a mut [f64], Malformed> {
+) -> Result<&'a mut [f64], Malformed>
+    ensures { IfOk result (λ values. length values.now ≡ count) }
+{
     let values = room.get_mut(..count as usize).ok_or(Malformed)?;
     read_each(file, values, read_value)?;
     Ok(values)

@@ -36,17 +36,20 @@ use Rattle.step_rows.specs.Rows.{RowHolds}
 use Rattle.step_rows.proofs.Ledger.{first-written}
 use Rattle.plan_steps.specs.declared.State.{State}
 use Rattle.plan_steps.specs.declared.Lines.{Lines}
+use Rattle.plan_steps.specs.declared.Run.{Run}
 use Rattle.plan_steps.specs.Totals.{held_in}
 use Rattle.plan_steps.specs.PlanLine.{formed}
-use Rattle.plan_steps.specs.State.{first_state, StepAsked, StepGot, finished}
+use Rattle.plan_steps.specs.Reading.{Cleared}
+use Rattle.plan_steps.specs.State.{StateAt, first_state, StepAsked, StepGot, finished}
 use Rattle.plan_steps.specs.Steps.{RunAsked, RunGot, StepsAsked, Stopped, AllTaken, StepsGot, Running}
 use Rattle.plan_steps.proofs.Verdicts.{plan-stops, plan-surplus, plan-passes}
 use Rattle.plan_steps.proofs.PlanLines.{plan-ends}
 use Rattle.plan_steps.proofs.Ledger.{written-again}
+use Rattle.plan_steps.proofs.Reading.{cleared-lent}
 use Rattle.plan_steps.proofs.Steps.{trams-ready}
 use Rattle.plan_steps.proofs.Adding.{totals-first}
 use Rattle.step_past.proofs.Valid.{past-form, entered-at-start, past_fits, left-at-start, left-fits}
-use Rattle.std.specs.Prelude.{Result, Ok, Err}
+use Rattle.std.specs.Prelude.{Option, Some, None, Result, Ok, Err}
 
 -- the signals before the plan
 pub signals-first : (network plan : List Line) (signals : List Signal) → ValidNetwork network → SignalTable network signals → SignalsAt network plan 0 signals
@@ -85,15 +88,11 @@ module _ (plan : List ℕ) (at steps : ℕ) (t : Totals) (b : Bool) (e : b ≡ a
   unfolding finished
   finish-more h = rw (← e, h)
 
--- a table of zeros has no other number, at any place
-no_number : (n k : ℕ) → ◌≡◌ {A = ℕ} (get_or (replicate n 0) k 0) 0
-no_number n k = elim (dec_lt k n) [
-  | yes h ↦ get_or-replicate {A = ℕ} n k 0 0 h
-  | no h ↦ List·getD-eq-default (replicate n 0) 0 (omega (arith, length-replicate {A = ℕ} n 0))
-]
-
 -- ---- the first steps
-module _ {network_text plan_text : List ℕ} {tables : NetworkTables} {steps : ℕ} {signals₀ : List Signal} {waiting₀ old : List ℕ} (a : StepsAsked network_text plan_text tables steps signals₀ waiting₀ old) where
+module _ {plan_text : List ℕ} {tables : NetworkTables} {steps : ℕ} {signals₀ : List Signal} {waiting₀ old : List ℕ} (a : StepsAsked plan_text tables steps signals₀ waiting₀ old) where
+  abbrev network_text : List ℕ
+  network_text = tables.text.now
+
   abbrev netw : List Line
   netw = lines network_text
 
@@ -110,10 +109,10 @@ module _ {network_text plan_text : List ℕ} {tables : NetworkTables} {steps : �
   abbrev counts : Counts
   counts = tables.reading.counts
 
-  pub trams-asked : {trams : List Tram} → length trams ≡ max_trams → LoadAsked network_text tables.reading.trams_at counts.trams trams
-  trams-asked room = trams-ready network_text tables.reading.trams_at a.trams-start a.tables.counted a.tables.holds room
+  pub trams-asked : {room : List Tram} → length room ≡ max_trams → LoadAsked tables room
+  trams-asked size = trams-ready a.trams-start a.tables.counted a.tables.holds size
 
-  pub past-asked : {arrivals : List Arrival} → length arrivals ≡ max_links → PastAsked network_text tables old arrivals
+  pub past-asked : {arrivals : List Arrival} → length arrivals ≡ max_links → PastAsked tables old arrivals
   past-asked size =
       record {
         counted = a.tables.counted;
@@ -127,14 +126,14 @@ module _ {network_text plan_text : List ℕ} {tables : NetworkTables} {steps : �
         size = size;
       }
 
-  module _ {ledger : List ℕ} {arrivals : List Arrival} {fit : Bool} (loaded : PastLoaded network_text counts old fit ledger arrivals) where
+  module _ {ledger : List ℕ} {arrivals : List Arrival} {fit : Option (Unit {0})} (loaded : PastLoaded tables old fit ledger arrivals) where
     -- every number of row 0 fits 32 bits
-    fits : fit ≡ true
+    fits : fit ≡ Some tt
     fits = go fit refl
       where
-        go : (b : Bool) → fit ≡ b → fit ≡ true
-        go true e = e
-        go false e = let o = loaded.overflows e in absurd (o.over (past_fits netw a.tables.holds o.link o.below (past_count netw) (omega arith)) (left-fits netw a.tables.holds o.link o.below))
+        go : (b : Option (Unit {0})) → fit ≡ b → fit ≡ Some tt
+        go (Some _) e = e
+        go None e = let o = loaded.overflows e in absurd (o.over (past_fits netw a.tables.holds o.link o.below (past_count netw) (omega arith)) (left-fits netw a.tables.holds o.link o.below))
 
     row_first : RowHolds netw plnn 0 ledger
     row_first =
@@ -175,52 +174,50 @@ module _ {network_text plan_text : List ℕ} {tables : NetworkTables} {steps : �
       waiting-start : WaitingTable netw plnn 0 waiting
       waiting-start = waiting-first plnn a.tables.link-table (rw a.tables.counted.links at waits)
 
-      pub running-first : {state : State} → state ≡ first_state tables waiting ledger → {signals : List Signal} → SignalTable netw signals → {trams : List Tram} → TramTable netw trams
-          → Running network_text plan_text tables trams steps 0 ledger state signals arrivals waiting ledger
-          (record { step = replicate step_size 0; plan = replicate line_size 0; phases = replicate max_signals 0; asked = replicate max_signals 0 })
-      running-first e {signals} table trams-held =
+      state-start : {state : State} → state ≡ first_state tables waiting ledger → {signals : List Signal} → SignalTable netw signals → StateAt network_text plan_text state signals arrivals waiting ledger
+      state-start e {signals} table =
           rw e (record {
-            tables = a.tables;
-            tram-table = trams-held;
-            taken = refl;
-            state-at = record {
-              within = omega arith;
-              passed = λ m l. absurd (omega arith);
-              step-starts = a.steps-start;
-              plan-starts = λ h. starts_first plan_text;
-              signals-at = signals-first netw plnn signals (valid-network netw a.tables.holds) table;
-              totals-at = totals-first netw plnn a.tables.holds counts a.tables.counted ledger row_first (held_in counts ledger) refl;
-              outside-at = outside-is a.tables.counted waiting-start;
-              arrivals-at = loaded.arrivals-at;
-              curves-at = loaded.curves-at fits;
-              waiting-at = waiting-start;
-              rows = since-self;
-            };
-            lent = record {
-              step-size = length-replicate {A = ℕ} step_size 0;
-              plan-size = length-replicate {A = ℕ} line_size 0;
-              phases-size = length-replicate {A = ℕ} max_signals 0;
-              no-volume = λ empty k l. no_number line_size k;
-            };
-            few-steps = a.few-steps;
-            since = since-self;
-            long = refl;
-            room = omega (arith, loaded.size, a.room);
+            within = omega arith;
+            passed = λ m l. absurd (omega arith);
+            at = record { step-starts = a.steps-start; plan-starts = λ h. starts_first plan_text };
+            signals-at = signals-first netw plnn signals (valid-network netw a.tables.holds) table;
+            totals-at = totals-first netw plnn a.tables.holds counts a.tables.counted ledger row_first (held_in counts ledger) refl;
+            outside-at = outside-is a.tables.counted waiting-start;
+            arrivals-at = loaded.arrivals-at;
+            curves-at = loaded.curves-at fits;
+            waiting-at = waiting-start;
+            rows = since-self;
           })
 
-module _ {network_text plan_text : List ℕ} {tables : NetworkTables} {trams : List Tram} {steps n : ℕ} {old : List ℕ} {state : State} {signals : List Signal} {arrivals : List Arrival} {waiting ledger : List ℕ}
-    {lent : Lines} (r : Running network_text plan_text tables trams steps n old state signals arrivals waiting ledger lent) where
+      -- by a run on the same tables and plan
+      pub running-first : (run : Run) → run.tables.now ≡ tables → run.plan.now ≡ plan_text → TramTable netw run.trams.now → {state : State} → state ≡ first_state tables waiting ledger
+          → {signals : List Signal} → SignalTable netw signals → {said : Lines} → Cleared said → Running run steps 0 ledger state signals arrivals waiting ledger said
+      running-first run et ep trams-held {state} e {signals} table cleared =
+          record {
+            tables = rw et a.tables;
+            tram-table = rw et trams-held;
+            taken = rw e refl;
+            state-at = rw (et, ep) (state-start e table);
+            lent = cleared-lent cleared;
+            few-steps = rw et a.few-steps;
+            since = rw (et, ep) since-self;
+            long = refl;
+            room = rw et (omega (arith, loaded.size, a.room));
+          }
+
+module _ {run : Run} {steps n : ℕ} {old : List ℕ} {state : State} {signals : List Signal} {arrivals : List Arrival} {waiting ledger : List ℕ} {lent : Lines}
+    (r : Running run steps n old state signals arrivals waiting ledger lent) where
   abbrev net : List Line
-  net = lines network_text
+  net = lines run.tables.now.text.now
 
   abbrev pln : List Line
-  pln = plan_of network_text plan_text
+  pln = plan_of run.tables.now.text.now run.plan.now
 
   passed-before : (m : ℕ) → m < n → verdict (line_checks net pln m) ≡ Ok tt
   passed-before m h = r.state-at.passed m (omega (arith, r.taken))
 
   module _ (h : n < steps) where
-    running-asked : StepAsked network_text plan_text tables trams state signals arrivals waiting ledger lent
+    pub running-asked : StepAsked run state signals arrivals waiting ledger lent
     running-asked =
         record {
           tables = r.tables;
@@ -232,16 +229,16 @@ module _ {network_text plan_text : List ℕ} {tables : NetworkTables} {trams : L
         }
 
     module _ {result : Result State Refusal} {signals' : List Signal} {arrivals' : List Arrival} {waiting' ledger' : List ℕ} {lent' : Lines}
-        (got : StepGot network_text plan_text ledger state result signals' arrivals' waiting' ledger' lent') where
+        (got : StepGot run.tables.now.text.now run.plan.now ledger state result signals' arrivals' waiting' ledger' lent') where
       -- a step is refused
-      pub steps-stopped : {q : Refusal} → result ≡ Err q → Stopped network_text plan_text old steps q ledger'
+      pub steps-stopped : {q : Refusal} → result ≡ Err q → Stopped run.tables.now.text.now run.plan.now old steps q ledger'
       steps-stopped e =
           let refused = rw e at got.outcome in
           record { step = n; within = h; passed = passed-before; refused = rw r.taken at refused.told; rows = refused.kept ∙ r.since }
 
       -- it passes
       pub running-next : {next : State} → result ≡ Ok next
-          → Running network_text plan_text tables trams steps (n + 1) old next signals' arrivals' waiting' ledger' lent'
+          → Running run steps (n + 1) old next signals' arrivals' waiting' ledger' lent'
       running-next e =
           let passed = rw e at got.outcome in
           let w : ledger' ≡ written net pln ledger (suc (suc n)) = rw r.taken at passed.row_more in
@@ -258,11 +255,11 @@ module _ {network_text plan_text : List ℕ} {tables : NetworkTables} {trams : L
           })
 
   -- all of them have passed
-  pub steps-taken : n ≡ steps → AllTaken network_text plan_text old steps state signals waiting ledger
+  pub steps-taken : n ≡ steps → AllTaken run.tables.now.text.now run.plan.now old steps state signals waiting ledger
   steps-taken e =
       rw (← e) (record {
         passed = passed-before;
-        plan-starts = rw r.taken at r.state-at.plan-starts;
+        plan-starts = rw r.taken at r.state-at.at.plan-starts;
         signals-at = rw r.taken at r.state-at.signals-at;
         totals-at = rw r.taken at r.state-at.totals-at;
         waiting-at = rw r.taken at r.state-at.waiting-at;
@@ -270,12 +267,12 @@ module _ {network_text plan_text : List ℕ} {tables : NetworkTables} {trams : L
       })
 
 -- ---- all steps
-module _ {network_text plan_text : List ℕ} {tables : NetworkTables} {signals₀ : List Signal} {old : List ℕ} (a : RunAsked network_text plan_text tables signals₀ old) where
+module _ {plan_text : List ℕ} {tables : NetworkTables} {signals₀ : List Signal} {old : List ℕ} (a : RunAsked plan_text tables signals₀ old) where
   abbrev network : List Line
-  network = lines network_text
+  network = lines tables.text.now
 
   abbrev plan : List Line
-  plan = plan_of network_text plan_text
+  plan = plan_of tables.text.now plan_text
 
   -- row n is due, and all that are due are written where the next is not
   due : (n : ℕ) → n ≤ step_count network → ((m : ℕ) → m < n → verdict (line_checks network plan m) ≡ Ok tt) → RowDue network plan (length old) n
@@ -291,9 +288,9 @@ module _ {network_text plan_text : List ℕ} {tables : NetworkTables} {signals�
   unfolding ledger_after
   rows_are n d h since = since ∙ ap (written network plan old) (sym (rows-until network plan (length old) n d h))
 
-  module _ {result : Result State Refusal} {signals : List Signal} {waiting ledger : List ℕ} (got : StepsGot network_text plan_text old tables.reading.counts.steps result signals waiting ledger) where
+  module _ {result : Result State Refusal} {signals : List Signal} {waiting ledger : List ℕ} (got : StepsGot tables.text.now plan_text old tables.reading.counts.steps result signals waiting ledger) where
     -- a step is refused
-    pub run-refused : {q : Refusal} → result ≡ Err q → RunGot network_text plan_text old (Err q) ledger
+    pub run-refused : {q : Refusal} → result ≡ Err q → RunGot tables.text.now plan_text old (Err q) ledger
     run-refused {q} e =
         let s = rw e at got.outcome in
         let more : s.step < step_count network = omega (arith, s.within, a.tables.counted.steps) in
@@ -305,14 +302,14 @@ module _ {network_text plan_text : List ℕ} {tables : NetworkTables} {signals�
         }
 
     -- all have passed
-    pub run-finished : {state : State} {answer : Result Totals Refusal} → result ≡ Ok state → answer ≡ finished plan_text state.plan_at tables.reading.counts.steps state.totals → RunGot network_text plan_text old answer ledger
+    pub run-finished : {state : State} {answer : Result Totals Refusal} → result ≡ Ok state → answer ≡ finished plan_text state.place.plan_at tables.reading.counts.steps state.totals → RunGot tables.text.now plan_text old answer ledger
     run-finished {state} {answer} p f = go (eqb (length plan) (step_count network)) refl
       where
-        all : AllTaken network_text plan_text old (step_count network) state signals waiting ledger
+        all : AllTaken tables.text.now plan_text old (step_count network) state signals waiting ledger
         all = rw a.tables.counted.steps at (rw p at got.outcome)
 
-        at-end : (b : Bool) → eqb (length plan) (step_count network) ≡ b → at_end plan_text state.plan_at ≡ b
-        at-end b e = plan-ends network_text plan_text state.plan_at (step_count network) all.plan-starts (lines-within network plan (step_count network) all.passed) refl ∙ e
+        at-end : (b : Bool) → eqb (length plan) (step_count network) ≡ b → at_end plan_text state.place.plan_at ≡ b
+        at-end b e = plan-ends tables.text.now plan_text state.place.plan_at (step_count network) all.plan-starts (lines-within network plan (step_count network) all.passed) refl ∙ e
 
         made : (b : Bool) → eqb (length plan) (step_count network) ≡ b → answer ≡ cond b (Ok state.totals) (Err (refusal 9 (tables.reading.counts.steps + 1) 0))
         made b e = f ∙ (unfold finished in ap (λ x. cond x (Ok state.totals) (Err (refusal 9 (tables.reading.counts.steps + 1) 0))) (at-end b e))
@@ -326,7 +323,7 @@ module _ {network_text plan_text : List ℕ} {tables : NetworkTables} {signals�
         last-due : RowDue network plan (length old) (step_count network)
         last-due = due (step_count network) (omega arith) all.passed
 
-        got-by : answer ≡ plan_answer network plan (verdict (plan_line_checks network plan)) → RunGot network_text plan_text old answer ledger
+        got-by : answer ≡ plan_answer network plan (verdict (plan_line_checks network plan)) → RunGot tables.text.now plan_text old answer ledger
         got-by e =
             record {
               answered = e;
@@ -334,7 +331,7 @@ module _ {network_text plan_text : List ℕ} {tables : NetworkTables} {signals�
               some-row = omega (arith, due-written network plan (length old) (step_count network) last-due);
             }
 
-        go : (b : Bool) → eqb (length plan) (step_count network) ≡ b → RunGot network_text plan_text old answer ledger
+        go : (b : Bool) → eqb (length plan) (step_count network) ≡ b → RunGot tables.text.now plan_text old answer ledger
         go true e = got-by (made true e ∙ accepted-is ∙ ap (plan_answer network plan) (sym (plan-passes network plan all.passed e)))
         go false e =
             let k : tables.reading.counts.steps + 1 ≡ suc (step_count network) = omega (arith, a.tables.counted.steps) in

@@ -14,6 +14,7 @@ use Rattle.model.proofs.Accepted.{valid-network, LawfulStep}
 use Rattle.model.proofs.Phases.{phase-of-le}
 use Rattle.model.proofs.Shown.{same-phases}
 use Rattle.network_tables.specs.declared.Counts.{Counts}
+use Rattle.network_tables.specs.declared.NetworkTables.{NetworkTables}
 use Rattle.network_tables.specs.declared.Tram.{Tram}
 use Rattle.network_tables.specs.Fields.{tram_fields, signal_at as table_signal}
 use Rattle.network_tables.specs.Tables.{CountsHold, TramTable}
@@ -34,23 +35,22 @@ unfolding Hold network_checks tram_checks
 tram-form network (counts, (trams, rest)) k l = (trams k l).0
 
 -- so that they can be read again
-pub trams-ready : (text : List ℕ) (at : ℕ) → Starts text at (tram_line (lines text) 0) → {counts : Counts} → CountsHold (lines text) counts → Hold (network_checks (lines text))
-    → {trams : List Tram} → length trams ≡ max_trams → LoadAsked text at counts.trams trams
-trams-ready text at starts c holds room =
+pub trams-ready : {tables : NetworkTables} → Starts tables.text.now tables.reading.trams_at (tram_line (lines tables.text.now) 0) → CountsHold (lines tables.text.now) tables.reading.counts
+    → Hold (network_checks (lines tables.text.now)) → {room : List Tram} → length room ≡ max_trams → LoadAsked tables room
+trams-ready {tables} starts counted holds size =
     record {
       starts = starts;
-      counted = c.trams;
-      few = c.few.trams;
-      forms = λ k l. tram-form (lines text) holds k (omega (arith, c.trams));
-      values = λ k l. (valid-network (lines text) holds).trams k (omega (arith, c.trams));
-      room = room;
+      counted = counted.trams;
+      forms = tram-form (lines tables.text.now) holds;
+      values = (valid-network (lines tables.text.now) holds).trams;
+      size = size;
     }
 
 -- the phases that trams ask in a step
 pub asked_by : (network : List Line) (table : List Tram) → TramTable network table → ((k : ℕ) → k < tram_count network → is_form network (tram_line network k) letter_t tram_fields ≡ true)
-    → {counts : Counts} → CountsHold network counts → {n : ℕ} {claims : List ℕ} → Claimed table counts.trams n claims → AskedTable network n claims
+    → {counts : Counts} → CountsHold network counts → {n : ℕ} {claims : List ℕ} → Claimed table n claims → AskedTable network n claims
 asked_by network table held forms c told =
-    let t = tram-phases-are network table held forms c.trams told in record { size = t.size; holds = λ r l. t.holds r (omega (arith, c.signals, c.few.signals)) }
+    let t = tram-phases-are network table held forms told in record { size = t.size; holds = λ r l. t.holds r (omega (arith, c.signals, c.few.signals)) }
 
 -- the signals after a step that has passed
 module _ (network plan : List Line) (n : ℕ) (signals signals' : List Signal) (phases claims : List ℕ) (seconds count : ℕ) (before : SignalsAt network plan n signals)

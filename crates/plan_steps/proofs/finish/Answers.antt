@@ -8,4 +8,4 @@ pub returns-then-is_end : goal.returns-then-is_end
 returns-then-is_end c = finish-end _ _ _ _ _ c.is_end.ensures c.if-is_end.true
 
 pub returns-else-is_end : goal.returns-else-is_end
-returns-else-is_end c = ap Err c.new.ensures ∙ finish-more _ _ _ _ _ c.is_end.ensures c.if-is_end.false
+returns-else-is_end c = ap Err c.refusal.ensures ∙ finish-more _ _ _ _ _ c.is_end.ensures c.if-is_end.false

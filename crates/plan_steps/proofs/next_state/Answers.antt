@@ -7,9 +7,7 @@ returns c =
     record {
       stay = c.next_waiting.ensures;
       advanced = c.advance.ensures;
-      boundary = refl;
-      step-place = refl;
-      plan-place = refl;
+      place = refl;
       totals = c.add_step-totals.ensures;
       outside = grind (arith, c.sum_of-outside.ensures);
     }
