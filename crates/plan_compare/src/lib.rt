@@ -104,7 +104,8 @@ fn next_boundary(plan: &[u8], so_far: LetOut, counts: Counts) -> LetOut
     }
     let mut line = [0u32; LINE_SIZE];
     let at = network_tables::read_again(plan, so_far.at, b'P', &mut line, counts.plan_width());
-    let volume = step_rows::sum_of(&line, counts.signals + counts.links, counts.links);
+    let let_out_at = counts.signals + counts.links;
+    let volume = step_rows::sum_of(&line[let_out_at..let_out_at + counts.links]);
     LetOut {
         at,
         volume: so_far.volume + volume,

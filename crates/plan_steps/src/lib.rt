@@ -87,8 +87,10 @@ fn add_step(
     requires { TotalsAsked totals before after counts line.now step.now }
     ensures { result ≡ totals_after totals before after counts line.now step.now }
 {
-    let admitted = step_rows::sum_of(line, counts.signals, counts.links);
-    let let_out = step_rows::sum_of(line, counts.signals + counts.links, counts.links);
+    let admitted_at = counts.signals;
+    let let_out_at = admitted_at + counts.links;
+    let admitted = step_rows::sum_of(&line[admitted_at..admitted_at + counts.links]);
+    let let_out = step_rows::sum_of(&line[let_out_at..let_out_at + counts.links]);
     let inside = totals.inside + admitted - let_out;
     let time = travel_time(step[0], totals.inside + before, inside + after);
     Totals {
@@ -108,7 +110,7 @@ fn first_state(tables: &NetworkTables, waiting: &[u32], row: &[u32]) -> State
     let totals = Totals {
         admitted: 0,
         let_out: 0,
-        inside: step_rows::held_in(row, counts.links),
+        inside: step_rows::held_in(&row[..2 * counts.links]),
         doubled_time: 0,
     };
     State {
@@ -118,7 +120,7 @@ fn first_state(tables: &NetworkTables, waiting: &[u32], row: &[u32]) -> State
             plan_at: 0,
         },
         totals,
-        outside: step_rows::sum_of(waiting, 0, counts.links),
+        outside: step_rows::sum_of(&waiting[..counts.links]),
     }
 }
 
@@ -142,7 +144,7 @@ fn next_state(
         &lines.asked,
         step[0],
     );
-    let outside = step_rows::sum_of(waiting, 0, counts.links);
+    let outside = step_rows::sum_of(&waiting[..counts.links]);
     let totals = add_step(
         state.totals,
         state.outside,
@@ -171,7 +173,7 @@ pub fn read_line(
 {
     // Not `is_empty`: a wrong program, which takes a text of one byte for an empty one, is made of this test.
     if plan.len() == 0 {
-        step_signals::hold_masks(signals, counts.signals, line);
+        step_signals::hold_masks(&signals[..counts.signals], line);
         return Some(at);
     }
     network_tables::read_row(plan, at, b'P', line, 0, counts.plan_width())
@@ -222,7 +224,7 @@ impl Run<'_> {
         let Some(place) = self.read_lines(state.place, signals, lines) else {
             return Err(Reason::PlanForm.refusal(n + 1, 0));
         };
-        step_rows::add_waiting(waiting, counts.links, &mut lines.step);
+        step_rows::add_waiting(&waiting[..counts.links], &mut lines.step);
         step_past::next_arrivals(self.tables, counts.past + n + 1, arrivals);
         let step = Step {
             counts,
@@ -242,8 +244,7 @@ impl Run<'_> {
         step_rows::write_row(
             ledger,
             row_start(n + 1, counts.links),
-            &row,
-            2 * counts.links,
+            &row[..2 * counts.links],
         );
         Ok(next_state(State { place, ..state }, lines, counts, signals, waiting))
     }
@@ -279,7 +280,7 @@ pub fn take_steps(
     let mut arrivals = [Arrival::default(); MAX_LINKS];
     // Each number of row 0 of a network that has passed fits (30).
     let _ = step_past::load_past(tables, ledger, &mut arrivals);
-    step_rows::first_waiting(tables.links, tables.reading.counts.links, waiting);
+    step_rows::first_waiting(&tables.links[..tables.reading.counts.links], waiting);
     let mut state = first_state(tables, waiting, ledger);
     let run = Run {
         plan,
