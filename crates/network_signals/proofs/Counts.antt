@@ -14,7 +14,8 @@ use Rattle.network_tables.specs.Rows.{RowRead}
 use Rattle.network_tables.specs.Tables.{Judged, CountsHold}
 use Rattle.network_tables.proofs.Blocks.{line-malformed, line-invalid, line-valid}
 use Rattle.network_tables.proofs.Stages.{judged-refused, judged-passed}
-use Rattle.network_signals.specs.Counts.{count_fields, counts_from, valid_counts_in, CountsHeld}
+use Rattle.network_tables.specs.Fields.{count_fields, counts_by}
+use Rattle.network_signals.specs.Counts.{valid_counts_in, CountsHeld}
 use Rattle.std.specs.Prelude.{Option, Some, None, Ok, Err}
 
 module _ {text old fields : List ℕ} {r : (Option ℕ)} (row : RowRead letter_n count_fields text 0 0 old r fields) where
@@ -22,7 +23,7 @@ module _ {text old fields : List ℕ} {r : (Option ℕ)} (row : RowRead letter_n
   unfolding count_checks
   counts-malformed e t = rw t (judged-refused (line-malformed row 0 2 0 (valid_counts (lines text)) (starts_first text) e))
 
-  module _ {next : ℕ} (e : r ≡ Some next) {counts : Counts} (c : counts ≡ counts_from fields) {v : Bool} (told : v ≡ valid_counts_in counts) where
+  module _ {next : ℕ} (e : r ≡ Some next) {counts : Counts} (c : counts ≡ counts_by (λ k. get_or fields k 0)) {v : Bool} (told : v ≡ valid_counts_in counts) where
     number_at : (k : ℕ) → k < count_fields → get_or fields k 0 ≡ entry (lines text) 0 k
     number_at k h = let z : k ≡ 0 + k = omega arith in ap (λ x. get_or fields x 0) z ∙ (row.held next e 0 (starts_first text)).numbers k h
 

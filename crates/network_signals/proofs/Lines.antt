@@ -1,5 +1,5 @@
 -- The calls and the returns of the function that reads one `G` line, each in the form of a need.
-use Rattle.base_laws.proofs.Kit.{ℕ, suc, ◌+◌, ◌*◌, ◌≤◌, ◌≡◌, sym, ap, ◌∙◌, Bool, true, false, not, List, dec_le, add-one, arith, leb-true, not-true, not-false, leb, length, get_or, set, replicate, length-replicate, get_or-replicate, List·getD-eq-default}
+use Rattle.base_laws.proofs.Kit.{ℕ, suc, ◌+◌, ◌*◌, ◌≤◌, ◌≡◌, sym, ap, ◌∙◌, Bool, true, false, List, dec_le, add-one, arith, leb-true, leb, length, get_or, set, replicate, length-replicate, get_or-replicate, List·getD-eq-default}
 use Rattle.base_search.specs.declared.Refusal.{Refusal}
 use Rattle.base_search.specs.Checks.{refusal, or_else, checked, verdict}
 use Rattle.text_reader.specs.Lines.{Line, lines, no_line, starts_as}
@@ -57,48 +57,48 @@ module _ {text : List ℕ} {reading : Reading} {r : ℕ} {signals : List Signal}
       let told : line + 1 ≡ suc (signal_line (lines text) r) = omega (arith, signal-line-is asked.counted r) in rw (t, told) (judged-refused e)
 
   -- the first seven fields
-  pub stop-head : not flag ≡ true → {after : List Signal} {q : Refusal} → q ≡ refusal 1 (line + 1) 0 → Judged (signal_checks (lines text) r) (SignalHeld text r signals after) (Err q)
-  stop-head n t = refused 1 0 t (not-head (lines text) r (sym (read.told (signal_line (lines text) r) asked.starts) ∙ not-true flag n))
+  pub stop-head : flag ≡ false → {after : List Signal} {q : Refusal} → q ≡ refusal 1 (line + 1) 0 → Judged (signal_checks (lines text) r) (SignalHeld text r signals after) (Err q)
+  stop-head n t = refused 1 0 t (not-head (lines text) r (sym (read.told (signal_line (lines text) r) asked.starts) ∙ n))
 
-  module _ (n : not flag ≡ false) {phases : ℕ} (p : phases ≡ get_or head 2 0) {valid : Bool} (v : valid ≡ within 2 phases 8) where
+  module _ (n : flag ≡ true) {phases : ℕ} (p : phases ≡ get_or head 2 0) {valid : Bool} (v : valid ≡ within 2 phases 8) where
     head-well : starts_as letter_g head_fields (get_or (lines text) (signal_line (lines text) r) no_line) ≡ true
-    head-well = sym (read.told (signal_line (lines text) r) asked.starts) ∙ not-false flag n
+    head-well = sym (read.told (signal_line (lines text) r) asked.starts) ∙ n
 
     phases-read : phases ≡ (signal (lines text) r).phases
     unfolding signal
-    phases-read = p ∙ read.numbers (not-false flag n) (signal_line (lines text) r) asked.starts 2 (omega arith)
+    phases-read = p ∙ read.numbers (n) (signal_line (lines text) r) asked.starts 2 (omega arith)
 
     phases-same : valid ≡ valid_phases (signal (lines text) r)
     unfolding valid_phases
     phases-same = rw (← phases-read) v
 
     -- the number of phases
-    pub stop-phases : not valid ≡ true → {after : List Signal} {q : Refusal} → q ≡ refusal 3 (line + 1) (r + 1) → Judged (signal_checks (lines text) r) (SignalHeld text r signals after) (Err q)
-    stop-phases m t = refused 3 (r + 1) t (rw add-one (not-phases (lines text) r head-well (sym phases-same ∙ not-true valid m)))
+    pub stop-phases : valid ≡ false → {after : List Signal} {q : Refusal} → q ≡ refusal 3 (line + 1) (r + 1) → Judged (signal_checks (lines text) r) (SignalHeld text r signals after) (Err q)
+    stop-phases m t = refused 3 (r + 1) t (rw add-one (not-phases (lines text) r head-well (sym phases-same ∙ m)))
 
-    module _ (m : not valid ≡ false) where
+    module _ (m : valid ≡ true) where
       phases-well : valid_phases (signal (lines text) r) ≡ true
-      phases-well = sym phases-same ∙ not-false valid m
+      phases-well = sym phases-same ∙ m
 
-      few-valid : phases ≤ 8
+      pub few-valid : phases ≤ 8
       unfolding within
-      few-valid = leb-true phases 8 (and_right (leb 2 phases) (leb phases 8) (sym v ∙ not-false valid m))
+      few-valid = leb-true phases 8 (and_right (leb 2 phases) (leb phases 8) (sym v ∙ m))
 
       head-size : length head ≡ signal_fields
       head-size = read.size ∙ ap length clear ∙ length-replicate {A = ℕ} signal_fields 0
 
       -- the whole line has at most 22 numbers
-      pub whole-fits : 0 + (head_fields + 2 * phases) ≤ length head
-      whole-fits = omega (arith, few-valid, head-size)
+      pub whole-fits : {width : ℕ} → width ≡ head_fields + 2 * phases → 0 + width ≤ length head
+      whole-fits w = omega (arith, few-valid, head-size)
 
-      module _ {fields : List ℕ} {result : (Option ℕ)} (row : RowRead letter_g (head_fields + 2 * phases) text reading.next 0 head result fields) where
+      module _ {width : ℕ} (w : width ≡ head_fields + 2 * phases) {fields : List ℕ} {result : (Option ℕ)} (row : RowRead letter_g width text reading.next 0 head result fields) where
         -- the rest of its form
         pub stop-form : result ≡ None → {after : List Signal} {q : Refusal} → q ≡ refusal 1 (line + 1) 0 → Judged (signal_checks (lines text) r) (SignalHeld text r signals after) (Err q)
         stop-form e t =
-            refused 1 0 t (not-form (lines text) r head-well phases-well (rw phases-read at (row.malformed e (signal_line (lines text) r) asked.starts)))
+            refused 1 0 t (not-form (lines text) r head-well phases-well (rw (w, phases-read) at (row.malformed e (signal_line (lines text) r) asked.starts)))
 
         module _ {next : ℕ} (e : result ≡ Some next) where
-          form : is_form (lines text) (signal_line (lines text) r) letter_g (head_fields + 2 * phases) ≡ true
+          form : is_form (lines text) (signal_line (lines text) r) letter_g width ≡ true
           form = (row.held next e (signal_line (lines text) r) asked.starts).form
 
           zero-past : (k : ℕ) → get_or old k 0 ≡ 0
@@ -110,10 +110,10 @@ module _ {text : List ℕ} {reading : Reading} {r : ℕ} {signals : List Signal}
           -- what the line lacks of eight phases is 0
           number_at : (k : ℕ) → get_or fields k 0 ≡ entry (lines text) (signal_line (lines text) r) k
           unfolding entry is_form
-          number_at k = elim (dec_le (head_fields + 2 * phases) k) [
+          number_at k = elim (dec_le width k) [
             | yes h ↦
                 row.above k (omega arith) ∙ read.above k (omega arith) ∙ zero-past k
-                ∙ sym (record-past letter_g (head_fields + 2 * phases) (get_or (lines text) (signal_line (lines text) r) no_line) form k h)
+                ∙ sym (record-past letter_g width (get_or (lines text) (signal_line (lines text) r) no_line) form k h)
             | no h ↦
                 let z : k ≡ 0 + k = omega arith in
                 ap (λ x. get_or fields x 0) z ∙ (row.held next e (signal_line (lines text) r) asked.starts).numbers k (omega arith)
@@ -133,18 +133,18 @@ module _ {text : List ℕ} {reading : Reading} {r : ℕ} {signals : List Signal}
               values : good ≡ valid_signal (signal (lines text) r)
               values = g ∙ ap valid_signal signal-here
 
-              pub stop-values : not good ≡ true → {after : List Signal} {refuse : Refusal} → refuse ≡ refusal 3 (line + 1) (r + 1)
+              pub stop-values : good ≡ false → {after : List Signal} {refuse : Refusal} → refuse ≡ refusal 3 (line + 1) (r + 1)
                   → Judged (signal_checks (lines text) r) (SignalHeld text r signals after) (Err refuse)
               stop-values b t =
                   refused 3 (r + 1) t
-                  (rw add-one (not-values (lines text) r head-well phases-well (rw phases-read at form) (sym values ∙ not-true good b)))
+                  (rw add-one (not-values (lines text) r head-well phases-well (rw (w, phases-read) at form) (sym values ∙ b)))
 
-              pub pass-line : not good ≡ false → {moved : Reading} → moved ≡ moved_to reading next
+              pub pass-line : good ≡ true → {moved : Reading} → moved ≡ moved_to reading next
                   → Judged (signal_checks (lines text) r) (SignalHeld text r signals (set signals r s)) (Ok moved)
               unfolding signal_line
               pass-line b t =
                   rw t
-                  (judged-passed (all-values (lines text) r head-well phases-well (rw phases-read at form) (sym values ∙ not-false good b))
+                  (judged-passed (all-values (lines text) r head-well phases-well (rw (w, phases-read) at form) (sym values ∙ b))
                   (record { table = ap (set signals r) signal-here; few = few; starts = rw on (row.held next e (signal_line (lines text) r) asked.starts).starts }))
                 where
                   on : 1 + (tram_count (lines text) + suc r) ≡ suc (1 + (tram_count (lines text) + r))

@@ -1,5 +1,5 @@
 -- A signal by its numbers: the tests of its values, and what the shortest time says.
-use Rattle.base_laws.proofs.Kit.{ℕ, zero, suc, ◌-◌, ◌≤◌, ◌<◌, ◌≡◌, refl, sym, ap, ◌∙◌, fun_ext, Bool, true, false, ◌&&◌, ◌||◌, not, and-true, and-false, and_assoc, List, add-one, arith, lt-leb, leb-true, leb-false, le-leb, leb, eqb, length, get_or, take, min}
+use Rattle.base_laws.proofs.Kit.{ℕ, zero, suc, ◌-◌, ◌≤◌, ◌≡◌, refl, sym, ap, ◌∙◌, fun_ext, Bool, true, false, ◌&&◌, ◌||◌, not, and-true, and_assoc, List, add-one, arith, lt-leb, leb-true, leb-false, le-leb, leb, eqb, length, get_or, take, min}
 use Rattle.std.specs.List.{fold}
 use Rattle.std.proofs.lemmas.List.Sums.{fold_more}
 use Rattle.text_reader.specs.Lines.{Line}
@@ -19,23 +19,19 @@ shortest-fold s (suc n) x h =
     rw (← add-one n, fold_more min x s.greatest n 0 (omega arith), shortest-fold s n x (omega arith)) refl
 
 -- a signal whose shown phase is none of its phases
-pub shown-below : (s : Signal) → s.shown < 1 → valid_signal s ≡ false
-unfolding valid_signal within ◌and◌
-shown-below s h = rw (lt-leb 1 s.shown h)
-
-pub shown-above : (s : Signal) → s.phases < s.shown → valid_signal s ≡ false
-unfolding valid_signal within ◌and◌
-shown-above s h = rw (lt-leb s.shown s.phases h, and-false)
+pub shown-none : (s : Signal) → within 1 s.shown s.phases ≡ false → valid_signal s ≡ false
+unfolding valid_signal ◌and◌
+shown-none s h = rw h
 
 -- one whose shown phase is one of them
-pub shown-within : (s : Signal) → 1 ≤ s.shown → s.shown ≤ s.phases → (times : Bool) → times ≡ valid_times s s.phases
+pub shown-within : (s : Signal) → within 1 s.shown s.phases ≡ true → (times : Bool) → times ≡ valid_times s s.phases
     → times && leb 1 s.least_cycle && (leb s.least_cycle s.greatest_cycle && leb s.greatest_cycle 3600)
     && leb s.shown_for (get_or s.greatest (s.shown - 1) 0)
     && (leb s.shown_for s.cycle_clock && leb s.cycle_clock s.greatest_cycle)
     && (not (eqb s.shown 1) || eqb s.cycle_clock s.shown_for)
     ≡ valid_signal s
 unfolding valid_signal within valid_time ◌and◌ ◌or◌
-shown-within s l h times e = rw (e, le-leb 1 s.shown l, le-leb s.shown s.phases h)
+shown-within s h times e = rw (e, h)
 
 -- what is at most the lesser of two numbers is at most both
 lesser-both : (x a b : ℕ) → leb x (min a b) ≡ leb x a and leb x b

@@ -79,10 +79,7 @@ fn valid_signal(signal: Signal) -> bool
     requires { signal.phases ≤ 8 }
     ensures { result ≡ valid_signal signal }
 {
-    if signal.shown < 1 {
-        return false;
-    }
-    if signal.phases < signal.shown {
+    if !(1..=signal.phases).contains(&signal.shown) {
         return false;
     }
     let at = signal.shown as usize - 1;

@@ -1,25 +1,48 @@
 -- `network_signals::read_signal` meets its contract.
-use Rattle.std.proofs.Common.{rules}
-use Rattle.network_signals.proofs.Lines.{stop-head, stop-phases, whole-fits, stop-form, few-phases, stop-values, pass-line}
+use Rattle.std.proofs.Common.{refl, ap, rules}
+use Rattle.model.specs.declared.Signal.{Signal}
+use Rattle.network_signals.proofs.Lines.{stop-head, stop-phases, few-valid, whole-fits, stop-form, few-phases, stop-values, pass-line}
 use Rattle.network_signals.proofs.read_signal.Goals as goal
 
 pub returns-then-not-read_head : goal.returns-then-not-read_head
 returns-then-not-read_head c = search (stop-head, rules)
 
 pub returns-then-not-valid_phases : goal.returns-then-not-valid_phases
-returns-then-not-valid_phases c = search (stop-phases, rules)
+returns-then-not-valid_phases c =
+    let phases = ap (λ (s : Signal). s.phases) c.from-head.ensures in
+    stop-phases c.requires refl c.read_head.ensures c.signal_line-line.ensures c.if-not-read_head.false phases c.valid_phases.ensures c.if-not-valid_phases.true
+    c.refusal-then-not-valid_phases.ensures
+
+pub width-width-requires : goal.width-width-requires
+width-width-requires c =
+    let phases = ap (λ (s : Signal). s.phases) c.from-head.ensures in
+    few-valid c.requires refl c.read_head.ensures c.signal_line-line.ensures c.if-not-read_head.false phases c.valid_phases.ensures c.if-not-valid_phases.false
 
 pub read_row-requires : goal.read_row-requires
-read_row-requires c = search (whole-fits, rules)
+read_row-requires c =
+    let phases = ap (λ (s : Signal). s.phases) c.from-head.ensures in
+    whole-fits c.requires refl c.read_head.ensures c.signal_line-line.ensures c.if-not-read_head.false phases c.valid_phases.ensures c.if-not-valid_phases.false c.width-width.ensures
 
 pub returns-in_default : goal.returns-in_default
-returns-in_default c = search (stop-form, rules)
+returns-in_default c =
+    let phases = ap (λ (s : Signal). s.phases) c.from-head.ensures in
+    stop-form c.requires refl c.read_head.ensures c.signal_line-line.ensures c.if-not-read_head.false phases c.valid_phases.ensures c.if-not-valid_phases.false c.width-width.ensures
+    c.read_row.ensures (search rules) c.refusal-in_default.ensures
 
 pub valid_signal-requires : goal.valid_signal-requires
-valid_signal-requires c = search (few-phases, rules)
+valid_signal-requires c =
+    let phases = ap (λ (s : Signal). s.phases) c.from-head.ensures in
+    few-phases c.requires refl c.read_head.ensures c.signal_line-line.ensures c.if-not-read_head.false phases c.valid_phases.ensures c.if-not-valid_phases.false c.width-width.ensures
+    c.read_row.ensures c.in-Some.is c.from-signal.ensures
 
 pub returns-then-not-valid_signal : goal.returns-then-not-valid_signal
-returns-then-not-valid_signal c = search (stop-values, rules)
+returns-then-not-valid_signal c =
+    let phases = ap (λ (s : Signal). s.phases) c.from-head.ensures in
+    stop-values c.requires refl c.read_head.ensures c.signal_line-line.ensures c.if-not-read_head.false phases c.valid_phases.ensures c.if-not-valid_phases.false c.width-width.ensures
+    c.read_row.ensures c.in-Some.is c.from-signal.ensures c.valid_signal.ensures c.if-not-valid_signal.true c.refusal-then-not-valid_signal.ensures
 
 pub returns : goal.returns
-returns c = search (pass-line, rules)
+returns c =
+    let phases = ap (λ (s : Signal). s.phases) c.from-head.ensures in
+    pass-line c.requires refl c.read_head.ensures c.signal_line-line.ensures c.if-not-read_head.false phases c.valid_phases.ensures c.if-not-valid_phases.false c.width-width.ensures
+    c.read_row.ensures c.in-Some.is c.from-signal.ensures c.valid_signal.ensures c.if-not-valid_signal.false c.moved_to.ensures
