@@ -52,14 +52,14 @@ module _ (network : List Line) (counts : Counts) (signals : List Signal) (times 
   unfolding step_length on_timeline
   seconds-same n h = rw c.past (seconds-is t (past_count network + n) (omega arith))
 
-  step-of : (v : Variable) → has_variable network v ≡ true → (1 ≤ step_of v) × (step_of v ≤ step_count network)
+  step-within : (v : Variable) → has_variable network v ≡ true → (1 ≤ step_of v) × (step_of v ≤ step_count network)
   unfolding has_variable step_of
-  step-of v h = grind (arith, tests, nat_tests)
+  step-within v h = grind (arith, tests, nat_tests)
 
   pub verdict-same : (listing : List Entry) → verdict (each (length listing) (entry_checks_by (has_in counts signals) (step_length_in counts times) listing)) ≡ verdict (listing_checks network listing)
   unfolding listing_checks
   verdict-same listing =
-      checks-same (has_in counts signals) (has_variable network) (step_length_in counts times) (step_length network) listing has_same (λ v h. seconds-same (step_of v - 1) (omega (arith, step-of v (sym (has_same v) ∙ h))))
+      checks-same (has_in counts signals) (has_variable network) (step_length_in counts times) (step_length network) listing has_same (λ v h. seconds-same (step_of v - 1) (omega (arith, step-within v (sym (has_same v) ∙ h))))
 
   module _ (listing : List Entry) (numbers seen : List (List ℕ)) (st : Stored (step_length_in counts times) listing (length listing) numbers seen) (n : ℕ) (h : n < step_count network) where
     abbrev row : List ℕ
