@@ -49,8 +49,8 @@ with_trams trams =
 abbrev waiting : String
 waiting = "N\t1\t0\t0\t3\t0\t1\nQ\t9000\t10\t500\t0\t0\t1000\t300\nH\t20\t2000\t500\nS\t10\t5000\nS\t20\t700\nS\t30\t80\n"
 
-abbrev carry_cases : List CarryCase
-carry_cases =
+abbrev cases : List CarryCase
+cases =
     -- ---- what is written; bytes past the text are kept, and a buffer of just its length is long enough
     record { network = the_network; plan = two; boundary = 2; ledger = 12; room = 159; text = string.◌++◌ later "777" }
     ∷ record { network = the_network; plan = two; boundary = 2; ledger = 12; room = 156; text = later }
@@ -93,7 +93,7 @@ carry_cases =
     ∷ record { network = the_network; plan = ""; boundary = 3; ledger = 16; room = 0; text = "R\t13\t3\t1\n" }
     ∷ []
 
-pub carry-cases : map outcome carry_cases ≡ map (λ (c : CarryCase). bytes c.text) carry_cases
+pub carry-cases : map outcome cases ≡ map (λ (c : CarryCase). bytes c.text) cases
 unfolding opened
 carry-cases = refl
 

@@ -176,8 +176,8 @@ module _ (network plan : List Line) (b size room : ℕ) (parted : Parted network
       abbrev C : List Line
       C = carried network first b
 
-      carried_steps : step_count C ≡ K - b
-      carried_steps = carried-steps network b holds parted.first parted.last first passed
+      steps-left : step_count C ≡ K - b
+      steps-left = carried-steps network b holds parted.first parted.last first passed
 
       pub back : next network first b ≡ C
       back = reads-back network b holds parted.first parted.last first passed
@@ -190,8 +190,8 @@ module _ (network plan : List Line) (b size room : ℕ) (parted : Parted network
           let z : b + 0 ≡ b = omega arith in
           let told : verdict (plan_checks C rest size) ≡ first_from (λ n. verdict (line_checks C rest n)) (K - b) 0 =
           lines-judged C rest size (carried-holds network b holds parted.first parted.last first passed)
-          (enough (step_count C) (link_count C) (omega (arith, carried_steps)) (carried-links network b holds parted.first parted.last first passed)) (rest-length ∙ sym carried_steps)
-          ∙ ap (λ n. first_from (λ n. verdict (line_checks C rest n)) n 0) carried_steps in
+          (enough (step_count C) (link_count C) (omega (arith, steps-left)) (carried-links network b holds parted.first parted.last first passed)) (rest-length ∙ sym steps-left)
+          ∙ ap (λ n. first_from (λ n. verdict (line_checks C rest n)) n 0) steps-left in
           let found : first_from whole_line (K - b) b ≡ later b (first_from (λ n. verdict (line_checks C rest n)) (K - b) 0) =
           rw z at (later_first b b whole_line (λ n. verdict (line_checks C rest n)) (K - b) 0 (λ k l w. carried-line network b holds parted.first parted.last first passed plan rest first-same-lines rest-same-lines k (omega arith))) in
           rw (back, told) found
@@ -231,10 +231,10 @@ module _ (network plan : List Line) (b size room : ℕ) (parted : Parted network
     passes = sym (carry-judged holds) ∙ (exactly.0 accepted).0
 
     pub rows : (n : ℕ) → n ≤ K - b → row (next network first b) rest n ≡ row network plan (b + n)
-    rows n h = rw (back holds passes) (row_same network plan (C holds passes) rest b (goes_on holds passes) (valid-network network holds) n (omega (arith, carried_steps holds passes)))
+    rows n h = rw (back holds passes) (row_same network plan (C holds passes) rest b (goes_on holds passes) (valid-network network holds) n (omega (arith, steps-left holds passes)))
 
     pub times : doubled_time (cut network b) first b + doubled_time (next network first b) rest (K - b) ≡ doubled_time network plan K
     times =
         let e : b + (K - b) ≡ K = omega (arith, parted.last) in
         rw (back holds passes, cut-time network b holds parted.first parted.last plan first first-same-lines b (omega arith))
-        (rw e at (times-add network plan (C holds passes) rest b (goes_on holds passes) (valid-network network holds) (K - b) (omega (arith, carried_steps holds passes))))
+        (rw e at (times-add network plan (C holds passes) rest b (goes_on holds passes) (valid-network network holds) (K - b) (omega (arith, steps-left holds passes))))

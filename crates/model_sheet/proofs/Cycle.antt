@@ -45,10 +45,10 @@ module _ (value : ℕ → ℕ) where
       go (inl e) ih = let j : k ≡ p = omega arith in rw (j, le-leb (E p) x l)
       go (inr w) ih = rw (lt-leb (E k) x (omega (arith, end-le (suc p) k (omega arith)))) (ih (omega arith) l u)
 
-  pub phase-from : (k x : ℕ) → (p : ℕ) × (phase_from value (suc k) x ≡ suc p) × (p < suc k) × (E p ≤ x) × (suc p < suc k → x < E (suc p))
+  pub phase-begun : (k x : ℕ) → (p : ℕ) × (phase_from value (suc k) x ≡ suc p) × (p < suc k) × (E p ≤ x) × (suc p < suc k → x < E (suc p))
   unfolding phase_from
-  phase-from zero x = (0, rw (le-leb (E 0) x (omega (arith, end-zero))), omega arith, omega (arith, end-zero), λ u. absurd (omega arith))
-  phase-from (suc j) x = go (dec_le (E (suc j)) x) (phase-from j x)
+  phase-begun zero x = (0, rw (le-leb (E 0) x (omega (arith, end-zero))), omega arith, omega (arith, end-zero), λ u. absurd (omega arith))
+  phase-begun (suc j) x = go (dec_le (E (suc j)) x) (phase-begun j x)
     where
       go : Dec (E (suc j) ≤ x) → ((p : ℕ) × (phase_from value (suc j) x ≡ suc p) × (p < suc j) × (E p ≤ x) × (suc p < suc j → x < E (suc p)))
           → (p : ℕ) × (cond (leb (E (suc j)) x) (suc (suc j)) (phase_from value (suc j) x) ≡ suc p) × (p < suc (suc j)) × (E p ≤ x) × (suc p < suc (suc j) → x < E (suc p))
@@ -79,7 +79,7 @@ module _ (value : ℕ → ℕ) where
       where
         go : (k : ℕ) → P ≡ k → (p : ℕ) × (phase_from value P (place_at value P t) ≡ suc p) × (p < P) × (E p ≤ place_at value P t) × (place_at value P t < E (suc p))
         go zero e = absurd (omega arith)
-        go (suc k) e = more (phase-from k (place_at value P t))
+        go (suc k) e = more (phase-begun k (place_at value P t))
           where
             x : ℕ
             x = place_at value P t

@@ -168,8 +168,8 @@ module _ (network sheet : List Line) (r : ℕ) (l : r < signal_count network) (w
   ordinary-at zero = refl
   ordinary-at (suc n) = all-ordinary network r w.no-tram n
 
-  phase-at : (n : ℕ) → n < step_count network → phase network plan r (suc n) ≡ sheet_phase network sheet n r
-  phase-at n h = phase-suc network plan r n (all-ordinary network r w.no-tram n) ∙ shown-is n h
+  phase-by-sheet : (n : ℕ) → n < step_count network → phase network plan r (suc n) ≡ sheet_phase network sheet n r
+  phase-by-sheet n h = phase-suc network plan r n (all-ordinary network r w.no-tram n) ∙ shown-is n h
 
   -- a run's next ordinary step is the next step
   next-is : (q a b : ℕ) → (run : Run network plan r q a b) → run.next ≡ suc b
@@ -192,10 +192,10 @@ module _ (network sheet : List Line) (r : ℕ) (l : r < signal_count network) (w
           → ((p : ℕ) × (sheet_phase network sheet (suc a) r ≡ suc p) × (p < phases_of network r) × (E p ≤ place (suc a)) × (place (suc a) < E (suc p)))
           → (d : ℕ) → b ≡ suc a + suc d → (p : ℕ) × (q ≡ suc p) × (p < phases_of network r) × (ordinary_seconds network r (suc a) b ≡ entry sheet r p)
       go (o, eo, _, _, _) (p, ep, up, _, _) d e =
-          let shown : (n : ℕ) → suc a ≤ n → n < b → sheet_phase network sheet n r ≡ q = λ n x y. sym (phase-at n (omega (arith, last))) ∙ run.shows (suc n) (omega arith) (omega arith) (ordinary-at (suc n)) in
+          let shown : (n : ℕ) → suc a ≤ n → n < b → sheet_phase network sheet n r ≡ q = λ n x y. sym (phase-by-sheet n (omega (arith, last))) ∙ run.shows (suc n) (omega arith) (omega arith) (ordinary-at (suc n)) in
           let eq : q ≡ suc p = sym (shown (suc a) (omega arith) (omega arith)) ∙ ep in
-          let before : o ≢ p = λ s. run.differs (phase-at a (omega (arith, last)) ∙ eo ∙ ap suc s ∙ sym eq) in
-          let after : sheet_phase network sheet (suc a + suc d) r ≢ suc p = λ s. run.left (ap (phase network plan r) (next-is q (suc a) b run) ∙ phase-at b last ∙ ap (λ n. sheet_phase network sheet n r) e ∙ s ∙ sym eq) in
+          let before : o ≢ p = λ s. run.differs (phase-by-sheet a (omega (arith, last)) ∙ eo ∙ ap suc s ∙ sym eq) in
+          let after : sheet_phase network sheet (suc a + suc d) r ≢ suc p = λ s. run.left (ap (phase network plan r) (next-is q (suc a) b run) ∙ phase-by-sheet b last ∙ ap (λ n. sheet_phase network sheet n r) e ∙ s ∙ sym eq) in
           let t = whole a p d o (omega (arith, last)) eo before (λ k l. shown (suc a + k) (omega arith) (omega arith) ∙ eq) after in
           let s = seconds-all network r (suc a) (suc d) (all-ordinary network r w.no-tram) in
           let v : ordinary_seconds network r (suc a) (suc a + suc d) ≡ entry sheet r p = omega arith in

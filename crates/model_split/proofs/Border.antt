@@ -107,10 +107,10 @@ module _ (network : List Line) (first : ℕ → Bool) where
     abbrev crossing_at : (ℕ → ℕ) → (ℕ → ℕ) → ℕ → ℕ
     crossing_at ends f i = sum (movement_count network) (λ j. only (crosses network first j and eqb (ends j) (suc i)) (f j))
 
-    crossing-at : (ends : ℕ → ℕ) → ((j k : ℕ) → j < movement_count network → k < movement_count network → crosses network first j ≡ true → crosses network first k ≡ true → ends k ≡ ends j → k ≡ j) → (i : ℕ)
+    crosses-at : (ends : ℕ → ℕ) → ((j k : ℕ) → j < movement_count network → k < movement_count network → crosses network first j ≡ true → crosses network first k ≡ true → ends k ≡ ends j → k ≡ j) → (i : ℕ)
         → Crossing ends (crossing_at ends) i
         ⊎ NoCrossing ends (crossing_at ends) i
-    crossing-at ends same i = go (find (movement_count network) test)
+    crosses-at ends same i = go (find (movement_count network) test)
       where
         test : ℕ → Bool
         test j = crosses network first j and eqb (ends j) (suc i)
@@ -133,13 +133,13 @@ module _ (network : List Line) (first : ℕ → Bool) where
             away j l e (inl c) = absurd (not-both (and_both _ _ c (eq-eqb (ends j) (suc i) e)) (none j l))
             away j l e (inr c) = c
 
-    pub crossing-from : (i : ℕ) → Crossing (from_link network) (crossing_from network first) i ⊎ NoCrossing (from_link network) (crossing_from network first) i
+    pub crosses-from : (i : ℕ) → Crossing (from_link network) (crossing_from network first) i ⊎ NoCrossing (from_link network) (crossing_from network first) i
     unfolding crossing_from
-    crossing-from i = crossing-at (from_link network) (λ j k l u c d e. (s.kinds j l c).alone k u e) i
+    crosses-from i = crosses-at (from_link network) (λ j k l u c d e. (s.kinds j l c).alone k u e) i
 
-    pub crossing-into : (i : ℕ) → Crossing (to_link network) (crossing_into network first) i ⊎ NoCrossing (to_link network) (crossing_into network first) i
+    pub crosses-into : (i : ℕ) → Crossing (to_link network) (crossing_into network first) i ⊎ NoCrossing (to_link network) (crossing_into network first) i
     unfolding crossing_into
-    crossing-into i = crossing-at (to_link network) (λ j k l u c d e. (s.kinds j l c).one k u d e) i
+    crosses-into i = crosses-at (to_link network) (λ j k l u c d e. (s.kinds j l c).one k u d e) i
 
     -- ---- both halves
     pub first-apart : Apart network first (first_half network first)

@@ -89,8 +89,8 @@ nowhere = rooms 0 0 0 0
 abbrev refused : String → String → ℕ → String → SplitCase
 refused network plan set text = record { network = network; plan = plan; set = set; room = nowhere; text = text }
 
-abbrev split_cases : List SplitCase
-split_cases =
+abbrev cases : List SplitCase
+cases =
     -- ---- what is written, into buffers of just its length
     record { network = the_network; plan = the_plan; set = 1; room = rooms 108 38 198 97; text = one "3000" "3000" & rest "3000" }
     -- the other way round signal 1, which has no links, and its tram line stay in the first half
@@ -150,7 +150,7 @@ split_cases =
     ∷ record { network = the_network; plan = the_plan; set = 1; room = rooms 108 38 198 96; text = "R\t42\t0\t0\n" }
     ∷ []
 
-pub split-cases : map outcome split_cases ≡ map (λ (c : SplitCase). bytes c.text) split_cases
+pub split-cases : map outcome cases ≡ map (λ (c : SplitCase). bytes c.text) cases
 unfolding opened
 split-cases = refl
 

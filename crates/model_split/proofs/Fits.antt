@@ -21,7 +21,7 @@ use Rattle.model_text.proofs.Formed.{formed-of-holds}
 use Rattle.model_split.specs.Numbering.{rank, picked}
 use Rattle.model_split.specs.Halves.{Half, in_field, link_number, signal_number, inside, follows, tram_numbers, signal_numbers, movement_numbers, crossing_into, border_in, border_out, link_numbers, step_numbers, half_numbers, plan_numbers, half_network, half_plan, half_network_text, half_plan_text}
 use Rattle.model_split.proofs.Numbering.{rank-le, ranked, picked-length, picked-at}
-use Rattle.model_split.proofs.Border.{Splittable, Crossing, NoCrossing, crossing-into}
+use Rattle.model_split.proofs.Border.{Splittable, Crossing, NoCrossing, crosses-into}
 use Rattle.model_split.proofs.Trams.{signal-there}
 use Rattle.model_split.proofs.Lines.{masks, admissions, exits, moves}
 use Rattle.model_split.proofs.HalfValid.{exit_small}
@@ -143,7 +143,7 @@ module _ (network plan : List Line) (first : ℕ → Bool) (h : Half) (holds : H
 
   -- a border volume is a field of the plan, and the link that it enters has no demand
   pub demand-small : (n i : ℕ) → n < step_count network → i < link_count network → demand network n i + border_in network first plan n i ≤ largest
-  demand-small n i l u = go (crossing-into network first s i)
+  demand-small n i l u = go (crosses-into network first s i)
     where
       go : Crossing network first (to_link network) (crossing_into network first) i ⊎ NoCrossing network first (to_link network) (crossing_into network first) i
           → demand network n i + border_in network first plan n i ≤ largest

@@ -21,14 +21,14 @@ use Rattle.model_split.proofs.Names.{counts_of, names_of}
 use Rattle.model_split.proofs.Tests.{Found, find}
 use Rattle.model_split.proofs.Numbering.{rank_rises, rank_lt, rank-le, ranked, ranked-all, renumbered, picked-length}
 use Rattle.model_split.proofs.Same.{IsHalf, Apart, inside-from, inside-to, from_parts, no-signal, its-signal}
-use Rattle.model_split.proofs.Border.{Splittable, Crossing, NoCrossing, crossing-from, not-inside}
+use Rattle.model_split.proofs.Border.{Splittable, Crossing, NoCrossing, crosses-from, not-inside}
 use Rattle.model_split.proofs.Movements.{Above, pairs-rise, last-zero, last_some}
 use Rattle.model_split.proofs.Trams.{signal-there, tram-signal}
 use Rattle.model_split.proofs.Lines.{half-trams, tram-line, signal-line, link-line, movement-line, step_line_lem, signal-kept, is-half}
 
 -- with the rate of a border movement an exit rate is still at most 10,000
 pub exit_small : (network : List Line) (first : ℕ → Bool) → ValidNetwork network → Splittable network first → (i : ℕ) → i < link_count network → exit_rate network i + border_rate network first i ≤ 10_000
-exit_small network first valid s i l = go (crossing-from network first s i)
+exit_small network first valid s i l = go (crosses-from network first s i)
   where
     go : Crossing network first (from_link network) (crossing_from network first) i ⊎ NoCrossing network first (from_link network) (crossing_from network first) i
         → exit_rate network i + border_rate network first i ≤ 10_000
@@ -107,8 +107,8 @@ module _ (network plan : List Line) (first : ℕ → Bool) (h : Half) (formed : 
     unfolding entry
     tram-number f = (tram-line network plan first h k l t).says f
 
-    new-signal : number new_tram 0 ≡ suc (rank h.has-signal (number (tram network k) 0 - 1))
-    new-signal = tram-number 0 ∙ (unfold tram_numbers in tram-signal network h formed valid k l)
+    signal-renumbered : number new_tram 0 ≡ suc (rank h.has-signal (number (tram network k) 0 - 1))
+    signal-renumbered = tram-number 0 ∙ (unfold tram_numbers in tram-signal network h formed valid k l)
 
     new-phase : number new_tram 1 ≡ number (tram network k) 1
     new-phase = tram-number 1 ∙ (unfold tram_numbers in refl)
@@ -127,14 +127,14 @@ module _ (network plan : List Line) (first : ℕ → Bool) (h : Half) (formed : 
     tram-there =
         let v : tram_exists R K (tram network k) ≡ true = unfold valid_tram in and_left _ _ (valid.trams k l) in
         let few = rank_lt h.has-signal (number (tram network k) 0 - 1) R (unfold follows in t) its-place in
-        rw (new-signal, new-first, new-last, half.steps)
+        rw (signal-renumbered, new-first, new-last, half.steps)
         (and_both _ _ (and_both _ _ (is_within 1 _ (signal_count N) (omega arith) (omega (arith, half.signals, few))) (and_right _ _ (and_left _ _ v))) (and_right _ _ v))
 
     tram-phase-valid : valid_tram_phase N (rank (follows network h) k) ≡ true
     unfolding valid_tram_phase
     tram-phase-valid =
         let x : suc (rank h.has-signal (number (tram network k) 0 - 1)) - 1 ≡ rank h.has-signal (number (tram network k) 0 - 1) = omega arith in
-        rw (new-signal, new-phase, x, half.signal-same (number (tram network k) 0 - 1) its-place (unfold follows in t)) (valid.tram-phases k l)
+        rw (signal-renumbered, new-phase, x, half.signal-same (number (tram network k) 0 - 1) its-place (unfold follows in t)) (valid.tram-phases k l)
 
   trams-apart : (j k : ℕ) → j < k → (l : k < tram_count network) (s : follows network h j ≡ true) (t : follows network h k ≡ true)
       → apart (tram N (rank (follows network h) j)) (tram N (rank (follows network h) k)) ≡ true
@@ -147,7 +147,7 @@ module _ (network plan : List Line) (first : ℕ → Bool) (h : Half) (formed : 
       let e : number (tram network k) 0 ≡ suc (b - 1) = omega (arith, o) in
       let f : eqb (suc (rank h.has-signal (a - 1))) (suc (rank h.has-signal (b - 1))) ≡ eqb a b =
       renumbered h.has-signal a (b - 1) (signal-there network h formed valid j m).0 (unfold follows in s) (unfold follows in t) ∙ ap (eqb a) (sym e) in
-      rw (new-signal j m s, new-first j m s, new-last j m s, new-signal k l t, new-first k l t, new-last k l t, f)
+      rw (signal-renumbered j m s, new-first j m s, new-last j m s, signal-renumbered k l t, new-first k l t, new-last k l t, f)
       (unfold apart in every-at k (λ i. apart (tram network i) (tram network k)) (unfold valid_tram in and_right _ _ (valid.trams k l)) j u)
 
   tram-valid : (k : ℕ) → k < tram_count network → follows network h k ≡ true → valid_tram N (rank (follows network h) k) ≡ true
@@ -282,7 +282,7 @@ module _ (network plan : List Line) (first : ℕ → Bool) (h : Half) (formed : 
           → eqb (last_movement N (movement_count N) (rank h.has-link i)) 0
           or eqb (sum (movement_count N) (λ j. only (eqb (from_link N j) (suc (rank h.has-link i))) (share N j))) 1000
           ≡ true
-      go (inl (j, u, e)) = or_right _ _ (eq-eqb _ _ (whole (or_cases _ _ (valid.shares i l)) (crossing-from network first s i)))
+      go (inl (j, u, e)) = or_right _ _ (eq-eqb _ _ (whole (or_cases _ _ (valid.shares i l)) (crosses-from network first s i)))
         where
           whole : (eqb (last_movement network M i) 0 ≡ true) ⊎ (eqb (sum M (λ j. only (eqb (from_link network j) (suc i)) (share network j))) 1000 ≡ true)
               → Crossing network first (from_link network) (crossing_from network first) i ⊎ NoCrossing network first (from_link network) (crossing_from network first) i

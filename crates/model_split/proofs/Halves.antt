@@ -14,7 +14,7 @@ use Rattle.model_split.specs.Halves.{Half, inside, crossing_into, crossing_from,
 use Rattle.model_split.proofs.Names.{counts_of, names_of}
 use Rattle.model_split.proofs.Numbering.{rank_lt, ranked-all}
 use Rattle.model_split.proofs.Same.{IsHalf, Apart, Small, rule10-same, rule11-same, rule12-same, rule13-same, rule14-same, rule15-same, rule16-same, rule17-same, rule18-same, rule25-is, rule26-same, rule27-same, rule29-same}
-use Rattle.model_split.proofs.Border.{Splittable, Crossing, NoCrossing, crossing-from, crossing-into, not-inside}
+use Rattle.model_split.proofs.Border.{Splittable, Crossing, NoCrossing, crosses-from, crosses-into, not-inside}
 use Rattle.model_split.proofs.Lines.{is-half}
 use Rattle.model_split.proofs.HalfValid.{exit_small}
 use Rattle.base_laws.proofs.Tests.{not-both}
@@ -58,7 +58,7 @@ module _ (network plan : List Line) (first : ℕ → Bool) (h : Half) (formed : 
 
   -- no border movement leaves the link of a movement that is inside
   no-crossing : (n j : ℕ) → j < M → ins j ≡ true → border_out network first plan n (from_link network j - 1) ≡ 0
-  no-crossing n j u t = go (crossing-from network first s (from_link network j - 1))
+  no-crossing n j u t = go (crosses-from network first s (from_link network j - 1))
     where
       go : Crossing network first (from_link network) (crossing_from network first) (from_link network j - 1) ⊎ NoCrossing network first (from_link network) (crossing_from network first) (from_link network j - 1)
           → border_out network first plan n (from_link network j - 1) ≡ 0
@@ -96,7 +96,7 @@ module _ (network plan : List Line) (first : ℕ → Bool) (h : Half) (formed : 
     let-out-limit n i l u = leb-true _ _ (unfold rule25 in (keeps n l).keeps25 i u)
 
     demands : (n i : ℕ) → n < K → i < L → demand network n i + border_in network first plan n i ≤ 600_000
-    demands n i l u = go (crossing-into network first s i)
+    demands n i l u = go (crosses-into network first s i)
       where
         go : Crossing network first (to_link network) (crossing_into network first) i ⊎ NoCrossing network first (to_link network) (crossing_into network first) i
             → demand network n i + border_in network first plan n i ≤ 600_000
@@ -108,7 +108,7 @@ module _ (network plan : List Line) (first : ℕ → Bool) (h : Half) (formed : 
         go (inr c) = omega (arith, c.nothing (moved network plan n), (step-limits network valid n l).demand-limit i u)
 
     exits : (n i : ℕ) → n < K → i < L → let_out network plan n i + border_out network first plan n i ≤ (exit_rate network i + border_rate network first i) * step_length network n
-    exits n i l u = go (crossing-from network first s i)
+    exits n i l u = go (crosses-from network first s i)
       where
         go : Crossing network first (from_link network) (crossing_from network first) i ⊎ NoCrossing network first (from_link network) (crossing_from network first) i
             → let_out network plan n i + border_out network first plan n i ≤ (exit_rate network i + border_rate network first i) * step_length network n

@@ -88,9 +88,9 @@ module _ (network plan : List Line) (first : ℕ → Bool) (h : Half) where
     unfolding entry
     no-entry k u = record-past letter_g _ _ (formed.signal-forms r l) k u
 
-    signal-number : (k : ℕ) → get_or (signal_numbers network h r) k 0 ≡ entry network (signal_line network r) k
+    signal-numbers-at : (k : ℕ) → get_or (signal_numbers network h r) k 0 ≡ entry network (signal_line network r) k
     unfolding signal_numbers
-    signal-number k = elim (dec_le (6 + 2 * (signal network r).phases) k) [
+    signal-numbers-at k = elim (dec_le (6 + 2 * (signal network r).phases) k) [
       | yes u ↦
           List·getD-eq-default (list (6 + 2 * (signal network r).phases) (entry network (signal_line network r))) 0 (omega (arith, list_length (6 + 2 * (signal network r).phases) (entry network (signal_line network r))))
           ∙ sym (no-entry k u)
@@ -98,7 +98,7 @@ module _ (network plan : List Line) (first : ℕ → Bool) (h : Half) where
     ]
 
     signal-entry : (k : ℕ) → entry N (signal_line N (new_signal r)) k ≡ entry network (signal_line network r) k
-    signal-entry k = (signal-line r l t).says k ∙ signal-number k
+    signal-entry k = (signal-line r l t).says k ∙ signal-numbers-at k
 
     pub signal-kept : signal N (new_signal r) ≡ signal network r
     unfolding signal
@@ -204,7 +204,7 @@ module _ (network plan : List Line) (first : ℕ → Bool) (h : Half) where
         capacity-same = λ i l t. unfold capacity link_numbers in (link-line i l t).says 0;
         travel-same = λ i l t. unfold travel_time link_numbers in (link-line i l t).says 1;
         exit-more = λ i l t. unfold exit_rate link_numbers in (link-line i l t).says 2;
-        signal-number = λ i l t. unfold signal_of link_numbers in (link-line i l t).says 3;
+        signal-of-other = λ i l t. unfold signal_of link_numbers in (link-line i l t).says 3;
         mask-same = λ i l t. unfold phase_mask link_numbers in (link-line i l t).says 4;
         standing-same = λ i l t. unfold standing link_numbers in (link-line i l t).says 5;
         waiting-same = λ i l t. unfold waiting_at_start link_numbers in (link-line i l t).says 6;

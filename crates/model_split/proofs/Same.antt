@@ -31,7 +31,7 @@ pub record IsHalf (network plan other rest : List Line) (first : ℕ → Bool) (
   pub capacity-same : (i : ℕ) → i < link_count network → h.has-link i ≡ true → capacity other (rank h.has-link i) ≡ capacity network i
   pub travel-same : (i : ℕ) → i < link_count network → h.has-link i ≡ true → travel_time other (rank h.has-link i) ≡ travel_time network i
   pub exit-more : (i : ℕ) → i < link_count network → h.has-link i ≡ true → exit_rate other (rank h.has-link i) ≡ exit_rate network i + border_rate network first i
-  pub signal-number : (i : ℕ) → i < link_count network → h.has-link i ≡ true → signal_of other (rank h.has-link i) ≡ signal_number h (signal_of network i)
+  pub signal-of-other : (i : ℕ) → i < link_count network → h.has-link i ≡ true → signal_of other (rank h.has-link i) ≡ signal_number h (signal_of network i)
   pub mask-same : (i : ℕ) → i < link_count network → h.has-link i ≡ true → phase_mask other (rank h.has-link i) ≡ phase_mask network i
   pub standing-same : (i : ℕ) → i < link_count network → h.has-link i ≡ true → standing other (rank h.has-link i) ≡ standing network i
   pub waiting-same : (i : ℕ) → i < link_count network → h.has-link i ≡ true → waiting_at_start other (rank h.has-link i) ≡ waiting_at_start network i
@@ -295,10 +295,10 @@ module _ (network plan other rest : List Line) (first : ℕ → Bool) (h : Half)
   -- ---- a link's signal
   module _ (i : ℕ) (u : i < L) (t : h.has-link i ≡ true) where
     pub no-signal : signal_of network i ≡ 0 → signal_of other (link i) ≡ 0
-    no-signal e = p.signal-number i u t ∙ (unfold signal_number in rw e)
+    no-signal e = p.signal-of-other i u t ∙ (unfold signal_number in rw e)
 
     pub its-signal : 1 ≤ signal_of network i → signal_of other (link i) ≡ suc (new_signal (signal_of network i - 1))
-    its-signal o = p.signal-number i u t ∙ (unfold signal_number in rw (ne_eqb (signal_of network i) 0 (λ e. omega arith)))
+    its-signal o = p.signal-of-other i u t ∙ (unfold signal_number in rw (ne_eqb (signal_of network i) 0 (λ e. omega arith)))
 
     open-same : (n : ℕ) → n < K → is_open other rest n (link i) ≡ is_open network plan n i
     unfolding is_open ◌or◌

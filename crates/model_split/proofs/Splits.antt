@@ -33,9 +33,9 @@ record CanSplit (network plan : List Line) (set : ℕ) : Type 0 where
   parted : Splittable network (in_set set)
   planned : FormedPlan network plan
 
-can-split : (network plan : List Line) (set : ℕ) → Hold (part_checks network plan set) → CanSplit network plan set
+split-allowed : (network plan : List Line) (set : ℕ) → Hold (part_checks network plan set) → CanSplit network plan set
 unfolding Hold part_checks form_checks
-can-split network plan set (holds, (forty, (fortyone, (forms, all)))) =
+split-allowed network plan set (holds, (forty, (fortyone, (forms, all)))) =
     record { holds = holds; parted = splittable network (in_set set) (and_right _ _ forty) fortyone; planned = record { forms = forms; all = eqb-true _ _ all } }
 
 module _ (whole : Texts) (set : ℕ) (passes : verdict (part_checks (network_of whole) (plan_for whole) set) ≡ Ok tt) where
@@ -54,7 +54,7 @@ module _ (whole : Texts) (set : ℕ) (passes : verdict (part_checks (network_of 
   open counts_of network use {K, L}
 
   can : CanSplit network plan set
-  can = can-split network plan set (hold-of-passes (part_checks network plan set) passes)
+  can = split-allowed network plan set (hold-of-passes (part_checks network plan set) passes)
 
   -- ---- a half reads back
   module _ (h : Half) where

@@ -20,7 +20,7 @@ use Rattle.model_split.specs.Halves.{Half, in_field, inside, crosses, crossing_i
 use Rattle.model_split.proofs.Names.{counts_of}
 use Rattle.model_split.proofs.Tests.{sum_one}
 use Rattle.model_split.proofs.Same.{Apart}
-use Rattle.model_split.proofs.Border.{Splittable, Crossing, NoCrossing, crossing-from, first-apart, second-apart}
+use Rattle.model_split.proofs.Border.{Splittable, Crossing, NoCrossing, crosses-from, first-apart, second-apart}
 use Rattle.model_split.proofs.Lines.{half-links, half-steps, admitted-written, let-out-written, plan-form, plan-length}
 use Rattle.model_split.proofs.Movements.{last_some}
 use Rattle.model_split.proofs.HalfValid.{half-holds}
@@ -145,9 +145,9 @@ module _ (network plan : List Line) (first : ℕ → Bool) (holds : Hold (networ
     border27 n = or_left _ _ (or_left _ _ (eq-eqb _ _ (s.kinds j u c).unsignalled))
 
     -- nothing comes to the entry of the link that it enters, so nothing is admitted there
-    border-in : (n : ℕ) → n < K → rule15 network plan n to ≡ true → admitted network plan n to ≡ 0
+    nothing-admitted : (n : ℕ) → n < K → rule15 network plan n to ≡ true → admitted network plan n to ≡ 0
     unfolding rule15 taken offered sum
-    border-in n l e =
+    nothing-admitted n l e =
         omega (
           arith,
           leb-true (sum n (λ k. admitted network plan k to) + admitted network plan n to) _ e,
@@ -169,17 +169,17 @@ module _ (network plan : List Line) (first : ℕ → Bool) (holds : Hold (networ
         (λ k w e. (s.kinds j u c).one k w (and_left _ _ e) (let x = eqb-true (to_link network k) (suc to) (and_right _ _ e) in omega (arith, x, to_is)))
 
   -- ---- what the halves' plans let out of a link, and admit on it
-  let-out-by : (n i : ℕ) → n < K → i < L → let_out_by network plan first n i ≡ in_field (let_out network plan n i + border_out network first plan n i)
+  let-out-field : (n i : ℕ) → n < K → i < L → let_out_by network plan first n i ≡ in_field (let_out network plan n i + border_out network first plan n i)
   unfolding first_half second_half
-  let-out-by n i l u = go (either_way (first i))
+  let-out-field n i l u = go (either_way (first i))
     where
       go : (first i ≡ true) ⊎ (first i ≡ false) → let_out_by network plan first n i ≡ in_field (let_out network plan n i + border_out network first plan n i)
       go (inl e) = rw e (let-out-written network plan first one n i l u e)
       go (inr e) = rw e (let-out-written network plan first two n i l u (true-not (first i) e))
 
-  admitted-by : (n i : ℕ) → n < K → i < L → admitted_by network plan first n i ≡ in_field (admitted network plan n i + border_in network first plan n i)
+  admitted-field : (n i : ℕ) → n < K → i < L → admitted_by network plan first n i ≡ in_field (admitted network plan n i + border_in network first plan n i)
   unfolding first_half second_half
-  admitted-by n i l u = go (either_way (first i))
+  admitted-field n i l u = go (either_way (first i))
     where
       go : (first i ≡ true) ⊎ (first i ≡ false) → admitted_by network plan first n i ≡ in_field (admitted network plan n i + border_in network first plan n i)
       go (inl e) = rw e (admitted-written network plan first one n i l u e)
@@ -198,8 +198,8 @@ module _ (network plan : List Line) (first : ℕ → Bool) (holds : Hold (networ
         }
 
     -- nothing else is let out at the border
-    border-out : (n j : ℕ) → n < K → j < M → crosses network first j ≡ true → let_out network plan n (from_link network j - 1) ≡ 0
-    border-out n j l u c =
+    nothing-let-out : (n j : ℕ) → n < K → j < M → crosses network first j ≡ true → let_out network plan n (from_link network j - 1) ≡ 0
+    nothing-let-out n j l u c =
         let a : let_out network plan n (from_link network j - 1) ≤ exit_rate network (from_link network j - 1) * step_length network n =
         leb-true _ _ (unfold rule25 in (t.lawful n l).keeps25 (from_link network j - 1) (from-there j u c)) in
         let b : let_out network plan n (from_link network j - 1) ≤ 0 * step_length network n = rw (s.kinds j u c).no-exit at a in
@@ -207,12 +207,12 @@ module _ (network plan : List Line) (first : ℕ → Bool) (holds : Hold (networ
 
     matched : Matched network plan first
     matched n j l u c =
-        let-out-by n (from_link network j - 1) l (from-there j u c) ∙ middle ∙ sym (admitted-by n (to_link network j - 1) l (to-there j u c))
+        let-out-field n (from_link network j - 1) l (from-there j u c) ∙ middle ∙ sym (admitted-field n (to_link network j - 1) l (to-there j u c))
       where
         middle : in_field (let_out network plan n (from_link network j - 1) + border_out network first plan n (from_link network j - 1))
             ≡ in_field (admitted network plan n (to_link network j - 1) + border_in network first plan n (to_link network j - 1))
         middle =
-            rw (at_from j u c (moved network plan n), at-to j u c (moved network plan n), border-out n j l u c, border-in j u c n l ((t.lawful n l).keeps15 (to_link network j - 1) (to-there j u c)))
+            rw (at_from j u c (moved network plan n), at-to j u c (moved network plan n), nothing-let-out n j l u c, nothing-admitted j u c n l ((t.lawful n l).keeps15 (to_link network j - 1) (to-there j u c)))
 
   -- ---- back: the whole keeps its rules
   module _ (keeps-one : (n : ℕ) → n < K → KeepsHalf network plan first one n) (keeps-two : (n : ℕ) → n < K → KeepsHalf network plan first two n) (match : Matched network plan first) (n : ℕ) (l : n < K) where
@@ -232,10 +232,10 @@ module _ (network plan : List Line) (first : ℕ → Bool) (holds : Hold (networ
     nothing-else : (j : ℕ) → j < M → crosses network first j ≡ true → let_out network plan n (from_link network j - 1) ≡ 0
     nothing-else j u c =
         same-field (let_out network plan n (from_link network j - 1)) (admitted network plan n (to_link network j - 1)) (moved network plan n j)
-        (rw (let-out-by n (from_link network j - 1) l (from-there j u c), admitted-by n (to_link network j - 1) l (to-there j u c), at_from j u c (moved network plan n), at-to j u c (moved network plan n)) at (match n j l u c))
+        (rw (let-out-field n (from_link network j - 1) l (from-there j u c), admitted-field n (to_link network j - 1) l (to-there j u c), at_from j u c (moved network plan n), at-to j u c (moved network plan n)) at (match n j l u c))
         (rw (at_from j u c (moved network plan n)) at (fits_out (from_link network j - 1) (from-there j u c)))
         (rw (at-to j u c (moved network plan n)) at (fits_in (to_link network j - 1) (to-there j u c)))
-        (border-in j u c n l (back15 (to_link network j - 1) (to-there j u c)))
+        (nothing-admitted j u c n l (back15 (to_link network j - 1) (to-there j u c)))
       where
         same-field : (x y m : ℕ) → in_field (x + m) ≡ in_field (y + m) → x + m ≤ largest → y + m ≤ largest → y ≡ 0 → x ≡ 0
         same-field x y m e a b z = let w : min (x + m) largest ≡ min (y + m) largest = unfold in_field in e in omega arith
@@ -248,7 +248,7 @@ module _ (network plan : List Line) (first : ℕ → Bool) (holds : Hold (networ
 
     back25 : (i : ℕ) → i < L → rule25 network plan n i ≡ true
     unfolding rule25
-    back25 i u = le-leb _ _ (go (crossing-from network first s i))
+    back25 i u = le-leb _ _ (go (crosses-from network first s i))
       where
         go : Crossing network first (from_link network) (crossing_from network first) i ⊎ NoCrossing network first (from_link network) (crossing_from network first) i
             → let_out network plan n i ≤ exit_rate network i * step_length network n

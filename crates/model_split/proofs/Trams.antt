@@ -19,10 +19,10 @@ abbrev phase_or : List Line → ℕ → ℕ → ℕ → ℕ
 phase_or [] r n d = d
 phase_or (t ∷ ts) r n d = cond (covers t r n) (number t 1) (phase_or ts r n d)
 
-phase-or : (ts : List Line) (r n : ℕ) → phase_or ts r n 0 ≡ tram_phase ts r n
+phase-or-none : (ts : List Line) (r n : ℕ) → phase_or ts r n 0 ≡ tram_phase ts r n
 unfolding tram_phase
-phase-or [] r n = refl
-phase-or (t ∷ ts) r n = ap (λ x. cond (covers t r n) (number t 1) x) (phase-or ts r n)
+phase-or-none [] r n = refl
+phase-or-none (t ∷ ts) r n = ap (λ x. cond (covers t r n) (number t 1) x) (phase-or-none ts r n)
 
 phase-append : (ts us : List Line) (r n d : ℕ) → phase_or (ts ++ us) r n d ≡ phase_or ts r n (phase_or us r n d)
 phase-append [] us r n d = refl
@@ -87,5 +87,5 @@ module _ (network : List Line) (h : Half) (formed : Formed network) (valid : Val
 
     pub half-phase : tram_phase (map (record_line letter_t) (picked (tram_count network) (follows network h) (tram_numbers network h))) new_signal n ≡ tram_phase (trams network) r n
     half-phase =
-        sym (phase-or _ new_signal n) ∙ first-lines (tram_count network) 0 (omega arith)
-        ∙ ap (λ ts. phase_or ts r n 0) (take_all (tram_count network) (trams network) (omega (arith, trams-length network formed))) ∙ phase-or (trams network) r n
+        sym (phase-or-none _ new_signal n) ∙ first-lines (tram_count network) 0 (omega arith)
+        ∙ ap (λ ts. phase_or ts r n 0) (take_all (tram_count network) (trams network) (omega (arith, trams-length network formed))) ∙ phase-or-none (trams network) r n
