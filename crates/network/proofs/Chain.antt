@@ -1,5 +1,5 @@
 -- The stages of a network's reading, one after another: where one is refused, so is the network; and what each asks of those before it.
-use Rattle.base_laws.proofs.Kit.{ℕ, ◌≡◌, sym, ◌∙◌, List}
+use Rattle.base_laws.proofs.Kit.{ℕ, ◌≡◌, sym, ◌∙◌, List, take}
 use Rattle.base_search.specs.declared.Refusal.{Refusal}
 use Rattle.base_search.specs.Checks.{Checks, each, ◌then◌, verdict, Verdict}
 use Rattle.base_search.proofs.Laws.{hold-of-passes}
@@ -9,6 +9,7 @@ use Rattle.model.specs.Network.{link_count}
 use Rattle.model.specs.Table.{count_checks, share_checks, network_checks}
 use Rattle.network_tables.specs.declared.Link.{Link}
 use Rattle.network_tables.specs.declared.Movement.{Movement}
+use Rattle.network_tables.specs.declared.NetworkTables.{NetworkTables}
 use Rattle.network_tables.specs.declared.Reading.{Reading}
 use Rattle.network_tables.specs.Blocks.{block_checks, link_block, movement_block}
 use Rattle.network_tables.specs.Tables.{Judged}
@@ -18,8 +19,8 @@ use Rattle.network_signals.specs.Stages.{SignalsHeld}
 use Rattle.network_links.specs.Movements.{share_checks_in}
 use Rattle.network_links.specs.Stages.{LinksAsked, LinksHeld, MovementsAsked, MovementsHeld, SharesAsked}
 use Rattle.network_links.proofs.Movements.{shares-asked, shares-checked}
-use Rattle.network.specs.Loading.{first_checks, FirstAsked, end_checks, timeline_checks, TimelineAsked, TimelineHeld, Rooms, Loaded}
-use Rattle.network.proofs.Left.{on, stop}
+use Rattle.network.specs.Loading.{first_checks, FirstAsked, end_checks, timeline_checks, TablesJudged, TimelineAsked, TimelineHeld, Rooms, LoadedFrom}
+use Rattle.network.proofs.Left.{on, stop, tables-refused}
 use Rattle.network.proofs.First.{first-joined}
 use Rattle.network.proofs.Timeline.{link-limits}
 use Rattle.std.specs.Prelude.{Result, Ok, Err}
@@ -48,8 +49,8 @@ module _ (text : List ℕ) where
 -- ---- the stages
 module _ {text : List ℕ} {signals₀ : List Signal} {links₀ : List Link} {movements₀ : List Movement} {times₀ : List ℕ} (room : Rooms signals₀ links₀ movements₀ times₀)
     {counts : Result Reading Refusal} (j : Judged (count_checks (lines text)) (CountsHeld text) counts) where
-  pub counts-stop : {Held : Reading → Type 0} {r : Refusal} → counts ≡ Err r → Judged (network_checks (lines text)) Held (Err r)
-  counts-stop e = stop (network_checks (lines text)) _ (from_signals text) (whole text) (verdict-refused j e)
+  pub counts-stop : {Held : NetworkTables → Type 0} {r : Refusal} → counts ≡ Err r → TablesJudged (network_checks (lines text)) Held (Err r)
+  counts-stop e = tables-refused (stop (network_checks (lines text)) _ (from_signals text) (whole text) (verdict-refused j e))
 
   module _ {at_signals : Reading} (e₁ : counts ≡ Ok at_signals) where
     pub signals-asked : FirstAsked text at_signals signals₀
@@ -59,8 +60,8 @@ module _ {text : List ℕ} {signals₀ : List Signal} {links₀ : List Link} {mo
     left₁ = on (network_checks (lines text)) _ (from_signals text) (whole text) (verdict-passed j e₁)
 
     module _ {signals : List Signal} {signalled : Result Reading Refusal} (j₁ : Judged (first_checks (lines text)) (SignalsHeld text signals) signalled) where
-      pub signals-stop : {Held : Reading → Type 0} {r : Refusal} → signalled ≡ Err r → Judged (network_checks (lines text)) Held (Err r)
-      signals-stop e = stop (network_checks (lines text)) _ (from_links text) left₁ (verdict-refused j₁ e)
+      pub signals-stop : {Held : NetworkTables → Type 0} {r : Refusal} → signalled ≡ Err r → TablesJudged (network_checks (lines text)) Held (Err r)
+      signals-stop e = tables-refused (stop (network_checks (lines text)) _ (from_links text) left₁ (verdict-refused j₁ e))
 
       module _ {at_links : Reading} (e₂ : signalled ≡ Ok at_links) where
         pub links-asked : LinksAsked text at_links signals links₀
@@ -70,8 +71,8 @@ module _ {text : List ℕ} {signals₀ : List Signal} {links₀ : List Link} {mo
         left₂ = on (network_checks (lines text)) _ (from_links text) left₁ (verdict-passed j₁ e₂)
 
         module _ {links : List Link} {linked : Result Reading Refusal} (j₂ : Judged (block_checks (link_block (lines text))) (LinksHeld text links) linked) where
-          pub links-stop : {Held : Reading → Type 0} {r : Refusal} → linked ≡ Err r → Judged (network_checks (lines text)) Held (Err r)
-          links-stop e = stop (network_checks (lines text)) _ (from_movements text) left₂ (verdict-refused j₂ e)
+          pub links-stop : {Held : NetworkTables → Type 0} {r : Refusal} → linked ≡ Err r → TablesJudged (network_checks (lines text)) Held (Err r)
+          links-stop e = tables-refused (stop (network_checks (lines text)) _ (from_movements text) left₂ (verdict-refused j₂ e))
 
           module _ {at_movements : Reading} (e₃ : linked ≡ Ok at_movements) where
             pub movements-asked : MovementsAsked text at_movements movements₀
@@ -81,22 +82,22 @@ module _ {text : List ℕ} {signals₀ : List Signal} {links₀ : List Link} {mo
             left₃ = on (network_checks (lines text)) _ (from_movements text) left₂ (verdict-passed j₂ e₃)
 
             module _ {movements : List Movement} {moved : Result Reading Refusal} (j₃ : Judged (block_checks (movement_block (lines text))) (MovementsHeld text movements) moved) where
-              pub movements-stop : {Held : Reading → Type 0} {r : Refusal} → moved ≡ Err r → Judged (network_checks (lines text)) Held (Err r)
-              movements-stop e = stop (network_checks (lines text)) _ (from_shares text) left₃ (verdict-refused j₃ e)
+              pub movements-stop : {Held : NetworkTables → Type 0} {r : Refusal} → moved ≡ Err r → TablesJudged (network_checks (lines text)) Held (Err r)
+              movements-stop e = tables-refused (stop (network_checks (lines text)) _ (from_shares text) left₃ (verdict-refused j₃ e))
 
               module _ {at_shares : Reading} (e₄ : moved ≡ Ok at_shares) where
-                pub shares-ready : SharesAsked movements at_shares.counts
+                pub shares-ready : SharesAsked (take at_shares.counts.movements movements) at_shares.counts
                 shares-ready = shares-asked (j₃.held _ e₄).reached.counted (j₃.held _ e₄).table
 
                 left₄ : Left text (from_shares text)
                 left₄ = on (network_checks (lines text)) _ (from_shares text) left₃ (verdict-passed j₃ e₄)
 
-                module _ {shared : Verdict} (told : shared ≡ verdict (each at_shares.counts.links (share_checks_in movements at_shares.counts))) where
+                module _ {shared : Verdict} (told : shared ≡ verdict (each at_shares.counts.links (share_checks_in (take at_shares.counts.movements movements) at_shares.counts))) where
                   checked : verdict (each (link_count (lines text)) (share_checks (lines text))) ≡ shared
                   checked = sym (told ∙ shares-checked (j₃.held _ e₄).reached.counted (j₃.held _ e₄).table)
 
-                  pub shares-stop : {Held : Reading → Type 0} {r : Refusal} → shared ≡ Err r → Judged (network_checks (lines text)) Held (Err r)
-                  shares-stop e = stop (network_checks (lines text)) _ (timeline_checks (lines text)) left₄ (checked ∙ e)
+                  pub shares-stop : {Held : NetworkTables → Type 0} {r : Refusal} → shared ≡ Err r → TablesJudged (network_checks (lines text)) Held (Err r)
+                  shares-stop e = tables-refused (stop (network_checks (lines text)) _ (timeline_checks (lines text)) left₄ (checked ∙ e))
 
                   module _ (e₅ : shared ≡ Ok tt) where
                     pub timeline-asked : TimelineAsked text at_shares links movements times₀
@@ -112,24 +113,30 @@ module _ {text : List ℕ} {signals₀ : List Signal} {links₀ : List Link} {mo
                     left₅ : Left text (timeline_checks (lines text))
                     left₅ = on (network_checks (lines text)) _ (timeline_checks (lines text)) left₄ (checked ∙ e₅)
 
-                    module _ {times : List ℕ} {timed : Result Reading Refusal} (j₅ : Judged (timeline_checks (lines text)) (TimelineHeld text times) timed) where
-                      pub network-judged : Judged (network_checks (lines text)) (Loaded text signals links movements times) timed
+                    module _ {timed : Result NetworkTables Refusal} (j₅ : TablesJudged (timeline_checks (lines text)) (TimelineHeld text links movements) timed) where
+                      pub network-judged : TablesJudged (network_checks (lines text)) (LoadedFrom text signals) timed
                       network-judged =
                           record {
-                            told = j₅.told ∙ sym left₅;
-                            held = λ after e.
-                                let held = j₅.held after e in
+                            passed = λ tables e. left₅ ∙ j₅.passed tables e;
+                            refused = λ r e. left₅ ∙ j₅.refused r e;
+                            held = λ tables e.
+                                let held = j₅.held tables e in
                                 record {
-                                  counted = held.counted;
-                                  trams-start = held.trams-start;
-                                  signals-start = held.signals-start;
-                                  past-start = held.past-start;
-                                  steps-start = held.steps-start;
-                                  signal-table = (j₁.held _ e₂).table;
-                                  few-phases = (j₁.held _ e₂).few;
-                                  link-table = (j₂.held _ e₃).table;
-                                  movement-table = (j₃.held _ e₄).table;
-                                  time-table = held.time-table;
-                                  holds = hold-of-passes (network_checks (lines text)) (left₅ ∙ verdict-passed j₅ e);
+                                  same-text = held.same-text;
+                                  loaded =
+                                      rw (held.same-text, held.same-links, held.same-movements)
+                                      (record {
+                                        counted = held.counted;
+                                        trams-start = held.trams-start;
+                                        signals-start = held.signals-start;
+                                        past-start = held.past-start;
+                                        steps-start = held.steps-start;
+                                        signal-table = (j₁.held _ e₂).table;
+                                        few-phases = (j₁.held _ e₂).few;
+                                        link-table = (j₂.held _ e₃).table;
+                                        movement-table = (j₃.held _ e₄).table;
+                                        time-table = held.time-table;
+                                        holds = hold-of-passes (network_checks (lines text)) (left₅ ∙ j₅.passed tables e);
+                                      });
                                 };
                           }

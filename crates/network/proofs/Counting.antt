@@ -8,20 +8,16 @@ use Rattle.model.specs.Table.{network_checks}
 use Rattle.model.specs.Calls.{check_network}
 use Rattle.model.specs.Guarantees.{NetworkPromises}
 use Rattle.model.proofs.Numbers.{network-promises}
-use Rattle.network_tables.specs.declared.Reading.{Reading}
-use Rattle.network_tables.specs.Tables.{Judged}
-use Rattle.network_tables.proofs.Stages.{verdict-passed, verdict-refused}
+use Rattle.network_tables.specs.declared.NetworkTables.{NetworkTables}
+use Rattle.network_tables.specs.Tables.{CountsHold}
 use Rattle.model.specs.declared.Signal.{Signal}
-use Rattle.network_tables.specs.declared.Link.{Link}
-use Rattle.network_tables.specs.declared.Movement.{Movement}
-use Rattle.network.specs.Loading.{Loaded}
+use Rattle.network.specs.Loading.{TablesJudged, LoadedFrom}
 use Rattle.network_tables.specs.declared.Counts.{Counts}
 use Rattle.network.specs.Counting.{counts_answer, count_network, CountPromises}
 use Rattle.std.specs.Prelude.{Result, Ok, Err}
 use Rattle.base_search.specs.Checks.{Verdict}
 
-module _ {text : List ℕ} {stage : Result Reading Refusal} {signals : List Signal} {links : List Link} {movements : List Movement} {times : List ℕ}
-    (got : Judged (network_checks (lines text)) (Loaded text signals links movements times) stage) where
+module _ {text : List ℕ} {signals : List Signal} {read : Result NetworkTables Refusal} (got : TablesJudged (network_checks (lines text)) (LoadedFrom text signals) read) where
   -- all that the call promises of its answer
   abbrev pub Promised : Result Counts Refusal → Type 0
   Promised answer = (answer ≡ count_network (lines text)) × (CountPromises answer × PaddingIgnored text (λ padded. answer ≡ count_network (lines padded)))
@@ -32,20 +28,21 @@ module _ {text : List ℕ} {stage : Result Reading Refusal} {signals : List Sign
       let told = a ∙ sym whole in
       (told, (kept, λ padded same. told ∙ ap count_network (same_lines text padded same)))
 
-  pub counted-told : {reading : Reading} → stage ≡ Ok reading → Promised (Ok reading.counts)
-  counted-told {reading} e =
-      let held = (got.held _ e).counted in
-      let same : Ok reading.counts ≡ counts_answer (lines text) (Ok tt) =
+  pub counted-told : {tables : NetworkTables} → read ≡ Ok tables → Promised (Ok tables.reading.counts)
+  counted-told {tables} e =
+      let from = got.held _ e in
+      let held : CountsHold (lines text) tables.reading.counts = rw from.same-text at from.loaded.counted in
+      let same : Ok tables.reading.counts ≡ counts_answer (lines text) (Ok tt) =
       unfold counts_answer in rw (← held.links) (rw (← held.signals) (rw (← held.movements) (rw (← held.steps) (rw (← held.trams) (rw (← held.past) refl))))) in
-      promised (Ok tt) _ (unfold check_network in verdict-passed got e) same
+      promised (Ok tt) _ (unfold check_network in got.passed _ e) same
       (record {
-        few = λ counts q. let it : reading.counts ≡ counts = cc in rw (← it) held.few;
+        few = λ counts q. let it : tables.reading.counts ≡ counts = cc in rw (← it) held.few;
         refused-number = λ r q. let z : ◌≡◌ {A = ℕ} 0 1 = cc in absurd (omega arith);
       })
 
-  pub refused-told : {r : Refusal} → stage ≡ Err r → Promised (Err r)
+  pub refused-told : {r : Refusal} → read ≡ Err r → Promised (Err r)
   refused-told {r} e =
-      let refused : check_network (lines text) ≡ Err r = unfold check_network in verdict-refused got e in
+      let refused : check_network (lines text) ≡ Err r = unfold check_network in got.refused _ e in
       promised (Err r) _ refused (unfold counts_answer in refl)
       (record {
         few = λ counts q. let z : ◌≡◌ {A = ℕ} 0 1 = cc in absurd (omega arith);

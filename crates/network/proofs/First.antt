@@ -1,5 +1,5 @@
 -- The `T` lines, the `G` lines and the trams' phases, one after another.
-use Rattle.base_laws.proofs.Kit.{ℕ, ◌≡◌, refl, sym, ap, ◌∙◌, List}
+use Rattle.base_laws.proofs.Kit.{ℕ, ◌≡◌, refl, sym, ap, ◌∙◌, List, take}
 use Rattle.base_search.specs.declared.Refusal.{Refusal}
 use Rattle.base_search.specs.Checks.{Checks, each, or_else, ◌then◌, verdict, Verdict}
 use Rattle.text_reader.specs.Lines.{Line, lines}
@@ -44,7 +44,7 @@ module _ (text : List ℕ) where
 
 module _ {text : List ℕ} {trams : List Tram} {tracked : Result Reading Refusal} (j : Judged (block_checks (tram_block (lines text))) (TramsHeld text trams) tracked) where
   pub trams-stop : {Held : Reading → Type 0} {r : Refusal} → tracked ≡ Err r → Judged (first_checks (lines text)) Held (Err r)
-  trams-stop e = stop (first_checks (lines text)) _ (from_signals text) refl (verdict-refused j e)
+  trams-stop e = judged-refused (stop (first_checks (lines text)) _ (from_signals text) refl (verdict-refused j e))
 
   module _ {at_signals : Reading} (e₁ : tracked ≡ Ok at_signals) where
     left₁ : verdict (first_checks (lines text)) ≡ verdict (from_signals text)
@@ -52,13 +52,13 @@ module _ {text : List ℕ} {trams : List Tram} {tracked : Result Reading Refusal
 
     module _ {signals : List Signal} {stage : Result Reading Refusal} (j₁ : Judged (block_checks (signal_block (lines text))) (SignalsHeld text signals) stage) where
       pub signals-stop : {Held : Reading → Type 0} {r : Refusal} → stage ≡ Err r → Judged (first_checks (lines text)) Held (Err r)
-      signals-stop e = stop (first_checks (lines text)) _ (from_phases text) left₁ (verdict-refused j₁ e)
+      signals-stop e = judged-refused (stop (first_checks (lines text)) _ (from_phases text) left₁ (verdict-refused j₁ e))
 
       module _ {at_phases : Reading} (e₂ : stage ≡ Ok at_phases) where
-        pub tram-phases-asked : PhasesAsked trams signals at_phases.counts
+        pub tram-phases-asked : PhasesAsked (take at_phases.counts.trams trams) signals at_phases.counts
         tram-phases-asked = phases-asked (j.held _ e₁) (j₁.held _ e₂).table (j₁.held _ e₂).reached.counted
 
-        module _ {said : Verdict} (told : said ≡ verdict (each at_phases.counts.trams (phase_checks_in trams signals at_phases.counts))) where
+        module _ {said : Verdict} (told : said ≡ verdict (each at_phases.counts.trams (phase_checks_in (take at_phases.counts.trams trams) signals at_phases.counts))) where
           left₂ : verdict (first_checks (lines text)) ≡ said
           left₂ = on (first_checks (lines text)) _ (from_phases text) left₁ (verdict-passed j₁ e₂) ∙ sym (told ∙ phases-checked (j.held _ e₁) (j₁.held _ e₂).table (j₁.held _ e₂).reached.counted)
 

@@ -1,4 +1,3 @@
-pub mod Loading
 mod Left
 mod End
 mod First

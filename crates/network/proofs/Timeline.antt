@@ -21,8 +21,8 @@ use Rattle.step_arrivals.proofs.Timed.{timed-table}
 use Rattle.step_past.specs.Curves.{PastForms}
 use Rattle.network_past.specs.Past.{FormsAsked, FormsHeld, past_end_checks, EndAsked as PastEndAsked}
 use Rattle.network_steps.specs.Steps.{StepsAsked, StepsHeld}
-use Rattle.network.specs.Loading.{end_checks, EndAsked, timeline_checks, TimelineAsked, TimelineHeld}
-use Rattle.network.proofs.Left.{on, stop}
+use Rattle.network.specs.Loading.{end_checks, EndAsked, TablesJudged, timeline_checks, TimelineAsked, TimelineHeld}
+use Rattle.network.proofs.Left.{on, stop, tables-refused, tables-passed}
 use Rattle.network.proofs.End.{lines-within}
 use Rattle.std.specs.Prelude.{Result, Ok, Err}
 
@@ -46,8 +46,8 @@ module _ {text : List ℕ} {reading : Reading} {links : List Link} {movements : 
   from_steps = block_checks (step_block (lines text)) then from_end
 
   module _ {times : List ℕ} {formed : Result Reading Refusal} (j : Judged (block_checks (past_block (lines text))) (FormsHeld text times) formed) where
-    pub forms-stop : {Held : Reading → Type 0} {r : Refusal} → formed ≡ Err r → Judged (timeline_checks (lines text)) Held (Err r)
-    forms-stop e = stop (timeline_checks (lines text)) _ from_steps refl (verdict-refused j e)
+    pub forms-stop : {Held : NetworkTables → Type 0} {r : Refusal} → formed ≡ Err r → TablesJudged (timeline_checks (lines text)) Held (Err r)
+    forms-stop e = tables-refused (stop (timeline_checks (lines text)) _ from_steps refl (verdict-refused j e))
 
     module _ {at_steps : Reading} (e₁ : formed ≡ Ok at_steps) where
       pub steps-asked : {demands : List ℕ} → demands ≡ replicate max_links 0 → StepsAsked text at_steps times demands
@@ -66,8 +66,8 @@ module _ {text : List ℕ} {reading : Reading} {links : List Link} {movements : 
       left₁ = on (timeline_checks (lines text)) _ from_steps refl (verdict-passed j e₁)
 
       module _ {times' demands' : List ℕ} {stepped : Result Reading Refusal} (j₁ : Judged (block_checks (step_block (lines text))) (StepsHeld text times' demands') stepped) where
-        pub steps-stop : {Held : Reading → Type 0} {r : Refusal} → stepped ≡ Err r → Judged (timeline_checks (lines text)) Held (Err r)
-        steps-stop e = stop (timeline_checks (lines text)) _ from_end left₁ (verdict-refused j₁ e)
+        pub steps-stop : {Held : NetworkTables → Type 0} {r : Refusal} → stepped ≡ Err r → TablesJudged (timeline_checks (lines text)) Held (Err r)
+        steps-stop e = tables-refused (stop (timeline_checks (lines text)) _ from_end left₁ (verdict-refused j₁ e))
 
         module _ {at_end : Reading} (e₂ : stepped ≡ Ok at_end) where
           held : StepsHeld text times' demands' at_end
@@ -84,22 +84,22 @@ module _ {text : List ℕ} {reading : Reading} {links : List Link} {movements : 
           left₂ = on (timeline_checks (lines text)) _ from_end left₁ (verdict-passed j₁ e₂)
 
           module _ {ended : Verdict} (told : ended ≡ verdict (end_checks (lines text))) where
-            pub end-stop : {Held : Reading → Type 0} {r : Refusal} → ended ≡ Err r → Judged (timeline_checks (lines text)) Held (Err r)
-            end-stop e = stop (timeline_checks (lines text)) _ (past_end_checks (lines text)) left₂ (sym told ∙ e)
+            pub end-stop : {Held : NetworkTables → Type 0} {r : Refusal} → ended ≡ Err r → TablesJudged (timeline_checks (lines text)) Held (Err r)
+            end-stop e = tables-refused (stop (timeline_checks (lines text)) _ (past_end_checks (lines text)) left₂ (sym told ∙ e))
 
             module _ (e₃ : ended ≡ Ok tt) where
-              pub past-asked : (tables : NetworkTables) → tables.reading ≡ at_end → tables.links.now ≡ links → tables.times.now ≡ times' → PastEndAsked text tables demands'
-              past-asked tables r l t =
+              pub past-asked : (tables : NetworkTables) → tables.text.now ≡ text → tables.reading ≡ at_end → tables.links.now ≡ links → tables.times.now ≡ times' → PastEndAsked tables demands'
+              past-asked tables x r l t =
                   record {
-                    counted = rw r held.reached.counted;
-                    past-start = rw r held.past-start;
-                    forms = past-forms (lines text) (verdict-passed j e₁);
-                    link-table = rw l asked.link-table;
-                    limits = asked.limits;
-                    told = rw r held.told;
-                    timed-all = rw (r, t) held.timed-all;
+                    counted = rw (x, r) held.reached.counted;
+                    past-start = rw (x, r) held.past-start;
+                    forms = rw x (past-forms (lines text) (verdict-passed j e₁));
+                    link-table = rw (x, l) asked.link-table;
+                    limits = rw x asked.limits;
+                    told = rw (x, r) held.told;
+                    timed-all = rw (x, r, t) held.timed-all;
                     demand-size = held.demand-room;
-                    demanded = held.demanded;
+                    demanded = rw x held.demanded;
                   }
 
               -- a past that is good is timed
@@ -111,17 +111,21 @@ module _ {text : List ℕ} {reading : Reading} {links : List Link} {movements : 
                 left₃ : verdict (timeline_checks (lines text)) ≡ said
                 left₃ = on (timeline_checks (lines text)) _ (past_end_checks (lines text)) left₂ (sym told ∙ e₃) ∙ sym past-told
 
-                pub past-stop : {Held : Reading → Type 0} {r : Refusal} → said ≡ Err r → Judged (timeline_checks (lines text)) Held (Err r)
-                past-stop e = judged-refused (left₃ ∙ e)
+                pub past-stop : {Held : NetworkTables → Type 0} {r : Refusal} → said ≡ Err r → TablesJudged (timeline_checks (lines text)) Held (Err r)
+                past-stop e = tables-refused (left₃ ∙ e)
 
-                pub timeline-judged : said ≡ Ok tt → Judged (timeline_checks (lines text)) (TimelineHeld text times') (Ok at_end)
-                timeline-judged e =
-                    judged-passed (left₃ ∙ e)
+                pub timeline-judged : said ≡ Ok tt → (tables : NetworkTables) → tables.text.now ≡ text → tables.reading ≡ at_end → tables.links.now ≡ links → tables.movements.now ≡ movements
+                    → tables.times.now ≡ times' → TablesJudged (timeline_checks (lines text)) (TimelineHeld text links movements) (Ok tables)
+                timeline-judged e tables x r l m t =
+                    tables-passed (left₃ ∙ e)
                     (record {
-                      counted = held.reached.counted;
-                      trams-start = held.reached.trams-start;
-                      signals-start = held.reached.signals-start;
-                      past-start = held.past-start;
-                      steps-start = held.steps-start;
-                      time-table = timed-table (rw (timed (sym past-told ∙ e)) at held.timed-all) (unfold on_timeline in omega arith);
+                      same-text = x;
+                      same-links = l;
+                      same-movements = m;
+                      counted = rw r held.reached.counted;
+                      trams-start = rw r held.reached.trams-start;
+                      signals-start = rw r held.reached.signals-start;
+                      past-start = rw r held.past-start;
+                      steps-start = rw r held.steps-start;
+                      time-table = rw t (timed-table (rw (timed (sym past-told ∙ e)) at held.timed-all) (unfold on_timeline in omega arith));
                     })

@@ -48,7 +48,8 @@ fn read_trams_and_signals(
     let mut trams = [Tram::default(); MAX_TRAMS];
     let reading = network_trams::read_trams(text, reading, &mut trams)?;
     let reading = network_signals::read_signals(text, reading, signals)?;
-    network_trams::check_tram_phases(&trams, signals, reading.counts)?;
+    let counts = reading.counts;
+    network_trams::check_tram_phases(&trams[..counts.trams], signals, counts)?;
     Ok(reading)
 }
 
@@ -93,7 +94,8 @@ pub fn read_network<'a>(
     let reading = read_trams_and_signals(text, reading, signals)?;
     let reading = network_links::read_links(text, reading, signals, links)?;
     let reading = network_links::read_movements(text, reading, movements)?;
-    network_links::check_shares(movements, reading.counts)?;
+    let counts = reading.counts;
+    network_links::check_shares(&movements[..counts.movements], counts)?;
     read_timeline(text, reading, links, movements, times)
 }
 

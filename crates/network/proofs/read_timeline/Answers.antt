@@ -22,7 +22,7 @@ returns-in_err-check_end c =
 
 pub check_past-requires : goal.check_past-requires
 check_past-requires c =
-    past-asked c.requires c.read_past.ensures c.in_ok-reading.was c.read_steps.ensures c.in_ok-reading-2.was c.check_end.ensures c.in_ok-check_end.was _ refl refl refl
+    past-asked c.requires c.read_past.ensures c.in_ok-reading.was c.read_steps.ensures c.in_ok-reading-2.was c.check_end.ensures c.in_ok-check_end.was _ refl refl refl refl
 
 pub returns-in_err-check_past : goal.returns-in_err-check_past
 returns-in_err-check_past c =
@@ -31,4 +31,4 @@ returns-in_err-check_past c =
 
 pub returns : goal.returns
 returns c =
-    timeline-judged c.requires c.read_past.ensures c.in_ok-reading.was c.read_steps.ensures c.in_ok-reading-2.was c.check_end.ensures c.in_ok-check_end.was c.check_past.ensures c.in_ok-check_past.was
+    timeline-judged c.requires c.read_past.ensures c.in_ok-reading.was c.read_steps.ensures c.in_ok-reading-2.was c.check_end.ensures c.in_ok-check_end.was c.check_past.ensures c.in_ok-check_past.was _ refl refl refl refl refl
