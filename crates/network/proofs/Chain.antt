@@ -1,5 +1,5 @@
 -- The stages of a network's reading, one after another: where one is refused, so is the network; and what each asks of those before it.
-use Rattle.base_laws.proofs.Kit.{ℕ, ◌≡◌, sym, ◌∙◌, List, take}
+use Rattle.base_laws.proofs.Kit.{ℕ, ◌≤◌, ◌≡◌, sym, ◌∙◌, List, arith, length, take, length-take-le}
 use Rattle.base_search.specs.declared.Refusal.{Refusal}
 use Rattle.base_search.specs.Checks.{Checks, each, ◌then◌, verdict, Verdict}
 use Rattle.base_search.proofs.Laws.{hold-of-passes}
@@ -86,6 +86,12 @@ module _ {text : List ℕ} {signals₀ : List Signal} {links₀ : List Link} {mo
               movements-stop e = tables-refused (stop (network_checks (lines text)) _ (from_shares text) left₃ (verdict-refused j₃ e))
 
               module _ {at_shares : Reading} (e₄ : moved ≡ Ok at_shares) where
+                pub movements-cut : (at_shares.counts.movements ≤ length movements) × (at_shares.counts.movements ≡ length (take at_shares.counts.movements movements))
+                movements-cut =
+                    let held = j₃.held _ e₄ in
+                    let room : at_shares.counts.movements ≤ length movements = omega (arith, held.table.size, held.reached.counted.few.movements) in
+                    (room, sym (length-take-le at_shares.counts.movements movements room))
+
                 pub shares-ready : SharesAsked (take at_shares.counts.movements movements) at_shares.counts
                 shares-ready = shares-asked (j₃.held _ e₄).reached.counted (j₃.held _ e₄).table
 

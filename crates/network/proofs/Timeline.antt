@@ -15,11 +15,11 @@ use Rattle.network_tables.specs.declared.Reading.{Reading}
 use Rattle.network_tables.specs.declared.NetworkTables.{NetworkTables}
 use Rattle.network_tables.specs.Blocks.{block_checks, link_block, past_block, step_block}
 use Rattle.network_tables.specs.Tables.{Judged}
-use Rattle.network_tables.proofs.Stages.{judged-refused, judged-passed, verdict-passed, verdict-refused}
+use Rattle.network_tables.proofs.Stages.{verdict-passed, verdict-refused}
 use Rattle.step_arrivals.specs.Timed.{valid_lengths}
 use Rattle.step_arrivals.proofs.Timed.{timed-table}
 use Rattle.step_past.specs.Curves.{PastForms}
-use Rattle.network_past.specs.Past.{FormsAsked, FormsHeld, past_end_checks, EndAsked as PastEndAsked}
+use Rattle.network_past.specs.Past.{FormsHeld, past_end_checks, EndAsked as PastEndAsked}
 use Rattle.network_steps.specs.Steps.{StepsAsked, StepsHeld}
 use Rattle.network.specs.Loading.{end_checks, EndAsked, TablesJudged, timeline_checks, TimelineAsked, TimelineHeld}
 use Rattle.network.proofs.Left.{on, stop, tables-refused, tables-passed}
