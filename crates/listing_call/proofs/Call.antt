@@ -1,5 +1,5 @@
 -- The stages of the call.
-use Rattle.base_laws.proofs.Kit.{ℕ, zero, suc, ◌≡◌, refl, sym, ap, ◌∙◌, List, [], arith, rules, length, get_or, take, replicate, length-replicate}
+use Rattle.base_laws.proofs.Kit.{ℕ, zero, suc, ◌≡◌, refl, sym, ap, ◌∙◌, List, [], arith, rules, length, length-drop, get_or, take, drop, replicate, length-replicate}
 use Rattle.std.proofs.lemmas.List.{get_or-replicate}
 use Rattle.base_search.specs.declared.Refusal.{Refusal}
 use Rattle.base_search.specs.Checks.{each, or_else, verdict, Hold, Verdict}
@@ -10,12 +10,13 @@ use Rattle.text_reader.specs.Lines.{Line, lines}
 use Rattle.text_reader.specs.Padding.{PaddingIgnored}
 use Rattle.text_reader.proofs.Padding.{same_lines}
 use Rattle.model.specs.declared.Signal.{Signal}
-use Rattle.model.specs.Network.{max_steps}
+use Rattle.model.specs.Network.{past_count, max_steps}
 use Rattle.model.specs.Table.{network_checks}
 use Rattle.model.proofs.Accepted.{valid-network}
 use Rattle.model.proofs.Limits.{counts as limits, step-limits}
 use Rattle.model.proofs.Numbers.{network-among}
 use Rattle.network_tables.specs.declared.Counts.{Counts}
+use Rattle.step_arrivals.specs.Arrivals.{seconds_in}
 use Rattle.network_tables.specs.declared.NetworkTables.{NetworkTables}
 use Rattle.network_tables.specs.Fields.{line_size}
 use Rattle.network.specs.Loading.{TablesJudged, Loaded, LoadedFrom}
@@ -24,7 +25,7 @@ use Rattle.model_text.specs.Answers.{text_answer, bytes_after, room_verdict, Tol
 use Rattle.model_text.proofs.Answers.{refused-of-answer, told-written}
 use Rattle.listing_call.specs.Listing.{listing_numbers, entry_checks_by, listing_checks, plan_text, write_checks, plan_from_listing, buffer_after}
 use Rattle.listing_call.specs.ReadsBack.{PlanGot}
-use Rattle.listing_call.specs.Tables.{has_in, step_length_in, step_bytes, RowsSized, TablesFit, Empty}
+use Rattle.listing_call.specs.Tables.{has_in, step_bytes, RowsSized, TablesFit, Empty}
 use Rattle.network_writer.specs.Plan.{plan_lines}
 use Rattle.listing_call.specs.Writing.{WriteGot}
 use Rattle.listing_call.proofs.Theorem.{text-some, text-meant, reads-back}
@@ -71,15 +72,15 @@ abbrev ListingWritten : List Line → List Entry → List ℕ → Result ℕ Ref
 ListingWritten network listing old answer new =
     Told (plan_text network listing) (or_else (verdict (listing_checks network listing)) (room_verdict 24 (plan_text network listing) old)) old answer new
 
-module _ {text : List ℕ} {signals : List Signal} {tables : NetworkTables} (from : LoadedFrom text signals tables) where
+module _ {text : List ℕ} {signals : List Signal} {tables : NetworkTables} (from : LoadedFrom text signals tables) {times : List ℕ} (since : times ≡ drop tables.reading.counts.past tables.times.now) where
   abbrev counts : Counts
   counts = tables.reading.counts
 
-  abbrev times : List ℕ
-  times = tables.times.now
-
-  loaded : Loaded text signals tables.links.now tables.movements.now times tables.reading
+  loaded : Loaded text signals tables.links.now tables.movements.now tables.times.now tables.reading
   loaded = rw from.same-text at from.loaded
+
+  since-past : times ≡ drop (past_count (lines text)) tables.times.now
+  since-past = rw loaded.counted.past at since
 
   pub tables-fit : TablesFit counts signals times
   tables-fit =
@@ -87,23 +88,22 @@ module _ {text : List ℕ} {signals : List Signal} {tables : NetworkTables} (fro
       let valid = valid-network (lines text) loaded.holds in
       record {
         few = c.few;
-        together = omega (arith, c.past, c.steps, (limits (lines text) valid).together);
         signal-room = loaded.signal-table.size;
         few-phases = λ r h. loaded.few-phases.few r (omega (arith, c.signals));
-        time-room = loaded.time-table.size;
-        short = λ n h. rw (seconds-same (lines text) counts signals times c loaded.signal-table loaded.time-table n (omega (arith, c.steps))) (step-limits (lines text) valid n (omega (arith, c.steps))).length-limit;
+        time-room = omega (arith, ap length since, length-drop counts.past tables.times.now, loaded.time-table.size, c.past, c.steps, (limits (lines text) valid).together);
+        short = λ n h. rw (seconds-same (lines text) counts signals tables.times.now times c loaded.signal-table loaded.time-table since-past n (omega (arith, c.steps))) (step-limits (lines text) valid n (omega (arith, c.steps))).length-limit;
       }
 
   network-written : (listing : List Entry) (old : List ℕ) (answer : Result ℕ Refusal) (new : List ℕ) → WriteGot counts signals times listing old answer new → ListingWritten (lines text) listing old answer new
   network-written listing old answer new w = go (verdict (listing_checks (lines text) listing)) refl
     where
-      same : verdict (each (length listing) (entry_checks_by (has_in counts signals) (step_length_in counts times) listing)) ≡ verdict (listing_checks (lines text) listing)
-      same = verdict-same (lines text) counts signals times loaded.counted loaded.signal-table loaded.time-table listing
+      same : verdict (each (length listing) (entry_checks_by (has_in counts signals) (seconds_in times) listing)) ≡ verdict (listing_checks (lines text) listing)
+      same = verdict-same (lines text) counts signals tables.times.now times loaded.counted loaded.signal-table loaded.time-table since-past listing
 
       go : (v : Verdict) → verdict (listing_checks (lines text) listing) ≡ v → Told (plan_text (lines text) listing) (or_else v (room_verdict 24 (plan_text (lines text) listing) old)) old answer new
       go (Ok tt) q =
           let k = w.passed (same ∙ q) in
-          let t : plan_lines k.0 counts ≡ plan_text (lines text) listing = text_same (lines text) counts signals times loaded.counted loaded.signal-table loaded.time-table listing k.0 k.1 k.2 in
+          let t : plan_lines k.0 counts ≡ plan_text (lines text) listing = text_same (lines text) counts signals tables.times.now times loaded.counted loaded.signal-table loaded.time-table since-past listing k.0 k.1 k.2 in
           or-passes (plan_text (lines text) listing) old answer new (rw t at k.3)
       go (Err r) q = let s = w.stopped r (same ∙ q) in or-refused (plan_text (lines text) listing) old answer new r s.0 s.1
 
@@ -136,7 +136,7 @@ module _ {text : List ℕ} {r : Result NetworkTables Refusal} {signals : List Si
     listing-written : (tables : NetworkTables) → r ≡ Ok tables → (answer : Result ℕ Refusal) (new : List ℕ) → ListingWritten (lines text) listing old answer new → PlanGot (lines text) listing old answer new
     unfolding write_checks verdict plan_from_listing buffer_after
     listing-written tables e answer new w =
-        let holds = (loaded (g.held tables e)).holds in
+        let holds = hold-of-passes (network_checks (lines text)) (g.passed tables e) in
         let o = or-else-passes (verdict (network_checks (lines text))) (or_else (verdict (listing_checks (lines text) listing)) (room_verdict 24 (plan_text (lines text) listing) old)) (g.passed tables e) in
         let t : answer ≡ plan_from_listing (lines text) listing (length old) = w.answered ∙ ap (text_answer (plan_text (lines text) listing)) (sym o) in
         record {
@@ -153,9 +153,9 @@ module _ {text : List ℕ} {r : Result NetworkTables Refusal} {signals : List Si
         passed : (end : ℕ) → answer ≡ Ok end → Hold (listing_checks (lines text) listing)
         passed end q = hold-of-passes (listing_checks (lines text) listing) (parts end q).0
 
-    pub plan-written : {tables : NetworkTables} → r ≡ Ok tables → {answer : Result ℕ Refusal} {new : List ℕ}
-        → WriteGot tables.reading.counts signals tables.times.now listing old answer new → PlanGot (lines text) listing old answer new
-    plan-written {tables} e {answer} {new} got = listing-written tables e answer new (network-written (g.held tables e) listing old answer new got)
+    pub plan-written : {tables : NetworkTables} → r ≡ Ok tables → {times : List ℕ} → times ≡ drop tables.reading.counts.past tables.times.now → {answer : Result ℕ Refusal} {new : List ℕ}
+        → WriteGot tables.reading.counts signals times listing old answer new → PlanGot (lines text) listing old answer new
+    plan-written {tables} e since {answer} {new} got = listing-written tables e answer new (network-written (g.held tables e) since listing old answer new got)
 
 -- the same of a network that differs only in padding
 pub padding-too : (text : List ℕ) {listing : List Entry} {old new : List ℕ} {answer : Result ℕ Refusal} → PlanGot (lines text) listing old answer new

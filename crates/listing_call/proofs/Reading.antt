@@ -12,13 +12,14 @@ use Rattle.base_laws.specs.Test.{◌and◌}
 use Rattle.base_laws.proofs.Sums.{sum_bound}
 use Rattle.model.specs.Network.{max_steps}
 use Rattle.network_tables.specs.declared.Counts.{Counts}
+use Rattle.step_arrivals.specs.Arrivals.{seconds_in}
 use Rattle.listing_lines.specs.declared.Variable.{Variable}
 use Rattle.listing_lines.specs.declared.Setting.{Setting}
 use Rattle.listing_lines.specs.Entry.{Entry, entries, read_at, EntryStarts}
 use Rattle.listing_lines.proofs.Lines.{Read, entry_first, entry-within, entry-end, read-sets, read-malformed}
 use Rattle.listing_call.specs.declared.Place.{Place}
 use Rattle.listing_call.specs.Listing.{step_of, valid_value, fits, line_at, set_before, formed_by, fits_by, entry_checks_by}
-use Rattle.listing_call.specs.Tables.{spot, Placed, has_in, step_length_in, mark_of, number_in, outcome, step_bits, bits, bit, Stored, TablesFit, Empty, ListingGot}
+use Rattle.listing_call.specs.Tables.{spot, Placed, has_in, mark_at, number_in, outcome, step_bits, bits, bit, Stored, TablesFit, Empty, ListingGot}
 use Rattle.listing_call.proofs.Tests.{tests}
 use Rattle.listing_call.proofs.Bits.{bits-few}
 use Rattle.listing_call.proofs.Places.{has-placed}
@@ -50,43 +51,43 @@ mark-test t x e = grind (arith, nat_tests)
 record Added (counts : Counts) (signals : List Signal) (times : List ℕ) (seen : List (List ℕ)) (s : Setting) (p : Place) (x : ℕ) : Type 0 where
   known : has_in counts signals s.variable ≡ true
   place : p ≡ spot s.variable
-  free : mark_of seen s.variable ≡ 0
-  adds : number_in s.variable s.millionths (step_length_in counts times (step_of s.variable - 1)) ≡ Some x
+  free : mark_at seen s.variable ≡ 0
+  adds : number_in s.variable s.millionths (seconds_in times (step_of s.variable - 1)) ≡ Some x
 
 module _ (counts : Counts) (signals : List Signal) (times : List ℕ) (seen : List (List ℕ)) where
   added : (line : ℕ) (s : Setting) (p : Place) (x : ℕ) → outcome counts signals times seen line s ≡ Ok (p, x) → Added counts signals times seen s p x
   unfolding outcome ◌and◌
   added line s p x e = grind (arith, nat_tests)
 
-  module _ (listing : List Entry) (i : ℕ) (numbers : List (List ℕ)) (kept : Stored (step_length_in counts times) listing i numbers seen) (s : Setting) (e : line_at listing i ≡ Some s)
+  module _ (listing : List Entry) (i : ℕ) (numbers : List (List ℕ)) (kept : Stored (seconds_in times) listing i numbers seen) (s : Setting) (e : line_at listing i ≡ Some s)
       (placed : has_in counts signals s.variable ≡ true → Placed s.variable) where
     formed-same : has_in counts signals s.variable and valid_value s.variable s.millionths and not (set_before listing i s.variable)
-        ≡ has_in counts signals s.variable and valid_value s.variable s.millionths and eqb (mark_of seen s.variable) 0
-    formed-same = let m : has_in counts signals s.variable ≡ true → not (set_before listing i s.variable) ≡ eqb (mark_of seen s.variable) 0 = λ h. mark-test _ _ (kept.marks s.variable (placed h)) in grind (arith, tests, m)
+        ≡ has_in counts signals s.variable and valid_value s.variable s.millionths and eqb (mark_at seen s.variable) 0
+    formed-same = let m : has_in counts signals s.variable ≡ true → not (set_before listing i s.variable) ≡ eqb (mark_at seen s.variable) 0 = λ h. mark-test _ _ (kept.marks s.variable (placed h)) in grind (arith, tests, m)
 
-    told : verdict (entry_checks_by (has_in counts signals) (step_length_in counts times) listing i) ≡ as_verdict (outcome counts signals times seen (suc i) s)
+    told : verdict (entry_checks_by (has_in counts signals) (seconds_in times) listing i) ≡ as_verdict (outcome counts signals times seen (suc i) s)
     unfolding entry_checks_by verdict outcome formed_by fits_by
-    told = rw (e, formed-same, fits_some s.variable s.millionths (step_length_in counts times (step_of s.variable - 1))) (outcome-told (suc i) _ (spot s.variable) _)
+    told = rw (e, formed-same, fits_some s.variable s.millionths (seconds_in times (step_of s.variable - 1))) (outcome-told (suc i) _ (spot s.variable) _)
 
 -- ---- the loop
 abbrev line_verdict : Counts → List Signal → List ℕ → List ℕ → ℕ → Verdict
-line_verdict counts signals times text i = verdict (entry_checks_by (has_in counts signals) (step_length_in counts times) (entries text) i)
+line_verdict counts signals times text i = verdict (entry_checks_by (has_in counts signals) (seconds_in times) (entries text) i)
 
 pub record Reading (counts : Counts) (signals : List Signal) (times text : List ℕ) (numbers seen : List (List ℕ)) (at line : ℕ) : Type 0 where
-  pub kept : Stored (step_length_in counts times) (entries text) line numbers seen
+  pub kept : Stored (seconds_in times) (entries text) line numbers seen
   pub starts : EntryStarts text at line
   pub passed : (k : ℕ) → k < line → line_verdict counts signals times text k ≡ Ok tt
   pub within : line ≤ length (entries text)
   pub few : line ≤ bits
 
 abbrev pub GotListing : Counts → List Signal → List ℕ → List ℕ → Verdict → List (List ℕ) → List (List ℕ) → Type 0
-GotListing counts signals times text r numbers seen = ListingGot (has_in counts signals) (step_length_in counts times) (entries text) r numbers seen
+GotListing counts signals times text r numbers seen = ListingGot (has_in counts signals) (seconds_in times) (entries text) r numbers seen
 
 module _ (counts : Counts) (signals : List Signal) (times text : List ℕ) (numbers seen : List (List ℕ)) where
   pub reading-none : Empty numbers seen → Reading counts signals times text numbers seen 0 0
   reading-none a =
       record {
-        kept = stored-none (step_length_in counts times) (entries text) numbers seen a;
+        kept = stored-none (seconds_in times) (entries text) numbers seen a;
         starts = entry_first text;
         passed = λ k l. absurd (omega arith);
         within = omega arith;
@@ -114,7 +115,7 @@ module _ (counts : Counts) (signals : List Signal) (times text : List ℕ) (numb
     module _ (h : at < length text) where
       pub reading-bad : read_at text at ≡ None → GotListing counts signals times text (Err (refusal 22 (i + 1) 0)) numbers seen
       reading-bad e =
-          rw add-one (refused (refusal 22 (suc i) 0) (entry-within text at i inv.starts h) (bad-line (has_in counts signals) (step_length_in counts times) (entries text) i (read-malformed text at i inv.starts e)))
+          rw add-one (refused (refusal 22 (suc i) 0) (entry-within text at i inv.starts h) (bad-line (has_in counts signals) (seconds_in times) (entries text) i (read-malformed text at i inv.starts e)))
 
       module _ (s : Setting) (next : ℕ) (e : read_at text at ≡ Some (s, next)) (fit : TablesFit counts signals times) where
         read : Read text at i s next
@@ -131,10 +132,10 @@ module _ (counts : Counts) (signals : List Signal) (times text : List ℕ) (numb
           adds : Added counts signals times seen s p x
           adds = added counts signals times seen (i + 1) s p x g
 
-          more : Grown (step_length_in counts times) (entries text) i numbers seen p x
+          more : Grown (seconds_in times) (entries text) i numbers seen p x
           more =
               rw adds.place
-              (grown (step_length_in counts times) (entries text) i numbers seen inv.kept s.variable s.millionths read.line (has-placed counts signals times fit s.variable adds.known) x adds.free adds.adds)
+              (grown (seconds_in times) (entries text) i numbers seen inv.kept s.variable s.millionths read.line (has-placed counts signals times fit s.variable adds.known) x adds.free adds.adds)
 
           pub adds-fit : get_or (get_or numbers p.step []) p.number 0 + x ≤ largest
           adds-fit = more.fits

@@ -14,7 +14,7 @@ use Rattle.listing_lines.specs.declared.Variable.TheVariants.{Shown, Admitted, L
 use Rattle.listing_lines.specs.Entry.{Entry, setting}
 use Rattle.listing_call.specs.Listing.{same, sets, millionths_of, step_of, one, volume, is_volume, line_at, set_before, value_before}
 use Rattle.listing_call.specs.declared.Place.{Place}
-use Rattle.listing_call.specs.Tables.{step_bits, step_bytes, RowsSized, bit_column, column, Placed, spot, bit_at, with_bit, mark_of, number_of, number_in, bit, has_volume, mask_before, Stored, Empty}
+use Rattle.listing_call.specs.Tables.{step_bits, step_bytes, RowsSized, bit_column, column, Placed, spot, bit_at, with_bit, mark_at, number_at, number_in, bit, has_volume, mask_before, Stored, Empty}
 use Rattle.listing_call.proofs.Bits.{bit-set, bit-other, bits_below, sum-change}
 use Rattle.listing_call.proofs.Places.{same-is, same_self, same-or-not, step-inside, bit-inside, column-inside, bit-same, volume-same, mask-only, shown-at}
 
@@ -160,7 +160,7 @@ module _ (seconds : ℕ → ℕ) (listing : List Entry) where
       no-bit n k = zero_bit (get_or seen n []) k (a.no-marks n (k / 8))
 
   module _ (i : ℕ) (numbers seen : List (List ℕ)) (s : Stored seconds listing i numbers seen) (w : Variable) (m : ℕ) (e : line_at listing i ≡ Some (setting w m)) (p : Placed w)
-      (x : ℕ) (free : mark_of seen w ≡ 0) (xq : number_in w m (seconds (step_of w - 1)) ≡ Some x) where
+      (x : ℕ) (free : mark_at seen w ≡ 0) (xq : number_in w m (seconds (step_of w - 1)) ≡ Some x) where
     -- the step of the line's variable, and the rows of that step
     abbrev here : ℕ
     here = step_of w - 1
@@ -193,10 +193,10 @@ module _ (seconds : ℕ → ℕ) (listing : List Entry) where
     mark-row = get_or-set_same seen here _ [] (omega (arith, step-inside w p, s.seen-room.steps))
 
     -- what is changed, and that all else stays
-    added : number_of numbers' w ≡ number_of numbers w + x
+    added : number_at numbers' w ≡ number_at numbers w + x
     added = rw number-row (get_or-set_same row (column w) (get_or row (column w) 0 + x) 0 number-room)
 
-    marked : mark_of seen' w ≡ 1
+    marked : mark_at seen' w ≡ 1
     marked = rw mark-row (bit-set bytes (bit_column w) bit-room)
 
     number-stays : (n k : ℕ) → (n ≡ here → k ≢ column w) → get_or (get_or numbers' n []) k 0 ≡ get_or (get_or numbers n []) k 0
@@ -211,7 +211,7 @@ module _ (seconds : ℕ → ℕ) (listing : List Entry) where
       | no q ↦ rw (get_or-set_other seen here n (with_bit bytes (bit_column w)) [] q)
     ]
 
-    marks-more : (v : Variable) → Placed v → mark_of seen' v ≡ bit (set_before listing (i + 1) v)
+    marks-more : (v : Variable) → Placed v → mark_at seen' v ≡ bit (set_before listing (i + 1) v)
     marks-more v q = elim (same-or-not v w) [
       | inl z ↦ rw z (marked ∙ sym (bit-true (set_before listing (i + 1) w) (set-now listing i w m e)))
       | inr d ↦
@@ -220,16 +220,16 @@ module _ (seconds : ℕ → ℕ) (listing : List Entry) where
     ]
 
     -- the number of a volume was 0
-    volume-old : has_volume w ≡ true → number_of numbers w ≡ 0
+    volume-old : has_volume w ≡ true → number_at numbers w ≡ 0
     volume-old h = s.volumes w p h ∙ ap (λ y. volume y (seconds here)) (value-unset listing i w unset) ∙ volume-none (seconds here)
 
-    volume-now : has_volume w ≡ true → number_of numbers' w ≡ volume (value_before listing (i + 1) w) (seconds here)
+    volume-now : has_volume w ≡ true → number_at numbers' w ≡ volume (value_before listing (i + 1) w) (seconds here)
     volume-now h =
         let y = (number-volume w m (seconds here) x h xq).0 in
-        let z : number_of numbers w + x ≡ volume m (seconds here) = omega (arith, volume-old h) in
+        let z : number_at numbers w + x ≡ volume m (seconds here) = omega (arith, volume-old h) in
         added ∙ z ∙ ap (λ t. volume t (seconds here)) (sym (value-now listing i w m e))
 
-    volumes-more : (v : Variable) → Placed v → has_volume v ≡ true → number_of numbers' v ≡ volume (value_before listing (i + 1) v) (seconds (step_of v - 1))
+    volumes-more : (v : Variable) → Placed v → has_volume v ≡ true → number_at numbers' v ≡ volume (value_before listing (i + 1) v) (seconds (step_of v - 1))
     volumes-more v q h = elim (same-or-not v w) [
       | inl z ↦ rw z (volume-now (ap has_volume (sym z) ∙ h))
       | inr d ↦
@@ -254,7 +254,7 @@ module _ (seconds : ℕ → ℕ) (listing : List Entry) where
         (λ t h d. ap (λ a. only (eqb a one) (2 ^ t)) (value-kept listing i w m e (Shown (suc r) (suc t) (suc n)) (λ vw. d (phase-same (suc r) t j (suc n) (vw ∙ q)))))
 
     -- the number of the mask of a signal, where the line names one of its phases
-    mask-old : (n r k : ℕ) → n < max_steps → r < max_signals → w ≡ Shown (suc r) (suc k) (suc n) → number_of numbers w ≡ mask_before listing i n r
+    mask-old : (n r k : ℕ) → n < max_steps → r < max_signals → w ≡ Shown (suc r) (suc k) (suc n) → number_at numbers w ≡ mask_before listing i n r
     mask-old n r k l h q = let z = shown-at w n r k q in rw (z.0, z.1) (s.masks n r l h)
 
     masks-more : (n r : ℕ) → n < max_steps → r < max_signals → get_or (get_or numbers' n []) r 0 ≡ mask_before listing (i + 1) n r
@@ -288,7 +288,7 @@ module _ (seconds : ℕ → ℕ) (listing : List Entry) where
           counted = counted-more;
         }
 
-    fits : (t : Bool) → has_volume w ≡ t → number_of numbers w + x ≤ largest
+    fits : (t : Bool) → has_volume w ≡ t → number_at numbers w + x ≤ largest
     fits true h = omega (arith, volume-old h, (number-volume w m (seconds here) x h xq).1)
     fits false h =
         let (n, r, j, l, a, d, v) = shown-parts w p h in

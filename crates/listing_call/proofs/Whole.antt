@@ -1,5 +1,6 @@
 -- Where the tables hold a network's numbers, what is judged and written by them is what the request says of the network.
-use Rattle.base_laws.proofs.Kit.{ℕ, suc, ◌+◌, ◌-◌, ◌≤◌, ◌<◌, ◌≡◌, refl, sym, ap, ap₂, ◌∙◌, Bool, true, List, [], ◌++◌, arith, length, get_or}
+use Rattle.base_laws.proofs.Kit.{ℕ, suc, ◌+◌, ◌-◌, ◌≤◌, ◌<◌, ◌≡◌, refl, sym, ap, ap₂, ◌∙◌, Bool, true, List, [], ◌++◌, arith, length, get_or, drop}
+use Rattle.std.proofs.lemmas.List.{get_or-drop}
 use Rattle.base_search.specs.Checks.{each, or_else, checked, verdict}
 use Rattle.base_search.proofs.Laws.{first-same}
 use Rattle.text_reader.specs.Lines.{Line}
@@ -18,8 +19,9 @@ use Rattle.listing_lines.specs.Entry.{Entry}
 use Rattle.std.proofs.lemmas.Bool.Decides.{nat_tests}
 use Rattle.listing_call.proofs.Tests.{tests}
 use Rattle.listing_call.specs.Listing.{step_of, volume, has_variable, line_at, value_before, value, formed_by, fits_by, entry_checks_by, listing_checks, mask_of, volume_of, plan_numbers, plan_text}
+use Rattle.step_arrivals.specs.Arrivals.{seconds_in}
 use Rattle.step_arrivals.proofs.Boundaries.{seconds-is}
-use Rattle.listing_call.specs.Tables.{column, step_length_in, number_of, has_in, Placed, has_volume, mask_before, Stored}
+use Rattle.listing_call.specs.Tables.{column, has_in, Placed, has_volume, mask_before, Stored}
 use Rattle.network_writer.specs.Plan.{column_in, plan_row, plan_lines}
 use Rattle.network_writer.proofs.Plan.{column-mask, column-admitted, column-let-out, column-moved}
 use Rattle.base_laws.proofs.Sums.{list_same, list-plus}
@@ -39,8 +41,9 @@ unfolding verdict entry_checks_by
 checks-same has has' sec sec' listing h s =
     first-same _ _ (length listing) 0 (λ k _ _. entry-same has has' sec sec' listing k (line_at listing k) h s)
 
--- ---- the tables of a network
-module _ (network : List Line) (counts : Counts) (signals : List Signal) (times : List ℕ) (c : CountsHold network counts) (p : SignalTable network signals) (t : TimeTable network times) where
+-- ---- the tables of a network, with the times from the plan's start on
+module _ (network : List Line) (counts : Counts) (signals : List Signal) (timeline times : List ℕ) (c : CountsHold network counts) (p : SignalTable network signals) (t : TimeTable network timeline)
+    (since : times ≡ drop (past_count network) timeline) where
   phases-same : (r : ℕ) → r < signal_count network → (signal_at signals r).phases ≡ (signal network r).phases
   phases-same r h = ap (λ (s : Signal). s.phases) (p.holds r h)
 
@@ -48,20 +51,22 @@ module _ (network : List Line) (counts : Counts) (signals : List Signal) (times 
   unfolding has_variable
   has_same v = grind (arith, tests, nat_tests, c.steps, c.signals, c.links, c.movements, phases-same)
 
-  pub seconds-same : (n : ℕ) → n < step_count network → step_length_in counts times n ≡ step_length network n
+  pub seconds-same : (n : ℕ) → n < step_count network → seconds_in times n ≡ step_length network n
   unfolding step_length on_timeline
-  seconds-same n h = rw c.past (seconds-is t (past_count network + n) (omega arith))
+  seconds-same n h =
+      let e : past_count network + (n + 1) ≡ past_count network + n + 1 = omega arith in
+      rw (since, get_or-drop (past_count network) timeline n 0, get_or-drop (past_count network) timeline (n + 1) 0, e) (seconds-is t (past_count network + n) (omega arith))
 
   step-within : (v : Variable) → has_variable network v ≡ true → (1 ≤ step_of v) × (step_of v ≤ step_count network)
   unfolding has_variable step_of
   step-within v h = grind (arith, tests, nat_tests)
 
-  pub verdict-same : (listing : List Entry) → verdict (each (length listing) (entry_checks_by (has_in counts signals) (step_length_in counts times) listing)) ≡ verdict (listing_checks network listing)
+  pub verdict-same : (listing : List Entry) → verdict (each (length listing) (entry_checks_by (has_in counts signals) (seconds_in times) listing)) ≡ verdict (listing_checks network listing)
   unfolding listing_checks
   verdict-same listing =
-      checks-same (has_in counts signals) (has_variable network) (step_length_in counts times) (step_length network) listing has_same (λ v h. seconds-same (step_of v - 1) (omega (arith, step-within v (sym (has_same v) ∙ h))))
+      checks-same (has_in counts signals) (has_variable network) (seconds_in times) (step_length network) listing has_same (λ v h. seconds-same (step_of v - 1) (omega (arith, step-within v (sym (has_same v) ∙ h))))
 
-  module _ (listing : List Entry) (numbers seen : List (List ℕ)) (st : Stored (step_length_in counts times) listing (length listing) numbers seen) (n : ℕ) (h : n < step_count network) where
+  module _ (listing : List Entry) (numbers seen : List (List ℕ)) (st : Stored (seconds_in times) listing (length listing) numbers seen) (n : ℕ) (h : n < step_count network) where
     abbrev row : List ℕ
     row = get_or numbers n []
 
@@ -73,7 +78,7 @@ module _ (network : List Line) (counts : Counts) (signals : List Signal) (times 
     unfolding volume_of value
     volume-here v x q a s e =
         let z : step_of v - 1 ≡ n = omega arith in
-        ap₂ (λ (m x : ℕ). get_or (get_or numbers m []) x 0) (sym z) e ∙ st.volumes v q a ∙ ap (volume (value_before listing (length listing) v)) (ap (step_length_in counts times) z ∙ seconds-same n h)
+        ap₂ (λ (m x : ℕ). get_or (get_or numbers m []) x 0) (sym z) e ∙ st.volumes v q a ∙ ap (volume (value_before listing (length listing) v)) (ap (seconds_in times) z ∙ seconds-same n h)
 
     admitted-same : (i : ℕ) → i < link_count network → get_or row (column_in counts (signal_count network + i)) 0 ≡ volume_of network listing n (Admitted (suc i) (suc n))
     unfolding has_volume step_of
@@ -108,7 +113,7 @@ module _ (network : List Line) (counts : Counts) (signals : List Signal) (times 
         (list_same (movement_count network) _ _ (λ j a. moved_same j a)))))
 
   -- what is written by the tables is the plan text
-  pub text_same : (listing : List Entry) (numbers seen : List (List ℕ)) → Stored (step_length_in counts times) listing (length listing) numbers seen → plan_lines numbers counts ≡ plan_text network listing
+  pub text_same : (listing : List Entry) (numbers seen : List (List ℕ)) → Stored (seconds_in times) listing (length listing) numbers seen → plan_lines numbers counts ≡ plan_text network listing
   unfolding plan_lines plan_text
   text_same listing numbers seen st =
       ap (λ (x : ℕ). record_texts letter_p x (λ n. plan_row (get_or numbers n []) counts)) c.steps

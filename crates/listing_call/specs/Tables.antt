@@ -10,7 +10,7 @@ use Rattle.model.specs.Network.{max_signals, max_steps, max_links, max_movements
 use Rattle.step_arrivals.specs.Arrivals.{seconds_in}
 use Rattle.network_tables.specs.declared.Counts.{Counts}
 use Rattle.network_tables.specs.Places.{Few}
-use Rattle.network_tables.specs.Fields.{line_size, time_table_size, signal_at}
+use Rattle.network_tables.specs.Fields.{line_size, signal_at}
 use Rattle.listing_lines.specs.declared.Variable.{Variable}
 use Rattle.listing_lines.specs.declared.Variable.TheVariants.{Shown, Admitted, LetOut, Moved}
 use Rattle.listing_lines.specs.declared.Setting.{Setting}
@@ -62,10 +62,6 @@ Placed (Moved j n) = (1 ≤ n) × (n ≤ max_steps) × (1 ≤ j) × (j ≤ max_m
 abbrev pub index_in : ℕ → ℕ → Option ℕ
 index_in number count = cond (within 1 number count) (Some (number - 1)) None
 
--- step n of the plan stands behind the past
-abbrev pub step_length_in : Counts → List ℕ → ℕ → ℕ
-step_length_in counts times n = seconds_in times (counts.past + n)
-
 abbrev pub has_in : Counts → List Signal → Variable → Bool
 has_in counts signals (Shown r k n) = within 1 r counts.signals and within 1 k (signal_at signals (r - 1)).phases and within 1 n counts.steps
 has_in counts signals (Admitted i n) = within 1 i counts.links and within 1 n counts.steps
@@ -97,11 +93,11 @@ abbrev pub with_bit : List ℕ → ℕ → List ℕ
 with_bit bytes k = set bytes (k / 8) (bit_or (get_or bytes (k / 8) 0) (2 ^ (k % 8)))
 
 -- ---- what the tables hold of a variable: its bit, and its number
-abbrev pub mark_of : List (List ℕ) → Variable → ℕ
-mark_of seen v = bit_at (get_or seen (step_of v - 1) []) (bit_column v)
+abbrev pub mark_at : List (List ℕ) → Variable → ℕ
+mark_at seen v = bit_at (get_or seen (step_of v - 1) []) (bit_column v)
 
-abbrev pub number_of : List (List ℕ) → Variable → ℕ
-number_of numbers v = get_or (get_or numbers (step_of v - 1) []) (column v) 0
+abbrev pub number_at : List (List ℕ) → Variable → ℕ
+number_at numbers v = get_or (get_or numbers (step_of v - 1) []) (column v) 0
 
 -- ---- numbers
 -- the bit of a phase in a mask
@@ -121,8 +117,8 @@ number_in (Moved j n) millionths seconds = volume_in millionths seconds
 -- what a line adds to which place, by the bits of the variables that were set before; or its refusal
 unfoldable pub outcome : Counts → List Signal → List ℕ → List (List ℕ) → ℕ → Setting → Result (Place × ℕ) Refusal
 outcome counts signals times seen line s =
-    cond (has_in counts signals s.variable and valid_value s.variable s.millionths and eqb (mark_of seen s.variable) 0)
-    (ok_or (option_map (λ x. (spot s.variable, x)) (number_in s.variable s.millionths (step_length_in counts times (step_of s.variable - 1)))) (refusal 23 line 0))
+    cond (has_in counts signals s.variable and valid_value s.variable s.millionths and eqb (mark_at seen s.variable) 0)
+    (ok_or (option_map (λ x. (spot s.variable, x)) (number_in s.variable s.millionths (seconds_in times (step_of s.variable - 1)))) (refusal 23 line 0))
     (Err (refusal 22 line 0))
 
 -- ---- the tables after the first i lines
@@ -141,19 +137,18 @@ mask_before listing i n r = sum 8 (λ k. only (eqb (value_before listing i (Show
 pub record Stored (seconds : ℕ → ℕ) (listing : List Entry) (i : ℕ) (numbers seen : List (List ℕ)) : Type 0 where
   pub number-room : RowsSized line_size numbers
   pub seen-room : RowsSized step_bytes seen
-  pub marks : (v : Variable) → Placed v → mark_of seen v ≡ bit (set_before listing i v)
+  pub marks : (v : Variable) → Placed v → mark_at seen v ≡ bit (set_before listing i v)
   pub masks : (n r : ℕ) → n < max_steps → r < max_signals → get_or (get_or numbers n []) r 0 ≡ mask_before listing i n r
-  pub volumes : (v : Variable) → Placed v → has_volume v ≡ true → number_of numbers v ≡ volume (value_before listing i v) (seconds (step_of v - 1))
+  pub volumes : (v : Variable) → Placed v → has_volume v ≡ true → number_at numbers v ≡ volume (value_before listing i v) (seconds (step_of v - 1))
   pub counted : sum max_steps (λ n. sum step_bits (bit_at (get_or seen n []))) ≡ i
 
 -- ---- what the functions ask and promise
 pub record TablesFit (counts : Counts) (signals : List Signal) (times : List ℕ) : Type 0 where
   pub few : Few counts
-  pub together : counts.past + counts.steps ≤ max_steps
   pub signal-room : length signals ≡ max_signals
   pub few-phases : (r : ℕ) → r < counts.signals → (signal_at signals r).phases ≤ 8
-  pub time-room : length times ≡ time_table_size
-  pub short : (n : ℕ) → n < counts.steps → step_length_in counts times n ≤ 60
+  pub time-room : counts.steps < length times
+  pub short : (n : ℕ) → n < counts.steps → seconds_in times n ≤ 60
 
 -- tables in which nothing is set yet
 pub record Empty (numbers seen : List (List ℕ)) : Type 0 where

@@ -6,10 +6,11 @@ ghost use Rattle.text_reader.specs.Lines.{lines};
 ghost use Rattle.text_reader.specs.Padding.{PaddingIgnored};
 ghost use Rattle.model.specs.Network.{max_steps};
 ghost use Rattle.network_tables.specs.Fields.{line_size};
+ghost use Rattle.step_arrivals.specs.Arrivals.{seconds_in};
 ghost use Rattle.listing_lines.specs.Entry.{entries};
 ghost use Rattle.listing_call.specs.Listing.{valid_value};
 ghost use Rattle.listing_call.specs.ReadsBack.{PlanGot};
-ghost use Rattle.listing_call.specs.Tables.{has_in, step_length_in, index_in, place_in, place_of, Inside, bit_at, with_bit, phase_bit, volume_in, number_in, outcome, TablesFit, step_bits, Empty, ListingGot};
+ghost use Rattle.listing_call.specs.Tables.{has_in, index_in, place_in, place_of, Inside, bit_at, with_bit, phase_bit, volume_in, number_in, outcome, TablesFit, step_bits, Empty, ListingGot};
 ghost use Rattle.listing_call.specs.Writing.{WriteGot};
 
 use base_search::{Reason, Refusal};
@@ -42,7 +43,8 @@ struct Place {
     number: usize,
 }
 
-// What a listing is judged by: the counts and the signals of a network, and the times of the timeline's boundaries. All are lent: no table is copied.
+// What a listing is judged by: the counts and the signals of a network, and the times of the boundaries from the plan's start on, of which only differences count.
+// All are lent: no table is copied.
 #[derive(Clone, Copy)]
 struct Tables<'a> {
     counts: Counts,
@@ -105,15 +107,6 @@ impl Tables<'_> {
         }
     }
 
-    // The length of a step.
-    fn seconds(&self, step: usize) -> u32
-        requires { step < self.now.counts.steps }
-        ensures value { result ≡ step_length_in self.now.counts self.now.times.now step }
-        ensures short { result ≤ 60 }
-    {
-        step_arrivals::seconds(self.times, self.counts.past + step)
-    }
-
     // What the line of this number adds to which place, by the bits of the variables that were set before; or its refusal.
     #[tactic(auto, using(crate::proofs::Tests::tests), unfolding(crate::specs::Tables::outcome, crate::specs::Listing::step_of))]
     fn judge(
@@ -134,7 +127,8 @@ impl Tables<'_> {
             return Err(malformed);
         }
         let unfit = Reason::ListingVolume.refusal(line, 0);
-        let number = number_of(setting, self.seconds(place.step)).ok_or(unfit)?;
+        let seconds = step_arrivals::seconds(self.times, place.step);
+        let number = number_of(setting, seconds).ok_or(unfit)?;
         Ok((place, number))
     }
 
@@ -146,7 +140,7 @@ impl Tables<'_> {
         seen: &mut [[u8; STEP_BYTES]],
     ) -> Result<(), Refusal>
         requires { Empty numbers.old seen.old }
-        ensures { ListingGot (has_in self.now.counts self.now.signals.now) (step_length_in self.now.counts self.now.times.now) (entries text.now) result numbers.new seen.new }
+        ensures { ListingGot (has_in self.now.counts self.now.signals.now) (seconds_in self.now.times.now) (entries text.now) result numbers.new seen.new }
     {
         let mut at = 0;
         let mut line = 0;
@@ -255,10 +249,11 @@ pub fn plan_from_listing(network: &[u8], listing: &[u8], out: &mut [u8]) -> Resu
         &mut movements,
         &mut times,
     )?;
+    let counts = loaded.reading.counts;
     let tables = Tables {
-        counts: loaded.reading.counts,
+        counts,
         signals: &signals,
-        times: loaded.times,
+        times: &loaded.times[counts.past..],
     };
     tables.write_listing(listing, out)
 }

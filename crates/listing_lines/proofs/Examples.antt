@@ -6,7 +6,7 @@ use Rattle.std.specs.Prelude.{Some, None, replicate}
 use Rattle.text_reader.specs.Field.{digit, digits, shift, decimal}
 use Rattle.listing_lines.specs.declared.Variable.{Variable}
 use Rattle.listing_lines.specs.declared.Variable.TheVariants.{Shown, Admitted, LetOut, Moved}
-use Rattle.listing_lines.specs.Entry.{Entry, split_once, digits_of, setting, entry_of, entries_of, entries}
+use Rattle.listing_lines.specs.Entry.{Entry, split_once, setting, entry_of, entries_of, entries}
 
 abbrev bytes : String → List ℕ
 bytes String.[] = []
