@@ -162,7 +162,7 @@ module _ (network plan : List Line) (old : List ℕ) (holds : Hold (plan_checks 
         record {
           queued = q - left network plan boundary i;
           in-transit = entered network plan boundary i - q;
-          told = sym same ∙ rw (entered-is boundary early, left_is, arrived-is) (sym (state-told (entered network plan boundary i) (left network plan boundary i) arrived refl refl gone refl come some refl));
+          told = sym same ∙ rw (entered-is boundary early, left_is, arrived-is) (sym (state-told (entered network plan boundary i) (left network plan boundary i) arrived refl gone come refl));
           arrived = rw all (test q ∙ le-leb (q * s) scaled (div-mul-le_self scaled s));
           no_more = rw all (test (q + 1) ∙ lt-leb ((q + 1) * s) scaled (omega (arith, lt-div-mul-add {a = scaled} some)));
           whole = omega (arith, low, high);

@@ -1,6 +1,8 @@
 -- What is read of one link in the past and in a ledger.
-use Rattle.base_laws.proofs.Kit.{ℕ, suc, ◌+◌, ◌*◌, ◌-◌, ◌/◌, ◌≤◌, ◌<◌, ◌≡◌, refl, sym, ap, ap₂, ◌∙◌, Bool, true, false, not, cond, List, [], mul-le-mul_right, dec_le, arith, le-leb, lt-leb, ltb-true, ltb-false, not-true, not-false, leb, ltb, eqb, length, get_or}
-use Rattle.base_search.specs.Checks.{refusal}
+use Rattle.base_laws.proofs.Kit.{ℕ, suc, ◌+◌, ◌*◌, ◌-◌, ◌/◌, ◌≤◌, ◌<◌, ◌≡◌, refl, sym, ap, ap₂, ◌∙◌, Bool, true, false, cond, List, [], mul-le-mul_right, dec_le, arith, le-leb, leb-true, ltb-true, ltb-false, leb, ltb, eqb, length, get_or}
+use Rattle.base_search.specs.Checks.{Verdict, refusal, checked}
+use Rattle.base_search.proofs.Laws.{checked-true}
+use Rattle.base_laws.proofs.Tests.{and_left, and_right}
 use Rattle.text_reader.specs.Lines.{Line, lines}
 use Rattle.base_laws.specs.Sum.{sum}
 use Rattle.base_laws.specs.Test.{◌and◌, ◌or◌}
@@ -17,7 +19,7 @@ use Rattle.network_tables.proofs.Tables.{travel-time-at, standing-at}
 use Rattle.step_arrivals.specs.Arrivals.{arrival_step_in, seconds_in, elapsed_in, scaled_in, Cursor}
 use Rattle.step_arrivals.proofs.Boundaries.{times-rise, cursor-on, arrival-is, elapsed-at, seconds-is}
 use Rattle.step_past.specs.declared.Arrival.{Arrival}
-use Rattle.step_past.specs.Curves.{ReadAsked, ReadOn}
+use Rattle.step_past.specs.Curves.{CurveTo, ReadAsked}
 use Rattle.step_past.proofs.Valid.{past-form, past_fits}
 use Rattle.plan_link_state.specs.declared.Arrived.{Arrived}
 use Rattle.plan_link_state.specs.State.{Tabled, ArrivedAsked, OverAsked, EnteredOver, arrived_in, state_from}
@@ -39,29 +41,29 @@ arrived-of false true stood seconds over x y p q start stop f g h = rw ((g refl 
 arrived-of false false stood seconds over x y p q start stop f g h = rw ((h refl refl).0, (h refl refl).1)
 
 -- ---- the step in which a travel time ends
-module _ {text : List ℕ} {tables : NetworkTables} (t : Tabled text tables) where
-  valid : ValidNetwork (lines text)
-  valid = valid-network (lines text) t.holds
+module _ {tables : NetworkTables} (t : Tabled tables) where
+  valid : ValidNetwork (lines tables.text.now)
+  valid = valid-network (lines tables.text.now) t.holds
 
-  step-inside : (n i : ℕ) → n ≤ step_count (lines text) → arrival_step (lines text) n i < on_timeline (lines text) (step_count (lines text))
-  step-inside n i h = elim (dec_le 1 (on_timeline (lines text) n)) [
-    | yes u ↦ omega (arith, arrival-step-lt (lines text) n i u, on-timeline-mono (lines text) n (step_count (lines text)) h)
+  step-inside : (n i : ℕ) → n ≤ step_count (lines tables.text.now) → arrival_step (lines tables.text.now) n i < on_timeline (lines tables.text.now) (step_count (lines tables.text.now))
+  step-inside n i h = elim (dec_le 1 (on_timeline (lines tables.text.now) n)) [
+    | yes u ↦ omega (arith, arrival-step-lt (lines tables.text.now) n i u, on-timeline-mono (lines tables.text.now) n (step_count (lines tables.text.now)) h)
     | no u ↦
-        omega (arith, arrival-step-le (lines text) n i, on-timeline-mono (lines text) 1 (step_count (lines text)) (counts (lines text) valid).some-step, on-timeline-suc (lines text) 0)
+        omega (arith, arrival-step-le (lines tables.text.now) n i, on-timeline-mono (lines tables.text.now) 1 (step_count (lines tables.text.now)) (counts (lines tables.text.now) valid).some-step, on-timeline-suc (lines tables.text.now) 0)
   ]
 
-  pub arrival-step-lasts : (n i : ℕ) → n ≤ step_count (lines text) → 1 ≤ timeline_length (lines text) (arrival_step (lines text) n i)
-  arrival-step-lasts n i h = timeline-lasts (lines text) valid (arrival_step (lines text) n i) (step-inside n i h)
+  pub arrival-step-lasts : (n i : ℕ) → n ≤ step_count (lines tables.text.now) → 1 ≤ timeline_length (lines tables.text.now) (arrival_step (lines tables.text.now) n i)
+  arrival-step-lasts n i h = timeline-lasts (lines tables.text.now) valid (arrival_step (lines tables.text.now) n i) (step-inside n i h)
 
 -- ---- what is read of an arrival
-module _ {text : List ℕ} {tables : NetworkTables} {ledger : List ℕ} {n i : ℕ} (asked : ArrivedAsked text tables ledger n i) where
+module _ {tables : NetworkTables} {ledger : List ℕ} {n i : ℕ} (asked : ArrivedAsked tables ledger n i) where
   abbrev net : List Line
-  net = lines text
+  net = lines tables.text.now
 
   abbrev a : ℕ
   a = arrival_step net n i
 
-  t : Tabled text tables
+  t : Tabled tables
   t = asked.tabled
 
   on-time : tables.reading.counts.past + n ≡ on_timeline net n
@@ -107,7 +109,7 @@ module _ {text : List ℕ} {tables : NetworkTables} {ledger : List ℕ} {n i : �
     is-step : step ≡ a
     is-step = e ∙ rw (on-time, travel-is) (arrival-is t.time-table n i asked.early)
 
-    pub over-asked : OverAsked text tables ledger n i step
+    pub over-asked : OverAsked tables ledger n i step
     over-asked = record { asked = asked; is-step = is-step }
 
     inside : a < on_timeline net (step_count net)
@@ -146,14 +148,14 @@ module _ {text : List ℕ} {tables : NetworkTables} {ledger : List ℕ} {n i : �
           (λ p q. got.by-ledger (ltb-false _ _ q)))
 
 -- ---- the returns of `entered_over`
-module _ {text : List ℕ} {tables : NetworkTables} {ledger : List ℕ} {n i step : ℕ} (given : OverAsked text tables ledger n i step) where
+module _ {tables : NetworkTables} {ledger : List ℕ} {n i step : ℕ} (given : OverAsked tables ledger n i step) where
   abbrev netw : List Line
-  netw = lines text
+  netw = lines tables.text.now
 
-  own : ArrivedAsked text tables ledger n i
+  own : ArrivedAsked tables ledger n i
   own = given.asked
 
-  tab : Tabled text tables
+  tab : Tabled tables
   tab = own.tabled
 
   some-travel : 1 ≤ travel_time netw i
@@ -167,10 +169,7 @@ module _ {text : List ℕ} {tables : NetworkTables} {ledger : List ℕ} {n i ste
     stands : standing_in tables.links.now i ≡ standing netw i
     stands = standing-at tab.link-table i own.link
 
-    abbrev first : Arrival
-    first = record { step = step; start = standing_in tables.links.now i; stop = standing_in tables.links.now i; place = tables.reading.past_at }
-
-    pub no-past : tables.reading.counts.past ≤ step → EnteredOver netw ledger n i first
+    pub no-past : tables.reading.counts.past ≤ step → EnteredOver netw ledger n i (record { step = step; start = standing_in tables.links.now i; stop = standing_in tables.links.now i; place = 0 })
     no-past l =
         record {
           by-start = λ e. stands;
@@ -183,22 +182,20 @@ module _ {text : List ℕ} {tables : NetworkTables} {ledger : List ℕ} {n i ste
     start_is = omega arith
 
     module _ (l : step < tables.reading.counts.past) where
-      pub read_asked : ReadAsked text tables.reading.counts.links i 0 (step + 1) first
+      pub read_asked : ReadAsked tables i step
       read_asked =
           record {
-            counted = tab.counted.links;
-            few = tab.counted.few.links;
-            link = omega (arith, own.link, tab.counted.links);
-            onward = omega arith;
-            within = omega (arith, tab.counted.past);
+            counted = tab.counted;
+            starts = tab.past-start;
             forms = past-form netw tab.holds;
+            stands = stands ∙ sym start_is;
+            link = own.link;
+            past = omega (arith, tab.counted.past);
             fits = λ m q. past_fits netw tab.holds i own.link m (omega (arith, tab.counted.past));
-            curve-from = record { starts = tab.past-start; began = λ m q. absurd (omega arith); ended = stands ∙ sym start_is };
           }
 
-      pub past-told : {arrival : Arrival} → ReadOn text i 0 (step + 1) arrival → EnteredOver netw ledger n i arrival
-      past-told {arrival} read =
-          let c = read.curve-to in
+      pub past-told : {arrival : Arrival} → CurveTo tables.text.now i (step + 1) arrival → EnteredOver netw ledger n i arrival
+      past-told {arrival} c =
           let s : arrival.start ≡ timeline_entered netw [] (arrival_step netw n i) i = c.began (arrival_step netw n i) (omega (arith, given.is-step)) in
           record {
             by-start = λ e. s ∙ ap (λ m. timeline_entered netw [] m i) (arrival-first netw (timeline-lasts netw (valid tab) 0 (omega (arith, step-inside tab n i own.early))) n i e) ∙ start_is;
@@ -242,23 +239,40 @@ module _ {text : List ℕ} {tables : NetworkTables} {ledger : List ℕ} {n i ste
 
 -- ---- 21, or the state
 module _ (entered left : ℕ) (arrived : Arrived) where
-  pub falls-inside : not arrived.rises ≡ true → {r : (Result LinkState Refusal)} → r ≡ Err (refusal 21 0 0) → r ≡ state_from entered left arrived
+  abbrev agrees : Bool
+  agrees = arrived.rises and leb (left * arrived.seconds) arrived.scaled and leb arrived.scaled (entered * arrived.seconds)
+
+  pub state-told : arrived.rises ≡ true → left * arrived.seconds ≤ arrived.scaled → arrived.scaled ≤ entered * arrived.seconds → {w : ℕ} → w ≡ arrived.seconds
+      → Ok (state_of (arrived.scaled / w - left) (entered - arrived.scaled / w)) ≡ state_from entered left arrived
   unfolding state_from ◌and◌
-  falls-inside h e = rw (not-true arrived.rises h) e
+  state-told rises gone come s = rw (s, rises, le-leb (left * arrived.seconds) arrived.scaled gone, le-leb arrived.scaled (entered * arrived.seconds) come) refl
 
-  module _ (h : not arrived.rises ≡ false) {x : ℕ} (p : x ≡ left * arrived.seconds) where
-    pub left-above : arrived.scaled < x → {r : (Result LinkState Refusal)} → r ≡ Err (refusal 21 0 0) → r ≡ state_from entered left arrived
-    unfolding state_from ◌and◌
-    left-above l e = rw (not-false arrived.rises h, lt-leb (left * arrived.seconds) arrived.scaled (omega arith)) e
+  -- by the test of 21, of the two products
+  module _ {x y : ℕ} (p : x ≡ left * arrived.seconds) (q : y ≡ entered * arrived.seconds)
+      {said : Verdict} (told : said ≡ checked (arrived.rises and leb x arrived.scaled and leb arrived.scaled y) 21 0 0) where
+    by-products : said ≡ checked agrees 21 0 0
+    by-products = told ∙ rw (p, q) refl
 
-    module _ (l : x ≤ arrived.scaled) {y : ℕ} (q : y ≡ entered * arrived.seconds) where
-      pub arrived-above : y < arrived.scaled → {r : (Result LinkState Refusal)} → r ≡ Err (refusal 21 0 0) → r ≡ state_from entered left arrived
-      unfolding state_from ◌and◌
-      arrived-above u e =
-          rw (not-false arrived.rises h, le-leb (left * arrived.seconds) arrived.scaled (omega arith), lt-leb arrived.scaled (entered * arrived.seconds) (omega arith)) e
+    pub disagrees : {r : Refusal} → said ≡ Err r → Err r ≡ state_from entered left arrived
+    unfolding state_from checked
+    disagrees {r} e = by _ agrees (sym by-products ∙ e)
+      where
+        by : (state : Result LinkState Refusal) (b : Bool) → checked b 21 0 0 ≡ Err r → Err r ≡ cond b state (Err (refusal 21 0 0))
+        by state true h = let z : ◌≡◌ {A = ℕ} 0 1 = cc in absurd (omega arith)
+        by state false h = let same : refusal 21 0 0 ≡ r = cc in ap Err (sym same)
 
-      module _ (u : arrived.scaled ≤ y) (some : 1 ≤ arrived.seconds) {w : ℕ} (s : w ≡ arrived.seconds) where
-        pub state-told : Ok (state_of (arrived.scaled / w - left) (entered - arrived.scaled / w)) ≡ state_from entered left arrived
-        unfolding state_from ◌and◌
-        state-told =
-            rw (s, not-false arrived.rises h, le-leb (left * arrived.seconds) arrived.scaled (omega arith), le-leb arrived.scaled (entered * arrived.seconds) (omega arith)) refl
+    module _ (e : said ≡ Ok tt) where
+      holds : agrees ≡ true
+      holds = checked-true agrees 21 0 0 (sym by-products ∙ e)
+
+      gone : left * arrived.seconds ≤ arrived.scaled
+      gone = leb-true _ _ (and_right _ _ (and_left _ _ holds))
+
+      come : arrived.scaled ≤ entered * arrived.seconds
+      come = leb-true _ _ (and_right _ _ holds)
+
+      pub between : (x ≤ arrived.scaled) × (arrived.scaled ≤ y)
+      between = (omega (arith, gone, p), omega (arith, come, q))
+
+      pub state-agrees : {w : ℕ} → w ≡ arrived.seconds → Ok (state_of (arrived.scaled / w - left) (entered - arrived.scaled / w)) ≡ state_from entered left arrived
+      state-agrees s = state-told (and_left _ _ (and_left _ _ holds)) gone come s

@@ -1,8 +1,8 @@
 -- The state of a link by the tables of a network is the paper's.
-use Rattle.base_laws.proofs.Kit.{ℕ, suc, ◌+◌, ◌*◌, ◌-◌, ◌≤◌, ◌<◌, ◌≡◌, refl, sym, ap, ◌∙◌, Bool, true, false, cond, List, add-one, arith, le-leb, lt-leb, leb, length}
+use Rattle.base_laws.proofs.Kit.{ℕ, suc, ◌+◌, ◌*◌, ◌-◌, ◌≤◌, ◌≡◌, refl, sym, ap, ◌∙◌, Bool, true, false, cond, List, add-one, mul-le-mul_right, arith, le-leb, leb-true, leb, length}
 use Rattle.base_search.specs.declared.Refusal.{Refusal}
 use Rattle.base_search.specs.Checks.{refusal, or_else, checked, verdict, Verdict}
-use Rattle.base_search.proofs.Laws.{or-else-passes, or-else-refused, checked-passes, checked_refused, passes-of-hold}
+use Rattle.base_search.proofs.Laws.{or-else-passes, or-else-refused, checked-true, checked-passes, passes-of-hold}
 use Rattle.text_reader.specs.Lines.{Line, lines}
 use Rattle.text_reader.specs.Padding.{PaddingIgnored}
 use Rattle.text_reader.proofs.Padding.{same_lines}
@@ -13,27 +13,15 @@ use Rattle.model.specs.Table.{network_checks, ledger_checks}
 use Rattle.model.specs.Calls.{state_of, ledger_entered, ledger_left, end_step, end_length, scaled_arrived, rises_inside, ledger_arrived, state_checks, link_answer, link_state}
 use Rattle.model.specs.Guarantees.{StatePromises}
 use Rattle.model.proofs.Numbers.{state-promises}
-use Rattle.network_tables.specs.declared.Reading.{Reading}
 use Rattle.network_tables.specs.declared.NetworkTables.{NetworkTables}
-use Rattle.network_tables.specs.Fields.{entered_at, left_at}
-use Rattle.network_tables.specs.Tables.{Judged}
-use Rattle.network_tables.proofs.Stages.{verdict-refused}
-use Rattle.network.specs.Loading.{Loaded}
-use Rattle.plan_link_state.specs.State.{Tabled, arrived_in, state_from}
+use Rattle.network_tables.specs.Fields.{entered_at, left_at, RowHeld}
+use Rattle.network.specs.Loading.{TablesLoaded}
+use Rattle.plan_link_state.specs.State.{Tabled, ArrivedAsked, arrived_in, state_from}
 use Rattle.plan_link_state.specs.declared.Arrived.{Arrived}
 use Rattle.plan_link_state.proofs.Ledger.{arrival-step-lasts}
-use Rattle.base_laws.proofs.Tests.{is_within}
+use Rattle.base_laws.proofs.Tests.{is_within, within-parts}
 use Rattle.std.specs.Prelude.{Result, Ok, Err}
 use Rattle.model.specs.declared.LinkState.{LinkState}
-
--- ---- 20: whether a link is one of the network's
-within-below : (low x high : ℕ) → x < low → within low x high ≡ false
-unfolding within ◌and◌
-within-below low x high h = rw (lt-leb low x h)
-
-within-above : (low x high : ℕ) → low ≤ x → high < x → within low x high ≡ false
-unfolding within ◌and◌
-within-above low x high h l = rw (le-leb low x h, lt-leb x high l)
 
 -- ---- by the checks: 8, 19, 20, 21
 module _ (network : List Line) (ledger : List ℕ) (boundary link : ℕ) where
@@ -67,23 +55,25 @@ module _ (network : List Line) (ledger : List ℕ) (boundary link : ℕ) where
   network-refused r e = refusal-told r (whole ∙ or-else-refused _ _ r e)
 
   module _ (passed : verdict (network_checks network) ≡ Ok tt) where
-    pub ledger-short : length ledger < 2 * suc (step_count network) * link_count network → Err (refusal 8 0 0) ≡ link_state network ledger boundary link
-    ledger-short h =
-        refusal-told (refusal 8 0 0) (whole ∙ or-else-passes _ _ passed ∙ or-else-refused _ _ (refusal 8 0 0) (checked_refused long-enough 8 0 0 (lt-leb _ _ h)))
+    from8 : verdict (state_checks network ledger boundary link) ≡ or_else (checked long-enough 8 0 0) from19
+    from8 = whole ∙ or-else-passes _ _ passed
+
+    pub ledger-short : {r : Refusal} → checked long-enough 8 0 0 ≡ Err r → Err r ≡ link_state network ledger boundary link
+    ledger-short {r} e = refusal-told r (from8 ∙ or-else-refused _ _ r e)
 
     module _ (long : 2 * suc (step_count network) * link_count network ≤ length ledger) where
       to19 : verdict (state_checks network ledger boundary link) ≡ from19
-      to19 = whole ∙ or-else-passes _ _ passed ∙ or-else-passes _ _ (checked-passes long-enough 8 0 0 (le-leb _ _ long))
+      to19 = from8 ∙ or-else-passes _ _ (checked-passes long-enough 8 0 0 (le-leb _ _ long))
 
-      pub boundary-past : step_count network < boundary → Err (refusal 19 0 0) ≡ link_state network ledger boundary link
-      boundary-past h = refusal-told (refusal 19 0 0) (to19 ∙ or-else-refused _ _ (refusal 19 0 0) (checked_refused _ 19 0 0 (lt-leb boundary (step_count network) h)))
+      pub boundary-past : {r : Refusal} → checked (leb boundary (step_count network)) 19 0 0 ≡ Err r → Err r ≡ link_state network ledger boundary link
+      boundary-past {r} e = refusal-told r (to19 ∙ or-else-refused _ _ r e)
 
       module _ (early : boundary ≤ step_count network) where
         to20 : verdict (state_checks network ledger boundary link) ≡ from20
         to20 = to19 ∙ or-else-passes _ _ (checked-passes _ 19 0 0 (le-leb boundary (step_count network) early))
 
-        pub no-link : within 1 link (link_count network) ≡ false → Err (refusal 20 0 0) ≡ link_state network ledger boundary link
-        no-link outside = refusal-told (refusal 20 0 0) (to20 ∙ or-else-refused _ _ (refusal 20 0 0) (checked_refused _ 20 0 0 outside))
+        pub no-link : {r : Refusal} → checked (within 1 link (link_count network)) 20 0 0 ≡ Err r → Err r ≡ link_state network ledger boundary link
+        no-link {r} e = refusal-told r (to20 ∙ or-else-refused _ _ r e)
 
         by-agreement : (b : Bool) → link_answer network ledger boundary link (checked b 21 0 0)
             ≡ cond b (Ok (state_of (ledger_arrived network ledger boundary link - ledger_left network ledger boundary link) (ledger_entered network ledger boundary link boundary - ledger_arrived network ledger boundary link)))
@@ -100,11 +90,11 @@ module _ (network : List Line) (ledger : List ℕ) (boundary link : ℕ) where
             let inside = is_within 1 link (link_count network) first last in
             sym (ap (link_answer network ledger boundary link) (to20 ∙ or-else-passes _ _ (checked-passes _ 20 0 0 inside)) ∙ by-agreement agrees)
 
--- ---- by the tables
-module _ {text : List ℕ} {tables : NetworkTables} (t : Tabled text tables) (ledger : List ℕ) (boundary link : ℕ)
-    {size : ℕ} (sized : size ≡ 2 * (tables.reading.counts.steps + 1) * tables.reading.counts.links) where
+-- ---- by the tables, one test after another
+module _ {tables : NetworkTables} (t : Tabled tables) (ledger : List ℕ) (boundary link : ℕ)
+    {size : ℕ} (sized : size ≡ 2 * (tables.reading.counts.steps + 1) * tables.reading.counts.links) {said8 : Verdict} (told8 : said8 ≡ checked (leb size (length ledger)) 8 0 0) where
   abbrev network : List Line
-  network = lines text
+  network = lines tables.text.now
 
   passed : verdict (network_checks network) ≡ Ok tt
   passed = passes-of-hold (network_checks network) t.holds
@@ -112,40 +102,52 @@ module _ {text : List ℕ} {tables : NetworkTables} (t : Tabled text tables) (le
   rows_are : size ≡ 2 * suc (step_count network) * link_count network
   rows_are = sized ∙ rw (add-one, t.counted.steps, t.counted.links)
 
-  pub short-told : length ledger < size → {r : (Result LinkState Refusal)} → r ≡ Err (refusal 8 0 0) → r ≡ link_state network ledger boundary link
-  short-told h e = e ∙ ledger-short network ledger boundary link passed (omega (arith, rows_are))
+  pub short-told : {r : Refusal} → said8 ≡ Err r → Err r ≡ link_state network ledger boundary link
+  short-told e = ledger-short network ledger boundary link passed (rw rows_are at (sym told8 ∙ e))
 
-  module _ (long : size ≤ length ledger) where
+  module _ (e8 : said8 ≡ Ok tt) {said19 : Verdict} (told19 : said19 ≡ checked (leb boundary tables.reading.counts.steps) 19 0 0) where
     room : 2 * suc (step_count network) * link_count network ≤ length ledger
-    room = omega (arith, rows_are)
+    room = omega (arith, rows_are, leb-true _ _ (checked-true _ 8 0 0 (sym told8 ∙ e8)))
 
-    pub past-told : tables.reading.counts.steps < boundary → {r : (Result LinkState Refusal)} → r ≡ Err (refusal 19 0 0) → r ≡ link_state network ledger boundary link
-    past-told h e = e ∙ boundary-past network ledger boundary link passed room (omega (arith, t.counted.steps))
+    pub past-told : {r : Refusal} → said19 ≡ Err r → Err r ≡ link_state network ledger boundary link
+    past-told e = boundary-past network ledger boundary link passed room (rw t.counted.steps at (sym told19 ∙ e))
 
-    module _ (early : boundary ≤ tables.reading.counts.steps) where
+    module _ (e19 : said19 ≡ Ok tt) {said20 : Verdict} (told20 : said20 ≡ checked (within 1 link tables.reading.counts.links) 20 0 0) where
       reached : boundary ≤ step_count network
-      reached = omega (arith, t.counted.steps)
+      reached = omega (arith, t.counted.steps, leb-true _ _ (checked-true _ 19 0 0 (sym told19 ∙ e19)))
 
-      pub below-told : link < 1 → {r : (Result LinkState Refusal)} → r ≡ Err (refusal 20 0 0) → r ≡ link_state network ledger boundary link
-      below-told h e = e ∙ no-link network ledger boundary link passed room reached (within-below 1 link (link_count network) h)
+      pub link-told : {r : Refusal} → said20 ≡ Err r → Err r ≡ link_state network ledger boundary link
+      link-told e = no-link network ledger boundary link passed room reached (rw t.counted.links at (sym told20 ∙ e))
 
-      pub above-told : 1 ≤ link → tables.reading.counts.links < link → {r : (Result LinkState Refusal)} → r ≡ Err (refusal 20 0 0) → r ≡ link_state network ledger boundary link
-      above-told h l e = e ∙ no-link network ledger boundary link passed room reached (within-above 1 link (link_count network) h (omega (arith, t.counted.links)))
+      module _ (e20 : said20 ≡ Ok tt) where
+        pub inside : (1 ≤ link) × (link ≤ tables.reading.counts.links)
+        inside = within-parts 1 link tables.reading.counts.links (checked-true _ 20 0 0 (sym told20 ∙ e20))
 
-      module _ (first : 1 ≤ link) (last : link ≤ tables.reading.counts.links) where
         own : link - 1 + 1 ≡ link
-        own = omega arith
+        own = omega (arith, inside.0)
+
+        pub row-held : RowHeld ledger tables.reading.counts.links boundary (link - 1)
+        row-held =
+            record {
+              few-boundaries = omega (arith, reached, t.counted.steps, t.counted.few.steps);
+              few-links = t.counted.few.links;
+              within = omega (arith, inside.0, inside.1);
+              rows = rw t.counted.links (omega (arith, room, mul-le-mul_right (2 * link_count network) reached));
+            }
+
+        pub arrived-asked : ArrivedAsked tables ledger boundary (link - 1)
+        arrived-asked = record { tabled = t; early = reached; link = omega (arith, inside.0, inside.1, t.counted.links); room = room }
 
         pub arrived-lasts : {arrived : Arrived} → arrived ≡ arrived_in network ledger boundary (link - 1 + 1) → 1 ≤ arrived.seconds
         unfolding end_length end_step
         arrived-lasts e = rw (e, own) (arrival-step-lasts t boundary (link - 1) reached)
 
-        pub found-told : {entered left : ℕ} {arrived : Arrived} {r : (Result LinkState Refusal)}
+        pub found-told : {entered left : ℕ} {arrived : Arrived} {r : Result LinkState Refusal}
             → entered ≡ entered_at ledger tables.reading.counts.links boundary (link - 1) → left ≡ left_at ledger tables.reading.counts.links boundary (link - 1)
             → arrived ≡ arrived_in network ledger boundary (link - 1 + 1)
             → r ≡ state_from entered left arrived → r ≡ link_state network ledger boundary link
         unfolding ledger_entered ledger_left
-        found-told e f a q = q ∙ rw (e, f, a, own, t.counted.links) (state-is network ledger boundary link passed room reached first (omega (arith, t.counted.links)))
+        found-told e f a q = q ∙ rw (e, f, a, own, t.counted.links) (state-is network ledger boundary link passed room reached inside.0 (omega (arith, inside.1, t.counted.links)))
 
 -- all that the call promises of its answer
 abbrev pub Promised : List ℕ → List ℕ → ℕ → ℕ → Result LinkState Refusal → Type 0
@@ -158,10 +160,5 @@ promised text ledger boundary link e =
     (e, (rw e (state-promises (lines text) ledger boundary link), λ padded same. e ∙ ap (λ (network : List Line). link_state network ledger boundary link) (same_lines text padded same)))
 
 -- a network that has passed gives the tables
-pub tabled : {text : List ℕ} {signals : List Signal} {tables : NetworkTables} → Loaded text signals tables.links.now tables.movements.now tables.times.now tables.reading → Tabled text tables
+pub tabled : {tables : NetworkTables} {signals : List Signal} → TablesLoaded tables signals → Tabled tables
 tabled l = record { counted = l.counted; past-start = l.past-start; link-table = l.link-table; time-table = l.time-table; holds = l.holds }
-
--- it is refused
-pub refused-told : (text : List ℕ) {stage : (Result Reading Refusal)} {Held : Reading → Type 0} → Judged (network_checks (lines text)) Held stage → (ledger : List ℕ) (boundary link : ℕ) {r : Refusal} → stage ≡ Err r
-    → Promised text ledger boundary link (Err r)
-refused-told text got ledger boundary link {r} e = promised text ledger boundary link (network-refused (lines text) ledger boundary link r (verdict-refused got e))

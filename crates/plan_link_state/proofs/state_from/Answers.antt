@@ -1,17 +1,26 @@
--- `plan_link_state::state_from` meets its contract: one law for each way out.
-use Rattle.base_laws.proofs.Kit.{ap}
-use Rattle.std.specs.Prelude.{Err}
-use Rattle.plan_link_state.proofs.Ledger.{falls-inside, left-above, arrived-above, state-told}
+-- `plan_link_state::state_from` meets its contract.
+use Rattle.std.proofs.Common.{rules}
+use Rattle.base_search.proofs.Laws.{passed_on}
+use Rattle.base_laws.specs.Test.{◌and◌}
+use Rattle.plan_link_state.proofs.Ledger.{disagrees, between, state-agrees}
 use Rattle.plan_link_state.proofs.state_from.Goals as goal
 
-pub returns-then-not-arrived : goal.returns-then-not-arrived
-returns-then-not-arrived c = falls-inside _ _ _ c.if-not-arrived.true (ap Err c.new.ensures)
+pub returns-in_err-checked : goal.returns-in_err-checked
+unfolding ◌and◌
+returns-in_err-checked c = rw (passed_on _ _ c.from_residual.ensures.1) (disagrees _ _ _ c.times.ensures c.times-2.ensures c.checked.ensures c.in_err-checked.was)
 
-pub returns-then-scaled-times : goal.returns-then-scaled-times
-returns-then-scaled-times c = left-above _ _ _ c.if-not-arrived.false c.times.ensures c.if-scaled-times.true (ap Err c.new-then-scaled-times.ensures)
+pub overflow_cast-whole : goal.overflow_cast-whole
+unfolding ◌and◌
+overflow_cast-whole c = let h = between _ _ _ c.times.ensures c.times-2.ensures c.checked.ensures c.in_ok-checked.was in search rules
 
-pub returns-then-times-scaled : goal.returns-then-times-scaled
-returns-then-times-scaled c = arrived-above _ _ _ c.if-not-arrived.false c.times.ensures c.if-scaled-times.false c.times-2.ensures c.if-times-scaled.true (ap Err c.new-then-times-scaled.ensures)
+pub overflow_sub-result : goal.overflow_sub-result
+unfolding ◌and◌
+overflow_sub-result c = let h = between _ _ _ c.times.ensures c.times-2.ensures c.checked.ensures c.in_ok-checked.was in search rules
+
+pub overflow_sub-result-2 : goal.overflow_sub-result-2
+unfolding ◌and◌
+overflow_sub-result-2 c = let h = between _ _ _ c.times.ensures c.times-2.ensures c.checked.ensures c.in_ok-checked.was in search rules
 
 pub returns : goal.returns
-returns c = state-told _ _ _ c.if-not-arrived.false c.times.ensures c.if-scaled-times.false c.times-2.ensures c.if-times-scaled.false c.requires c.from.ensures
+unfolding ◌and◌
+returns c = state-agrees _ _ _ c.times.ensures c.times-2.ensures c.checked.ensures c.in_ok-checked.was c.from.ensures
