@@ -1,5 +1,5 @@
 -- The ways out of the call, by the definitions on the cut network.
-use Rattle.base_laws.proofs.Kit.{ℕ, suc, ◌+◌, ◌*◌, ◌-◌, ◌≤◌, ◌<◌, ◌≡◌, refl, sym, ap, ◌∙◌, true, false, List, [], dec_lt, add-one, arith, le-leb, lt-leb, eq-eqb, leb, eqb, length, get_or, get_or-take}
+use Rattle.base_laws.proofs.Kit.{ℕ, suc, ◌+◌, ◌*◌, ◌-◌, ◌≤◌, ◌<◌, ◌≡◌, refl, sym, ap, ◌∙◌, true, false, List, [], dec_lt, add-one, arith, le-leb, lt-leb, eq-eqb, leb, eqb, length, get_or, get_or-take, ◌⊎◌, inl, inr}
 use Rattle.base_search.specs.declared.Refusal.{Refusal}
 use Rattle.base_search.specs.Checks.{refusal, verdict, or_else, checked, each, Hold}
 use Rattle.base_search.proofs.Laws.{passes-of-hold, hold-of-passes, or-else-passes, or-else-refused, checked-passes, checked_refused, first-stop, first_passes}
@@ -23,8 +23,6 @@ use Rattle.network_tables.specs.declared.Reading.{Reading}
 use Rattle.network_tables.specs.declared.NetworkTables.{NetworkTables}
 use Rattle.network_tables.specs.declared.Link.{Link}
 use Rattle.network_tables.specs.declared.Movement.{Movement}
-use Rattle.network_tables.specs.Tables.{Judged}
-use Rattle.network_tables.proofs.Stages.{verdict-refused}
 use Rattle.network.specs.Loading.{Loaded}
 use Rattle.plan_steps.specs.declared.State.{State}
 use Rattle.plan_steps.specs.Steps as steps
@@ -90,7 +88,10 @@ module _ (network_text plan_text : List ℕ) (b : ℕ) (ledger buffer : List ℕ
       unfolding carry_on carry_ledger carry_buffer
       text-told t = record { told = rw text-judged t.answered; rows = rw within rows; holds = rw text-judged t.holds }
 
-module _ (network_text plan_text : List ℕ) (b : ℕ) (buffer : List ℕ) {tables : NetworkTables} {signals₀ : List Signal} {ledger : List ℕ} (a : StepsAsked network_text b tables signals₀ ledger) where
+module _ (plan_text : List ℕ) (b : ℕ) (buffer : List ℕ) {tables : NetworkTables} {signals₀ : List Signal} {ledger : List ℕ} (a : StepsAsked tables b signals₀ ledger) where
+  abbrev network_text : List ℕ
+  network_text = tables.text.now
+
   abbrev network : List Line
   network = lines network_text
 
@@ -163,15 +164,15 @@ module _ (network_text plan_text : List ℕ) (b : ℕ) (buffer : List ℕ) {tabl
       lines-judged = judged ∙ or-else-passes _ _ (unfold verdict in first_passes (λ m. verdict (line_checks network whole m)) b all.passed)
 
       -- the text is at its end just where no line is behind the b
-      plan-ended : at_end plan_text state.plan_at ≡ eqb (length first) b
+      plan-ended : at_end plan_text state.place.plan_at ≡ eqb (length first) b
       plan-ended = elim (dec_lt 0 (length plan_text)) [
         | yes h ↦ let e = plan-of-text network_text plan_text h in
-            starts-end plan_text state.plan_at b (all.plan-starts h) (rw e at (lines-within network whole b all.passed)) ∙ ap (λ (l : List Line). eqb (length l) b) (sym (text-first h))
-        | no h ↦ end-of-none plan_text state.plan_at (omega arith)
+            starts-end plan_text state.place.plan_at b (all.plan-starts h) (rw e at (lines-within network whole b all.passed)) ∙ ap (λ (l : List Line). eqb (length l) b) (sym (text-first h))
+        | no h ↦ end-of-none plan_text state.place.plan_at (omega arith)
             ∙ sym (eq-eqb _ _ (ap length (empty-first (omega arith)) ∙ held-count))
       ]
 
-      pub more-lines : at_end plan_text state.plan_at ≡ false → CarryGot network_text plan_text b ledger ledger' buffer buffer (Err (refusal 9 (b + 1) 0))
+      pub more-lines : at_end plan_text state.place.plan_at ≡ false → CarryGot network_text plan_text b ledger ledger' buffer buffer (Err (refusal 9 (b + 1) 0))
       more-lines e =
           let v = lines-judged ∙ checked_refused _ 9 (suc b) 0 (sym plan-ended ∙ e) in
           rw (add-one b) (plan-refused network_text plan_text b ledger buffer within-plan v rows_all)
@@ -196,17 +197,11 @@ module _ (network_text plan_text : List ℕ) (b : ℕ) (buffer : List ℕ) {tabl
               rows = rw (here, is-ledger) (all.rows ∙ sym (written-again network whole ledger (suc b) (suc b) (omega arith)) ∙ ap (λ x. written network whole x (suc b)) (sym all.rows) ∙ rows_agree ledger');
             }
 
-        pub write-asked : length ledger' ≡ length ledger → CarryAsked network_text tables.reading tables.links.now tables.movements.now at
+        pub write-asked : length ledger' ≡ length ledger → CarryAsked tables at
         write-asked long =
-            let loaded = a.loaded in
             record {
-              holds = loaded.holds;
-              counted = loaded.counted;
-              trams-start = loaded.trams-start;
-              past-start = loaded.past-start;
-              steps-start = loaded.steps-start;
-              link-table = loaded.link-table;
-              movement-table = loaded.movement-table;
+              before = signals₀;
+              loaded = a.loaded;
               signals-size = ap length is-signals ∙ all.signals-at.size;
               waiting-size = ap length is-waiting ∙ all.waiting-at.size;
               within = rw here a.last;
@@ -215,7 +210,7 @@ module _ (network_text plan_text : List ℕ) (b : ℕ) (buffer : List ℕ) {tabl
               stands = stands;
             }
 
-        pub carried-told : at_end plan_text state.plan_at ≡ true → {answer : (Result ℕ Refusal)} {buffer' : List ℕ} → TextWritten network_text at buffer answer buffer'
+        pub carried-told : at_end plan_text state.place.plan_at ≡ true → {answer : (Result ℕ Refusal)} {buffer' : List ℕ} → TextWritten network_text at buffer answer buffer'
             → CarryGot network_text plan_text b ledger ledger' buffer buffer' answer
         carried-told e text =
             text-told network_text plan_text b ledger buffer within-plan (lines-judged ∙ checked-passes _ 9 (suc b) 0 (sym plan-ended ∙ e)) rows_all (rw here at (text first stands))
@@ -226,17 +221,16 @@ module _ (network_text plan_text : List ℕ) (b : ℕ) (ledger buffer : List ℕ
   abbrev found : List Line
   found = lines network_text
 
-  outside : within 1 b (step_count found - 1) ≡ false → CarryGot network_text plan_text b ledger ledger buffer buffer (Err (refusal 31 0 0))
-  outside h =
-      boundary-refused network_text plan_text b ledger buffer
-      (unfold boundary_checks verdict in (or-else-passes _ _ (passes-of-hold (network_checks found) loaded.holds) ∙ checked_refused _ 31 0 0 h))
+  outside-within : (b < 1) ⊎ ((1 ≤ b) × (reading.counts.steps ≤ b)) → within 1 b (step_count found - 1) ≡ false
+  unfolding within ◌and◌
+  outside-within (inl h) = rw (lt-leb 1 b h)
+  outside-within (inr (o, h)) = rw (le-leb 1 b o, lt-leb b (step_count found - 1) (omega (arith, loaded.counted.steps)))
 
   -- the boundary is below 1, or above K - 1
-  pub too-early : b < 1 → CarryGot network_text plan_text b ledger ledger buffer buffer (Err (refusal 31 0 0))
-  too-early h = outside (unfold within ◌and◌ in rw (lt-leb 1 b h))
-
-  pub too-late : 1 ≤ b → reading.counts.steps ≤ b → CarryGot network_text plan_text b ledger ledger buffer buffer (Err (refusal 31 0 0))
-  too-late o h = outside (unfold within ◌and◌ in rw (le-leb 1 b o, lt-leb b (step_count found - 1) (omega (arith, loaded.counted.steps))))
+  pub outside : (b < 1) ⊎ ((1 ≤ b) × (reading.counts.steps ≤ b)) → CarryGot network_text plan_text b ledger ledger buffer buffer (Err (refusal 31 0 0))
+  outside either =
+      boundary-refused network_text plan_text b ledger buffer
+      (unfold boundary_checks verdict in (or-else-passes _ _ (passes-of-hold (network_checks found) loaded.holds) ∙ checked_refused _ 31 0 0 (outside-within either)))
 
   module _ (o : 1 ≤ b) (u : b < reading.counts.steps) where
     last : b < step_count found
@@ -255,10 +249,9 @@ module _ (network_text plan_text : List ℕ) (b : ℕ) (ledger buffer : List ℕ
         (rows-none-are (cut found b) plan ledger (λ d. omega (arith, (due-of-cut found b loaded.holds o last plan plan (λ n l. refl) (length ledger) 0 d).1)))
 
 -- a network's refusal
-pub network-refused : (network_text plan_text : List ℕ) (b : ℕ) (ledger buffer : List ℕ) {stage : (Result Reading Refusal)} {Held : Reading → Type 0} {r : Refusal} → Judged (network_checks (lines network_text)) Held stage
-    → stage ≡ Err r → CarryGot network_text plan_text b ledger ledger buffer buffer (Err r)
-network-refused network_text plan_text b ledger buffer {r = r} got e =
-    boundary-refused network_text plan_text b ledger buffer (unfold boundary_checks verdict in or-else-refused _ _ r (verdict-refused got e))
+pub network-refused : (network_text plan_text : List ℕ) (b : ℕ) (ledger buffer : List ℕ) {r : Refusal} → verdict (network_checks (lines network_text)) ≡ Err r → CarryGot network_text plan_text b ledger ledger buffer buffer (Err r)
+network-refused network_text plan_text b ledger buffer {r} v =
+    boundary-refused network_text plan_text b ledger buffer (unfold boundary_checks verdict in or-else-refused _ _ r v)
 
 -- the call's whole promise
 pub promised : {network_text plan_text : List ℕ} {b : ℕ} {ledger ledger' buffer buffer' : List ℕ} {answer : (Result ℕ Refusal)} → CarryGot network_text plan_text b ledger ledger' buffer buffer' answer

@@ -7,7 +7,8 @@ use Rattle.network_tables.specs.Fields.{past_size, entered_at, left_at}
 use Rattle.model_carry.specs.Part.{signal_numbers}
 use Rattle.model_carry.proofs.Parts.{pairs-length}
 use Rattle.network_writer.proofs.Filling.{over-next}
-use Rattle.carry.specs.Rows.{signal_row, volumes_in, VolumesAsked}
+use Rattle.model.specs.Signals.{signal_row}
+use Rattle.carry.specs.Rows.{volumes_in, VolumesAsked}
 
 over-pair : (a old : List ℕ) (x y n m : ℕ) → length a ≡ n → m ≡ n + 1 → m < length old → set (set (over a old) n x) m y ≡ over (a ++ (x ∷ y ∷ [])) old
 over-pair a old x y n m e d h =
@@ -49,13 +50,13 @@ pub volumes-length : (ledger : List ℕ) (links n k : ℕ) → length (joined k 
 unfolding volumes_in
 volumes-length ledger links n k = pairs-length (λ i. entered_at ledger links (n + 1) i - entered_at ledger links n i) (λ i. left_at ledger links (n + 1) i - left_at ledger links n i) k
 
-module _ {ledger : List ℕ} {links b n : ℕ} where
-  pub volumes-none : (old : List ℕ) → VolumesAsked ledger links b n old → VolumesTo ledger links n old old 0
+module _ {ledger : List ℕ} {links n : ℕ} where
+  pub volumes-none : (old : List ℕ) → VolumesAsked ledger links n old → VolumesTo ledger links n old old 0
   unfolding over joined
   volumes-none [] a = absurd (omega (arith, a.size))
   volumes-none (x ∷ old) a = record { few = omega arith; size = a.size; is = refl }
 
-  module _ {old row : List ℕ} {k : ℕ} (a : VolumesAsked ledger links b n old) (t : VolumesTo ledger links n old row k) (h : k < links) where
+  module _ {old row : List ℕ} {k : ℕ} (a : VolumesAsked ledger links n old) (t : VolumesTo ledger links n old row k) (h : k < links) where
     pub volumes-next : {p q x y : ℕ} → p ≡ entered_at ledger links n k → q ≡ left_at ledger links n k → x ≡ entered_at ledger links (n + 1) k → y ≡ left_at ledger links (n + 1) k
         → VolumesTo ledger links n old (set (set row (1 + 2 * k) (x - p)) (2 + 2 * k) (y - q)) (k + 1)
     unfolding joined

@@ -1,22 +1,17 @@
 -- The trams that are left behind a boundary, one after another.
-use Rattle.base_laws.proofs.Kit.{ℕ, zero, suc, ◌+◌, ◌-◌, ◌≤◌, ◌<◌, max, min, ◌≡◌, refl, sym, ap, ap₂, ◌∙◌, Bool, true, false, cond, List, [], ◌∷◌, ◌++◌, append-nil, dec_le, add-one, arith, lt-ltb, le-ltb, le-leb, lt-leb, ltb, length, get_or, take, drop, length-append, length-take, length-drop, take-suc, take_all, get_or-take, get_or-drop}
+use Rattle.base_laws.proofs.Kit.{ℕ, zero, suc, ◌+◌, ◌-◌, ◌≤◌, ◌<◌, max, min, ◌≡◌, refl, sym, ap, ap₂, ◌∙◌, Bool, true, false, cond, List, [], ◌∷◌, ◌++◌, map, dec_le, arith, lt-ltb, le-ltb, le-leb, lt-leb, length, get_or, take, drop, length-take, length-drop, take-suc, take_all, get_or-take, get_or-drop}
 use Rattle.text_reader.specs.Lines.{Line, no_line, number}
-use Rattle.text_writer.specs.Records.{record_text}
 use Rattle.model.specs.Network.{entry, step_count, tram_count, tram_line, trams as tram_lines}
 use Rattle.model.specs.Table.{is_form, letter_t}
 use Rattle.network_tables.specs.declared.Tram.{Tram}
-use Rattle.network_tables.specs.Fields.{tram_fields, tram_by, tram_at}
+use Rattle.network_tables.specs.Fields.{tram_fields, tram_by, tram_at, tram_row}
 use Rattle.network_tables.specs.Tables.{TramTable}
 use Rattle.network_tables.proofs.Places.{record-within}
 use Rattle.model_carry.specs.Part.{meets, clip, clipped}
-use Rattle.network_writer.specs.Put.{Put}
-use Rattle.network_writer.specs.Texts.{line_texts}
-use Rattle.network_writer.proofs.Put.{put-none, puts-more}
-use Rattle.network_writer.proofs.Texts.{texts-more}
+use Rattle.network_writer.specs.Texts.{rows_to, RowIs}
 use Rattle.carry.specs.Trams.{left_of, all_left}
-use Rattle.std.specs.Prelude.{Option, Some, None, is_some, option_to_list}
-use Rattle.std.specs.List.{count_by}
-use Rattle.std.proofs.lemmas.List.Sums.{count_by_more_yes, count_by_more_no}
+use Rattle.std.specs.Prelude.{Option, Some, None, option_to_list}
+use Rattle.std.proofs.lemmas.List.{get_or_default, length-map}
 
 -- ---- one tram
 module _ (b : ℕ) (tram : Tram) where
@@ -24,61 +19,21 @@ module _ (b : ℕ) (tram : Tram) where
   unfolding left_of
   none_left h = rw (le-ltb b tram.last_step h) refl
 
-  pub one_left : b < tram.last_step → {steps first : ℕ} → steps ≡ tram.first_step - b → first ≡ max steps 1 → (tram.signal ∷ tram.phase ∷ first ∷ (tram.last_step - b) ∷ []) ∷ [] ≡ left_of b tram
+  pub one_left : b < tram.last_step → {steps first : ℕ} → steps ≡ tram.first_step - b → first ≡ max steps 1 → tram_row (record tram { first_step = first; last_step = tram.last_step - b }) ∷ [] ≡ left_of b tram
   unfolding left_of
   one_left h {first = first} d e = let z : first ≡ max tram.first_step (suc b) - b = omega arith in rw (lt-ltb b tram.last_step h, z) refl
 
--- what is left is put, or there is none
-pub none-put : {left : List (List ℕ)} → [] ≡ left → (at : ℕ) (old : List ℕ) → Put 1 (line_texts letter_t left) at old old at
-unfolding line_texts
-none-put e at old = rw (← e) (let p = put-none at old in record { ends = p.ends; few = omega arith; size = refl; is = p.is })
+-- what is given for tram k is its row, and as many as it has
+module _ (b : ℕ) (trams : List Tram) (k : ℕ) (none : Tram) (h : k < length trams) where
+  at-k : left_of b (get_or trams k none) ≡ left_of b (tram_at trams k)
+  at-k = ap (left_of b) (get_or_default trams k none (tram_by (λ k. 0)) h)
 
-pub one-put : {left : List (List ℕ)} {row : List ℕ} → row ∷ [] ≡ left → {at end : ℕ} {old new : List ℕ} → Put 1 (record_text letter_t row) at old new end → Put 1 (line_texts letter_t left) at old new end
-unfolding line_texts
-one-put e p = rw (← e, append-nil) p
+  pub row-left : (rest : Option Tram) → map tram_row (option_to_list rest) ≡ left_of b (get_or trams k none) → RowIs (λ t row. row ≡ tram_row t) rest (left_of b (tram_at trams k))
+  row-left (Some t) e = λ row is. rw is (e ∙ at-k)
+  row-left None e = e ∙ at-k
 
--- ---- the first k trams: one is counted where its last step is behind the boundary
-abbrev pub is_left : ℕ → Tram → Bool
-is_left b tram = ltb b tram.last_step
-
-pub told_left : (b : ℕ) (tram : Tram) (o : Option (List ℕ)) → option_to_list o ≡ left_of b tram → is_some o ≡ is_left b tram
-unfolding left_of
-told_left b tram o e = go (is_left b tram) refl o e
-  where
-    go : (t : Bool) → is_left b tram ≡ t → (o : Option (List ℕ)) → option_to_list o ≡ left_of b tram → is_some o ≡ t
-    go true h (Some row) e = refl
-    go true h None e = let one : 0 ≡ 1 = rw h at (ap length e) in absurd (omega (arith, one))
-    go false h (Some row) e = let none : 1 ≡ 0 = rw h at (ap length e) in absurd (omega (arith, none))
-    go false h None e = refl
-
-pub counted : (b : ℕ) (trams : List Tram) (count : ℕ) → count ≤ length trams → count_by (is_left b) (take count trams) ≡ length (all_left b trams count)
-unfolding all_left
-counted b trams zero h = refl
-counted b trams (suc k) h = go (is_left b (tram_at trams k)) refl (counted b trams k (omega arith))
-  where
-    more : length (all_left b trams k ++ left_of b (tram_at trams k)) ≡ length (all_left b trams k) + length (left_of b (tram_at trams k))
-    more = length-append (all_left b trams k) (left_of b (tram_at trams k))
-
-    go : (t : Bool) → is_left b (tram_at trams k) ≡ t → count_by (is_left b) (take k trams) ≡ length (all_left b trams k)
-        → count_by (is_left b) (take (suc k) trams) ≡ length (all_left b trams k ++ left_of b (tram_at trams k))
-    go true e c =
-        let one : length (left_of b (tram_at trams k)) ≡ 1 = unfold left_of in rw e refl in
-        let m : count_by (is_left b) (take (suc k) trams) ≡ count_by (is_left b) (take k trams) + 1 = rw (sym (add-one k)) (count_by_more_yes (is_left b) trams k (tram_by (λ k. 0)) (omega arith) e) in
-        m ∙ omega (arith, c, more, one)
-    go false e c =
-        let none : length (left_of b (tram_at trams k)) ≡ 0 = unfold left_of in rw e refl in
-        let m : count_by (is_left b) (take (suc k) trams) ≡ count_by (is_left b) (take k trams) = rw (sym (add-one k)) (count_by_more_no (is_left b) trams k (tram_by (λ k. 0)) (omega arith) e) in
-        m ∙ omega (arith, c, more, none)
-
-module _ (b : ℕ) (trams : List Tram) where
-  pub trams-none : (at : ℕ) (old : List ℕ) → Put 0 (line_texts letter_t (all_left b trams 0)) at old old at
-  unfolding all_left line_texts
-  trams-none at old = put-none at old
-
-  pub trams-next : {k at mid end : ℕ} {old out new : List ℕ} → Put k (line_texts letter_t (all_left b trams k)) at old out mid → Put 1 (line_texts letter_t (left_of b (tram_at trams k))) mid out new end
-      → Put (k + 1) (line_texts letter_t (all_left b trams (k + 1))) at old new end
-  unfolding all_left
-  trams-next {k} p q = rw (add-one, texts-more letter_t (all_left b trams k) (left_of b (tram_at trams k))) (rw add-one at (puts-more p q))
+  pub many-left : (rest : Option Tram) → map tram_row (option_to_list rest) ≡ left_of b (get_or trams k none) → length (option_to_list rest) ≡ length (left_of b (tram_at trams k))
+  many-left rest e = sym (length-map (option_to_list rest) tram_row) ∙ ap length (e ∙ at-k)
 
 -- ---- what is left of them is what is clipped of their lines
 module _ (b K : ℕ) (t : Line) (first : number t 2 ≤ number t 3) (last : number t 3 ≤ K) where
@@ -117,7 +72,7 @@ module _ {network : List Line} (b : ℕ) {trams : List Tram} (table : TramTable 
       line-is = unfold tram_lines tram_line in get_or-take (tram_count network) (drop 1 network) k no_line h ∙ get_or-drop 1 network k no_line
 
   left-to : (k : ℕ) → k ≤ tram_count network → all_left b trams k ≡ clipped b (step_count network) (take k (tram_lines network))
-  unfolding all_left
+  unfolding rows_to
   left-to zero h = unfold clipped in refl
   left-to (suc k) h =
       let K = step_count network in

@@ -1,5 +1,5 @@
 -- The lines that are put, one block behind another, are the carried network's.
-use Rattle.base_laws.proofs.Kit.{ℕ, zero, suc, ◌+◌, ◌*◌, ◌-◌, ◌≤◌, ◌<◌, ◌≡◌, refl, sym, ap, ap₂, ◌∙◌, true, List, [], ◌∷◌, ◌++◌, append_assoc, append-nil, add-one, arith, leb-true, length, get_or, take, drop, length-take}
+use Rattle.base_laws.proofs.Kit.{ℕ, zero, suc, ◌+◌, ◌*◌, ◌-◌, ◌≤◌, ◌<◌, ◌≡◌, refl, sym, ap, ap₂, ◌∙◌, true, List, [], ◌∷◌, ◌++◌, append_assoc, append-nil, add-one, arith, leb-true, length, get_or, get_or-take, take, drop, length-take, length-take-le}
 use Rattle.text_reader.specs.Lines.{Line, lines}
 use Rattle.text_reader.specs.Reading.{Starts, over}
 use Rattle.text_writer.specs.Records.{record_text, record_texts}
@@ -18,7 +18,7 @@ use Rattle.model.proofs.Shown.{same-phases}
 use Rattle.model.proofs.Timeline.{past-inflow, past-outflow, plan-inflow, plan-outflow, entered-suc, left-suc}
 use Rattle.model.proofs.Rows.{written_at}
 use Rattle.network_tables.specs.declared.Counts.{Counts}
-use Rattle.network_tables.specs.declared.Reading.{Reading}
+use Rattle.network_tables.specs.declared.NetworkTables.{NetworkTables}
 use Rattle.network_tables.specs.Places.{Few}
 use Rattle.network_tables.specs.declared.Tram.{Tram}
 use Rattle.network_tables.specs.declared.Link.{Link}
@@ -31,13 +31,17 @@ use Rattle.model_text.specs.NetworkText.{count_numbers, network_text}
 use Rattle.model_text.proofs.Formed.{Formed, formed-of-holds}
 use Rattle.model_carry.specs.Part.{clipped, signal_numbers, link_numbers, movement_numbers, past_numbers, step_numbers, part, carried_text}
 use Rattle.model_carry.proofs.Clipped.{clipped-length}
-use Rattle.network_writer.specs.declared.Places.{Places}
+use Rattle.network_writer.specs.declared.Output.{Output}
 use Rattle.network_writer.specs.Put.{longest, Put, Early}
 use Rattle.network_writer.specs.Texts.{line_texts}
 use Rattle.network_writer.proofs.Put.{puts-more}
 use Rattle.network_writer.proofs.Texts.{texts-of-list, put_first}
-use Rattle.carry.specs.Rows.{count_row, link_row, movement_row, volumes_in, Copied, StepsPut, Rising, SignalsAsked}
-use Rattle.carry.specs.Trams.{all_left}
+use Rattle.carry.specs.declared.PassedLines.{PassedLines}
+use Rattle.carry.specs.Rows.{count_row, link_row, volumes_in, Copied, StepsPutAsked, StepsPut, Rising, SignalsAsked}
+use Rattle.network_tables.specs.Fields.{signal_at as signal_in, link_at, movement_at, no_signal, link_by, movement_by, movement_row}
+use Rattle.network_writer.specs.Texts.{rows_to, RowIs}
+use Rattle.network_writer.proofs.Rows.{each-one}
+use Rattle.carry.specs.Trams.{left_of, all_left}
 use Rattle.carry.specs.declared.Standing.{Standing}
 use Rattle.carry.proofs.Trams.{left-is}
 use Rattle.carry.specs.Carried.{StandsAt, CarryAsked, TextPut}
@@ -66,13 +70,12 @@ module _ (letter : ℕ) where
       rw e (ap (λ (xs : List ℕ). xs ++ record_text letter (f (m + n))) (texts-plus m n f) ∙ append_assoc (record_texts letter m f) (record_texts letter n (λ k. f (m + k))) (record_text letter (f (m + n))))
 
 -- ---- what is asked of each block
-module _ {text : List ℕ} {reading : Reading} {links : List Link} {movements : List Movement} {st : Standing} (a : CarryAsked text reading links movements st)
-    {trams : List Tram} (held : TramTable (lines text) trams) where
+module _ {tables : NetworkTables} {st : Standing} (a : CarryAsked tables st) {trams : List Tram} (held : TramTable (lines tables.text.now) trams) where
   abbrev net : List Line
-  net = lines text
+  net = lines tables.text.now
 
   abbrev C : Counts
-  C = reading.counts
+  C = tables.reading.counts
 
   abbrev b : ℕ
   b = st.boundary
@@ -87,10 +90,10 @@ module _ {text : List ℕ} {reading : Reading} {links : List Link} {movements : 
   ledger = st.ledger.now
 
   formed : Formed net
-  formed = formed-of-holds net a.holds
+  formed = formed-of-holds net a.loaded.holds
 
   valid : ValidNetwork net
-  valid = valid-network net a.holds
+  valid = valid-network net a.loaded.holds
 
   tram-within : (k : ℕ) → k < tram_count net → (entry net (tram_line net k) 2 ≤ entry net (tram_line net k) 3) × (entry net (tram_line net k) 3 ≤ step_count net)
   unfolding valid_tram tram_exists within entry
@@ -99,21 +102,24 @@ module _ {text : List ℕ} {reading : Reading} {links : List Link} {movements : 
 
   left-clipped : all_left b trams C.trams ≡ clipped b (step_count net) (tram_lines net)
   unfolding is_form
-  left-clipped = rw a.counted.trams (left-is b held formed.tram-forms (λ k l. (tram-within k l).0) (λ k l. (tram-within k l).1))
+  left-clipped = rw a.loaded.counted.trams (left-is b held formed.tram-forms (λ k l. (tram-within k l).0) (λ k l. (tram-within k l).1))
 
   left-few : length (all_left b trams C.trams) ≤ C.trams
   unfolding tram_lines
-  left-few = omega (arith, ap length left-clipped, clipped-length b (step_count net) (take (tram_count net) (drop 1 net)), length-take (tram_count net) (drop 1 net), a.counted.trams)
+  left-few = omega (arith, ap length left-clipped, clipped-length b (step_count net) (take (tram_count net) (drop 1 net)), length-take (tram_count net) (drop 1 net), a.loaded.counted.trams)
 
   pub counts-asked : {left : ℕ} → left ≡ length (all_left b trams C.trams) → Few C × (b ≤ C.steps) × (left ≤ 16)
-  counts-asked e = (a.counted.few, omega (arith, a.within, a.counted.steps), omega (arith, left-few, a.counted.few.trams))
+  counts-asked e = (a.loaded.counted.few, omega (arith, a.within, a.loaded.counted.steps), omega (arith, left-few, a.loaded.counted.few.trams))
 
-  pub signals-asked : {at : ℕ} → Early C.signals at → SignalsAsked signals C.signals at
-  signals-asked e = record { few = a.counted.few.signals; size = a.signals-size; phases = λ r l. eight r (omega (arith, a.counted.signals)); early = e }
+  pub signals-asked : {output : Output} → Early C.signals output → SignalsAsked (take C.signals signals) output
+  signals-asked {output} e = record { phases = λ r l. eight r (omega (arith, length-take C.signals signals)); early = rw size e }
     where
-      eight : (r : ℕ) → r < signal_count net → (fields.signal_at signals r).phases ≤ 8
+      size : length (take C.signals signals) ≡ C.signals
+      size = length-take-le C.signals signals (omega (arith, a.signals-size, a.loaded.counted.few.signals))
+
+      eight : (r : ℕ) → r < C.signals → (signal_in (take C.signals signals) r).phases ≤ 8
       eight r h = unfold valid_phases within in
-          rw (ap (λ (s : Signal). s.phases) (a.stands.signals-at r h) ∙ same-phases net a.plan r b) (leb-true _ _ (and_right _ _ (valid.phases r h)))
+          rw (get_or-take C.signals signals r no_signal h, ap (λ (s : Signal). s.phases) (a.stands.signals-at r (omega (arith, a.loaded.counted.signals))) ∙ same-phases net a.plan r b) (leb-true _ _ (and_right _ _ (valid.phases r (omega (arith, a.loaded.counted.signals)))))
 
   -- the ledger's numbers are those of the plan
   standing-entered : (plan : List Line) → StandsAt net plan st → (n i : ℕ) → n ≤ b → i < link_count net → entered_at ledger (link_count net) n i ≡ entered net plan n i
@@ -123,10 +129,10 @@ module _ {text : List ℕ} {reading : Reading} {links : List Link} {movements : 
   standing-left plan s n i h l = ap (λ (x : List ℕ). get_or x (2 * n * link_count net + 2 * i + 1) 0) s.rows ∙ (written_at net plan ledger (suc b) n i (omega arith) l).1
 
   pub rising : Rising ledger C.links b
-  rising = rw a.counted.links (
+  rising = rw a.loaded.counted.links (
       record {
-        few-links = omega (arith, a.counted.links, a.counted.few.links);
-        few-steps = omega (arith, a.within, a.counted.steps, a.counted.few.steps);
+        few-links = omega (arith, a.loaded.counted.links, a.loaded.counted.few.links);
+        few-steps = omega (arith, a.within, a.loaded.counted.steps, a.loaded.counted.few.steps);
         rows = a.ledger-room;
         entered = λ n i h l. rw (add-one n) (omega (arith, standing-entered a.plan a.stands n i (omega arith) l, standing-entered a.plan a.stands (suc n) i h l, entered-suc net a.plan n i));
         left = λ n i h l. rw (add-one n) (omega (arith, standing-left a.plan a.stands n i (omega arith) l, standing-left a.plan a.stands (suc n) i h l, left-suc net a.plan n i));
@@ -136,7 +142,7 @@ module _ {text : List ℕ} {reading : Reading} {links : List Link} {movements : 
   past-forms : (k : ℕ) → k < C.past → is_form net (timeline_line net 0 + k) letter_h (1 + 2 * C.links) ≡ true
   unfolding is_form timeline_line
   past-forms k h =
-      let c = a.counted in
+      let c = a.loaded.counted in
       let e : timeline_line net 0 + k ≡ timeline_line net k = unfold timeline_line in omega arith in
       rw (e, c.links) (formed.past-forms k (omega (arith, c.past)))
 
@@ -146,75 +152,92 @@ module _ {text : List ℕ} {reading : Reading} {links : List Link} {movements : 
 
   step-forms : (n : ℕ) → n < b → is_form net (step_line net 0 + n) letter_s (1 + C.links) ≡ true
   unfolding is_form
-  step-forms n h = rw (step-place n, a.counted.links) (formed.step-forms n (omega (arith, a.within)))
+  step-forms n h = rw (step-place n, a.loaded.counted.links) (formed.step-forms n (omega (arith, a.within)))
 
   rest-forms : (n : ℕ) → n < C.steps - b → is_form net (step_line net 0 + b + n) letter_s (1 + C.links) ≡ true
   unfolding is_form
   rest-forms n h =
       let e : step_line net 0 + b + n ≡ step_line net 0 + (b + n) = omega arith in
-      rw (e, step-place (b + n), a.counted.links) (formed.step-forms (b + n) (omega (arith, a.within, a.counted.steps)))
+      rw (e, step-place (b + n), a.loaded.counted.links) (formed.step-forms (b + n) (omega (arith, a.within, a.loaded.counted.steps)))
 
   -- what was put of them
-  pub past-put : {at end : ℕ} {old new : List ℕ} → Copied text reading.past_at letter_h (1 + 2 * C.links) C.past at old new end
-      → Put C.past (record_texts letter_h C.past (λ k. list (1 + 2 * C.links) (entry net (timeline_line net 0 + k)))) at old new end
-  past-put p = p (timeline_line net 0) a.past-start past-forms
+  abbrev past : ℕ → PassedLines
+  past width = record { at = tables.reading.past_at; letter = letter_h; width = width; count = C.past }
 
-  pub steps-put : {at : ℕ} {old new : List ℕ} (places : Places) → StepsPut text reading.steps_at ledger C.links b at old new places
-      → Put b (record_texts letter_h b (λ n. entry net (step_line net 0 + n) 0 ∷ joined C.links (volumes_in ledger C.links n))) at old new places.at
-      × Starts text places.line (step_line net 0 + b)
-  steps-put places p = p (step_line net 0) a.steps-start step-forms
+  abbrev rest : ℕ → ℕ → PassedLines
+  rest at width = record { at = at; letter = letter_s; width = width; count = C.steps - b }
 
-  pub rest_put : (from : ℕ) {at end : ℕ} {old new : List ℕ} → Starts text from (step_line net 0 + b) → Copied text from letter_s (1 + C.links) (C.steps - b) at old new end
-      → Put (C.steps - b) (record_texts letter_s (C.steps - b) (λ k. list (1 + C.links) (entry net (step_line net 0 + b + k)))) at old new end
-  rest_put from s p = p (step_line net 0 + b) s rest-forms
+  past-put : {width : ℕ} → width ≡ 1 + 2 * C.links → {old new : Output} → Copied tables.text.now (past width) old new
+      → Put C.past (record_texts letter_h C.past (λ k. list (1 + 2 * C.links) (entry net (timeline_line net 0 + k)))) old new
+  past-put e p = rw e at p (timeline_line net 0) a.loaded.past-start past-forms
+
+  steps-put : {old new : Output} (next : ℕ) → StepsPut tables st old next new
+      → Put b (record_texts letter_h b (λ n. entry net (step_line net 0 + n) 0 ∷ joined C.links (volumes_in ledger C.links n))) old new
+      × Starts tables.text.now next (step_line net 0 + b)
+  steps-put next p = p (step_line net 0) a.loaded.steps-start step-forms
+
+  rest_put : (at : ℕ) {width : ℕ} → width ≡ 1 + C.links → {old new : Output} → Starts tables.text.now at (step_line net 0 + b) → Copied tables.text.now (rest at width) old new
+      → Put (C.steps - b) (record_texts letter_s (C.steps - b) (λ k. list (1 + C.links) (entry net (step_line net 0 + b + k)))) old new
+  rest_put at e s p = rw e at p (step_line net 0 + b) s rest-forms
 
   -- ---- there are few lines before each block
   abbrev few : Few C
-  few = a.counted.few
+  few = a.loaded.counted.few
 
-  module _ {t₁ old o₁ : List ℕ} {e₁ : ℕ} (p₁ : Put 1 t₁ 0 old o₁ e₁) where
-    module _ {t₂ o₂ : List ℕ} {e₂ : ℕ} (p₂ : Put C.trams t₂ e₁ o₁ o₂ e₂) where
-      pub signals-ready : SignalsAsked signals C.signals e₂
-      signals-ready = signals-asked (omega (arith, p₁.ends, p₁.few, p₂.ends, p₂.few, few.trams, few.signals))
+  module _ {t₁ : List ℕ} {o₀ o₁ : Output} (start : o₀.at ≡ 0) (p₁ : Put 1 t₁ o₀ o₁) where
+    pub trams-early : Early (length trams) o₁
+    trams-early = omega (arith, held.size, a.loaded.counted.trams, start, p₁.ends, p₁.few, few.trams)
 
-      module _ {t₃ o₃ : List ℕ} {e₃ : ℕ} (p₃ : Put C.signals t₃ e₂ o₂ o₃ e₃) where
-        module _ {t₄ o₄ : List ℕ} {e₄ : ℕ} (p₄ : Put C.links t₄ e₃ o₃ o₄ e₄) where
-          before-movements : e₄ ≤ longest * 49
-          before-movements = omega (arith, p₁.ends, p₁.few, p₂.ends, p₂.few, p₃.ends, p₃.few, p₄.ends, p₄.few, few.trams, few.signals, few.links)
+    module _ {t₂ : List ℕ} {o₂ : Output} (p₂ : Put C.trams t₂ o₁ o₂) where
+      pub signals-ready : SignalsAsked (take C.signals signals) o₂
+      signals-ready = signals-asked (omega (arith, start, p₁.ends, p₁.few, p₂.ends, p₂.few, few.trams, few.signals))
 
-          module _ {t₅ o₅ : List ℕ} {e₅ : ℕ} (p₅ : Put C.movements t₅ e₄ o₄ o₅ e₅) where
-            before-past : e₅ ≤ longest * 113
+      module _ {t₃ : List ℕ} {o₃ : Output} (p₃ : Put C.signals t₃ o₂ o₃) where
+        pub links-early : Early (length (take C.links tables.links.now)) o₃
+        links-early = omega (arith, length-take C.links tables.links.now, start, p₁.ends, p₁.few, p₂.ends, p₂.few, p₃.ends, p₃.few, few.trams, few.signals, few.links)
+
+        module _ {t₄ : List ℕ} {o₄ : Output} (p₄ : Put C.links t₄ o₃ o₄) where
+          before-movements : o₄.at ≤ longest * 49
+          before-movements = omega (arith, start, p₁.ends, p₁.few, p₂.ends, p₂.few, p₃.ends, p₃.few, p₄.ends, p₄.few, few.trams, few.signals, few.links)
+
+          pub movements-early : Early (length (take C.movements tables.movements.now)) o₄
+          movements-early = omega (arith, length-take C.movements tables.movements.now, before-movements, few.movements)
+
+          module _ {t₅ : List ℕ} {o₅ : Output} (p₅ : Put C.movements t₅ o₄ o₅) where
+            before-past : o₅.at ≤ longest * 113
             before-past = omega (arith, before-movements, p₅.ends, p₅.few, few.movements)
 
-            module _ {o₆ : List ℕ} {e₆ : ℕ} (p₆ : Copied text reading.past_at letter_h (1 + 2 * C.links) C.past e₅ o₅ o₆ e₆) where
-              before-steps : e₆ ≤ longest * 233
-              before-steps = omega (arith, before-past, (past-put p₆).ends, (past-put p₆).few, few.past)
+            pub past-ready : {width : ℕ} → width ≡ 1 + 2 * C.links → (width ≤ past_size) × Early C.past o₅
+            past-ready e = (omega (arith, few.links), omega (arith, before-past, few.past))
 
-              pub steps-ready : Rising ledger C.links b × Early b e₆
-              steps-ready = (rising, omega (arith, before-steps, a.within, a.counted.steps, few.steps))
+            module _ {width : ℕ} (e : width ≡ 1 + 2 * C.links) {o₆ : Output} (p₆ : Copied tables.text.now (past width) o₅ o₆) where
+              before-steps : o₆.at ≤ longest * 233
+              before-steps = omega (arith, before-past, (past-put e p₆).ends, (past-put e p₆).few, few.past)
 
-              pub rest-ready : {o₇ : List ℕ} (places : Places) → StepsPut text reading.steps_at ledger C.links b e₆ o₆ o₇ places
-                  → (1 + C.links ≤ past_size) × Early (C.steps - b) places.at
-              rest-ready places p₇ =
-                  let q = (steps-put places p₇).0 in
-                  (omega (arith, few.links), omega (arith, before-steps, q.ends, q.few, a.within, a.counted.steps, few.steps))
+              pub steps-ready : StepsPutAsked tables st o₆
+              steps-ready = record { rising = rising; early = omega (arith, before-steps, a.within, a.loaded.counted.steps, few.steps) }
+
+              pub rest-ready : {o₇ : Output} (next : ℕ) {rest-width : ℕ} → rest-width ≡ 1 + C.links → StepsPut tables st o₆ next o₇ → (rest-width ≤ past_size) × Early (C.steps - b) o₇
+              rest-ready next w p₇ =
+                  let q = (steps-put next p₇).0 in
+                  (omega (arith, few.links), omega (arith, before-steps, q.ends, q.few, a.within, a.loaded.counted.steps, few.steps))
 
   -- ---- each block is the carried network's
   module _ (plan : List Line) (s : StandsAt net plan st) where
     counts_same : {left : ℕ} → left ≡ length (all_left b trams C.trams) → count_row C b left ≡ count_numbers (part net plan b (step_count net))
     unfolding count_row count_numbers part on_timeline
-    counts_same e = let c = a.counted in rw (c.links, c.signals, c.movements, c.steps, c.past, e ∙ ap length left-clipped) refl
+    counts_same e = let c = a.loaded.counted in simp (c.links, c.signals, c.movements, c.steps, c.past, e ∙ ap length left-clipped) refl
 
-    signals-same : record_texts letter_g C.signals (λ r. signal_numbers (fields.signal_at signals r)) ≡ record_texts letter_g (signal_count net) (λ r. signal_numbers (signal_at net plan b r))
-    signals-same = rw a.counted.signals (records-same letter_g _ _ (signal_count net) (λ r l. ap signal_numbers (s.signals-at r l)))
+    signals-same : record_texts letter_g C.signals (λ r. signal_numbers (signal_in signals r)) ≡ record_texts letter_g (signal_count net) (λ r. signal_numbers (signal_at net plan b r))
+    signals-same = rw a.loaded.counted.signals (records-same letter_g _ _ (signal_count net) (λ r l. ap signal_numbers (s.signals-at r l)))
 
-    links-same : record_texts letter_q C.links (link_row links waiting) ≡ record_texts letter_q (link_count net) (link_numbers net plan b (step_count net))
-    links-same = rw a.counted.links (records-same letter_q _ _ (link_count net) (λ i l. unfold link_row link_numbers in
-        rw (capacity-at a.link-table i l, travel-time-at a.link-table i l, exit-rate-at a.link-table i l, signal-of-at a.link-table i l, phase-mask-at a.link-table i l, standing-at a.link-table i l, s.waiting-at i l) refl))
+    links-same : record_texts letter_q C.links (link_row tables.links.now waiting) ≡ record_texts letter_q (link_count net) (link_numbers net plan b (step_count net))
+    links-same = rw a.loaded.counted.links (records-same letter_q _ _ (link_count net) (λ i l. unfold link_row link_numbers in
+        rw (capacity-at a.loaded.link-table i l, travel-time-at a.loaded.link-table i l, exit-rate-at a.loaded.link-table i l, signal-of-at a.loaded.link-table i l, phase-mask-at a.loaded.link-table i l, standing-at a.loaded.link-table i l, s.waiting-at i l) refl))
 
-    movements-same : record_texts letter_m C.movements (movement_row movements) ≡ record_texts letter_m (movement_count net) (movement_numbers net plan b (step_count net))
-    movements-same = rw a.counted.movements (records-same letter_m _ _ (movement_count net) (λ j l. unfold movement_row movement_numbers in
-        rw (from-link-at a.movement-table j l, to-link-at a.movement-table j l, rate-at a.movement-table j l, share-at a.movement-table j l) refl))
+    movements-same : record_texts letter_m C.movements (λ j. movement_row (movement_at tables.movements.now j)) ≡ record_texts letter_m (movement_count net) (movement_numbers net plan b (step_count net))
+    movements-same = rw a.loaded.counted.movements (records-same letter_m _ _ (movement_count net) (λ j l. unfold movement_numbers in
+        rw (from-link-at a.loaded.movement-table j l, to-link-at a.loaded.movement-table j l, rate-at a.loaded.movement-table j l, share-at a.loaded.movement-table j l) refl))
 
     past_row : (k : ℕ) → k < past_count net → list (1 + 2 * link_count net) (entry net (timeline_line net 0 + k)) ≡ past_numbers net plan b (step_count net) k
     unfolding past_numbers timeline_length past_entries past_exits
@@ -226,7 +249,7 @@ module _ {text : List ℕ} {reading : Reading} {links : List Link} {movements : 
         (joined_same (link_count net) _ _ (λ i l. ap₂ (λ x y. x ∷ y ∷ []) (sym (past-inflow net plan k i h)) (sym (past-outflow net plan k i h)))))
 
     past_same : record_texts letter_h C.past (λ k. list (1 + 2 * C.links) (entry net (timeline_line net 0 + k))) ≡ record_texts letter_h (past_count net) (past_numbers net plan b (step_count net))
-    past_same = rw (a.counted.past, a.counted.links) (records-same letter_h _ _ (past_count net) past_row)
+    past_same = simp (a.loaded.counted.past, a.loaded.counted.links) (records-same letter_h _ _ (past_count net) past_row)
 
     step-volumes : (n i : ℕ) → n < b → i < link_count net → volumes_in ledger (link_count net) n i ≡ timeline_inflow net plan (on_timeline net n) i ∷ timeline_outflow net plan (on_timeline net n) i ∷ []
     unfolding volumes_in
@@ -245,7 +268,7 @@ module _ {text : List ℕ} {reading : Reading} {links : List Link} {movements : 
 
     steps-same : record_texts letter_h b (λ n. entry net (step_line net 0 + n) 0 ∷ joined C.links (volumes_in ledger C.links n)) ≡ record_texts letter_h b (λ n. past_numbers net plan b (step_count net) (past_count net + n))
     unfolding on_timeline
-    steps-same = rw a.counted.links (records-same letter_h _ _ b step_row)
+    steps-same = rw a.loaded.counted.links (records-same letter_h _ _ b step_row)
 
     rest-row : (k : ℕ) → list (1 + link_count net) (entry net (step_line net 0 + b + k)) ≡ step_numbers net plan b (step_count net) k
     unfolding step_numbers step_length timeline_length step_line demand
@@ -254,25 +277,54 @@ module _ {text : List ℕ} {reading : Reading} {links : List Link} {movements : 
         rw e (list-first (link_count net) (entry net (step_line net (b + k))))
 
     rest-same : record_texts letter_s (C.steps - b) (λ k. list (1 + C.links) (entry net (step_line net 0 + b + k))) ≡ record_texts letter_s (step_count net - b) (step_numbers net plan b (step_count net))
-    rest-same = rw (a.counted.steps, a.counted.links) (records-same letter_s _ _ (step_count net - b) (λ k l. rest-row k))
+    rest-same = simp (a.loaded.counted.steps, a.loaded.counted.links) (records-same letter_s _ _ (step_count net - b) (λ k l. rest-row k))
+
+  -- ---- the tables' blocks, as they were put by a part of each table
+  trams-all : length trams ≡ C.trams
+  trams-all = held.size ∙ sym a.loaded.counted.trams
+
+  pub trams-counted : {left : ℕ} → left ≡ length (all_left b trams (length trams)) → left ≡ length (all_left b trams C.trams)
+  trams-counted e = rw trams-all at e
+
+  pub trams-put : {old new : Output} → Put (length trams) (line_texts letter_t (all_left b trams (length trams))) old new → Put C.trams (line_texts letter_t (all_left b trams C.trams)) old new
+  trams-put p = rw trams-all at p
+
+  pub signals-put : {old new : Output} → Put (length (take C.signals signals)) (record_texts letter_g (length (take C.signals signals)) (λ r. signal_numbers (signal_in (take C.signals signals) r))) old new
+      → Put C.signals (record_texts letter_g C.signals (λ r. signal_numbers (signal_in signals r))) old new
+  signals-put p =
+      let e = length-take-le C.signals signals (omega (arith, a.signals-size, few.signals)) in
+      rw (e, records-same letter_g _ (λ r. signal_numbers (signal_in signals r)) C.signals (λ r l. ap signal_numbers (get_or-take C.signals signals r no_signal l))) at p
+
+  pub links-put : {old new : Output} → Put (length (take C.links tables.links.now)) (line_texts letter_q (rows_to (length (take C.links tables.links.now)) (λ i. link_row tables.links.now waiting i ∷ []))) old new
+      → Put C.links (record_texts letter_q C.links (link_row tables.links.now waiting)) old new
+  links-put p =
+      let e = length-take-le C.links tables.links.now (omega (arith, a.loaded.link-table.size, few.links)) in
+      rw (e, each-one letter_q (link_row tables.links.now waiting) C.links) at p
+
+  pub movements-put : {old new : Output}
+      → Put (length (take C.movements tables.movements.now)) (line_texts letter_m (rows_to (length (take C.movements tables.movements.now)) (λ j. movement_row (movement_at tables.movements.now j) ∷ []))) old new
+      → Put C.movements (record_texts letter_m C.movements (λ j. movement_row (movement_at tables.movements.now j))) old new
+  movements-put p =
+      let e = length-take-le C.movements tables.movements.now (omega (arith, a.loaded.movement-table.size, few.movements)) in
+      rw (e, each-one letter_m (λ j. movement_row (movement_at tables.movements.now j)) C.movements) at p
 
   -- ---- all blocks, one behind another
-  module _ {left e₁ e₂ e₃ e₄ e₅ e₆ : ℕ} {end : ℕ} (places : Places) {old o₁ o₂ o₃ o₄ o₅ o₆ o₇ new : List ℕ}
+  module _ (next : ℕ) {left width rest-width : ℕ} {o₀ o₁ o₂ o₃ o₄ o₅ o₆ o₇ o₈ : Output} (start : o₀.at ≡ 0)
       (counted : left ≡ length (all_left b trams C.trams))
-      (p₁ : Put 1 (record_text letter_n (count_row C b left)) 0 old o₁ e₁)
-      (p₂ : Put C.trams (line_texts letter_t (all_left b trams C.trams)) e₁ o₁ o₂ e₂)
-      (p₃ : Put C.signals (record_texts letter_g C.signals (λ r. signal_numbers (fields.signal_at signals r))) e₂ o₂ o₃ e₃)
-      (p₄ : Put C.links (record_texts letter_q C.links (link_row links waiting)) e₃ o₃ o₄ e₄)
-      (p₅ : Put C.movements (record_texts letter_m C.movements (movement_row movements)) e₄ o₄ o₅ e₅)
-      (p₆ : Copied text reading.past_at letter_h (1 + 2 * C.links) C.past e₅ o₅ o₆ e₆)
-      (p₇ : StepsPut text reading.steps_at ledger C.links b e₆ o₆ o₇ places)
-      (p₈ : Copied text places.line letter_s (1 + C.links) (C.steps - b) places.at o₇ new end) where
+      (p₁ : Put 1 (record_text letter_n (count_row C b left)) o₀ o₁)
+      (p₂ : Put C.trams (line_texts letter_t (all_left b trams C.trams)) o₁ o₂)
+      (p₃ : Put C.signals (record_texts letter_g C.signals (λ r. signal_numbers (signal_in signals r))) o₂ o₃)
+      (p₄ : Put C.links (record_texts letter_q C.links (link_row tables.links.now waiting)) o₃ o₄)
+      (p₅ : Put C.movements (record_texts letter_m C.movements (λ j. movement_row (movement_at tables.movements.now j))) o₄ o₅)
+      (e : width ≡ 1 + 2 * C.links) (p₆ : Copied tables.text.now (past width) o₅ o₆)
+      (p₇ : StepsPut tables st o₆ next o₇)
+      (d : rest-width ≡ 1 + C.links) (p₈ : Copied tables.text.now (rest next rest-width) o₇ o₈) where
     whole-text : (plan : List Line) → StandsAt net plan st
         → record_text letter_n (count_row C b left)
         ++ (line_texts letter_t (all_left b trams C.trams)
-        ++ (record_texts letter_g C.signals (λ r. signal_numbers (fields.signal_at signals r))
-        ++ (record_texts letter_q C.links (link_row links waiting)
-        ++ (record_texts letter_m C.movements (movement_row movements)
+        ++ (record_texts letter_g C.signals (λ r. signal_numbers (signal_in signals r))
+        ++ (record_texts letter_q C.links (link_row tables.links.now waiting)
+        ++ (record_texts letter_m C.movements (λ j. movement_row (movement_at tables.movements.now j))
         ++ ((record_texts letter_h C.past (λ k. list (1 + 2 * C.links) (entry net (timeline_line net 0 + k)))
         ++ record_texts letter_h b (λ n. entry net (step_line net 0 + n) 0 ∷ joined C.links (volumes_in ledger C.links n)))
         ++ record_texts letter_s (C.steps - b) (λ k. list (1 + C.links) (entry net (step_line net 0 + b + k))))))))
@@ -292,9 +344,8 @@ module _ {text : List ℕ} {reading : Reading} {links : List Link} {movements : 
           ← texts-plus letter_h (past_count net) b (past_numbers net plan b (step_count net)),
         ) refl
 
-    pub all-put : TextPut text st old new end
-    all-put plan s =
-        let (q, starts) = steps-put places p₇ in
-        let p = puts-more p₁ (puts-more p₂ (puts-more p₃ (puts-more p₄ (puts-more p₅ (puts-more (puts-more (past-put p₆) q) (rest_put places.line starts p₈)))))) in
-        let e = whole-text plan s in
-        record { long = omega (arith, p.ends, ap length e); is = λ h. p.is h ∙ put_first _ old ∙ ap (λ (x : List ℕ). over x old) e }
+    pub all-put : TextPut tables.text.now st o₀.out.now o₈.out.now o₈.at × (o₈.out.ghost_name ≡ o₀.out.ghost_name)
+    all-put =
+        let (q, starts) = steps-put next p₇ in
+        let p = puts-more p₁ (puts-more p₂ (puts-more p₃ (puts-more p₄ (puts-more p₅ (puts-more (puts-more (past-put e p₆) q) (rest_put next d starts p₈)))))) in
+        (λ plan s. let t = whole-text plan s in record { long = omega (arith, start, p.ends, ap length t); is = λ h. rw start at (p.is h) ∙ put_first _ o₀.out.now ∙ ap (λ (x : List ℕ). over x o₀.out.now) t }, p.buffer)

@@ -1,17 +1,13 @@
 -- What the writing of a carried network asks and promises.
 use Rattle.std.specs.Prelude.{ℕ, suc, ◌*◌, ◌≤◌, ◌<◌, ◌≡◌, List, length, get_or, Result}
-use Rattle.base_search.specs.Checks.{Hold}
 use Rattle.text_reader.specs.Lines.{Line, lines}
-use Rattle.text_reader.specs.Reading.{Starts}
-use Rattle.model.specs.Network.{max_links, max_signals, link_count, signal_count, step_count, tram_line, timeline_line, step_line}
+use Rattle.model.specs.declared.Signal.{Signal}
+use Rattle.model.specs.Network.{max_links, max_signals, link_count, signal_count, step_count}
 use Rattle.model.specs.Flows.{signal_at, waits}
-use Rattle.model.specs.Table.{network_checks}
 use Rattle.model.specs.Calls.{written}
-use Rattle.network_tables.specs.declared.Reading.{Reading}
-use Rattle.network_tables.specs.declared.Link.{Link}
-use Rattle.network_tables.specs.declared.Movement.{Movement}
+use Rattle.network_tables.specs.declared.NetworkTables.{NetworkTables}
 use Rattle.network_tables.specs.Fields as fields
-use Rattle.network_tables.specs.Tables.{CountsHold, LinkTable, MovementTable}
+use Rattle.network.specs.Loading.{TablesLoaded}
 use Rattle.model_text.specs.Answers.{room_verdict, Told}
 use Rattle.model_carry.specs.Part.{carried_text}
 use Rattle.network_writer.specs.Put.{PutWhole}
@@ -24,21 +20,16 @@ pub record StandsAt (network plan : List Line) (at : Standing) : Type 0 where
   pub waiting-at : (i : ℕ) → i < link_count network → get_or at.waiting.now i 0 ≡ waits network plan at.boundary i
   pub rows : at.ledger.now ≡ written network plan at.ledger.now (suc at.boundary)
 
--- a network text that has passed, with its tables and where its lines start, and how it stands at a boundary of some plan
-pub record CarryAsked (text : List ℕ) (reading : Reading) (links : List Link) (movements : List Movement) (at : Standing) : Type 0 where
-  pub holds : Hold (network_checks (lines text))
-  pub counted : CountsHold (lines text) reading.counts
-  pub trams-start : Starts text reading.trams_at (tram_line (lines text) 0)
-  pub past-start : Starts text reading.past_at (timeline_line (lines text) 0)
-  pub steps-start : Starts text reading.steps_at (step_line (lines text) 0)
-  pub link-table : LinkTable (lines text) links
-  pub movement-table : MovementTable (lines text) movements
+-- the tables of a network that has passed, and how it stands at a boundary of some plan
+pub record CarryAsked (tables : NetworkTables) (at : Standing) : Type 0 where
+  pub before : List Signal
+  pub loaded : TablesLoaded tables before
   pub signals-size : length at.signals.now ≡ max_signals
   pub waiting-size : length at.waiting.now ≡ max_links
-  pub within : at.boundary < step_count (lines text)
-  pub ledger-room : 2 * suc at.boundary * link_count (lines text) ≤ length at.ledger.now
+  pub within : at.boundary < step_count (lines tables.text.now)
+  pub ledger-room : 2 * suc at.boundary * link_count (lines tables.text.now) ≤ length at.ledger.now
   pub plan : List Line
-  pub stands : StandsAt (lines text) plan at
+  pub stands : StandsAt (lines tables.text.now) plan at
 
 -- the whole text was put
 abbrev pub TextPut : List ℕ → Standing → List ℕ → List ℕ → ℕ → Type 0

@@ -4,16 +4,16 @@ use Rattle.text_reader.specs.Lines.{lines}
 use Rattle.model.specs.Network.{link_count, step_count}
 use Rattle.model.specs.declared.Signal.{Signal}
 use Rattle.network_tables.specs.declared.NetworkTables.{NetworkTables}
-use Rattle.network.specs.Loading.{Loaded}
+use Rattle.network.specs.Loading.{TablesLoaded}
 use Rattle.model_carry.specs.Call.{planned_on, carry_on, carry_ledger, carry_buffer}
 use Rattle.base_search.specs.declared.Refusal.{Refusal}
 
 -- a boundary of the plan, and room for the rows up to it
-pub record StepsAsked (network_text : List ℕ) (b : ℕ) (tables : NetworkTables) (signals : List Signal) (ledger : List ℕ) : Type 0 where
-  pub loaded : Loaded network_text signals tables.links.now tables.movements.now tables.times.now tables.reading
+pub record StepsAsked (tables : NetworkTables) (b : ℕ) (signals : List Signal) (ledger : List ℕ) : Type 0 where
+  pub loaded : TablesLoaded tables signals
   pub first : 1 ≤ b
-  pub last : b < step_count (lines network_text)
-  pub room : 2 * suc b * link_count (lines network_text) ≤ length ledger
+  pub last : b < step_count (lines tables.text.now)
+  pub room : 2 * suc b * link_count (lines tables.text.now) ≤ length ledger
 
 -- the answer, the ledger and the buffer are those of the definitions
 pub record CarryGot (network_text plan_text : List ℕ) (b : ℕ) (ledger ledger_after buffer buffer_after : List ℕ) (answer : Result ℕ Refusal) : Type 0 where

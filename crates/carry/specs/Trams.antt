@@ -1,7 +1,8 @@
 -- The trams that are left behind a boundary.
-use Rattle.std.specs.Prelude.{ℕ, zero, suc, ◌-◌, max, cond, List, [], ◌∷◌, ◌++◌, ltb}
+use Rattle.std.specs.Prelude.{ℕ, suc, ◌-◌, max, cond, List, [], ◌∷◌, ltb}
 use Rattle.network_tables.specs.declared.Tram.{Tram}
 use Rattle.network_tables.specs.Fields.{tram_at}
+use Rattle.network_writer.specs.Texts.{rows_to}
 
 -- the numbers of what is left of a tram behind boundary b: one line, or none
 unfoldable pub left_of : ℕ → Tram → List (List ℕ)
@@ -11,6 +12,5 @@ left_of b tram =
     []
 
 -- .. and of the first trams of a table, so many
-unfoldable pub all_left : ℕ → List Tram → ℕ → List (List ℕ)
-all_left b trams zero = []
-all_left b trams (suc k) = all_left b trams k ++ left_of b (tram_at trams k)
+abbrev pub all_left : ℕ → List Tram → ℕ → List (List ℕ)
+all_left b trams count = rows_to count (λ k. left_of b (tram_at trams k))

@@ -2,35 +2,34 @@
 // it, then into the buffer, if all of it fits.
 #![tactic(auto)]
 
-ghost use Rattle.std.specs.Prelude.{◌≡◌, ◌∷◌, ◌≤◌, length, get_or, option_to_list};
+ghost use Rattle.std.specs.Prelude.{◌≡◌, ◌∷◌, ◌<◌, ◌≤◌, length, get_or, map, option_to_list};
 ghost use Rattle.text_reader.specs.Lines.{lines};
 ghost use Rattle.text_reader.specs.Padding.{PaddingIgnored};
 ghost use Rattle.text_reader.specs.Reading.{over};
-ghost use Rattle.text_writer.specs.Records.{record_text, record_texts};
+ghost use Rattle.text_writer.specs.Records.{record_texts};
 ghost use Rattle.base_laws.specs.Sum.{joined};
 ghost use Rattle.model.specs.Network.{max_trams};
-ghost use Rattle.model.specs.Table.{letter_n, letter_t, letter_g, letter_q, letter_m};
+ghost use Rattle.model.specs.Table.{letter_g};
 ghost use Rattle.network_tables.specs.Places.{Few};
-ghost use Rattle.network_tables.specs.Fields.{signal_at, past_size};
+ghost use Rattle.network_tables.specs.Fields.{signal_at, past_size, tram_row};
 ghost use Rattle.network_tables.specs.Tables.{TramTable};
-ghost use Rattle.network.specs.Loading.{Loaded};
+ghost use Rattle.network.specs.Loading.{TablesLoaded};
 ghost use Rattle.model_carry.specs.Call.{planned_on};
 ghost use Rattle.model_carry.specs.CarriesOn.{CarriedOn};
 ghost use Rattle.model_carry.specs.Part.{signal_numbers};
 ghost use Rattle.network_writer.specs.Put.{Put, Early};
-ghost use Rattle.network_writer.specs.Texts.{line_texts};
 ghost use Rattle.carry.specs.Carrying.{StepsAsked, CarryGot};
-ghost use Rattle.carry.specs.Rows.{count_row, signal_row, link_row, movement_row, volumes_in, Copied, SignalsAsked, LinksAsked, MovementsAsked, Rising, VolumesAsked, StepsPut};
+ghost use Rattle.carry.specs.Rows.{count_row, volumes_in, Copied, SignalsAsked, VolumesAsked, StepsPutAsked, StepsPut};
 ghost use Rattle.carry.specs.Carried.{CarryAsked, TextPut, TextWritten};
-ghost use Rattle.carry.specs.Trams.{left_of, all_left};
+ghost use Rattle.carry.specs.Trams.{left_of};
 
-use base_search::Refusal;
-use model::Signal;
+use base_search::{Reason, Refusal};
+use model::{SIGNAL_FIELDS, Signal};
 use network_tables::{
-    Counts, Link, MAX_LINKS, MAX_MOVEMENTS, MAX_SIGNALS, MAX_TRAMS, Movement, NetworkTables,
-    PAST_SIZE, SIGNAL_FIELDS, TIME_TABLE_SIZE, TRAM_FIELDS, Tram, read_again,
+    COUNT_FIELDS, Counts, Link, MAX_LINKS, MAX_MOVEMENTS, MAX_SIGNALS, MAX_TRAMS, Movement,
+    NetworkTables, PAST_SIZE, TIME_TABLE_SIZE, Tram, entered_at, left_at, read_again, row_start,
 };
-use network_writer::{Places, put_line};
+use network_writer::{Output, count_rows};
 
 // How a network stands at a boundary of a plan: its signals, the vehicles that wait, and the ledger's rows up to there. All are lent.
 #[derive(Clone, Copy)]
@@ -41,286 +40,173 @@ struct Standing<'a> {
     pub ledger: &'a [u32],
 }
 
-// Writes lines that have passed as they are: so many of a letter and a number of numbers, from a place of the text on.
-fn copy_lines(
-    text: &[u8],
-    from: usize,
+// Lines of a network that have passed: where the first starts, their letter, how many numbers each has, and how many they are.
+#[derive(Clone, Copy)]
+struct PassedLines {
+    at: usize,
     letter: u8,
     width: usize,
     count: usize,
-    out: &mut [u8],
-    at: usize,
-) -> usize
-    requires { (width ≤ past_size) × Early count at }
-    ensures { Copied text.now from letter width count at out.old out.new result }
-{
-    let mut row = [0u32; PAST_SIZE];
-    let mut line = from;
-    let mut end = at;
-    for _ in 0..count {
-        line = read_again(text, line, letter, &mut row, width);
-        end = put_line(letter, &row[..width], out, end);
-    }
-    end
 }
 
-// Writes the `N` line. No count is too large for a field, so that no cast loses anything.
-fn put_counts(counts: Counts, boundary: usize, trams: usize, out: &mut [u8]) -> usize
+impl PassedLines {
+    // Puts them as they are.
+    fn put(self, text: &[u8], output: &mut Output)
+        requires { (self.width ≤ past_size) × Early self.count output.old }
+        ensures { Copied text.now self output.old output.new }
+    {
+        let mut row = [0u32; PAST_SIZE];
+        let mut line = self.at;
+        for _ in 0..self.count {
+            line = read_again(text, line, self.letter, &mut row, self.width);
+            output.put_line(self.letter, &row[..self.width]);
+        }
+    }
+}
+
+// The numbers of the `N` line. No count is too large for a field, so that no cast loses anything.
+#[tactic(auto, unfolding(crate::specs::Rows::count_row))]
+fn count_row(counts: Counts, boundary: usize, trams: usize) -> [u32; COUNT_FIELDS]
     requires { Few counts × (boundary ≤ counts.steps) × (trams ≤ max_trams) }
-    ensures { Put 1 (record_text letter_n (count_row counts boundary trams)) 0 out.old out.new result }
+    ensures { result ≡ count_row counts boundary trams }
 {
-    let row = [
+    [
         counts.links as u32,
         counts.signals as u32,
         counts.movements as u32,
         (counts.steps - boundary) as u32,
         trams as u32,
         (counts.past + boundary) as u32,
-    ];
-    put_line(b'N', &row, out, 0)
+    ]
 }
 
-// What is left of a tram behind a boundary, as the numbers of its line: its steps are counted from there.
-fn rest_of(tram: Tram, boundary: u32) -> Option<[u32; TRAM_FIELDS]>
-    ensures { option_to_list result ≡ left_of boundary tram }
+// What is left of a tram behind a boundary: its steps are counted from there.
+fn rest_of(tram: Tram, boundary: u32) -> Option<Tram>
+    ensures { map tram_row (option_to_list result) ≡ left_of boundary tram }
 {
     if tram.last_step <= boundary {
         return None;
     }
-    let first_step = tram.first_step.saturating_sub(boundary).max(1);
-    let last_step = tram.last_step - boundary;
-    Some([tram.signal, tram.phase, first_step, last_step])
+    Some(Tram {
+        first_step: tram.first_step.saturating_sub(boundary).max(1),
+        last_step: tram.last_step - boundary,
+        ..tram
+    })
 }
 
-// How many trams are left behind a boundary.
-fn count_trams(trams: &[Tram], count: usize, boundary: u32) -> usize
-    requires { count ≤ length trams.now }
-    ensures { result ≡ length (all_left boundary trams.now count) }
+// Puts the `G` lines of signals: each has numbers as far as its phases go.
+fn put_signals(signals: &[Signal], output: &mut Output)
+    requires { SignalsAsked signals.now output.old }
+    ensures { Put (length signals.now) (record_texts letter_g (length signals.now) (λ k. signal_numbers (signal_at signals.now k))) output.old output.new }
 {
-    trams[..count]
-        .iter()
-        .filter(|tram| rest_of(**tram, boundary).is_some())
-        .count()
-}
-
-// Writes what is left of a tram behind a boundary.
-fn put_tram(tram: Tram, boundary: u32, out: &mut [u8], at: usize) -> usize
-    requires { Early 1 at }
-    ensures { Put 1 (line_texts letter_t (left_of boundary tram)) at out.old out.new result }
-{
-    match rest_of(tram, boundary) {
-        Some(row) => put_line(b'T', &row, out, at),
-        None => at,
+    for signal in signals {
+        let row = <[u32; SIGNAL_FIELDS]>::from(signal);
+        output.put_line(b'G', &row[..signal.width()]);
     }
-}
-
-// Writes the lines of the trams that are left behind a boundary, in their old order.
-fn put_trams(trams: &[Tram], count: usize, boundary: u32, out: &mut [u8], at: usize) -> usize
-    requires { (count ≤ length trams.now) × Early count at }
-    ensures { Put count (line_texts letter_t (all_left boundary trams.now count)) at out.old out.new result }
-{
-    let mut end = at;
-    for tram in &trams[..count] {
-        end = put_tram(*tram, boundary, out, end);
-    }
-    end
-}
-
-// A signal's numbers as its `G` line has them, with room for eight phases.
-fn signal_row(signal: &Signal) -> [u32; SIGNAL_FIELDS]
-    ensures { result ≡ signal_row signal.now }
-{
-    let least = signal.least;
-    let greatest = signal.greatest;
-    [
-        signal.least_cycle,
-        signal.greatest_cycle,
-        signal.phases,
-        signal.shown,
-        signal.shown_for,
-        signal.cycle_clock,
-        least[0],
-        greatest[0],
-        least[1],
-        greatest[1],
-        least[2],
-        greatest[2],
-        least[3],
-        greatest[3],
-        least[4],
-        greatest[4],
-        least[5],
-        greatest[5],
-        least[6],
-        greatest[6],
-        least[7],
-        greatest[7],
-    ]
-}
-
-// Writes the `G` lines, with the signals as they stand at the boundary: each has numbers as far as its phases go.
-fn put_signals(signals: &[Signal], count: usize, out: &mut [u8], at: usize) -> usize
-    requires { SignalsAsked signals.now count at }
-    ensures { Put count (record_texts letter_g count (λ k. signal_numbers (signal_at signals.now k))) at out.old out.new result }
-{
-    let mut end = at;
-    for signal in &signals[..count] {
-        let row = signal_row(signal);
-        // At most eight phases: the cast loses nothing.
-        let width = 6 + 2 * signal.phases as usize;
-        end = put_line(b'G', &row[..width], out, end);
-    }
-    end
-}
-
-// Writes the `Q` lines, with who waits at the boundary.
-fn put_links(links: &[Link], waiting: &[u32], count: usize, out: &mut [u8], at: usize) -> usize
-    requires { LinksAsked links.now waiting.now count at }
-    ensures { Put count (record_texts letter_q count (link_row links.now waiting.now)) at out.old out.new result }
-{
-    let mut end = at;
-    for (i, link) in links[..count].iter().enumerate() {
-        let row = [
-            link.capacity,
-            link.travel_time,
-            link.exit_rate,
-            link.signal,
-            link.phase_mask,
-            link.standing,
-            waiting[i],
-        ];
-        end = put_line(b'Q', &row, out, end);
-    }
-    end
-}
-
-// Writes the `M` lines.
-fn put_movements(movements: &[Movement], count: usize, out: &mut [u8], at: usize) -> usize
-    requires { MovementsAsked movements.now count at }
-    ensures { Put count (record_texts letter_m count (movement_row movements.now)) at out.old out.new result }
-{
-    let mut end = at;
-    for movement in &movements[..count] {
-        let row = [movement.from, movement.to, movement.rate, movement.share];
-        end = put_line(b'M', &row, out, end);
-    }
-    end
 }
 
 // What entered each link in step n, and left it, by the rows of the ledger before and after the step, goes behind the step's length.
-fn fill_volumes(ledger: &[u32], links: usize, boundary: usize, n: usize, row: &mut [u32])
-    requires { VolumesAsked ledger.now links boundary n row.old }
+fn fill_volumes(ledger: &[u32], links: usize, n: usize, row: &mut [u32])
+    requires { VolumesAsked ledger.now links n row.old }
     ensures { row.new ≡ over (get_or row.old 0 0 ∷ joined links (volumes_in ledger.now links n)) row.old }
 {
     for i in 0..links {
-        let entered = network_tables::entered_at(ledger, links, n, i);
-        let left = network_tables::left_at(ledger, links, n, i);
-        row[1 + 2 * i] = network_tables::entered_at(ledger, links, n + 1, i) - entered;
-        row[2 + 2 * i] = network_tables::left_at(ledger, links, n + 1, i) - left;
+        let entered = entered_at(ledger, links, n, i);
+        let left = left_at(ledger, links, n, i);
+        row[1 + 2 * i] = entered_at(ledger, links, n + 1, i) - entered;
+        row[2 + 2 * i] = left_at(ledger, links, n + 1, i) - left;
     }
 }
 
-// Writes the steps before the boundary as `H` lines: their lengths by their `S` lines, which start at `from`, and their volumes by the ledger.
-fn put_steps(
-    text: &[u8],
-    from: usize,
-    ledger: &[u32],
-    links: usize,
-    boundary: usize,
-    out: &mut [u8],
-    at: usize,
-) -> Places
-    requires { Rising ledger.now links boundary × Early boundary at }
-    ensures { StepsPut text.now from ledger.now links boundary at out.old out.new result }
+// Puts the steps before the boundary as `H` lines: their lengths by their `S` lines, and their volumes by the ledger. Returns where the next `S` line starts.
+fn put_steps(tables: &NetworkTables, standing: &Standing, output: &mut Output) -> usize
+    requires { StepsPutAsked tables.now standing.now output.old }
+    ensures { StepsPut tables.now standing.now output.old result output.new }
 {
+    let counts = tables.reading.counts;
     let mut row = [0u32; PAST_SIZE];
-    let width = 1 + 2 * links;
-    let mut line = from;
-    let mut end = at;
-    for n in 0..boundary {
-        line = read_again(text, line, b'S', &mut row, 1 + links);
-        fill_volumes(ledger, links, boundary, n, &mut row);
-        end = put_line(b'H', &row[..width], out, end);
+    let mut line = tables.reading.steps_at;
+    for n in 0..standing.boundary {
+        line = read_again(tables.text, line, b'S', &mut row, counts.step_width());
+        fill_volumes(standing.ledger, counts.links, n, &mut row);
+        output.put_line(b'H', &row[..counts.past_width()]);
     }
-    Places { line, at: end }
+    line
 }
 
 // Writes the whole text at the beginning of a buffer, line by line as far as it fits, and returns its length.
-fn put_network(
-    network: &[u8],
-    tables: &NetworkTables,
-    trams: &[Tram],
-    standing: &Standing,
-    out: &mut [u8],
-) -> usize
-    requires carry_asked { CarryAsked network.now tables.now.reading tables.now.links.now tables.now.movements.now standing.now }
-    requires tram_table { TramTable (lines network.now) trams.now }
-    ensures { TextPut network.now standing.now out.old out.new result }
+fn put_network(tables: &NetworkTables, trams: &[Tram], standing: &Standing, out: &mut [u8]) -> usize
+    requires carry_asked { CarryAsked tables.now standing.now }
+    requires tram_table { TramTable (lines tables.now.text.now) trams.now }
+    ensures { TextPut tables.now.text.now standing.now out.old out.new result }
 {
-    let reading = tables.reading;
-    let counts = reading.counts;
+    let counts = tables.reading.counts;
     let boundary = standing.boundary;
-    // No cast loses anything: the boundary is at most the number of steps.
+    // The boundary is at most the number of steps, so that the cast loses nothing.
     let before = boundary as u32;
-    let ledger = standing.ledger;
-    let left = count_trams(trams, counts.trams, before);
-    let end = put_counts(counts, boundary, left, out);
-    let end = put_trams(trams, counts.trams, before, out, end);
-    let end = put_signals(standing.signals, counts.signals, out, end);
-    let end = put_links(tables.links, standing.waiting, counts.links, out, end);
-    let end = put_movements(tables.movements, counts.movements, out, end);
-    let past = 1 + 2 * counts.links;
-    let end = copy_lines(network, reading.past_at, b'H', past, counts.past, out, end);
-    let from = reading.steps_at;
-    let places = put_steps(network, from, ledger, counts.links, boundary, out, end);
-    let width = 1 + counts.links;
-    let rest = counts.steps - boundary;
-    copy_lines(network, places.line, b'S', width, rest, out, places.at)
+    let left = count_rows(trams, |_, tram| rest_of(tram, before));
+    let mut output = Output { out, at: 0 };
+    output.put_line(b'N', &count_row(counts, boundary, left));
+    output.put_rows(b'T', trams, |_, tram| rest_of(tram, before));
+    put_signals(&standing.signals[..counts.signals], &mut output);
+    let links = &tables.links[..counts.links];
+    output.put_rows(b'Q', links, |i, link| {
+        Some(Link {
+            waiting: standing.waiting[i],
+            ..link
+        })
+    });
+    let movements = &tables.movements[..counts.movements];
+    output.put_rows(b'M', movements, |_, movement| Some(movement));
+    let past = PassedLines {
+        at: tables.reading.past_at,
+        letter: b'H',
+        width: counts.past_width(),
+        count: counts.past,
+    };
+    past.put(tables.text, &mut output);
+    let rest = PassedLines {
+        at: put_steps(tables, standing, &mut output),
+        letter: b'S',
+        width: counts.step_width(),
+        count: counts.steps - boundary,
+    };
+    rest.put(tables.text, &mut output);
+    output.at
 }
 
-// Writes the network carried on from a boundary after a plan whose steps before it have passed, by the network's text, which has passed, with its tables, and by how it
-// stands there: 32 for a buffer that is too short, which is left untouched.
+// Writes the network carried on from a boundary after a plan whose steps before it have passed, by how it stands there: 32 for a buffer that is too short, which is
+// left untouched.
 fn write_carried(
-    network: &[u8],
     tables: &NetworkTables,
     standing: &Standing,
     carried: &mut [u8],
 ) -> Result<usize, Refusal>
-    requires { CarryAsked network.now tables.now.reading tables.now.links.now tables.now.movements.now standing.now }
-    ensures { TextWritten network.now standing.now carried.old result carried.new }
+    requires { CarryAsked tables.now standing.now }
+    ensures { TextWritten tables.now.text.now standing.now carried.old result carried.new }
 {
-    let reading = tables.reading;
-    let mut trams = [Tram::default(); MAX_TRAMS];
-    network_trams::load_trams(network, reading.trams_at, reading.counts.trams, &mut trams);
-    let put = |out: &mut [u8]| put_network(network, tables, &trams, standing, out);
-    network_writer::write_measured(32, carried, put)
+    let mut room = [Tram::default(); MAX_TRAMS];
+    let trams = network_trams::load_trams(tables, &mut room);
+    let put = |out: &mut [u8]| put_network(tables, trams, standing, out);
+    network_writer::write_measured(Reason::CarriedRoom, carried, put)
 }
 
 // Takes the plan's steps up to the boundary, and writes the text from there on: 9 for a line behind them, and 32 last.
 fn carry_steps(
-    network: &[u8],
+    tables: &NetworkTables,
     boundary: usize,
     plan: &[u8],
-    tables: &NetworkTables,
     signals: &mut [Signal],
     ledger: &mut [u32],
     carried: &mut [u8],
 ) -> Result<usize, Refusal>
-    requires { StepsAsked network.now boundary tables.now signals.old ledger.old }
-    ensures { CarryGot network.now plan.now boundary ledger.old ledger.new carried.old carried.new result }
+    requires { StepsAsked tables.now boundary signals.old ledger.old }
+    ensures { CarryGot tables.now.text.now plan.now boundary ledger.old ledger.new carried.old carried.new result }
 {
     let mut waiting = [0u32; MAX_LINKS];
-    let state = plan_steps::take_steps(
-        network,
-        plan,
-        tables,
-        boundary,
-        signals,
-        &mut waiting,
-        ledger,
-    )?;
-    if !text_reader::is_end(plan, state.plan_at) {
-        return Err(Refusal::new(9, boundary + 1, 0));
+    let state = plan_steps::take_steps(plan, tables, boundary, signals, &mut waiting, ledger)?;
+    if !text_reader::is_end(plan, state.place.plan_at) {
+        return Err(Reason::PlanForm.refusal(boundary + 1, 0));
     }
     let standing = Standing {
         boundary,
@@ -328,33 +214,29 @@ fn carry_steps(
         waiting: &waiting,
         ledger,
     };
-    write_carried(network, tables, &standing, carried)
+    write_carried(tables, &standing, carried)
 }
 
 // Carries a network that has passed on from a boundary: 31, then 8 for as many steps, then the steps.
 fn carry_from(
-    network: &[u8],
+    tables: &NetworkTables,
     boundary: usize,
     plan: &[u8],
-    tables: &NetworkTables,
     signals: &mut [Signal],
     ledger: &mut [u32],
     carried: &mut [u8],
 ) -> Result<usize, Refusal>
-    requires { Loaded network.now signals.old tables.now.links.now tables.now.movements.now tables.now.times.now tables.now.reading }
-    ensures { CarryGot network.now plan.now boundary ledger.old ledger.new carried.old carried.new result }
+    requires { TablesLoaded tables.now signals.old }
+    ensures { CarryGot tables.now.text.now plan.now boundary ledger.old ledger.new carried.old carried.new result }
 {
     let counts = tables.reading.counts;
-    if boundary < 1 {
-        return Err(Refusal::new(31, 0, 0));
+    if boundary < 1 || counts.steps <= boundary {
+        return Err(Reason::CarryBoundary.refusal(0, 0));
     }
-    if counts.steps <= boundary {
-        return Err(Refusal::new(31, 0, 0));
+    if ledger.len() < row_start(boundary + 1, counts.links) {
+        return Err(Reason::Ledger.refusal(0, 0));
     }
-    if ledger.len() < 2 * (boundary + 1) * counts.links {
-        return Err(Refusal::new(8, 0, 0));
-    }
-    carry_steps(network, boundary, plan, tables, signals, ledger, carried)
+    carry_steps(tables, boundary, plan, signals, ledger, carried)
 }
 
 // Carry on from a boundary: judges a plan of as many lines on the network cut to as many steps, and writes the network text from the boundary on. Refusals: those
@@ -373,25 +255,18 @@ pub fn carry_on(
     let mut links = [Link::default(); MAX_LINKS];
     let mut movements = [Movement::default(); MAX_MOVEMENTS];
     let mut times = [0u32; TIME_TABLE_SIZE];
-    let reading = network::read_network(
+    let tables = network::read_network(
         network,
         &mut signals,
         &mut links,
         &mut movements,
         &mut times,
     )?;
-    let tables = NetworkTables {
-        reading,
-        links: &links,
-        movements: &movements,
-        times: &times,
-    };
     // Every `u32` fits a `usize`: the cast loses nothing.
     carry_from(
-        network,
+        &tables,
         boundary as usize,
         plan,
-        &tables,
         &mut signals,
         ledger,
         carried,

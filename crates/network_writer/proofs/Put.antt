@@ -1,5 +1,5 @@
 -- Lines that are put one behind another.
-use Rattle.base_laws.proofs.Kit.{ℕ, suc, ◌+◌, ◌≤◌, ◌<◌, ◌≡◌, refl, sym, ap, ap₂, ◌∙◌, List, [], ◌++◌, add-one, arith, length, take, length-append, take-append-drop, length-take-le}
+use Rattle.base_laws.proofs.Kit.{ℕ, suc, ◌+◌, ◌≤◌, ◌<◌, ◌≡◌, refl, sym, ap, ap₂, ◌∙◌, List, [], ◌++◌, add-one, arith, length, length-append, take-append-drop}
 use Rattle.text_writer.specs.Records.{record_text, record_texts}
 use Rattle.text_writer.specs.Writing.{put_at, Wrote}
 use Rattle.text_writer.proofs.Laws.{put-more, wrote-length, record-most}
@@ -59,10 +59,6 @@ module _ {letter : ℕ} {f : ℕ → List ℕ} {count : ℕ} {old : Output} wher
 
     pub rows_all : count ≤ k → Put count (record_texts letter count f) old now
     rows_all h = let z : k ≡ count = omega (arith, t.few) in rw z at t.put
-
--- the first numbers of a row, as many as fit a line
-pub part-size : (row : List ℕ) (w : ℕ) → w ≤ length row → w ≡ length (take w row)
-part-size row w h = sym (length-take-le w row h)
 
 -- ---- one line, by its numbers as the writer takes them
 module _ {row numbers : List ℕ} (e : numbers ≡ row) (few : length row ≤ line_size) {r : ℕ} (long : (letter : ℕ) → r ≡ length (record_text letter numbers)) where

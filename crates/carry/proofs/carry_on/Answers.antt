@@ -1,23 +1,19 @@
 -- `carry::carry_on` meets its contract.
 use Rattle.base_search.proofs.Laws.{passed_on}
-use Rattle.network.proofs.Loading.{tables-sized}
 use Rattle.carry.proofs.Carrying.{network-refused, promised}
 use Rattle.carry.proofs.carry_on.Goals as goal
 
-pub invariant_of-tables : goal.invariant_of-tables
-invariant_of-tables c = record { sized = tables-sized (c.read_network.ensures.held _ c.in_ok-reading.was) }
-
 pub carry_from-requires : goal.carry_from-requires
-carry_from-requires c = c.read_network.ensures.held _ c.in_ok-reading.was
+carry_from-requires c = (c.read_network.ensures.held _ c.in_ok-tables.was).loaded
 
-pub returns-in_err-reading-clause-carried_on : goal.returns-in_err-reading-clause-carried_on
-returns-in_err-reading-clause-carried_on c = rw (passed_on _ _ c.from_residual.ensures.1) (promised (network-refused _ _ _ _ _ c.read_network.ensures c.in_err-reading.was)).0
+pub returns-in_err-tables-clause-carried_on : goal.returns-in_err-tables-clause-carried_on
+returns-in_err-tables-clause-carried_on c = rw (passed_on _ _ c.from_residual.ensures.1) (promised (network-refused _ _ _ _ _ (c.read_network.ensures.refused _ c.in_err-tables.was))).0
 
-pub returns-in_err-reading-clause-padding_ignored : goal.returns-in_err-reading-clause-padding_ignored
-returns-in_err-reading-clause-padding_ignored c = rw (passed_on _ _ c.from_residual.ensures.1) (promised (network-refused _ _ _ _ _ c.read_network.ensures c.in_err-reading.was)).1
+pub returns-in_err-tables-clause-padding_ignored : goal.returns-in_err-tables-clause-padding_ignored
+returns-in_err-tables-clause-padding_ignored c = rw (passed_on _ _ c.from_residual.ensures.1) (promised (network-refused _ _ _ _ _ (c.read_network.ensures.refused _ c.in_err-tables.was))).1
 
 pub returns-clause-carried_on : goal.returns-clause-carried_on
-returns-clause-carried_on c = (promised c.carry_from.ensures).0
+returns-clause-carried_on c = (promised (rw (c.read_network.ensures.held _ c.in_ok-tables.was).same-text at c.carry_from.ensures)).0
 
 pub returns-clause-padding_ignored : goal.returns-clause-padding_ignored
-returns-clause-padding_ignored c = (promised c.carry_from.ensures).1
+returns-clause-padding_ignored c = (promised (rw (c.read_network.ensures.held _ c.in_ok-tables.was).same-text at c.carry_from.ensures)).1

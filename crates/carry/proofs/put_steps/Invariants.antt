@@ -3,4 +3,4 @@ use Rattle.carry.proofs.Reading.{StepsTo}
 use Rattle.carry.proofs.put_steps.Given as goal
 
 abbrev pub invariant-loop-n : goal.invariant-loop-n
-invariant-loop-n l = StepsTo l.text l.from l.ledger l.links l.boundary l.at l.initial.out l.row l.line l.out l.end l.n
+invariant-loop-n l = StepsTo l.tables l.standing l.initial.output l.row l.line l.output l.n

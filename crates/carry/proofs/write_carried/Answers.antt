@@ -3,8 +3,8 @@ use Rattle.std.proofs.Common.{rules}
 use Rattle.plan_steps.proofs.Steps.{trams-ready}
 use Rattle.carry.proofs.write_carried.Goals as goal
 
-pub load_trams-requires : goal.load_trams-requires
-load_trams-requires c = trams-ready _ _ c.requires.trams-start c.requires.counted c.requires.holds (search rules)
+pub load_trams-trams-requires : goal.load_trams-trams-requires
+load_trams-trams-requires c = let loaded = c.requires.loaded in trams-ready loaded.trams-start loaded.counted loaded.holds (search rules)
 
 pub returns : goal.returns
 returns c = λ plan stands. c.write_measured.ensures _ (λ before after size put. search (put, stands, rules))

@@ -1,6 +1,6 @@
 use Rattle.std.proofs.Common.{rules}
 use Rattle.carry.proofs.Reading.{copied_none, copied_next}
-use Rattle.carry.proofs.copy_lines.Goals as goal
+use Rattle.carry.proofs.PassedLines.put.Goals as goal
 
 pub loop-init : goal.loop-init
 loop-init c = search (copied_none, rules)
