@@ -119,12 +119,19 @@ module _ {text : List ℕ} {reading : Reading} {times₀ demands₀ : List ℕ} 
           → Judged (block_checks (step_block (lines text))) (StepsHeld text times demands) (Err q)
       steps-malformed e l t = rw (t, told_line l) (judged-refused (records-malformed inv.read (step-records (lines text)) below own e))
 
-      module _ {next : ℕ} (e : r ≡ Some next) {v : Bool} (told : v ≡ valid_step_in after reading.counts.links reading.shortest) where
+      -- the demands, cut from their line
+      abbrev cut : List ℕ
+      cut = take (width - 1) (drop 1 after)
+
+      cut_is : cut ≡ take reading.counts.links (drop 1 after)
+      cut_is = ap (λ n. take n (drop 1 after)) (omega (arith, w))
+
+      module _ {next : ℕ} (e : r ≡ Some next) {seconds : ℕ} (s : seconds ≡ length_in after) {v : Bool} (told : v ≡ valid_step_in seconds cut reading.shortest) where
         numbers : StepNumbers (lines text) n after
         numbers = held-numbers (own.held next e (step_line (lines text) n) inv.read.starts) refl (row.size ∙ inv.step_room)
 
         judged : v ≡ valid_step (lines text) n
-        judged = told ∙ valid-step-is numbers asked.reached.shortest-time asked.reached.counted.links
+        judged = told ∙ rw (s, cut_is) (valid-step-is numbers asked.reached.shortest-time asked.reached.counted.links asked.reached.counted.few.links)
 
         pub steps-invalid : not v ≡ true → {line : ℕ} {q : Refusal} → line ≡ step_line_in reading.counts n → q ≡ refusal 6 (line + 1) (n + 1)
             → Judged (block_checks (step_block (lines text))) (StepsHeld text times demands) (Err q)
@@ -134,13 +141,6 @@ module _ {text : List ℕ} {reading : Reading} {times₀ demands₀ : List ℕ} 
 
         passed : not v ≡ false → valid_step (lines text) n ≡ true
         passed b = sym judged ∙ not-false v b
-
-        -- the demands, cut from their line
-        abbrev cut : List ℕ
-        cut = take (width - 1) (drop 1 after)
-
-        cut_is : cut ≡ take reading.counts.links (drop 1 after)
-        cut_is = ap (λ n. take n (drop 1 after)) (omega (arith, w))
 
         demands-long : length cut ≡ reading.counts.links
         demands-long = rw cut_is (cut-long after reading.counts.links (row.size ∙ inv.step_room) asked.reached.counted.few.links)
@@ -159,7 +159,7 @@ module _ {text : List ℕ} {reading : Reading} {times₀ demands₀ : List ℕ} 
                   omega (arith, demands-at i own-link, inv.demanded i l, inv.small i l, demand-at numbers i l, (limits-of-step (lines text) n (passed b)).demand-limit i l, asked.reached.counted.few.steps, below);
             }
 
-        module _ (b : not v ≡ false) {seconds : ℕ} (s : seconds ≡ length_in after) where
+        module _ (b : not v ≡ false) where
           lasts : seconds ≡ timeline_length (lines text) (past_count (lines text) + n)
           lasts = s ∙ step-length-at numbers ∙ (unfold step_length on_timeline in refl)
 

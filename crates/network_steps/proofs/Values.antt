@@ -41,16 +41,11 @@ module _ (step : List ℕ) (links : ℕ) (size : length step ≡ step_size) (few
   unfolding valid_demands_in
   cut-demands = ap (λ n. every n (λ i. leb (get_or (take links (drop 1 step)) i 0) 600_000)) cut-long ∙ every-same links _ _ (λ i l. ap (λ d. leb d 600_000) (cut-at i l))
 
-  -- the test of a step's numbers, by the demands that are cut from its line
-  pub step-test : (shortest : ℕ) → (within 1 (length_in step) 60 and leb (length_in step) shortest) and valid_demands_in (take links (drop 1 step)) ≡ valid_step_in step links shortest
-  unfolding valid_step_in
-  step-test shortest = ap (λ b. (within 1 (length_in step) 60 and leb (length_in step) shortest) and b) cut-demands
-
 -- the test of a step's numbers is that of the network's step
-pub valid-step-is : {network : List Line} {n : ℕ} {step : List ℕ} {links shortest : ℕ} → StepNumbers network n step → Shortest network shortest → links ≡ link_count network
-    → valid_step_in step links shortest ≡ valid_step network n
+pub valid-step-is : {network : List Line} {n : ℕ} {step : List ℕ} {links shortest : ℕ} → StepNumbers network n step → Shortest network shortest → links ≡ link_count network → links ≤ max_links
+    → valid_step_in (length_in step) (take links (drop 1 step)) shortest ≡ valid_step network n
 unfolding valid_step_in valid_step
-valid-step-is {network} {n} {step} {links} {shortest} s h e =
-    rw (e, step-length-at s)
+valid-step-is {network} {n} {step} {links} {shortest} s h e few =
+    rw (cut-demands step links s.size few, e, step-length-at s)
     (ap₂ ◌and◌ (and_same (within 1 (step_length network n) 60) (λ w. h.least (step_length network n) (within-parts 1 (step_length network n) 60 w).1))
     (every-same (link_count network) _ _ (λ i l. rw (demand-at s i l))))

@@ -6,7 +6,6 @@ use Rattle.base_laws.specs.Sum.{sum}
 use Rattle.base_laws.specs.Test.{◌and◌, within, every}
 use Rattle.model.specs.Network.{max_links, link_count, past_count, step_count, timeline_line, step_line, demand}
 use Rattle.network_tables.specs.declared.Reading.{Reading}
-use Rattle.network_tables.specs.Fields.{length_in, demand_in}
 use Rattle.network_tables.specs.Tables.{Reached}
 use Rattle.step_arrivals.specs.Timed.{valid_lengths, TimedTo}
 
@@ -15,8 +14,8 @@ unfoldable pub valid_demands_in : List ℕ → Bool
 valid_demands_in demands = every (length demands) (λ i. leb (get_or demands i 0) 600_000)
 
 -- 6: the length is 1 to 60 and at most the shortest of all greatest times, and the demands are valid
-unfoldable pub valid_step_in : List ℕ → ℕ → ℕ → Bool
-valid_step_in step links shortest = within 1 (length_in step) 60 and leb (length_in step) shortest and every links (λ i. leb (demand_in step i) 600_000)
+unfoldable pub valid_step_in : ℕ → List ℕ → ℕ → Bool
+valid_step_in seconds demands shortest = within 1 seconds 60 and leb seconds shortest and valid_demands_in demands
 
 -- what adding demands to their sums asks: no sum is too large ..
 pub record AddAsked (demands sums : List ℕ) : Type 0 where

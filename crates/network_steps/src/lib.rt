@@ -1,10 +1,8 @@
 // The `S` lines of a network text: their form and values (refusals 1 and 6), the time of each boundary, and the demand of each link in all steps.
 #![tactic(auto)]
 
-ghost use Rattle.std.specs.Prelude.{◌≡◌, ◌+◌, ◌≤◌, length};
+ghost use Rattle.std.specs.Prelude.{◌≡◌};
 ghost use Rattle.text_reader.specs.Lines.{lines};
-ghost use Rattle.model.specs.Network.{max_links};
-ghost use Rattle.network_tables.specs.Fields.{step_size};
 ghost use Rattle.network_tables.specs.Tables.{Judged};
 ghost use Rattle.network_tables.specs.Blocks.{block_checks, step_block};
 ghost use Rattle.network_steps.specs.Steps.{valid_demands_in, valid_step_in, AddAsked, Added, StepsAsked, StepsHeld};
@@ -20,12 +18,10 @@ fn valid_demands(demands: &[u32]) -> bool
 }
 
 // Refusal 6: whether the length is 1 to 60 and at most the shortest of all greatest times, and the demands are valid.
-fn valid_step(step: &[u32], links: usize, shortest: u32) -> bool
-    requires { (links ≤ max_links) × (length step.now ≡ step_size) }
-    ensures { result ≡ valid_step_in step.now links shortest }
+fn valid_step(seconds: u32, demands: &[u32], shortest: u32) -> bool
+    ensures { result ≡ valid_step_in seconds demands.now shortest }
 {
-    let seconds = network_tables::step_length(step);
-    (1..=60).contains(&seconds) & (seconds <= shortest) & valid_demands(&step[1..=links])
+    (1..=60).contains(&seconds) & (seconds <= shortest) & valid_demands(demands)
 }
 
 // Adds the demand of each link in a step to its sum, which fits 32 bits.
@@ -49,7 +45,6 @@ pub fn read_steps(
     ensures { Judged (block_checks (step_block (lines text.now))) (StepsHeld text.now times.new demands.new) result }
 {
     let counts = reading.counts;
-    let links = counts.links;
     let width = counts.step_width();
     let mut step = [0u32; STEP_SIZE];
     let mut place = reading.next;
@@ -57,12 +52,13 @@ pub fn read_steps(
         let line = counts.step_line(n) + 1;
         let read = network_tables::read_row(text, place, b'S', &mut step, 0, width);
         place = read.ok_or(Reason::NetworkForm.refusal(line, 0))?;
-        if !valid_step(&step, links, reading.shortest) {
+        let seconds = network_tables::step_length(&step);
+        let asked = &step[1..width];
+        if !valid_step(seconds, asked, reading.shortest) {
             return Err(Reason::Step.refusal(line, n + 1));
         }
-        let seconds = network_tables::step_length(&step);
         step_arrivals::next_time(times, counts.past + n, seconds, reading.timed);
-        add_demands(&step[1..width], demands);
+        add_demands(asked, demands);
     }
     Ok(Reading {
         next: place,

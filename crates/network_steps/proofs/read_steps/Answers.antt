@@ -23,14 +23,14 @@ pub add_demands-requires : goal.add_demands-requires
 add_demands-requires c =
     let read : c.read_row-read.result ≡ Some c.in_ok-place.place = grind arith in
     add-asked c.requires c.loop-n.invariant (search rules) c.step_width-width.ensures c.read_row-read.ensures
-    read c.valid_step.ensures c.if-not-valid_step.false-raw
+    read c.step_length-seconds.ensures c.valid_step.ensures c.if-not-valid_step.false-raw
 
 pub loop-n-preserved : goal.loop-n-preserved
 loop-n-preserved c =
     let read : c.read_row-read.result ≡ Some c.in_ok-place.place = grind arith in
     steps_next c.requires c.loop-n.invariant (search rules) c.step_width-width.ensures c.read_row-read.ensures
-    read c.valid_step.ensures c.if-not-valid_step.false-raw
-    c.step_length-seconds.ensures refl c.next_time.ensures c.add_demands.ensures
+    read c.step_length-seconds.ensures c.valid_step.ensures c.if-not-valid_step.false-raw
+    refl c.next_time.ensures c.add_demands.ensures
 
 pub returns : goal.returns
 returns c = search (steps-done, rules)
