@@ -76,7 +76,14 @@ impl Rule {
                 step.step_line[0],
             ),
             Rule::Limit(rule) => rule.holds(step, item),
-            Rule::Sum(rule) => rule.holds(&StepRows { step, previous, row }, item),
+            Rule::Sum(rule) => rule.holds(
+                &StepRows {
+                    step,
+                    previous,
+                    row,
+                },
+                item,
+            ),
         }
     }
 }
@@ -125,7 +132,12 @@ fn keeps_rules(step: &Step, previous: &[u32], row: &mut [u32]) -> bool
         return false;
     }
     step_rows::next_row(previous, step.plan_line, step.movements, step.counts, row);
-    StepRows { step, previous, row }.keeps_sums()
+    let rows = StepRows {
+        step,
+        previous,
+        row,
+    };
+    rows.keeps_sums()
 }
 
 // Judges a step, and forms the row after it in a row that is lent.

@@ -1,11 +1,11 @@
 -- What the tests of the code say of rule 27, and of a movement that keeps its limits.
-use Rattle.base_laws.proofs.Kit.{◌≡◌, sym, ap, ◌∙◌, Bool, true, or-true, or-false, List, ℕ, ◌+◌, ◌*◌, ◌-◌, arith, eq-eqb, ne_eqb, le-leb, leb, get_or}
-use Rattle.base_laws.specs.Test.{◌or◌}
+use Rattle.base_laws.proofs.Kit.{◌≡◌, refl, sym, ap, ◌∙◌, Bool, true, false, or-true, or-false, List, ℕ, ◌+◌, ◌*◌, ◌-◌, arith, eq-eqb, ne_eqb, le-leb, leb, get_or}
+use Rattle.base_laws.specs.Test.{◌and◌, ◌or◌}
 use Rattle.model.specs.Signals.{opens}
 use Rattle.network_tables.specs.declared.Link.{Link}
 use Rattle.network_tables.specs.Fields.{signal_in, phase_mask_in, link_in, rate_in, length_in, moved_in}
 use Rattle.step_rows.specs.declared.Step.{Step}
-use Rattle.step_limits.specs.Limits.{is_open_in, moves_rate, moves_open, MovementKept}
+use Rattle.step_limits.specs.Limits.{is_open_in, moves_rate, moves_open}
 
 -- a link without a signal, and one with a signal
 module _ (links : List Link) (phases : List ℕ) (i : ℕ) where
@@ -33,11 +33,15 @@ module _ (step : Step) (j : ℕ) {volume : ℕ} (is : volume ≡ moved_in step.c
       rw (ne_eqb _ _ (λ z. d (is ∙ z))) (q ∙ ap (is_open_in step.links.now step.phases.now) g ∙ sym (or-false (is_open_in step.links.now step.phases.now from)))
 
   -- both keep 26 too, the other by its rate
-  pub still-keeps : volume ≡ 0 → MovementKept step j
-  unfolding moves_rate
-  still-keeps e = (le-leb (moved_in step.counts step.plan_line.now j) (rate_in step.movements.now j * length_in step.step_line.now) (omega (arith, is, e)), sym (nothing-moves e))
+  pub still-keeps : volume ≡ 0 → true ≡ (moves_rate step j and moves_open step j)
+  unfolding moves_rate ◌and◌
+  still-keeps e = rw (le-leb (moved_in step.counts step.plan_line.now j) (rate_in step.movements.now j * length_in step.step_line.now) (omega (arith, is, e))) (nothing-moves e)
 
   pub moving-keeps : (volume ≡ 0 → ⊥) → {w : Bool} → w ≡ leb volume (rate_in step.movements.now j * length_in step.step_line.now) → w ≡ true
-      → (f : ℕ) {o : Bool} → f + 1 ≡ link_in step.movements.now 0 j → o ≡ is_open_in step.links.now step.phases.now f → o ≡ true → MovementKept step j
-  unfolding moves_rate
-  moving-keeps d u within f e q shows = (rw (← is) (sym u ∙ within), sym (moves-open-is d f e q) ∙ shows)
+      → (f : ℕ) {o : Bool} → f + 1 ≡ link_in step.movements.now 0 j → o ≡ is_open_in step.links.now step.phases.now f → o ≡ (moves_rate step j and moves_open step j)
+  unfolding moves_rate ◌and◌
+  moving-keeps d u within f e q = rw (← is, sym u ∙ within) (moves-open-is d f e q)
+
+  pub too_many : {w : Bool} → w ≡ leb volume (rate_in step.movements.now j * length_in step.step_line.now) → w ≡ false → false ≡ (moves_rate step j and moves_open step j)
+  unfolding moves_rate ◌and◌
+  too_many u over = rw (← is, sym u ∙ over) refl

@@ -2,7 +2,8 @@
 #![tactic(auto)]
 
 ghost use Rattle.std.specs.Prelude.{◌≡◌, ◌*◌, ◌<◌, ◌≤◌, leb, true};
-ghost use Rattle.step_limits.specs.Limits.{limit_rule_number, admits_offer, lets_out_rate, is_open_in, moves_rate, moves_open, limit_items, limit_rule_holds, LinkLimitsKept, MovementKept, MovementLimitsKept, LimitsKept};
+ghost use Rattle.step_limits.specs.Limits.{limit_rule_number, admits_offer, lets_out_rate, is_open_in, moves_rate, moves_open, limit_items, limit_rule_holds, LinkLimitsKept, MovementLimitsKept, LimitsKept};
+ghost use Rattle.base_laws.specs.Test.{◌and◌};
 
 use network_tables::{Counts, admitted, let_out, moved};
 use step_rows::Step;
@@ -23,6 +24,8 @@ fn within_rate(volume: u32, rate: u32, seconds: u32) -> bool
 {
     volume <= rate * seconds
 }
+
+// The tests below take an item's place, and each asks that it is one of the step's: a step with a place would be made anew for each item.
 
 // 15, link i: admitted is at most who is at its entry, those who wait and the step's demand.
 #[tactic(auto, unfolding(crate::specs::Limits::admits_offer))]
@@ -118,10 +121,10 @@ fn keeps_link_limits(step: &Step) -> bool
     (0..step.counts.links).all(|i| admits_offer(step, i) && lets_out_rate(step, i))
 }
 
-// Whether a movement keeps 26 and 27, as one that is 0 does. Both by their own tests would cost the largest plan 1.4 % more, past the bar of 1.45 x the twin.
+// Whether a movement keeps 26 and 27, as one that is 0 does. By the tests of both the largest plan cost 1.4 % more, past 1.45 x the twin.
 fn moves_within(step: &Step, j: usize) -> bool
     requires { j < step.now.counts.movements }
-    ensures { result ≡ true → MovementKept step.now j }
+    ensures { result ≡ (moves_rate step.now j and moves_open step.now j) }
 {
     let volume = moved(step.plan_line, step.counts, j);
     volume == 0

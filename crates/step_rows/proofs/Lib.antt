@@ -6,4 +6,5 @@ pub mod Next
 pub mod Ledger
 pub mod Texts
 pub mod Fit
+pub mod Cuts
 pub mod WaitingTexts

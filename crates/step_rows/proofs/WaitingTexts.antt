@@ -1,5 +1,6 @@
 -- What the tables say of those who wait is what the two texts say.
 use Rattle.base_laws.proofs.Kit.{ℕ, suc, ◌+◌, ◌≤◌, ◌<◌, ◌≡◌, sym, ◌∙◌, true, List, dec_le, arith, leb-true, le-leb, lt-leb, leb, length}
+use Rattle.std.specs.List.{slice_range}
 use Rattle.base_search.specs.Checks.{Hold}
 use Rattle.text_reader.specs.Lines.{Line}
 use Rattle.base_laws.specs.Sum.{sum}
@@ -15,6 +16,7 @@ use Rattle.network_tables.specs.Tables.{CountsHold, LinkTable, StepNumbers, Plan
 use Rattle.network_tables.proofs.Tables.{waiting-at-start-at, step-length-at, demand-at}
 use Rattle.network_tables.specs.Fields.{admitted_in}
 use Rattle.step_rows.proofs.Texts.{admitted-is}
+use Rattle.step_signals.proofs.Cuts.{length-cut, cut-at}
 use Rattle.step_rows.specs.Waiting.{waiting_in, offer_in, FirstWaits, AddAsked, Offers, WaitsAsked, Waits, WaitingTable, StepOffers}
 use Rattle.network_tables.specs.declared.Link.{Link}
 
@@ -33,14 +35,15 @@ waiting-first plan t w = record { size = w.size; holds = λ i l. omega (arith, w
 module _ {network plan : List Line} {n : ℕ} {counts : Counts} (counted : CountsHold network counts) where
   -- those who wait and those who come fit 32 bits
   pub add-ready : {waiting step : List ℕ} → Hold (network_checks network) → n < step_count network → WaitingTable network plan n waiting → StepNumbers network n step
-      → AddAsked counts.links waiting step
-  add-ready holds h w s =
+      → AddAsked (slice_range waiting 0 counts.links) step
+  add-ready {waiting} holds h w s =
+      let size : length (slice_range waiting 0 counts.links) ≡ counts.links = length-cut waiting counts.links (omega (arith, w.size, counted.few.links)) in
       record {
-        few = counted.few.links;
-        size = w.size;
+        few = omega (arith, size, counted.few.links);
         step-size = s.size;
-        fits = λ i l. let l' : i < link_count network = omega (arith, counted.links) in
-            omega (arith, w.holds i l', demand-at s i l', offered-suc network n i, offered-small network plan holds (suc n) h i l', counted.steps, counted.few.steps);
+        fits = λ i l.
+            let l' : i < link_count network = omega (arith, counted.links, size) in
+            omega (arith, cut-at waiting counts.links i 0 (omega (arith, counted.links)), w.holds i l', demand-at s i l', offered-suc network n i, offered-small network plan holds (suc n) h i l', counted.steps, counted.few.steps);
       }
 
   -- all who wait

@@ -5,6 +5,7 @@
 
 ghost use Rattle.std.specs.Prelude.{◌≡◌, ◌++◌, ◌+◌, ◌*◌, ◌-◌, ◌/◌, ◌<◌, ◌≤◌, length, get_or, set, take, drop};
 ghost use Rattle.model.specs.Network.{max_links};
+ghost use Rattle.std.specs.Prelude.{sum as list_sum};
 ghost use Rattle.base_laws.specs.Sum.{sum};
 ghost use Rattle.network_tables.specs.Fields.{link_in, entered_in, left_in};
 ghost use Rattle.step_rows.specs.Fit.{StepFit};
@@ -106,19 +107,22 @@ pub fn write_row(ledger: &mut [u32], at: usize, row: &[u32])
 // The sum of one number a link: what a step admits or lets out on all links, or who waits at all entries.
 pub fn sum_of(numbers: &[u32]) -> u64
     requires { length numbers.now ≤ max_links }
-    ensures { (result ≡ sum (length numbers.now) (λ i. get_or numbers.now i 0)) × (result ≤ 4294967295 * length numbers.now) }
+    ensures { (result ≡ list_sum numbers.now) × (result ≤ 4294967295 * length numbers.now) }
 {
     numbers.iter().map(|number| u64::from(*number)).sum()
 }
 
-// The vehicles in the network at a boundary: what all links hold, by its row, which has two numbers a link.
+// The vehicles in the network at a boundary: what all links hold, by its row, which has two numbers a link. By a loop: in the closure of a sum over the links,
+// what `entered` asks of the row did not follow.
 pub fn held_in(row: &[u32]) -> u64
     requires { length row.now ≤ 2 * max_links }
     ensures { (result ≡ sum (length row.now / 2) (λ i. entered_in row.now i - left_in row.now i)) × (result ≤ 4294967295 * (length row.now / 2)) }
 {
-    (0..row.len() / 2)
-        .map(|i| u64::from(entered(row, i).saturating_sub(left(row, i))))
-        .sum()
+    let mut total: u64 = 0;
+    for i in 0..row.len() / 2 {
+        total += u64::from(entered(row, i).saturating_sub(left(row, i)));
+    }
+    total
 }
 
 // Who waits at the start, as the `Q` lines have it.

@@ -1,16 +1,14 @@
 -- The rules of a signal together, and that they keep it ready for the next step.
-use Rattle.base_laws.proofs.Kit.{ℕ, ◌+◌, ◌-◌, ◌≤◌, ◌<◌, ◌≡◌, refl, sym, ◌∙◌, Bool, true, false, not, ◌&&◌, ◌||◌, List, le_trans, arith, leb, eqb, get_or, leb-true, eqb-true}
-use borrow.Author.Count.{below_more}
+use Rattle.base_laws.proofs.Kit.{ℕ, ◌+◌, ◌-◌, ◌≤◌, ◌<◌, ◌≡◌, refl, Bool, true, false, not, ◌&&◌, ◌||◌, le_trans, arith, leb, eqb, get_or, leb-true, eqb-true}
 use Rattle.model.specs.declared.Signal.{Signal}
 use Rattle.base_laws.specs.Test.{◌and◌, ◌or◌, within}
 use Rattle.model.specs.Signals.{greatest_time, begins_cycle, shown_for_after, clock_after, keeps_greatest_time, keeps_cycle, after}
 use Rattle.model.specs.Rules.{valid_phases, valid_signal}
 use Rattle.base_laws.proofs.Tests.{and_left, and_right, every-at}
-use Rattle.network_tables.specs.Fields.{signal_at}
 use Rattle.step_signals.specs.declared.SignalRule.{SignalRule}
 use Rattle.step_signals.specs.declared.SignalRule.TheVariants.{OnePhase, TramPhase, Order, LeastTime, GreatestTime, Cycle}
 use Rattle.step_signals.specs.Ready.{Ready}
-use Rattle.step_signals.specs.Rules.{signal_test, keeps_all, goes_on, signal_rule_holds, SignalRulesKept}
+use Rattle.step_signals.specs.Rules.{signal_test, keeps_all, goes_on}
 
 -- a signal that keeps them all keeps each
 either : (a b c : Bool) → (b ≡ true → c ≡ true) → a or b ≡ true → a or c ≡ true
@@ -45,13 +43,6 @@ goes-keeps s q asked seconds h =
     let same : eqb q s.shown ≡ true = and_right _ _ (and_left _ _ ordinary) in
     keeps-by s q asked seconds (and_left _ _ (and_left _ _ ordinary)) same (and_right _ _ ordinary) (and_right _ _ runs) (and_right _ _ h)
     (rw (← eqb-true q s.shown same) (never_both (eqb q 1)))
-
--- the first r signals keep them, and so does the next
-pub kept_more : (signals : List Signal) (phases asked : List ℕ) (seconds r : ℕ) {b : Bool} → SignalRulesKept signals r phases asked seconds
-    → b ≡ keeps_all (signal_at signals r) (get_or phases r 0) (get_or asked r 0) seconds → b ≡ true → SignalRulesKept signals (r + 1) phases asked seconds
-unfolding signal_rule_holds
-kept_more signals phases asked seconds r {b} kept e t =
-    below_more (λ r. (rule : SignalRule) → signal_rule_holds signals phases asked seconds rule r ≡ true) r kept (keeps-each (signal_at signals r) (get_or phases r 0) (get_or asked r 0) seconds (sym e ∙ t))
 
 -- a signal that passes the network's check is ready for the first step
 pub ready-first : (s : Signal) → valid_phases s ≡ true → valid_signal s ≡ true → Ready s

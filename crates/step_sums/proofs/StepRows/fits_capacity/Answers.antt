@@ -2,7 +2,7 @@
 use Rattle.std.proofs.Common.{rules}
 use Rattle.base_laws.proofs.Tests.{leb-over}
 use Rattle.step_sums.specs.Sums.{fits_capacity}
-use Rattle.step_sums.proofs.fits_capacity.Goals as goal
+use Rattle.step_sums.proofs.StepRows.fits_capacity.Goals as goal
 
 pub returns : goal.returns
 unfolding fits_capacity

@@ -1,7 +1,7 @@
 use Rattle.std.proofs.Common.{rules}
 use Rattle.step_sums.specs.Sums.{leaves_arrived}
 use Rattle.step_sums.proofs.Turns.{arrived-before}
-use Rattle.step_sums.proofs.leaves_arrived.Goals as goal
+use Rattle.step_sums.proofs.StepRows.leaves_arrived.Goals as goal
 
 pub returns-then-left-start : goal.returns-then-left-start
 returns-then-left-start c = search (arrived-before, rules)

@@ -1,6 +1,6 @@
 use Rattle.std.proofs.Common.{rules}
 use Rattle.step_sums.proofs.Turns.{after-past, after_last, after-earlier}
-use Rattle.step_sums.proofs.entered_after.Goals as goal
+use Rattle.step_sums.proofs.StepRows.entered_after.Goals as goal
 
 pub returns-then-arrival-step : goal.returns-then-arrival-step
 returns-then-arrival-step c = search (after-past, rules)
