@@ -1,4 +1,5 @@
 pub mod Call
 pub mod Checksum
 pub mod Outcome
+pub mod Stored
 pub mod Compare

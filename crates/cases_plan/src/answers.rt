@@ -24,6 +24,21 @@ pub struct Question {
     pub link: u32,
 }
 
+// What is asked of a case's texts, and what is stored of the answer.
+#[derive(Clone, Copy)]
+pub struct Case {
+    pub question: Question,
+    pub stored: Told,
+}
+
+// The ledgers and the buffer that a call is lent.
+#[derive(Drop)]
+pub struct Lent<'a> {
+    pub ledger: &'a mut [u32],
+    pub second_ledger: &'a mut [u32],
+    pub buffer: &'a mut [u8],
+}
+
 // What the library answers to a question, and the ledgers and the buffer that it leaves.
 fn answer_to(
     texts: Texts<'_>,
@@ -63,18 +78,20 @@ pub fn judge(
     rt: &impl Print,
     number: u32,
     texts: Texts<'_>,
-    ledger: &mut [u32],
-    second_ledger: &mut [u32],
-    buffer: &mut [u8],
-    question: Question,
-    stored: Told,
+    case: Case,
+    lent: Lent<'_>,
 ) -> bool
-    ensures { result ≡ as_stored (told_to texts.entry ledger.old second_ledger.old buffer.old question) stored }
+    ensures { result ≡ as_stored (told_to texts.entry lent.entry.ledger.now lent.entry.second_ledger.now lent.entry.buffer.now case.question) case.stored }
 {
-    let outcome = answer_to(texts, ledger, second_ledger, buffer, question);
+    let Lent {
+        ledger,
+        second_ledger,
+        buffer,
+    } = lent;
+    let outcome = answer_to(texts, ledger, second_ledger, buffer, case.question);
     let given = Told {
         outcome,
         checksum: checksum(ledger, second_ledger, buffer),
     };
-    agrees(rt, number, &given, &stored, true)
+    agrees(rt, number, &given, &case.stored, true)
 }

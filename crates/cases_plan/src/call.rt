@@ -2,6 +2,8 @@
 ghost use Rattle.cases_plan.specs.Call.{Decodes};
 
 use cases_files::reading::Malformed;
+use std::fmt;
+use std::fmt::Display;
 
 #[derive(Clone, Copy)]
 pub enum Call {
@@ -13,6 +15,33 @@ pub enum Call {
     CheckSheet,
     PlanFromSheet,
     ComparePlans,
+}
+
+// All of them, in the order in which they are counted and printed.
+pub const CALLS: [Call; 8] = [
+    Call::CheckNetwork,
+    Call::CheckPlan,
+    Call::LinkState,
+    Call::PlanFromListing,
+    Call::CarryOn,
+    Call::CheckSheet,
+    Call::PlanFromSheet,
+    Call::ComparePlans,
+];
+
+impl Display for Call {
+    fn fmt<W: fmt::Write>(&self, f: &mut fmt::Formatter<W>) -> fmt::Result {
+        f.write_str(match self {
+            Call::CheckNetwork => "check_network",
+            Call::CheckPlan => "check_plan",
+            Call::LinkState => "link_state",
+            Call::PlanFromListing => "plan_from_listing",
+            Call::CarryOn => "carry_on",
+            Call::CheckSheet => "check_sheet",
+            Call::PlanFromSheet => "plan_from_sheet",
+            Call::ComparePlans => "compare_plans",
+        })
+    }
 }
 
 // The call of a number of the stored form.

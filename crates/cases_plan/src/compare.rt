@@ -1,7 +1,7 @@
 // Reads the cases, judges each by the proved calls and counts.
-use crate::answers::{Question, Texts, judge};
+use crate::answers::{Case, Lent, Texts, judge};
 use crate::kept::Kept;
-use crate::stored::{Asked, Filled, Told};
+use crate::stored::Filled;
 use crate::tally::COUNTERS;
 use crate::{stored, tally};
 use cases_files::files;
@@ -34,80 +34,80 @@ struct Before<'a> {
     start: Kept<'a, u32>,
 }
 
-// Judges a case on ledgers and a buffer that are what they are before the call: the place at which it is counted.
+// What a case gives of the ledgers and the buffer before the call, and what the first ledger begins with.
+#[derive(Clone, Copy)]
+struct Given<'a> {
+    ledger: Filled,
+    start: &'a [u32],
+    second_ledger: Filled,
+    buffer: Filled,
+}
+
+// Judges a case on ledgers and a buffer that are what they are before the call.
 fn judge_filled(
     rt: &impl Print,
     number: u32,
     texts: Texts<'_>,
-    form: Filled,
-    start: &[u32],
-    second_form: Filled,
-    asked: Asked,
-    stored: Told,
-) -> Result<usize, Malformed> {
-    let fill = u8::try_from(asked.buffer.fill).map_err(|_| Malformed)?;
-    let mut ledger = [form.fill; LEDGER_ROOM];
-    let mut second_ledger = [second_form.fill; LEDGER_ROOM];
+    case: Case,
+    given: Given<'_>,
+) -> Result<bool, Malformed> {
+    let fill = u8::try_from(given.buffer.fill).map_err(|_| Malformed)?;
+    let mut ledger = [given.ledger.fill; LEDGER_ROOM];
+    let mut second_ledger = [given.second_ledger.fill; LEDGER_ROOM];
     let mut buffer = [fill; BUFFER_ROOM];
-    let ledger = ledger.get_mut(..form.length).ok_or(Malformed)?;
-    let second_ledger = second_ledger
-        .get_mut(..second_form.length)
-        .ok_or(Malformed)?;
-    let buffer = buffer.get_mut(..asked.buffer.length).ok_or(Malformed)?;
-    let given = ledger.get_mut(..start.len()).ok_or(Malformed)?;
-    given.copy_from_slice(start);
-    let (Ok(boundary), Ok(link)) = (u32::try_from(asked.boundary), u32::try_from(asked.link)) else {
-        return Ok(tally::PASSED_OVER);
+    let lent = Lent {
+        ledger: ledger.get_mut(..given.ledger.length).ok_or(Malformed)?,
+        second_ledger: second_ledger
+            .get_mut(..given.second_ledger.length)
+            .ok_or(Malformed)?,
+        buffer: buffer.get_mut(..given.buffer.length).ok_or(Malformed)?,
     };
-    let question = Question {
-        call: asked.call,
-        boundary,
-        link,
-    };
-    let same = judge(
-        rt,
-        number,
-        texts,
-        ledger,
-        second_ledger,
-        buffer,
-        question,
-        stored,
-    );
-    Ok(if same {
-        tally::place_of(asked.call, stored.outcome)
-    } else {
-        tally::DIFFERENT
-    })
+    let start = lent.ledger.get_mut(..given.start.len()).ok_or(Malformed)?;
+    start.copy_from_slice(given.start);
+    Ok(judge(rt, number, texts, case, lent))
 }
 
-// Reads one case and judges it: the place at which it is counted.
+// Reads one case and judges it: the place at which it is counted. One whose boundary or link no call takes is passed over.
 fn run_case<R: Read>(
     rt: &impl Print,
     file: &mut R,
     number: u32,
     before: &mut Before<'_>,
 ) -> Result<usize, Malformed> {
-    let mut second = [0; PLAN_ROOM];
+    let mut room = [0; PLAN_ROOM];
     let network = before.network.read(file, stored::read_bytes)?;
     let plan = before.plan.read(file, stored::read_bytes)?;
-    let form = stored::read_filled(file)?;
+    let ledger = stored::read_filled(file)?;
     let start = before
         .start
         .read(file, |file, numbers| read_each(file, numbers, read_u32))?;
     let asked = stored::read_asked(file)?;
-    let second = stored::read_second(file, &mut second, asked.call)?;
-    let second_form = stored::read_second_filled(file, asked.call)?;
+    let second = stored::read_second(file, &mut room, asked.call)?;
+    let second_ledger = stored::read_second_filled(file, asked.call)?;
     let stored = stored::read_told(file)?;
+    let Some(question) = asked.question() else {
+        return Ok(tally::PASSED_OVER);
+    };
     let texts = Texts {
         network,
         plan,
         second,
     };
-    judge_filled(rt, number, texts, form, start, second_form, asked, stored)
+    let case = Case { question, stored };
+    let given = Given {
+        ledger,
+        start,
+        second_ledger,
+        buffer: asked.buffer,
+    };
+    Ok(if judge_filled(rt, number, texts, case, given)? {
+        tally::place_of(asked.call, stored.outcome)
+    } else {
+        tally::DIFFERENT
+    })
 }
 
-// Judges and counts the cases of a file, and prints how many it has.
+// Judges and counts the cases of a file, and prints how many it has. No contract: nothing can say what the file gives, or what is printed.
 pub fn run_file(rt: &(impl Files + Print), path: &str, counts: &mut [u64; COUNTERS]) {
     let mut network = [0; NETWORK_ROOM];
     let mut plan = [0; PLAN_ROOM];

@@ -13,10 +13,11 @@ mod stored;
 mod tally;
 
 use crate::tally::COUNTERS;
+use cases_files::files::PATHS;
 
 fn main(rt: HostRuntime) {
     let mut counts = [0; COUNTERS];
-    for path in ["cases.bin", "wrong_answer.bin"] {
+    for path in PATHS {
         compare::run_file(&rt, path, &mut counts);
     }
     tally::print_table(&rt, &counts);

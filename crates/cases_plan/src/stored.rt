@@ -1,4 +1,9 @@
 // Reads the stored form of the cases, one part at a time. The form is described in reference/src/cases/stored.rs.
+ghost use Rattle.std.specs.Prelude.{IfOk};
+ghost use Rattle.std.specs.Io.KnownBytes.{Consumes};
+ghost use Rattle.cases_plan.specs.Stored.{filled_bytes, asked_bytes, second_bytes, second_filled_bytes, told_bytes, IsQuestionOf};
+
+use crate::answers::Question;
 use crate::call::Call;
 use crate::outcome::Outcome;
 use cases_files::reading::{Malformed, read_text, read_u32, read_u64};
@@ -35,19 +40,40 @@ impl Display for Told {
     }
 }
 
+impl Asked {
+    // The question of it; none where the boundary or the link is greater than any that a call takes.
+    pub fn question(self) -> Option<Question>
+        ensures { IsQuestionOf self result }
+    {
+        Some(Question {
+            call: self.call,
+            boundary: u32::try_from(self.boundary).ok()?,
+            link: u32::try_from(self.link).ok()?,
+        })
+    }
+}
+
 // Fills a text from the file.
-pub fn read_bytes<R: Read>(file: &mut R, text: &mut [u8]) -> Result<(), Malformed> {
+pub fn read_bytes<R: Read>(file: &mut R, text: &mut [u8]) -> Result<(), Malformed>
+    ensures { IfOk result (λ _. Consumes (R.remaining file.old) (R.remaining file.new) text.new) }
+{
     Ok(file.read_exact(text)?)
 }
 
-pub fn read_filled(file: &mut impl Read) -> Result<Filled, Malformed> {
+// Reads a length and what fills it.
+pub fn read_filled<R: Read>(file: &mut R) -> Result<Filled, Malformed>
+    ensures { IfOk result (λ filled. Consumes (R.remaining file.old) (R.remaining file.new) (filled_bytes filled)) }
+{
     Ok(Filled {
         length: read_u32(file)? as usize,
         fill: read_u32(file)?,
     })
 }
 
-pub fn read_asked(file: &mut impl Read) -> Result<Asked, Malformed> {
+// Reads what a case asks.
+pub fn read_asked<R: Read>(file: &mut R) -> Result<Asked, Malformed>
+    ensures { IfOk result (λ asked. Consumes (R.remaining file.old) (R.remaining file.new) (asked_bytes asked)) }
+{
     Ok(Asked {
         buffer: read_filled(file)?,
         call: Call::try_from(read_u32(file)?)?,
@@ -57,11 +83,13 @@ pub fn read_asked(file: &mut impl Read) -> Result<Asked, Malformed> {
 }
 
 // Reads the sheet that a plan is checked by, or a second plan; an empty text for a call that has none.
-pub fn read_second<'a>(
-    file: &mut impl Read,
+pub fn read_second<'a, R: Read>(
+    file: &mut R,
     room: &'a mut [u8],
     call: Call,
-) -> Result<&'a [u8], Malformed> {
+) -> Result<&'a [u8], Malformed>
+    ensures { IfOk result (λ text. Consumes (R.remaining file.old) (R.remaining file.new) (second_bytes call text.now)) }
+{
     match call {
         Call::CheckSheet | Call::ComparePlans => read_text(file, room),
         _ => Ok(&room[..0]),
@@ -69,7 +97,9 @@ pub fn read_second<'a>(
 }
 
 // Reads the form of the second plan's ledger; an empty one for a call that has none.
-pub fn read_second_filled(file: &mut impl Read, call: Call) -> Result<Filled, Malformed> {
+pub fn read_second_filled<R: Read>(file: &mut R, call: Call) -> Result<Filled, Malformed>
+    ensures { IfOk result (λ filled. Consumes (R.remaining file.old) (R.remaining file.new) (second_filled_bytes call filled)) }
+{
     match call {
         Call::ComparePlans => read_filled(file),
         _ => Ok(Filled { length: 0, fill: 0 }),
@@ -77,7 +107,9 @@ pub fn read_second_filled(file: &mut impl Read, call: Call) -> Result<Filled, Ma
 }
 
 // Reads what the other implementation answers.
-pub fn read_told(file: &mut impl Read) -> Result<Told, Malformed> {
+pub fn read_told<R: Read>(file: &mut R) -> Result<Told, Malformed>
+    ensures { IfOk result (λ told. Consumes (R.remaining file.old) (R.remaining file.new) (told_bytes told)) }
+{
     Ok(Told {
         outcome: Outcome {
             kind: read_u32(file)?,

@@ -1,15 +1,13 @@
 // How many cases agreed, and what is printed.
-use crate::call::Call;
+use crate::call::{CALLS, Call};
 use crate::outcome::{Kind, Outcome};
 use std::fmt::Display;
 
 // How many answers a call's cases are counted by: accepted, and each refusal's number.
 const ANSWERS: usize = 36;
 
-const CALLS: usize = 8;
-
 // The counts: for each call, the cases that agreed, by answer; then these two.
-pub const DIFFERENT: usize = CALLS * ANSWERS;
+pub const DIFFERENT: usize = CALLS.len() * ANSWERS;
 
 pub const PASSED_OVER: usize = DIFFERENT + 1;
 
@@ -29,17 +27,20 @@ pub fn place_of(call: Call, outcome: Outcome) -> usize {
 // A line of the table: how many cases of each call were accepted (0) or refused with a number.
 fn print_line(rt: &impl Print, name: impl Display + Drop, counts: &[u64; COUNTERS], number: usize) {
     let _ = print!(rt; "{name}");
-    for count in counts.iter().skip(number).step_by(ANSWERS).take(CALLS) {
+    for count in counts.iter().skip(number).step_by(ANSWERS).take(CALLS.len()) {
         let _ = print!(rt; "\t{count}");
     }
     let _ = println!(rt);
 }
 
-// The table of the cases that agreed, and how many were passed over and differ. Nothing is done about an output that takes no more.
+// The table of the cases that agreed, and how many were passed over and differ. Nothing is done about an output that takes no more, and no contract can
+// say what it takes.
 pub fn print_table(rt: &impl Print, counts: &[u64; COUNTERS]) {
-    let _ = println!(rt;
-        "answer\tcheck_network\tcheck_plan\tlink_state\tplan_from_listing\tcarry_on\tcheck_sheet\tplan_from_sheet\tcompare_plans"
-    );
+    let _ = print!(rt; "answer");
+    for call in CALLS {
+        let _ = print!(rt; "\t{call}");
+    }
+    let _ = println!(rt);
     print_line(rt, "accepted", counts, 0);
     for number in 1..ANSWERS {
         print_line(rt, number, counts, number);

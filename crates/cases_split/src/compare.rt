@@ -8,8 +8,7 @@ use crate::told::{Buffers, Stored, Texts};
 use base_search::Refusal;
 use cases_files::agreement::agrees;
 use cases_files::reading::{Malformed, read_array, read_text, read_u32};
-use cases_files::refusals;
-use cases_files::refusals::Columns;
+use cases_files::refusals::{Columns, read_refusal};
 use model_split::Lengths;
 use std::io::Read;
 
@@ -21,15 +20,32 @@ pub const PLACES: [&str; 7] = ["written", "network", "9", "40", "41", "42", "dif
 
 const DIFFERENT: usize = 6;
 
-// The place of the cases that gave a refusal number, 0 where nothing is refused.
-fn place_of(number: u32) -> usize {
-    match number {
-        0 => 0,
-        9 => 2,
-        40 => 3,
-        41 => 4,
-        42 => 5,
-        _ => 1,
+// What a case gives: the texts that are split, what is stored of the answer, and what of the buffers.
+#[derive(Clone, Copy)]
+struct Case<'a> {
+    whole: Texts<'a>,
+    stored: Stored,
+    told: Buffers<'a>,
+}
+
+// The buffers that a split writes to.
+#[derive(Drop)]
+struct Room<'a> {
+    network_1: &'a mut [u8],
+    plan_1: &'a mut [u8],
+    network_2: &'a mut [u8],
+    plan_2: &'a mut [u8],
+}
+
+// The place of the cases that were refused like this, or written.
+fn place_of(refusal: Option<Refusal>) -> usize {
+    match refusal {
+        None => 0,
+        Some(Refusal { number: 9, .. }) => 2,
+        Some(Refusal { number: 40, .. }) => 3,
+        Some(Refusal { number: 41, .. }) => 4,
+        Some(Refusal { number: 42, .. }) => 5,
+        Some(_) => 1,
     }
 }
 
@@ -44,29 +60,28 @@ fn is_as_stored(
     ensures { result ≡ as_stored answer (buffers left.entry.network_1.now left.entry.plan_1.now left.entry.network_2.now left.entry.plan_2.now) stored
         (buffers told.entry.network_1.now told.entry.plan_1.now told.entry.network_2.now told.entry.plan_2.now) }
 {
-    let given = Columns(refusals::refusal_of(answer));
-    let is_left = told::lengths_of(answer) == stored.lengths && told::are_as_told(left, told);
-    agrees(rt, stored.number, &given, &Columns(stored.refusal), is_left)
+    let given = Columns(answer.err());
+    let expected = Columns(stored.answer.err());
+    let is_left = answer.ok() == stored.answer.ok() && told::are_as_told(left, told);
+    agrees(rt, stored.number, &given, &expected, is_left)
 }
 
 // Splits by the library: whether all is as stored.
-fn judge(
-    rt: &impl Print,
-    stored: Stored,
-    whole: Texts<'_>,
-    network_1: &mut [u8],
-    plan_1: &mut [u8],
-    network_2: &mut [u8],
-    plan_2: &mut [u8],
-    told: Buffers<'_>,
-) -> bool
-    ensures { let before = buffers network_1.old plan_1.old network_2.old plan_2.old in
-        let split = texts whole.entry.network.now whole.entry.plan.now in
+fn judge(rt: &impl Print, case: Case<'_>, room: Room<'_>) -> bool
+    ensures { let before = buffers room.entry.network_1.now room.entry.plan_1.now room.entry.network_2.now room.entry.plan_2.now in
+        let split = texts case.entry.whole.network.now case.entry.whole.plan.now in
+        let stored = case.entry.stored in
         result ≡ as_stored (answer_to split stored before) (left_by split stored before) stored
-        (buffers told.entry.network_1.now told.entry.plan_1.now told.entry.network_2.now told.entry.plan_2.now) }
+        (buffers case.entry.told.network_1.now case.entry.told.plan_1.now case.entry.told.network_2.now case.entry.told.plan_2.now) }
 {
-    let Texts { network, plan } = whole;
-    let set = stored.first_half;
+    let Texts { network, plan } = case.whole;
+    let set = case.stored.first_half;
+    let Room {
+        network_1,
+        plan_1,
+        network_2,
+        plan_2,
+    } = room;
     let answer = split::split(network, plan, set, network_1, plan_1, network_2, plan_2);
     let left = Buffers {
         network_1,
@@ -74,32 +89,27 @@ fn judge(
         network_2,
         plan_2,
     };
-    is_as_stored(rt, answer, stored, left, told)
+    is_as_stored(rt, answer, case.stored, left, case.told)
 }
 
 // Judges a case on buffers of these lengths that hold one byte everywhere before the call.
 fn judge_filled(
     rt: &impl Print,
-    stored: Stored,
-    whole: Texts<'_>,
+    case: Case<'_>,
     lengths: Lengths,
     rest: u8,
-    told: Buffers<'_>,
 ) -> Result<bool, Malformed> {
     let mut network_1 = [rest; ROOM];
     let mut plan_1 = [rest; ROOM];
     let mut network_2 = [rest; ROOM];
     let mut plan_2 = [rest; ROOM];
-    Ok(judge(
-        rt,
-        stored,
-        whole,
-        network_1.get_mut(..lengths.network_1).ok_or(Malformed)?,
-        plan_1.get_mut(..lengths.plan_1).ok_or(Malformed)?,
-        network_2.get_mut(..lengths.network_2).ok_or(Malformed)?,
-        plan_2.get_mut(..lengths.plan_2).ok_or(Malformed)?,
-        told,
-    ))
+    let room = Room {
+        network_1: network_1.get_mut(..lengths.network_1).ok_or(Malformed)?,
+        plan_1: plan_1.get_mut(..lengths.plan_1).ok_or(Malformed)?,
+        network_2: network_2.get_mut(..lengths.network_2).ok_or(Malformed)?,
+        plan_2: plan_2.get_mut(..lengths.plan_2).ok_or(Malformed)?,
+    };
+    Ok(judge(rt, case, room))
 }
 
 // Reads one case and judges it: the place at which it is counted.
@@ -113,32 +123,31 @@ pub fn run_case(rt: &impl Print, file: &mut impl Read, number: u32) -> Result<us
     let first_half = read_u32(file)?;
     let lengths = told::read_lengths(file)?;
     let rest = read_array::<_, 4>(file)?[0];
-    let refusal = refusals::read_refusal(file)?;
+    let refusal = read_refusal(file)?;
     let mut network_1 = [rest; ROOM];
     let mut plan_1 = [rest; ROOM];
     let mut network_2 = [rest; ROOM];
     let mut plan_2 = [rest; ROOM];
-    let stored = Stored {
-        number,
-        first_half,
-        refusal,
-        lengths: Lengths {
-            network_1: read_text(file, &mut network_1)?.len(),
-            plan_1: read_text(file, &mut plan_1)?.len(),
-            network_2: read_text(file, &mut network_2)?.len(),
-            plan_2: read_text(file, &mut plan_2)?.len(),
+    let written = Lengths {
+        network_1: read_text(file, &mut network_1)?.len(),
+        plan_1: read_text(file, &mut plan_1)?.len(),
+        network_2: read_text(file, &mut network_2)?.len(),
+        plan_2: read_text(file, &mut plan_2)?.len(),
+    };
+    let case = Case {
+        whole,
+        stored: Stored {
+            number,
+            first_half,
+            answer: refusal.map_or(Ok(written), Err),
+        },
+        told: Buffers {
+            network_1: &network_1,
+            plan_1: &plan_1,
+            network_2: &network_2,
+            plan_2: &plan_2,
         },
     };
-    let told = Buffers {
-        network_1: &network_1,
-        plan_1: &plan_1,
-        network_2: &network_2,
-        plan_2: &plan_2,
-    };
-    let same = judge_filled(rt, stored, whole, lengths, rest, told)?;
-    Ok(if same {
-        place_of(refusal.number)
-    } else {
-        DIFFERENT
-    })
+    let same = judge_filled(rt, case, lengths, rest)?;
+    Ok(if same { place_of(refusal) } else { DIFFERENT })
 }

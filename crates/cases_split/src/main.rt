@@ -6,8 +6,8 @@
 mod compare;
 mod told;
 
+use cases_files::files;
 use cases_files::files::Form;
-use cases_files::{files, tally};
 
 const FORM: Form = Form {
     mark: *b"HALFCASE",
@@ -16,11 +16,7 @@ const FORM: Form = Form {
 };
 
 fn main(rt: HostRuntime) {
-    let mut counts = [0; 7];
-    for path in ["cases.bin", "wrong_answer.bin"] {
-        files::run_file(&rt, path, FORM, &mut counts, |file, number| {
-            compare::run_case(&rt, file, number)
-        });
-    }
-    tally::print_counts(&rt, &compare::PLACES, &counts);
+    files::run(&rt, FORM, &compare::PLACES, &mut [0; 7], |file, number| {
+        compare::run_case(&rt, file, number)
+    });
 }

@@ -1,7 +1,8 @@
 // The answer of a split and its four texts in the stored form, which is described in reference/src/cases/split_file.rs.
-ghost use Rattle.std.specs.Prelude.{◌≡◌};
+ghost use Rattle.std.specs.Prelude.{◌≡◌, IfOk};
+ghost use Rattle.std.specs.Io.KnownBytes.{Consumes};
 ghost use Rattle.split.specs.Splitting.{buffers};
-ghost use Rattle.cases_split.specs.Told.{lengths_of, left_as_told};
+ghost use Rattle.cases_split.specs.Told.{left_as_told, lengths_bytes};
 
 use base_search::Refusal;
 use cases_files::reading::{Malformed, read_u32};
@@ -15,13 +16,12 @@ pub struct Texts<'a> {
     pub plan: &'a [u8],
 }
 
-// What was stored of a split, by its number from 0: the set of links, the refusal, one of the number 0 where the texts are written, and how long they are.
+// What was stored of a split, by its number from 0: the set of links, and the answer.
 #[derive(Clone, Copy)]
 pub struct Stored {
     pub number: u32,
     pub first_half: u32,
-    pub refusal: Refusal,
-    pub lengths: Lengths,
+    pub answer: Result<Lengths, Refusal>,
 }
 
 // The four buffers that a split leaves, or what was stored of them, a room for each.
@@ -31,18 +31,6 @@ pub struct Buffers<'a> {
     pub plan_1: &'a [u8],
     pub network_2: &'a [u8],
     pub plan_2: &'a [u8],
-}
-
-// How long the texts are that were written; 0 where the call is refused.
-pub fn lengths_of(answer: Result<Lengths, Refusal>) -> Lengths
-    ensures { result ≡ lengths_of answer }
-{
-    answer.unwrap_or(Lengths {
-        network_1: 0,
-        plan_1: 0,
-        network_2: 0,
-        plan_2: 0,
-    })
 }
 
 // Whether each buffer has, and for no more than its room, what was stored of it.
@@ -56,7 +44,9 @@ pub fn are_as_told(left: Buffers<'_>, told: Buffers<'_>) -> bool
 }
 
 // The lengths of the buffers of a case.
-pub fn read_lengths(file: &mut impl Read) -> Result<Lengths, Malformed> {
+pub fn read_lengths<R: Read>(file: &mut R) -> Result<Lengths, Malformed>
+    ensures { IfOk result (λ lengths. Consumes (R.remaining file.old) (R.remaining file.new) (lengths_bytes lengths)) }
+{
     Ok(Lengths {
         network_1: read_u32(file)? as usize,
         plan_1: read_u32(file)? as usize,
