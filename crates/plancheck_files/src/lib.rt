@@ -6,6 +6,7 @@ ghost use Rattle.std.specs.Option.{option_copied};
 ghost use Rattle.text_writer.specs.Writing.{Wrote};
 ghost use Rattle.plancheck_files.specs.Output.{output};
 
+use plancheck_report::InputFile;
 use std::rt::Files;
 
 // Writes what is to be printed of two texts, of which each was read or not.
@@ -16,8 +17,8 @@ fn write_output(network: Option<&[u8]>, plan: Option<&[u8]>, out: &mut [u8]) -> 
     ensures { Wrote (output (option_copied network.entry) (option_copied plan.entry)) 0 out.old out.new result }
 {
     match (network, plan) {
-        (None, _) => plancheck_report::write_not_read(out, 1),
-        (_, None) => plancheck_report::write_not_read(out, 2),
+        (None, _) => plancheck_report::write_not_read(out, InputFile::Network),
+        (_, None) => plancheck_report::write_not_read(out, InputFile::Plan),
         (Some(network), Some(plan)) => plancheck_report::write_report(network, plan, out),
     }
 }

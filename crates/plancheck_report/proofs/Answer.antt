@@ -6,14 +6,14 @@ use Rattle.text_writer.proofs.Laws.{wrote-more, wrote-length, record-most, recor
 use Rattle.model.specs.declared.Totals.{Totals}
 use Rattle.network_tables.specs.declared.Counts.{Counts}
 use Rattle.network_tables.specs.Places.{Few}
-use Rattle.plancheck_report.specs.Boundaries.{ledger_numbers, boundary_texts, RowsAsked}
+use Rattle.plancheck_report.specs.Boundaries.{ledger_numbers, plan_time, boundary_texts, RowsAsked}
 use Rattle.plancheck_report.specs.Answer.{totals_text, refusal_text, answer_text}
 use Rattle.plancheck_report.proofs.Boundaries.{boundary-length}
 use Rattle.std.specs.Prelude.{Result, Ok, Err}
 
 texts-length : (counts : Counts) (times ledger : List ℕ) → Few counts → length (boundary_texts counts times ledger) ≤ 127_292
 texts-length counts times ledger few =
-    omega (arith, few.steps, records-most 66 (ledger_numbers counts.links (λ n. get_or times n 0) ledger) 1052 (suc counts.steps) (λ n. boundary-length counts.links (λ n. get_or times n 0) ledger n few.links))
+    omega (arith, few.steps, records-most 66 (ledger_numbers counts.links (plan_time counts times) ledger) 1052 (suc counts.steps) (λ n. boundary-length counts.links (plan_time counts times) ledger n few.links))
 
 module _ {counts : Counts} {times ledger old : List ℕ} (asked : RowsAsked old 86 counts times ledger) (t : Totals) where
   -- an `A` record has at most 86 bytes
@@ -26,7 +26,7 @@ module _ {counts : Counts} {times ledger old : List ℕ} (asked : RowsAsked old 
     rows-asked =
         let l = totals-length in
         let w = wrote-length (totals_text t) 0 old mid next (omega (arith, asked.room)) a in
-        record { few = asked.few; all-times = asked.all-times; rows = asked.rows; room = omega (arith, a.ends, asked.room) }
+        record { few = asked.few; timed = asked.timed; rows = asked.rows; room = omega (arith, a.ends, asked.room) }
 
     pub accepted-wrote : {new : List ℕ} {answer : ℕ} → Wrote (boundary_texts counts times ledger) next mid new answer
         → Wrote (totals_text t ++ boundary_texts counts times ledger) 0 old new answer

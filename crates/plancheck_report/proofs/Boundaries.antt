@@ -1,42 +1,18 @@
 -- The laws of writing the `B` records: one behind the other, each from its row of the ledger.
 use Rattle.base_laws.proofs.Kit.{ℕ, zero, suc, ◌+◌, ◌-◌, ◌*◌, ◌≤◌, ◌<◌, ◌≡◌, refl, sym, ap, ◌∙◌, List, [], ◌∷◌, ◌++◌, add-one, arith, length, get_or, take, drop, set, length-set, take-append-drop, length-take-le, take-suc}
+use Rattle.std.proofs.Math.Seq.{take-append_seam}
 use Rattle.text_writer.specs.Records.{record_text, record_texts}
 use Rattle.text_writer.specs.Writing.{put_at, Wrote}
-use Rattle.text_writer.proofs.Laws.{put-take, wrote-byte, wrote-more, wrote-length, record-most}
+use Rattle.text_writer.proofs.Laws.{wrote-more, wrote-length, record-most}
 use Rattle.model.specs.Network.{max_links}
 use Rattle.network_tables.specs.declared.Counts.{Counts}
-use Rattle.plancheck_report.specs.Boundaries.{ledger_numbers, RowsAsked}
+use Rattle.plancheck_report.specs.Boundaries.{ledger_numbers, plan_time, RowsAsked}
 
--- ---- a row behind the first two numbers of a record: the first k of its numbers are there
-pub record Put (row old out : List ℕ) (k : ℕ) : Type 0 where
-  pub few : k ≤ length row
-  pub room : 2 + length row ≤ length old
-  pub long : length out ≡ length old
-  pub wrote : Wrote (take k row) 2 old out (2 + k)
-
-module _ (row old : List ℕ) where
-  pub put_first : 2 + length row ≤ length old → Put row old old 0
-  unfolding put_at
-  put_first h = record { few = omega arith; room = h; long = refl; wrote = record { is = sym (take-append-drop 2 old); ends = omega arith } }
-
-  module _ (out : List ℕ) (k : ℕ) (p : Put row old out k) where
-    pub put-again : (x : ℕ) → k < length row → x ≡ get_or row k 0 → Put row old (set out (2 + k) x) (k + 1)
-    put-again x l e =
-        let t = length-take-le k row p.few in
-        let b = wrote-byte x (2 + k) out (omega (arith, p.long, p.room)) in
-        let w = wrote-more (take k row) (x ∷ []) 2 old out (set out (2 + k) x) (2 + k) (2 + k + 1) (omega (arith, p.room)) p.wrote b in
-        let s : take (k + 1) row ≡ take k row ++ (x ∷ []) = rw (add-one, e) (take-suc row k 0 l) in
-        record {
-          few = omega arith;
-          room = p.room;
-          long = length-set out _ _ ∙ p.long;
-          wrote = rw s (record { is = w.is; ends = omega (arith, w.ends) });
-        }
-
--- the record that is written: two numbers and the row
-pub fields_read : (n x time : ℕ) (row rest fields : List ℕ) → length row ≤ length rest → x ≡ time → fields ≡ put_at 2 row (n ∷ x ∷ rest)
-    → take (2 + length row) fields ≡ n ∷ time ∷ row
-fields_read n x time row rest fields h e f = rw f (put-take 2 (n ∷ x ∷ rest) row (omega arith) ∙ ap (λ t. n ∷ t ∷ row) e)
+-- ---- the record that is written: two numbers and the row
+pub fields_read : {n x time : ℕ} {row wide : List ℕ} (rest : List ℕ) → x ≡ time → wide ≡ row → take (2 + length row) (n ∷ x ∷ (wide ++ rest)) ≡ n ∷ time ∷ row
+fields_read {n} {time = time} {row} rest e f =
+    let two : 2 + length row ≡ suc (suc (length row)) = omega arith in
+    rw (e, f, two) (ap (λ l. n ∷ time ∷ l) (take-append_seam row rest))
 
 -- ---- how long a record is
 take_short : (k : ℕ) (xs : List ℕ) → length (take k xs) ≤ k
@@ -55,7 +31,7 @@ pub record Written (counts : Counts) (times ledger : List ℕ) (at : ℕ) (old o
   pub few : n ≤ suc counts.steps
   pub long : length out ≡ length old
   pub end : next ≤ at + 1052 * n
-  pub wrote : Wrote (record_texts 66 n (ledger_numbers counts.links (λ m. get_or times m 0) ledger)) at old out next
+  pub wrote : Wrote (record_texts 66 n (ledger_numbers counts.links (plan_time counts times) ledger)) at old out next
 
 module _ {counts : Counts} {times ledger : List ℕ} {at : ℕ} {old : List ℕ} (asked : RowsAsked old at counts times ledger) where
   pub rows-first : Written counts times ledger at old old at 0
@@ -68,14 +44,14 @@ module _ {counts : Counts} {times ledger : List ℕ} {at : ℕ} {old : List ℕ}
       rows-room = omega (arith, w.long, w.end, asked.room, asked.few.steps)
 
       pub rows-again : {out' : List ℕ} {next' : ℕ}
-          → Wrote (record_text 66 (n ∷ get_or times n 0 ∷ take (2 * n * counts.links + 2 * counts.links - 2 * n * counts.links) (drop (2 * n * counts.links) ledger))) next out out' next'
+          → Wrote (record_text 66 (n ∷ plan_time counts times n ∷ take (2 * (n + 1) * counts.links - 2 * n * counts.links) (drop (2 * n * counts.links) ledger))) next out out' next'
           → Written counts times ledger at old out' next' (n + 1)
       unfolding record_texts ledger_numbers
       rows-again {out'} {next'} v =
-          let d : 2 * n * counts.links + 2 * counts.links - 2 * n * counts.links ≡ 2 * counts.links = omega arith in
-          let numbers = ledger_numbers counts.links (λ m. get_or times m 0) ledger in
+          let d : 2 * (n + 1) * counts.links - 2 * n * counts.links ≡ 2 * counts.links = omega arith in
+          let numbers = ledger_numbers counts.links (plan_time counts times) ledger in
           let u : Wrote (record_text 66 (numbers n)) next out out' next' = rw d at v in
-          let b = boundary-length counts.links (λ m. get_or times m 0) ledger n asked.few.links in
+          let b = boundary-length counts.links (plan_time counts times) ledger n asked.few.links in
           let m = wrote-more (record_texts 66 n numbers) (record_text 66 (numbers n)) at old out out' next next' (omega (arith, w.wrote.ends, w.end, asked.room, asked.few.steps)) w.wrote u in
           record {
             few = omega arith;

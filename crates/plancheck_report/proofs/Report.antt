@@ -22,11 +22,9 @@ use Rattle.network_tables.specs.declared.Counts.{Counts}
 use Rattle.network_tables.specs.declared.Link.{Link}
 use Rattle.network_tables.specs.declared.Movement.{Movement}
 use Rattle.network_tables.specs.declared.Reading.{Reading}
-use Rattle.network_tables.specs.Tables.{CountsHold, Judged}
-use Rattle.network_tables.proofs.Stages.{verdict-refused}
-use Rattle.network.specs.Loading.{Loaded}
-use Rattle.step_arrivals.specs.Times.{ShiftAsked, Shifted, PlanTimes}
-use Rattle.step_arrivals.proofs.Times.{shift-asked, plan-times}
+use Rattle.network_tables.specs.declared.NetworkTables.{NetworkTables}
+use Rattle.network_tables.specs.Tables.{CountsHold, TimeTable}
+use Rattle.network.specs.Loading.{Loaded, TablesJudged}
 use Rattle.plan_check.specs.Plan.{PlanGot}
 use Rattle.plancheck_report.specs.Boundaries.{ledger_size}
 use Rattle.plancheck_report.specs.Answer.{totals_text, refusal_text, answer_text}
@@ -55,7 +53,7 @@ module _ (network plan : List Line) where
   network-holds e = hold-of-passes (network_checks network) (or-else-first (verdict (network_checks network)) _ e)
 
   -- the text of what a verdict comes to, by the counts and times of a reading
-  verdict-told : {counts : Counts} {times : List ℕ} → CountsHold network counts → PlanTimes network times → (old : List ℕ) → length old ≡ ledger_size → (v : Verdict)
+  verdict-told : {counts : Counts} {times : List ℕ} → CountsHold network counts → TimeTable network times → (old : List ℕ) → length old ≡ ledger_size → (v : Verdict)
       → verdict (plan_checks network plan ledger_size) ≡ v
       → answer_text counts times (plan_answer network plan v) (written network plan old (rows_written network plan ledger_size)) ≡ report_text network plan v
   unfolding answer_text plan_answer totals report_text
@@ -70,15 +68,9 @@ module _ (network plan : List Line) where
   unfolding verdict report_text
   refused-report r v = ap (report_text network plan) (or-else-refused _ _ r v)
 
--- the times of a network that has passed, copied
-pub times-asked : {text : List ℕ} {signals : List Signal} {links : List Link} {movements : List Movement} {times : List ℕ} {reading : Reading} → Loaded text signals links movements times reading
-    → {copied : List ℕ} → copied ≡ times → ShiftAsked copied reading.counts.past reading.counts.steps
-times-asked held same = rw same (shift-asked held.counted held.holds held.time-table)
-
 -- a plan is judged on a network that has passed, and the times are the plan's
 module _ {network_text plan_text old : List ℕ} {signals : List Signal} {links : List Link} {movements : List Movement} {times : List ℕ} {reading : Reading} {answer : (Result Totals Refusal)} {ledger : List ℕ} (size : length old ≡ ledger_size)
-    (held : Loaded network_text signals links movements times reading) (judged : PlanGot network_text plan_text old answer ledger)
-    {copied after : List ℕ} (same : copied ≡ times) (shifted : Shifted copied reading.counts.past reading.counts.steps after) where
+    (held : Loaded network_text signals links movements times reading) (judged : PlanGot network_text plan_text old answer ledger) where
   abbrev network : List Line
   network = lines network_text
 
@@ -93,20 +85,20 @@ module _ {network_text plan_text old : List ℕ} {signals : List Signal} {links 
   unfolding ledger_after
   after-verdict = rw size at judged.written-rows
 
-  pub report-wrote : {out new : List ℕ} {r : ℕ} → Wrote (answer_text reading.counts after answer ledger) 0 out new r → Wrote (report network_text plan_text) 0 out new r
+  pub report-wrote : {out new : List ℕ} {r : ℕ} → Wrote (answer_text reading.counts times answer ledger) 0 out new r → Wrote (report network_text plan_text) 0 out new r
   unfolding report
   report-wrote w =
-      let t : answer_text reading.counts after answer ledger ≡ report_text network plan (verdict (network_checks network then plan_line_checks network plan)) =
-      ap₂ (answer_text reading.counts after) of-verdict after-verdict
-      ∙ verdict-told network plan held.counted (plan-times held.counted held.holds held.time-table (rw same at shifted)) old size (verdict (plan_checks network plan ledger_size)) refl
+      let t : answer_text reading.counts times answer ledger ≡ report_text network plan (verdict (network_checks network then plan_line_checks network plan)) =
+      ap₂ (answer_text reading.counts times) of-verdict after-verdict
+      ∙ verdict-told network plan held.counted held.time-table old size (verdict (plan_checks network plan ledger_size)) refl
       ∙ ap (report_text network plan) (same-verdict network plan) in
       rw t at w
 
 -- the network is refused
-pub refused-wrote : (network_text plan_text : List ℕ) {stage : (Result Reading Refusal)} {Held : Reading → Type 0} {q : Refusal} → Judged (network_checks (lines network_text)) Held stage → stage ≡ Err q
+pub refused-wrote : (network_text plan_text : List ℕ) {stage : (Result NetworkTables Refusal)} {Held : NetworkTables → Type 0} {q : Refusal} → TablesJudged (network_checks (lines network_text)) Held stage → stage ≡ Err q
     → {out new : List ℕ} {r : ℕ} → Wrote (refusal_text q) 0 out new r → Wrote (report network_text plan_text) 0 out new r
 unfolding report
-refused-wrote network_text plan_text {q = q} judged e w = rw (refused-report (lines network_text) (plan_of network_text plan_text) q (verdict-refused judged e)) w
+refused-wrote network_text plan_text {q = q} judged e w = rw (refused-report (lines network_text) (plan_of network_text plan_text) q (judged.refused q e)) w
 
 -- texts that differ only in padding have the same report
 same-report : (network_text plan_text padded_network padded_plan : List ℕ) → SameText network_text padded_network → SameText plan_text padded_plan

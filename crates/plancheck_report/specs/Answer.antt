@@ -4,6 +4,8 @@ use Rattle.text_writer.specs.Records.{record_text}
 use Rattle.base_search.specs.declared.Refusal.{Refusal}
 use Rattle.model.specs.declared.Totals.{Totals}
 use Rattle.network_tables.specs.declared.Counts.{Counts}
+use Rattle.plancheck_report.specs.declared.InputFile.{InputFile}
+use Rattle.plancheck_report.specs.declared.InputFile.TheVariants.{Network, Plan}
 use Rattle.plancheck_report.specs.Boundaries.{boundary_texts}
 
 -- the `A` record
@@ -17,3 +19,8 @@ refusal_text r = record_text 82 (r.number ∷ r.line ∷ r.item ∷ [])
 unfoldable pub answer_text : Counts → List ℕ → Result Totals Refusal → List ℕ → List ℕ
 answer_text counts times (Ok t) ledger = totals_text t ++ boundary_texts counts times ledger
 answer_text counts times (Err r) ledger = refusal_text r
+
+-- the number of a file in an `L` record
+abbrev pub file_number : InputFile → ℕ
+file_number Network = 1
+file_number Plan = 2

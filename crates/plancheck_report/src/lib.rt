@@ -4,32 +4,49 @@
 ghost use Rattle.std.specs.Prelude.{◌≡◌, ◌∷◌, ◌++◌, ◌+◌, ◌≤◌, length};
 ghost use Rattle.text_reader.specs.Padding.{PaddingIgnored};
 ghost use Rattle.text_writer.specs.Records.{record_text};
-ghost use Rattle.text_writer.specs.Writing.{put_at, Wrote};
+ghost use Rattle.text_writer.specs.Writing.{Wrote};
 ghost use Rattle.model.specs.Report.{report, not_read};
 ghost use Rattle.network_tables.specs.Fields.{row_size};
-ghost use Rattle.network.specs.Loading.{Loaded};
-ghost use Rattle.plancheck_report.specs.Boundaries.{boundary_texts, RowsAsked};
-ghost use Rattle.plancheck_report.specs.Answer.{totals_text, refusal_text, answer_text};
+ghost use Rattle.network.specs.Loading.{TablesLoaded};
+ghost use Rattle.plancheck_report.specs.Boundaries.{plan_time, TimeAsked, boundary_texts, RowsAsked};
+ghost use Rattle.plancheck_report.specs.Answer.{totals_text, refusal_text, answer_text, file_number};
 
 use base_search::Refusal;
 use model::{Signal, Totals};
 use network_tables::{
-    Counts, Link, MAX_LINKS, MAX_MOVEMENTS, MAX_SIGNALS, Movement, NetworkTables, ROW_SIZE,
-    TIME_TABLE_SIZE,
+    Link, MAX_LINKS, MAX_MOVEMENTS, MAX_SIGNALS, Movement, NetworkTables, ROW_SIZE,
+    TIME_TABLE_SIZE, row_start,
 };
 
 // The ledger of the largest network: a row for each boundary.
 const LEDGER_SIZE: usize = TIME_TABLE_SIZE * ROW_SIZE;
 
-// The numbers of a row go behind the first two of a record.
-fn put_row(fields: &mut [u64], row: &[u32])
-    requires { 2 + length row.now ≤ length fields.old }
-    ensures { fields.new ≡ put_at 2 row.now fields.old }
-{
-    // Not a `zip`: a proof knows no element that is written through one.
-    for k in 0..row.len() {
-        fields[2 + k] = u64::from(row[k]);
+// The program's two files.
+#[derive(Clone, Copy)]
+pub enum InputFile {
+    Network,
+    Plan,
+}
+
+impl InputFile {
+    // Its number in `L` records.
+    pub fn number(self) -> u64
+        ensures { result ≡ file_number self }
+    {
+        match self {
+            InputFile::Network => 1,
+            InputFile::Plan => 2,
+        }
     }
+}
+
+// The time of a boundary of the plan, which starts where the past ends.
+fn time_of(tables: &NetworkTables, n: usize) -> u32
+    requires { TimeAsked tables.now.reading.counts tables.now.times.now n }
+    ensures { result ≡ plan_time tables.now.reading.counts tables.now.times.now n }
+{
+    let past = tables.reading.counts.past;
+    tables.times[past + n] - tables.times[past]
 }
 
 // Writes the `B` record of a boundary: its number, its time, and its row of the ledger.
@@ -38,37 +55,31 @@ fn write_boundary(out: &mut [u8], at: usize, n: usize, time: u32, row: &[u32]) -
     ensures { Wrote (record_text 66 (n ∷ time ∷ row.now)) at out.old out.new result }
 {
     let mut fields = [0u64; 2 + ROW_SIZE];
+    let end = 2 + row.len();
     fields[0] = n as u64;
     fields[1] = u64::from(time);
-    put_row(&mut fields, row);
-    let end = 2 + row.len();
+    text_writer::widen(row, &mut fields[2..end]);
     text_writer::write_record(out, at, b'B', &fields[..end])
 }
 
-// Writes the `B` records of boundaries 0 to K, by the counts and times of a network that has passed.
-fn write_rows(out: &mut [u8], at: usize, counts: Counts, times: &[u32], ledger: &[u32]) -> usize
-    requires { RowsAsked out.old at counts times.now ledger.now }
-    ensures { Wrote (boundary_texts counts times.now ledger.now) at out.old out.new result }
+// Writes the `B` records of boundaries 0 to K of a plan on a network that has passed.
+fn write_rows(out: &mut [u8], at: usize, tables: &NetworkTables, ledger: &[u32]) -> usize
+    requires { RowsAsked out.old at tables.now.reading.counts tables.now.times.now ledger.now }
+    ensures { Wrote (boundary_texts tables.now.reading.counts tables.now.times.now ledger.now) at out.old out.new result }
 {
+    let counts = tables.reading.counts;
     let mut next = at;
     for n in 0..counts.steps + 1 {
-        let start = 2 * n * counts.links;
-        let end = start + 2 * counts.links;
-        next = write_boundary(out, next, n, times[n], &ledger[start..end]);
+        let row = &ledger[row_start(n, counts.links)..row_start(n + 1, counts.links)];
+        next = write_boundary(out, next, n, time_of(tables, n), row);
     }
     next
 }
 
 // Writes `A` with the four totals, and the `B` records behind it.
-fn write_accepted(
-    out: &mut [u8],
-    counts: Counts,
-    times: &[u32],
-    ledger: &[u32],
-    totals: Totals,
-) -> usize
-    requires { RowsAsked out.old 86 counts times.now ledger.now }
-    ensures { Wrote (totals_text totals ++ boundary_texts counts times.now ledger.now) 0 out.old out.new result }
+fn write_accepted(out: &mut [u8], tables: &NetworkTables, ledger: &[u32], totals: Totals) -> usize
+    requires { RowsAsked out.old 86 tables.now.reading.counts tables.now.times.now ledger.now }
+    ensures { Wrote (totals_text totals ++ boundary_texts tables.now.reading.counts tables.now.times.now ledger.now) 0 out.old out.new result }
 {
     let fields = [
         totals.admitted,
@@ -77,7 +88,7 @@ fn write_accepted(
         totals.doubled_time,
     ];
     let next = text_writer::write_record(out, 0, b'A', &fields);
-    write_rows(out, next, counts, times, ledger)
+    write_rows(out, next, tables, ledger)
 }
 
 // Writes `R`, number, line, item.
@@ -96,39 +107,33 @@ fn write_refusal(out: &mut [u8], refusal: Refusal) -> usize
 // Writes the answer of a plan's check; the rows of an accepted plan stand in the ledger.
 fn write_answer(
     out: &mut [u8],
-    counts: Counts,
-    times: &[u32],
+    tables: &NetworkTables,
     answer: Result<Totals, Refusal>,
     ledger: &[u32],
 ) -> usize
-    requires { RowsAsked out.old 86 counts times.now ledger.now }
-    ensures { Wrote (answer_text counts times.now answer ledger.now) 0 out.old out.new result }
+    requires { RowsAsked out.old 86 tables.now.reading.counts tables.now.times.now ledger.now }
+    ensures { Wrote (answer_text tables.now.reading.counts tables.now.times.now answer ledger.now) 0 out.old out.new result }
 {
     match answer {
-        Ok(totals) => write_accepted(out, counts, times, ledger, totals),
+        Ok(totals) => write_accepted(out, tables, ledger, totals),
         Err(refusal) => write_refusal(out, refusal),
     }
 }
 
-// Judges a plan on a network that has passed, and writes the report: the ledger is long enough for every network. The times become those of the plan, in a copy.
+// Judges a plan on a network that has passed, and writes the report: the ledger is long enough for every network.
 fn write_judged(
-    network: &[u8],
     plan: &[u8],
     tables: &NetworkTables,
     signals: &mut [Signal],
     out: &mut [u8],
 ) -> usize
-    requires loaded { Loaded network.now signals.old tables.now.links.now tables.now.movements.now tables.now.times.now tables.now.reading }
+    requires loaded { TablesLoaded tables.now signals.old }
     requires in_bounds { 131072 ≤ length out.old }
-    ensures { Wrote (report network.now plan.now) 0 out.old out.new result }
+    ensures { Wrote (report tables.now.text.now plan.now) 0 out.old out.new result }
 {
     let mut ledger = [0u32; LEDGER_SIZE];
-    let answer = plan_check::judge_loaded(network, plan, tables, signals, &mut ledger);
-    let counts = tables.reading.counts;
-    let mut times = [0u32; TIME_TABLE_SIZE];
-    times.copy_from_slice(tables.times);
-    step_arrivals::from_start(&mut times, counts.past, counts.steps);
-    write_answer(out, counts, &times, answer, &ledger)
+    let answer = plan_check::judge_loaded(plan, tables, signals, &mut ledger);
+    write_answer(out, tables, answer, &ledger)
 }
 
 // Writes the report of two texts that were read.
@@ -150,23 +155,15 @@ pub fn write_report(network: &[u8], plan: &[u8], out: &mut [u8]) -> usize
     );
     match read {
         Err(refusal) => write_refusal(out, refusal),
-        Ok(reading) => {
-            let tables = NetworkTables {
-                reading,
-                links: &links,
-                movements: &movements,
-                times: &times,
-            };
-            write_judged(network, plan, &tables, &mut signals, out)
-        }
+        Ok(tables) => write_judged(plan, &tables, &mut signals, out),
     }
 }
 
-// Writes `L`: the network (1) or the plan (2) is longer than the program takes, or not to be opened or read.
-pub fn write_not_read(out: &mut [u8], file: u64) -> usize
+// Writes `L`: one of the files is longer than the program takes, or not to be opened or read.
+pub fn write_not_read(out: &mut [u8], file: InputFile) -> usize
     requires { 23 ≤ length out.old }
-    ensures { Wrote (not_read file) 0 out.old out.new result }
+    ensures { Wrote (not_read (file_number file)) 0 out.old out.new result }
 {
-    let fields = [file];
+    let fields = [file.number()];
     text_writer::write_record(out, 0, b'L', &fields)
 }

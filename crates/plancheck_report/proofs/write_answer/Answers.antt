@@ -3,7 +3,7 @@ use Rattle.plancheck_report.proofs.Answer.{accepted-told, refused-told}
 use Rattle.plancheck_report.proofs.write_answer.Goals as goal
 
 pub returns-in-Ok : goal.returns-in-Ok
-returns-in-Ok c = accepted-told c.args.counts c.args.times.now c.args.ledger.now c.in-Ok.is c.write_accepted.ensures
+returns-in-Ok c = accepted-told c.args.tables.now.reading.counts c.args.tables.now.times.now c.args.ledger.now c.in-Ok.is c.write_accepted.ensures
 
 pub returns-in-Err : goal.returns-in-Err
-returns-in-Err c = refused-told c.args.counts c.args.times.now c.args.ledger.now c.in-Err.is c.write_refusal.ensures
+returns-in-Err c = refused-told c.args.tables.now.reading.counts c.args.tables.now.times.now c.args.ledger.now c.in-Err.is c.write_refusal.ensures

@@ -5,11 +5,7 @@ use Rattle.text_writer.proofs.Laws.{record-fits}
 use Rattle.plancheck_report.proofs.write_boundary.Goals as goal
 
 pub write_record-requires : goal.write_record-requires
-write_record-requires c =
-    let f = fields_read c.args.n c.from.result c.args.time c.args.row.now _ c.put_row.new.fields (omega arith) c.from.ensures c.put_row.ensures in
-    record-fits _ _ _ _ (omega (arith, ap length f))
+write_record-requires c = rw (fields_read _ c.from.ensures c.widen.ensures) (record-fits _ _ _ _ (omega arith))
 
 pub returns : goal.returns
-returns c =
-    let f = fields_read c.args.n c.from.result c.args.time c.args.row.now _ c.put_row.new.fields (omega arith) c.from.ensures c.put_row.ensures in
-    rw f at c.write_record.ensures
+returns c = rw (fields_read _ c.from.ensures c.widen.ensures) at c.write_record.ensures

@@ -1,11 +1,15 @@
 -- `plancheck_report::write_judged` meets its contract: the answer and the ledger of the judgement tell the report.
+use Rattle.std.proofs.Common.{rules}
 use Rattle.base_laws.proofs.Kit.{ℕ, length-replicate}
 use Rattle.plancheck_report.specs.Boundaries.{ledger_size}
-use Rattle.plancheck_report.proofs.Report.{times-asked, report-wrote}
+use Rattle.plancheck_report.proofs.Rows.{time-asked}
+use Rattle.plancheck_report.proofs.Report.{report-wrote}
 use Rattle.plancheck_report.proofs.write_judged.Goals as goal
 
-pub from_start-requires : goal.from_start-requires
-from_start-requires c = times-asked c.requires.loaded c.copy_from_slice.ensures.after
+pub write_answer-requires : goal.write_answer-requires
+write_answer-requires c =
+    let held = c.requires.loaded in
+    record { few = search rules; timed = time-asked held.counted held.time-table held.holds; rows = search rules; room = search rules }
 
 pub returns : goal.returns
-returns c = report-wrote (length-replicate {A = ℕ} ledger_size 0) c.requires.loaded c.judge_loaded-answer.ensures c.copy_from_slice.ensures.after c.from_start.ensures c.write_answer.ensures
+returns c = report-wrote (length-replicate {A = ℕ} ledger_size 0) c.requires.loaded c.judge_loaded-answer.ensures c.write_answer.ensures

@@ -9,4 +9,4 @@ write_record-requires c = record-fits _ _ _ _ (search rules)
 
 pub returns : goal.returns
 unfolding not_read
-returns c = c.write_record.ensures
+returns c = rw c.number.ensures at c.write_record.ensures

@@ -3,4 +3,4 @@ use Rattle.plancheck_report.proofs.Boundaries.{Written}
 use Rattle.plancheck_report.proofs.write_rows.Given as goal
 
 abbrev pub invariant-loop-n : goal.invariant-loop-n
-invariant-loop-n l = Written l.counts l.times l.ledger l.at l.initial.out l.out l.next l.n
+invariant-loop-n l = Written l.tables.reading.counts l.tables.times.now l.ledger l.at l.initial.out l.out l.next l.n
