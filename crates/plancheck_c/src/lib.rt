@@ -33,13 +33,14 @@ ghost use Rattle.plancheck_c.specs.Results.{NumberTells, verdict_result, verdict
 
 use base_search::Refusal;
 use cells_call::CellsRun;
+use cells_steps::MAX_CELLS;
 use model::{LinkState, Totals};
 use model_split::Lengths;
 use plan_compare::{Comparison, ComparisonRefusal};
 
 // The answer of a network's check or of a step of vehicles; number 0: the network is valid, the vehicles have moved.
 #[repr(C)]
-#[derive(Clone, Copy)]
+#[derive(Clone, Copy, Default)]
 pub struct NetworkResult {
     pub number: u32,
     pub line: u32,
@@ -51,11 +52,7 @@ impl From<Result<(), Refusal>> for NetworkResult {
 
     fn from(answer: Result<(), Refusal>) -> NetworkResult {
         match answer {
-            Ok(()) => NetworkResult {
-                number: 0,
-                line: 0,
-                item: 0,
-            },
+            Ok(()) => NetworkResult::default(),
             Err(refusal) => NetworkResult {
                 number: refusal.number,
                 line: refusal.line,
@@ -67,7 +64,7 @@ impl From<Result<(), Refusal>> for NetworkResult {
 
 // What a network has; number 0: it is valid, with these counts.
 #[repr(C)]
-#[derive(Clone, Copy)]
+#[derive(Clone, Copy, Default)]
 pub struct CountsResult {
     pub number: u32,
     pub line: u32,
@@ -91,7 +88,7 @@ pub struct VersionResult {
 
 // The answer of a plan's check; number 0: the plan is accepted, with these totals.
 #[repr(C)]
-#[derive(Clone, Copy)]
+#[derive(Clone, Copy, Default)]
 pub struct PlanResult {
     pub number: u32,
     pub line: u32,
@@ -108,22 +105,17 @@ impl From<Result<Totals, Refusal>> for PlanResult {
     fn from(answer: Result<Totals, Refusal>) -> PlanResult {
         match answer {
             Ok(totals) => PlanResult {
-                number: 0,
-                line: 0,
-                item: 0,
                 admitted: totals.admitted,
                 let_out: totals.let_out,
                 inside: totals.inside,
                 doubled_time: totals.doubled_time,
+                ..PlanResult::default()
             },
             Err(r) => PlanResult {
                 number: r.number,
                 line: r.line,
                 item: r.item,
-                admitted: 0,
-                let_out: 0,
-                inside: 0,
-                doubled_time: 0,
+                ..PlanResult::default()
             },
         }
     }
@@ -131,7 +123,7 @@ impl From<Result<Totals, Refusal>> for PlanResult {
 
 // The state of a link; number 0: the link holds these volumes.
 #[repr(C)]
-#[derive(Clone, Copy)]
+#[derive(Clone, Copy, Default)]
 pub struct LinkResult {
     pub number: u32,
     pub line: u32,
@@ -146,18 +138,15 @@ impl From<Result<LinkState, Refusal>> for LinkResult {
     fn from(answer: Result<LinkState, Refusal>) -> LinkResult {
         match answer {
             Ok(state) => LinkResult {
-                number: 0,
-                line: 0,
-                item: 0,
                 queued: state.queued,
                 in_transit: state.in_transit,
+                ..LinkResult::default()
             },
             Err(r) => LinkResult {
                 number: r.number,
                 line: r.line,
                 item: r.item,
-                queued: 0,
-                in_transit: 0,
+                ..LinkResult::default()
             },
         }
     }
@@ -165,7 +154,7 @@ impl From<Result<LinkState, Refusal>> for LinkResult {
 
 // The answer of a call that writes a text; number 0: it is written, so many bytes.
 #[repr(C)]
-#[derive(Clone, Copy)]
+#[derive(Clone, Copy, Default)]
 pub struct TextResult {
     pub number: u32,
     pub line: u32,
@@ -179,16 +168,14 @@ impl From<Result<usize, Refusal>> for TextResult {
     fn from(answer: Result<usize, Refusal>) -> TextResult {
         match answer {
             Ok(length) => TextResult {
-                number: 0,
-                line: 0,
-                item: 0,
                 length,
+                ..TextResult::default()
             },
             Err(r) => TextResult {
                 number: r.number,
                 line: r.line,
                 item: r.item,
-                length: 0,
+                ..TextResult::default()
             },
         }
     }
@@ -196,7 +183,7 @@ impl From<Result<usize, Refusal>> for TextResult {
 
 // The answer of a run of cells; number 0: so many cells, these totals, and the volumes after the last step, 0 past the cells.
 #[repr(C)]
-#[derive(Clone, Copy)]
+#[derive(Clone, Copy, Default)]
 pub struct CellsResult {
     pub number: u32,
     pub line: u32,
@@ -204,7 +191,7 @@ pub struct CellsResult {
     pub cells: u32,
     pub flow_in: u64,
     pub flow_out: u64,
-    pub volumes: [u32; 64],
+    pub volumes: [u32; MAX_CELLS],
 }
 
 impl From<Result<CellsRun, Refusal>> for CellsResult {
@@ -212,26 +199,18 @@ impl From<Result<CellsRun, Refusal>> for CellsResult {
 
     fn from(answer: Result<CellsRun, Refusal>) -> CellsResult {
         match answer {
-            Ok(run) => {
-                let volumes = run.volumes;
-                CellsResult {
-                    number: 0,
-                    line: 0,
-                    item: 0,
-                    cells: run.cells,
-                    flow_in: run.flow_in,
-                    flow_out: run.flow_out,
-                    volumes,
-                }
-            }
+            Ok(run) => CellsResult {
+                cells: run.cells,
+                flow_in: run.flow_in,
+                flow_out: run.flow_out,
+                volumes: run.volumes,
+                ..CellsResult::default()
+            },
             Err(r) => CellsResult {
                 number: r.number,
                 line: r.line,
                 item: r.item,
-                cells: 0,
-                flow_in: 0,
-                flow_out: 0,
-                volumes: [0; 64],
+                ..CellsResult::default()
             },
         }
     }
@@ -240,7 +219,7 @@ impl From<Result<CellsRun, Refusal>> for CellsResult {
 // The answer of a comparison of two plans; number 0: both are accepted, the first is ahead (order 1), behind (2), equal (3) or crossing (4), and its doubled time
 // is by so much the greater. Else the plan that the refusal means, 0 for the network.
 #[repr(C)]
-#[derive(Clone, Copy)]
+#[derive(Clone, Copy, Default)]
 pub struct ComparisonResult {
     pub number: u32,
     pub line: u32,
@@ -256,12 +235,9 @@ impl From<Result<Comparison, ComparisonRefusal>> for ComparisonResult {
     fn from(answer: Result<Comparison, ComparisonRefusal>) -> ComparisonResult {
         match answer {
             Ok(comparison) => ComparisonResult {
-                number: 0,
-                line: 0,
-                item: 0,
-                plan: 0,
                 order: comparison.order.number(),
                 gap: comparison.gap,
+                ..ComparisonResult::default()
             },
             Err(refused) => {
                 let r = refused.refusal();
@@ -270,8 +246,7 @@ impl From<Result<Comparison, ComparisonRefusal>> for ComparisonResult {
                     line: r.line,
                     item: r.item,
                     plan: refused.plan(),
-                    order: 0,
-                    gap: 0,
+                    ..ComparisonResult::default()
                 }
             }
         }
@@ -280,7 +255,7 @@ impl From<Result<Comparison, ComparisonRefusal>> for ComparisonResult {
 
 // The answer of a split; number 0: the four texts are written, so many bytes each.
 #[repr(C)]
-#[derive(Clone, Copy)]
+#[derive(Clone, Copy, Default)]
 pub struct SplitResult {
     pub number: u32,
     pub line: u32,
@@ -297,22 +272,17 @@ impl From<Result<Lengths, Refusal>> for SplitResult {
     fn from(answer: Result<Lengths, Refusal>) -> SplitResult {
         match answer {
             Ok(lengths) => SplitResult {
-                number: 0,
-                line: 0,
-                item: 0,
                 network_1: lengths.network_1,
                 plan_1: lengths.plan_1,
                 network_2: lengths.network_2,
                 plan_2: lengths.plan_2,
+                ..SplitResult::default()
             },
             Err(r) => SplitResult {
                 number: r.number,
                 line: r.line,
                 item: r.item,
-                network_1: 0,
-                plan_1: 0,
-                network_2: 0,
-                plan_2: 0,
+                ..SplitResult::default()
             },
         }
     }
@@ -336,26 +306,19 @@ pub extern "C" fn plancheck_network_counts(network: &[u8]) -> CountsResult
     // Not by `From`, which may ask nothing of the counts: that they fit, `count_network` promises.
     match network::count_network(network) {
         Ok(counts) => CountsResult {
-            number: 0,
-            line: 0,
-            item: 0,
             links: counts.links as u32,
             signals: counts.signals as u32,
             movements: counts.movements as u32,
             steps: counts.steps as u32,
             trams: counts.trams as u32,
             past: counts.past as u32,
+            ..CountsResult::default()
         },
         Err(r) => CountsResult {
             number: r.number,
             line: r.line,
             item: r.item,
-            links: 0,
-            signals: 0,
-            movements: 0,
-            steps: 0,
-            trams: 0,
-            past: 0,
+            ..CountsResult::default()
         },
     }
 }
