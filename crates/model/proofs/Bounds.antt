@@ -77,10 +77,10 @@ module _ (network plan : List Line) (holds : Hold (network_checks network)) wher
   valid : ValidNetwork network
   valid = valid-network network holds
 
-  pair-rises : (j k : ℕ) → j < k → k < movement_count network → Above network j k
+  pairs-rise : (j k : ℕ) → j < k → k < movement_count network → Above network j k
   unfolding valid_movement pair_rises
-  pair-rises j zero h l = absurd (omega arith)
-  pair-rises j (suc k) h l = go (eq-or-lt_of_le h) (pair-rises j k)
+  pairs-rise j zero h l = absurd (omega arith)
+  pairs-rise j (suc k) h l = go (eq-or-lt_of_le h) (pairs-rise j k)
     where
       last : Above network k (suc k)
       last = ⊎_elim (λ e. inl (ltb-true _ _ e)) (λ e. inr (eqb-true _ _ (and_left _ _ e), ltb-true _ _ (and_right _ _ e))) (or_cases _ _ (and_right _ _ (valid.movements (suc k) l)))
@@ -114,7 +114,7 @@ module _ (network plan : List Line) (holds : Hold (network_checks network)) wher
         → sum (movement_count network) (λ j. only (eqb (here j) (suc i)) (moved network plan n j)) ≤ 13_800_000
     few-moved i here there rise sides =
         ranked-sum (λ j. eqb (here j) (suc i)) (λ j. skip (suc i) (there j)) (moved network plan n) 600_000 (movement_count network) 23
-        (λ j k u v e f. skip-rises (suc i) (there j) (there k) (other j (omega arith) (eqb-true _ _ e)) (other k v (eqb-true _ _ f)) (rise j k (eqb-true _ _ e) (eqb-true _ _ f) (pair-rises j k u v)))
+        (λ j k u v e f. skip-rises (suc i) (there j) (there k) (other j (omega arith) (eqb-true _ _ e)) (other k v (eqb-true _ _ f)) (rise j k (eqb-true _ _ e) (eqb-true _ _ f) (pairs-rise j k u v)))
         (λ j u e. let s = sides j u in let h = eqb-true (here j) (suc i) e in skip-within (suc i) (there j) (other j u h) (omega arith) (omega arith) s.2 s.3)
         moved-small
       where

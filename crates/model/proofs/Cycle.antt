@@ -48,9 +48,9 @@ module _ (network plan : List Line) (r : ℕ) where
   begins-in-plan (b, g) = omega (arith, g.some-step, g.in-plan)
 
   module _ (accepted : AcceptedPlan network plan) (lr : r < signal_count network) where
-    keeps-cycle : (n : ℕ) → n < step_count network → ordinary network n r ≡ true → keeps_cycle (signal_at network plan n r) (shown_in network plan n r) (step_length network n) ≡ true
+    cycle-kept : (n : ℕ) → n < step_count network → ordinary network n r ≡ true → keeps_cycle (signal_at network plan n r) (shown_in network plan n r) (step_length network n) ≡ true
     unfolding rule14
-    keeps-cycle n h o = tested network plan r n _ o ((accepted.lawful n h).keeps14 r lr)
+    cycle-kept n h o = tested network plan r n _ o ((accepted.lawful n h).keeps14 r lr)
 
     clock-limit : (n : ℕ) → n ≤ step_count network → clock n ≤ (signal network r).greatest_cycle
     clock-limit zero h = unfold valid_signal within signal_at in (let f = accepted.valid.signals r lr in leb-true (signal network r).cycle_clock (signal network r).greatest_cycle (search (and_left, and_right) depth 9))
@@ -59,7 +59,7 @@ module _ (network plan : List Line) (r : ℕ) where
         go : (b : Bool) → ordinary network n r ≡ b → clock n ≤ (signal network r).greatest_cycle → clock (suc n) ≤ (signal network r).greatest_cycle
         go true o ih =
             rw (clock, next-signal network plan r n o, ← kept network plan r (λ s. s.greatest_cycle) (λ s q x. refl) n)
-            (cycle-parts (signal_at network plan n r) (shown_in network plan n r) (step_length network n) (keeps-cycle n h o)).1
+            (cycle-parts (signal_at network plan n r) (shown_in network plan n r) (step_length network n) (cycle-kept n h o)).1
         go false o ih = rw (clock, same-signal network plan r n o) ih
 
     -- while no cycle begins, the clock counts ordinary seconds
@@ -114,7 +114,7 @@ module _ (network plan : List Line) (r : ℕ) where
     unfolding least_cycle signal
     clock-least {c} b =
         let o = change-ordinary network plan r c (λ f. begins-after b (sym f ∙ begins-with b)) in
-        let h = (cycle-parts (signal_at network plan c r) (shown_in network plan c r) (step_length network c) (keeps-cycle c (begins-in-plan b) o)).0 in
+        let h = (cycle-parts (signal_at network plan c r) (shown_in network plan c r) (step_length network c) (cycle-kept c (begins-in-plan b) o)).0 in
         let l : (signal_at network plan c r).least_cycle ≤ clock c =
         leb-true _ _ (rw (eq-eqb (shown_in network plan c r) 1 (sym (phase-suc network plan r c o) ∙ begins-with b), ne_eqb (phase network plan r c) 1 (begins-after b)) at h) in
         omega (arith, l, kept network plan r (λ s. s.least_cycle) (λ s q x. refl) c)

@@ -82,9 +82,9 @@ module _ (network : List Line) (valid : ValidNetwork network) where
   past-limits i l = let v = every-at (link_count network) (valid_past_of network) (and_right _ _ valid.past) i l in search (leb-true, and_left, and_right) depth 9
 
   -- the length of a step of the timeline, past or present
-  pub timeline-length : (m : ℕ) → m < on_timeline network (step_count network) → (1 ≤ timeline_length network m) × (timeline_length network m ≤ 60)
+  pub length-limits : (m : ℕ) → m < on_timeline network (step_count network) → (1 ≤ timeline_length network m) × (timeline_length network m ≤ 60)
   unfolding valid_past on_timeline within step_length
-  timeline-length m l = elim (dec_le (past_count network) m) [
+  length-limits m l = elim (dec_le (past_count network) m) [
     | yes h ↦
         let e : past_count network + (m - past_count network) ≡ m = omega arith in
         let s = step-limits (m - past_count network) (omega arith) in
@@ -96,7 +96,7 @@ module _ (network : List Line) (valid : ValidNetwork network) where
   ]
 
   pub timeline-lasts : Lasts network
-  timeline-lasts m l = (timeline-length m l).0
+  timeline-lasts m l = (length-limits m l).0
 
   pub first-lasts : 1 ≤ timeline_length network 0
   first-lasts = timeline-lasts 0 (unfold on_timeline in omega (arith, counts.some-step))
@@ -105,7 +105,7 @@ module _ (network : List Line) (valid : ValidNetwork network) where
   timeline-fits : (m : ℕ) → m ≤ on_timeline network (step_count network) → timeline_time network m ≤ 60 * m
   unfolding timeline_time sum
   timeline-fits zero h = omega arith
-  timeline-fits (suc m) h = omega (arith, timeline-fits m (omega arith), (timeline-length m h).1)
+  timeline-fits (suc m) h = omega (arith, timeline-fits m (omega arith), (length-limits m h).1)
 
   pub timeline-small : (m : ℕ) → m ≤ on_timeline network (step_count network) → timeline_time network m ≤ 7200
   timeline-small m h = let e : on_timeline network (step_count network) ≡ past_count network + step_count network = unfold on_timeline in refl in omega (arith, timeline-fits m h, counts.together)

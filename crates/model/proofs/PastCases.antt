@@ -103,8 +103,8 @@ pub record PastState : Type 0 where
   pub boundary : ℕ
   pub answer : Result LinkState Refusal
 
-abbrev past_states : List PastState
-past_states =
+abbrev states : List PastState
+states =
     record { travel = "10"; ledger = 3100 ∷ 500 ∷ 3100 ∷ 500 ∷ []; boundary = 0; answer = Ok (state_of 2500 100) }
     ∷ record { travel = "10"; ledger = 4000 ∷ 500 ∷ 8400 ∷ 3100 ∷ []; boundary = 0; answer = Ok (state_of 2500 1000) }
     ∷ record { travel = "10"; ledger = 4000 ∷ 500 ∷ 8400 ∷ 3100 ∷ []; boundary = 1; answer = Ok (state_of 900 4400) }
@@ -113,7 +113,7 @@ past_states =
     ∷ record { travel = "31"; ledger = 0 ∷ 0 ∷ 8400 ∷ 500 ∷ []; boundary = 1; answer = Ok (state_of 500 7400) }
     ∷ []
 
-pub past-states : map (λ (c : PastState). link_state (lines (bytes (street "9000" c.travel))) c.ledger c.boundary 1) past_states ≡ map (λ (c : PastState). c.answer) past_states
+pub past-states : map (λ (c : PastState). link_state (lines (bytes (street "9000" c.travel))) c.ledger c.boundary 1) states ≡ map (λ (c : PastState). c.answer) states
 unfolding opened
 past-states = refl
 

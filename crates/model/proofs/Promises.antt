@@ -16,7 +16,7 @@ use Rattle.model.proofs.Numbers.{plan-numbered}
 use Rattle.model.proofs.Accepted.{AcceptedPlan, accepted-plan}
 use Rattle.model.proofs.Integers.{signed-sum}
 use Rattle.model.proofs.Flow.{left_over, left-within, within-capacity, balance}
-use Rattle.model.proofs.TravelTime.{admitted-demand, travel-time}
+use Rattle.model.proofs.TravelTime.{admitted-demand, doubled-time-is}
 use Rattle.model.proofs.Shut.{shut-passes-nothing}
 use Rattle.model.proofs.Red.{red-greens, red-least, red-greatest}
 use Rattle.model.proofs.Once.{exactly-once}
@@ -43,8 +43,8 @@ module _ (network plan : List Line) (accepted : AcceptedPlan network plan) where
         left-arrived = left_over network plan accepted;
         shut-passes-nothing = shut-passes-nothing network plan accepted;
         admitted-demand = unfold taken offered in admitted-demand network plan accepted;
-        reported-time = signed-sum _ _ (all_demand network) (all_let_out network plan) (weight network) (step_count network) (travel-time network plan accepted);
-        reported-balance = travel-time network plan accepted;
+        reported-time = signed-sum _ _ (all_demand network) (all_let_out network plan) (weight network) (step_count network) (doubled-time-is network plan accepted);
+        reported-balance = doubled-time-is network plan accepted;
       }
 
 module _ (network plan : List Line) where

@@ -12,17 +12,17 @@ use Rattle.model.proofs.Ordinary.{sum-between, not-between, none-next, none-join
 use Rattle.base_laws.proofs.Tests.{and_right}
 use Rattle.model.proofs.Accepted.{AcceptedPlan}
 use Rattle.model.proofs.Order.{next, turns, turns-others, Turns, last_turn, other-turn}
-use Rattle.model.proofs.Shown.{P, phase, run, same-signal, change-ordinary, still, phase-of-shows, shows-of-phase, run-new, run_on, phase-first, phase-last, next-phase, least-time, greatest-time}
+use Rattle.model.proofs.Shown.{P, phase, run, same-signal, change-ordinary, still, phase-of-shows, shows-of-phase, run-new, run_on, phase-first, phase-last, phase-next, least-kept, greatest-kept}
 
 module _ (network plan : List Line) (r : ℕ) where
   -- the times of a phase as the `G` line has them
-  least-of : (q : ℕ) → 1 ≤ q → q ≤ 8 → least_time (signal network r) q ≡ least_of network r q
+  least-by-line : (q : ℕ) → 1 ≤ q → q ≤ 8 → least_time (signal network r) q ≡ least_of network r q
   unfolding signal least_of
-  least-of q h l = list_at 8 (λ k. entry network (signal_line network r) (6 + 2 * k)) (q - 1) (omega arith)
+  least-by-line q h l = list_at 8 (λ k. entry network (signal_line network r) (6 + 2 * k)) (q - 1) (omega arith)
 
-  greatest-of : (q : ℕ) → 1 ≤ q → q ≤ 8 → greatest_time (signal network r) q ≡ greatest_of network r q
+  greatest-by-line : (q : ℕ) → 1 ≤ q → q ≤ 8 → greatest_time (signal network r) q ≡ greatest_of network r q
   unfolding signal greatest_of
-  greatest-of q h l = list_at 8 (λ k. entry network (signal_line network r) (7 + 2 * k)) (q - 1) (omega arith)
+  greatest-by-line q h l = list_at 8 (λ k. entry network (signal_line network r) (7 + 2 * k)) (q - 1) (omega arith)
 
   phase-still : (a b : ℕ) → a ≤ b → NoneBetween network r a (suc b) → phase network plan r b ≡ phase network plan r a
   phase-still a b l h = ap (λ (s : Signal). s.shown) (still network plan r a b l h)
@@ -171,9 +171,9 @@ module _ (network plan : List Line) (r : ℕ) where
                 arith,
                 length,
                 ap (λ (s : Signal). s.shown_for) same,
-                rw (at, least-of q g.first-phase q8) at (least-time network plan r accepted lr n (omega arith) left),
+                rw (at, least-by-line q g.first-phase q8) at (least-kept network plan r accepted lr n (omega arith) left),
               ),
-              omega (arith, length, rw (now, greatest-of q g.first-phase q8) at (greatest-time network plan r accepted lr e g.in-plan last)),
+              omega (arith, length, rw (now, greatest-by-line q g.first-phase q8) at (greatest-kept network plan r accepted lr e g.in-plan last)),
             )
 
     greens-time : {b c : ℕ} {qs : List ℕ} → Greens network plan r b c qs → c < step_count network → is_ordinary network r (suc c) ≡ true
@@ -204,7 +204,7 @@ module _ (network plan : List Line) (r : ℕ) where
         go (inr l) =
             absurd (
             non (suc b) (omega arith) l
-            (next-phase network plan r accepted lr b (omega arith) d
+            (phase-next network plan r accepted lr b (omega arith) d
             ∙ last_turn (P network r) q (phase network plan r b) q1 q_p (phase-last network plan r accepted lr b (omega arith)) t)
             )
     build q b₀ c q1 q_p hc sc non (suc m) b i j d t = go (eq-or-lt_of_le j) (build q b₀ c q1 q_p hc sc non m)
@@ -216,7 +216,7 @@ module _ (network plan : List Line) (r : ℕ) where
         T = other-turn (P network r) q (phase network plan r b) m q1 q_p (phase-last network plan r accepted lr b (omega arith)) t
 
         sy : phase network plan r (suc b) ≡ y
-        sy = next-phase network plan r accepted lr b (omega arith) d
+        sy = phase-next network plan r accepted lr b (omega arith) d
 
         go : (b ≡ c) ⊎ (b < c)
             → ((b' : ℕ) → b₀ ≤ b' → b' ≤ c → phase network plan r (suc b') ≢ phase network plan r b' → Turns (P network r) q (phase network plan r b') m

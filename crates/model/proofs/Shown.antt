@@ -121,20 +121,20 @@ module _ (network plan : List Line) (r : ℕ) where
         go true i = unfold shown_in in phase-of-le (shown_mask network plan n r) (P network r)
         go false i = i
 
-    pub next-phase : (n : ℕ) → n < step_count network → phase (suc n) ≢ phase n → phase (suc n) ≡ next (P network r) (phase n)
+    pub phase-next : (n : ℕ) → n < step_count network → phase (suc n) ≢ phase n → phase (suc n) ≡ next (P network r) (phase n)
     unfolding rule11 next
-    next-phase n h d =
+    phase-next n h d =
         let o = change-ordinary n d in
         let k = tested n _ o ((accepted.lawful n h).keeps11 r lr) in
         phase-suc n o ∙ eqb-true _ _ (rw (ne_eqb (shown_in network plan n r) (phase n) (λ e. d (phase-suc n o ∙ e)), same-phases n) at k)
 
-    pub least-time : (n : ℕ) → n < step_count network → phase (suc n) ≢ phase n → least_time (signal network r) (phase n) ≤ run n
+    pub least-kept : (n : ℕ) → n < step_count network → phase (suc n) ≢ phase n → least_time (signal network r) (phase n) ≤ run n
     unfolding rule12
-    least-time n h d =
+    least-kept n h d =
         let o = change-ordinary n d in
         let k = tested n _ o ((accepted.lawful n h).keeps12 r lr) in
         leb-true _ _ (rw (ne_eqb (shown_in network plan n r) (phase n) (λ e. d (phase-suc n o ∙ e)), same-least n) at k)
 
-    pub greatest-time : (n : ℕ) → n < step_count network → ordinary network n r ≡ true → run (suc n) ≤ greatest_time (signal network r) (phase (suc n))
+    pub greatest-kept : (n : ℕ) → n < step_count network → ordinary network n r ≡ true → run (suc n) ≤ greatest_time (signal network r) (phase (suc n))
     unfolding rule13
-    greatest-time n h o = rw (phase, run, next-signal n o) (leb-true _ _ (rw (same-greatest n) at (tested n _ o ((accepted.lawful n h).keeps13 r lr))))
+    greatest-kept n h o = rw (phase, run, next-signal n o) (leb-true _ _ (rw (same-greatest n) at (tested n _ o ((accepted.lawful n h).keeps13 r lr))))

@@ -36,9 +36,9 @@ module _ (network : List Line) where
   timeline-start = refl
 
   -- boundary n comes t(n) after the end of the past
-  pub timeline-time : (n : ℕ) → timeline_time network (on_timeline network n) ≡ timeline_time network (past_count network) + time network n
+  pub timeline-time-at : (n : ℕ) → timeline_time network (on_timeline network n) ≡ timeline_time network (past_count network) + time network n
   unfolding timeline_time time step_length on_timeline
-  timeline-time n = sum-split (past_count network) n (timeline_length network)
+  timeline-time-at n = sum-split (past_count network) n (timeline_length network)
 
   -- the step found is one of those asked for ..
   pub step-at-lt : (n x : ℕ) → 1 ≤ n → step_at network n x < n
@@ -120,11 +120,11 @@ module _ (network : List Line) where
     pub arrival-in-plan : 1 ≤ travel_time network i → travel_time network i ≤ time network n → past_count network ≤ arrival_step network n i
     arrival-in-plan h l = elim (dec_le (past_count network) (arrival_step network n i)) [
       | yes u ↦ u
-      | no u ↦ absurd (omega (arith, elapsed-is, elapsed-lt h (omega (arith, timeline-time n)), timeline-suc (arrival_step network n i), timeline-mono (suc (arrival_step network n i)) (past_count network) (omega arith), timeline-time n))
+      | no u ↦ absurd (omega (arith, elapsed-is, elapsed-lt h (omega (arith, timeline-time-at n)), timeline-suc (arrival_step network n i), timeline-mono (suc (arrival_step network n i)) (past_count network) (omega arith), timeline-time-at n))
     ]
 
     pub arrival-in-past : time network n < travel_time network i → travel_time network i ≤ timeline_time network (on_timeline network n) → arrival_step network n i < past_count network
     arrival-in-past h l = elim (dec_le (past_count network) (arrival_step network n i)) [
-      | yes u ↦ absurd (omega (arith, elapsed-is, timeline-mono (past_count network) (arrival_step network n i) u, timeline-time n))
+      | yes u ↦ absurd (omega (arith, elapsed-is, timeline-mono (past_count network) (arrival_step network n i) u, timeline-time-at n))
       | no u ↦ omega arith
     ]

@@ -62,10 +62,10 @@ module _ (network plan : List Line) (accepted : AcceptedPlan network plan) where
         ap (λ x. step_length network m * x) (under-way-step m h),
       )
 
-  pub travel-time : doubled_time network plan (step_count network) + sum (step_count network) (λ n. all_let_out network plan n * weight network n)
+  pub doubled-time-is : doubled_time network plan (step_count network) + sum (step_count network) (λ n. all_let_out network plan n * weight network n)
       ≡ 2 * time network (step_count network) * starting_vehicles network plan + sum (step_count network) (λ n. all_demand network n * weight network n)
   unfolding weight weight_by
-  travel-time = travel-time-by (step_count network) (le_refl _)
+  doubled-time-is = travel-time-by (step_count network) (le_refl _)
 
 -- of two accepted plans on one network, the one that has let out less has as many more under way
 module _ (network first second : List Line) (one : AcceptedPlan network first) (other : AcceptedPlan network second) where

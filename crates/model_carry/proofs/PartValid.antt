@@ -14,7 +14,7 @@ use Rattle.model.specs.Table.{letter_t, letter_g, letter_h, letter_s, network_ch
 use Rattle.base_laws.proofs.Tests.{and_left, and_right, every-at, every-same, and_both, every_of, is_within}
 use Rattle.base_laws.proofs.Sums.{sum-ext, sum-add, sum_bound, list_length}
 use Rattle.model.proofs.Accepted.{ValidNetwork, LawfulStep, valid-network}
-use Rattle.model.proofs.Limits.{counts, link-limits, past-limits, timeline-length}
+use Rattle.model.proofs.Limits.{counts, link-limits, past-limits, length-limits}
 use Rattle.model.proofs.Timeline.{entered-start, entered_by, start_left, start-held}
 use Rattle.model.proofs.Arrived.{arrived-past}
 use Rattle.model.proofs.Flow.{left-arrived, held-capacity}
@@ -221,7 +221,7 @@ module _ (network plan : List Line) (a c : ℕ) (holds : Hold (network_checks ne
   -- ---- 30
   length-valid : (m : ℕ) → m < past_count P → within 1 (timeline_length P m) 60 ≡ true
   length-valid m l =
-      let t = timeline-length network valid m (unfold on_timeline in omega (arith, H)) in
+      let t = length-limits network valid m (unfold on_timeline in omega (arith, H)) in
       rw (part_length network plan a c formed h m (omega (arith, H))) (is_within 1 (timeline_length network m) 60 t.0 t.1)
 
   module _ (i : ℕ) (l : i < link_count network) where

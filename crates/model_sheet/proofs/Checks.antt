@@ -23,9 +23,9 @@ least-cycle s h =
     let b : s.least_cycle ≤ s.greatest_cycle = leb-true _ _ (and_left _ _ (and_right _ _ (and_left _ _ (and_left _ _ (and_left _ _ h))))) in
     omega arith
 
-least-time : (s : Signal) → valid_signal s ≡ true → (k : ℕ) → k < s.phases → 1 ≤ get_or s.least k 0
+least-kept : (s : Signal) → valid_signal s ≡ true → (k : ℕ) → k < s.phases → 1 ≤ get_or s.least k 0
 unfolding valid_signal
-least-time s h k l =
+least-kept s h k l =
     leb-true _ _ (and_left _ _ (every-at s.phases (λ k. leb 1 (get_or s.least k 0) and within (get_or s.least k 0) (get_or s.greatest k 0) 3600)
     (and_right _ _ (and_left _ _ (and_left _ _ (and_left _ _ (and_left _ _ (and_left _ _ h)))))) k l))
 
@@ -46,7 +46,7 @@ module _ (network sheet : List Line) (offsets : ℕ) (held : Hold (sheet_checks 
   unfolding valid_durations
   duration-some v r l k u =
       let a = every-at (phases_of network r) (λ k. within (get_or (signal network r).least k 0) (entry sheet r k) (get_or (signal network r).greatest k 0)) (durations-valid r l) k u in
-      omega (arith, within_first _ _ _ a, least-time (signal network r) (v.signals r l) k u)
+      omega (arith, within_first _ _ _ a, least-kept (signal network r) (v.signals r l) k u)
 
 module _ (network sheet : List Line) (v : ValidNetwork network) (held : Hold (sheet_checks network sheet 1)) where
   pub offset-short : (r : ℕ) → r < signal_count network → entry sheet r (phases_of network r) < end_of sheet r (phases_of network r)

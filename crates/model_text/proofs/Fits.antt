@@ -13,7 +13,7 @@ use Rattle.model.specs.Table.{letter_n, letter_t, letter_g, letter_q, letter_m, 
 use Rattle.base_laws.proofs.Tests.{and_left, and_right, every-at}
 use Rattle.base_laws.proofs.Sums.{sum_more, list_at}
 use Rattle.model.proofs.Accepted.{ValidNetwork, valid-network}
-use Rattle.model.proofs.Limits.{counts, link-limits, movement-limits, step-limits, past-limits, timeline-length}
+use Rattle.model.proofs.Limits.{counts, link-limits, movement-limits, step-limits, past-limits, length-limits}
 use Rattle.model.proofs.Timeline.{entered-start, left-start}
 use Rattle.model.proofs.Flow.{left-entered}
 use Rattle.model_text.specs.NetworkText.{NetworkNumbers, network_lines, network_text}
@@ -205,7 +205,7 @@ module _ (network : List Line) (holds : Hold (network_checks network)) where
     past-small = by_width (timeline_line network m) letter_h (1 + 2 * link_count network) (formed.past-forms m h) each
       where
         each : (k : ℕ) → k < 1 + 2 * link_count network → entry network (timeline_line network m) k ≤ largest
-        each zero u = unfold timeline_length in at_most 60 (timeline-length network valid m (unfold on_timeline in omega arith)).1 (omega arith)
+        each zero u = unfold timeline_length in at_most 60 (length-limits network valid m (unfold on_timeline in omega arith)).1 (omega arith)
         each (suc k) u = elim (dec_le 1 (k % 2)) [
           | yes o ↦ let e : suc k ≡ 2 + 2 * (k / 2) = omega arith in rw e (at_most 3_728_000_000 (volumes (k / 2) (omega arith)).1 (omega arith))
           | no o ↦ let e : suc k ≡ 1 + 2 * (k / 2) = omega arith in rw e (at_most 1_728_000_000 (volumes (k / 2) (omega arith)).0 (omega arith))

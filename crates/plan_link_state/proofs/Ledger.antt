@@ -12,7 +12,7 @@ use Rattle.model.specs.Calls.{state_of, ledger_entered, end_step, end_length, en
 use Rattle.model.proofs.Arrived.{arrival-first}
 use Rattle.model.proofs.Accepted.{ValidNetwork, valid-network}
 use Rattle.model.proofs.Limits.{counts, link-limits, timeline-lasts}
-use Rattle.model.proofs.Times.{timeline-time, on-timeline-mono, on-timeline-suc, arrival-step-le, arrival-step-lt, arrival-in-plan, arrival-in-past, elapsed-early}
+use Rattle.model.proofs.Times.{timeline-time-at, on-timeline-mono, on-timeline-suc, arrival-step-le, arrival-step-lt, arrival-in-plan, arrival-in-past, elapsed-early}
 use Rattle.network_tables.specs.declared.NetworkTables.{NetworkTables}
 use Rattle.network_tables.specs.Fields.{travel_time_in, standing_in, entered_at, RowHeld}
 use Rattle.network_tables.proofs.Tables.{travel-time-at, standing-at}
@@ -94,7 +94,7 @@ module _ {tables : NetworkTables} {ledger : List ℕ} {n i : ℕ} (asked : Arriv
   since-past =
       let z : get_or tables.times.now (tables.reading.counts.past + n) 0 ≡ timeline_time net (on_timeline net n) = rw on-time (t.time-table.holds (on_timeline net n) on-last) in
       let p : get_or tables.times.now tables.reading.counts.past 0 ≡ timeline_time net (past_count net) = rw t.counted.past (t.time-table.holds (past_count net) (omega (arith, on-last, past-few, t.counted.past))) in
-      omega (arith, z, p, timeline-time net n)
+      omega (arith, z, p, timeline-time-at net n)
 
   pub since-fits : get_or tables.times.now tables.reading.counts.past 0 ≤ get_or tables.times.now (tables.reading.counts.past + n) 0
   since-fits = omega (arith, since-past)
@@ -229,7 +229,7 @@ module _ {tables : NetworkTables} {ledger : List ℕ} {n i step : ℕ} (given : 
         → EnteredOver netw ledger n i (record { step = step; start = start; stop = stop; place = 0 })
     plan-told p q =
         record {
-          by-start = λ e. absurd (omega (arith, timeline-time netw n, since));
+          by-start = λ e. absurd (omega (arith, timeline-time-at netw n, since));
           by-past = λ e f. absurd (omega (arith, since));
           by-ledger = λ e. (
             p ∙ ap₂ (λ c k. entered_at ledger c k i) tab.counted.links (omega (arith, given.is-step, tab.counted.past)),

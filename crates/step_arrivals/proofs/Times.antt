@@ -6,7 +6,7 @@ use Rattle.model.specs.Network.{step_count, past_count, on_timeline, time, timel
 use Rattle.model.specs.Table.{network_checks}
 use Rattle.model.proofs.Accepted.{valid-network}
 use Rattle.model.proofs.Limits.{counts}
-use Rattle.model.proofs.Times.{timeline-time, on-timeline-mono}
+use Rattle.model.proofs.Times.{timeline-time-at, on-timeline-mono}
 use Rattle.network_tables.specs.declared.Counts.{Counts}
 use Rattle.network_tables.specs.Tables.{CountsHold, TimeTable}
 use Rattle.step_arrivals.specs.Times.{ShiftAsked, Shifted, PlanTimes}
@@ -47,7 +47,7 @@ module _ {network : List Line} {counts₀ : Counts} {times : List ℕ} (counted 
   unfolding on_timeline
   at-boundary n h =
       let e : counts₀.past + n ≡ on_timeline network n = omega (arith, counted.past) in
-      rw e (t.holds (on_timeline network n) (on-timeline-mono network n (step_count network) h) ∙ timeline-time network n)
+      rw e (t.holds (on_timeline network n) (on-timeline-mono network n (step_count network) h) ∙ timeline-time-at network n)
 
   at-past : get_or times counts₀.past 0 ≡ timeline_time network (past_count network)
   unfolding on_timeline
